@@ -1,0 +1,218 @@
+ghost use Rattle.std.specs.Prelude.{◌≡◌};
+ghost use Rattle.pmg_value.specs.declared.refusal.Refusal.TheVariants.{NoMemory};
+ghost use Rattle.pmg_value.specs.Refusals.{number_of, name_of, cause_name};
+
+use std::alloc::{AllocError, AllocFailed};
+use thiserror::Error;
+
+/// What is wrong with bytes that are read: the first fault, from the left.
+#[derive(Clone, Copy, Debug, PartialEq, Eq, Error)]
+pub enum Cause {
+    #[error("Version")]
+    Version,
+    #[error("Kind")]
+    Kind,
+    #[error("Length")]
+    Length,
+    #[error("Short")]
+    Short,
+    #[error("Long")]
+    Long,
+    #[error("Name")]
+    Name,
+    #[error("Rank")]
+    Rank,
+    #[error("Range")]
+    Range,
+    #[error("Count")]
+    Count,
+    #[error("Key")]
+    Key,
+    #[error("Order")]
+    Order,
+    #[error("Member")]
+    Member,
+    #[error("Number")]
+    Number,
+    #[error("Level")]
+    Level,
+    #[error("Node")]
+    Node,
+    #[error("Tag")]
+    Tag,
+    #[error("Bool")]
+    Bool,
+    #[error("Text")]
+    Text,
+    #[error("Size")]
+    Size,
+    #[error("Cut")]
+    Cut,
+    #[error("Hex")]
+    Hex,
+    #[error("Script")]
+    Script,
+    #[error("Input")]
+    Input,
+}
+
+/// A fault and where it stands, counted in bytes from the start of what is read.
+#[derive(Clone, Copy, Debug, PartialEq, Eq, Error)]
+#[error("{cause} at {offset}")]
+pub struct Fault {
+    pub offset: u64,
+    pub cause: Cause,
+}
+
+/// Why a call was refused. A refused call leaves what it was called on as it was. Each refusal has a
+/// number, which is this project's own (the standard's statuses are not claimed).
+#[derive(Clone, Copy, Debug, PartialEq, Eq, Error)]
+pub enum Refusal {
+    /// Memory was wanted and not given.
+    #[error("0 NoMemory")]
+    NoMemory,
+    /// An argument is outside its rules.
+    #[error("1 BadParam")]
+    BadParam,
+    /// Nothing is there under that name.
+    #[error("2 NotFound")]
+    NotFound,
+    /// The value is there, but its scope does not reach the asker.
+    #[error("3 OutsideScope")]
+    OutsideScope,
+    /// No namespace of that name is registered.
+    #[error("4 UnknownNamespace")]
+    UnknownNamespace,
+    /// The process is not of this node.
+    #[error("5 NotMine")]
+    NotMine,
+    /// The process is in a fence that it has not left, or in a get that it has not taken.
+    #[error("6 Busy")]
+    Busy,
+    /// The process has terminated.
+    #[error("7 Terminated")]
+    Terminated,
+    /// The process is no participant of the fence that it would enter.
+    #[error("8 NotAParticipant")]
+    NotAParticipant,
+    /// A limit would be passed.
+    #[error("9 TooMany")]
+    TooMany,
+    /// The bytes are no frame: the first fault.
+    #[error("10 BadFrame: {0}")]
+    BadFrame(Fault),
+    /// The name is taken.
+    #[error("11 Exists")]
+    Exists,
+    /// Two accounts of the same events differ.
+    #[error("12 Collision")]
+    Collision,
+    /// A reply on replay is another than the one that was recorded.
+    #[error("13 Stale")]
+    Stale,
+    /// No order puts each delivery behind its sending.
+    #[error("14 Unordered")]
+    Unordered,
+    /// The object is closed, and stays so.
+    #[error("15 Closed")]
+    Closed,
+}
+
+impl Refusal {
+    /// The refusal's number, 0 to 15.
+    pub fn number(&self) -> u8
+        ensures { result ≡ number_of self.now }
+    {
+        match self {
+            Refusal::NoMemory => 0,
+            Refusal::BadParam => 1,
+            Refusal::NotFound => 2,
+            Refusal::OutsideScope => 3,
+            Refusal::UnknownNamespace => 4,
+            Refusal::NotMine => 5,
+            Refusal::Busy => 6,
+            Refusal::Terminated => 7,
+            Refusal::NotAParticipant => 8,
+            Refusal::TooMany => 9,
+            Refusal::BadFrame(_) => 10,
+            Refusal::Exists => 11,
+            Refusal::Collision => 12,
+            Refusal::Stale => 13,
+            Refusal::Unordered => 14,
+            Refusal::Closed => 15,
+        }
+    }
+
+    /// The refusal's name.
+    pub fn name(&self) -> &'static str
+        ensures { result.now ≡ name_of self.now }
+    {
+        match self {
+            Refusal::NoMemory => "NoMemory",
+            Refusal::BadParam => "BadParam",
+            Refusal::NotFound => "NotFound",
+            Refusal::OutsideScope => "OutsideScope",
+            Refusal::UnknownNamespace => "UnknownNamespace",
+            Refusal::NotMine => "NotMine",
+            Refusal::Busy => "Busy",
+            Refusal::Terminated => "Terminated",
+            Refusal::NotAParticipant => "NotAParticipant",
+            Refusal::TooMany => "TooMany",
+            Refusal::BadFrame(_) => "BadFrame",
+            Refusal::Exists => "Exists",
+            Refusal::Collision => "Collision",
+            Refusal::Stale => "Stale",
+            Refusal::Unordered => "Unordered",
+            Refusal::Closed => "Closed",
+        }
+    }
+}
+
+impl Cause {
+    /// The cause's name.
+    pub fn name(&self) -> &'static str
+        ensures { result.now ≡ cause_name self.now }
+    {
+        match self {
+            Cause::Version => "Version",
+            Cause::Kind => "Kind",
+            Cause::Length => "Length",
+            Cause::Short => "Short",
+            Cause::Long => "Long",
+            Cause::Name => "Name",
+            Cause::Rank => "Rank",
+            Cause::Range => "Range",
+            Cause::Count => "Count",
+            Cause::Key => "Key",
+            Cause::Order => "Order",
+            Cause::Member => "Member",
+            Cause::Number => "Number",
+            Cause::Level => "Level",
+            Cause::Node => "Node",
+            Cause::Tag => "Tag",
+            Cause::Bool => "Bool",
+            Cause::Text => "Text",
+            Cause::Size => "Size",
+            Cause::Cut => "Cut",
+            Cause::Hex => "Hex",
+            Cause::Script => "Script",
+            Cause::Input => "Input",
+        }
+    }
+}
+
+impl From<AllocError> for Refusal {
+    ghost from_gives = { λ _ e. e ≡ NoMemory };
+
+    fn from(_e: AllocError) -> Refusal {
+        Refusal::NoMemory
+    }
+}
+
+impl<T: Drop> From<AllocFailed<T>> for Refusal {
+    ghost from_gives = { λ _ e. e ≡ NoMemory };
+
+    fn from(_e: AllocFailed<T>) -> Refusal {
+        Refusal::NoMemory
+    }
+}
