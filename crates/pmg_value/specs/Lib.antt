@@ -1,1 +1,6 @@
+pub mod Answers
+pub mod Names
+pub mod Process
 pub mod Refusals
+pub mod Spelling
+pub mod Text

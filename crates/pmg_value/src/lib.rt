@@ -1,6 +1,14 @@
 //! Names, values and refusals: what every crate of pmixgroup speaks of.
 #![tactic(auto)]
 
+mod names;
+mod process;
 mod refusal;
+mod value;
 
+pub use names::{
+    Key, MAX_KEY_LEN, MAX_NSPACE_LEN, Nspace, is_key_text, is_nspace_name, is_reserved_name,
+};
+pub use process::{MAX_NODE, NodeId, Proc, Rank};
 pub use refusal::{Cause, Fault, Refusal};
+pub use value::{MAX_VALUE_SIZE, Value};
