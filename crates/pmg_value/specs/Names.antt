@@ -10,12 +10,12 @@ is_graphic b = nat_le 33 b && nat_le b 126
 abbrev pub is_printable : ℕ → Bool
 is_printable b = nat_le 32 b && nat_le b 126
 
--- A name of a namespace is 1 to 255 bytes that show as marks (PMIx Standard 5.0, section 3.2.3:
+-- A name of a namespace is 1 to 255 bytes that show as marks (PMIx Standard 5.0, data types:
 -- pmix_nspace_t; the alphabet is this project's).
 abbrev pub is_nspace : List ℕ → Bool
 is_nspace name = nat_lt 0 (length name) && nat_le (length name) 255 && list_all is_graphic name
 
--- A key is 1 to 511 bytes that show as marks or are blanks (PMIx Standard 5.0, section 3.2.2:
+-- A key is 1 to 511 bytes that show as marks or are blanks (PMIx Standard 5.0, data types:
 -- pmix_key_t; the alphabet is this project's).
 abbrev pub is_key : List ℕ → Bool
 is_key key = nat_lt 0 (length key) && nat_le (length key) 511 && list_all is_printable key

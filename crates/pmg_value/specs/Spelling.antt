@@ -3,7 +3,7 @@ use Rattle.std.specs.Prelude.{ℕ, List, [], ◌∷◌, true, false}
 use Rattle.pmg_value.specs.declared.value.Value.{Value}
 use Rattle.pmg_value.specs.declared.value.Value.TheVariants as values
 
--- the byte that says a value's kind (PMIx Standard 5.0, section 3.2.1: pmix_data_type_t; the numbers are this project's)
+-- the byte that says a value's kind (PMIx Standard 5.0, data types: pmix_data_type_t; the numbers are this project's)
 abbrev pub tag_of : Value → ℕ
 tag_of (values.Bool b) = 1
 tag_of (values.U8 n) = 9

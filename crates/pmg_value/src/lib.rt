@@ -9,6 +9,6 @@ mod value;
 pub use names::{
     Key, MAX_KEY_LEN, MAX_NSPACE_LEN, Nspace, is_key_text, is_nspace_name, is_reserved_name,
 };
-pub use process::{MAX_NODE, NodeId, Proc, Rank};
+pub use process::{HOST_NAME, MAX_NODE, MAX_RANK, NodeId, Proc, Rank};
 pub use refusal::{Cause, Fault, Refusal};
 pub use value::{MAX_VALUE_SIZE, Value};

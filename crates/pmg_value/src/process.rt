@@ -1,4 +1,5 @@
 ghost use Rattle.std.specs.Prelude.{◌≡◌, ◌≤◌, nat_le, if◌then◌else◌, IfOk};
+ghost use Rattle.pmg_value.specs.Process.{is_client, is_host};
 ghost use Rattle.pmg_value.specs.declared.refusal.Refusal.TheVariants as refusals;
 
 use crate::names::Nspace;
@@ -8,6 +9,12 @@ use std::marker::Model;
 
 /// The greatest index of a node: a group has at most 64.
 pub const MAX_NODE: u32 = 63;
+
+/// The greatest rank of a registered process: a namespace has at most 4,096.
+pub const MAX_RANK: u32 = 4095;
+
+/// The namespace of the process that stands for the group's host, whose rank is 0.
+pub const HOST_NAME: &[u8] = b"pmix.host";
 
 /// A process's rank in its namespace (PMIx Standard 5.0, pmix_rank_t).
 #[derive(Clone, Copy, Debug, PartialEq, Eq, PartialOrd, Ord)]
@@ -62,6 +69,21 @@ impl Proc {
         ensures rank { result.rank ≡ rank }
     {
         Proc { nspace, rank }
+    }
+
+    /// Whether a group may register the process: the namespace does not begin with `pmix`, and the rank
+    /// is at most 4095.
+    pub fn is_client(&self) -> bool
+        ensures { result ≡ is_client self.now }
+    {
+        !self.nspace.is_reserved() && self.rank.number() <= MAX_RANK
+    }
+
+    /// Whether it is the process `pmix.host 0`, which stands for the group's host.
+    pub fn is_host(&self) -> bool
+        ensures { result ≡ is_host self.now }
+    {
+        self.nspace.as_bytes() == HOST_NAME && self.rank.number() == 0
     }
 
     /// Another handle of the same process.
