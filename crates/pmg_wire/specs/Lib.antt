@@ -1,4 +1,5 @@
 pub mod Fields
+pub mod Grammar
 pub mod Many
 pub mod Reading
 pub mod Spelling

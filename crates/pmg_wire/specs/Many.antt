@@ -9,3 +9,8 @@ many read (suc n) before at = do
   first ← read before at
   others ← many read n (Some first.0) first.1
   Ok (first.0 ∷ others.0, others.1)
+
+-- Each element follows the one before it.
+abbrev pub Chain : {X : Type 0} → (Option X → X → Type 0) → Option X → List X → Type 0
+Chain Follows before [] = Unit {0}
+Chain Follows before (x ∷ xs) = Follows before x × Chain Follows (Some x) xs

@@ -1,5 +1,5 @@
 -- Reading fields from bytes, left to right, with the first fault and its offset.
-use Rattle.std.specs.Prelude.{◌≡◌, ℕ, ◌+◌, ◌<◌, Bool, true, false, nat_lt, List, length, get_or, take, drop, Result, Ok, Err, if◌then◌else◌}
+use Rattle.std.specs.Prelude.{◌≡◌, ℕ, ◌+◌, ◌<◌, Bool, true, false, nat_lt, List, ◌++◌, length, get_or, take, drop, Result, Ok, Err, if◌then◌else◌}
 use Rattle.std.specs.Int.{Width, byte_len, from_be_bytes}
 use Rattle.pmg_value.specs.declared.refusal.Cause.{Cause}
 use Rattle.pmg_value.specs.declared.refusal.Cause.TheVariants as causes
@@ -61,3 +61,8 @@ FailsReading e read = ⊥
 abbrev pub Reads : {X Y : Type 0} → (X → Y) → Result X Refusal → Place → Read Y → Type 0
 Reads view (Ok x) new read = read ≡ Ok (view x, new)
 Reads view (Err e) new read = FailsReading e read
+
+-- From one place to a later one stands this text.
+pub record Takes (at : Place) (text : List ℕ) (after : Place) : Type 0 where
+  pub parts : at.rest ≡ text ++ after.rest
+  pub place : after.offset ≡ at.offset + length text

@@ -52,7 +52,8 @@ impl<'a> Cursor<'a> {
 
     /// A second cursor at the same place.
     pub fn fork(&self) -> Cursor<'a>
-        ensures { result ≡ self.now }
+        ensures place { result ≡ self.now }
+        ensures bytes { IsBytes self.now.rest }
     {
         Cursor {
             offset: self.offset,

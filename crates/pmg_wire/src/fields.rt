@@ -1,4 +1,5 @@
-ghost use Rattle.std.specs.Prelude.{◌≡◌, OnErr};
+ghost use Rattle.std.specs.Prelude.{◌≡◌, ℕ, List, IfOk, OnErr};
+ghost use Rattle.pmg_wire.specs.Grammar.{SpellsKey, SpellsProc, SpellsValue};
 ghost use Rattle.pmg_wire.specs.Reading.{Place, Reads};
 ghost use Rattle.pmg_wire.specs.Fields.{is_admitted, is_named, is_ranked, flag_at, key_at, proc_at, body_at, value_at};
 
@@ -72,7 +73,9 @@ fn key_of(alloc: Global, at: &mut Cursor<'_>) -> Result<Key, Refusal>
 /// Reads a key: two bytes of length, and the key. Refused as BadFrame at the first fault: Short, Key;
 /// and as NoMemory. A refusal leaves the cursor where it was.
 pub fn get_key(alloc: Global, at: &mut Cursor<'_>) -> Result<Key, Refusal>
-    ensures read { Reads (λ k. k) result at.new (key_at at.old) }
+    ensures found { IfOk result (λ k. SpellsKey at.old k at.new) }
+    ensures only { (k : List ℕ) (after : Place) → SpellsKey at.old k after → Reads (λ k. k) result at.new (Ok (k, after)) }
+    ensures first_fault { Reads (λ k. k) result at.new (key_at at.old) }
     ensures err { OnErr result (at.new ≡ at.old) }
 {
     let mut ahead = at.fork();
@@ -115,7 +118,9 @@ fn admits_rank(name: &[u8], rank: u32) -> bool
 /// Reads a process: one byte of length, the namespace, and four bytes of rank. Refused as BadFrame at the
 /// first fault: Short, Name, Rank; and as NoMemory. A refusal leaves the cursor where it was.
 pub fn get_proc(alloc: Global, admits: Admits, at: &mut Cursor<'_>) -> Result<Proc, Refusal>
-    ensures read { Reads (λ p. p) result at.new (proc_at admits at.old) }
+    ensures found { IfOk result (λ p. SpellsProc admits at.old p at.new) }
+    ensures only { (p : Proc) (after : Place) → SpellsProc admits at.old p after → Reads (λ p. p) result at.new (Ok (p, after)) }
+    ensures first_fault { Reads (λ p. p) result at.new (proc_at admits at.old) }
     ensures err { OnErr result (at.new ≡ at.old) }
 {
     let mut ahead = at.fork();
@@ -147,7 +152,9 @@ fn value_of(at: &mut Cursor<'_>) -> Result<Value, Refusal>
 /// Reads a value: its tag, and a body of the tag's form. Refused as BadFrame at the first fault: Short,
 /// Tag, Bool. A refusal leaves the cursor where it was.
 pub fn get_value(at: &mut Cursor<'_>) -> Result<Value, Refusal>
-    ensures read { Reads (λ v. v) result at.new (value_at at.old) }
+    ensures found { IfOk result (λ v. SpellsValue at.old v at.new) }
+    ensures only { (v : Value) (after : Place) → SpellsValue at.old v after → Reads (λ v. v) result at.new (Ok (v, after)) }
+    ensures first_fault { Reads (λ v. v) result at.new (value_at at.old) }
     ensures err { OnErr result (at.new ≡ at.old) }
 {
     let mut ahead = at.fork();
