@@ -1,1 +1,3 @@
+pub mod RefusalText
 pub mod Refusals
+pub mod Written
