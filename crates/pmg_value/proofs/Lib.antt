@@ -1,1 +1,2 @@
 pub mod ProcessOrder
+pub mod WrittenLemmas

@@ -1,11 +1,16 @@
-ghost use Rattle.std.specs.Prelude.{◌≡◌, ◌≤◌, length, IfOk};
+ghost use Rattle.std.specs.Prelude.{◌≡◌, ◌≤◌, ◌++◌, length, decimal, IfOk};
 ghost use Rattle.std.specs.Ordering.{nat_cmp};
 ghost use Rattle.std.specs.Cmp.Lexicographic.{slice_cmp};
 ghost use Rattle.pmg_value.specs.Spelling.{spelling, tag_of, body_of};
+ghost use Rattle.pmg_value.specs.Text.{text_of};
+ghost use Rattle.pmg_value.specs.Written.{Writes};
 
+use crate::written::{put_number, put_text};
 use arrayvec::ArrayVec;
 use std::alloc::AllocError;
 use std::cmp::Ordering;
+use std::io;
+use std::io::Write;
 
 /// The greatest size of a value, in canonical bytes.
 pub const MAX_VALUE_SIZE: usize = 1_048_576;
@@ -74,4 +79,25 @@ impl Value {
             Value::U8(n) => Value::U8(*n),
         })
     }
+
+    /// Writes the value's text: the kind's name, a colon, and the value. Fails as `put_text` does.
+    #[tactic(auto, using(crate::proofs::WrittenLemmas::written_in_parts))]
+    pub fn write_text<W: Write>(&self, writer: &mut W) -> io::Result<()>
+        ensures { Writes (W.contents writer.old) (W.contents writer.new) result (text_of self.now) }
+    {
+        match self {
+            Value::Bool(false) => put_text(writer, b"bool:false"),
+            Value::Bool(true) => put_text(writer, b"bool:true"),
+            Value::U8(n) => put_labelled(writer, b"u8:", u64::from(*n)),
+        }
+    }
+}
+
+// A kind's name with its colon, and a number.
+#[tactic(auto, using(crate::proofs::WrittenLemmas::written_in_parts))]
+fn put_labelled<W: Write>(writer: &mut W, label: &[u8], number: u64) -> io::Result<()>
+    ensures { Writes (W.contents writer.old) (W.contents writer.new) result (label.now ++ decimal number) }
+{
+    put_text(writer, label)?;
+    put_number(writer, number)
 }

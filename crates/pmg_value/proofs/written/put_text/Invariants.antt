@@ -1,0 +1,10 @@
+use Rattle.std.proofs.Common.{◌≤◌, length, take}
+use Rattle.std.specs.Io.KnownBytes.{Appends}
+use Rattle.pmg_value.proofs.written.put_text.Given as goal
+
+-- what was written so far is the text's first `done` bytes
+abbrev pub invariant-loop : goal.invariant-loop
+invariant-loop g l = record {
+  within : l.done ≤ length l.fn.text;
+  written : Appends (g.W.Write.contents l.initial.writer) (g.W.Write.contents l.writer) (take l.done l.fn.text);
+}
