@@ -1,1 +1,4 @@
+pub mod ListLemmas
+pub mod MapLemmas
 pub mod ProcessOrder
+pub mod SetLemmas

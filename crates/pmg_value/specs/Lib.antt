@@ -1,4 +1,6 @@
 pub mod Answers
+pub mod Lists
+pub mod Maps
 pub mod Names
 pub mod Process
 pub mod Refusals
