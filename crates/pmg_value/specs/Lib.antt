@@ -2,6 +2,7 @@ pub mod Answers
 pub mod Lists
 pub mod Maps
 pub mod Names
+pub mod Operations
 pub mod Process
 pub mod Refusals
 pub mod Spelling
