@@ -1,5 +1,8 @@
 pub mod Answers
+pub mod Lists
+pub mod Maps
 pub mod Names
+pub mod Operations
 pub mod Process
 pub mod RefusalText
 pub mod Refusals
