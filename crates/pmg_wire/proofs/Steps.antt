@@ -54,7 +54,10 @@ IsBytes-after {a = a} {b = b} x h t i =
     let at : get_or a.rest (length x + i) 0 ≡ get_or b.rest i 0 = rw t.parts (get_or-append-add x b.rest i 0) in
     rw (← at) (h (length x + i))
 
-IsBytes-take : (n : ℕ) (bytes : List ℕ) → IsBytes bytes → IsBytes (take n bytes)
+pub IsBytes-drop : (n : ℕ) (bytes : List ℕ) → IsBytes bytes → IsBytes (drop n bytes)
+IsBytes-drop n bytes h i = rw get_or-drop (h (n + i))
+
+pub IsBytes-take : (n : ℕ) (bytes : List ℕ) → IsBytes bytes → IsBytes (take n bytes)
 IsBytes-take n bytes h i =
     elim (cases_lt i n) [
       | inl lt ↦ rw (get_or-take n bytes i 0 lt) (h i)

@@ -1,0 +1,166 @@
+-- A frame that is read was spelled so, and what is spelled so is read.
+use Rattle.std.proofs.Common.{◌≡◌, ℕ, ◌+◌, ◌-◌, ◌^◌, ◌<◌, ◌≤◌, Bool, true, false, ◌&&◌, ◌==◌, nat_lt, nat_le, cond, ltb, leb, List, [], ◌∷◌, ◌++◌, length, take, drop, Option, Some, None, Result, Ok, Err, IsTrue, refl, sym, ap, subst, ◌∙◌, append_assoc, arith}
+use Rattle.std.specs.Int.{w32, to_be_bytes, byte_len}
+use Rattle.std.proofs.lemmas.Bool.{ltb-false, le-ltb, leb-true, le-leb, eqb-true, eq-eqb}
+use Rattle.std.proofs.lemmas.List.{length-append, length-take, length-drop, take-append-drop, take_at, drop_at, append-nil}
+use Rattle.pmg_value.specs.declared.refusal.Cause.TheVariants as causes
+use Rattle.pmg_value.specs.declared.refusal.Fault.{Fault}
+use Rattle.pmg_wire.specs.Reading.{Place, past, Read, fault, ◌>>=◌, check, byte_at, number_at, IsBytes, Takes}
+use Rattle.pmg_wire.proofs.Steps.{place, IfRead, bind_if, check_if, done_if, bind_ok, Takes-then, IsBytes-after, IsBytes-take, IsBytes-drop, wide32, number_if, number_again, byte_if, byte_again}
+use Rattle.pmg_commit.specs.Knowledge.{Contribution}
+use Rattle.pmg_frame.specs.Grammar.{IsPieceContent, IsContent, SpellsFrame}
+use Rattle.pmg_frame.specs.Reading.{piece_at, content_at, body_at, head_at, front, behind_head, frame_at}
+use Rattle.pmg_frame.specs.Spelling.{Content, piece, piece_body, kind_of, body_spelling, head_spelling, frame_spelling}
+use Rattle.pmg_frame.proofs.PieceLaws.{TakesPiece, piece_if, piece_again}
+
+-- what a head took
+pub record TakesHead (at : Place) (head : ℕ × ℕ) (after : Place) : Type 0 where
+  pub takes : Takes at (head_spelling head.0 head.1) after
+  pub kind : head.0 ≡ 1
+  pub small : head.1 ≤ 16777216
+
+pub head_if : (at : Place) → IsBytes at.rest → IfRead (head_at at) (TakesHead at)
+unfolding head_at
+head_if at fits =
+    let made : ℕ → Place → ℕ × Place → Read (ℕ × ℕ) = λ kind at_len len. check (nat_le len.0 16777216) (fault at_len.offset causes.Length) >>= λ _. Ok ((kind, len.0), len.1) in
+    let sized : ℕ × Place → Read (ℕ × ℕ) = λ kind. number_at w32 kind.1 >>= made kind.0 kind.1 in
+    let kinded : Place → ℕ × Place → Read (ℕ × ℕ) = λ at_kind kind. check (kind.0 == 1) (fault at_kind.offset causes.Kind) >>= λ _. sized kind in
+    let versioned : ℕ × Place → Read (ℕ × ℕ) = λ version. byte_at version.1 >>= kinded version.1 in
+    bind_if (λ version. check (version.0 == 1) (fault at.offset causes.Version) >>= λ _. versioned version) (byte_if at) (λ version a v.
+      let a_fits : IsBytes a.rest = IsBytes-after (version ∷ []) fits v.takes in
+      check_if (version == 1) (fault at.offset causes.Version) (λ _. versioned (version, a)) (λ first.
+        bind_if (kinded a) (byte_if a) (λ kind b k.
+          let b_fits : IsBytes b.rest = IsBytes-after (kind ∷ []) a_fits k.takes in
+          check_if (kind == 1) (fault a.offset causes.Kind) (λ _. sized (kind, b)) (λ second.
+            bind_if (made kind b) (number_if w32 (2 ^ 32) wide32 b b_fits) (λ len d n.
+              check_if (nat_le len 16777216) (fault b.offset causes.Length) (λ _. Ok ((kind, len), d)) (λ third.
+                let is_one : version ≡ 1 = eqb-true version 1 first in
+                let two = Takes-then (kind ∷ []) (to_be_bytes w32 len) k.takes n.takes in
+                let all = Takes-then (1 ∷ []) (kind ∷ to_be_bytes w32 len) (rw (← is_one) v.takes) two in
+                done_if (record { takes = all; kind = eqb-true kind 1 second; small = leb-true len 16777216 third })))))))
+
+pub head_again : (o kind len : ℕ) → kind ≡ 1 → len ≤ 16777216 → head_at (place o (head_spelling kind len)) ≡ Ok ((kind, len), place (o + 6) [])
+unfolding head_at
+head_again o kind len is small =
+    let first = byte_again o 1 (kind ∷ to_be_bytes w32 len) in
+    let second = byte_again (o + 1) kind (to_be_bytes w32 len) in
+    let third = number_again w32 (2 ^ 32) wide32 (o + 1 + 1) len [] (omega arith) in
+    rw (first, second, eq-eqb kind 1 is, third, le-leb len 16777216 small) (ap (λ (n : ℕ). Ok ((kind, len), place n [])) (omega arith))
+
+check_ok : {B : Type 0} (b : Bool) (d : Fault) (f : Unit {0} → Result B Fault) (y : B) → (check b d >>= f) ≡ Ok y → IsTrue b × (f tt ≡ Ok y)
+check_ok true d f y e = (refl, e)
+check_ok false d f y e = absurd cc
+
+no_items : {A : Type 0} (xs : List A) → length xs ≡ 0 → xs ≡ []
+no_items [] e = refl
+no_items (x ∷ xs) e = absurd (omega arith)
+
+abbrev done : {A : Type 0} → A → Result A Fault
+done x = Ok x
+
+ok_is : {A : Type 0} (x y : A) → done x ≡ done y → x ≡ y
+ok_is x y e = cc
+
+-- what a body says
+pub record IsBody (kind : ℕ) (at : Place) (content : Content) : Type 0 where
+  pub text : at.rest ≡ body_spelling content
+  pub is : IsContent content
+  pub of_kind : kind ≡ kind_of content
+
+pub body_found : (kind : ℕ) (at : Place) (content : Content) → kind ≡ 1 → IsBytes at.rest → body_at kind at ≡ Ok content → IsBody kind at content
+unfolding body_at content_at
+body_found kind at content one fits e =
+    let whole = bind_ok (piece_at at >>= λ c. Ok (piece c.0, c.1)) _ content e in
+    let read = bind_ok (piece_at at) (λ c. Ok (piece c.0, c.1)) whole.0 whole.1 in
+    let c = read.0 in
+    let taken = (piece_if at fits).holds c.0 c.1 read.1 in
+    let checked = check_ok (length whole.0.1.rest == 0) _ (λ _. Ok whole.0.0) content whole.2 in
+    let both : (piece c.0, c.1) ≡ whole.0 = ok_is (piece c.0, c.1) whole.0 read.2 in
+    let is_content : piece c.0 ≡ content = ap (λ (x : Content × Place). x.0) both ∙ ok_is whole.0.0 content checked.1 in
+    let empty : c.1.rest ≡ [] = no_items c.1.rest (ap (λ (x : Content × Place). length x.1.rest) both ∙ eqb-true (length whole.0.1.rest) 0 checked.0) in
+    let body : IsBody kind at (piece c.0) = record {
+      text = taken.takes.parts ∙ rw (empty, append-nil (piece_body c.0)) refl;
+      is = taken.is;
+      of_kind = one;
+    } in
+    subst (IsBody kind at) is_content body
+
+pub body_again : (o : ℕ) (content : Content) → IsContent content → body_at (kind_of content) (place o (body_spelling content)) ≡ Ok content
+unfolding body_at content_at
+body_again o (piece c) is =
+    let padded : piece_at (place o (piece_body c)) ≡ Ok (c, place (o + length (piece_body c)) []) = ap (λ (t : List ℕ). piece_at (place o t)) (sym (append-nil (piece_body c))) ∙ piece_again o c [] is in
+    rw padded refl
+
+-- a front of the bytes that is there
+chosen : {A : Type 0} (b : Bool) (r : Result (Option A) Fault) (x : A) → cond b (Ok None) r ≡ Ok (Some x) → (b ≡ false) × (r ≡ Ok (Some x))
+chosen true r x e = absurd cc
+chosen false r x e = (refl, e)
+
+some_is : {A : Type 0} (x y : A) → done (Some x) ≡ done (Some y) → x ≡ y
+some_is x y e = cc
+
+-- a head and a body in their windows make a frame
+frame_of_parts : (at : Place) (head : ℕ × ℕ) (end : Place) (content : Content) → 6 ≤ length at.rest → head.1 ≤ length (drop 6 at.rest)
+    → TakesHead (front 6 at) head end → IsBody head.0 (front head.1 (past at 6)) content → SpellsFrame at content (past (past at 6) head.1)
+frame_of_parts at head end content six enough h b =
+    let rest = drop 6 at.rest in
+    let head_text = head_spelling head.0 head.1 in
+    let body = body_spelling content in
+    let ended : length end.rest ≡ 0 = omega (arith, ap length h.takes.parts, length-append head_text end.rest, length-take 6 at.rest) in
+    let head_is : take 6 at.rest ≡ head_text = h.takes.parts ∙ rw (no_items end.rest ended, append-nil head_text) refl in
+    let len : head.1 ≡ length body = omega (arith, ap length b.text, length-take head.1 rest) in
+    let split : at.rest ≡ head_text ++ (body ++ drop head.1 rest) =
+      sym (take-append-drop 6 at.rest) ∙ ap (λ (t : List ℕ). t ++ rest) head_is
+      ∙ ap (λ (t : List ℕ). head_text ++ t) (sym (take-append-drop head.1 rest) ∙ ap (λ (t : List ℕ). t ++ drop head.1 rest) b.text) in
+    let parts : at.rest ≡ (head_text ++ body) ++ drop head.1 rest = split ∙ sym (append_assoc head_text body (drop head.1 rest)) in
+    let spelled : head_text ≡ head_spelling (kind_of content) (length body) = ap (λ (k : ℕ). head_spelling k head.1) b.of_kind ∙ ap (head_spelling (kind_of content)) len in
+    record {
+      takes = record {
+        parts = parts ∙ ap (λ (t : List ℕ). (t ++ body) ++ drop head.1 rest) spelled;
+        place = omega (arith, len, length-append (head_spelling (kind_of content) (length body)) body);
+      };
+      small = omega (arith, len, h.small);
+      is = b.is;
+    }
+
+pub frame_found : (at : Place) (content : Content) (after : Place) → IsBytes at.rest → frame_at at ≡ Ok (Some (content, after)) → SpellsFrame at content after
+unfolding frame_at behind_head
+frame_found at content after fits e =
+    let long = chosen (ltb (length at.rest) 6) _ (content, after) e in
+    let head_read = bind_ok (head_at (front 6 at)) (λ head. behind_head head.0 (past at 6)) (Some (content, after)) long.1 in
+    let head = head_read.0.0 in
+    let behind = chosen (ltb (length (drop 6 at.rest)) head.1) _ (content, after) head_read.2 in
+    let body_read = bind_ok (body_at head.0 (front head.1 (past at 6))) (λ c. Ok (Some (c, past (past at 6) head.1))) (Some (content, after)) behind.1 in
+    let six : 6 ≤ length at.rest = ltb-false _ _ long.0 in
+    let enough : head.1 ≤ length (drop 6 at.rest) = ltb-false _ _ behind.0 in
+    let h = (head_if (front 6 at) (IsBytes-take 6 at.rest fits)).holds head head_read.0.1 head_read.1 in
+    let b = body_found head.0 (front head.1 (past at 6)) body_read.0 h.kind (IsBytes-take head.1 (drop 6 at.rest) (IsBytes-drop 6 at.rest fits)) body_read.1 in
+    let found = frame_of_parts at head head_read.0.1 body_read.0 six enough h b in
+    let is : (body_read.0, past (past at 6) head.1) ≡ (content, after) = some_is _ (content, after) body_read.2 in
+    subst (λ (x : Content × Place). SpellsFrame at x.0 x.1) is found
+
+kind_one : (content : Content) → kind_of content ≡ 1
+kind_one (piece c) = refl
+
+pub frame_again : (o : ℕ) (content : Content) (rest : List ℕ) → length (body_spelling content) ≤ 16777216 → IsContent content
+    → frame_at (place o (frame_spelling content ++ rest)) ≡ Ok (Some (content, place (o + length (frame_spelling content)) rest))
+unfolding frame_at behind_head
+frame_again o content rest small is =
+    let body = body_spelling content in
+    let head_text = head_spelling (kind_of content) (length body) in
+    let behind = body ++ rest in
+    let regrouped : frame_spelling content ++ rest ≡ head_text ++ behind = append_assoc head_text body rest in
+    let long : ltb (length (head_text ++ behind)) 6 ≡ false = le-ltb _ _ (omega (arith, length-append head_text behind)) in
+    let enough : ltb (length behind) (length body) ≡ false = le-ltb _ _ (omega (arith, length-append body rest)) in
+    let h = head_again o (kind_of content) (length body) (kind_one content) small in
+    let b = body_again (o + 6) content is in
+    let end : o + 6 + length body ≡ o + length (frame_spelling content) = omega (arith, length-append head_text body) in
+    ap (λ (t : List ℕ). frame_at (place o t)) regrouped
+    ∙ rw (long, take_at head_text behind 6 refl, drop_at head_text behind 6 refl, h, enough, take_at body rest (length body) refl, drop_at body rest (length body) refl, b)
+    (ap (λ (n : ℕ). Ok (Some (content, place n rest))) end)
+
+pub frame_only : (at : Place) (content : Content) (after : Place) → SpellsFrame at content after → frame_at at ≡ Ok (Some (content, after))
+frame_only at content after s =
+    ap (λ (text : List ℕ). frame_at (place at.offset text)) s.takes.parts
+    ∙ frame_again at.offset content after.rest s.small s.is
+    ∙ ap (λ (n : ℕ). Ok (Some (content, place n after.rest))) (sym s.takes.place)

@@ -1,0 +1,150 @@
+-- A piece that is read was spelled so, and what is spelled so is read.
+use Rattle.std.proofs.Common.{◌≡◌, ℕ, ◌+◌, ◌^◌, ◌<◌, ◌≤◌, Bool, true, false, ◌&&◌, nat_lt, nat_le, cond, List, [], ◌∷◌, ◌++◌, length, Option, Some, None, Result, Ok, Err, IsTrue, refl, sym, ap, subst, ◌∙◌, append_assoc, arith}
+use Rattle.std.specs.Int.{w32, w64, to_be_bytes, byte_len}
+use Rattle.std.specs.List.{flat_map}
+use Rattle.std.proofs.lemmas.Bool.{and_parts, and_from, ltb-true, leb-true, lt-ltb, le-leb}
+use Rattle.std.proofs.lemmas.List.{length-append}
+use Rattle.pmg_value.specs.declared.refusal.Cause.TheVariants as causes
+use Rattle.pmg_value.specs.declared.process.Proc.{Proc}
+use Rattle.pmg_value.specs.declared.value.Value.{Value}
+use Rattle.pmg_value.specs.Spelling.{spelling}
+use Rattle.pmg_value.specs.Names.{is_key}
+use Rattle.pmg_wire.specs.declared.fields.Admits.TheVariants as admits
+use Rattle.pmg_wire.specs.Fields.{key_at, proc_at, value_at}
+use Rattle.pmg_wire.specs.Grammar.{SpellsKey, SpellsProc, SpellsValue}
+use Rattle.pmg_wire.specs.Many.{many, Chain}
+use Rattle.pmg_wire.specs.Reading.{Place, Read, fault, ◌>>=◌, check, byte_at, number_at, IsBytes, Takes}
+use Rattle.pmg_wire.specs.Spelling.{key_spelling, proc_spelling}
+use Rattle.pmg_wire.proofs.Steps.{place, IfRead, bind_if, check_if, done_if, Takes-then, IsBytes-after, wide32, wide64, number_if, number_again}
+use Rattle.pmg_wire.proofs.FieldLaws.{key_if, key_again, proc_if, proc_again, value_if, value_again}
+use Rattle.pmg_wire.proofs.Counted.{TakesOne, TakesMany, many_if, many_again}
+use Rattle.pmg_commit.specs.Entries.{Entry}
+use Rattle.pmg_commit.specs.Knowledge.{Contribution}
+use Rattle.pmg_frame.specs.Grammar.{Follows, IsPieceContent}
+use Rattle.pmg_frame.specs.Reading.{is_after, entry_at, piece_at}
+use Rattle.pmg_frame.specs.Spelling.{entry_spelling, piece_body}
+
+-- what an entry took
+abbrev TakesEntry : ℕ → ℕ → Option Entry → Place → Entry → Place → Type 0
+TakesEntry from to before at = TakesOne entry_spelling (Follows from to) before at
+
+pub entry_if : (from to : ℕ) (before : Option Entry) (at : Place) → IsBytes at.rest → IfRead (entry_at from to before at) (TakesEntry from to before at)
+unfolding entry_at
+entry_if from to before at fits =
+    let in_range : ℕ → Bool = λ number. nat_lt from number && nat_le number to in
+    let made : List ℕ → ℕ → Value × Place → Read Entry = λ key number value. Ok (record { key = key; number = number; bytes = spelling value.0 }, value.1) in
+    let valued : List ℕ → ℕ × Place → Read Entry = λ key number. value_at number.1 >>= made key number.0 in
+    let numbered : List ℕ → Place → ℕ × Place → Read Entry = λ key middle number. check (in_range number.0) (fault middle.offset causes.Number) >>= λ _. valued key number in
+    let ordered : List ℕ × Place → Read Entry = λ key. number_at w64 key.1 >>= numbered key.0 key.1 in
+    bind_if (λ key. check (is_after before key.0) (fault at.offset causes.Order) >>= λ _. ordered key) (key_if at fits) (λ key middle k.
+      let middle_fits : IsBytes middle.rest = IsBytes-after (key_spelling key) fits k.takes in
+      check_if (is_after before key) (fault at.offset causes.Order) (λ _. ordered (key, middle)) (λ order.
+        bind_if (numbered key middle) (number_if w64 (2 ^ 64) wide64 middle middle_fits) (λ number later n.
+          check_if (in_range number) (fault middle.offset causes.Number) (λ _. valued key (number, later)) (λ within.
+            let parts = and_parts (nat_lt from number) (nat_le number to) within in
+            bind_if (made key number) (value_if later) (λ v after t.
+              done_if (record {
+                takes = Takes-then (key_spelling key) (to_be_bytes w64 number ++ spelling v) k.takes (Takes-then (to_be_bytes w64 number) (spelling v) n.takes t.takes);
+                follows = record { key = k.is; order = order; above = ltb-true _ _ parts.0; within = leb-true _ _ parts.1; value = v; bytes = refl };
+              }))))))
+
+-- what a piece's body took
+pub record TakesPiece (at : Place) (c : Contribution) (after : Place) : Type 0 where
+  pub takes : Takes at (piece_body c) after
+  pub is : IsPieceContent c
+
+pub piece_if : (at : Place) → IsBytes at.rest → IfRead (piece_at at) (TakesPiece at)
+unfolding piece_at
+piece_if at fits =
+    let in_range : ℕ → ℕ → Bool = λ from to. nat_lt from to && nat_le to 4294967295 in
+    let made : Proc → ℕ → ℕ → List Entry × Place → Read Contribution = λ proc from to entries. Ok (record { proc = proc; from = from; to = to; entries = entries.0 }, entries.1) in
+    let listed : Proc → ℕ → ℕ → ℕ × Place → Read Contribution = λ proc from to count. many (entry_at from to) count.0 None count.1 >>= made proc from to in
+    let counted : Proc → ℕ → ℕ → Place → ℕ × Place → Read Contribution = λ proc from to at_count count. check (nat_le count.0 65536) (fault at_count.offset causes.Count) >>= λ _. listed proc from to count in
+    let ranged : Proc → ℕ → ℕ × Place → Read Contribution = λ proc from to. number_at w32 to.1 >>= counted proc from to.0 to.1 in
+    let ending : Proc → Place → ℕ → ℕ × Place → Read Contribution = λ proc at_from from to. check (in_range from to.0) (fault at_from.offset causes.Range) >>= λ _. ranged proc from to in
+    let begun : Proc → Place → ℕ × Place → Read Contribution = λ proc at_from from. number_at w64 from.1 >>= ending proc at_from from.0 in
+    bind_if (λ proc. number_at w64 proc.1 >>= begun proc.0 proc.1) (proc_if admits.ClientsAndHost at fits) (λ proc a p.
+      let a_fits : IsBytes a.rest = IsBytes-after (proc_spelling proc) fits p.takes in
+      bind_if (begun proc a) (number_if w64 (2 ^ 64) wide64 a a_fits) (λ from b f.
+        let b_fits : IsBytes b.rest = IsBytes-after (to_be_bytes w64 from) a_fits f.takes in
+        bind_if (ending proc a from) (number_if w64 (2 ^ 64) wide64 b b_fits) (λ to d t.
+          let d_fits : IsBytes d.rest = IsBytes-after (to_be_bytes w64 to) b_fits t.takes in
+          check_if (in_range from to) (fault a.offset causes.Range) (λ _. ranged proc from (to, d)) (λ range.
+            let parts = and_parts (nat_lt from to) (nat_le to 4294967295) range in
+            bind_if (counted proc from to d) (number_if w32 (2 ^ 32) wide32 d d_fits) (λ count e n.
+              let e_fits : IsBytes e.rest = IsBytes-after (to_be_bytes w32 count) d_fits n.takes in
+              check_if (nat_le count 65536) (fault d.offset causes.Count) (λ _. listed proc from to (count, e)) (λ few.
+                bind_if (made proc from to) (many_if (entry_at from to) entry_spelling (Follows from to) (entry_if from to) count None e e_fits) (λ entries after m.
+                  let count_text = to_be_bytes w32 count in
+                  let tail = Takes-then count_text (flat_map entry_spelling entries) n.takes m.takes in
+                  let to_tail = Takes-then (to_be_bytes w64 to) (count_text ++ flat_map entry_spelling entries) t.takes tail in
+                  let from_tail = Takes-then (to_be_bytes w64 from) (to_be_bytes w64 to ++ (count_text ++ flat_map entry_spelling entries)) f.takes to_tail in
+                  let all = Takes-then (proc_spelling proc) (to_be_bytes w64 from ++ (to_be_bytes w64 to ++ (count_text ++ flat_map entry_spelling entries))) p.takes from_tail in
+                  done_if (record {
+                    takes = rw m.len all;
+                    is = record {
+                      name = p.name;
+                      admitted = p.admitted;
+                      range = ltb-true _ _ parts.0;
+                      last = leb-true _ _ parts.1;
+                      count = rw m.len (leb-true count 65536 few);
+                      entries = m.chain;
+                    };
+                  }))))))))
+
+-- ---- and again
+
+fits64 : (from to number : ℕ) → number ≤ to → to ≤ 4294967295 → number < 2 ^ 64
+fits64 from to number a b = omega arith
+
+entry_of : List ℕ → ℕ → Value → Entry
+entry_of key number v = record { key = key; number = number; bytes = spelling v }
+
+entry_made_again : (from to : ℕ) (before : Option Entry) (o : ℕ) (key : List ℕ) (number : ℕ) (v : Value) (rest : List ℕ) → IsTrue (is_key key) → IsTrue (is_after before key) → from < number → number ≤ to → to ≤ 4294967295
+    → entry_at from to before (place o (entry_spelling (entry_of key number v) ++ rest)) ≡ Ok (entry_of key number v, place (o + length (entry_spelling (entry_of key number v))) rest)
+unfolding entry_at entry_of
+entry_made_again from to before o key number v rest is order above within last =
+    let number_text = to_be_bytes w64 number in
+    let regrouped : (key_spelling key ++ (number_text ++ spelling v)) ++ rest ≡ key_spelling key ++ (number_text ++ (spelling v ++ rest)) = append_assoc (key_spelling key) (number_text ++ spelling v) rest ∙ ap (λ (t : List ℕ). key_spelling key ++ t) (append_assoc number_text (spelling v) rest) in
+    let k = key_again o key (number_text ++ (spelling v ++ rest)) is in
+    let n = number_again w64 (2 ^ 64) wide64 (o + length (key_spelling key)) number (spelling v ++ rest) (fits64 from to number within last) in
+    let t = value_again (o + length (key_spelling key) + 8) v rest in
+    let in_range : IsTrue (nat_lt from number && nat_le number to) = and_from (nat_lt from number) (nat_le number to) (lt-ltb _ _ above) (le-leb _ _ within) in
+    let end : o + length (key_spelling key) + 8 + length (spelling v) ≡ o + length (key_spelling key ++ (number_text ++ spelling v)) = omega (arith, length-append (key_spelling key) (number_text ++ spelling v)) in
+    ap (λ (text : List ℕ). entry_at from to before (place o text)) regrouped
+    ∙ rw (k, order, n, in_range, t) (ap (λ (m : ℕ). Ok (entry_of key number v, place m rest)) end)
+
+pub entry_again : (from to : ℕ) → to ≤ 4294967295 → (before : Option Entry) (o : ℕ) (e : Entry) (rest : List ℕ) → Follows from to before e
+    → entry_at from to before (place o (entry_spelling e ++ rest)) ≡ Ok (e, place (o + length (entry_spelling e)) rest)
+unfolding entry_of
+entry_again from to last before o e rest f =
+    let Again : Entry → Type 0 = λ x. entry_at from to before (place o (entry_spelling x ++ rest)) ≡ Ok (x, place (o + length (entry_spelling x)) rest) in
+    let same : entry_of e.key e.number f.value ≡ e = ap (λ (b : List ℕ). record { key = e.key; number = e.number; bytes = b }) (sym f.bytes) in
+    subst Again same (entry_made_again from to before o e.key e.number f.value rest f.key f.order f.above f.within last)
+
+regroup_5 : (a b c d e r : List ℕ) → (a ++ (b ++ (c ++ (d ++ e)))) ++ r ≡ a ++ (b ++ (c ++ (d ++ (e ++ r))))
+regroup_5 a b c d e r = simp append_assoc
+
+length_5 : (a b c d e : List ℕ) → length (a ++ (b ++ (c ++ (d ++ e)))) ≡ length a + length b + length c + length d + length e
+length_5 a b c d e =
+    omega (arith, length-append a (b ++ (c ++ (d ++ e))), length-append b (c ++ (d ++ e)), length-append c (d ++ e), length-append d e)
+
+pub piece_again : (o : ℕ) (c : Contribution) (rest : List ℕ) → IsPieceContent c → piece_at (place o (piece_body c ++ rest)) ≡ Ok (c, place (o + length (piece_body c)) rest)
+unfolding piece_at
+piece_again o c rest is =
+    let from_text = to_be_bytes w64 c.from in
+    let to_text = to_be_bytes w64 c.to in
+    let count_text = to_be_bytes w32 (length c.entries) in
+    let entries_text = flat_map entry_spelling c.entries in
+    let regrouped : piece_body c ++ rest ≡ proc_spelling c.proc ++ (from_text ++ (to_text ++ (count_text ++ (entries_text ++ rest)))) = regroup_5 (proc_spelling c.proc) from_text to_text count_text entries_text rest in
+    let o1 = o + length (proc_spelling c.proc) in
+    let p = proc_again admits.ClientsAndHost o c.proc (from_text ++ (to_text ++ (count_text ++ (entries_text ++ rest)))) is.name is.admitted in
+    let f = number_again w64 (2 ^ 64) wide64 o1 c.from (to_text ++ (count_text ++ (entries_text ++ rest))) (omega (arith, is.range, is.last)) in
+    let t = number_again w64 (2 ^ 64) wide64 (o1 + 8) c.to (count_text ++ (entries_text ++ rest)) (omega (arith, is.last)) in
+    let range : IsTrue (nat_lt c.from c.to && nat_le c.to 4294967295) = and_from (nat_lt c.from c.to) (nat_le c.to 4294967295) (lt-ltb _ _ is.range) (le-leb _ _ is.last) in
+    let n = number_again w32 (2 ^ 32) wide32 (o1 + 8 + 8) (length c.entries) (entries_text ++ rest) (omega (arith, is.count)) in
+    let few : IsTrue (nat_le (length c.entries) 65536) = le-leb _ _ is.count in
+    let m = many_again (entry_at c.from c.to) entry_spelling (Follows c.from c.to) (entry_again c.from c.to is.last) None (o1 + 8 + 8 + 4) c.entries rest is.entries in
+    let end : o1 + 8 + 8 + 4 + length entries_text ≡ o + length (piece_body c) = omega (arith, length_5 (proc_spelling c.proc) from_text to_text count_text entries_text) in
+    ap (λ (text : List ℕ). piece_at (place o text)) regrouped
+    ∙ rw (p, f, t, range, n, few, m) (ap (λ (k : ℕ). Ok (c, place k rest)) end)

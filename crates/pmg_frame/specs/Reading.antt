@@ -1,0 +1,81 @@
+-- How frames are read: the fields in order from the left, and the first fault.
+use Rattle.std.specs.Prelude.{ℕ, ◌==◌, Bool, true, false, ◌&&◌, nat_lt, nat_le, List, length, take, Option, Some, None, Result, Ok, Err, if◌then◌else◌}
+use Rattle.std.specs.Ordering.{nat_cmp, is_lt}
+use Rattle.std.specs.Cmp.Lexicographic.{slice_cmp}
+use Rattle.std.specs.Int.{w32, w64}
+use Rattle.pmg_value.specs.declared.refusal.Cause.TheVariants as causes
+use Rattle.pmg_value.specs.declared.refusal.Fault.{Fault}
+use Rattle.pmg_value.specs.Spelling.{spelling}
+use Rattle.pmg_wire.specs.declared.fields.Admits.TheVariants as admits
+use Rattle.pmg_wire.specs.Fields.{key_at, proc_at, value_at}
+use Rattle.pmg_wire.specs.Many.{many}
+use Rattle.pmg_wire.specs.Reading.{Place, past, Read, fault, ◌>>=◌, check, byte_at, number_at}
+use Rattle.pmg_commit.specs.Entries.{Entry}
+use Rattle.pmg_commit.specs.Knowledge.{Contribution}
+use Rattle.pmg_frame.specs.Spelling.{Content, piece}
+
+-- the key of an entry is greater than that of the entry before, where there is one
+abbrev pub is_after : Option Entry → List ℕ → Bool
+is_after None key = true
+is_after (Some before) key = is_lt (slice_cmp nat_cmp before.key key)
+
+-- an entry of a piece of the commits from+1 to to, behind another entry or none
+unfoldable pub entry_at : ℕ → ℕ → Option Entry → Place → Read Entry
+entry_at from to before at = do
+  key ← key_at at
+  _ ← check (is_after before key.0) (fault at.offset causes.Order)
+  number ← number_at w64 key.1
+  _ ← check (nat_lt from number.0 && nat_le number.0 to) (fault key.1.offset causes.Number)
+  value ← value_at number.1
+  Ok (record { key = key.0; number = number.0; bytes = spelling value.0 }, value.1)
+
+-- the body of a piece
+unfoldable pub piece_at : Place → Read Contribution
+piece_at at = do
+  proc ← proc_at admits.ClientsAndHost at
+  from ← number_at w64 proc.1
+  to ← number_at w64 from.1
+  _ ← check (nat_lt from.0 to.0 && nat_le to.0 4294967295) (fault proc.1.offset causes.Range)
+  count ← number_at w32 to.1
+  _ ← check (nat_le count.0 65536) (fault to.1.offset causes.Count)
+  entries ← many (entry_at from.0 to.0) count.0 None count.1
+  Ok (record { proc = proc.0; from = from.0; to = to.0; entries = entries.0 }, entries.1)
+
+-- the fields of a body of that kind
+unfoldable pub content_at : ℕ → Place → Read Content
+content_at kind at = piece_at at >>= λ c. Ok (piece c.0, c.1)
+
+-- a body: its fields, and nothing behind them
+unfoldable pub body_at : ℕ → Place → Result Content Fault
+body_at kind at = do
+  content ← content_at kind at
+  _ ← check (length content.1.rest == 0) (fault content.1.offset causes.Long)
+  Ok content.0
+
+-- the head of a frame: its kind, and the length of its body
+unfoldable pub head_at : Place → Read (ℕ × ℕ)
+head_at at = do
+  version ← byte_at at
+  _ ← check (version.0 == 1) (fault at.offset causes.Version)
+  kind ← byte_at version.1
+  _ ← check (kind.0 == 1) (fault version.1.offset causes.Kind)
+  len ← number_at w32 kind.1
+  _ ← check (nat_le len.0 16777216) (fault kind.1.offset causes.Length)
+  Ok ((kind.0, len.0), len.1)
+
+-- the next n bytes alone
+abbrev pub front : ℕ → Place → Place
+front n at = record { offset = at.offset; rest = take n at.rest }
+
+-- behind a head: the whole frame, or nothing while its body is not all there
+unfoldable pub behind_head : ℕ × ℕ → Place → Result (Option (Content × Place)) Fault
+behind_head head at =
+    if nat_lt (length at.rest) head.1 then Ok None
+    else (body_at head.0 (front head.1 at) >>= λ content. Ok (Some (content, past at head.1)))
+
+-- The next frame, or nothing while it is not all there. The head is checked once its six bytes are there,
+-- the body once all of it is there.
+unfoldable pub frame_at : Place → Result (Option (Content × Place)) Fault
+frame_at at =
+    if nat_lt (length at.rest) 6 then Ok None
+    else (head_at (front 6 at) >>= λ head. behind_head head.0 (past at 6))
