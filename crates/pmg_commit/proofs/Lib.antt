@@ -1,3 +1,4 @@
+pub mod Joining
+pub mod PieceFacts
 pub mod Reading
 pub mod Rules
-pub mod Joining

@@ -7,4 +7,5 @@ pub mod Tops
 pub mod CoreLaws
 pub mod Cores
 pub mod Data
+pub mod Pieces
 pub mod Rules

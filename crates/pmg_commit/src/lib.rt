@@ -2,5 +2,7 @@
 #![tactic(auto)]
 
 mod laws;
+mod piece;
 
 pub use laws::{data_rules, knowledge_rules};
+pub use piece::{MAX_COMMIT, MAX_ENTRIES, MAX_PIECE_SIZE, Piece, PieceEntry};

@@ -1,3 +1,4 @@
+pub mod ChainLemmas
 pub mod ListLemmas
 pub mod MapLemmas
 pub mod ProcessOrder

@@ -1,6 +1,6 @@
 -- A text that is written in parts: what the calls for the parts did, the call for the whole did.
 -- The premises on the last part stand first, so that `search` finds the writer between two parts.
-use Rattle.std.proofs.Common.{◌≡◌, ℕ, List, [], ◌+◌, ◌-◌, ◌++◌, ◌≤◌, length, length-drop, take, drop, arith, rules, ◌∙◌, ap, sym, subst, append_assoc, None, Some, min}
+use Rattle.std.proofs.Common.{◌≡◌, ℕ, List, [], ◌+◌, ◌-◌, ◌++◌, length, length-drop, take, drop, arith, rules, ◌∙◌, ap, sym, subst, append_assoc, None, Some, min}
 use Rattle.std.specs.Prelude.{OnOk}
 use Rattle.std.specs.declared.option.Option.{Option}
 use Rattle.std.specs.declared.result.Result.{Result}

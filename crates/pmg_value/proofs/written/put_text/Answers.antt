@@ -1,4 +1,4 @@
-use Rattle.std.proofs.Common.{rules, arith, length, length-take, length-drop, ℕ, refl}
+use Rattle.std.proofs.Common.{arith, length-take, length-drop, refl}
 use Rattle.pmg_value.proofs.WrittenLemmas.{appends_taken, appends_kept}
 use Rattle.pmg_value.proofs.written.put_text.Goals as goal
 use Rattle.pmg_value.proofs.written.put_text.Goals.{in-Ok, in-Err+else-ne}

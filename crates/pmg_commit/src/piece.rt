@@ -1,0 +1,236 @@
+ghost use Rattle.std.specs.Prelude.{◌≡◌, ◌≤◌, ◌<◌, ◌||◌, ◌^◌, map, length, slice_get, if◌then◌else◌, IfOk, IsTrue};
+ghost use Rattle.std.specs.Option.{option_map};
+ghost use Rattle.std.specs.List.{list_all, sum_by};
+ghost use Rattle.pmg_value.specs.Lists.{is_chain};
+ghost use Rattle.pmg_value.specs.Process.{is_client, is_host};
+ghost use Rattle.pmg_value.specs.declared.refusal.Refusal.TheVariants as refusals;
+ghost use Rattle.pmg_commit.specs.Pieces.{entry_of, contribution, entry_size, is_numbered, is_key_rising, is_small, is_piece};
+
+use pmg_value::{Key, Proc, Refusal, Value};
+use std::alloc::AllocError;
+use std::marker::Model;
+
+/// The greatest number of a commit.
+pub const MAX_COMMIT: u64 = 4_294_967_295;
+
+/// The most entries of a piece.
+pub const MAX_ENTRIES: usize = 65_536;
+
+/// The most bytes that a piece takes in a frame's body.
+pub const MAX_PIECE_SIZE: usize = 16_777_216;
+
+/// One key's entry: the number of the commit that sealed it, and the value that was put
+/// (PMIx Standard 5.0, PMIx_Put and PMIx_Commit).
+#[derive(Debug, Drop)]
+pub struct PieceEntry {
+    pub key: Key,
+    pub number: u64,
+    pub value: Value,
+}
+
+impl PieceEntry {
+    /// Another entry of the same meaning.
+    pub fn copy(&self) -> Result<PieceEntry, AllocError>
+        ensures { IfOk result (λ e. e ≡ self.now) }
+    {
+        Ok(PieceEntry {
+            key: self.key.copy()?,
+            number: self.number,
+            value: self.value.copy()?,
+        })
+    }
+
+    /// Whether the entry is of one of the commits from+1 to to.
+    fn is_within(&self, from: u64, to: u64) -> bool
+        ensures { result ≡ is_numbered from to (entry_of self.now) }
+    {
+        from < self.number && self.number <= to
+    }
+
+    /// Whether the other entry's key is greater.
+    fn is_before(&self, next: &PieceEntry) -> bool
+        ensures { result ≡ is_key_rising (entry_of self.now) (entry_of next.now) }
+    {
+        self.key < next.key
+    }
+
+    /// The bytes that the entry takes in a frame.
+    pub fn size(&self) -> usize
+        ensures value { result ≡ entry_size (entry_of self.now) }
+        ensures bound { result ≤ 1049097 }
+    {
+        self.key.as_bytes().len() + self.value.size() + 10
+    }
+}
+
+/// A contribution: what a process sealed in its commits from+1 to to. It fits into a frame.
+#[derive(Debug, Drop)]
+pub struct Piece {
+    proc: Proc,
+    from: u64,
+    to: u64,
+    entries: Vec<PieceEntry>,
+}
+
+impl Model for Piece {
+    ghost use Rattle.std.specs.Prelude.{IsTrue};
+    ghost use Rattle.pmg_commit.specs.Knowledge.{Contribution};
+
+    ghost Value = { Contribution };
+
+    ghost use Rattle.pmg_commit.specs.Pieces.{contribution, is_piece};
+
+    ghost view = { λ a. contribution a.proc a.from a.to a.entries.items };
+
+    ghost invariant = { λ a. IsTrue (is_piece (contribution a.proc a.from a.to a.entries.items)) };
+}
+
+/// Whether the keys rise strictly.
+fn are_keys_rising(entries: &[PieceEntry]) -> bool
+    ensures { result ≡ is_chain is_key_rising (map entry_of entries.now) }
+{
+    for i in 1..entries.len() {
+        if !entries[i - 1].is_before(&entries[i]) {
+            return false;
+        }
+    }
+    true
+}
+
+/// Whether each entry is of one of the commits from+1 to to.
+fn are_numbered(from: u64, to: u64, entries: &[PieceEntry]) -> bool
+    ensures { result ≡ list_all (is_numbered from to) (map entry_of entries.now) }
+{
+    for entry in entries {
+        if !entry.is_within(from, to) {
+            return false;
+        }
+    }
+    true
+}
+
+/// The bytes that the entries take in a frame.
+fn entries_size(entries: &[PieceEntry]) -> usize
+    requires { length entries.now ≤ 65536 }
+    ensures value { result ≡ sum_by entry_size (map entry_of entries.now) }
+    ensures bound { result < 2 ^ 40 }
+{
+    let mut size = 0;
+    for entry in entries {
+        size += entry.size();
+    }
+    size
+}
+
+/// Whether there are no more entries and bytes than a frame can hold.
+fn are_few(proc: &Proc, entries: &[PieceEntry]) -> bool
+    ensures { result ≡ is_small proc.now (map entry_of entries.now) }
+{
+    entries.len() <= MAX_ENTRIES
+        && proc.nspace.as_bytes().len() + 25 + entries_size(entries) <= MAX_PIECE_SIZE
+}
+
+/// Whether a frame can hold the contribution.
+#[tactic(auto, unfolding(crate::specs::Pieces::is_piece))]
+fn can_be_framed(proc: &Proc, from: u64, to: u64, entries: &[PieceEntry]) -> bool
+    ensures { result ≡ is_piece (contribution proc.now from to entries.now) }
+{
+    let commits = proc.is_client() || proc.is_host();
+    let ranges = from < to && to <= MAX_COMMIT;
+    commits
+        && ranges
+        && are_few(proc, entries)
+        && are_keys_rising(entries)
+        && are_numbered(from, to, entries)
+}
+
+impl Piece {
+    /// The contribution of these entries to what is known of the process. Refused as BadParam where no frame
+    /// can hold it: where the process is none that commits, the range is empty or goes past 4294967295, the
+    /// keys do not rise strictly, an entry's number is outside the range, or there are more than 65536
+    /// entries or 16777216 bytes.
+    pub fn new(proc: Proc, from: u64, to: u64, entries: Vec<PieceEntry>) -> Result<Piece, Refusal>
+        ensures { result ≡ (if is_piece (contribution proc from to entries.items) then Ok (contribution proc from to entries.items)
+            else Err refusals.BadParam) }
+    {
+        if !can_be_framed(&proc, from, to, &entries) {
+            return Err(Refusal::BadParam);
+        }
+        Ok(Piece {
+            proc,
+            from,
+            to,
+            entries,
+        })
+    }
+
+    /// The process that committed.
+    pub fn proc(&self) -> &Proc
+        ensures value { result.now ≡ self.now.proc }
+        ensures commits { IsTrue (is_client result.now || is_host result.now) }
+    {
+        &self.proc
+    }
+
+    /// The number of the last commit before the contribution.
+    pub fn from(&self) -> u64
+        ensures value { result ≡ self.now.from }
+        ensures order { result < self.now.to }
+    {
+        self.from
+    }
+
+    /// The number of the contribution's last commit.
+    pub fn to(&self) -> u64
+        ensures value { result ≡ self.now.to }
+        ensures order { self.now.from < result }
+        ensures bound { result ≤ 4294967295 }
+    {
+        self.to
+    }
+
+    /// The number of the entries.
+    pub fn count(&self) -> usize
+        ensures value { result ≡ length self.now.entries }
+        ensures bound { result ≤ 65536 }
+    {
+        self.entries.len()
+    }
+
+    /// The entry at that place, in the order of the keys, from 0.
+    pub fn entry(&self, i: usize) -> Option<&PieceEntry>
+        ensures { option_map (λ e. entry_of e.now) result ≡ slice_get self.now.entries i }
+    {
+        self.entries.get(i)
+    }
+
+    /// The entries, in the order of their keys.
+    pub fn entries(&self) -> &[PieceEntry]
+        ensures { map entry_of result.now ≡ self.now.entries }
+    {
+        &self.entries
+    }
+
+    /// Another piece of the same meaning.
+    pub fn copy(&self) -> Result<Piece, AllocError>
+        ensures { IfOk result (λ p. p ≡ self.now) }
+    {
+        Ok(Piece {
+            proc: self.proc.copy()?,
+            from: self.from,
+            to: self.to,
+            entries: copy_entries(&self.entries)?,
+        })
+    }
+}
+
+/// Other entries of the same meaning, with the same allocator.
+fn copy_entries(entries: &Vec<PieceEntry>) -> Result<Vec<PieceEntry>, AllocError>
+    ensures { IfOk result (λ es. es.items ≡ entries.now.items) }
+{
+    let mut copies = Vec::with_capacity(*entries.allocator(), entries.len())?;
+    for entry in entries {
+        copies.push(entry.copy()?)?;
+    }
+    Ok(copies)
+}
