@@ -8,9 +8,11 @@ use Rattle.pmg_value.specs.declared.refusal.Fault.{Fault}
 use Rattle.pmg_wire.specs.Reading.{Place, past, Read, fault, ◌>>=◌, check, byte_at, number_at, IsBytes, Takes}
 use Rattle.pmg_wire.proofs.Steps.{place, IfRead, bind_if, check_if, done_if, bind_ok, Takes-then, IsBytes-after, IsBytes-take, IsBytes-drop, wide32, number_if, number_again, byte_if, byte_again}
 use Rattle.pmg_commit.specs.Knowledge.{Contribution}
-use Rattle.pmg_frame.specs.Grammar.{IsPieceContent, IsContent, SpellsFrame}
-use Rattle.pmg_frame.specs.Reading.{piece_at, content_at, body_at, head_at, front, behind_head, frame_at}
-use Rattle.pmg_frame.specs.Spelling.{Content, piece, piece_body, kind_of, body_spelling, head_spelling, frame_spelling}
+use Rattle.pmg_frame.specs.declared.frame.Frame.{Frame}
+use Rattle.pmg_frame.specs.declared.frame.Frame.TheVariants as frames
+use Rattle.pmg_frame.specs.Grammar.{IsPiece, IsFrame, SpellsFrame}
+use Rattle.pmg_frame.specs.Reading.{piece_at, fields_at, body_at, head_at, front, behind_head, frame_at}
+use Rattle.pmg_frame.specs.Spelling.{piece_body, kind_of, body_spelling, head_spelling, frame_spelling}
 use Rattle.pmg_frame.proofs.PieceLaws.{TakesPiece, piece_if, piece_again}
 
 -- what a head took
@@ -62,50 +64,50 @@ ok_is : {A : Type 0} (x y : A) → done x ≡ done y → x ≡ y
 ok_is x y e = cc
 
 -- what a body says
-pub record IsBody (kind : ℕ) (at : Place) (content : Content) : Type 0 where
-  pub text : at.rest ≡ body_spelling content
-  pub is : IsContent content
-  pub of_kind : kind ≡ kind_of content
+pub record IsBody (kind : ℕ) (at : Place) (frame : Frame) : Type 0 where
+  pub text : at.rest ≡ body_spelling frame
+  pub is : IsFrame frame
+  pub of_kind : kind ≡ kind_of frame
 
-pub body_found : (kind : ℕ) (at : Place) (content : Content) → kind ≡ 1 → IsBytes at.rest → body_at kind at ≡ Ok content → IsBody kind at content
-unfolding body_at content_at
-body_found kind at content one fits e =
-    let whole = bind_ok (piece_at at >>= λ c. Ok (piece c.0, c.1)) _ content e in
-    let read = bind_ok (piece_at at) (λ c. Ok (piece c.0, c.1)) whole.0 whole.1 in
+pub body_found : (kind : ℕ) (at : Place) (frame : Frame) → kind ≡ 1 → IsBytes at.rest → body_at kind at ≡ Ok frame → IsBody kind at frame
+unfolding body_at fields_at
+body_found kind at frame one fits e =
+    let whole = bind_ok (piece_at at >>= λ c. Ok (frames.Piece c.0, c.1)) _ frame e in
+    let read = bind_ok (piece_at at) (λ c. Ok (frames.Piece c.0, c.1)) whole.0 whole.1 in
     let c = read.0 in
     let taken = (piece_if at fits).holds c.0 c.1 read.1 in
-    let checked = check_ok (length whole.0.1.rest == 0) _ (λ _. Ok whole.0.0) content whole.2 in
-    let both : (piece c.0, c.1) ≡ whole.0 = ok_is (piece c.0, c.1) whole.0 read.2 in
-    let is_content : piece c.0 ≡ content = ap (λ (x : Content × Place). x.0) both ∙ ok_is whole.0.0 content checked.1 in
-    let empty : c.1.rest ≡ [] = no_items c.1.rest (ap (λ (x : Content × Place). length x.1.rest) both ∙ eqb-true (length whole.0.1.rest) 0 checked.0) in
-    let body : IsBody kind at (piece c.0) = record {
+    let checked = check_ok (length whole.0.1.rest == 0) _ (λ _. Ok whole.0.0) frame whole.2 in
+    let both : (frames.Piece c.0, c.1) ≡ whole.0 = ok_is (frames.Piece c.0, c.1) whole.0 read.2 in
+    let is_frame : frames.Piece c.0 ≡ frame = ap (λ (x : Frame × Place). x.0) both ∙ ok_is whole.0.0 frame checked.1 in
+    let empty : c.1.rest ≡ [] = no_items c.1.rest (ap (λ (x : Frame × Place). length x.1.rest) both ∙ eqb-true (length whole.0.1.rest) 0 checked.0) in
+    let body : IsBody kind at (frames.Piece c.0) = record {
       text = taken.takes.parts ∙ rw (empty, append-nil (piece_body c.0)) refl;
       is = taken.is;
       of_kind = one;
     } in
-    subst (IsBody kind at) is_content body
+    subst (IsBody kind at) is_frame body
 
-pub body_again : (o : ℕ) (content : Content) → IsContent content → body_at (kind_of content) (place o (body_spelling content)) ≡ Ok content
-unfolding body_at content_at
-body_again o (piece c) is =
+pub body_again : (o : ℕ) (frame : Frame) → IsFrame frame → body_at (kind_of frame) (place o (body_spelling frame)) ≡ Ok frame
+unfolding body_at fields_at
+body_again o (frames.Piece c) is =
     let padded : piece_at (place o (piece_body c)) ≡ Ok (c, place (o + length (piece_body c)) []) = ap (λ (t : List ℕ). piece_at (place o t)) (sym (append-nil (piece_body c))) ∙ piece_again o c [] is in
     rw padded refl
 
 -- a front of the bytes that is there
-chosen : {A : Type 0} (b : Bool) (r : Result (Option A) Fault) (x : A) → cond b (Ok None) r ≡ Ok (Some x) → (b ≡ false) × (r ≡ Ok (Some x))
+pub chosen : {A : Type 0} (b : Bool) (r : Result (Option A) Fault) (x : A) → cond b (Ok None) r ≡ Ok (Some x) → (b ≡ false) × (r ≡ Ok (Some x))
 chosen true r x e = absurd cc
 chosen false r x e = (refl, e)
 
-some_is : {A : Type 0} (x y : A) → done (Some x) ≡ done (Some y) → x ≡ y
+pub some_is : {A : Type 0} (x y : A) → done (Some x) ≡ done (Some y) → x ≡ y
 some_is x y e = cc
 
 -- a head and a body in their windows make a frame
-frame_of_parts : (at : Place) (head : ℕ × ℕ) (end : Place) (content : Content) → 6 ≤ length at.rest → head.1 ≤ length (drop 6 at.rest)
-    → TakesHead (front 6 at) head end → IsBody head.0 (front head.1 (past at 6)) content → SpellsFrame at content (past (past at 6) head.1)
-frame_of_parts at head end content six enough h b =
+frame_of_parts : (at : Place) (head : ℕ × ℕ) (end : Place) (frame : Frame) → 6 ≤ length at.rest → head.1 ≤ length (drop 6 at.rest)
+    → TakesHead (front 6 at) head end → IsBody head.0 (front head.1 (past at 6)) frame → SpellsFrame at frame (past (past at 6) head.1)
+frame_of_parts at head end frame six enough h b =
     let rest = drop 6 at.rest in
     let head_text = head_spelling head.0 head.1 in
-    let body = body_spelling content in
+    let body = body_spelling frame in
     let ended : length end.rest ≡ 0 = omega (arith, ap length h.takes.parts, length-append head_text end.rest, length-take 6 at.rest) in
     let head_is : take 6 at.rest ≡ head_text = h.takes.parts ∙ rw (no_items end.rest ended, append-nil head_text) refl in
     let len : head.1 ≡ length body = omega (arith, ap length b.text, length-take head.1 rest) in
@@ -113,54 +115,54 @@ frame_of_parts at head end content six enough h b =
       sym (take-append-drop 6 at.rest) ∙ ap (λ (t : List ℕ). t ++ rest) head_is
       ∙ ap (λ (t : List ℕ). head_text ++ t) (sym (take-append-drop head.1 rest) ∙ ap (λ (t : List ℕ). t ++ drop head.1 rest) b.text) in
     let parts : at.rest ≡ (head_text ++ body) ++ drop head.1 rest = split ∙ sym (append_assoc head_text body (drop head.1 rest)) in
-    let spelled : head_text ≡ head_spelling (kind_of content) (length body) = ap (λ (k : ℕ). head_spelling k head.1) b.of_kind ∙ ap (head_spelling (kind_of content)) len in
+    let spelled : head_text ≡ head_spelling (kind_of frame) (length body) = ap (λ (k : ℕ). head_spelling k head.1) b.of_kind ∙ ap (head_spelling (kind_of frame)) len in
     record {
       takes = record {
         parts = parts ∙ ap (λ (t : List ℕ). (t ++ body) ++ drop head.1 rest) spelled;
-        place = omega (arith, len, length-append (head_spelling (kind_of content) (length body)) body);
+        place = omega (arith, len, length-append (head_spelling (kind_of frame) (length body)) body);
       };
       small = omega (arith, len, h.small);
       is = b.is;
     }
 
-pub frame_found : (at : Place) (content : Content) (after : Place) → IsBytes at.rest → frame_at at ≡ Ok (Some (content, after)) → SpellsFrame at content after
+pub frame_found : (at : Place) (frame : Frame) (after : Place) → IsBytes at.rest → frame_at at ≡ Ok (Some (frame, after)) → SpellsFrame at frame after
 unfolding frame_at behind_head
-frame_found at content after fits e =
-    let long = chosen (ltb (length at.rest) 6) _ (content, after) e in
-    let head_read = bind_ok (head_at (front 6 at)) (λ head. behind_head head.0 (past at 6)) (Some (content, after)) long.1 in
+frame_found at frame after fits e =
+    let long = chosen (ltb (length at.rest) 6) _ (frame, after) e in
+    let head_read = bind_ok (head_at (front 6 at)) (λ head. behind_head head.0 (past at 6)) (Some (frame, after)) long.1 in
     let head = head_read.0.0 in
-    let behind = chosen (ltb (length (drop 6 at.rest)) head.1) _ (content, after) head_read.2 in
-    let body_read = bind_ok (body_at head.0 (front head.1 (past at 6))) (λ c. Ok (Some (c, past (past at 6) head.1))) (Some (content, after)) behind.1 in
+    let behind = chosen (ltb (length (drop 6 at.rest)) head.1) _ (frame, after) head_read.2 in
+    let body_read = bind_ok (body_at head.0 (front head.1 (past at 6))) (λ c. Ok (Some (c, past (past at 6) head.1))) (Some (frame, after)) behind.1 in
     let six : 6 ≤ length at.rest = ltb-false _ _ long.0 in
     let enough : head.1 ≤ length (drop 6 at.rest) = ltb-false _ _ behind.0 in
     let h = (head_if (front 6 at) (IsBytes-take 6 at.rest fits)).holds head head_read.0.1 head_read.1 in
     let b = body_found head.0 (front head.1 (past at 6)) body_read.0 h.kind (IsBytes-take head.1 (drop 6 at.rest) (IsBytes-drop 6 at.rest fits)) body_read.1 in
     let found = frame_of_parts at head head_read.0.1 body_read.0 six enough h b in
-    let is : (body_read.0, past (past at 6) head.1) ≡ (content, after) = some_is _ (content, after) body_read.2 in
-    subst (λ (x : Content × Place). SpellsFrame at x.0 x.1) is found
+    let is : (body_read.0, past (past at 6) head.1) ≡ (frame, after) = some_is _ (frame, after) body_read.2 in
+    subst (λ (x : Frame × Place). SpellsFrame at x.0 x.1) is found
 
-kind_one : (content : Content) → kind_of content ≡ 1
-kind_one (piece c) = refl
+kind_one : (frame : Frame) → kind_of frame ≡ 1
+kind_one (frames.Piece c) = refl
 
-pub frame_again : (o : ℕ) (content : Content) (rest : List ℕ) → length (body_spelling content) ≤ 16777216 → IsContent content
-    → frame_at (place o (frame_spelling content ++ rest)) ≡ Ok (Some (content, place (o + length (frame_spelling content)) rest))
+pub frame_again : (o : ℕ) (frame : Frame) (rest : List ℕ) → length (body_spelling frame) ≤ 16777216 → IsFrame frame
+    → frame_at (place o (frame_spelling frame ++ rest)) ≡ Ok (Some (frame, place (o + length (frame_spelling frame)) rest))
 unfolding frame_at behind_head
-frame_again o content rest small is =
-    let body = body_spelling content in
-    let head_text = head_spelling (kind_of content) (length body) in
+frame_again o frame rest small is =
+    let body = body_spelling frame in
+    let head_text = head_spelling (kind_of frame) (length body) in
     let behind = body ++ rest in
-    let regrouped : frame_spelling content ++ rest ≡ head_text ++ behind = append_assoc head_text body rest in
+    let regrouped : frame_spelling frame ++ rest ≡ head_text ++ behind = append_assoc head_text body rest in
     let long : ltb (length (head_text ++ behind)) 6 ≡ false = le-ltb _ _ (omega (arith, length-append head_text behind)) in
     let enough : ltb (length behind) (length body) ≡ false = le-ltb _ _ (omega (arith, length-append body rest)) in
-    let h = head_again o (kind_of content) (length body) (kind_one content) small in
-    let b = body_again (o + 6) content is in
-    let end : o + 6 + length body ≡ o + length (frame_spelling content) = omega (arith, length-append head_text body) in
+    let h = head_again o (kind_of frame) (length body) (kind_one frame) small in
+    let b = body_again (o + 6) frame is in
+    let end : o + 6 + length body ≡ o + length (frame_spelling frame) = omega (arith, length-append head_text body) in
     ap (λ (t : List ℕ). frame_at (place o t)) regrouped
     ∙ rw (long, take_at head_text behind 6 refl, drop_at head_text behind 6 refl, h, enough, take_at body rest (length body) refl, drop_at body rest (length body) refl, b)
-    (ap (λ (n : ℕ). Ok (Some (content, place n rest))) end)
+    (ap (λ (n : ℕ). Ok (Some (frame, place n rest))) end)
 
-pub frame_only : (at : Place) (content : Content) (after : Place) → SpellsFrame at content after → frame_at at ≡ Ok (Some (content, after))
-frame_only at content after s =
+pub frame_only : (at : Place) (frame : Frame) (after : Place) → SpellsFrame at frame after → frame_at at ≡ Ok (Some (frame, after))
+frame_only at frame after s =
     ap (λ (text : List ℕ). frame_at (place at.offset text)) s.takes.parts
-    ∙ frame_again at.offset content after.rest s.small s.is
-    ∙ ap (λ (n : ℕ). Ok (Some (content, place n after.rest))) (sym s.takes.place)
+    ∙ frame_again at.offset frame after.rest s.small s.is
+    ∙ ap (λ (n : ℕ). Ok (Some (frame, place n after.rest))) (sym s.takes.place)

@@ -20,7 +20,7 @@ use Rattle.pmg_wire.proofs.FieldLaws.{key_if, key_again, proc_if, proc_again, va
 use Rattle.pmg_wire.proofs.Counted.{TakesOne, TakesMany, many_if, many_again}
 use Rattle.pmg_commit.specs.Entries.{Entry}
 use Rattle.pmg_commit.specs.Knowledge.{Contribution}
-use Rattle.pmg_frame.specs.Grammar.{Follows, IsPieceContent}
+use Rattle.pmg_frame.specs.Grammar.{Follows, IsPiece}
 use Rattle.pmg_frame.specs.Reading.{is_after, entry_at, piece_at}
 use Rattle.pmg_frame.specs.Spelling.{entry_spelling, piece_body}
 
@@ -51,7 +51,7 @@ entry_if from to before at fits =
 -- what a piece's body took
 pub record TakesPiece (at : Place) (c : Contribution) (after : Place) : Type 0 where
   pub takes : Takes at (piece_body c) after
-  pub is : IsPieceContent c
+  pub is : IsPiece c
 
 pub piece_if : (at : Place) → IsBytes at.rest → IfRead (piece_at at) (TakesPiece at)
 unfolding piece_at
@@ -129,7 +129,7 @@ length_5 : (a b c d e : List ℕ) → length (a ++ (b ++ (c ++ (d ++ e)))) ≡ l
 length_5 a b c d e =
     omega (arith, length-append a (b ++ (c ++ (d ++ e))), length-append b (c ++ (d ++ e)), length-append c (d ++ e), length-append d e)
 
-pub piece_again : (o : ℕ) (c : Contribution) (rest : List ℕ) → IsPieceContent c → piece_at (place o (piece_body c ++ rest)) ≡ Ok (c, place (o + length (piece_body c)) rest)
+pub piece_again : (o : ℕ) (c : Contribution) (rest : List ℕ) → IsPiece c → piece_at (place o (piece_body c ++ rest)) ≡ Ok (c, place (o + length (piece_body c)) rest)
 unfolding piece_at
 piece_again o c rest is =
     let from_text = to_be_bytes w64 c.from in

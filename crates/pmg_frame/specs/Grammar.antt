@@ -1,5 +1,5 @@
 -- The grammar of frames: what stands between two places.
-use Rattle.std.specs.Prelude.{◌≡◌, ℕ, ◌<◌, ◌≤◌, List, length, Option, None, IsTrue}
+use Rattle.std.specs.Prelude.{◌≡◌, ℕ, ◌<◌, ◌≤◌, List, [], ◌∷◌, length, Option, None, IsTrue}
 use Rattle.pmg_value.specs.declared.value.Value.{Value}
 use Rattle.pmg_value.specs.Names.{is_nspace, is_key}
 use Rattle.pmg_value.specs.Spelling.{spelling}
@@ -9,8 +9,10 @@ use Rattle.pmg_wire.specs.Many.{Chain}
 use Rattle.pmg_wire.specs.Reading.{Place, Takes}
 use Rattle.pmg_commit.specs.Entries.{Entry}
 use Rattle.pmg_commit.specs.Knowledge.{Contribution}
+use Rattle.pmg_frame.specs.declared.frame.Frame.{Frame}
+use Rattle.pmg_frame.specs.declared.frame.Frame.TheVariants as frames
 use Rattle.pmg_frame.specs.Reading.{is_after}
-use Rattle.pmg_frame.specs.Spelling.{Content, piece, piece_body, body_spelling, frame_spelling}
+use Rattle.pmg_frame.specs.Spelling.{piece_body, body_spelling, frame_spelling}
 
 -- An entry of a piece of the commits from+1 to to: of a greater key than the entry before, of one of these
 -- commits, and with the canonical bytes of a value.
@@ -23,7 +25,7 @@ pub record Follows (from to : ℕ) (before : Option Entry) (e : Entry) : Type 0 
   pub bytes : e.bytes ≡ spelling value
 
 -- what a piece says keeps its rules
-pub record IsPieceContent (c : Contribution) : Type 0 where
+pub record IsPiece (c : Contribution) : Type 0 where
   pub name : IsTrue (is_nspace c.proc.nspace)
   pub admitted : IsTrue (is_admitted admits.ClientsAndHost c.proc)
   pub range : c.from < c.to
@@ -32,11 +34,16 @@ pub record IsPieceContent (c : Contribution) : Type 0 where
   pub entries : Chain (Follows c.from c.to) None c.entries
 
 -- what a frame says keeps the rules of its kind
-abbrev pub IsContent : Content → Type 0
-IsContent (piece c) = IsPieceContent c
+abbrev pub IsFrame : Frame → Type 0
+IsFrame (frames.Piece c) = IsPiece c
 
 -- a frame, spelled
-pub record SpellsFrame (at : Place) (content : Content) (after : Place) : Type 0 where
-  pub takes : Takes at (frame_spelling content) after
-  pub small : length (body_spelling content) ≤ 16777216
-  pub is : IsContent content
+pub record SpellsFrame (at : Place) (frame : Frame) (after : Place) : Type 0 where
+  pub takes : Takes at (frame_spelling frame) after
+  pub small : length (body_spelling frame) ≤ 16777216
+  pub is : IsFrame frame
+
+-- each is a frame whose body is not too long
+abbrev pub AreFrames : List Frame → Type 0
+AreFrames [] = Unit {0}
+AreFrames (frame ∷ others) = IsFrame frame × (length (body_spelling frame) ≤ 16777216) × AreFrames others

@@ -12,7 +12,8 @@ use Rattle.pmg_wire.specs.Many.{many}
 use Rattle.pmg_wire.specs.Reading.{Place, past, Read, fault, ◌>>=◌, check, byte_at, number_at}
 use Rattle.pmg_commit.specs.Entries.{Entry}
 use Rattle.pmg_commit.specs.Knowledge.{Contribution}
-use Rattle.pmg_frame.specs.Spelling.{Content, piece}
+use Rattle.pmg_frame.specs.declared.frame.Frame.{Frame}
+use Rattle.pmg_frame.specs.declared.frame.Frame.TheVariants as frames
 
 -- the key of an entry is greater than that of the entry before, where there is one
 abbrev pub is_after : Option Entry → List ℕ → Bool
@@ -42,15 +43,15 @@ piece_at at = do
   Ok (record { proc = proc.0; from = from.0; to = to.0; entries = entries.0 }, entries.1)
 
 -- the fields of a body of that kind
-unfoldable pub content_at : ℕ → Place → Read Content
-content_at kind at = piece_at at >>= λ c. Ok (piece c.0, c.1)
+unfoldable pub fields_at : ℕ → Place → Read Frame
+fields_at kind at = piece_at at >>= λ c. Ok (frames.Piece c.0, c.1)
 
 -- a body: its fields, and nothing behind them
-unfoldable pub body_at : ℕ → Place → Result Content Fault
+unfoldable pub body_at : ℕ → Place → Result Frame Fault
 body_at kind at = do
-  content ← content_at kind at
-  _ ← check (length content.1.rest == 0) (fault content.1.offset causes.Long)
-  Ok content.0
+  frame ← fields_at kind at
+  _ ← check (length frame.1.rest == 0) (fault frame.1.offset causes.Long)
+  Ok frame.0
 
 -- the head of a frame: its kind, and the length of its body
 unfoldable pub head_at : Place → Read (ℕ × ℕ)
@@ -68,14 +69,14 @@ abbrev pub front : ℕ → Place → Place
 front n at = record { offset = at.offset; rest = take n at.rest }
 
 -- behind a head: the whole frame, or nothing while its body is not all there
-unfoldable pub behind_head : ℕ × ℕ → Place → Result (Option (Content × Place)) Fault
+unfoldable pub behind_head : ℕ × ℕ → Place → Result (Option (Frame × Place)) Fault
 behind_head head at =
     if nat_lt (length at.rest) head.1 then Ok None
-    else (body_at head.0 (front head.1 at) >>= λ content. Ok (Some (content, past at head.1)))
+    else (body_at head.0 (front head.1 at) >>= λ frame. Ok (Some (frame, past at head.1)))
 
 -- The next frame, or nothing while it is not all there. The head is checked once its six bytes are there,
 -- the body once all of it is there.
-unfoldable pub frame_at : Place → Result (Option (Content × Place)) Fault
+unfoldable pub frame_at : Place → Result (Option (Frame × Place)) Fault
 frame_at at =
     if nat_lt (length at.rest) 6 then Ok None
     else (head_at (front 6 at) >>= λ head. behind_head head.0 (past at 6))

@@ -1,15 +1,17 @@
 -- A stream of frames, in whatever pieces it comes.
-use Rattle.std.specs.Prelude.{◌≡◌, List, [], ◌∷◌, ◌++◌, Option, Some, None, Ok, Err}
-use Rattle.std.specs.Prelude.{ℕ}
+use Rattle.std.specs.Prelude.{◌≡◌, ℕ, ◌+◌, ◌≤◌, ◌^◌, List, [], ◌∷◌, ◌++◌, length, Option, Some, None, Ok, Err, All}
+use Rattle.std.specs.List.{flat_map}
 use Rattle.pmg_value.specs.declared.refusal.Fault.{Fault}
-use Rattle.pmg_wire.specs.Reading.{Place}
+use Rattle.pmg_wire.specs.Reading.{Place, IsBytes, Takes}
+use Rattle.pmg_frame.specs.declared.frame.Frame.{Frame}
+use Rattle.pmg_frame.specs.Grammar.{AreFrames}
 use Rattle.pmg_frame.specs.Reading.{frame_at}
-use Rattle.pmg_frame.specs.Spelling.{Content}
+use Rattle.pmg_frame.specs.Spelling.{frame_spelling}
 
 -- from a place on, these whole frames follow one another, up to a later place
-unfoldable pub Runs : Place → List Content → Place → Type 0
+unfoldable pub Runs : Place → List Frame → Place → Type 0
 Runs at [] end = end ≡ at
-Runs at (c ∷ cs) end = (mid : Place) × (frame_at at ≡ Ok (Some (c, mid))) × Runs mid cs end
+Runs at (frame ∷ others) end = (mid : Place) × (frame_at at ≡ Ok (Some (frame, mid))) × Runs mid others end
 
 -- at that place no whole frame follows: with no fault yet, or with this one
 abbrev pub StopsAt : Place → Option Fault → Type 0
@@ -19,3 +21,61 @@ StopsAt end (Some f) = frame_at end ≡ Err f
 -- the place, with more bytes come
 abbrev pub more_at : Place → List ℕ → Place
 more_at at bytes = record { offset = at.offset; rest = at.rest ++ bytes }
+
+-- A stream keeps the place of what has come of its next frame. After a fault it is closed, and keeps none.
+abbrev pub left_after : Option Fault → Place → Option Place
+left_after None end = Some end
+left_after (Some f) end = None
+
+-- A stream that kept a place was fed bytes: these frames are whole now, and behind them comes a fault or no
+-- whole frame yet.
+pub record Feeds (at : Place) (bytes : List ℕ) (frames : List Frame) (fault : Option Fault) (new : Option Place) : Type 0 where
+  pub end : Place
+  pub runs : Runs (more_at at bytes) frames end
+  pub stops : StopsAt end fault
+  pub left : new ≡ left_after fault end
+
+-- an open stream was fed
+abbrev pub FeedsOpen : Option Place → List ℕ → List Frame → Option Fault → Option Place → Type 0
+FeedsOpen None bytes frames fault new = ⊥
+FeedsOpen (Some at) bytes frames fault new = Feeds at bytes frames fault new
+
+-- the bytes would pass the greatest offset
+abbrev pub IsPastEnd : Option Place → List ℕ → Type 0
+IsPastEnd None bytes = ⊥
+IsPastEnd (Some at) bytes = 2 ^ 64 ≤ at.offset + length at.rest + length bytes
+
+-- What the bytes of a stream say: these frames, spelled one behind another, and then a fault or a rest that is
+-- no whole frame.
+pub record Says (at : Place) (frames : List Frame) (fault : Option Fault) (end : Place) : Type 0 where
+  pub takes : Takes at (flat_map frame_spelling frames) end
+  pub are : AreFrames frames
+  pub stops : StopsAt end fault
+
+-- Two feeds in a row are one feed of both; after a fault more bytes change nothing.
+abbrev pub Joins : Type 0
+Joins = (at mid : Place) (a b : List ℕ) (fs gs : List Frame) (fault : Option Fault) (new : Option Place)
+    → Feeds at a fs None (Some mid) → Feeds mid b gs fault new → Feeds at (a ++ b) (fs ++ gs) fault new
+
+abbrev pub StaysClosed : Type 0
+StaysClosed = (at : Place) (a b : List ℕ) (fs : List Frame) (f : Fault) → Feeds at a fs (Some f) None → Feeds at (a ++ b) fs (Some f) None
+
+-- the frames, the fault and what is left are determined by the bytes
+pub record SameFeed (fs gs : List Frame) (f g : Option Fault) (new other : Option Place) : Type 0 where
+  pub frames : fs ≡ gs
+  pub fault : f ≡ g
+  pub left : new ≡ other
+
+abbrev pub IsDetermined : Type 0
+IsDetermined = (at : Place) (bytes : List ℕ) (fs gs : List Frame) (f g : Option Fault) (new other : Option Place)
+    → Feeds at bytes fs f new → Feeds at bytes gs g other → SameFeed fs gs f g new other
+
+-- what a feed finds is what the bytes say
+abbrev pub IsSpelled : Type 0
+IsSpelled = (at : Place) (bytes : List ℕ) (fs : List Frame) (fault : Option Fault) (new : Option Place)
+    → IsBytes (at.rest ++ bytes) → (fed : Feeds at bytes fs fault new) → Says (more_at at bytes) fs fault fed.end
+
+-- what the bytes say, a feed finds
+abbrev pub IsFound : Type 0
+IsFound = (at end : Place) (bytes : List ℕ) (fs : List Frame) (fault : Option Fault)
+    → Says (more_at at bytes) fs fault end → Feeds at bytes fs fault (left_after fault end)

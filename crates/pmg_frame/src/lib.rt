@@ -1,3 +1,9 @@
 //! Frames: what servers send one another, and streams of them.
 #![tactic(auto)]
-pub const A: u8 = 1;
+
+mod frame;
+//mod reading;
+//mod stream;
+
+pub use frame::{Frame, MAX_BODY_SIZE};
+//pub use stream::{Fed, Stream};

@@ -1,0 +1,189 @@
+-- However a stream is cut, it is the same stream.
+use Rattle.std.proofs.Common.{◌≡◌, ℕ, ◌+◌, ◌-◌, ◌^◌, ◌<◌, ◌≤◌, Bool, true, false, ltb, cond, List, [], ◌∷◌, ◌++◌, length, take, drop, Option, Some, None, Result, Ok, Err, refl, sym, ap, subst, ◌∙◌, append_assoc, arith, ◌⊎◌, inl, inr}
+use Rattle.std.specs.List.{flat_map}
+use Rattle.std.proofs.lemmas.Bool.{ltb-false, le-ltb}
+use Rattle.std.proofs.lemmas.List.{length-append, length-drop, take-append-le, drop-append-le}
+use Rattle.pmg_value.specs.declared.refusal.Fault.{Fault}
+use Rattle.pmg_wire.specs.Reading.{Place, past, ◌>>=◌, IsBytes, Takes}
+use Rattle.pmg_wire.proofs.Steps.{bind_ok, Takes-then, IsBytes-after}
+use Rattle.pmg_frame.specs.declared.frame.Frame.{Frame}
+use Rattle.pmg_frame.specs.Grammar.{AreFrames, SpellsFrame}
+use Rattle.pmg_frame.specs.Reading.{body_at, head_at, front, behind_head, frame_at}
+use Rattle.pmg_frame.specs.Spelling.{frame_spelling}
+use Rattle.pmg_frame.specs.Streams.{Runs, StopsAt, more_at, left_after, Feeds, Says, SameFeed}
+use Rattle.pmg_frame.proofs.FrameLaws.{frame_found, frame_only, chosen, some_is}
+
+front_more : (n : ℕ) (at : Place) (b : List ℕ) → n ≤ length at.rest → front n (more_at at b) ≡ front n at
+front_more n at b le = ap (λ (t : List ℕ). record { offset = at.offset; rest = t }) (take-append-le n at.rest b le)
+
+past_more : (n : ℕ) (at : Place) (b : List ℕ) → n ≤ length at.rest → past (more_at at b) n ≡ more_at (past at n) b
+past_more n at b le = ap (λ (t : List ℕ). record { offset = at.offset + n; rest = t }) (drop-append-le n at.rest b le)
+
+-- where the head is there, more bytes leave it as it is
+frame_long : (at : Place) → 6 ≤ length at.rest → frame_at at ≡ (head_at (front 6 at) >>= λ head. behind_head head.0 (past at 6))
+unfolding frame_at
+frame_long at six = rw (le-ltb (length at.rest) 6 six) refl
+
+frame_more : (at : Place) (b : List ℕ) → 6 ≤ length at.rest → frame_at (more_at at b) ≡ (head_at (front 6 at) >>= λ head. behind_head head.0 (more_at (past at 6) b))
+frame_more at b six =
+    frame_long (more_at at b) (omega (arith, length-append at.rest b))
+    ∙ ap (λ (x : Place). head_at x >>= λ head. behind_head head.0 (past (more_at at b) 6)) (front_more 6 at b six)
+    ∙ ap (λ (x : Place). head_at (front 6 at) >>= λ head. behind_head head.0 x) (past_more 6 at b six)
+
+-- where the body is there too
+behind_long : (head : ℕ × ℕ) (at : Place) → head.1 ≤ length at.rest → behind_head head at ≡ (body_at head.0 (front head.1 at) >>= λ frame. Ok (Some (frame, past at head.1)))
+unfolding behind_head
+behind_long head at le = rw (le-ltb (length at.rest) head.1 le) refl
+
+behind_more : (head : ℕ × ℕ) (at : Place) (b : List ℕ) → head.1 ≤ length at.rest → behind_head head (more_at at b) ≡ (body_at head.0 (front head.1 at) >>= λ frame. Ok (Some (frame, more_at (past at head.1) b)))
+behind_more head at b le =
+    behind_long head (more_at at b) (omega (arith, length-append at.rest b))
+    ∙ ap (λ (x : Place). body_at head.0 x >>= λ frame. Ok (Some (frame, past (more_at at b) head.1))) (front_more head.1 at b le)
+    ∙ ap (λ (x : Place). body_at head.0 (front head.1 at) >>= λ frame. Ok (Some (frame, x))) (past_more head.1 at b le)
+
+-- how a fault comes about
+chosen_err : {A : Type 0} (b : Bool) (r : Result (Option A) Fault) (f : Fault) → cond b (Ok None) r ≡ Err f → (b ≡ false) × (r ≡ Err f)
+chosen_err true r f e = absurd cc
+chosen_err false r f e = (refl, e)
+
+failed : (B : Type 0) → Fault → Result B Fault
+failed B d = Err d
+
+err_is : (B : Type 0) (d f : Fault) → failed B d ≡ failed B f → d ≡ f
+unfolding failed
+err_is B d f e = cc
+
+bind_err : {A B : Type 0} (r : Result A Fault) (g : A → Result B Fault) (f : Fault) → (r >>= g) ≡ Err f → (r ≡ Err f) ⊎ ((x : A) × (r ≡ Ok x) × (g x ≡ Err f))
+unfolding failed
+bind_err (Ok x) g f e = inr (x, refl, e)
+bind_err {B = B} (Err d) g f e = inl (ap (λ (x : Fault). Err x) (err_is B d f e))
+
+-- a frame that is there is there with more bytes behind it
+stable_frame : (at : Place) (b : List ℕ) (frame : Frame) (mid : Place) → frame_at at ≡ Ok (Some (frame, mid)) → frame_at (more_at at b) ≡ Ok (Some (frame, more_at mid b))
+unfolding frame_at behind_head
+stable_frame at b frame mid e =
+    let long = chosen (ltb (length at.rest) 6) _ (frame, mid) e in
+    let head = bind_ok (head_at (front 6 at)) (λ h. behind_head h.0 (past at 6)) (Some (frame, mid)) long.1 in
+    let behind = chosen (ltb (length (drop 6 at.rest)) head.0.0.1) _ (frame, mid) head.2 in
+    let body = bind_ok (body_at head.0.0.0 (front head.0.0.1 (past at 6))) (λ x. Ok (Some (x, past (past at 6) head.0.0.1))) (Some (frame, mid)) behind.1 in
+    let same : (body.0, past (past at 6) head.0.0.1) ≡ (frame, mid) = some_is _ (frame, mid) body.2 in
+    frame_more at b (ltb-false _ _ long.0)
+    ∙ ap (λ (r : Result ((ℕ × ℕ) × Place) Fault). r >>= λ h. behind_head h.0 (more_at (past at 6) b)) head.1
+    ∙ behind_more head.0.0 (past at 6) b (ltb-false _ _ behind.0)
+    ∙ ap (λ (r : Result Frame Fault). r >>= λ x. Ok (Some (x, more_at (past (past at 6) head.0.0.1) b))) body.1
+    ∙ ap (λ (x : Frame × Place). Ok (Some (x.0, more_at x.1 b))) same
+
+-- a fault that is there is there with more bytes behind it
+stable_fault : (at : Place) (b : List ℕ) (f : Fault) → frame_at at ≡ Err f → frame_at (more_at at b) ≡ Err f
+unfolding frame_at behind_head
+stable_fault at b f e =
+    let long = chosen_err (ltb (length at.rest) 6) _ f e in
+    frame_more at b (ltb-false _ _ long.0)
+    ∙ elim (bind_err (head_at (front 6 at)) (λ h. behind_head h.0 (past at 6)) f long.1) [
+      | inl bad ↦ ap (λ (r : Result ((ℕ × ℕ) × Place) Fault). r >>= λ h. behind_head h.0 (more_at (past at 6) b)) bad
+      | inr head ↦
+          let behind = chosen_err (ltb (length (drop 6 at.rest)) head.0.0.1) _ f head.2 in
+          ap (λ (r : Result ((ℕ × ℕ) × Place) Fault). r >>= λ h. behind_head h.0 (more_at (past at 6) b)) head.1
+          ∙ behind_more head.0.0 (past at 6) b (ltb-false _ _ behind.0)
+          ∙ elim (bind_err (body_at head.0.0.0 (front head.0.0.1 (past at 6))) (λ x. Ok (Some (x, past (past at 6) head.0.0.1))) f behind.1) [
+            | inl bad ↦ ap (λ (r : Result Frame Fault). r >>= λ x. Ok (Some (x, more_at (past (past at 6) head.0.0.1) b))) bad
+            | inr body ↦ absurd (let e : Ok (Some (body.0, past (past at 6) head.0.0.1)) ≡ Err f = body.2 in cc)
+          ]
+    ]
+
+-- ---- runs
+
+runs_more : (at : Place) (fs : List Frame) (end : Place) (b : List ℕ) → Runs at fs end → Runs (more_at at b) fs (more_at end b)
+unfolding Runs
+runs_more at [] end b r = ap (λ (x : Place). more_at x b) r
+runs_more at (f ∷ fs) end b r = (more_at r.0 b, stable_frame at b f r.0 r.1, runs_more r.0 fs end b r.2)
+
+runs_then : (at : Place) (fs : List Frame) (mid : Place) (gs : List Frame) (end : Place) → Runs at fs mid → Runs mid gs end → Runs at (fs ++ gs) end
+unfolding Runs
+runs_then at [] mid gs end r s = subst (λ (x : Place). Runs x gs end) r s
+runs_then at (f ∷ fs) mid gs end r s = (r.0, r.1, runs_then r.0 fs mid gs end r.2 s)
+
+more_twice : (at : Place) (a b : List ℕ) → more_at (more_at at a) b ≡ more_at at (a ++ b)
+more_twice at a b = ap (λ (t : List ℕ). record { offset = at.offset; rest = t }) (append_assoc at.rest a b)
+
+some_place : (x y : Place) → Some x ≡ Some y → x ≡ y
+some_place x y e = cc
+
+pub joins : (at mid : Place) (a b : List ℕ) (fs gs : List Frame) (fault : Option Fault) (new : Option Place) → Feeds at a fs None (Some mid) → Feeds mid b gs fault new → Feeds at (a ++ b) (fs ++ gs) fault new
+joins at mid a b fs gs fault new p q =
+    let same : p.end ≡ mid = sym (some_place mid p.end p.left) in
+    let first : Runs (more_at at (a ++ b)) fs (more_at mid b) =
+      subst (λ (x : Place). Runs x fs (more_at mid b)) (more_twice at a b) (subst (λ (x : Place). Runs (more_at (more_at at a) b) fs (more_at x b)) same (runs_more (more_at at a) fs p.end b p.runs)) in
+    record { end = q.end; runs = runs_then (more_at at (a ++ b)) fs (more_at mid b) gs q.end first q.runs; stops = q.stops; left = q.left }
+
+pub stays_closed : (at : Place) (a b : List ℕ) (fs : List Frame) (f : Fault) → Feeds at a fs (Some f) None → Feeds at (a ++ b) fs (Some f) None
+stays_closed at a b fs f p = record {
+  end = more_at p.end b;
+  runs = subst (λ (x : Place). Runs x fs (more_at p.end b)) (more_twice at a b) (runs_more (more_at at a) fs p.end b p.runs);
+  stops = stable_fault p.end b f p.stops;
+  left = refl;
+}
+
+-- ---- one reading
+
+-- two readings from one place are one
+abbrev SameRun : List Frame → List Frame → Place → Place → Type 0
+SameRun fs gs x y = (fs ≡ gs) × (x ≡ y)
+
+stops_no_frame : (end : Place) (fault : Option Fault) (frame : Frame) (mid : Place) → StopsAt end fault → frame_at end ≡ Ok (Some (frame, mid)) → ⊥
+stops_no_frame end None frame mid s e = let bad = sym s ∙ e in cc
+stops_no_frame end (Some f) frame mid s e = let bad = sym s ∙ e in cc
+
+one_run : (at : Place) (fs gs : List Frame) (x y : Place) (f g : Option Fault) → Runs at fs x → StopsAt x f → Runs at gs y → StopsAt y g → SameRun fs gs x y
+unfolding Runs
+one_run at [] [] x y f g r s t u = (refl, r ∙ sym t)
+one_run at [] (frame ∷ gs) x y f g r s t u = absurd (stops_no_frame at f frame t.0 (subst (λ (z : Place). StopsAt z f) r s) t.1)
+one_run at (frame ∷ fs) [] x y f g r s t u = absurd (stops_no_frame at g frame r.0 (subst (λ (z : Place). StopsAt z g) t u) r.1)
+one_run at (frame ∷ fs) (other ∷ gs) x y f g r s t u =
+    let same : (frame, r.0) ≡ (other, t.0) = some_is _ _ (sym r.1 ∙ t.1) in
+    let rest = one_run r.0 fs gs x y f g r.2 s (subst (λ (z : Frame × Place). Runs z.1 gs y) (sym same) t.2) u in
+    (λ i. (same i).0 ∷ rest.0 i, rest.1)
+
+one_fault : (x : Place) (f g : Option Fault) → StopsAt x f → StopsAt x g → f ≡ g
+unfolding failed
+one_fault x None None s t = refl
+one_fault x None (Some g) s t = absurd (let bad = sym s ∙ t in cc)
+one_fault x (Some f) None s t = absurd (let bad = sym s ∙ t in cc)
+one_fault x (Some f) (Some g) s t = let same = sym s ∙ t in ap (λ (d : Fault). Some d) (err_is _ f g same)
+
+pub is_determined : (at : Place) (bytes : List ℕ) (fs gs : List Frame) (f g : Option Fault) (new other : Option Place) → Feeds at bytes fs f new → Feeds at bytes gs g other → SameFeed fs gs f g new other
+is_determined at bytes fs gs f g new other p q =
+    let run = one_run (more_at at bytes) fs gs p.end q.end f g p.runs p.stops q.runs q.stops in
+    let fault = one_fault p.end f g p.stops (subst (λ (x : Place). StopsAt x g) (sym run.1) q.stops) in
+    record { frames = run.0; fault = fault; left = p.left ∙ (λ i. left_after (fault i) (run.1 i)) ∙ sym q.left }
+
+-- ---- spelled
+
+runs_spelled : (at : Place) (fs : List Frame) (end : Place) → IsBytes at.rest → Runs at fs end → Takes at (flat_map frame_spelling fs) end × AreFrames fs
+unfolding Runs
+runs_spelled at [] end fits r = (record { parts = ap (λ (x : Place). x.rest) (sym r); place = ap (λ (x : Place). x.offset) r ∙ omega arith }, tt)
+runs_spelled at (f ∷ fs) end fits r =
+    let one = frame_found at f r.0 fits r.1 in
+    let others = runs_spelled r.0 fs end (IsBytes-after (frame_spelling f) fits one.takes) r.2 in
+    (Takes-then (frame_spelling f) (flat_map frame_spelling fs) one.takes others.0, (one.is, one.small, others.1))
+
+pub is_spelled : (at : Place) (bytes : List ℕ) (fs : List Frame) (fault : Option Fault) (new : Option Place) → IsBytes (at.rest ++ bytes) → (fed : Feeds at bytes fs fault new) → Says (more_at at bytes) fs fault fed.end
+is_spelled at bytes fs fault new fits fed =
+    let s = runs_spelled (more_at at bytes) fs fed.end fits fed.runs in
+    record { takes = s.0; are = s.1; stops = fed.stops }
+
+spelled_runs : (at : Place) (fs : List Frame) (end : Place) → Takes at (flat_map frame_spelling fs) end → AreFrames fs → Runs at fs end
+unfolding Runs
+spelled_runs at [] end t are =
+    let offset : end.offset ≡ at.offset = omega (arith, t.place) in
+    λ i. record { offset = offset i; rest = sym t.parts i }
+spelled_runs at (f ∷ fs) end t are =
+    let text = frame_spelling f in
+    let others = flat_map frame_spelling fs in
+    let mid : Place = record { offset = at.offset + length text; rest = others ++ end.rest } in
+    let one : SpellsFrame at f mid = record { takes = record { parts = t.parts ∙ append_assoc text others end.rest; place = refl }; small = are.1; is = are.0 } in
+    let behind : Takes mid others end = record { parts = refl; place = omega (arith, t.place, length-append text others) } in
+    (mid, frame_only at f mid one, spelled_runs mid fs end behind are.2)
+
+pub is_found : (at end : Place) (bytes : List ℕ) (fs : List Frame) (fault : Option Fault) → Says (more_at at bytes) fs fault end → Feeds at bytes fs fault (left_after fault end)
+is_found at end bytes fs fault s = record { end = end; runs = spelled_runs (more_at at bytes) fs end s.takes s.are; stops = s.stops; left = refl }
