@@ -4,7 +4,7 @@ ghost use Rattle.std.specs.List.{list_all, sum_by};
 ghost use Rattle.pmg_value.specs.Lists.{is_chain};
 ghost use Rattle.pmg_value.specs.Process.{is_client, is_host};
 ghost use Rattle.pmg_value.specs.declared.refusal.Refusal.TheVariants as refusals;
-ghost use Rattle.pmg_commit.specs.Pieces.{entry_of, contribution, entry_size, is_numbered, is_key_rising, is_small, is_piece};
+ghost use Rattle.pmg_commit.specs.Pieces.{body_size, entry_of, contribution, entry_size, is_numbered, is_key_rising, is_small, is_piece};
 
 use pmg_value::{Key, Proc, Refusal, Value};
 use std::alloc::AllocError;
@@ -202,6 +202,14 @@ impl Piece {
         ensures { option_map (λ e. entry_of e.now) result ≡ slice_get self.now.entries i }
     {
         self.entries.get(i)
+    }
+
+    /// The bytes that the contribution takes in a frame's body.
+    pub fn size(&self) -> usize
+        ensures value { result ≡ body_size self.now.proc self.now.entries }
+        ensures bound { result ≤ 16777216 }
+    {
+        self.proc.nspace.as_bytes().len() + 25 + entries_size(&self.entries)
     }
 
     /// The entries, in the order of their keys.

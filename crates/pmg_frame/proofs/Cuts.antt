@@ -4,11 +4,11 @@ use Rattle.std.specs.List.{flat_map}
 use Rattle.std.proofs.lemmas.Bool.{ltb-false, le-ltb}
 use Rattle.std.proofs.lemmas.List.{length-append, length-drop, take-append-le, drop-append-le}
 use Rattle.pmg_value.specs.declared.refusal.Fault.{Fault}
-use Rattle.pmg_wire.specs.Reading.{Place, past, ◌>>=◌, IsBytes, Takes}
+use Rattle.pmg_wire.specs.Reading.{Place, past, front, ◌>>=◌, IsBytes, Takes}
 use Rattle.pmg_wire.proofs.Steps.{bind_ok, Takes-then, IsBytes-after}
 use Rattle.pmg_frame.specs.declared.frame.Frame.{Frame}
 use Rattle.pmg_frame.specs.Grammar.{AreFrames, SpellsFrame}
-use Rattle.pmg_frame.specs.Reading.{body_at, head_at, front, behind_head, frame_at}
+use Rattle.pmg_frame.specs.Reading.{body_at, head_at, behind_head, frame_at}
 use Rattle.pmg_frame.specs.Spelling.{frame_spelling}
 use Rattle.pmg_frame.specs.Streams.{Runs, StopsAt, more_at, left_after, Feeds, Says, SameFeed}
 use Rattle.pmg_frame.proofs.FrameLaws.{frame_found, frame_only, chosen, some_is}

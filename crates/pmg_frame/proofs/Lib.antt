@@ -1,3 +1,4 @@
 pub mod PieceLaws
+pub mod PieceTests
 pub mod FrameLaws
 pub mod Cuts

@@ -1,3 +1,4 @@
+pub mod Frames
 pub mod Grammar
 pub mod Reading
 pub mod Spelling

@@ -1,5 +1,5 @@
 -- How frames are read: the fields in order from the left, and the first fault.
-use Rattle.std.specs.Prelude.{ℕ, ◌==◌, Bool, true, false, ◌&&◌, nat_lt, nat_le, List, length, take, Option, Some, None, Result, Ok, Err, if◌then◌else◌}
+use Rattle.std.specs.Prelude.{ℕ, ◌==◌, Bool, true, false, ◌&&◌, nat_lt, nat_le, List, length, Option, Some, None, Result, Ok, Err, if◌then◌else◌}
 use Rattle.std.specs.Ordering.{nat_cmp, is_lt}
 use Rattle.std.specs.Cmp.Lexicographic.{slice_cmp}
 use Rattle.std.specs.Int.{w32, w64}
@@ -9,7 +9,7 @@ use Rattle.pmg_value.specs.Spelling.{spelling}
 use Rattle.pmg_wire.specs.declared.fields.Admits.TheVariants as admits
 use Rattle.pmg_wire.specs.Fields.{key_at, proc_at, value_at}
 use Rattle.pmg_wire.specs.Many.{many}
-use Rattle.pmg_wire.specs.Reading.{Place, past, Read, fault, ◌>>=◌, check, byte_at, number_at}
+use Rattle.pmg_wire.specs.Reading.{Place, past, front, Read, fault, ◌>>=◌, check, byte_at, number_at}
 use Rattle.pmg_commit.specs.Entries.{Entry}
 use Rattle.pmg_commit.specs.Knowledge.{Contribution}
 use Rattle.pmg_frame.specs.declared.frame.Frame.{Frame}
@@ -63,10 +63,6 @@ head_at at = do
   len ← number_at w32 kind.1
   _ ← check (nat_le len.0 16777216) (fault kind.1.offset causes.Length)
   Ok ((kind.0, len.0), len.1)
-
--- the next n bytes alone
-abbrev pub front : ℕ → Place → Place
-front n at = record { offset = at.offset; rest = take n at.rest }
 
 -- behind a head: the whole frame, or nothing while its body is not all there
 unfoldable pub behind_head : ℕ × ℕ → Place → Result (Option (Frame × Place)) Fault

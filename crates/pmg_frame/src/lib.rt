@@ -2,7 +2,7 @@
 #![tactic(auto)]
 
 mod frame;
-//mod reading;
+mod reading;
 //mod stream;
 
 pub use frame::{Frame, MAX_BODY_SIZE};

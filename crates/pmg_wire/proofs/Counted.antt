@@ -5,6 +5,9 @@ use Rattle.pmg_value.specs.declared.refusal.Fault.{Fault}
 use Rattle.pmg_value.specs.declared.refusal.Refusal.{Refusal}
 use Rattle.pmg_value.specs.declared.refusal.Refusal.TheVariants as refusals
 use Rattle.std.specs.List.{flat_map}
+use Rattle.std.specs.Prelude.{map, slice_get}
+use Rattle.std.specs.Option.{option_map, option_copied}
+use denote.Bor.{Bor}
 use Rattle.pmg_wire.specs.Many.{many, Chain}
 use Rattle.pmg_wire.proofs.Steps.{place, IfRead, bind_if, done_if, Takes-then, IsBytes-after}
 use Rattle.pmg_wire.specs.Reading.{Place, Read, ◌>>=◌, FailsReading, IsBytes, Takes}
@@ -92,3 +95,18 @@ many_again {X = X} read spell Follows one before o (x ∷ xs) rest chain =
     let others = many_again read spell Follows one (Some x) (o + length (spell x)) xs rest chain.1 in
     let end : o + length (spell x) + length (flat_map spell xs) ≡ o + length (spell x ++ flat_map spell xs) = omega (arith, length-append (spell x) (flat_map spell xs)) in
     ap (many read (suc (length xs)) before) regrouped ∙ rw (first, others) (ap (λ (n : ℕ). Ok (x ∷ xs, place n rest)) end)
+
+-- what `last` of a slice answers, seen by a function, is the last of what the function makes
+pub last_seen : {A B : Type 0} (f : A → B) (o : Option (Bor A)) (xs : List A) → option_copied o ≡ slice_get xs (length xs - 1) → option_map (λ e. f e.now) o ≡ last_of (map f xs)
+last_seen f o xs h = seen f o ∙ ap (option_map f) h ∙ last_of-map f xs
+  where
+  seen : {A B : Type 0} (f : A → B) (o : Option (Bor A)) → option_map (λ e. f e.now) o ≡ option_map f (option_copied o)
+  seen f None = refl
+  seen f (Some e) = refl
+
+  last_of-map : {A B : Type 0} (f : A → B) (xs : List A) → option_map f (slice_get xs (length xs - 1)) ≡ last_of (map f xs)
+  last_of-map f [] = refl
+  last_of-map f (x ∷ []) = refl
+  last_of-map f (x ∷ y ∷ ys) =
+      let before : length (x ∷ y ∷ ys) - 1 ≡ suc (length (y ∷ ys) - 1) = omega arith in
+      rw before (last_of-map f (y ∷ ys))

@@ -16,6 +16,10 @@ pub record Place : Type 0 where
 abbrev pub past : Place → ℕ → Place
 past at n = record { offset = at.offset + n; rest = drop n at.rest }
 
+-- the next n bytes alone
+abbrev pub front : ℕ → Place → Place
+front n at = record { offset = at.offset; rest = take n at.rest }
+
 -- a fault at an offset
 abbrev pub fault : ℕ → Cause → Fault
 fault offset cause = record { offset = offset; cause = cause }
@@ -66,3 +70,8 @@ Reads view (Err e) new read = FailsReading e read
 pub record Takes (at : Place) (text : List ℕ) (after : Place) : Type 0 where
   pub parts : at.rest ≡ text ++ after.rest
   pub place : after.offset ≡ at.offset + length text
+
+-- What a reader of all the bytes answered, seen by view, is what reading gives, unless memory ran out.
+abbrev pub ReadsAll : {X Y : Type 0} → (X → Y) → Result X Refusal → Result Y Fault → Type 0
+ReadsAll view (Ok x) read = read ≡ Ok (view x)
+ReadsAll view (Err e) read = FailsReading e read

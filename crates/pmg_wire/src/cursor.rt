@@ -1,6 +1,6 @@
-ghost use Rattle.std.specs.Prelude.{◌≡◌, ◌+◌, ◌<◌, ◌^◌, length, IfOk, OnErr};
+ghost use Rattle.std.specs.Prelude.{◌≡◌, ◌+◌, ◌<◌, ◌≤◌, ◌^◌, length, IfOk, OnErr};
 ghost use Rattle.std.specs.Int.{w16, w32, w64};
-ghost use Rattle.pmg_wire.specs.Reading.{Place, IsBytes, Reads, fault, bytes_at, byte_at, number_at};
+ghost use Rattle.pmg_wire.specs.Reading.{Place, IsBytes, Reads, fault, past, front, bytes_at, byte_at, number_at};
 ghost use Rattle.pmg_value.specs.declared.refusal.Refusal.TheVariants as refusals;
 
 use pmg_value::{Cause, Fault, Refusal};
@@ -59,6 +59,26 @@ impl<'a> Cursor<'a> {
             offset: self.offset,
             bytes: self.bytes,
         }
+    }
+
+    /// A second cursor, over the next so many bytes alone.
+    pub fn window(&self, count: usize) -> Cursor<'a>
+        requires { count ≤ length self.now.rest }
+        ensures { result ≡ front count self.now }
+    {
+        Cursor {
+            offset: self.offset,
+            bytes: &self.bytes[..count],
+        }
+    }
+
+    /// Passes over the next so many bytes.
+    pub fn skip(&mut self, count: usize)
+        requires { count ≤ length self.old.rest }
+        ensures { self.new ≡ past self.old count }
+    {
+        self.offset += count as u64;
+        self.bytes = &self.bytes[count..];
     }
 
     /// The refusal of what stands at an offset.
