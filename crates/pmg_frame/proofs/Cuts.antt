@@ -2,7 +2,7 @@
 use Rattle.std.proofs.Common.{◌≡◌, ℕ, ◌+◌, ◌-◌, ◌^◌, ◌<◌, ◌≤◌, Bool, true, false, ltb, cond, List, [], ◌∷◌, ◌++◌, length, take, drop, Option, Some, None, Result, Ok, Err, refl, sym, ap, subst, ◌∙◌, append_assoc, arith, ◌⊎◌, inl, inr}
 use Rattle.std.specs.List.{flat_map}
 use Rattle.std.proofs.lemmas.Bool.{ltb-false, le-ltb}
-use Rattle.std.proofs.lemmas.List.{length-append, length-drop, take-append-le, drop-append-le}
+use Rattle.std.proofs.lemmas.List.{length-append, length-drop, take-append-le, drop-append-le, drop_at}
 use Rattle.pmg_value.specs.declared.refusal.Fault.{Fault}
 use Rattle.pmg_wire.specs.Reading.{Place, past, front, ◌>>=◌, IsBytes, Takes}
 use Rattle.pmg_wire.proofs.Steps.{bind_ok, Takes-then, IsBytes-after}
@@ -113,7 +113,7 @@ pub joins : (at mid : Place) (a b : List ℕ) (fs gs : List Frame) (fault : Opti
 joins at mid a b fs gs fault new p q =
     let same : p.end ≡ mid = sym (some_place mid p.end p.left) in
     let first : Runs (more_at at (a ++ b)) fs (more_at mid b) =
-      subst (λ (x : Place). Runs x fs (more_at mid b)) (more_twice at a b) (subst (λ (x : Place). Runs (more_at (more_at at a) b) fs (more_at x b)) same (runs_more (more_at at a) fs p.end b p.runs)) in
+    subst (λ (x : Place). Runs x fs (more_at mid b)) (more_twice at a b) (subst (λ (x : Place). Runs (more_at (more_at at a) b) fs (more_at x b)) same (runs_more (more_at at a) fs p.end b p.runs)) in
     record { end = q.end; runs = runs_then (more_at at (a ++ b)) fs (more_at mid b) gs q.end first q.runs; stops = q.stops; left = q.left }
 
 pub stays_closed : (at : Place) (a b : List ℕ) (fs : List Frame) (f : Fault) → Feeds at a fs (Some f) None → Feeds at (a ++ b) fs (Some f) None
@@ -187,3 +187,43 @@ spelled_runs at (f ∷ fs) end t are =
 
 pub is_found : (at end : Place) (bytes : List ℕ) (fs : List Frame) (fault : Option Fault) → Says (more_at at bytes) fs fault end → Feeds at bytes fs fault (left_after fault end)
 is_found at end bytes fs fault s = record { end = end; runs = spelled_runs (more_at at bytes) fs end s.takes s.are; stops = s.stops; left = refl }
+
+-- ---- one frame more
+
+runs_one : (at : Place) (frame : Frame) (end : Place) → frame_at at ≡ Ok (Some (frame, end)) → Runs at (frame ∷ []) end
+unfolding Runs
+runs_one at frame end e = (end, e, refl)
+
+pub runs_push : (at : Place) (fs : List Frame) (mid : Place) (frame : Frame) (end : Place) → Runs at fs mid → frame_at mid ≡ Ok (Some (frame, end)) → Runs at (fs ++ frame ∷ []) end
+runs_push at fs mid frame end r e = runs_then at fs mid (frame ∷ []) end r (runs_one mid frame end e)
+
+pub runs_none : (at : Place) → Runs at [] at
+unfolding Runs
+runs_none at = refl
+
+-- a frame takes some bytes
+pub moves_on : (at : Place) (frame : Frame) (mid : Place) → frame_at at ≡ Ok (Some (frame, mid)) → length mid.rest < length at.rest
+unfolding frame_at behind_head
+moves_on at frame mid e =
+    let long = chosen (ltb (length at.rest) 6) _ (frame, mid) e in
+    let head = bind_ok (head_at (front 6 at)) (λ h. behind_head h.0 (past at 6)) (Some (frame, mid)) long.1 in
+    let behind = chosen (ltb (length (drop 6 at.rest)) head.0.0.1) _ (frame, mid) head.2 in
+    let body = bind_ok (body_at head.0.0.0 (front head.0.0.1 (past at 6))) (λ x. Ok (Some (x, past (past at 6) head.0.0.1))) (Some (frame, mid)) behind.1 in
+    let same : (body.0, past (past at 6) head.0.0.1) ≡ (frame, mid) = some_is _ (frame, mid) body.2 in
+    let rest : length (drop head.0.0.1 (drop 6 at.rest)) ≡ length mid.rest = ap (λ (x : Frame × Place). length x.1.rest) same in
+    omega (arith, rest, ltb-false _ _ long.0, length-drop head.0.0.1 (drop 6 at.rest), length-drop 6 at.rest)
+
+-- where whole frames end
+pub record IsEnd (offset : ℕ) (held : List ℕ) (end : Place) : Type 0 where
+  pub fewer : length end.rest ≤ length held
+  pub is : end ≡ record { offset = offset + (length held - length end.rest); rest = drop (length held - length end.rest) held }
+
+pub runs_end : (offset : ℕ) (held : List ℕ) (fs : List Frame) (end : Place) → IsBytes held → Runs (record { offset = offset; rest = held }) fs end → IsEnd offset held end
+runs_end offset held fs end fits r =
+    let text = flat_map frame_spelling fs in
+    let t = (runs_spelled (record { offset = offset; rest = held }) fs end fits r).0 in
+    let lengths : length held ≡ length text + length end.rest = ap length t.parts ∙ length-append text end.rest in
+    let used : length text ≡ length held - length end.rest = omega arith in
+    let rest : end.rest ≡ drop (length held - length end.rest) held = sym (ap (drop (length held - length end.rest)) t.parts ∙ drop_at text end.rest (length held - length end.rest) used) in
+    let place : end.offset ≡ offset + (length held - length end.rest) = t.place ∙ ap (λ (n : ℕ). offset + n) used in
+    record { fewer = omega arith; is = λ i. record { offset = place i; rest = rest i } }

@@ -10,7 +10,7 @@ use Rattle.pmg_wire.proofs.Steps.{place, IfRead, bind_if, check_if, done_if, bin
 use Rattle.pmg_commit.specs.Knowledge.{Contribution}
 use Rattle.pmg_frame.specs.declared.frame.Frame.{Frame}
 use Rattle.pmg_frame.specs.declared.frame.Frame.TheVariants as frames
-use Rattle.pmg_frame.specs.Grammar.{IsPiece, IsFrame, SpellsFrame}
+use Rattle.pmg_frame.specs.Grammar.{IsPiece, IsFrame, AreFrames, SpellsFrame}
 use Rattle.pmg_frame.specs.Reading.{piece_at, fields_at, body_at, head_at, behind_head, frame_at}
 use Rattle.pmg_frame.specs.Spelling.{piece_body, kind_of, body_spelling, head_spelling, frame_spelling}
 use Rattle.pmg_frame.proofs.PieceLaws.{TakesPiece, piece_if, piece_again}
@@ -29,17 +29,17 @@ head_if at fits =
     let kinded : Place → ℕ × Place → Read (ℕ × ℕ) = λ at_kind kind. check (kind.0 == 1) (fault at_kind.offset causes.Kind) >>= λ _. sized kind in
     let versioned : ℕ × Place → Read (ℕ × ℕ) = λ version. byte_at version.1 >>= kinded version.1 in
     bind_if (λ version. check (version.0 == 1) (fault at.offset causes.Version) >>= λ _. versioned version) (byte_if at) (λ version a v.
-      let a_fits : IsBytes a.rest = IsBytes-after (version ∷ []) fits v.takes in
-      check_if (version == 1) (fault at.offset causes.Version) (λ _. versioned (version, a)) (λ first.
-        bind_if (kinded a) (byte_if a) (λ kind b k.
-          let b_fits : IsBytes b.rest = IsBytes-after (kind ∷ []) a_fits k.takes in
-          check_if (kind == 1) (fault a.offset causes.Kind) (λ _. sized (kind, b)) (λ second.
-            bind_if (made kind b) (number_if w32 (2 ^ 32) wide32 b b_fits) (λ len d n.
-              check_if (nat_le len 16777216) (fault b.offset causes.Length) (λ _. Ok ((kind, len), d)) (λ third.
-                let is_one : version ≡ 1 = eqb-true version 1 first in
-                let two = Takes-then (kind ∷ []) (to_be_bytes w32 len) k.takes n.takes in
-                let all = Takes-then (1 ∷ []) (kind ∷ to_be_bytes w32 len) (rw (← is_one) v.takes) two in
-                done_if (record { takes = all; kind = eqb-true kind 1 second; small = leb-true len 16777216 third })))))))
+    let a_fits : IsBytes a.rest = IsBytes-after (version ∷ []) fits v.takes in
+    check_if (version == 1) (fault at.offset causes.Version) (λ _. versioned (version, a)) (λ first.
+    bind_if (kinded a) (byte_if a) (λ kind b k.
+    let b_fits : IsBytes b.rest = IsBytes-after (kind ∷ []) a_fits k.takes in
+    check_if (kind == 1) (fault a.offset causes.Kind) (λ _. sized (kind, b)) (λ second.
+    bind_if (made kind b) (number_if w32 (2 ^ 32) wide32 b b_fits) (λ len d n.
+    check_if (nat_le len 16777216) (fault b.offset causes.Length) (λ _. Ok ((kind, len), d)) (λ third.
+    let is_one : version ≡ 1 = eqb-true version 1 first in
+    let two = Takes-then (kind ∷ []) (to_be_bytes w32 len) k.takes n.takes in
+    let all = Takes-then (1 ∷ []) (kind ∷ to_be_bytes w32 len) (rw (← is_one) v.takes) two in
+    done_if (record { takes = all; kind = eqb-true kind 1 second; small = leb-true len 16777216 third })))))))
 
 pub head_again : (o kind len : ℕ) → kind ≡ 1 → len ≤ 16777216 → head_at (place o (head_spelling kind len)) ≡ Ok ((kind, len), place (o + 6) [])
 unfolding head_at
@@ -112,8 +112,8 @@ frame_of_parts at head end frame six enough h b =
     let head_is : take 6 at.rest ≡ head_text = h.takes.parts ∙ rw (no_items end.rest ended, append-nil head_text) refl in
     let len : head.1 ≡ length body = omega (arith, ap length b.text, length-take head.1 rest) in
     let split : at.rest ≡ head_text ++ (body ++ drop head.1 rest) =
-      sym (take-append-drop 6 at.rest) ∙ ap (λ (t : List ℕ). t ++ rest) head_is
-      ∙ ap (λ (t : List ℕ). head_text ++ t) (sym (take-append-drop head.1 rest) ∙ ap (λ (t : List ℕ). t ++ drop head.1 rest) b.text) in
+    sym (take-append-drop 6 at.rest) ∙ ap (λ (t : List ℕ). t ++ rest) head_is
+    ∙ ap (λ (t : List ℕ). head_text ++ t) (sym (take-append-drop head.1 rest) ∙ ap (λ (t : List ℕ). t ++ drop head.1 rest) b.text) in
     let parts : at.rest ≡ (head_text ++ body) ++ drop head.1 rest = split ∙ sym (append_assoc head_text body (drop head.1 rest)) in
     let spelled : head_text ≡ head_spelling (kind_of frame) (length body) = ap (λ (k : ℕ). head_spelling k head.1) b.of_kind ∙ ap (head_spelling (kind_of frame)) len in
     record {
@@ -166,3 +166,11 @@ frame_only at frame after s =
     ap (λ (text : List ℕ). frame_at (place at.offset text)) s.takes.parts
     ∙ frame_again at.offset frame after.rest s.small s.is
     ∙ ap (λ (n : ℕ). Ok (Some (frame, place n after.rest))) (sym s.takes.place)
+
+pub one_spelling : (f g : Frame) (x y : List ℕ) → AreFrames (f ∷ g ∷ []) → frame_spelling f ++ x ≡ frame_spelling g ++ y → (f ≡ g) × (x ≡ y)
+one_spelling f g x y are e =
+    let first = frame_again 0 f x are.1 are.0 in
+    let second = frame_again 0 g y are.2.1 are.2.0 in
+    let same : (f, place (0 + length (frame_spelling f)) x) ≡ (g, place (0 + length (frame_spelling g)) y) =
+    some_is _ _ (sym first ∙ ap (λ (t : List ℕ). frame_at (place 0 t)) e ∙ second) in
+    (ap (λ (z : Frame × Place). z.0) same, ap (λ (z : Frame × Place). z.1.rest) same)

@@ -1,4 +1,5 @@
 pub mod PieceLaws
 pub mod PieceTests
+pub mod Writing
 pub mod FrameLaws
 pub mod Cuts

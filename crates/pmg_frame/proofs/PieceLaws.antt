@@ -37,16 +37,16 @@ entry_if from to before at fits =
     let numbered : List ℕ → Place → ℕ × Place → Read Entry = λ key middle number. check (in_range number.0) (fault middle.offset causes.Number) >>= λ _. valued key number in
     let ordered : List ℕ × Place → Read Entry = λ key. number_at w64 key.1 >>= numbered key.0 key.1 in
     bind_if (λ key. check (is_after before key.0) (fault at.offset causes.Order) >>= λ _. ordered key) (key_if at fits) (λ key middle k.
-      let middle_fits : IsBytes middle.rest = IsBytes-after (key_spelling key) fits k.takes in
-      check_if (is_after before key) (fault at.offset causes.Order) (λ _. ordered (key, middle)) (λ order.
-        bind_if (numbered key middle) (number_if w64 (2 ^ 64) wide64 middle middle_fits) (λ number later n.
-          check_if (in_range number) (fault middle.offset causes.Number) (λ _. valued key (number, later)) (λ within.
-            let parts = and_parts (nat_lt from number) (nat_le number to) within in
-            bind_if (made key number) (value_if later) (λ v after t.
-              done_if (record {
-                takes = Takes-then (key_spelling key) (to_be_bytes w64 number ++ spelling v) k.takes (Takes-then (to_be_bytes w64 number) (spelling v) n.takes t.takes);
-                follows = record { key = k.is; order = order; above = ltb-true _ _ parts.0; within = leb-true _ _ parts.1; value = v; bytes = refl };
-              }))))))
+    let middle_fits : IsBytes middle.rest = IsBytes-after (key_spelling key) fits k.takes in
+    check_if (is_after before key) (fault at.offset causes.Order) (λ _. ordered (key, middle)) (λ order.
+    bind_if (numbered key middle) (number_if w64 (2 ^ 64) wide64 middle middle_fits) (λ number later n.
+    check_if (in_range number) (fault middle.offset causes.Number) (λ _. valued key (number, later)) (λ within.
+    let parts = and_parts (nat_lt from number) (nat_le number to) within in
+    bind_if (made key number) (value_if later) (λ v after t.
+    done_if (record {
+      takes = Takes-then (key_spelling key) (to_be_bytes w64 number ++ spelling v) k.takes (Takes-then (to_be_bytes w64 number) (spelling v) n.takes t.takes);
+      follows = record { key = k.is; order = order; above = ltb-true _ _ parts.0; within = leb-true _ _ parts.1; value = v; bytes = refl };
+    }))))))
 
 -- what a piece's body took
 pub record TakesPiece (at : Place) (c : Contribution) (after : Place) : Type 0 where
@@ -64,33 +64,33 @@ piece_if at fits =
     let ending : Proc → Place → ℕ → ℕ × Place → Read Contribution = λ proc at_from from to. check (in_range from to.0) (fault at_from.offset causes.Range) >>= λ _. ranged proc from to in
     let begun : Proc → Place → ℕ × Place → Read Contribution = λ proc at_from from. number_at w64 from.1 >>= ending proc at_from from.0 in
     bind_if (λ proc. number_at w64 proc.1 >>= begun proc.0 proc.1) (proc_if admits.ClientsAndHost at fits) (λ proc a p.
-      let a_fits : IsBytes a.rest = IsBytes-after (proc_spelling proc) fits p.takes in
-      bind_if (begun proc a) (number_if w64 (2 ^ 64) wide64 a a_fits) (λ from b f.
-        let b_fits : IsBytes b.rest = IsBytes-after (to_be_bytes w64 from) a_fits f.takes in
-        bind_if (ending proc a from) (number_if w64 (2 ^ 64) wide64 b b_fits) (λ to d t.
-          let d_fits : IsBytes d.rest = IsBytes-after (to_be_bytes w64 to) b_fits t.takes in
-          check_if (in_range from to) (fault a.offset causes.Range) (λ _. ranged proc from (to, d)) (λ range.
-            let parts = and_parts (nat_lt from to) (nat_le to 4294967295) range in
-            bind_if (counted proc from to d) (number_if w32 (2 ^ 32) wide32 d d_fits) (λ count e n.
-              let e_fits : IsBytes e.rest = IsBytes-after (to_be_bytes w32 count) d_fits n.takes in
-              check_if (nat_le count 65536) (fault d.offset causes.Count) (λ _. listed proc from to (count, e)) (λ few.
-                bind_if (made proc from to) (many_if (entry_at from to) entry_spelling (Follows from to) (entry_if from to) count None e e_fits) (λ entries after m.
-                  let count_text = to_be_bytes w32 count in
-                  let tail = Takes-then count_text (flat_map entry_spelling entries) n.takes m.takes in
-                  let to_tail = Takes-then (to_be_bytes w64 to) (count_text ++ flat_map entry_spelling entries) t.takes tail in
-                  let from_tail = Takes-then (to_be_bytes w64 from) (to_be_bytes w64 to ++ (count_text ++ flat_map entry_spelling entries)) f.takes to_tail in
-                  let all = Takes-then (proc_spelling proc) (to_be_bytes w64 from ++ (to_be_bytes w64 to ++ (count_text ++ flat_map entry_spelling entries))) p.takes from_tail in
-                  done_if (record {
-                    takes = rw m.len all;
-                    is = record {
-                      name = p.name;
-                      admitted = p.admitted;
-                      range = ltb-true _ _ parts.0;
-                      last = leb-true _ _ parts.1;
-                      count = rw m.len (leb-true count 65536 few);
-                      entries = m.chain;
-                    };
-                  }))))))))
+    let a_fits : IsBytes a.rest = IsBytes-after (proc_spelling proc) fits p.takes in
+    bind_if (begun proc a) (number_if w64 (2 ^ 64) wide64 a a_fits) (λ from b f.
+    let b_fits : IsBytes b.rest = IsBytes-after (to_be_bytes w64 from) a_fits f.takes in
+    bind_if (ending proc a from) (number_if w64 (2 ^ 64) wide64 b b_fits) (λ to d t.
+    let d_fits : IsBytes d.rest = IsBytes-after (to_be_bytes w64 to) b_fits t.takes in
+    check_if (in_range from to) (fault a.offset causes.Range) (λ _. ranged proc from (to, d)) (λ range.
+    let parts = and_parts (nat_lt from to) (nat_le to 4294967295) range in
+    bind_if (counted proc from to d) (number_if w32 (2 ^ 32) wide32 d d_fits) (λ count e n.
+    let e_fits : IsBytes e.rest = IsBytes-after (to_be_bytes w32 count) d_fits n.takes in
+    check_if (nat_le count 65536) (fault d.offset causes.Count) (λ _. listed proc from to (count, e)) (λ few.
+    bind_if (made proc from to) (many_if (entry_at from to) entry_spelling (Follows from to) (entry_if from to) count None e e_fits) (λ entries after m.
+    let count_text = to_be_bytes w32 count in
+    let tail = Takes-then count_text (flat_map entry_spelling entries) n.takes m.takes in
+    let to_tail = Takes-then (to_be_bytes w64 to) (count_text ++ flat_map entry_spelling entries) t.takes tail in
+    let from_tail = Takes-then (to_be_bytes w64 from) (to_be_bytes w64 to ++ (count_text ++ flat_map entry_spelling entries)) f.takes to_tail in
+    let all = Takes-then (proc_spelling proc) (to_be_bytes w64 from ++ (to_be_bytes w64 to ++ (count_text ++ flat_map entry_spelling entries))) p.takes from_tail in
+    done_if (record {
+      takes = rw m.len all;
+      is = record {
+        name = p.name;
+        admitted = p.admitted;
+        range = ltb-true _ _ parts.0;
+        last = leb-true _ _ parts.1;
+        count = rw m.len (leb-true count 65536 few);
+        entries = m.chain;
+      };
+    }))))))))
 
 -- ---- and again
 

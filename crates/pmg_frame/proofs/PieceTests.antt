@@ -26,8 +26,8 @@ pub length-entries : (es : List Entry) → length (flat_map entry_spelling es) �
 length-entries [] = refl
 length-entries (e ∷ es) = both (entry_spelling e) (flat_map entry_spelling es) (entry_size e) (sum_by entry_size es) (length-entry_spelling e) (length-entries es) ∙ sym (sum_by-cons entry_size e es)
   where
-  both : (a b : List ℕ) (m n : ℕ) → length a ≡ m → length b ≡ n → length (a ++ b) ≡ m + n
-  both a b m n p q = omega (arith, length-append a b, p, q)
+    both : (a b : List ℕ) (m n : ℕ) → length a ≡ m → length b ≡ n → length (a ++ b) ≡ m + n
+    both a b m n p q = omega (arith, length-append a b, p, q)
 
 pub length-piece_body : (c : Contribution) → length (piece_body c) ≡ body_size c.proc c.entries
 length-piece_body c =

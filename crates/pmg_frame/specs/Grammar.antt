@@ -1,17 +1,17 @@
 -- The grammar of frames: what stands between two places.
-use Rattle.std.specs.Prelude.{◌≡◌, ℕ, ◌<◌, ◌≤◌, List, [], ◌∷◌, length, Option, None, IsTrue}
+use Rattle.std.specs.Prelude.{◌≡◌, ℕ, ◌<◌, ◌≤◌, List, [], ◌∷◌, ◌++◌, length, Option, Some, None, Ok, IsTrue}
 use Rattle.pmg_value.specs.declared.value.Value.{Value}
 use Rattle.pmg_value.specs.Names.{is_nspace, is_key}
 use Rattle.pmg_value.specs.Spelling.{spelling}
 use Rattle.pmg_wire.specs.declared.fields.Admits.TheVariants as admits
 use Rattle.pmg_wire.specs.Fields.{is_admitted}
 use Rattle.pmg_wire.specs.Many.{Chain}
-use Rattle.pmg_wire.specs.Reading.{Place, Takes}
+use Rattle.pmg_wire.specs.Reading.{Place, Takes, IsBytes}
 use Rattle.pmg_commit.specs.Entries.{Entry}
 use Rattle.pmg_commit.specs.Knowledge.{Contribution}
 use Rattle.pmg_frame.specs.declared.frame.Frame.{Frame}
 use Rattle.pmg_frame.specs.declared.frame.Frame.TheVariants as frames
-use Rattle.pmg_frame.specs.Reading.{is_after}
+use Rattle.pmg_frame.specs.Reading.{is_after, frame_at}
 use Rattle.pmg_frame.specs.Spelling.{piece_body, body_spelling, frame_spelling}
 
 -- An entry of a piece of the commits from+1 to to: of a greater key than the entry before, of one of these
@@ -47,3 +47,15 @@ pub record SpellsFrame (at : Place) (frame : Frame) (after : Place) : Type 0 whe
 abbrev pub AreFrames : List Frame → Type 0
 AreFrames [] = Unit {0}
 AreFrames (frame ∷ others) = IsFrame frame × (length (body_spelling frame) ≤ 16777216) × AreFrames others
+
+-- what is read as a frame is spelled so
+abbrev pub IsFound : Type 0
+IsFound = (at : Place) (frame : Frame) (after : Place) → IsBytes at.rest → frame_at at ≡ Ok (Some (frame, after)) → SpellsFrame at frame after
+
+-- what is spelled as a frame is read
+abbrev pub IsOnly : Type 0
+IsOnly = (at : Place) (frame : Frame) (after : Place) → SpellsFrame at frame after → frame_at at ≡ Ok (Some (frame, after))
+
+-- no frame's spelling begins another's
+abbrev pub IsOneSpelling : Type 0
+IsOneSpelling = (f g : Frame) (x y : List ℕ) → AreFrames (f ∷ g ∷ []) → frame_spelling f ++ x ≡ frame_spelling g ++ y → (f ≡ g) × (x ≡ y)

@@ -3,7 +3,6 @@ pub mod Grammar
 pub mod Reading
 pub mod Spelling
 pub mod Streams
-
 pub use Rattle.pmg_commit.specs.Entries
 pub use Rattle.pmg_commit.specs.Knowledge
 pub use Rattle.pmg_wire.specs.Reading as Places

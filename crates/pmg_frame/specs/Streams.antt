@@ -1,8 +1,11 @@
 -- A stream of frames, in whatever pieces it comes.
-use Rattle.std.specs.Prelude.{◌≡◌, ℕ, ◌+◌, ◌≤◌, ◌^◌, List, [], ◌∷◌, ◌++◌, length, Option, Some, None, Ok, Err, All}
+use Rattle.std.specs.Prelude.{◌≡◌, ℕ, ◌+◌, ◌≤◌, ◌^◌, ◌⊎◌, ◌==◌, if◌then◌else◌, List, [], ◌∷◌, ◌++◌, length, Option, Some, None, Result, Ok, Err}
 use Rattle.std.specs.List.{flat_map}
 use Rattle.pmg_value.specs.declared.refusal.Fault.{Fault}
-use Rattle.pmg_wire.specs.Reading.{Place, IsBytes, Takes}
+use Rattle.pmg_value.specs.declared.refusal.Cause.TheVariants as causes
+use Rattle.pmg_value.specs.declared.refusal.Refusal.{Refusal}
+use Rattle.pmg_value.specs.declared.refusal.Refusal.TheVariants as refusals
+use Rattle.pmg_wire.specs.Reading.{Place, fault, IsBytes, Takes}
 use Rattle.pmg_frame.specs.declared.frame.Frame.{Frame}
 use Rattle.pmg_frame.specs.Grammar.{AreFrames}
 use Rattle.pmg_frame.specs.Reading.{frame_at}
@@ -45,6 +48,15 @@ abbrev pub IsPastEnd : Option Place → List ℕ → Type 0
 IsPastEnd None bytes = ⊥
 IsPastEnd (Some at) bytes = 2 ^ 64 ≤ at.offset + length at.rest + length bytes
 
+-- the refusals of a feed
+abbrev pub IsFeedRefusal : Refusal → Type 0
+IsFeedRefusal e = (e ≡ refusals.NoMemory) ⊎ ((e ≡ refusals.TooMany) ⊎ (e ≡ refusals.Closed))
+
+-- at the end of a stream: nothing is left over, or the frame of which a part is left is cut
+abbrev pub finished : Option Place → Result (Unit {0}) Refusal
+finished None = Err refusals.Closed
+finished (Some at) = if length at.rest == 0 then Ok tt else Err (refusals.BadFrame (fault at.offset causes.Cut))
+
 -- What the bytes of a stream say: these frames, spelled one behind another, and then a fault or a rest that is
 -- no whole frame.
 pub record Says (at : Place) (frames : List Frame) (fault : Option Fault) (end : Place) : Type 0 where
@@ -71,11 +83,11 @@ IsDetermined = (at : Place) (bytes : List ℕ) (fs gs : List Frame) (f g : Optio
     → Feeds at bytes fs f new → Feeds at bytes gs g other → SameFeed fs gs f g new other
 
 -- what a feed finds is what the bytes say
-abbrev pub IsSpelled : Type 0
-IsSpelled = (at : Place) (bytes : List ℕ) (fs : List Frame) (fault : Option Fault) (new : Option Place)
+abbrev pub AreSpelled : Type 0
+AreSpelled = (at : Place) (bytes : List ℕ) (fs : List Frame) (fault : Option Fault) (new : Option Place)
     → IsBytes (at.rest ++ bytes) → (fed : Feeds at bytes fs fault new) → Says (more_at at bytes) fs fault fed.end
 
 -- what the bytes say, a feed finds
-abbrev pub IsFound : Type 0
-IsFound = (at end : Place) (bytes : List ℕ) (fs : List Frame) (fault : Option Fault)
+abbrev pub AreFound : Type 0
+AreFound = (at end : Place) (bytes : List ℕ) (fs : List Frame) (fault : Option Fault)
     → Says (more_at at bytes) fs fault end → Feeds at bytes fs fault (left_after fault end)

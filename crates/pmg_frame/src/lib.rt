@@ -2,8 +2,11 @@
 #![tactic(auto)]
 
 mod frame;
+mod laws;
 mod reading;
-//mod stream;
+mod stream;
 
-pub use frame::{Frame, MAX_BODY_SIZE};
-//pub use stream::{Fed, Stream};
+pub use frame::{Frame, HEAD_SIZE, MAX_BODY_SIZE};
+pub use laws::{frame_rules, stream_rules};
+pub use reading::get_frame;
+pub use stream::{Fed, Stream};

@@ -6,14 +6,11 @@ ghost use Rattle.pmg_commit.specs.Pieces.{entry_of, contribution};
 ghost use Rattle.pmg_frame.specs.Reading.{is_after, entry_at, piece_at, fields_at, body_at, head_at};
 ghost use Rattle.pmg_frame.specs.Frames.{ReadsFrame};
 
-use crate::frame::{Frame, MAX_BODY_SIZE};
+use crate::frame::{Frame, HEAD_SIZE, MAX_BODY_SIZE};
 use pmg_commit::{MAX_COMMIT, MAX_ENTRIES, Piece, PieceEntry};
 use pmg_value::{Cause, Key, Proc, Refusal};
 use pmg_wire::{Admits, Cursor, get_key, get_proc, get_value};
 use std::alloc::Global;
-
-/// The size of a frame's head, in bytes: the version, the kind, and four bytes of length.
-const HEAD_SIZE: usize = 6;
 
 // Whether the key is greater than that of the entry before, where there is one.
 fn is_key_after(before: Option<&PieceEntry>, key: &Key) -> bool
@@ -95,7 +92,8 @@ fn get_piece(alloc: Global, at: &mut Cursor<'_>) -> Result<Piece, Refusal>
     requires { length at.old.rest ≤ 16777216 }
     ensures { Reads (λ p. p) result at.new (piece_at at.old) }
 {
-    let _start = at.fork();
+    // No effect at run time: the proof reads here that what is left are bytes.
+    let _start = at.offset();
     let (process, from, to, entries) = get_piece_fields(alloc, at)?;
     Piece::new(process, from, to, entries)
 }

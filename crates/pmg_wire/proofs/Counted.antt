@@ -100,13 +100,13 @@ many_again {X = X} read spell Follows one before o (x ∷ xs) rest chain =
 pub last_seen : {A B : Type 0} (f : A → B) (o : Option (Bor A)) (xs : List A) → option_copied o ≡ slice_get xs (length xs - 1) → option_map (λ e. f e.now) o ≡ last_of (map f xs)
 last_seen f o xs h = seen f o ∙ ap (option_map f) h ∙ last_of-map f xs
   where
-  seen : {A B : Type 0} (f : A → B) (o : Option (Bor A)) → option_map (λ e. f e.now) o ≡ option_map f (option_copied o)
-  seen f None = refl
-  seen f (Some e) = refl
+    seen : {A B : Type 0} (f : A → B) (o : Option (Bor A)) → option_map (λ e. f e.now) o ≡ option_map f (option_copied o)
+    seen f None = refl
+    seen f (Some e) = refl
 
-  last_of-map : {A B : Type 0} (f : A → B) (xs : List A) → option_map f (slice_get xs (length xs - 1)) ≡ last_of (map f xs)
-  last_of-map f [] = refl
-  last_of-map f (x ∷ []) = refl
-  last_of-map f (x ∷ y ∷ ys) =
-      let before : length (x ∷ y ∷ ys) - 1 ≡ suc (length (y ∷ ys) - 1) = omega arith in
-      rw before (last_of-map f (y ∷ ys))
+    last_of-map : {A B : Type 0} (f : A → B) (xs : List A) → option_map f (slice_get xs (length xs - 1)) ≡ last_of (map f xs)
+    last_of-map f [] = refl
+    last_of-map f (x ∷ []) = refl
+    last_of-map f (x ∷ y ∷ ys) =
+        let before : length (x ∷ y ∷ ys) - 1 ≡ suc (length (y ∷ ys) - 1) = omega arith in
+        rw before (last_of-map f (y ∷ ys))

@@ -28,8 +28,7 @@ impl<'a> Cursor<'a> {
     /// Reading of these bytes, the first of which stands at that offset of the whole.
     pub fn new(offset: u64, bytes: &'a [u8]) -> Cursor<'a>
         requires { offset + length bytes.now < 2 ^ 64 }
-        ensures offset { result.offset ≡ offset }
-        ensures rest { result.rest ≡ bytes.now }
+        ensures { result ≡ record { offset = offset; rest = bytes.now } }
     {
         Cursor { offset, bytes }
     }

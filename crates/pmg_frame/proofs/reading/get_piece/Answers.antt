@@ -11,6 +11,6 @@ pub returns : goal.returns
 returns c =
     let x = c.in_ok-process in
     let piece = contribution x.process x.from x.to x.entries.items in
-    let passes = read_passes c.args.at.now piece c.get_piece_fields.new.at c.fork-start.ensures.bytes c.requires x.ensures in
+    let passes = read_passes c.args.at.now piece c.get_piece_fields.new.at c.offset-start.ensures.bytes c.requires x.ensures in
     let made : c.new.result ≡ Ok piece = c.new.ensures ∙ cond-true (is_piece piece) (Ok piece) (Err refusals.BadParam) passes in
     rw made x.ensures

@@ -1,0 +1,20 @@
+ghost use Rattle.pmg_frame.specs.Grammar.{IsFound, IsOnly, IsOneSpelling};
+ghost use Rattle.pmg_frame.specs.Streams.{Joins, StaysClosed, IsDetermined, AreSpelled, AreFound};
+
+/// The laws of frames: what is read as a frame is spelled so; what is spelled so is read; and no frame's
+/// spelling begins another's, so each frame has one.
+pub fn frame_rules()
+    ensures found { IsFound }
+    ensures only { IsOnly }
+    ensures one_spelling { IsOneSpelling }
+{}
+
+/// The laws of streams: however the bytes are cut, they say the same frames and the same fault, and those
+/// alone.
+pub fn stream_rules()
+    ensures joined { Joins }
+    ensures closed { StaysClosed }
+    ensures determined { IsDetermined }
+    ensures spelled { AreSpelled }
+    ensures found { AreFound }
+{}

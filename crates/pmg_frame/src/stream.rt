@@ -1,0 +1,142 @@
+ghost use Rattle.std.specs.Prelude.{◌≡◌, ◌↔◌, ◌+◌, ◌<◌, ◌≤◌, ◌^◌, [], None, Some, Err, length, drop, IfOk, IfErr, OnErr};
+ghost use Rattle.pmg_value.specs.declared.refusal.Refusal.TheVariants as refusals;
+ghost use Rattle.pmg_frame.specs.Streams.{Runs, StopsAt, FeedsOpen, IsPastEnd, IsFeedRefusal, finished};
+
+use crate::frame::Frame;
+use crate::reading::get_frame;
+use bytes::BytesMut;
+use pmg_value::{Cause, Fault, Refusal};
+use pmg_wire::Cursor;
+use std::alloc::Global;
+use std::marker::Model;
+
+/// What a stream found in the bytes that it was fed: the frames that are whole now, and the fault that
+/// comes behind them, where one comes.
+#[derive(Debug, Drop)]
+pub struct Fed {
+    pub frames: Vec<Frame>,
+    pub fault: Option<Fault>,
+}
+
+/// A stream of frames, fed in whatever pieces its bytes come. It keeps what has come of the next frame,
+/// and the offset of that frame in the whole stream. After a fault it is closed for good.
+#[derive(Drop)]
+pub struct Stream {
+    alloc: Global,
+    held: BytesMut,
+    offset: u64,
+    is_closed: bool,
+}
+
+impl Model for Stream {
+    ghost use Rattle.std.specs.Prelude.{Option, Some, None, ◌+◌, ◌<◌, ◌^◌, length, if◌then◌else◌};
+    ghost use Rattle.pmg_wire.specs.Reading.{Place};
+
+    ghost Value = { Option Place };
+
+    ghost view = { λ a. if a.is_closed then None else Some (record { offset = a.offset; rest = a.held.items }) };
+
+    ghost invariant = { λ a. a.offset + length a.held.items < 2 ^ 64 };
+}
+
+// The whole frames from a place on, and why they stop.
+fn get_frames(alloc: Global, at: &mut Cursor<'_>) -> Result<Fed, Refusal>
+    ensures runs { IfOk result (λ fed. Runs at.old fed.frames.items at.new) }
+    ensures stops { IfOk result (λ fed. StopsAt at.new fed.fault) }
+    ensures err { IfErr result (λ e. e ≡ refusals.NoMemory) }
+{
+    let mut frames = Vec::new(alloc);
+    loop {
+        match get_frame(alloc, at) {
+            Ok(Some(frame)) => frames.push(frame)?,
+            Ok(None) => {
+                return Ok(Fed {
+                    frames,
+                    fault: None,
+                });
+            }
+            Err(Refusal::BadFrame(fault)) => {
+                return Ok(Fed {
+                    frames,
+                    fault: Some(fault),
+                });
+            }
+            Err(refusal) => return Err(refusal),
+        }
+    }
+}
+
+// The whole frames in the bytes from that offset on, why they stop, and how many bytes they take.
+fn frames_in(alloc: Global, offset: u64, held: &[u8]) -> Result<(Fed, usize), Refusal>
+    requires { offset + length held.now < 2 ^ 64 }
+    ensures runs { IfOk result (λ found. Runs (record { offset = offset; rest = held.now }) found.0.frames.items
+        (record { offset = offset + found.1; rest = drop found.1 held.now })) }
+    ensures stops { IfOk result (λ found. StopsAt (record { offset = offset + found.1; rest = drop found.1 held.now }) found.0.fault) }
+    ensures used { IfOk result (λ found. found.1 ≤ length held.now) }
+    ensures err { IfErr result (λ e. e ≡ refusals.NoMemory) }
+{
+    let mut at = Cursor::new(offset, held);
+    let fed = get_frames(alloc, &mut at)?;
+    let used = held.len() - at.rest().len();
+    Ok((fed, used))
+}
+
+impl Stream {
+    /// A stream of which nothing has come yet.
+    pub fn new(alloc: Global) -> Stream
+        ensures { result ≡ Some (record { offset = 0; rest = [] }) }
+    {
+        Stream {
+            alloc,
+            held: BytesMut::new(alloc),
+            offset: 0,
+            is_closed: false,
+        }
+    }
+
+    /// Takes the next bytes of the stream, and gives the frames that are whole now, and the fault behind
+    /// them if there is one; after a fault the stream is closed. Refused as Closed on a closed stream, as
+    /// TooMany where an offset would pass 18446744073709551615, and as NoMemory; a refusal changes nothing.
+    pub fn feed(&mut self, bytes: &[u8]) -> Result<Fed, Refusal>
+        ensures fed { IfOk result (λ fed. FeedsOpen self.old bytes.now fed.frames.items fed.fault self.new) }
+        ensures closed { (result ≡ Err refusals.Closed) ↔ (self.old ≡ None) }
+        ensures too_many { (result ≡ Err refusals.TooMany) ↔ IsPastEnd self.old bytes.now }
+        ensures no_other { IfErr result IsFeedRefusal }
+        ensures err { OnErr result (self.new ≡ self.old) }
+    {
+        if self.is_closed {
+            return Err(Refusal::Closed);
+        }
+        let held = self.held.len();
+        if u64::MAX - self.offset - (held as u64) < bytes.len() as u64 {
+            return Err(Refusal::TooMany);
+        }
+        self.held.extend_from_slice(bytes)?;
+        match frames_in(self.alloc, self.offset, self.held.as_slice()) {
+            Ok((fed, used)) => {
+                self.held.advance(used);
+                self.offset += used as u64;
+                self.is_closed = fed.fault.is_some();
+                Ok(fed)
+            }
+            Err(refusal) => {
+                self.held.truncate(held);
+                Err(refusal)
+            }
+        }
+    }
+
+    /// The end of the stream: Ok where no part of a frame is left over. Refused as Cut, at the offset of
+    /// the frame of which a part is left, and as Closed on a closed stream.
+    pub fn finish(&self) -> Result<(), Refusal>
+        ensures { result ≡ finished self.now }
+    {
+        if self.is_closed {
+            return Err(Refusal::Closed);
+        }
+        if !self.held.is_empty() {
+            return Err(Cursor::refuse(self.offset, Cause::Cut));
+        }
+        Ok(())
+    }
+}
