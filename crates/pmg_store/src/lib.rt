@@ -6,3 +6,6 @@ mod store;
 
 pub use laws::pieces_in_any_order;
 pub use store::Store;
+
+#[cfg(test)]
+mod tests;
