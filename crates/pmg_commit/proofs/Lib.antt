@@ -1,4 +1,4 @@
 pub mod Joining
 pub mod PieceFacts
-pub mod Reading
+pub mod ReadLaws
 pub mod Rules

@@ -11,7 +11,7 @@ use Rattle.pmg_commit.specs.LevelLaws.{level_is, level_unique}
 use Rattle.pmg_commit.specs.Knowledge.{numbers_to, numbers_between, read}
 use Rattle.pmg_commit.specs.CoreLaws.{level-union, numbers-core, core_keeps}
 use Rattle.pmg_commit.specs.Rules.{NumbersBetween, LevelIsReach, LevelGrows, ReadIsLatest, ReadIsNone, CoreReadsAlike, CoreIsLeast, AlikeNow}
-use Rattle.pmg_commit.proofs.Reading.{read_latest, read_none, read-core}
+use Rattle.pmg_commit.proofs.ReadLaws.{read_latest, read_none, read-core}
 
 tie_up : (n m : ℕ) (rest : Bool) → rest ≡ (nat_lt 0 n && nat_le n m) → (eq_by_cmp nat_cmp n (suc m) || rest) ≡ (nat_lt 0 n && nat_le n (suc m))
 tie_up n m rest h = grind (arith, nat_tests)

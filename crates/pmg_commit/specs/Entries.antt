@@ -1,5 +1,5 @@
 -- Entries: what a commit left under a key, and which of two counts.
-use Rattle.std.specs.Prelude.{ℕ, Bool, ◌&&◌, ◌||◌, ◌==◌, nat_lt, nat_le, List, refl}
+use Rattle.std.specs.Prelude.{ℕ, Bool, ◌&&◌, ◌||◌, ◌==◌, nat_lt, nat_le, List, Option, Some, None, if◌then◌else◌, refl}
 use Rattle.std.specs.Ordering.{nat_cmp, ordering_then, is_lt}
 use Rattle.std.specs.Cmp.Lexicographic.{slice_cmp}
 use Rattle.std.specs.Str.{bytes_eq}
@@ -35,3 +35,9 @@ is_readable level key e = bytes_eq key e.key && nat_le e.number level
 -- than the level or is e's own. So e will never be read again.
 abbrev pub is_superseded : ℕ → Entry → Entry → Bool
 is_superseded level e f = bytes_eq e.key f.key && is_later e f && (nat_le f.number level || (e.number == f.number))
+
+-- what is read under the key once e is seen too: e, where it is readable and the entry so far, if there is
+-- one, is not as late
+abbrev pub best_of_two : ℕ → List ℕ → Option Entry → Entry → Option Entry
+best_of_two level key None e = if is_readable level key e then Some e else None
+best_of_two level key (Some best) e = if is_readable level key e && is_later best e then Some e else Some best

@@ -4,6 +4,7 @@ ghost use Rattle.std.specs.List.{list_all, sum_by};
 ghost use Rattle.pmg_value.specs.Lists.{is_chain};
 ghost use Rattle.pmg_value.specs.Process.{is_client, is_host};
 ghost use Rattle.pmg_value.specs.declared.refusal.Refusal.TheVariants as refusals;
+ghost use Rattle.pmg_commit.specs.Entries.{is_readable, is_later};
 ghost use Rattle.pmg_commit.specs.Pieces.{body_size, entry_of, contribution, entry_size, is_numbered, is_key_rising, is_small, is_piece};
 
 use pmg_value::{Key, Proc, Refusal, Value};
@@ -38,6 +39,21 @@ impl PieceEntry {
             number: self.number,
             value: self.value.copy()?,
         })
+    }
+
+    /// Whether the entry can be read under the key, at that level: its number is no greater.
+    pub fn is_readable(&self, level: u64, key: &Key) -> bool
+        ensures { result ≡ is_readable level key.now (entry_of self.now) }
+    {
+        *key == self.key && self.number <= level
+    }
+
+    /// Whether the next entry is later: of a greater number, or of the same one with the greater value.
+    pub fn is_earlier_than(&self, next: &PieceEntry) -> bool
+        ensures { result ≡ is_later (entry_of self.now) (entry_of next.now) }
+    {
+        self.number < next.number
+            || (self.number == next.number && self.value.cmp(&next.value).is_lt())
     }
 
     /// Whether the entry is of one of the commits from+1 to to.

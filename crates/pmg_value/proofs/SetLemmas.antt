@@ -1,5 +1,5 @@
 -- Membership in a finite set: `contains`, and the items.
-use Rattle.std.proofs.Common.{◌≡◌, Bool, true, false, ◌||◌, refl, sym, ap, ◌∙◌, subst}
+use Rattle.std.proofs.Common.{List, ◌≡◌, Bool, true, false, ◌||◌, refl, sym, ap, ◌∙◌, subst}
 use Rattle.std.specs.Cmp.{IsTotalOrder, Equal-is}
 use Rattle.std.specs.Ordering.{eq_by_cmp, is_eq}
 use Rattle.std.specs.declared.cmp.Ordering.{Ordering}
@@ -59,3 +59,12 @@ module _ {K : Type 0} {R : K → K → Ordering} (o : IsTotalOrder R) (exact : I
 
   pub union_empty : (s : set.FinSet R) → set.union set.empty s ≡ s
   union_empty s = set.same_set o exact _ _ (λ q. contains-union set.empty s q ∙ ap (λ b. b || set.contains s q) (set.contains-empty R q))
+
+module _ {K : Type 0} {R : K → K → Ordering} (o : IsTotalOrder R) (exact : IsAntisymmetric R) where
+  pub in_from_list : (ks : List K) (q : K) → set.contains (set.from_list {R = R} ks) q ≡ true → In q ks
+  in_from_list ks q h =
+      let found = in_from_list_any (eq_by_cmp R q) ks (sym (set.contains-from_list o ks q) ∙ h) in
+      subst (λ x. In x ks) (sym (exact q found.0 ((Equal-is _).0 found.2))) found.1
+
+  pub from_list_in : (ks : List K) (q : K) → In q ks → set.contains (set.from_list {R = R} ks) q ≡ true
+  from_list_in ks q i = set.contains-from_list o ks q ∙ list_any_in (eq_by_cmp R q) ks q i (ap is_eq (tied_itself o q))

@@ -1,12 +1,13 @@
 -- What is read: the latest readable entry, if there is one.
-use Rattle.std.proofs.Common.{ℕ, List, ◌≡◌, ◌⊎◌, ◌≤◌, inl, inr, Bool, true, false, ◌&&◌, not, sym, ap, ◌∙◌, subst, arith}
-use Rattle.std.specs.Prelude.{Some, None}
+use Rattle.std.proofs.Common.{ℕ, List, [], ◌∷◌, ◌++◌, ◌≡◌, ◌⊎◌, ◌≤◌, inl, inr, Bool, true, false, ◌&&◌, not, refl, sym, ap, ◌∙◌, subst, append-nil, append_assoc, arith}
+use Rattle.std.specs.Prelude.{Option, Some, None, if◌then◌else◌}
 use Rattle.std.specs.Option.{option_map}
-use Rattle.std.specs.List.{list_any}
+use Rattle.std.specs.List.{list_any, fold}
 use Rattle.std.specs.FinSet as set
 use Rattle.std.proofs.lemmas.Bool.{false≢true, cases_Bool, cases_order, false_from_ne_true, and_parts, and_from, not-true}
-use Rattle.pmg_value.proofs.ListLemmas.{in_from_list_any, not_in_list_any, list_any_none, find_some, find_in, find_none}
-use Rattle.pmg_commit.specs.Entries.{Entry, is_later, is_readable}
+use Rattle.pmg_value.specs.Lists.{In}
+use Rattle.pmg_value.proofs.ListLemmas.{in_from_list_any, not_in_list_any, list_any_none, find_some, find_in, find_none, in_append_left, in_append_right, in_parts}
+use Rattle.pmg_commit.specs.Entries.{Entry, is_later, is_readable, best_of_two}
 use Rattle.pmg_commit.specs.Levels.{level}
 use Rattle.pmg_commit.specs.Knowledge.{Knowledge, is_read, read, core}
 use Rattle.pmg_commit.specs.EntryOrder.{Later, Readable, is_later-Decides, is_readable-Decides, later_itself, later_trans, below_cases}
@@ -124,3 +125,64 @@ read-core k key =
     upto : (e f : Entry) (n : ℕ) → e.number ≤ n → (f.number ≤ n) ⊎ (e.number ≡ f.number) → f.number ≤ n
     upto e f n h (inl a) = a
     upto e f n h (inr b) = omega arith
+
+-- ---- the best of a list of entries is what is read
+abbrev IsBest : ℕ → List ℕ → List Entry → Option Entry → Type 0
+IsBest n key es None = (f : Entry) → In f es → Readable n key f → ⊥
+IsBest n key es (Some e) = In e es × Readable n key e × ((f : Entry) → In f es → Readable n key f → Later e f → ⊥)
+
+best_push : (n : ℕ) (key : List ℕ) (es : List Entry) (o : Option Entry) (x : Entry) → IsBest n key es o → IsBest n key (es ++ x ∷ []) (best_of_two n key o x)
+unfolding is_above
+best_push n key es None x best =
+    elim (is_readable n key x) as (λ b. is_readable n key x ≡ b → IsBest n key (es ++ x ∷ []) (if b then Some x else None)) [
+      | true ↦ λ t. (
+        in_append_right es (x ∷ []) x (inl refl),
+        (is_readable-Decides n key x).0 t,
+        λ f i r l. elim (in_parts es (x ∷ []) f i) [
+          | inl a ↦ best f a r
+          | inr (inl same) ↦ later_itself x (subst (Later x) same l)
+          | inr (inr none) ↦ none
+        ],
+      )
+      | false ↦ λ t. λ f i r. elim (in_parts es (x ∷ []) f i) [
+        | inl a ↦ best f a r
+        | inr (inl same) ↦ false≢true (sym t ∙ (is_readable-Decides n key x).1 (subst (Readable n key) same r))
+        | inr (inr none) ↦ none
+      ]
+    ] refl
+best_push n key es (Some e) x best =
+    elim (is_above n key e x) as (λ b. is_above n key e x ≡ b → IsBest n key (es ++ x ∷ []) (if b then Some x else Some e)) [
+      | true ↦ λ t. let above = above_parts n key e x t in (
+        in_append_right es (x ∷ []) x (inl refl),
+        above.0,
+        λ f i r l. elim (in_parts es (x ∷ []) f i) [
+          | inl a ↦ best.2 f a r (later_trans e x f above.1 l)
+          | inr (inl same) ↦ later_itself x (subst (Later x) same l)
+          | inr (inr none) ↦ none
+        ],
+      )
+      | false ↦ λ t. (
+        in_append_left es (x ∷ []) e best.0,
+        best.1,
+        λ f i r l. elim (in_parts es (x ∷ []) f i) [
+          | inl a ↦ best.2 f a r l
+          | inr (inl same) ↦ false≢true (sym t ∙ above_from n key e x (subst (Readable n key) same r) (subst (Later e) same l))
+          | inr (inr none) ↦ none
+        ],
+      )
+    ] refl
+
+best_of_all : (n : ℕ) (key : List ℕ) (es xs : List Entry) (o : Option Entry) → IsBest n key es o → IsBest n key (es ++ xs) (fold (best_of_two n key) o xs)
+best_of_all n key es [] o best = subst (λ l. IsBest n key l o) (sym (append-nil es)) best
+best_of_all n key es (x ∷ xs) o best =
+    subst (λ l. IsBest n key l (fold (best_of_two n key) (best_of_two n key o x) xs)) (append_assoc es (x ∷ []) xs)
+    (best_of_all n key (es ++ x ∷ []) xs (best_of_two n key o x) (best_push n key es o x best))
+
+-- es are the entries of k
+pub read_best : (k : Knowledge) (key : List ℕ) (es : List Entry) → ((e : Entry) → Has k e → In e es) → ((e : Entry) → In e es → Has k e)
+    → option_map (λ e. e.bytes) (fold (best_of_two (level k.numbers) key) None es) ≡ read k key
+read_best k key es there back = by_best (fold (best_of_two (level k.numbers) key) None es) (best_of_all (level k.numbers) key [] es None (λ f i r. i))
+  where
+    by_best : (o : Option Entry) → IsBest (level k.numbers) key es o → option_map (λ e. e.bytes) o ≡ read k key
+    by_best None best = sym (read_none k key (λ e h r. best e (there e h) r))
+    by_best (Some e) best = sym (read_latest k key e (record { has = back e best.0; readable = best.1; last = λ f h r l. best.2 f (there f h) r l }))

@@ -1,0 +1,40 @@
+-- The data of pieces, in any order and grouping.
+use Rattle.std.proofs.Common.{List, [], ◌∷◌, ◌++◌, ◌≡◌, map, refl, sym, ap, ◌∙◌}
+use Rattle.std.specs.FinMap as finite
+use Rattle.pmg_value.proofs.ListLemmas.{same_items_map}
+use Rattle.pmg_value.proofs.ProcessOrder.{procs_total, exact_procs}
+use Rattle.pmg_join.specs.Joins.{JoinLaws, join_all}
+use Rattle.pmg_join.proofs.ManyJoined.{join_all-append, free_in_order, free_in_grouping}
+use Rattle.pmg_join.proofs.MapsJoined.{maps_joined}
+use Rattle.pmg_commit.specs.Knowledge.{Contribution}
+use Rattle.pmg_commit.specs.Cores.{join_cores}
+use Rattle.pmg_commit.specs.Data.{join_data, of_contribution, absorbed, level_at, read_at}
+use Rattle.pmg_commit.proofs.Joining.{cores_assoc, cores_comm, cores_idem}
+use Rattle.pmg_store.specs.Pieces.{data_of}
+use Rattle.pmg_store.specs.Convergence.{SameInAnyOrder, SameInAnyGrouping, ReadsAlike}
+
+pub cores_joined : JoinLaws join_cores
+cores_joined = record { assoc = cores_assoc; comm = cores_comm; idem = cores_idem }
+
+pub data_joined : JoinLaws join_data
+data_joined = maps_joined procs_total exact_procs cores_joined
+
+map-append : {A B : Type 0} (f : A → B) (xs ys : List A) → map f (xs ++ ys) ≡ map f xs ++ map f ys
+map-append f [] ys = refl
+map-append f (x ∷ xs) ys = ap (λ zs. f x ∷ zs) (map-append f xs ys)
+
+pub same_in_any_order : SameInAnyOrder
+same_in_any_order xs ys same = free_in_order data_joined finite.empty (map of_contribution xs) (map of_contribution ys) (same_items_map of_contribution xs ys same)
+
+pub same_in_any_grouping : SameInAnyGrouping
+same_in_any_grouping xs ys =
+    free_in_grouping data_joined finite.empty finite.empty (map of_contribution xs) (map of_contribution ys)
+    ∙ (λ i. join_all join_data (data_joined.idem finite.empty i) (sym (map-append of_contribution xs ys) i))
+
+pub reads_alike : ReadsAlike
+reads_alike xs ys same p =
+    let e = same_in_any_order xs ys same in
+    (ap (λ d. level_at d p) e, λ key. ap (λ d. read_at d p key) e)
+
+pub data_of-push : (pieces : List Contribution) (c : Contribution) → data_of (pieces ++ c ∷ []) ≡ absorbed (data_of pieces) c
+data_of-push pieces c = ap (join_all join_data finite.empty) (map-append of_contribution pieces (c ∷ [])) ∙ join_all-append join_data finite.empty (map of_contribution pieces) (of_contribution c ∷ [])

@@ -1,0 +1,3 @@
+pub mod Converging
+pub mod Covering
+pub mod Telling

@@ -1,0 +1,11 @@
+use Rattle.pmg_store.proofs.Converging.{same_in_any_order, same_in_any_grouping, reads_alike}
+use Rattle.pmg_store.proofs.Telling.{holds_union}
+use Rattle.pmg_store.proofs.laws.pieces_in_any_order.Goals as goal
+
+pub returns : goal.returns
+returns c = record {
+  any_order = same_in_any_order;
+  any_grouping = same_in_any_grouping;
+  reads_alike = reads_alike;
+  union = holds_union;
+}

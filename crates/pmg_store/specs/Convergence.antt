@@ -1,0 +1,28 @@
+-- Two servers that have taken the same pieces, in any order, in any grouping and with any repeats, hold the
+-- same data.
+use Rattle.std.specs.Prelude.{ℕ, ◌≡◌, List, ◌++◌}
+use Rattle.pmg_value.specs.declared.process.Proc.{Proc}
+use Rattle.pmg_value.specs.Lists.{SameItems}
+use Rattle.pmg_commit.specs.Knowledge.{Contribution, core}
+use Rattle.pmg_commit.specs.Data.{join_data, known, level_at, read_at}
+use Rattle.pmg_store.specs.Pieces.{data_of, told_of}
+
+-- in any order, and however often each of them came
+abbrev pub SameInAnyOrder : Type 0
+SameInAnyOrder = (xs ys : List Contribution) → SameItems xs ys → data_of xs ≡ data_of ys
+
+-- one by one, or as stores that were joined
+abbrev pub SameInAnyGrouping : Type 0
+SameInAnyGrouping = (xs ys : List Contribution) → join_data (data_of xs) (data_of ys) ≡ data_of (xs ++ ys)
+
+-- and so they have the same levels and the same reads
+abbrev pub ReadsAlike : Type 0
+ReadsAlike =
+    (xs ys : List Contribution)
+    → SameItems xs ys
+    → (p : Proc)
+    → (level_at (data_of xs) p ≡ level_at (data_of ys) p) × ((key : List ℕ) → read_at (data_of xs) p key ≡ read_at (data_of ys) p key)
+
+-- What is held of each process is the core of the union of what the pieces tell of it.
+abbrev pub HoldsUnion : Type 0
+HoldsUnion = (pieces : List Contribution) (p : Proc) → known (data_of pieces) p ≡ core (told_of p pieces)
