@@ -1,3 +1,11 @@
+pub mod Answers
+pub mod Lists
+pub mod Maps
+pub mod Names
+pub mod Operations
+pub mod Process
 pub mod RefusalText
 pub mod Refusals
+pub mod Spelling
+pub mod Text
 pub mod Written

@@ -1,11 +1,20 @@
 //! Names, values and refusals: what every crate of pmixgroup speaks of.
 #![tactic(auto)]
 
+mod names;
+mod process;
 mod refusal;
 mod refusal_text;
-#[cfg(test)]
-mod tests;
+mod value;
 mod written;
 
+pub use names::{
+    Key, MAX_KEY_LEN, MAX_NSPACE_LEN, Nspace, is_key_text, is_nspace_name, is_reserved_name,
+};
+pub use process::{HOST_NAME, MAX_NODE, MAX_RANK, NodeId, Proc, Rank};
 pub use refusal::{Cause, Fault, Refusal};
+pub use value::{MAX_VALUE_SIZE, Value};
 pub use written::{put_number, put_text};
+
+#[cfg(test)]
+mod tests;

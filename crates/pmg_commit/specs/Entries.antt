@@ -1,0 +1,37 @@
+-- Entries: what a commit left under a key, and which of two counts.
+use Rattle.std.specs.Prelude.{ℕ, Bool, ◌&&◌, ◌||◌, ◌==◌, nat_lt, nat_le, List, refl}
+use Rattle.std.specs.Ordering.{nat_cmp, ordering_then, is_lt}
+use Rattle.std.specs.Cmp.Lexicographic.{slice_cmp}
+use Rattle.std.specs.Str.{bytes_eq}
+use Rattle.std.specs.declared.cmp.Ordering.{Ordering}
+use Rattle.std.specs.Coded.{Coded, code_by, coded×, coded_list, coded_ℕ}
+
+-- A key, the number of the commit that sealed it, and the canonical bytes of the value put under it
+-- (PMIx Standard 5.0, PMIx_Put and PMIx_Commit; the numbers are this project's).
+pub record Entry : Type 0 where
+  pub key : List ℕ
+  pub number : ℕ
+  pub bytes : List ℕ
+
+-- by key, then by number, then by bytes
+abbrev pub entry_cmp : Entry → Entry → Ordering
+entry_cmp e f = ordering_then (slice_cmp nat_cmp e.key f.key) (ordering_then (nat_cmp e.number f.number) (slice_cmp nat_cmp e.bytes f.bytes))
+
+-- an entry as a tuple
+abbrev pub coded_entry : Coded Entry
+coded_entry =
+    code_by (List ℕ × (ℕ × List ℕ)) (coded× (coded_list coded_ℕ) (coded× coded_ℕ (coded_list coded_ℕ))) (λ e. (e.key, (e.number, e.bytes)))
+    (λ t. record { key = t.0; number = t.1.0; bytes = t.1.1 }) (λ _. refl)
+
+-- f is later than e: of a greater number, or of the same number with the greater bytes
+abbrev pub is_later : Entry → Entry → Bool
+is_later e f = nat_lt e.number f.number || ((e.number == f.number) && is_lt (slice_cmp nat_cmp e.bytes f.bytes))
+
+-- at that level, e is an entry of the key that can be read: its number is no greater
+abbrev pub is_readable : ℕ → List ℕ → Entry → Bool
+is_readable level key e = bytes_eq key e.key && nat_le e.number level
+
+-- At that level, f supersedes e: it is of the same key and later, and of a number that is no greater
+-- than the level or is e's own. So e will never be read again.
+abbrev pub is_superseded : ℕ → Entry → Entry → Bool
+is_superseded level e f = bytes_eq e.key f.key && is_later e f && (nat_le f.number level || (e.number == f.number))

@@ -1,0 +1,10 @@
+pub mod Entries
+pub mod EntryOrder
+pub mod Levels
+pub mod LevelLaws
+pub mod Knowledge
+pub mod Tops
+pub mod CoreLaws
+pub mod Cores
+pub mod Data
+pub mod Rules

@@ -1,0 +1,46 @@
+ghost use Rattle.pmg_value.specs.Operations.{IsAssociative, IsCommutative, IsIdempotent};
+ghost use Rattle.pmg_commit.specs.Knowledge.{union};
+ghost use Rattle.pmg_commit.specs.Cores.{join_cores};
+ghost use Rattle.pmg_commit.specs.Rules.{
+  NumbersBetween,
+  LevelIsReach,
+  LevelGrows,
+  ReadIsLatest,
+  ReadIsNone,
+  CoreReadsAlike,
+  CoreOfUnion,
+  CoreOfCore,
+  CoreIsLeast,
+  AlikeNow,
+  AlikeAfter,
+  KnownTogether,
+  KnownOfOne,
+};
+
+/// The rules of knowledge of one process: what its level and its reads are, and that its core stands for
+/// it now and after all that may still be learned.
+pub fn knowledge_rules()
+    ensures numbers_between { NumbersBetween }
+    ensures level_is_reach { LevelIsReach }
+    ensures level_grows { LevelGrows }
+    ensures read_is_latest { ReadIsLatest }
+    ensures read_is_none { ReadIsNone }
+    ensures core_reads_alike { CoreReadsAlike }
+    ensures core_of_union { CoreOfUnion }
+    ensures core_of_core { CoreOfCore }
+    ensures core_is_least { CoreIsLeast }
+    ensures alike_now { AlikeNow }
+    ensures alike_after { AlikeAfter }
+{}
+
+/// The rules of joining: knowledge, cores, and the data of all processes.
+pub fn data_rules()
+    ensures unions_assoc { IsAssociative union }
+    ensures unions_comm { IsCommutative union }
+    ensures unions_idem { IsIdempotent union }
+    ensures cores_assoc { IsAssociative join_cores }
+    ensures cores_comm { IsCommutative join_cores }
+    ensures cores_idem { IsIdempotent join_cores }
+    ensures known_together { KnownTogether }
+    ensures known_of_one { KnownOfOne }
+{}

@@ -1,0 +1,2 @@
+pub mod ManyJoined
+pub mod MapsJoined

@@ -1,0 +1,12 @@
+-- Words on operations.
+use Rattle.std.specs.Prelude.{◌≡◌}
+
+module _ {M : Type 0} (join : M → M → M) where
+  abbrev pub IsAssociative : Type 0
+  IsAssociative = (a b c : M) → join (join a b) c ≡ join a (join b c)
+
+  abbrev pub IsCommutative : Type 0
+  IsCommutative = (a b : M) → join a b ≡ join b a
+
+  abbrev pub IsIdempotent : Type 0
+  IsIdempotent = (a : M) → join a a ≡ a

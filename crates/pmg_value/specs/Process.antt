@@ -1,0 +1,31 @@
+-- Processes in definitions, and their order.
+use Rattle.std.specs.Prelude.{ℕ, Bool, ◌&&◌, ◌==◌, not, nat_le, List, codes, refl}
+use Rattle.std.specs.Ordering.{nat_cmp, ordering_then}
+use Rattle.std.specs.Cmp.Lexicographic.{slice_cmp}
+use Rattle.std.specs.declared.cmp.Ordering.{Ordering}
+use Rattle.std.specs.Coded.{Coded, code_by, coded×, coded_list, coded_ℕ}
+use Rattle.pmg_value.specs.declared.process.Proc.{Proc}
+use Rattle.std.specs.Str.{bytes_eq}
+use Rattle.pmg_value.specs.Names.{is_reserved}
+
+-- by the bytes of the namespace, then by rank (PMIx Standard 5.0, data types: pmix_proc_t)
+abbrev pub proc_cmp : Proc → Proc → Ordering
+proc_cmp p q = ordering_then (slice_cmp nat_cmp p.nspace q.nspace) (nat_cmp p.rank q.rank)
+
+-- a process as a pair
+abbrev pub coded_proc : Coded Proc
+coded_proc =
+    code_by (List ℕ × ℕ) (coded× (coded_list coded_ℕ) coded_ℕ) (λ p. (p.nspace, p.rank)) (λ p. record { nspace = p.0; rank = p.1 })
+    (λ _. refl)
+
+-- A process that a group may register: its namespace's name is not kept for the standard, and its rank is one of 4096.
+abbrev pub is_client : Proc → Bool
+is_client p = not (is_reserved p.nspace) && nat_le p.rank 4095
+
+-- The namespace of the one process that stands for the group's host.
+abbrev pub host_name : List ℕ
+host_name = codes "pmix.host"
+
+-- The process `pmix.host 0`: what it puts are the process sets.
+abbrev pub is_host : Proc → Bool
+is_host p = bytes_eq p.nspace host_name && (p.rank == 0)

@@ -1,0 +1,209 @@
+ghost use Rattle.std.specs.Prelude.{◌≡◌, ◌&&◌, not, length, IsTrue, IfOk, if◌then◌else◌};
+ghost use Rattle.std.specs.List.{list_all};
+ghost use Rattle.pmg_value.specs.Names.{is_graphic, is_printable, is_nspace, is_key, is_reserved};
+ghost use Rattle.pmg_value.specs.Answers.{Gives};
+ghost use Rattle.pmg_value.specs.declared.refusal.Refusal.TheVariants as refusals;
+
+use crate::refusal::Refusal;
+use bytes::Bytes;
+use std::alloc::{AllocError, Global};
+use std::marker::Model;
+
+/// The greatest length of a namespace's name, in bytes (PMIX_MAX_NSLEN).
+pub const MAX_NSPACE_LEN: usize = 255;
+
+/// The greatest length of a key, in bytes (PMIX_MAX_KEYLEN).
+pub const MAX_KEY_LEN: usize = 511;
+
+/// A namespace's name: 1 to 255 bytes of 0x21 to 0x7E (PMIx Standard 5.0, pmix_nspace_t). Its order is
+/// that of its bytes. A copy shares the bytes.
+#[derive(Debug, Drop, PartialEq, Eq, PartialOrd, Ord)]
+pub struct Nspace {
+    name: Bytes,
+}
+
+impl Model for Nspace {
+    ghost use Rattle.std.specs.Prelude.{ℕ, List, IsTrue};
+
+    ghost Value = { List ℕ };
+
+    ghost use Rattle.pmg_value.specs.Names.{is_nspace};
+
+    ghost view = { λ a. a.name };
+
+    ghost invariant = { λ a. IsTrue (is_nspace a.name) };
+
+    ghost inverse = { λ v. record { name = v } };
+}
+
+/// A key: 1 to 511 bytes of 0x20 to 0x7E (PMIx Standard 5.0, pmix_key_t). Its order is that of its
+/// bytes. A copy shares the bytes.
+#[derive(Debug, Drop, PartialEq, Eq, PartialOrd, Ord)]
+pub struct Key {
+    text: Bytes,
+}
+
+impl Model for Key {
+    ghost use Rattle.std.specs.Prelude.{ℕ, List, IsTrue};
+
+    ghost Value = { List ℕ };
+
+    ghost use Rattle.pmg_value.specs.Names.{is_key};
+
+    ghost view = { λ a. a.text };
+
+    ghost invariant = { λ a. IsTrue (is_key a.text) };
+
+    ghost inverse = { λ v. record { text = v } };
+}
+
+fn all_graphic(name: &[u8]) -> bool
+    ensures { result ≡ list_all is_graphic name.now }
+{
+    name.iter().all(|b| 0x21 <= *b && *b <= 0x7E)
+}
+
+fn all_printable(key: &[u8]) -> bool
+    ensures { result ≡ list_all is_printable key.now }
+{
+    key.iter().all(|b| 0x20 <= *b && *b <= 0x7E)
+}
+
+/// Whether the bytes are a namespace's name: 1 to 255 bytes of 0x21 to 0x7E.
+pub fn is_nspace_name(name: &[u8]) -> bool
+    ensures { result ≡ is_nspace name.now }
+{
+    0 < name.len() && name.len() <= MAX_NSPACE_LEN && all_graphic(name)
+}
+
+/// Whether the bytes are a key: 1 to 511 bytes of 0x20 to 0x7E.
+pub fn is_key_text(key: &[u8]) -> bool
+    ensures { result ≡ is_key key.now }
+{
+    0 < key.len() && key.len() <= MAX_KEY_LEN && all_printable(key)
+}
+
+/// Whether a name or a key begins with `pmix`, as those do that the standard keeps.
+pub fn is_reserved_name(name: &[u8]) -> bool
+    ensures { result ≡ is_reserved name.now }
+{
+    name.starts_with(b"pmix")
+}
+
+impl Nspace {
+    /// Reads the name of a namespace that may be registered: it does not begin with `pmix`. Refused
+    /// as BadParam where the bytes are no such name, and as NoMemory.
+    pub fn read(alloc: Global, name: &[u8]) -> Result<Nspace, Refusal>
+        ensures { Gives (λ n. n) result
+            (if is_nspace name.now && not (is_reserved name.now) then Ok name.now else Err refusals.BadParam) }
+    {
+        if is_reserved_name(name) {
+            return Err(Refusal::BadParam);
+        }
+        Nspace::read_any(alloc, name)
+    }
+
+    /// Reads the name of any namespace, also of one that begins with `pmix`. Refused as BadParam where
+    /// the bytes are no name, and as NoMemory.
+    pub fn read_any(alloc: Global, name: &[u8]) -> Result<Nspace, Refusal>
+        ensures { Gives (λ n. n) result (if is_nspace name.now then Ok name.now else Err refusals.BadParam) }
+    {
+        if !is_nspace_name(name) {
+            return Err(Refusal::BadParam);
+        }
+        Ok(Nspace::from_name(alloc, name)?)
+    }
+
+    /// The namespace of a name that was tested already.
+    pub fn from_name(alloc: Global, name: &[u8]) -> Result<Nspace, AllocError>
+        requires { IsTrue (is_nspace name.now) }
+        ensures { IfOk result (λ n. n ≡ name.now) }
+    {
+        Ok(Nspace {
+            name: Bytes::copy_from_slice(alloc, name)?,
+        })
+    }
+
+    /// The name's bytes.
+    pub fn as_bytes(&self) -> &[u8]
+        ensures value { result.now ≡ self.now }
+        ensures name { IsTrue (is_nspace result.now) }
+    {
+        self.name.as_slice()
+    }
+
+    /// Whether the name begins with `pmix`.
+    pub fn is_reserved(&self) -> bool
+        ensures { result ≡ is_reserved self.now }
+    {
+        is_reserved_name(self.as_bytes())
+    }
+
+    /// Another handle of the same name.
+    pub fn copy(&self) -> Result<Nspace, AllocError>
+        ensures { IfOk result (λ n. n ≡ self.now) }
+    {
+        Ok(Nspace {
+            name: self.name.clone()?,
+        })
+    }
+}
+
+impl Key {
+    /// Reads a key that a process may put: it does not begin with `pmix`. Refused as BadParam where the
+    /// bytes are no such key, and as NoMemory.
+    pub fn read(alloc: Global, key: &[u8]) -> Result<Key, Refusal>
+        ensures { Gives (λ k. k) result
+            (if is_key key.now && not (is_reserved key.now) then Ok key.now else Err refusals.BadParam) }
+    {
+        if is_reserved_name(key) {
+            return Err(Refusal::BadParam);
+        }
+        Key::read_any(alloc, key)
+    }
+
+    /// Reads any key, also one that begins with `pmix`. Refused as BadParam where the bytes are no key,
+    /// and as NoMemory.
+    pub fn read_any(alloc: Global, key: &[u8]) -> Result<Key, Refusal>
+        ensures { Gives (λ k. k) result (if is_key key.now then Ok key.now else Err refusals.BadParam) }
+    {
+        if !is_key_text(key) {
+            return Err(Refusal::BadParam);
+        }
+        Ok(Key::from_text(alloc, key)?)
+    }
+
+    /// The key of a text that was tested already.
+    pub fn from_text(alloc: Global, key: &[u8]) -> Result<Key, AllocError>
+        requires { IsTrue (is_key key.now) }
+        ensures { IfOk result (λ k. k ≡ key.now) }
+    {
+        Ok(Key {
+            text: Bytes::copy_from_slice(alloc, key)?,
+        })
+    }
+
+    /// The key's bytes.
+    pub fn as_bytes(&self) -> &[u8]
+        ensures value { result.now ≡ self.now }
+        ensures key { IsTrue (is_key result.now) }
+    {
+        self.text.as_slice()
+    }
+
+    /// Whether the key begins with `pmix`.
+    pub fn is_reserved(&self) -> bool
+        ensures { result ≡ is_reserved self.now }
+    {
+        is_reserved_name(self.as_bytes())
+    }
+
+    /// Another handle of the same key.
+    pub fn copy(&self) -> Result<Key, AllocError>
+        ensures { IfOk result (λ k. k ≡ self.now) }
+    {
+        Ok(Key {
+            text: self.text.clone()?,
+        })
+    }
+}

@@ -1,0 +1,136 @@
+ghost use Rattle.std.specs.Prelude.{◌≡◌, ◌≤◌, nat_le, if◌then◌else◌, IfOk};
+ghost use Rattle.pmg_value.specs.Process.{is_client, is_host};
+ghost use Rattle.pmg_value.specs.declared.refusal.Refusal.TheVariants as refusals;
+
+use crate::names::Nspace;
+use crate::refusal::Refusal;
+use std::alloc::AllocError;
+use std::marker::Model;
+
+/// The greatest index of a node: a group has at most 64.
+pub const MAX_NODE: u32 = 63;
+
+/// The greatest rank of a registered process: a namespace has at most 4,096.
+pub const MAX_RANK: u32 = 4095;
+
+/// The namespace of the process that stands for the group's host, whose rank is 0.
+pub const HOST_NAME: &[u8] = b"pmix.host";
+
+/// A process's rank in its namespace (PMIx Standard 5.0, pmix_rank_t).
+#[derive(Clone, Copy, Debug, PartialEq, Eq, PartialOrd, Ord)]
+pub struct Rank {
+    number: u32,
+}
+
+impl Model for Rank {
+    ghost use Rattle.std.specs.Prelude.{ℕ};
+
+    ghost Value = { ℕ };
+
+    ghost view = { λ a. a.number };
+
+    ghost inverse = { λ n. record { number = n } };
+}
+
+impl Rank {
+    /// No rank is named (PMIX_RANK_UNDEF).
+    pub const UNDEF: u32 = 4294967295;
+
+    /// All ranks of the namespace (PMIX_RANK_WILDCARD).
+    pub const WILDCARD: u32 = 4294967294;
+
+    /// The rank of this number.
+    pub fn new(number: u32) -> Rank
+        ensures { result ≡ number }
+    {
+        Rank { number }
+    }
+
+    /// The rank's number.
+    pub fn number(self) -> u32
+        ensures { result ≡ self }
+    {
+        self.number
+    }
+}
+
+/// A process: its namespace and its rank (PMIx Standard 5.0, pmix_proc_t). Processes are ordered by the
+/// bytes of their namespace, then by rank.
+#[derive(Debug, Drop, PartialEq, Eq, PartialOrd, Ord)]
+pub struct Proc {
+    pub nspace: Nspace,
+    pub rank: Rank,
+}
+
+impl Proc {
+    /// The process of this rank in this namespace.
+    pub fn new(nspace: Nspace, rank: Rank) -> Proc
+        ensures nspace { result.nspace ≡ nspace }
+        ensures rank { result.rank ≡ rank }
+    {
+        Proc { nspace, rank }
+    }
+
+    /// Whether a group may register the process: the namespace does not begin with `pmix`, and the rank
+    /// is at most 4095.
+    pub fn is_client(&self) -> bool
+        ensures { result ≡ is_client self.now }
+    {
+        !self.nspace.is_reserved() && self.rank.number() <= MAX_RANK
+    }
+
+    /// Whether it is the process `pmix.host 0`, which stands for the group's host.
+    pub fn is_host(&self) -> bool
+        ensures { result ≡ is_host self.now }
+    {
+        self.nspace.as_bytes() == HOST_NAME && self.rank.number() == 0
+    }
+
+    /// Another handle of the same process.
+    pub fn copy(&self) -> Result<Proc, AllocError>
+        ensures { IfOk result (λ p. p ≡ self.now) }
+    {
+        Ok(Proc {
+            nspace: self.nspace.copy()?,
+            rank: self.rank,
+        })
+    }
+}
+
+/// A node of the group, by its index from 0.
+#[derive(Clone, Copy, Debug, PartialEq, Eq, PartialOrd, Ord)]
+pub struct NodeId {
+    index: u32,
+}
+
+impl Model for NodeId {
+    ghost use Rattle.std.specs.Prelude.{ℕ, ◌≤◌};
+
+    ghost Value = { ℕ };
+
+    ghost view = { λ a. a.index };
+
+    ghost invariant = { λ a. a.index ≤ 63 };
+
+    ghost inverse = { λ n. record { index = n } };
+}
+
+impl NodeId {
+    /// The node of this index. Refused as BadParam past 63.
+    pub fn new(index: u32) -> Result<NodeId, Refusal>
+        ensures { result ≡ (if nat_le index 63 then Ok index else Err refusals.BadParam) }
+    {
+        if index > MAX_NODE {
+            return Err(Refusal::BadParam);
+        }
+        Ok(NodeId { index })
+    }
+
+    /// The node's index.
+    pub fn index(self) -> u32
+        ensures value { result ≡ self }
+        ensures bound { result ≤ 63 }
+    {
+        self.index
+    }
+}

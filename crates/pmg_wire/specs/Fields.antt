@@ -1,0 +1,65 @@
+-- How keys, processes and values are read.
+use Rattle.std.specs.Prelude.{ℕ, ◌==◌, Bool, true, false, ◌&&◌, ◌||◌, not, nat_lt, nat_le, nat_eq, List, Result, Ok, Err, if◌then◌else◌}
+use Rattle.std.specs.Int.{w16, w32}
+use Rattle.std.specs.Str.{bytes_eq}
+use Rattle.pmg_value.specs.declared.refusal.Cause.TheVariants as causes
+use Rattle.pmg_value.specs.declared.process.Proc.{Proc}
+use Rattle.pmg_value.specs.declared.value.Value.{Value}
+use Rattle.pmg_value.specs.declared.value.Value.TheVariants as values
+use Rattle.pmg_value.specs.Names.{is_nspace, is_reserved, is_key}
+use Rattle.pmg_value.specs.Process.{host_name, is_client, is_host}
+use Rattle.pmg_wire.specs.declared.fields.Admits.{Admits}
+use Rattle.pmg_wire.specs.declared.fields.Admits.TheVariants as admits
+use Rattle.pmg_wire.specs.Reading.{Place, Read, fault, ◌>>=◌, check, bytes_at, byte_at, number_at}
+
+-- a key: two bytes of length, and the key
+unfoldable pub key_at : Place → Read (List ℕ)
+key_at at = do
+  len ← number_at w16 at
+  _ ← check (nat_lt 0 len.0 && nat_le len.0 511) (fault at.offset causes.Key)
+  key ← bytes_at len.0 len.1
+  _ ← check (is_key key.0) (fault at.offset causes.Key)
+  Ok key
+
+-- a process that may stand here
+abbrev pub is_admitted : Admits → Proc → Bool
+is_admitted admits.Clients p = is_client p
+is_admitted admits.ClientsAndHost p = is_client p || is_host p
+
+-- a namespace that may stand here
+abbrev pub is_named : Admits → List ℕ → Bool
+is_named admits.Clients name = is_nspace name && not (is_reserved name)
+is_named admits.ClientsAndHost name = is_nspace name && (not (is_reserved name) || bytes_eq name host_name)
+
+-- a rank that may stand behind the namespace
+abbrev pub is_ranked : List ℕ → ℕ → Bool
+is_ranked name rank = if bytes_eq name host_name then rank == 0 else nat_le rank 4095
+
+-- a process: one byte of length, the namespace, and four bytes of rank
+unfoldable pub proc_at : Admits → Place → Read Proc
+proc_at who at = do
+  len ← byte_at at
+  _ ← check (nat_lt 0 len.0) (fault at.offset causes.Name)
+  name ← bytes_at len.0 len.1
+  _ ← check (is_named who name.0) (fault at.offset causes.Name)
+  rank ← number_at w32 name.1
+  _ ← check (is_ranked name.0 rank.0) (fault name.1.offset causes.Rank)
+  Ok (record { nspace = name.0; rank = rank.0 }, rank.1)
+
+-- a flag: the byte 0 or 1
+unfoldable pub flag_at : Place → Read Bool
+flag_at at = do
+  byte ← byte_at at
+  _ ← check (nat_lt byte.0 2) (fault at.offset causes.Bool)
+  Ok (byte.0 == 1, byte.1)
+
+-- the body of a value with this tag, which stands at that offset
+unfoldable pub body_at : ℕ → ℕ → Place → Read Value
+body_at tag offset at =
+    if tag == 1 then (flag_at at >>= λ b. Ok (values.Bool b.0, b.1))
+    else if tag == 9 then (byte_at at >>= λ n. Ok (values.U8 n.0, n.1))
+    else Err (fault offset causes.Tag)
+
+-- a value: its tag and its body
+unfoldable pub value_at : Place → Read Value
+value_at at = byte_at at >>= λ tag. body_at tag.0 at.offset tag.1

@@ -1,0 +1,25 @@
+-- The grammar: what stands between two places of the bytes.
+use Rattle.std.specs.Prelude.{ℕ, List, IsTrue}
+use Rattle.pmg_value.specs.declared.process.Proc.{Proc}
+use Rattle.pmg_value.specs.declared.value.Value.{Value}
+use Rattle.pmg_value.specs.Names.{is_nspace, is_key}
+use Rattle.pmg_value.specs.Spelling.{spelling}
+use Rattle.pmg_wire.specs.declared.fields.Admits.{Admits}
+use Rattle.pmg_wire.specs.Fields.{is_admitted}
+use Rattle.pmg_wire.specs.Reading.{Place, Takes}
+use Rattle.pmg_wire.specs.Spelling.{key_spelling, proc_spelling}
+
+-- a key, spelled
+pub record SpellsKey (at : Place) (key : List ℕ) (after : Place) : Type 0 where
+  pub takes : Takes at (key_spelling key) after
+  pub is : IsTrue (is_key key)
+
+-- a process that may stand there, spelled
+pub record SpellsProc (who : Admits) (at : Place) (p : Proc) (after : Place) : Type 0 where
+  pub takes : Takes at (proc_spelling p) after
+  pub name : IsTrue (is_nspace p.nspace)
+  pub admitted : IsTrue (is_admitted who p)
+
+-- a value, spelled
+pub record SpellsValue (at : Place) (v : Value) (after : Place) : Type 0 where
+  pub takes : Takes at (spelling v) after

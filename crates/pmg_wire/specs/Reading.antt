@@ -1,0 +1,68 @@
+-- Reading fields from bytes, left to right, with the first fault and its offset.
+use Rattle.std.specs.Prelude.{◌≡◌, ℕ, ◌+◌, ◌<◌, Bool, true, false, nat_lt, List, ◌++◌, length, get_or, take, drop, Result, Ok, Err, if◌then◌else◌}
+use Rattle.std.specs.Int.{Width, byte_len, from_be_bytes}
+use Rattle.pmg_value.specs.declared.refusal.Cause.{Cause}
+use Rattle.pmg_value.specs.declared.refusal.Cause.TheVariants as causes
+use Rattle.pmg_value.specs.declared.refusal.Fault.{Fault}
+use Rattle.pmg_value.specs.declared.refusal.Refusal.{Refusal}
+use Rattle.pmg_value.specs.declared.refusal.Refusal.TheVariants as refusals
+
+-- where reading stands: the offset in the whole, and the bytes that are left
+pub record Place : Type 0 where
+  pub offset : ℕ
+  pub rest : List ℕ
+
+-- the place n bytes on
+abbrev pub past : Place → ℕ → Place
+past at n = record { offset = at.offset + n; rest = drop n at.rest }
+
+-- a fault at an offset
+abbrev pub fault : ℕ → Cause → Fault
+fault offset cause = record { offset = offset; cause = cause }
+
+-- what reading a field gives: the field and the place behind it, or the first fault
+abbrev pub Read : Type 0 → Type 0
+Read X = Result (X × Place) Fault
+
+-- one step of reading, then the next
+infixl 10 ◌>>=◌
+abbrev pub ◌>>=◌ : {A B : Type 0} → Result A Fault → (A → Result B Fault) → Result B Fault
+(Ok x) >>= f = f x
+(Err e) >>= f = Err e
+
+-- a rule that a field has to keep
+abbrev pub check : Bool → Fault → Result (Unit {0}) Fault
+check true f = Ok tt
+check false f = Err f
+
+-- the next n bytes: one field
+unfoldable pub bytes_at : ℕ → Place → Read (List ℕ)
+bytes_at n at = if nat_lt (length at.rest) n then Err (fault at.offset causes.Short) else Ok (take n at.rest, past at n)
+
+-- one byte
+abbrev pub byte_at : Place → Read ℕ
+byte_at at = bytes_at 1 at >>= λ b. Ok (get_or b.0 0 0, b.1)
+
+-- a big-endian number of that width
+abbrev pub number_at : Width → Place → Read ℕ
+number_at w at = bytes_at (byte_len w) at >>= λ b. Ok (from_be_bytes w b.0, b.1)
+
+-- each item is a byte
+abbrev pub IsBytes : List ℕ → Type 0
+IsBytes bytes = (i : ℕ) → get_or bytes i 0 < 256
+
+-- Reading fails with this refusal. Want of memory is left open; a reader gives no other refusal than a fault.
+abbrev pub FailsReading : {Y : Type 0} → Refusal → Result Y Fault → Type 0
+FailsReading refusals.NoMemory read = Unit {0}
+FailsReading (refusals.BadFrame f) read = read ≡ Err f
+FailsReading e read = ⊥
+
+-- What a reader answered, seen by view, and where it left the cursor, are what reading gives, unless memory ran out.
+abbrev pub Reads : {X Y : Type 0} → (X → Y) → Result X Refusal → Place → Read Y → Type 0
+Reads view (Ok x) new read = read ≡ Ok (view x, new)
+Reads view (Err e) new read = FailsReading e read
+
+-- From one place to a later one stands this text.
+pub record Takes (at : Place) (text : List ℕ) (after : Place) : Type 0 where
+  pub parts : at.rest ≡ text ++ after.rest
+  pub place : after.offset ≡ at.offset + length text

@@ -1,0 +1,124 @@
+ghost use Rattle.std.specs.Prelude.{◌≡◌, ◌+◌, ◌<◌, ◌^◌, length, IfOk, OnErr};
+ghost use Rattle.std.specs.Int.{w16, w32, w64};
+ghost use Rattle.pmg_wire.specs.Reading.{Place, IsBytes, Reads, fault, bytes_at, byte_at, number_at};
+ghost use Rattle.pmg_value.specs.declared.refusal.Refusal.TheVariants as refusals;
+
+use pmg_value::{Cause, Fault, Refusal};
+use std::marker::Model;
+
+/// A place in bytes that are read from left to right: the offset in the whole, and the bytes left.
+#[derive(Drop)]
+pub struct Cursor<'a> {
+    offset: u64,
+    bytes: &'a [u8],
+}
+
+impl<'a> Model for Cursor<'a> {
+    ghost use Rattle.std.specs.Prelude.{◌+◌, ◌<◌, ◌^◌, length};
+    ghost use Rattle.pmg_wire.specs.Reading.{Place, IsBytes};
+
+    ghost Value = { Place };
+
+    ghost view = { λ a. record { offset = a.offset; rest = a.bytes.now } };
+
+    ghost invariant = { λ a. (a.offset + length a.bytes.now < 2 ^ 64) × IsBytes a.bytes.now };
+}
+
+impl<'a> Cursor<'a> {
+    /// Reading of these bytes, the first of which stands at that offset of the whole.
+    pub fn new(offset: u64, bytes: &'a [u8]) -> Cursor<'a>
+        requires { offset + length bytes.now < 2 ^ 64 }
+        ensures offset { result.offset ≡ offset }
+        ensures rest { result.rest ≡ bytes.now }
+    {
+        Cursor { offset, bytes }
+    }
+
+    /// The offset of the next byte.
+    pub fn offset(&self) -> u64
+        ensures value { result ≡ self.now.offset }
+        ensures fits { self.now.offset + length self.now.rest < 2 ^ 64 }
+        ensures bytes { IsBytes self.now.rest }
+    {
+        self.offset
+    }
+
+    /// The bytes that are left.
+    pub fn rest(&self) -> &'a [u8]
+        ensures { result.now ≡ self.now.rest }
+    {
+        self.bytes
+    }
+
+    /// A second cursor at the same place.
+    pub fn fork(&self) -> Cursor<'a>
+        ensures place { result ≡ self.now }
+        ensures bytes { IsBytes self.now.rest }
+    {
+        Cursor {
+            offset: self.offset,
+            bytes: self.bytes,
+        }
+    }
+
+    /// The refusal of what stands at an offset.
+    pub fn refuse(offset: u64, cause: Cause) -> Refusal
+        ensures { result ≡ refusals.BadFrame (fault offset cause) }
+    {
+        Refusal::BadFrame(Fault { offset, cause })
+    }
+
+    /// The next bytes, so many of them. Refused as Short at their place where fewer are left.
+    #[tactic(auto, unfolding(crate::specs::Reading::bytes_at))]
+    pub fn take(&mut self, count: usize) -> Result<&'a [u8], Refusal>
+        ensures read { Reads (λ s. s.now) result self.new (bytes_at count self.old) }
+        ensures len { IfOk result (λ s. length s.now ≡ count) }
+        ensures err { OnErr result (self.new ≡ self.old) }
+    {
+        if self.bytes.len() < count {
+            return Err(Cursor::refuse(self.offset, Cause::Short));
+        }
+        let (front, rest) = self.bytes.split_at(count);
+        self.offset += count as u64;
+        self.bytes = rest;
+        Ok(front)
+    }
+
+    /// The next byte. Refused as Short at its place.
+    pub fn get_u8(&mut self) -> Result<u8, Refusal>
+        ensures read { Reads (λ n. n) result self.new (byte_at self.old) }
+        ensures err { OnErr result (self.new ≡ self.old) }
+    {
+        let bytes = self.take(1)?;
+        Ok(bytes[0])
+    }
+
+    /// The next big-endian number of two bytes. Refused as Short at its place.
+    pub fn get_u16(&mut self) -> Result<u16, Refusal>
+        ensures read { Reads (λ n. n) result self.new (number_at w16 self.old) }
+        ensures err { OnErr result (self.new ≡ self.old) }
+    {
+        let bytes = self.take(2)?;
+        Ok(u16::from_be_bytes([bytes[0], bytes[1]]))
+    }
+
+    /// The next big-endian number of four bytes. Refused as Short at its place.
+    pub fn get_u32(&mut self) -> Result<u32, Refusal>
+        ensures read { Reads (λ n. n) result self.new (number_at w32 self.old) }
+        ensures err { OnErr result (self.new ≡ self.old) }
+    {
+        let bytes = self.take(4)?;
+        Ok(u32::from_be_bytes([bytes[0], bytes[1], bytes[2], bytes[3]]))
+    }
+
+    /// The next big-endian number of eight bytes. Refused as Short at its place.
+    pub fn get_u64(&mut self) -> Result<u64, Refusal>
+        ensures read { Reads (λ n. n) result self.new (number_at w64 self.old) }
+        ensures err { OnErr result (self.new ≡ self.old) }
+    {
+        let bytes = self.take(8)?;
+        Ok(u64::from_be_bytes([
+            bytes[0], bytes[1], bytes[2], bytes[3], bytes[4], bytes[5], bytes[6], bytes[7],
+        ]))
+    }
+}

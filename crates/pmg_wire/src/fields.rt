@@ -1,0 +1,164 @@
+ghost use Rattle.std.specs.Prelude.{◌≡◌, ℕ, List, IfOk, OnErr};
+ghost use Rattle.pmg_wire.specs.Grammar.{SpellsKey, SpellsProc, SpellsValue};
+ghost use Rattle.pmg_wire.specs.Reading.{Place, Reads};
+ghost use Rattle.pmg_wire.specs.Fields.{is_admitted, is_named, is_ranked, flag_at, key_at, proc_at, body_at, value_at};
+
+use crate::cursor::Cursor;
+use pmg_value::{
+    Cause, HOST_NAME, Key, MAX_KEY_LEN, MAX_RANK, Nspace, Proc, Rank, Refusal, Value, is_key_text,
+    is_nspace_name, is_reserved_name,
+};
+use std::alloc::Global;
+
+/// Which processes may stand at a place.
+#[derive(Clone, Copy, Debug, PartialEq, Eq)]
+pub enum Admits {
+    /// Processes that a group may register.
+    Clients,
+    /// These, and the process `pmix.host 0` that stands for the host.
+    ClientsAndHost,
+}
+
+impl Admits {
+    /// Whether the process may stand at such a place.
+    pub fn admits(self, process: &Proc) -> bool
+        ensures { result ≡ is_admitted self process.now }
+    {
+        match self {
+            Admits::Clients => process.is_client(),
+            Admits::ClientsAndHost => process.is_client() || process.is_host(),
+        }
+    }
+
+    fn admits_name(self, name: &[u8]) -> bool
+        ensures { result ≡ is_named self name.now }
+    {
+        match self {
+            Admits::Clients => is_nspace_name(name) && !is_reserved_name(name),
+            Admits::ClientsAndHost => is_nspace_name(name)
+                && (!is_reserved_name(name) || name == HOST_NAME),
+        }
+    }
+}
+
+/// Reads a flag, the byte 0 or 1.
+#[tactic(auto, unfolding(crate::specs::Fields::flag_at))]
+pub fn get_flag(at: &mut Cursor<'_>) -> Result<bool, Refusal>
+    ensures read { Reads (λ b. b) result at.new (flag_at at.old) }
+{
+    let start = at.offset();
+    let byte = at.get_u8()?;
+    if byte > 1 {
+        return Err(Cursor::refuse(start, Cause::Bool));
+    }
+    Ok(byte == 1)
+}
+
+#[tactic(auto, unfolding(crate::specs::Fields::key_at))]
+fn key_of(alloc: Global, at: &mut Cursor<'_>) -> Result<Key, Refusal>
+    ensures { Reads (λ k. k) result at.new (key_at at.old) }
+{
+    let start = at.offset();
+    let len = at.get_u16()? as usize;
+    if len == 0 || len > MAX_KEY_LEN {
+        return Err(Cursor::refuse(start, Cause::Key));
+    }
+    let text = at.take(len)?;
+    if !is_key_text(text) {
+        return Err(Cursor::refuse(start, Cause::Key));
+    }
+    Ok(Key::from_text(alloc, text)?)
+}
+
+/// Reads a key: two bytes of length, and the key. Refused as BadFrame at the first fault: Short, Key;
+/// and as NoMemory. A refusal leaves the cursor where it was.
+pub fn get_key(alloc: Global, at: &mut Cursor<'_>) -> Result<Key, Refusal>
+    ensures found { IfOk result (λ k. SpellsKey at.old k at.new) }
+    ensures only { (k : List ℕ) (after : Place) → SpellsKey at.old k after → Reads (λ k. k) result at.new (Ok (k, after)) }
+    ensures first_fault { Reads (λ k. k) result at.new (key_at at.old) }
+    ensures err { OnErr result (at.new ≡ at.old) }
+{
+    let mut ahead = at.fork();
+    let key = key_of(alloc, &mut ahead)?;
+    *at = ahead;
+    Ok(key)
+}
+
+#[tactic(auto, unfolding(crate::specs::Fields::proc_at))]
+fn proc_of(alloc: Global, admits: Admits, at: &mut Cursor<'_>) -> Result<Proc, Refusal>
+    ensures { Reads (λ p. p) result at.new (proc_at admits at.old) }
+{
+    let start = at.offset();
+    let len = at.get_u8()? as usize;
+    if len == 0 {
+        return Err(Cursor::refuse(start, Cause::Name));
+    }
+    let name = at.take(len)?;
+    if !admits.admits_name(name) {
+        return Err(Cursor::refuse(start, Cause::Name));
+    }
+    let rank_at = at.offset();
+    let rank = at.get_u32()?;
+    if !admits_rank(name, rank) {
+        return Err(Cursor::refuse(rank_at, Cause::Rank));
+    }
+    Ok(Proc::new(Nspace::from_name(alloc, name)?, Rank::new(rank)))
+}
+
+fn admits_rank(name: &[u8], rank: u32) -> bool
+    ensures { result ≡ is_ranked name.now rank }
+{
+    if name == HOST_NAME {
+        rank == 0
+    } else {
+        rank <= MAX_RANK
+    }
+}
+
+/// Reads a process: one byte of length, the namespace, and four bytes of rank. Refused as BadFrame at the
+/// first fault: Short, Name, Rank; and as NoMemory. A refusal leaves the cursor where it was.
+pub fn get_proc(alloc: Global, admits: Admits, at: &mut Cursor<'_>) -> Result<Proc, Refusal>
+    ensures found { IfOk result (λ p. SpellsProc admits at.old p at.new) }
+    ensures only { (p : Proc) (after : Place) → SpellsProc admits at.old p after → Reads (λ p. p) result at.new (Ok (p, after)) }
+    ensures first_fault { Reads (λ p. p) result at.new (proc_at admits at.old) }
+    ensures err { OnErr result (at.new ≡ at.old) }
+{
+    let mut ahead = at.fork();
+    let process = proc_of(alloc, admits, &mut ahead)?;
+    *at = ahead;
+    Ok(process)
+}
+
+#[tactic(auto, unfolding(crate::specs::Fields::body_at))]
+fn body_of(tag: u8, offset: u64, at: &mut Cursor<'_>) -> Result<Value, Refusal>
+    ensures { Reads (λ v. v) result at.new (body_at tag offset at.old) }
+{
+    match tag {
+        1 => Ok(Value::Bool(get_flag(at)?)),
+        9 => Ok(Value::U8(at.get_u8()?)),
+        _ => Err(Cursor::refuse(offset, Cause::Tag)),
+    }
+}
+
+#[tactic(auto, unfolding(crate::specs::Fields::value_at))]
+fn value_of(at: &mut Cursor<'_>) -> Result<Value, Refusal>
+    ensures { Reads (λ v. v) result at.new (value_at at.old) }
+{
+    let start = at.offset();
+    let tag = at.get_u8()?;
+    body_of(tag, start, at)
+}
+
+/// Reads a value: its tag, and a body of the tag's form. Refused as BadFrame at the first fault: Short,
+/// Tag, Bool. A refusal leaves the cursor where it was.
+pub fn get_value(at: &mut Cursor<'_>) -> Result<Value, Refusal>
+    ensures found { IfOk result (λ v. SpellsValue at.old v at.new) }
+    ensures only { (v : Value) (after : Place) → SpellsValue at.old v after → Reads (λ v. v) result at.new (Ok (v, after)) }
+    ensures first_fault { Reads (λ v. v) result at.new (value_at at.old) }
+    ensures err { OnErr result (at.new ≡ at.old) }
+{
+    let mut ahead = at.fork();
+    let value = value_of(&mut ahead)?;
+    *at = ahead;
+    Ok(value)
+}

@@ -1,0 +1,10 @@
+//! Names, keys and values as bytes: each has one spelling, and a fault in bytes is the first one.
+#![tactic(auto)]
+
+mod cursor;
+mod fields;
+mod put;
+
+pub use cursor::Cursor;
+pub use fields::{Admits, get_flag, get_key, get_proc, get_value};
+pub use put::{put_key, put_proc, put_value};
