@@ -1,2 +1,4 @@
+pub mod Dumps
 pub mod Input
 pub mod Outcomes
+pub mod Stream

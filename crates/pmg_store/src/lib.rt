@@ -3,8 +3,10 @@
 
 mod failure;
 mod input;
+mod stream;
 #[cfg(test)]
 mod tests;
 
 pub use failure::Failure;
 pub use input::{INPUT_LIMIT, read_input};
+pub use stream::dump_stream;
