@@ -3,7 +3,7 @@ ghost use Rattle.std.specs.Prelude.{IfSome};
 ghost use Rattle.pmg_store.specs.Outcomes.{Dumps};
 ghost use Rattle.pmg_app.specs.Output.{Runs, dump_output, text_dump};
 
-use crate::report::report;
+use crate::reporting::report;
 use crate::text::decode_text;
 use pmg_store::{Failure, dump_stream, read_input};
 use std::alloc::Global;

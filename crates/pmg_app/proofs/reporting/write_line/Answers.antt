@@ -2,7 +2,7 @@ use Rattle.std.proofs.Common.{rules, codes, ◌++◌}
 use Rattle.pmg_value.specs.RefusalText.{refusal_text}
 use Rattle.pmg_value.proofs.WrittenLemmas.{front_of_first, front_of_second, appends_then, ok_then}
 use Rattle.pmg_app.specs.Output.{failure_line}
-use Rattle.pmg_app.proofs.report.write_line.Goals as goal
+use Rattle.pmg_app.proofs.reporting.write_line.Goals as goal
 
 pub returns-in_err-put_text-in-Refused : goal.returns-in_err-put_text-in-Refused
 unfolding failure_line
