@@ -1,3 +1,4 @@
 pub mod Converging
 pub mod Covering
+pub mod OutcomeLemmas
 pub mod Telling

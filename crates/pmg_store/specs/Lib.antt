@@ -1,2 +1,6 @@
 pub mod Pieces
 pub mod Convergence
+pub mod Dumps
+pub mod Input
+pub mod Outcomes
+pub mod Stream

@@ -1,11 +1,19 @@
-//! Stores: what is known of all processes, from pieces in any order.
+//! Stores: what is known of all processes from pieces in any order, and what a stream of frames tells.
 #![tactic(auto)]
 
+mod failure;
+mod input;
 mod laws;
 mod store;
+mod stream;
 
+pub use failure::Failure;
+pub use input::{INPUT_LIMIT, read_input};
 pub use laws::pieces_in_any_order;
 pub use store::Store;
+pub use stream::dump_stream;
 
 #[cfg(test)]
-mod tests;
+mod input_tests;
+#[cfg(test)]
+mod store_tests;

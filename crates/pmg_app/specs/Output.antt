@@ -1,0 +1,60 @@
+-- What a command prints, and the status that it ends with.
+use Rattle.std.specs.Prelude.{◌≡◌, ℕ, List, [], ◌++◌, ◌⊎◌, codes, Ok, Err}
+use Rattle.std.specs.declared.option.Option.{Option}
+use Rattle.std.specs.declared.result.Result.{Result}
+use Rattle.std.specs.Io.KnownBytes.{Appends}
+use Rattle.pmg_value.specs.declared.refusal.Fault.{Fault}
+use Rattle.pmg_value.specs.declared.refusal.Refusal.TheVariants.{NoMemory, BadFrame}
+use Rattle.pmg_value.specs.RefusalText.{refusal_text}
+use Rattle.pmg_value.specs.Written.{AppendsFront}
+use Rattle.pmg_store.specs.declared.failure.Failure.{Failure}
+use Rattle.pmg_store.specs.declared.failure.Failure.TheVariants.{Refused, Read, Write}
+use Rattle.pmg_store.specs.Dumps.{dump_of}
+use Rattle.pmg_store.specs.Input.{input_of}
+use Rattle.pmg_wire.specs.Reading.{◌>>=◌}
+use Rattle.pmg_app.specs.Text.{decoded}
+
+-- a status, and what is printed
+pub record Output : Type 0 where
+  pub status : ℕ
+  pub printed : List ℕ
+
+-- 3 where memory was wanting, and else 1
+abbrev pub failure_status : Failure → ℕ
+failure_status (Refused NoMemory) = 3
+failure_status _ = 1
+
+-- the line of a failure; none where the writer failed
+unfoldable pub failure_line : Failure → List ℕ
+failure_line (Refused refusal) = codes "refused " ++ refusal_text refusal ++ codes "\n"
+failure_line Read = codes "read fault\n"
+failure_line Write = []
+
+-- what is printed at a failure
+abbrev pub failure_output : Failure → Output
+failure_output failure = record { status = failure_status failure; printed = failure_line failure }
+
+-- the output is printed; or the writer failed, with status 1 and a front of it printed
+abbrev pub Prints : Option (List ℕ) → Option (List ℕ) → ℕ → Output → Type 0
+Prints old new status output =
+    ((status ≡ output.status) × Appends old new output.printed)
+    ⊎ ((status ≡ 1) × AppendsFront old new output.printed)
+
+-- the output that is due is printed; or what is printed where memory was wanting, or where the reader failed
+abbrev pub Runs : Option (List ℕ) → Option (List ℕ) → ℕ → Output → Type 0
+Runs old new status due =
+    Prints old new status due
+    ⊎ (Prints old new status (failure_output (Refused NoMemory)) ⊎ Prints old new status (failure_output Read))
+
+-- a text is printed with status 0, a fault as a refusal
+abbrev pub output_of : Result (List ℕ) Fault → Output
+output_of (Ok text) = record { status = 0; printed = text }
+output_of (Err fault) = failure_output (Refused (BadFrame fault))
+
+-- the dump of the frames that a text spells, or the first fault
+unfoldable pub text_dump : List ℕ → Result (List ℕ) Fault
+text_dump text = input_of text >>= λ kept. decoded kept >>= dump_of
+
+-- what `dump` prints for a text
+abbrev pub dump_output : List ℕ → Output
+dump_output text = output_of (text_dump text)

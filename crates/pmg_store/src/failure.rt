@@ -1,0 +1,46 @@
+//! Why a call that reads, decodes and writes has failed.
+ghost use Rattle.std.specs.Prelude.{◌≡◌};
+ghost use Rattle.pmg_value.specs.declared.refusal.Refusal.TheVariants.{NoMemory};
+ghost use Rattle.pmg_store.specs.declared.failure.Failure.TheVariants.{Refused};
+
+use pmg_value::Refusal;
+use std::alloc::{AllocError, AllocFailed};
+use thiserror::Error;
+
+/// Why a call that reads from a reader and writes to a writer has failed.
+#[derive(Clone, Copy, Debug, PartialEq, Eq, Error)]
+pub enum Failure {
+    /// The call was refused: its input is faulty, or memory was wanted and not given.
+    #[error("refused {0}")]
+    Refused(Refusal),
+    /// The reader failed.
+    #[error("read fault")]
+    Read,
+    /// The writer failed.
+    #[error("write fault")]
+    Write,
+}
+
+impl From<Refusal> for Failure {
+    ghost from_gives = { λ refusal e. e ≡ Refused refusal };
+
+    fn from(refusal: Refusal) -> Failure {
+        Failure::Refused(refusal)
+    }
+}
+
+impl From<AllocError> for Failure {
+    ghost from_gives = { λ _ e. e ≡ Refused NoMemory };
+
+    fn from(_e: AllocError) -> Failure {
+        Failure::Refused(Refusal::NoMemory)
+    }
+}
+
+impl<T: Drop> From<AllocFailed<T>> for Failure {
+    ghost from_gives = { λ _ e. e ≡ Refused NoMemory };
+
+    fn from(_e: AllocFailed<T>) -> Failure {
+        Failure::Refused(Refusal::NoMemory)
+    }
+}
