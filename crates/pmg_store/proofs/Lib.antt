@@ -1,4 +1,6 @@
 pub mod Converging
 pub mod Covering
+pub mod Ordered
 pub mod OutcomeLemmas
+pub mod ReadTable
 pub mod Telling

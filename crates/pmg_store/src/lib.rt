@@ -1,6 +1,7 @@
 //! Stores: what is known of all processes from pieces in any order, and what a stream of frames tells.
 #![tactic(auto)]
 
+mod dump;
 mod failure;
 mod input;
 mod laws;

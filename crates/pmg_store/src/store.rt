@@ -164,7 +164,7 @@ fn level_in(pieces: &[Piece], proc: &Proc) -> u64
 }
 
 /// The piece's entries if it is of the process, else none.
-fn entries_told<'a>(piece: &'a Piece, proc: &Proc) -> &'a [PieceEntry]
+pub fn entries_told<'a>(piece: &'a Piece, proc: &Proc) -> &'a [PieceEntry]
     ensures { map entry_of result.now ≡ told_entries proc.now piece.now }
 {
     if is_piece_of(piece, proc) {
