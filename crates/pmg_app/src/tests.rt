@@ -87,7 +87,7 @@ fn a_fault_prints_its_line_alone(rt: HostRuntime) {
         ("010\n", "refused 10 BadFrame: Hex at 4\n"),
         ("0 g-", "refused 10 BadFrame: Hex at 4\n"),
         (" 0 g", "refused 10 BadFrame: Hex at 3\n"),
-        ("020100000000", "refused 10 BadFrame: Version at 0\n"),
+        ("030100000000", "refused 10 BadFrame: Version at 0\n"),
     ];
     for (text, want) in cases {
         let mut printed = Vec::new(rt.alloc());

@@ -8,5 +8,5 @@ mod stream;
 mod tests;
 
 pub use failure::Failure;
-pub use input::{INPUT_LIMIT, read_input};
+pub use input::{Counted, INPUT_LIMIT, MOST_READS, read_counted, read_input};
 pub use stream::dump_stream;
