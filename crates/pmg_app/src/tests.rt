@@ -1,6 +1,7 @@
 //! What no clause says: that input is read and printed, and what readers and writers that fail leave.
 use crate::dump::run_dump;
 use crate::text::decode_text;
+use pmg_value::Refusal;
 use std::alloc::Global;
 use std::io;
 use std::io::{ErrorKind, Read, Write};
@@ -66,17 +67,16 @@ impl Write for FailingWriter {
 }
 
 #[test]
-fn text_is_decoded_in_either_case_and_without_blanks(rt: HostRuntime) {
-    for (text, want) in [
+fn text_is_decoded_in_either_case_and_without_blanks(rt: HostRuntime) -> Result<(), Refusal> {
+    let cases = [
         ("", b"".as_slice()),
         (" 0aF9\t\r\n9\n f \n", b"\x0a\xf9\x9f".as_slice()),
-    ] {
-        let bytes = decode_text(rt.alloc(), text.as_bytes());
-        assert!(rt;
-            matches!(bytes, Ok(bytes) if bytes.as_slice() == want),
-            "{text}"
-        );
+    ];
+    for (text, want) in cases {
+        let bytes = decode_text(rt.alloc(), text.as_bytes())?;
+        assert_eq!(rt; bytes.as_slice(), want, "{text}");
     }
+    Ok(())
 }
 
 #[test]
