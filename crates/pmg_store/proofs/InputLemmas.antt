@@ -1,6 +1,6 @@
 -- What was read of known bytes, at the end and past the limit.
-use Rattle.std.proofs.Common.{◌≡◌, ℕ, List, [], ◌+◌, ◌++◌, ◌<◌, ◌≤◌, length, length-append, append-nil, refl, sym, subst, ap, ◌∙◌, arith, rules, Ok, Err, None, Some, nat_le, true, false}
-use Rattle.std.specs.Prelude.{IfSome, if◌then◌else◌}
+use Rattle.std.proofs.Common.{◌≡◌, ℕ, List, [], ◌+◌, ◌++◌, ◌<◌, ◌≤◌, length, length-append, append-nil, ap, ◌∙◌, arith, Ok, Err, None, Some}
+use Rattle.std.specs.Prelude.{IfSome}
 use Rattle.std.specs.declared.option.Option.{Option}
 use Rattle.std.specs.Io.KnownBytes.{Consumes, IsAtEnd}
 use Rattle.std.proofs.lemmas.Grind.{common_steps}

@@ -1,5 +1,5 @@
 -- Steps that read, one after another, and then a step that writes.
-use Rattle.std.proofs.Common.{◌≡◌, ℕ, List, refl, rules, Ok, Err, None, Some}
+use Rattle.std.proofs.Common.{◌≡◌, ℕ, List, refl, Ok, None, Some}
 use Rattle.std.specs.declared.option.Option.{Option}
 use Rattle.std.specs.declared.result.Result.{Result}
 use Rattle.std.specs.Io.KnownBytes.{Keeps}

@@ -1,4 +1,4 @@
-use Rattle.std.proofs.Common.{◌≡◌, ◌<◌, ◌≤◌, ℕ, rules, take, length, length-take, arith, refl}
+use Rattle.std.proofs.Common.{◌≡◌, ◌≤◌, take, length, length-take, arith, refl}
 use Rattle.pmg_store.specs.declared.input.TheConstants.{INPUT_LIMIT}
 use Rattle.pmg_store.proofs.InputLemmas.{all_read, too_much_read}
 use Rattle.pmg_store.proofs.input.read_by_chunks.Goals as goal

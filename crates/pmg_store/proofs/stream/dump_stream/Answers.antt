@@ -1,9 +1,8 @@
-use Rattle.std.proofs.Common.{rules, refl, sym, Ok, Err}
+use Rattle.std.proofs.Common.{refl, Ok, Err}
 use Rattle.std.proofs.lemmas.Result.{err_from_is_err_and}
 use Rattle.pmg_store.specs.Dumps.{dump_of, unless}
 use Rattle.pmg_store.specs.Input.{input_of}
 use Rattle.pmg_store.specs.Stream.{stream_fault, stream_dump}
-use Rattle.pmg_store.specs.declared.failure.Failure.{Failure}
 use Rattle.pmg_store.specs.declared.failure.Failure.TheVariants as failures
 use Rattle.pmg_value.specs.declared.refusal.Refusal.TheVariants as refusals
 use Rattle.pmg_store.proofs.OutcomeLemmas.{known_stops, known_dumps, keeps_same}
