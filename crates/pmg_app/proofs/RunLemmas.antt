@@ -1,5 +1,5 @@
 -- What a command prints, step by step.
-use Rattle.std.proofs.Common.{◌≡◌, ℕ, List, [], ◌++◌, ◌⊎◌, inl, inr, refl, sym, ◌∙◌, subst, take, append-nil, rules, arith, Ok, Err, None, Some}
+use Rattle.std.proofs.Common.{◌≡◌, ℕ, List, [], ◌++◌, inl, inr, refl, subst, take, append-nil, arith, Ok, Err, None, Some}
 use Rattle.std.specs.Prelude.{IfSome}
 use Rattle.std.specs.declared.option.Option.{Option}
 use Rattle.std.specs.declared.result.Result.{Result}

@@ -9,10 +9,6 @@ use Rattle.pmg_value.specs.RefusalText.{refusal_text}
 use Rattle.pmg_value.specs.Written.{AppendsFront}
 use Rattle.pmg_store.specs.declared.failure.Failure.{Failure}
 use Rattle.pmg_store.specs.declared.failure.Failure.TheVariants.{Refused, Read, Write}
-use Rattle.pmg_store.specs.Dumps.{dump_of}
-use Rattle.pmg_store.specs.Input.{input_of}
-use Rattle.pmg_wire.specs.Reading.{◌>>=◌}
-use Rattle.pmg_app.specs.Text.{decoded}
 
 -- a status, and what is printed
 pub record Output : Type 0 where
@@ -50,11 +46,3 @@ Runs old new status due =
 abbrev pub output_of : Result (List ℕ) Fault → Output
 output_of (Ok text) = record { status = 0; printed = text }
 output_of (Err fault) = failure_output (Refused (BadFrame fault))
-
--- the dump of the frames that a text spells, or the first fault
-unfoldable pub text_dump : List ℕ → Result (List ℕ) Fault
-text_dump text = input_of text >>= λ kept. decoded kept >>= dump_of
-
--- what `dump` prints for a text
-abbrev pub dump_output : List ℕ → Output
-dump_output text = output_of (text_dump text)

@@ -1,7 +1,8 @@
 //! The command `dump`.
 ghost use Rattle.std.specs.Prelude.{IfSome};
 ghost use Rattle.pmg_store.specs.Outcomes.{Dumps};
-ghost use Rattle.pmg_app.specs.Output.{Runs, dump_output, text_dump};
+ghost use Rattle.pmg_app.specs.Dump.{text_dump, dump_output};
+ghost use Rattle.pmg_app.specs.Output.{Runs};
 
 use crate::reporting::report;
 use crate::text::decode_text;

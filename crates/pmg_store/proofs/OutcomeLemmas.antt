@@ -1,5 +1,5 @@
 -- Steps that read, one after another, and then a step that writes.
-use Rattle.std.proofs.Common.{◌≡◌, ℕ, List, refl, rules, Ok, Err, None, Some}
+use Rattle.std.proofs.Common.{◌≡◌, ℕ, List, refl, Ok, None, Some}
 use Rattle.std.specs.declared.option.Option.{Option}
 use Rattle.std.specs.declared.result.Result.{Result}
 use Rattle.std.specs.Io.KnownBytes.{Keeps}
@@ -14,7 +14,7 @@ use Rattle.pmg_store.specs.Outcomes.{Fails, Stops, Dumps}
 
 -- the refusal of the first step is that of all
 pub refused_first : {A B : Type 0} (refusal : Refusal) (first : Result A Fault) (next : A → Result B Fault) →
-  FailsReading refusal first → FailsReading refusal (first >>= next)
+    FailsReading refusal first → FailsReading refusal (first >>= next)
 refused_first refusals.NoMemory first next fails = tt
 refused_first (refusals.BadFrame fault) first next fails = rw fails refl
 refused_first refusals.BadParam first next fails = absurd fails
@@ -34,14 +34,14 @@ refused_first refusals.Closed first next fails = absurd fails
 
 -- a first step that fails leaves nothing written
 pub stops_first : {A : Type 0} (old new : Option (List ℕ)) (failure : Failure) (first : Result A Fault) (next : A → Result (List ℕ) Fault) →
-  Keeps old new → Fails failure first → Stops old new failure (first >>= next)
+    Keeps old new → Fails failure first → Stops old new failure (first >>= next)
 stops_first old new (failures.Refused refusal) first next keeps fails = (refused_first refusal first next fails, keeps)
 stops_first old new failures.Read first next keeps fails = keeps
 stops_first old new failures.Write first next keeps fails = absurd fails
 
 -- where the first step succeeds, the next one decides
 pub dumps_next : {T A : Type 0} (old new : Option (List ℕ)) (result : Result T Failure) (first : Result A Fault) (x : A) (next : A → Result (List ℕ) Fault) →
-  first ≡ Ok x → Dumps old new result (next x) → Dumps old new result (first >>= next)
+    first ≡ Ok x → Dumps old new result (next x) → Dumps old new result (first >>= next)
 dumps_next old new result first x next is dumps = rw is dumps
 
 -- nothing was written
@@ -51,11 +51,11 @@ keeps_same (Some xs) = refl
 
 -- the same two, at a reader whose bytes may be known: `first` and `next` say what is due for them
 pub known_stops : {A : Type 0} (known old new : Option (List ℕ)) (failure : Failure) (first : List ℕ → Result A Fault) (next : A → Result (List ℕ) Fault) →
-  Keeps old new → IfSome known (λ bytes. Fails failure (first bytes)) → IfSome known (λ bytes. Stops old new failure (first bytes >>= next))
+    Keeps old new → IfSome known (λ bytes. Fails failure (first bytes)) → IfSome known (λ bytes. Stops old new failure (first bytes >>= next))
 known_stops None old new failure first next keeps fails = tt
 known_stops (Some bytes) old new failure first next keeps fails = stops_first old new failure (first bytes) next keeps fails
 
 pub known_dumps : {T A : Type 0} (known old new : Option (List ℕ)) (result : Result T Failure) (first : List ℕ → Result A Fault) (x : A) (next : A → Result (List ℕ) Fault) →
-  IfSome known (λ bytes. first bytes ≡ Ok x) → Dumps old new result (next x) → IfSome known (λ bytes. Dumps old new result (first bytes >>= next))
+    IfSome known (λ bytes. first bytes ≡ Ok x) → Dumps old new result (next x) → IfSome known (λ bytes. Dumps old new result (first bytes >>= next))
 known_dumps None old new result first x next is dumps = tt
 known_dumps (Some bytes) old new result first x next is dumps = dumps_next old new result (first bytes) x next is dumps

@@ -1,5 +1,5 @@
 -- What a call that reads and writes answers, where what is due is known.
-use Rattle.std.specs.Prelude.{◌≡◌, ℕ, List, ⊤, MatchResult, Ok, Err}
+use Rattle.std.specs.Prelude.{◌≡◌, ℕ, List, ⊤, MatchResult, Ok}
 use Rattle.std.specs.declared.option.Option.{Option}
 use Rattle.std.specs.declared.result.Result.{Result}
 use Rattle.std.specs.Io.KnownBytes.{Appends, Keeps}

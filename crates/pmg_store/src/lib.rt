@@ -9,7 +9,7 @@ mod store;
 mod stream;
 
 pub use failure::Failure;
-pub use input::{INPUT_LIMIT, read_input};
+pub use input::{Counted, INPUT_LIMIT, MOST_READS, read_counted, read_input};
 pub use laws::pieces_in_any_order;
 pub use store::Store;
 pub use stream::dump_stream;

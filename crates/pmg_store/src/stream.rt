@@ -33,7 +33,10 @@ fn first_fault(input: &[u8]) -> Option<Fault>
     ensures { result ≡ stream_fault input.now }
 {
     match input.first() {
-        Some(version) if *version != 1 => Some(Fault { offset: 0, cause: Cause::Version }),
+        Some(version) if *version != 1 => Some(Fault {
+            offset: 0,
+            cause: Cause::Version,
+        }),
         _ => None,
     }
 }

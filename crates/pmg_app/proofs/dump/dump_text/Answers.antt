@@ -1,11 +1,11 @@
-use Rattle.std.proofs.Common.{◌≡◌, Ok, Err, rules}
+use Rattle.std.proofs.Common.{Err}
 use Rattle.std.proofs.lemmas.Result.{err_from_is_err_and}
 use Rattle.pmg_store.specs.declared.failure.Failure.TheVariants as failures
 use Rattle.pmg_store.specs.Dumps.{dump_of}
 use Rattle.pmg_store.specs.Input.{input_of}
 use Rattle.pmg_store.proofs.OutcomeLemmas.{known_stops, known_dumps, dumps_next, stops_first, keeps_same}
 use Rattle.pmg_wire.specs.Reading.{◌>>=◌}
-use Rattle.pmg_app.specs.Output.{text_dump}
+use Rattle.pmg_app.specs.Dump.{text_dump}
 use Rattle.pmg_app.specs.Text.{decoded}
 use Rattle.pmg_app.proofs.dump.dump_text.Goals as goal
 

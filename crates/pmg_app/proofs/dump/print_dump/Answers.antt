@@ -1,5 +1,4 @@
-use Rattle.std.proofs.Common.{rules}
-use Rattle.pmg_app.specs.Output.{text_dump}
+use Rattle.pmg_app.specs.Dump.{text_dump}
 use Rattle.pmg_app.proofs.RunLemmas.{known_runs_stopped}
 use Rattle.pmg_app.proofs.dump.print_dump.Goals as goal
 

@@ -1,5 +1,4 @@
-use Rattle.std.proofs.Common.{rules}
-use Rattle.pmg_app.specs.Output.{dump_output}
+use Rattle.pmg_app.specs.Dump.{dump_output}
 use Rattle.pmg_app.proofs.RunLemmas.{known_runs_failed}
 use Rattle.pmg_app.proofs.dump.run_dump.Goals as goal
 

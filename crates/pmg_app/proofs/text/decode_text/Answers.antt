@@ -1,4 +1,4 @@
-use Rattle.std.proofs.Common.{◌≡◌, ◌%◌, length, ℕ, rules, arith, sym}
+use Rattle.std.proofs.Common.{◌≡◌, ◌%◌, length, rules, sym}
 use Rattle.pmg_app.specs.Text.{digits_of}
 use Rattle.pmg_app.proofs.TextLemmas.{odd_text, stray_text, clean_text}
 use Rattle.pmg_app.proofs.text.decode_text.Goals as goal
