@@ -2,22 +2,13 @@
 use Rattle.std.proofs.Common.{List, [], ◌∷◌, ◌++◌, ◌≡◌, map, refl, sym, ap, ◌∙◌}
 use Rattle.std.specs.FinMap as finite
 use Rattle.pmg_value.proofs.ListLemmas.{same_items_map}
-use Rattle.pmg_value.proofs.ProcessOrder.{procs_total, exact_procs}
-use Rattle.pmg_join.specs.Joins.{JoinLaws, join_all}
+use Rattle.pmg_join.specs.Joins.{join_all}
 use Rattle.pmg_join.proofs.ManyJoined.{join_all-append, free_in_order, free_in_grouping}
-use Rattle.pmg_join.proofs.MapsJoined.{maps_joined}
 use Rattle.pmg_commit.specs.Knowledge.{Contribution}
-use Rattle.pmg_commit.specs.Cores.{join_cores}
 use Rattle.pmg_commit.specs.Data.{join_data, of_contribution, absorbed, level_at, read_at}
-use Rattle.pmg_commit.proofs.Joining.{cores_assoc, cores_comm, cores_idem}
+use Rattle.pmg_store.specs.Joining.{data_joined}
 use Rattle.pmg_store.specs.Pieces.{data_of}
 use Rattle.pmg_store.specs.Convergence.{SameInAnyOrder, SameInAnyGrouping, ReadsAlike}
-
-pub cores_joined : JoinLaws join_cores
-cores_joined = record { assoc = cores_assoc; comm = cores_comm; idem = cores_idem }
-
-pub data_joined : JoinLaws join_data
-data_joined = maps_joined procs_total exact_procs cores_joined
 
 map-append : {A B : Type 0} (f : A → B) (xs ys : List A) → map f (xs ++ ys) ≡ map f xs ++ map f ys
 map-append f [] ys = refl

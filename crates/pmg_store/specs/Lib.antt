@@ -3,6 +3,7 @@ pub mod Convergence
 pub mod Dump
 pub mod Dumps
 pub mod Input
+pub mod Joining
 pub mod Outcomes
 pub mod Stream
 pub mod Tables

@@ -10,6 +10,7 @@ ghost use Rattle.pmg_commit.specs.Data.{join_data, absorbed, level_at, read_at, 
 ghost use Rattle.pmg_store.specs.Pieces.{is_of, covers, told_entries, entries_of, told_of};
 
 use pmg_commit::{Piece, PieceEntry, best_of};
+use pmg_join::Join;
 use pmg_value::{Key, Proc, Value};
 use std::alloc::{AllocError, AllocFailed, Global};
 use std::marker::Model;
@@ -30,6 +31,17 @@ impl Model for Store {
     ghost use Rattle.pmg_store.specs.Pieces.{data_of};
 
     ghost view = { λ a. data_of a.pieces.items };
+}
+
+impl Join for Store {
+    ghost use Rattle.pmg_commit.specs.Data.{Data, join_data};
+    ghost use Rattle.pmg_store.specs.Joining.{data_joined};
+
+    ghost Meaning = { Data };
+
+    ghost joined = { join_data };
+
+    ghost laws = { data_joined };
 }
 
 impl Store {

@@ -1,6 +1,7 @@
 //! What no clause says: that calls succeed, and what stores of some pieces hold.
 use crate::Store;
 use pmg_commit::{Piece, PieceEntry};
+use pmg_join::join_of_many;
 use pmg_value::{Key, Nspace, Proc, Rank, Refusal, Value};
 use std::alloc::Global;
 
@@ -101,4 +102,9 @@ fn the_greater_value_counts_at_equal_numbers(rt: HostRuntime) -> Result<(), Refu
         assert_eq!(rt; seen(alloc, &store)?, (1, Some(2)));
     }
     Ok(())
+}
+
+#[test]
+fn stores_are_joined_lawfully(_rt: HostRuntime) {
+    join_of_many::<Store>();
 }
