@@ -1,5 +1,5 @@
 -- However a stream is cut, it is the same stream.
-use Rattle.std.proofs.Common.{◌≡◌, ℕ, ◌+◌, ◌-◌, ◌^◌, ◌<◌, ◌≤◌, Bool, true, false, ltb, cond, List, [], ◌∷◌, ◌++◌, length, take, drop, Option, Some, None, Result, Ok, Err, refl, sym, ap, subst, ◌∙◌, append_assoc, arith, ◌⊎◌, inl, inr}
+use Rattle.std.proofs.Common.{◌≡◌, ℕ, zero, suc, ◌+◌, ◌-◌, ◌^◌, ◌<◌, ◌≤◌, Bool, true, false, ltb, cond, List, [], ◌∷◌, ◌++◌, length, take, drop, Option, Some, None, Result, Ok, Err, refl, sym, ap, subst, ◌∙◌, append_assoc, arith, ◌⊎◌, inl, inr}
 use Rattle.std.specs.List.{flat_map}
 use Rattle.std.proofs.lemmas.Bool.{ltb-false, le-ltb}
 use Rattle.std.proofs.lemmas.List.{length-append, length-drop, take-append-le, drop-append-le, drop_at}
@@ -10,7 +10,7 @@ use Rattle.pmg_frame.specs.declared.frame.Frame.{Frame}
 use Rattle.pmg_frame.specs.Grammar.{AreFrames, SpellsFrame}
 use Rattle.pmg_frame.specs.Reading.{body_at, head_at, behind_head, frame_at}
 use Rattle.pmg_frame.specs.Spelling.{frame_spelling}
-use Rattle.pmg_frame.specs.Streams.{Runs, StopsAt, more_at, left_after, Feeds, Says, SameFeed}
+use Rattle.pmg_frame.specs.Streams.{Runs, StopsAt, more_at, left_after, Feeds, Says, SameFeed, Said, said_behind, said_at, said_from, said_by}
 use Rattle.pmg_frame.proofs.FrameLaws.{frame_found, frame_only, chosen, some_is}
 
 front_more : (n : ℕ) (at : Place) (b : List ℕ) → n ≤ length at.rest → front n (more_at at b) ≡ front n at
@@ -227,3 +227,42 @@ runs_end offset held fs end fits r =
     let rest : end.rest ≡ drop (length held - length end.rest) held = sym (ap (drop (length held - length end.rest)) t.parts ∙ drop_at text end.rest (length held - length end.rest) used) in
     let place : end.offset ≡ offset + (length held - length end.rest) = t.place ∙ ap (λ (n : ℕ). offset + n) used in
     record { fewer = omega arith; is = λ i. record { offset = place i; rest = rest i } }
+
+-- ---- what a whole stream says
+
+-- the frames that follow one another, and why they stop, are what is read
+pub said_is : (n : ℕ) (at : Place) (fs : List Frame) (end : Place) (fault : Option Fault) → length at.rest < n → Runs at fs end → StopsAt end fault → said_from n at ≡ record { frames = fs; fault = fault; end = end }
+unfolding said_from Runs
+said_is zero at fs end fault short r s = absurd (omega arith)
+said_is (suc n) at [] end None short r s = rw (ap frame_at (sym r) ∙ s) (ap (λ (x : Place). record { frames = []; fault = None; end = x }) (sym r))
+said_is (suc n) at [] end (Some f) short r s = rw (ap frame_at (sym r) ∙ s) (ap (λ (x : Place). record { frames = []; fault = Some f; end = x }) (sym r))
+said_is (suc n) at (f ∷ fs) end fault short r s =
+    let fewer = moves_on at f r.0 r.1 in
+    rw r.1 (ap (said_behind f) (said_is n r.0 fs end fault (omega (arith, fewer)) r.2 s))
+
+-- and what is read follows one another so
+pub record IsRun (at : Place) (said : Said) : Type 0 where
+  pub runs : Runs at said.frames said.end
+  pub stops : StopsAt said.end said.fault
+
+run_at : (at : Place) (behind : Place → Said) → ((mid : Place) → length mid.rest < length at.rest → IsRun mid (behind mid)) → (next : Result (Option (Frame × Place)) Fault) → frame_at at ≡ next → IsRun at (said_at at behind next)
+run_at at behind runs (Err f) e = record { runs = runs_none at; stops = e }
+run_at at behind runs (Ok None) e = record { runs = runs_none at; stops = e }
+run_at at behind runs (Ok (Some next)) e =
+    let rest = runs next.1 (moves_on at next.0 next.1 e) in
+    record {
+      runs = runs_then at (next.0 ∷ []) next.1 (behind next.1).frames (behind next.1).end (runs_one at next.0 next.1 e) rest.runs;
+      stops = rest.stops;
+    }
+
+pub said_runs : (n : ℕ) (at : Place) → length at.rest < n → IsRun at (said_from n at)
+unfolding said_from
+said_runs zero at short = absurd (omega arith)
+said_runs (suc n) at short = run_at at (said_from n) (λ mid fewer. said_runs n mid (omega arith)) (frame_at at) refl
+
+pub is_said : (bytes : List ℕ) → IsBytes bytes → Says (record { offset = 0; rest = bytes }) (said_by bytes).frames (said_by bytes).fault (said_by bytes).end
+is_said bytes fits =
+    let at : Place = record { offset = 0; rest = bytes } in
+    let run = said_runs (suc (length bytes)) at (omega arith) in
+    let spelled = runs_spelled at (said_by bytes).frames (said_by bytes).end fits run.runs in
+    record { takes = spelled.0; are = spelled.1; stops = run.stops }

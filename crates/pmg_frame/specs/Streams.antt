@@ -1,5 +1,5 @@
 -- A stream of frames, in whatever pieces it comes.
-use Rattle.std.specs.Prelude.{◌≡◌, ℕ, ◌+◌, ◌≤◌, ◌^◌, ◌⊎◌, ◌==◌, if◌then◌else◌, List, [], ◌∷◌, ◌++◌, length, Option, Some, None, Result, Ok, Err}
+use Rattle.std.specs.Prelude.{◌≡◌, ℕ, zero, suc, ◌+◌, ◌≤◌, ◌^◌, ◌⊎◌, ◌==◌, if◌then◌else◌, List, [], ◌∷◌, ◌++◌, length, Option, Some, None, Result, Ok, Err}
 use Rattle.std.specs.List.{flat_map}
 use Rattle.pmg_value.specs.declared.refusal.Fault.{Fault}
 use Rattle.pmg_value.specs.declared.refusal.Cause.TheVariants as causes
@@ -63,6 +63,35 @@ pub record Says (at : Place) (frames : List Frame) (fault : Option Fault) (end :
   pub takes : Takes at (flat_map frame_spelling frames) end
   pub are : AreFrames frames
   pub stops : StopsAt end fault
+
+-- what is read from a place on: the whole frames, the fault behind them if there is one, and where they end
+pub record Said : Type 0 where
+  pub frames : List Frame
+  pub fault : Option Fault
+  pub end : Place
+
+-- a frame, and then what was read
+abbrev pub said_behind : Frame → Said → Said
+said_behind frame said = record { frames = frame ∷ said.frames; fault = said.fault; end = said.end }
+
+-- what is read at a place, where `behind` says what is read behind a frame
+abbrev pub said_at : Place → (Place → Said) → Result (Option (Frame × Place)) Fault → Said
+said_at at behind (Err f) = record { frames = []; fault = Some f; end = at }
+said_at at behind (Ok None) = record { frames = []; fault = None; end = at }
+said_at at behind (Ok (Some next)) = said_behind next.0 (behind next.1)
+
+-- What is read from a place on, at most so many frames.
+unfoldable pub said_from : ℕ → Place → Said
+said_from zero at = record { frames = []; fault = None; end = at }
+said_from (suc n) at = said_at at (said_from n) (frame_at at)
+
+-- What the bytes of a whole stream say. There are no more frames than bytes.
+abbrev pub said_by : List ℕ → Said
+said_by bytes = said_from (suc (length bytes)) (record { offset = 0; rest = bytes })
+
+-- what is read of a whole stream is what its bytes say
+abbrev pub IsSaid : Type 0
+IsSaid = (bytes : List ℕ) → IsBytes bytes → Says (record { offset = 0; rest = bytes }) (said_by bytes).frames (said_by bytes).fault (said_by bytes).end
 
 -- Two feeds in a row are one feed of both; after a fault more bytes change nothing.
 abbrev pub Joins : Type 0

@@ -1,5 +1,5 @@
 ghost use Rattle.pmg_frame.specs.Grammar.{IsFound, IsOnly, IsOneSpelling};
-ghost use Rattle.pmg_frame.specs.Streams.{Joins, StaysClosed, IsDetermined, AreSpelled, AreFound};
+ghost use Rattle.pmg_frame.specs.Streams.{Joins, StaysClosed, IsDetermined, AreSpelled, AreFound, IsSaid};
 
 /// The laws of frames: what is read as a frame is spelled so; what is spelled so is read; and no frame's
 /// spelling begins another's, so each frame has one.
@@ -17,4 +17,5 @@ pub fn stream_rules()
     ensures determined { IsDetermined }
     ensures spelled { AreSpelled }
     ensures found { AreFound }
+    ensures said { IsSaid }
 {}

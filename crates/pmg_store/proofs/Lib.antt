@@ -1,5 +1,6 @@
 pub mod Converging
 pub mod Covering
+pub mod DumpLemmas
 pub mod InputLemmas
 pub mod Ordered
 pub mod OutcomeLemmas

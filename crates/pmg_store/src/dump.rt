@@ -5,14 +5,18 @@ ghost use Rattle.std.specs.Ordering.{nat_cmp};
 ghost use Rattle.std.specs.Cmp.Lexicographic.{slice_cmp};
 ghost use Rattle.pmg_value.specs.declared.process.Proc.{Proc};
 ghost use Rattle.pmg_value.specs.Spelling.{spelling};
-ghost use Rattle.pmg_value.specs.Text.{text_of};
 ghost use Rattle.pmg_commit.specs.Entries.{best_of_two};
 ghost use Rattle.pmg_commit.specs.Pieces.{entry_of};
-ghost use Rattle.pmg_store.specs.Dump.{key_line, proc_line};
-ghost use Rattle.pmg_store.specs.Pieces.{entries_of};
+ghost use Rattle.pmg_store.specs.Dump.{value_text, key_line, proc_line, known_text, dump};
+ghost use Rattle.pmg_store.specs.Pieces.{data_of, is_of, entries_of};
+ghost use Rattle.pmg_commit.specs.Data.{known};
+ghost use Rattle.pmg_value.specs.Process.{proc_cmp};
+ghost use Rattle.std.specs.BTreeSet.{contains};
+ghost use Rattle.std.specs.List.Sorted.{IsStrictlySortedBy};
+ghost use Rattle.std.specs.BTreeMap.{IsOrdered};
 ghost use Rattle.pmg_store.specs.Tables.{best_at, improves, lines_of};
 
-use crate::store::entries_told;
+use crate::store::{entries_told, level_in};
 use itoa::Buffer;
 use pmg_commit::{Piece, PieceEntry};
 use pmg_value::{Key, Proc, Value};
@@ -80,7 +84,7 @@ fn push_number(text: &mut Vec<u8>, number: u64) -> Result<(), AllocError>
 }
 
 fn push_value(text: &mut Vec<u8>, value: &Value) -> Result<(), AllocError>
-    ensures { OnOk result (text.new.items ≡ text.old.items ++ text_of value.now) }
+    ensures { OnOk result (text.new.items ≡ text.old.items ++ value_text (spelling value.now)) }
 {
     match value.write_text(text) {
         Ok(()) => Ok(()),
@@ -99,7 +103,8 @@ fn push_key_line(text: &mut Vec<u8>, key: &Key, value: &Value) -> Result<(), All
 }
 
 fn push_key_lines(text: &mut Vec<u8>, reads: &BTreeMap<Key, PieceEntry>) -> Result<(), AllocError>
-    ensures { OnOk result (text.new.items ≡ text.old.items ++ flat_map key_line (lines_of reads.now.entries)) }
+    ensures lines { OnOk result (text.new.items ≡ text.old.items ++ flat_map key_line (lines_of reads.now.entries)) }
+    ensures ordered { IsOrdered (slice_cmp nat_cmp) reads.now }
 {
     for (key, entry) in reads.iter() {
         push_key_line(text, key, &entry.value)?;
@@ -117,4 +122,59 @@ fn push_proc_line(text: &mut Vec<u8>, proc: &Proc, level: u64) -> Result<(), All
     text.extend_from_slice(b" level ")?;
     push_number(text, level)?;
     text.extend_from_slice(b"\n")
+}
+
+// The lines of the process, of which the pieces tell.
+fn push_proc(
+    alloc: Global,
+    text: &mut Vec<u8>,
+    pieces: &[Piece],
+    proc: &Proc,
+) -> Result<(), AllocError>
+    ensures { OnOk result (text.new.items ≡ text.old.items ++ known_text proc.now (known (data_of pieces.now) proc.now)) }
+{
+    let level = level_in(pieces, proc);
+    if level == 0 {
+        return Ok(());
+    }
+    push_proc_line(text, proc, level)?;
+    let reads = reads_in(alloc, pieces, proc, level)?;
+    push_key_lines(text, &reads)
+}
+
+// The processes of which the pieces tell.
+fn procs_in(alloc: Global, pieces: &[Piece]) -> Result<BTreeSet<Proc>, AllocError>
+    ensures { IfOk result (λ procs. (q : Proc) → contains proc_cmp procs q ≡ list_any (is_of q) pieces.now) }
+{
+    let mut procs = BTreeSet::new(alloc);
+    for piece in pieces {
+        procs.insert(piece.proc().copy()?)?;
+    }
+    Ok(procs)
+}
+
+// The lines of the processes, of which the pieces tell.
+fn push_procs(
+    alloc: Global,
+    text: &mut Vec<u8>,
+    pieces: &[Piece],
+    procs: &BTreeSet<Proc>,
+) -> Result<(), AllocError>
+    ensures lines { OnOk result (text.new.items ≡ text.old.items ++ flat_map (λ p. known_text p (known (data_of pieces.now) p)) procs.now.keys) }
+    ensures ordered { IsStrictlySortedBy proc_cmp procs.now.keys }
+{
+    for proc in procs.iter() {
+        push_proc(alloc, text, pieces, proc)?;
+    }
+    Ok(())
+}
+
+/// The dump of the data that the pieces add up to.
+pub fn dump_of_pieces(alloc: Global, pieces: &[Piece]) -> Result<Vec<u8>, AllocError>
+    ensures { IfOk result (λ text. text.items ≡ dump (data_of pieces.now)) }
+{
+    let mut text = Vec::new(alloc);
+    let procs = procs_in(alloc, pieces)?;
+    push_procs(alloc, &mut text, pieces, &procs)?;
+    Ok(text)
 }

@@ -164,7 +164,7 @@ fn end_of_piece(pieces: &[Piece], proc: &Proc, n: u64) -> Option<u64>
 }
 
 /// How far the pieces go from the process's first commit without a gap.
-fn level_in(pieces: &[Piece], proc: &Proc) -> u64
+pub fn level_in(pieces: &[Piece], proc: &Proc) -> u64
     ensures value { result ≡ level (told_of proc.now pieces.now).numbers }
     ensures bound { result ≤ 4294967295 }
 {

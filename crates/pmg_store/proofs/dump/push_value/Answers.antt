@@ -1,0 +1,5 @@
+use Rattle.pmg_store.proofs.ReadTable.{value_text-spelling}
+use Rattle.pmg_store.proofs.dump.push_value.Goals as goal
+
+pub returns-in-Ok : goal.returns-in-Ok
+returns-in-Ok c = rw value_text-spelling c.in-Ok.ensures.1
