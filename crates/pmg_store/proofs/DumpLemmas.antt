@@ -62,9 +62,9 @@ told_text p cs n reads is some best ordered =
     let k = known (data_of cs) p in
     let at : level k.numbers ≡ n = level-told p cs ∙ sym is in
     let answers : (q : List ℕ) → finite.get (reads_of k) q ≡ find (slice_cmp nat_cmp) q (lines_of reads.entries) = λ q.
-      get-reads_of k q
-      ∙ sym (best_is_read p cs cs (data_of cs) n q (best_at reads q) (best q) refl refl (sym at))
-      ∙ sym (find-lines q reads.entries) in
+    get-reads_of k q
+    ∙ sym (best_is_read p cs cs (data_of cs) n q (best_at reads q) (best q) refl refl (sym at))
+    ∙ sym (find-lines q reads.entries) in
     let sorted = sorted_from (slice_cmp nat_cmp) (lines_of reads.entries) (subst (IsStrictlySortedBy (slice_cmp nat_cmp)) (sym (lines_keys reads.entries)) ordered) in
     let list : finite.entries (reads_of k) ≡ lines_of reads.entries = entries_are nat_list_cmp_total (finite.slice_cmp-IsAntisymmetric finite.nat_cmp-IsAntisymmetric) (reads_of k) (lines_of reads.entries) sorted answers in
     rw (at, lt-ltb 0 n some, list) refl

@@ -6,3 +6,4 @@ pub mod Ordered
 pub mod OutcomeLemmas
 pub mod ReadTable
 pub mod Telling
+pub mod ToldLemmas

@@ -84,7 +84,7 @@ module _ {K X : Type 0} {R : K → K → Ordering} (o : IsTotalOrder R) (exact :
       let own = marks R (finite.entries m) in
       let own_sorted = marks_sorted R (finite.entries m) (finite.entries_sorted m) in
       let answers : (q : K) → finite.get (finite.from_sorted {R = R} own) q ≡ find R q ks = λ q.
-        finite.get-from_sorted R own q own_sorted ∙ find-marks R q (finite.entries m)
-        ∙ units _ _ (is_some-marked (find R q (finite.entries m)) ∙ ap is_some (sym (finite.get-entries m q)) ∙ same q) in
+      finite.get-from_sorted R own q own_sorted ∙ find-marks R q (finite.entries m)
+      ∙ units _ _ (is_some-marked (find R q (finite.entries m)) ∙ ap is_some (sym (finite.get-entries m q)) ∙ same q) in
       let list : finite.entries (finite.from_sorted {R = R} own) ≡ ks = entries_are o exact (finite.from_sorted own) ks sorted answers in
       sym (marks_keys R (finite.entries m)) ∙ ap (map (λ (e : K × Unit {0}). e.0)) (sym (finite.entries-from_sorted R own own_sorted) ∙ list)

@@ -44,18 +44,18 @@ read_has : (k : Knowledge) (q bytes : List ℕ) → read k q ≡ Some bytes → 
 unfolding read
 read_has k q bytes h = by_found (list.find (is_read k q) (set.items k.entries)) refl h
   where
-  by_found : (found : Option Entry) → list.find (is_read k q) (set.items k.entries) ≡ found → option_map (λ (e : Entry). e.bytes) found ≡ Some bytes → has_key q (set.items k.entries) ≡ true
-  by_found None f e = absurd cc
-  by_found (Some e) f h = found_has k q (set.items k.entries) e f
+    by_found : (found : Option Entry) → list.find (is_read k q) (set.items k.entries) ≡ found → option_map (λ (e : Entry). e.bytes) found ≡ Some bytes → has_key q (set.items k.entries) ≡ true
+    by_found None f e = absurd cc
+    by_found (Some e) f h = found_has k q (set.items k.entries) e f
 
 -- one entry more
 step : (t h : Bool) (r rq : Option (List ℕ)) (key q : List ℕ) (others : List (List ℕ × List ℕ)) → eq_by_cmp (slice_cmp nat_cmp) q key ≡ t → (t ≡ true → rq ≡ r)
     → find (slice_cmp nat_cmp) q others ≡ cond h rq None → find (slice_cmp nat_cmp) q (with_reading r key others) ≡ cond (t || h) rq None
 step true h None rq key q others t same rest = rest ∙ nothing h rq (same refl)
   where
-  nothing : (b : Bool) (o : Option (List ℕ)) → o ≡ None → cond b o None ≡ o
-  nothing true o e = refl
-  nothing false o e = sym e
+    nothing : (b : Bool) (o : Option (List ℕ)) → o ≡ None → cond b o None ≡ o
+    nothing true o e = refl
+    nothing false o e = sym e
 step true h (Some bytes) rq key q others t same rest = rw t (sym (same refl))
 step false h None rq key q others t same rest = rest
 step false h (Some bytes) rq key q others t same rest = rw t rest
@@ -71,10 +71,10 @@ unfolding reads_of
 get-reads_of k q =
     finite.get-from_entries nat_list_cmp_total (readings k (set.items k.entries)) q ∙ find_readings k q (set.items k.entries) ∙ whole (has_key q (set.items k.entries)) (read k q) (read_has k q)
   where
-  whole : (has : Bool) (r : Option (List ℕ)) → ((bytes : List ℕ) → r ≡ Some bytes → has ≡ true) → cond has r None ≡ r
-  whole true r h = refl
-  whole false None h = refl
-  whole false (Some bytes) h = absurd (let bad = h bytes refl in cc)
+    whole : (has : Bool) (r : Option (List ℕ)) → ((bytes : List ℕ) → r ≡ Some bytes → has ≡ true) → cond has r None ≡ r
+    whole true r h = refl
+    whole false None h = refl
+    whole false (Some bytes) h = absurd (let bad = h bytes refl in cc)
 
 -- ---- tables of entries
 

@@ -1,9 +1,9 @@
-pub mod Pieces
 pub mod Convergence
 pub mod Dump
 pub mod Dumps
 pub mod Input
 pub mod Joining
 pub mod Outcomes
-pub mod Stream
+pub mod Pieces
 pub mod Tables
+pub mod Told

@@ -12,7 +12,7 @@ pub use failure::Failure;
 pub use input::{Counted, INPUT_LIMIT, MOST_READS, read_counted, read_input};
 pub use laws::pieces_in_any_order;
 pub use store::Store;
-pub use stream::dump_stream;
+pub use stream::{dump_stream, store_of_stream};
 
 #[cfg(test)]
 mod input_tests;

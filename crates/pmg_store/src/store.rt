@@ -7,12 +7,17 @@ ghost use Rattle.pmg_commit.specs.Entries.{best_of_two};
 ghost use Rattle.pmg_commit.specs.Levels.{level};
 ghost use Rattle.pmg_commit.specs.Pieces.{entry_of};
 ghost use Rattle.pmg_commit.specs.Data.{join_data, absorbed, level_at, read_at, taken_at};
+ghost use Rattle.pmg_store.specs.Dump.{dump};
+ghost use Rattle.pmg_store.specs.Outcomes.{Dumps};
 ghost use Rattle.pmg_store.specs.Pieces.{is_of, covers, told_entries, entries_of, told_of};
 
+use crate::dump::dump_of_pieces;
+use crate::failure::Failure;
 use pmg_commit::{Piece, PieceEntry, best_of};
 use pmg_join::Join;
-use pmg_value::{Key, Proc, Value};
+use pmg_value::{Key, Proc, Value, put_text};
 use std::alloc::{AllocError, AllocFailed, Global};
+use std::io::Write;
 use std::marker::Model;
 
 /// What is known of all processes: the core of what the pieces that were taken tell of each.
@@ -100,6 +105,19 @@ impl Store {
         match best_in(&self.pieces, proc, level, key) {
             Some(entry) => Some(&entry.value),
             None => None,
+        }
+    }
+
+    /// Writes the dump: for each process of level 1 or more, by namespace and rank, a line with its level; then
+    /// for each key that reads, by its bytes, a line with the value's text and the key. Refused as NoMemory with
+    /// nothing written; where the writer fails, a front of the dump was written.
+    pub fn dump<W: Write>(&self, writer: &mut W) -> Result<(), Failure>
+        ensures { Dumps (W.contents writer.old) (W.contents writer.new) result (Ok (dump self.now)) }
+    {
+        let text = dump_of_pieces(*self.pieces.allocator(), &self.pieces)?;
+        match put_text(writer, &text) {
+            Ok(()) => Ok(()),
+            Err(_) => Err(Failure::Write),
         }
     }
 

@@ -1,16 +1,53 @@
-//! A stand-in for streams of frames: what starts with the byte 1 is dumped as it is.
-ghost use Rattle.std.specs.Prelude.{◌≡◌, IfSome};
+//! What a stream of frames tells, and its dump.
+ghost use Rattle.std.specs.Prelude.{◌≡◌, IfOk, IfSome};
+ghost use Rattle.pmg_wire.specs.Reading.{ReadsAll};
 ghost use Rattle.pmg_store.specs.Dumps.{dump_of};
 ghost use Rattle.pmg_store.specs.Outcomes.{Dumps};
-ghost use Rattle.pmg_store.specs.Stream.{stream_fault, stream_dump};
+ghost use Rattle.pmg_store.specs.Pieces.{data_of};
+ghost use Rattle.pmg_store.specs.Told.{contributions, data_told};
 
 use super::failure::Failure;
 use super::input::read_input;
-use pmg_value::{Cause, Fault, Refusal, put_text};
-use std::alloc::Global;
+use super::store::Store;
+use pmg_frame::{Frame, Stream};
+use pmg_value::Refusal;
+use std::alloc::{AllocError, Global};
 use std::io::{Read, Write};
 
-/// Reads all frames and then writes their dump.
+// A store that took the contributions in the frames.
+fn store_of_frames(alloc: Global, frames: &[Frame]) -> Result<Store, AllocError>
+    ensures { IfOk result (λ s. s ≡ data_of (contributions frames.now)) }
+{
+    let mut store = Store::new(alloc);
+    for frame in frames {
+        match frame {
+            Frame::Piece(piece) => store.absorb(piece)?,
+        }
+    }
+    Ok(store)
+}
+
+/// A store that took the contributions in a whole stream. Refused as BadFrame at the first fault, Cut where
+/// the stream ends inside a frame, and as NoMemory.
+pub fn store_of_stream(alloc: Global, bytes: &[u8]) -> Result<Store, Refusal>
+    ensures { ReadsAll (λ s. s) result (data_told bytes.now) }
+{
+    let mut stream = Stream::new(alloc);
+    let fed = stream.feed(bytes)?;
+    match fed.fault {
+        Some(fault) => Err(Refusal::BadFrame(fault)),
+        None => {
+            stream.finish()?;
+            Ok(store_of_frames(alloc, &fed.frames)?)
+        }
+    }
+}
+
+/// Reads a stream of frames to its end, and then writes the dump of a store that took its contributions.
+///
+/// A stream with a fault is refused as BadFrame, with the first fault: Input past 67,108,864 bytes, else that
+/// of the frames, else Cut. Any error of the reader is a read fault. Nothing is written before the whole
+/// stream was read without a fault; where the writer fails, a front of the dump was written.
 pub fn dump_stream<R: Read, W: Write>(
     alloc: Global,
     reader: &mut R,
@@ -19,24 +56,6 @@ pub fn dump_stream<R: Read, W: Write>(
     ensures { IfSome (R.remaining reader.old) (λ bytes. Dumps (W.contents writer.old) (W.contents writer.new) result (dump_of bytes)) }
 {
     let input = read_input(alloc, reader)?;
-    match first_fault(&input) {
-        Some(fault) => Err(Failure::Refused(Refusal::BadFrame(fault))),
-        None => match put_text(writer, &input) {
-            Ok(()) => Ok(()),
-            Err(_) => Err(Failure::Write),
-        },
-    }
-}
-
-#[tactic(auto, unfolding(crate::specs::Stream::stream_fault))]
-fn first_fault(input: &[u8]) -> Option<Fault>
-    ensures { result ≡ stream_fault input.now }
-{
-    match input.first() {
-        Some(version) if *version != 1 => Some(Fault {
-            offset: 0,
-            cause: Cause::Version,
-        }),
-        _ => None,
-    }
+    let store = store_of_stream(alloc, &input)?;
+    store.dump(writer)
 }

@@ -20,5 +20,5 @@ returns c =
     let told = told_text c.args.proc.now c.args.pieces.now n reads c.level_in-level.ensures.value some c.in_ok-reads.ensures c.push_key_lines.ensures.ordered in
     on_ok_weaker c.push_key_lines.result
     (λ (e : c.push_key_lines.new.text.items ≡ c.push_proc_line.new.text.items ++ flat_map key_line (lines_of reads.entries)).
-      rw told (appended_2 c.args.text.now.items c.push_proc_line.new.text.items c.push_key_lines.new.text.items (proc_line c.args.proc.now n) (flat_map key_line (lines_of reads.entries)) c.in_ok-push_proc_line.ensures e))
+    rw told (appended_2 c.args.text.now.items c.push_proc_line.new.text.items c.push_key_lines.new.text.items (proc_line c.args.proc.now n) (flat_map key_line (lines_of reads.entries)) c.in_ok-push_proc_line.ensures e))
     c.push_key_lines.ensures.lines

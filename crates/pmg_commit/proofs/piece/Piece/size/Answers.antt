@@ -1,4 +1,4 @@
-use Rattle.std.proofs.Common.{◌≤◌, length, arith}
+use Rattle.std.proofs.Common.{◌≤◌, length}
 use Rattle.std.proofs.lemmas.List.{length-map}
 use Rattle.pmg_commit.proofs.PieceFacts.{piece_facts}
 use Rattle.pmg_commit.proofs.piece.Piece.size.Goals as goal
