@@ -8,7 +8,9 @@ use Rattle.pmg_commit.specs.Knowledge.{Contribution}
 use Rattle.pmg_commit.specs.Data.{join_data, of_contribution, absorbed, level_at, read_at}
 use Rattle.pmg_store.specs.Joining.{data_joined}
 use Rattle.pmg_store.specs.Pieces.{data_of}
-use Rattle.pmg_store.specs.Convergence.{SameInAnyOrder, SameInAnyGrouping, ReadsAlike}
+use Rattle.pmg_store.specs.Convergence.{SameInAnyOrder, SameInAnyGrouping, ReadsAlike, PrintsAlike, StreamsPrintAlike}
+use Rattle.pmg_store.specs.Dump.{dump}
+use Rattle.pmg_store.specs.Told.{data_told}
 
 map-append : {A B : Type 0} (f : A → B) (xs ys : List A) → map f (xs ++ ys) ≡ map f xs ++ map f ys
 map-append f [] ys = refl
@@ -29,3 +31,10 @@ reads_alike xs ys same p =
 
 pub data_of-push : (pieces : List Contribution) (c : Contribution) → data_of (pieces ++ c ∷ []) ≡ absorbed (data_of pieces) c
 data_of-push pieces c = ap (join_all join_data finite.empty) (map-append of_contribution pieces (c ∷ [])) ∙ join_all-append join_data finite.empty (map of_contribution pieces) (of_contribution c ∷ [])
+
+pub prints_alike : PrintsAlike
+prints_alike xs ys same = ap dump (same_in_any_order xs ys same)
+
+pub streams_print_alike : StreamsPrintAlike
+unfolding data_told
+streams_print_alike a b xs ys first second same = rw (first, second, prints_alike xs ys same) refl

@@ -12,7 +12,7 @@ use Rattle.pmg_frame.proofs.Cuts.{said_is}
 use Rattle.pmg_commit.specs.Knowledge.{Contribution}
 use Rattle.pmg_store.specs.Pieces.{data_of}
 use Rattle.pmg_store.proofs.OutcomeLemmas.{refused_first}
-use Rattle.pmg_store.specs.Told.{contributions, told_by_said, told_by, data_told}
+use Rattle.pmg_store.specs.Told.{contributions, told_by_said, told_in, data_told}
 
 -- the start of a stream
 abbrev start : Place
@@ -21,8 +21,8 @@ start = record { offset = 0; rest = [] }
 said_of_feed : (bytes : List ℕ) (fs : List Frame) (f : Option Fault) (new : Option Place) (fed : Feeds start bytes fs f new) → said_by bytes ≡ record { frames = fs; fault = f; end = fed.end }
 said_of_feed bytes fs f new fed = said_is _ (record { offset = 0; rest = bytes }) fs fed.end f (omega arith) fed.runs fed.stops
 
-told_of_feed : (bytes : List ℕ) (fs : List Frame) (f : Option Fault) (new : Option Place) (fed : Feeds start bytes fs f new) → told_by bytes ≡ told_by_said fs f fed.end.offset (length fed.end.rest)
-unfolding told_by
+told_of_feed : (bytes : List ℕ) (fs : List Frame) (f : Option Fault) (new : Option Place) (fed : Feeds start bytes fs f new) → told_in bytes ≡ told_by_said fs f fed.end.offset (length fed.end.rest)
+unfolding told_in
 told_of_feed bytes fs f new fed = ap (λ (s : Said). told_by_said s.frames s.fault s.end.offset (length s.end.rest)) (said_of_feed bytes fs f new fed)
 
 pub told_fault : (bytes : List ℕ) (fs : List Frame) (f : Fault) (new : Option Place) → Feeds start bytes fs (Some f) new → data_told bytes ≡ Err f
@@ -62,4 +62,4 @@ pub told_cut : (bytes : List ℕ) (fs : List Frame) (new : Option Place) (e : Re
 unfolding data_told
 told_cut bytes fs new e fed done =
     let cut = cut_of (length fed.end.rest == 0) (contributions fs) (fault fed.end.offset causes.Cut) e (sym (ended bytes fs new fed) ∙ done) in
-    refused_first e (told_by bytes) (λ cs. Ok (data_of cs)) (rw (told_of_feed bytes fs None new fed) cut)
+    refused_first e (told_in bytes) (λ cs. Ok (data_of cs)) (rw (told_of_feed bytes fs None new fed) cut)

@@ -1,11 +1,14 @@
 -- Two servers that have taken the same pieces, in any order, in any grouping and with any repeats, hold the
 -- same data.
-use Rattle.std.specs.Prelude.{ℕ, ◌≡◌, List, ◌++◌}
+use Rattle.std.specs.Prelude.{ℕ, ◌≡◌, List, ◌++◌, Ok}
 use Rattle.pmg_value.specs.declared.process.Proc.{Proc}
 use Rattle.pmg_value.specs.Lists.{SameItems}
 use Rattle.pmg_commit.specs.Knowledge.{Contribution, core}
 use Rattle.pmg_commit.specs.Data.{join_data, known, level_at, read_at}
+use Rattle.pmg_store.specs.Dump.{dump}
+use Rattle.pmg_store.specs.Dumps.{stream_dump}
 use Rattle.pmg_store.specs.Pieces.{data_of, told_of}
+use Rattle.pmg_store.specs.Told.{told_in}
 
 -- in any order, and however often each of them came
 abbrev pub SameInAnyOrder : Type 0
@@ -22,6 +25,14 @@ ReadsAlike =
     → SameItems xs ys
     → (p : Proc)
     → (level_at (data_of xs) p ≡ level_at (data_of ys) p) × ((key : List ℕ) → read_at (data_of xs) p key ≡ read_at (data_of ys) p key)
+
+-- and so they print the same
+abbrev pub PrintsAlike : Type 0
+PrintsAlike = (xs ys : List Contribution) → SameItems xs ys → dump (data_of xs) ≡ dump (data_of ys)
+
+-- Streams that tell the same contributions have the same dump.
+abbrev pub StreamsPrintAlike : Type 0
+StreamsPrintAlike = (a b : List ℕ) (xs ys : List Contribution) → told_in a ≡ Ok xs → told_in b ≡ Ok ys → SameItems xs ys → stream_dump a ≡ stream_dump b
 
 -- What is held of each process is the core of the union of what the pieces tell of it.
 abbrev pub HoldsUnion : Type 0

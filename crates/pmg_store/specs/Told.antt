@@ -22,9 +22,9 @@ told_by_said fs (Some f) offset left = Err f
 told_by_said fs None offset left = if left == 0 then Ok (contributions fs) else Err (fault offset causes.Cut)
 
 -- the contributions in a stream, or its first fault; a stream that ends inside a frame is cut there
-unfoldable pub told_by : List ℕ → Result (List Contribution) Fault
-told_by bytes = let said = said_by bytes in told_by_said said.frames said.fault said.end.offset (length said.end.rest)
+unfoldable pub told_in : List ℕ → Result (List Contribution) Fault
+told_in bytes = let said = said_by bytes in told_by_said said.frames said.fault said.end.offset (length said.end.rest)
 
 -- what a server holds that took a stream's contributions
 unfoldable pub data_told : List ℕ → Result Data Fault
-data_told bytes = told_by bytes >>= λ cs. Ok (data_of cs)
+data_told bytes = told_in bytes >>= λ cs. Ok (data_of cs)

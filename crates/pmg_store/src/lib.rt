@@ -18,3 +18,5 @@ pub use stream::{dump_stream, store_of_stream};
 mod input_tests;
 #[cfg(test)]
 mod store_tests;
+#[cfg(test)]
+mod stream_tests;

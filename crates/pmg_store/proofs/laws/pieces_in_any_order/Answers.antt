@@ -1,4 +1,4 @@
-use Rattle.pmg_store.proofs.Converging.{same_in_any_order, same_in_any_grouping, reads_alike}
+use Rattle.pmg_store.proofs.Converging.{same_in_any_order, same_in_any_grouping, reads_alike, prints_alike, streams_print_alike}
 use Rattle.pmg_store.proofs.Telling.{holds_union}
 use Rattle.pmg_store.proofs.laws.pieces_in_any_order.Goals as goal
 
@@ -7,5 +7,7 @@ returns c = record {
   any_order = same_in_any_order;
   any_grouping = same_in_any_grouping;
   reads_alike = reads_alike;
+  prints_alike = prints_alike;
+  streams_print_alike = streams_print_alike;
   union = holds_union;
 }

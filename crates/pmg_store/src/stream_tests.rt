@@ -1,0 +1,138 @@
+//! What no clause says: that streams are dumped, and what is left where a reader, a writer or memory fails.
+use crate::{Failure, Store, dump_stream, store_of_stream};
+use pmg_commit::{Piece, PieceEntry};
+use pmg_value::{Key, Nspace, Proc, Rank, Refusal, Value};
+use std::alloc::Global;
+use std::io;
+use std::io::{ErrorKind, Read, Write};
+
+// Process 0 of j, its first commit, with true under a.
+const ONE: &[u8; 45] =
+    b"\x01\x01\x00\x00\x00\x27\x01j\x00\x00\x00\x00\x00\x00\x00\x00\x00\x00\x00\x00\x00\x00\x00\x00\x00\x00\x00\x01\x00\x00\x00\x01\x00\x01a\x00\x00\x00\x00\x00\x00\x00\x01\x01\x01";
+
+const ONE_DUMPED: &[u8; 31] = b"proc j 0 level 1\n  bool:true a\n";
+
+// Gives one byte a read. The read of number `fails_at` fails.
+#[derive(Drop)]
+struct Slow<'a> {
+    left: &'a [u8],
+    fails_at: usize,
+}
+
+impl Read for Slow<'_> {
+    fn read(&mut self, buf: &mut [u8]) -> io::Result<usize> {
+        if self.fails_at == 1 {
+            return Err(io::Error::from(ErrorKind::Other));
+        }
+        self.fails_at = self.fails_at.saturating_sub(1);
+        match (self.left.split_first(), buf.first_mut()) {
+            (Some((first, others)), Some(place)) => {
+                *place = *first;
+                self.left = others;
+                Ok(1)
+            }
+            _ => Ok(0),
+        }
+    }
+}
+
+// Takes one byte a write, and fails once it holds as many as it may.
+#[derive(Drop)]
+struct Short {
+    held: Vec<u8>,
+    most: usize,
+}
+
+impl Write for Short {
+    fn write(&mut self, buf: &[u8]) -> io::Result<usize> {
+        match buf.first() {
+            Some(first) if self.held.len() < self.most => {
+                self.held.push(*first)?;
+                Ok(1)
+            }
+            _ => Err(io::Error::from(ErrorKind::StorageFull)),
+        }
+    }
+
+    fn flush(&mut self) -> io::Result<()> {
+        Ok(())
+    }
+}
+
+fn is_no_memory(failure: &Failure) -> bool {
+    matches!(failure, Failure::Refused(Refusal::NoMemory))
+}
+
+#[test]
+fn one_contribution_is_dumped(rt: HostRuntime) {
+    let mut held = Vec::new(rt.alloc());
+    match dump_stream(rt.alloc(), &mut ONE.as_slice(), &mut held) {
+        Ok(()) => assert_eq!(rt; held.as_slice(), ONE_DUMPED.as_slice()),
+        Err(failure) => {
+            assert!(rt; is_no_memory(&failure) || matches!(failure, Failure::Write));
+            assert!(rt; is_no_memory(&failure) == held.is_empty());
+        }
+    }
+}
+
+#[test]
+fn a_failed_read_leaves_nothing_written(rt: HostRuntime) {
+    for fails_at in 1..=46 {
+        let mut held = Vec::new(rt.alloc());
+        let mut reader = Slow {
+            left: ONE.as_slice(),
+            fails_at,
+        };
+        let result = dump_stream(rt.alloc(), &mut reader, &mut held);
+        assert!(rt; matches!(result, Err(Failure::Read)), "at {fails_at}");
+        assert!(rt; held.is_empty(), "at {fails_at}");
+    }
+}
+
+#[test]
+fn a_failed_write_leaves_a_front(rt: HostRuntime) {
+    for most in 0..ONE_DUMPED.len() {
+        let mut writer = Short {
+            held: Vec::new(rt.alloc()),
+            most,
+        };
+        let result = dump_stream(rt.alloc(), &mut ONE.as_slice(), &mut writer);
+        assert!(rt; matches!(result, Err(Failure::Write)), "at {most}");
+        assert!(rt; ONE_DUMPED.starts_with(&writer.held), "at {most}");
+        assert_eq!(rt; writer.held.len(), most);
+    }
+}
+
+fn piece(alloc: Global) -> Result<Piece, Refusal> {
+    let mut entries = Vec::new(alloc);
+    entries.push(PieceEntry {
+        key: Key::read(alloc, b"b")?,
+        number: 2,
+        value: Value::U8(7),
+    })?;
+    let proc = Proc::new(Nspace::read(alloc, b"j")?, Rank::new(0));
+    Piece::new(proc, 1, 2, entries)
+}
+
+#[test]
+fn refused_memory_leaves_a_store_as_it_was(rt: HostRuntime) {
+    let alloc = rt.alloc();
+    let (Ok(mut store), Ok(more), Ok(key)) = (
+        store_of_stream(alloc, ONE),
+        piece(alloc),
+        Key::read(alloc, b"b"),
+    ) else {
+        return;
+    };
+    let taken = store.absorb(&more).is_ok();
+    assert_eq!(rt; store.level(more.proc()), if taken { 2 } else { 1 });
+    assert_eq!(rt; store.read(more.proc(), &key).is_some(), taken);
+    let mut first = Store::new(alloc);
+    match first.join(store) {
+        Ok(()) => assert_eq!(rt; first.level(more.proc()), if taken { 2 } else { 1 }),
+        Err(failed) => {
+            assert_eq!(rt; first.level(more.proc()), 0);
+            assert_eq!(rt; failed.value.level(more.proc()), if taken { 2 } else { 1 });
+        }
+    }
+}
