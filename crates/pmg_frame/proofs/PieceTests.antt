@@ -3,7 +3,7 @@ use Rattle.std.proofs.Common.{◌≡◌, ℕ, ◌+◌, ◌<◌, ◌≤◌, Bool,
 use Rattle.std.proofs.lemmas.List.Sums.{sum_by-cons}
 use Rattle.std.specs.Int.{w32, w64, to_be_bytes}
 use Rattle.std.specs.List.{flat_map, list_all, sum_by}
-use Rattle.std.proofs.lemmas.Bool.{and_from, lt-ltb, le-leb}
+use Rattle.std.proofs.lemmas.Bool.{and_from, and_parts, ltb-true, leb-true, lt-ltb, le-leb}
 use Rattle.std.proofs.lemmas.List.{length-append}
 use Rattle.pmg_value.specs.Lists.{leads, is_chain}
 use Rattle.pmg_value.specs.Process.{is_client, is_host}
@@ -13,7 +13,8 @@ use Rattle.pmg_wire.specs.Spelling.{key_spelling, proc_spelling}
 use Rattle.pmg_commit.specs.Entries.{Entry}
 use Rattle.pmg_commit.specs.Knowledge.{Contribution}
 use Rattle.pmg_commit.specs.Pieces.{entry_size, body_size, is_small, is_numbered, is_key_rising, is_piece}
-use Rattle.pmg_frame.specs.Grammar.{Follows, IsPiece}
+use Rattle.pmg_frame.specs.Grammar.{Follows, IsPiece, AreEntries, ArePieces}
+use Rattle.pmg_value.specs.Names.{is_nspace}
 use Rattle.pmg_frame.specs.Reading.{piece_at}
 use Rattle.pmg_frame.specs.Spelling.{entry_spelling, piece_body}
 use Rattle.pmg_frame.proofs.PieceLaws.{length_5, piece_if}
@@ -65,3 +66,45 @@ pub read_passes : (at : Place) (c : Contribution) (after : Place) → IsBytes at
 read_passes at c after fits small e =
     let taken = (piece_if at fits).holds c after e in
     piece_passes c taken.is (omega (arith, ap length taken.takes.parts, length-append (piece_body c) after.rest, small))
+
+-- ---- and back
+
+follows_behind : (from to : ℕ) (e : Entry) (es : List Entry) → IsTrue (leads is_key_rising e es) → IsTrue (list_all (is_numbered from to) es) → AreEntries es → Chain (Follows from to) (Some e) es
+follows_behind from to e [] rises within are = tt
+follows_behind from to e (f ∷ fs) rises within are =
+    let order = and_parts (is_key_rising e f) (leads is_key_rising f fs) rises in
+    let number = and_parts (is_numbered from to f) (list_all (is_numbered from to) fs) within in
+    let range = and_parts (nat_lt from f.number) (nat_le f.number to) number.0 in
+    let one : Follows from to (Some e) f = record { key = are.0.key; order = order.0; above = ltb-true _ _ range.0; within = leb-true _ _ range.1; value = are.0.value; bytes = are.0.bytes } in
+    (one, follows_behind from to f fs order.1 number.1 are.1)
+
+follows : (from to : ℕ) (es : List Entry) → IsTrue (is_chain is_key_rising es) → IsTrue (list_all (is_numbered from to) es) → AreEntries es → Chain (Follows from to) None es
+follows from to [] rises within are = tt
+follows from to (e ∷ es) rises within are =
+    let number = and_parts (is_numbered from to e) (list_all (is_numbered from to) es) within in
+    let range = and_parts (nat_lt from e.number) (nat_le e.number to) number.0 in
+    let one : Follows from to None e = record { key = are.0.key; order = refl; above = ltb-true _ _ range.0; within = leb-true _ _ range.1; value = are.0.value; bytes = are.0.bytes } in
+    (one, follows_behind from to e es rises number.1 are.1)
+
+piece_says : (c : Contribution) → IsTrue (is_nspace c.proc.nspace) → AreEntries c.entries → IsTrue (is_piece c) → IsPiece c × (length (piece_body c) ≤ 16777216)
+unfolding is_piece
+piece_says c name are h =
+    let numbered = and_parts _ _ h in
+    let rises = and_parts _ _ numbered.0 in
+    let small = and_parts _ _ rises.0 in
+    let ranged = and_parts _ _ small.0 in
+    let range = and_parts _ _ ranged.1 in
+    let sizes = and_parts _ _ small.1 in (
+      record {
+        name = name;
+        admitted = ranged.0;
+        range = ltb-true _ _ range.0;
+        last = leb-true _ _ range.1;
+        count = leb-true _ _ sizes.0;
+        entries = follows c.from c.to c.entries rises.1 numbered.1 are;
+      },
+      omega (arith, length-piece_body c, leb-true _ _ sizes.1),
+    )
+
+pub are_pieces : ArePieces
+are_pieces c name are = (piece_says c name are, λ says. piece_passes c says.0 says.1)

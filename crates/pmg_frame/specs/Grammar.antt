@@ -1,5 +1,5 @@
 -- The grammar of frames: what stands between two places.
-use Rattle.std.specs.Prelude.{◌≡◌, ℕ, ◌<◌, ◌≤◌, List, [], ◌∷◌, ◌++◌, length, Option, Some, None, Ok, IsTrue}
+use Rattle.std.specs.Prelude.{◌≡◌, ◌↔◌, ℕ, ◌<◌, ◌≤◌, List, [], ◌∷◌, ◌++◌, length, Option, Some, None, Ok, IsTrue}
 use Rattle.pmg_value.specs.declared.value.Value.{Value}
 use Rattle.pmg_value.specs.Names.{is_nspace, is_key}
 use Rattle.pmg_value.specs.Spelling.{spelling}
@@ -9,6 +9,7 @@ use Rattle.pmg_wire.specs.Many.{Chain}
 use Rattle.pmg_wire.specs.Reading.{Place, Takes, IsBytes}
 use Rattle.pmg_commit.specs.Entries.{Entry}
 use Rattle.pmg_commit.specs.Knowledge.{Contribution}
+use Rattle.pmg_commit.specs.Pieces.{is_piece}
 use Rattle.pmg_frame.specs.declared.frame.Frame.{Frame}
 use Rattle.pmg_frame.specs.declared.frame.Frame.TheVariants as frames
 use Rattle.pmg_frame.specs.Reading.{is_after, frame_at}
@@ -59,3 +60,19 @@ IsOnly = (at : Place) (frame : Frame) (after : Place) → SpellsFrame at frame a
 -- no frame's spelling begins another's
 abbrev pub IsOneSpelling : Type 0
 IsOneSpelling = (f g : Frame) (x y : List ℕ) → AreFrames (f ∷ g ∷ []) → frame_spelling f ++ x ≡ frame_spelling g ++ y → (f ≡ g) × (x ≡ y)
+
+-- an entry's key is a key, and its bytes are a value's
+pub record IsEntry (e : Entry) : Type 0 where
+  pub key : IsTrue (is_key e.key)
+  pub value : Value
+  pub bytes : e.bytes ≡ spelling value
+
+-- each is an entry
+abbrev pub AreEntries : List Entry → Type 0
+AreEntries [] = Unit {0}
+AreEntries (e ∷ es) = IsEntry e × AreEntries es
+
+-- Of contributions with names, keys and values, the pieces are those that a frame can say.
+abbrev pub ArePieces : Type 0
+ArePieces = (c : Contribution) → IsTrue (is_nspace c.proc.nspace) → AreEntries c.entries
+    → IsTrue (is_piece c) ↔ (IsPiece c × (length (piece_body c) ≤ 16777216))

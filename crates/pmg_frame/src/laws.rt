@@ -1,12 +1,13 @@
-ghost use Rattle.pmg_frame.specs.Grammar.{IsFound, IsOnly, IsOneSpelling};
+ghost use Rattle.pmg_frame.specs.Grammar.{IsFound, IsOnly, IsOneSpelling, ArePieces};
 ghost use Rattle.pmg_frame.specs.Streams.{Joins, StaysClosed, IsDetermined, AreSpelled, AreFound, IsSaid};
 
 /// The laws of frames: what is read as a frame is spelled so; what is spelled so is read; and no frame's
-/// spelling begins another's, so each frame has one.
+/// spelling begins another's, so each frame has one. What a piece can hold is what a frame can say.
 pub fn frame_rules()
     ensures found { IsFound }
     ensures only { IsOnly }
     ensures one_spelling { IsOneSpelling }
+    ensures pieces { ArePieces }
 {}
 
 /// The laws of streams: however the bytes are cut, they say the same frames and the same fault, and those
