@@ -1,19 +1,18 @@
 -- A frame that is read was spelled so, and what is spelled so is read.
-use Rattle.std.proofs.Common.{◌≡◌, ℕ, ◌+◌, ◌-◌, ◌^◌, ◌<◌, ◌≤◌, Bool, true, false, ◌&&◌, ◌==◌, nat_lt, nat_le, cond, ltb, leb, List, [], ◌∷◌, ◌++◌, length, take, drop, Option, Some, None, Result, Ok, Err, IsTrue, refl, sym, ap, subst, ◌∙◌, append_assoc, arith}
-use Rattle.std.specs.Int.{w32, to_be_bytes, byte_len}
+use Rattle.std.proofs.Common.{◌≡◌, ℕ, ◌+◌, ◌^◌, ◌≤◌, Bool, true, false, ◌==◌, nat_le, cond, ltb, List, [], ◌∷◌, ◌++◌, length, take, drop, Option, Some, None, Result, Ok, IsTrue, refl, sym, ap, subst, ◌∙◌, append_assoc, arith}
+use Rattle.std.specs.Int.{w32, to_be_bytes}
 use Rattle.std.proofs.lemmas.Bool.{ltb-false, le-ltb, leb-true, le-leb, eqb-true, eq-eqb}
-use Rattle.std.proofs.lemmas.List.{length-append, length-take, length-drop, take-append-drop, take_at, drop_at, append-nil}
+use Rattle.std.proofs.lemmas.List.{length-append, length-take, take-append-drop, take_at, drop_at, append-nil}
 use Rattle.pmg_value.specs.declared.refusal.Cause.TheVariants as causes
 use Rattle.pmg_value.specs.declared.refusal.Fault.{Fault}
 use Rattle.pmg_wire.specs.Reading.{Place, past, front, Read, fault, ◌>>=◌, check, byte_at, number_at, IsBytes, Takes}
 use Rattle.pmg_wire.proofs.Steps.{place, IfRead, bind_if, check_if, done_if, bind_ok, Takes-then, IsBytes-after, IsBytes-take, IsBytes-drop, wide32, number_if, number_again, byte_if, byte_again}
-use Rattle.pmg_commit.specs.Knowledge.{Contribution}
 use Rattle.pmg_frame.specs.declared.frame.Frame.{Frame}
 use Rattle.pmg_frame.specs.declared.frame.Frame.TheVariants as frames
-use Rattle.pmg_frame.specs.Grammar.{IsPiece, IsFrame, AreFrames, SpellsFrame}
+use Rattle.pmg_frame.specs.Grammar.{IsFrame, AreFrames, SpellsFrame}
 use Rattle.pmg_frame.specs.Reading.{piece_at, fields_at, body_at, head_at, behind_head, frame_at}
 use Rattle.pmg_frame.specs.Spelling.{piece_body, kind_of, body_spelling, head_spelling, frame_spelling}
-use Rattle.pmg_frame.proofs.PieceLaws.{TakesPiece, piece_if, piece_again}
+use Rattle.pmg_frame.proofs.PieceLaws.{piece_if, piece_again}
 
 -- what a head took
 pub record TakesHead (at : Place) (head : ℕ × ℕ) (after : Place) : Type 0 where

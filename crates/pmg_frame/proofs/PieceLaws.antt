@@ -1,6 +1,6 @@
 -- A piece that is read was spelled so, and what is spelled so is read.
-use Rattle.std.proofs.Common.{◌≡◌, ℕ, ◌+◌, ◌^◌, ◌<◌, ◌≤◌, Bool, true, false, ◌&&◌, nat_lt, nat_le, cond, List, [], ◌∷◌, ◌++◌, length, Option, Some, None, Result, Ok, Err, IsTrue, refl, sym, ap, subst, ◌∙◌, append_assoc, arith}
-use Rattle.std.specs.Int.{w32, w64, to_be_bytes, byte_len}
+use Rattle.std.proofs.Common.{◌≡◌, ℕ, ◌+◌, ◌^◌, ◌<◌, ◌≤◌, Bool, ◌&&◌, nat_lt, nat_le, List, ◌++◌, length, Option, None, Ok, IsTrue, refl, sym, ap, subst, ◌∙◌, append_assoc, arith}
+use Rattle.std.specs.Int.{w32, w64, to_be_bytes}
 use Rattle.std.specs.List.{flat_map}
 use Rattle.std.proofs.lemmas.Bool.{and_parts, and_from, ltb-true, leb-true, lt-ltb, le-leb}
 use Rattle.std.proofs.lemmas.List.{length-append}
@@ -10,14 +10,13 @@ use Rattle.pmg_value.specs.declared.value.Value.{Value}
 use Rattle.pmg_value.specs.Spelling.{spelling}
 use Rattle.pmg_value.specs.Names.{is_key}
 use Rattle.pmg_wire.specs.declared.fields.Admits.TheVariants as admits
-use Rattle.pmg_wire.specs.Fields.{key_at, proc_at, value_at}
-use Rattle.pmg_wire.specs.Grammar.{SpellsKey, SpellsProc, SpellsValue}
-use Rattle.pmg_wire.specs.Many.{many, Chain}
-use Rattle.pmg_wire.specs.Reading.{Place, Read, fault, ◌>>=◌, check, byte_at, number_at, IsBytes, Takes}
+use Rattle.pmg_wire.specs.Fields.{value_at}
+use Rattle.pmg_wire.specs.Many.{many}
+use Rattle.pmg_wire.specs.Reading.{Place, Read, fault, ◌>>=◌, check, number_at, IsBytes, Takes}
 use Rattle.pmg_wire.specs.Spelling.{key_spelling, proc_spelling}
 use Rattle.pmg_wire.proofs.Steps.{place, IfRead, bind_if, check_if, done_if, Takes-then, IsBytes-after, wide32, wide64, number_if, number_again}
 use Rattle.pmg_wire.proofs.FieldLaws.{key_if, key_again, proc_if, proc_again, value_if, value_again}
-use Rattle.pmg_wire.proofs.Counted.{TakesOne, TakesMany, many_if, many_again}
+use Rattle.pmg_wire.proofs.Counted.{TakesOne, many_if, many_again}
 use Rattle.pmg_commit.specs.Entries.{Entry}
 use Rattle.pmg_commit.specs.Knowledge.{Contribution}
 use Rattle.pmg_frame.specs.Grammar.{Follows, IsPiece}

@@ -1,12 +1,11 @@
 -- What keeps the rules of a piece, in a body that is not too long, passes the test of a piece.
-use Rattle.std.proofs.Common.{◌≡◌, ℕ, ◌+◌, ◌<◌, ◌≤◌, Bool, true, ◌&&◌, ◌||◌, nat_lt, nat_le, List, [], ◌∷◌, ◌++◌, length, Option, Some, None, IsTrue, refl, sym, ap, ◌∙◌, Ok, arith}
+use Rattle.std.proofs.Common.{◌≡◌, ℕ, ◌+◌, ◌≤◌, ◌&&◌, nat_lt, nat_le, List, [], ◌∷◌, ◌++◌, length, Option, Some, None, IsTrue, refl, sym, ap, ◌∙◌, Ok, arith}
 use Rattle.std.proofs.lemmas.List.Sums.{sum_by-cons}
 use Rattle.std.specs.Int.{w32, w64, to_be_bytes}
 use Rattle.std.specs.List.{flat_map, list_all, sum_by}
 use Rattle.std.proofs.lemmas.Bool.{and_from, and_parts, ltb-true, leb-true, lt-ltb, le-leb}
 use Rattle.std.proofs.lemmas.List.{length-append}
 use Rattle.pmg_value.specs.Lists.{leads, is_chain}
-use Rattle.pmg_value.specs.Process.{is_client, is_host}
 use Rattle.pmg_wire.specs.Many.{Chain}
 use Rattle.pmg_wire.specs.Reading.{Place, IsBytes}
 use Rattle.pmg_wire.specs.Spelling.{key_spelling, proc_spelling}

@@ -1,23 +1,23 @@
 -- A key, a process or a value that is read was spelled so, and what is spelled so is read.
-use Rattle.std.proofs.Common.{◌≡◌, ℕ, ◌+◌, ◌^◌, ◌<◌, ◌≤◌, Bool, true, false, ◌&&◌, ◌||◌, not, nat_lt, nat_le, ◌==◌, cond, List, [], ◌∷◌, ◌++◌, length, Result, Ok, Err, IsTrue, refl, sym, ap, subst, ◌∙◌, append_assoc, arith}
-use Rattle.std.specs.Int.{w16, w32, to_be_bytes, byte_len}
+use Rattle.std.proofs.Common.{◌≡◌, ℕ, ◌+◌, ◌^◌, ◌<◌, Bool, true, false, ◌&&◌, ◌||◌, not, nat_lt, nat_le, ◌==◌, cond, List, [], ◌∷◌, ◌++◌, length, Ok, IsTrue, refl, sym, ap, ◌∙◌, append_assoc, arith}
+use Rattle.std.specs.Int.{w16, w32, to_be_bytes}
 use Rattle.pmg_value.specs.declared.refusal.Cause.TheVariants as causes
 use Rattle.pmg_value.specs.declared.process.Proc.{Proc}
 use Rattle.pmg_value.specs.declared.value.Value.{Value}
 use Rattle.pmg_value.specs.declared.value.Value.TheVariants as values
 use Rattle.pmg_value.specs.Names.{is_nspace, is_key, is_reserved}
-use Rattle.pmg_value.specs.Process.{host_name, is_client, is_host}
+use Rattle.pmg_value.specs.Process.{host_name}
 use Rattle.std.specs.Str.{bytes_eq}
 use Rattle.std.proofs.lemmas.Slice.Eq.{bytes_eq-Decides}
 use Rattle.pmg_value.specs.Spelling.{spelling, tag_of, body_of}
 use Rattle.pmg_wire.specs.declared.fields.Admits.{Admits}
 use Rattle.pmg_wire.specs.declared.fields.Admits.TheVariants as admits
 use Rattle.pmg_wire.specs.Fields.{key_at, proc_at, flag_at, body_at, value_at, is_admitted, is_named, is_ranked}
-use Rattle.pmg_wire.specs.Reading.{Place, Read, fault, ◌>>=◌, check, bytes_at, byte_at, number_at, IsBytes, Takes}
+use Rattle.pmg_wire.specs.Reading.{Place, Read, fault, ◌>>=◌, check, bytes_at, number_at, IsBytes, Takes}
 use Rattle.pmg_wire.specs.Spelling.{key_spelling, proc_spelling}
 use Rattle.pmg_wire.specs.Grammar.{SpellsKey, SpellsProc, SpellsValue}
 use Rattle.std.proofs.lemmas.List.{length-append}
-use Rattle.std.proofs.lemmas.Bool.{and_parts, and_from, or_left, eqb-true, leb-true}
+use Rattle.std.proofs.lemmas.Bool.{and_parts, or_left, eqb-true, leb-true}
 use Rattle.std.proofs.lemmas.Bool.Decides.{nat_tests}
 use Rattle.pmg_wire.proofs.Steps.{place, IfRead, bind_if, check_if, done_if, refused_if, choice_if, Takes-then, IsBytes-after, bytes_if, bytes_again, wide16, wide32, number_if, number_again, byte_if, byte_again}
 

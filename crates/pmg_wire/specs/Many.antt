@@ -1,5 +1,5 @@
 -- Counted lists.
-use Rattle.std.specs.Prelude.{ℕ, zero, suc, List, [], ◌∷◌, Option, Some, None, Ok}
+use Rattle.std.specs.Prelude.{ℕ, zero, suc, List, [], ◌∷◌, Option, Some, Ok}
 use Rattle.pmg_wire.specs.Reading.{Place, Read, ◌>>=◌}
 
 -- So many elements, one after another. A reader of elements is given the element before, where there is one.

@@ -1,4 +1,4 @@
-use Rattle.std.proofs.Common.{◌≡◌, ◌++◌, [], length, sym, ap, ◌∙◌}
+use Rattle.std.proofs.Common.{◌≡◌, ◌++◌, [], length, sym, ◌∙◌}
 use Rattle.pmg_frame.specs.Spelling.{piece_body, head_spelling}
 use Rattle.pmg_frame.proofs.PieceTests.{length-piece_body}
 use Rattle.pmg_frame.proofs.Writing.{appended_2}

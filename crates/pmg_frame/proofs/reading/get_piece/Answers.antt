@@ -1,8 +1,6 @@
 use Rattle.std.proofs.Common.{◌≡◌, ◌∙◌, Ok, Err}
 use Rattle.std.proofs.lemmas.Bool.{cond-true}
-use Rattle.pmg_wire.specs.Reading.{Reads}
 use Rattle.pmg_value.specs.declared.refusal.Refusal.TheVariants as refusals
-use Rattle.pmg_frame.specs.Reading.{piece_at}
 use Rattle.pmg_commit.specs.Pieces.{is_piece, contribution}
 use Rattle.pmg_frame.proofs.PieceTests.{read_passes}
 use Rattle.pmg_frame.proofs.reading.get_piece.Goals as goal

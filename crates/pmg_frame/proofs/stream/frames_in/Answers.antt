@@ -1,6 +1,5 @@
 use Rattle.std.proofs.Common.{subst, arith}
 use Rattle.pmg_wire.specs.Reading.{Place, IsBytes}
-use Rattle.pmg_frame.specs.declared.frame.Frame.{Frame}
 use Rattle.pmg_frame.specs.Streams.{Runs, StopsAt}
 use Rattle.pmg_frame.proofs.Cuts.{IsEnd, runs_end}
 use Rattle.pmg_frame.proofs.stream.frames_in.Goals as goal
