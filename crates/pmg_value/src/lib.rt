@@ -17,4 +17,6 @@ pub use value::{MAX_VALUE_SIZE, Value};
 pub use written::{put_number, put_text};
 
 #[cfg(test)]
+mod names_tests;
+#[cfg(test)]
 mod tests;

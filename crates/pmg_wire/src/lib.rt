@@ -8,3 +8,6 @@ mod put;
 pub use cursor::Cursor;
 pub use fields::{Admits, get_flag, get_key, get_proc, get_value};
 pub use put::{put_key, put_proc, put_value};
+
+#[cfg(test)]
+mod tests;
