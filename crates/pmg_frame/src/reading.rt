@@ -132,9 +132,9 @@ fn get_head(at: &mut Cursor<'_>) -> Result<(u8, u32), Refusal>
     Ok((kind, len))
 }
 
-#[tactic(auto, unfolding(crate::specs::Reading::frame_at, crate::specs::Reading::behind_head))]
 /// Reads the next frame, or nothing while it is not all there. Refused as BadFrame at the first fault, and as
 /// NoMemory; a refusal leaves the cursor where it was.
+#[tactic(auto, unfolding(crate::specs::Reading::frame_at, crate::specs::Reading::behind_head))]
 pub fn get_frame(alloc: Global, at: &mut Cursor<'_>) -> Result<Option<Frame>, Refusal>
     ensures { ReadsFrame result at.old at.new }
 {
