@@ -10,3 +10,6 @@ pub use frame::{Frame, HEAD_SIZE, MAX_BODY_SIZE};
 pub use laws::{frame_rules, stream_rules};
 pub use reading::get_frame;
 pub use stream::{Fed, Stream};
+
+#[cfg(test)]
+mod tests;
