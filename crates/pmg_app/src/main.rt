@@ -3,6 +3,8 @@
 
 mod command;
 mod dump;
+#[cfg(test)]
+mod dump_tests;
 mod reporting;
 #[cfg(test)]
 mod tests;
