@@ -3,7 +3,7 @@ use Rattle.std.specs.Prelude.{ℕ, List, IsTrue}
 use Rattle.pmg_value.specs.declared.process.Proc.{Proc}
 use Rattle.pmg_value.specs.declared.value.Value.{Value}
 use Rattle.pmg_value.specs.Names.{is_nspace, is_key}
-use Rattle.pmg_value.specs.Spelling.{spelling}
+use Rattle.pmg_value.specs.Spelling.{spelling, IsValue}
 use Rattle.pmg_wire.specs.declared.fields.Admits.{Admits}
 use Rattle.pmg_wire.specs.Fields.{is_admitted}
 use Rattle.pmg_wire.specs.Reading.{Place, Takes}
@@ -23,3 +23,4 @@ pub record SpellsProc (who : Admits) (at : Place) (p : Proc) (after : Place) : T
 -- a value, spelled
 pub record SpellsValue (at : Place) (v : Value) (after : Place) : Type 0 where
   pub takes : Takes at (spelling v) after
+  pub is : IsValue v
