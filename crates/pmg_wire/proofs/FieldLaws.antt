@@ -273,3 +273,14 @@ proc_only who at p after s = whole (proc_at who) p (proc_spelling p) s.takes (pr
 
 pub value_only : (at : Place) (v : Value) (after : Place) → SpellsValue at v after → value_at at ≡ Ok (v, after)
 value_only at v after s = whole value_at v (spelling v) s.takes (value_again at.offset v after.rest s.is)
+
+ok_is : (x y : Value × Place) (r : Read Value) → r ≡ Ok x → r ≡ Ok y → x ≡ y
+ok_is x y r p q = cc
+
+pub one_spelling : (v w : Value) (x y : List ℕ) → IsValue v → IsValue w → spelling v ++ x ≡ spelling w ++ y → (v ≡ w) × (x ≡ y)
+one_spelling v w x y is_v is_w e =
+    let first = value_again 0 v x is_v in
+    let second = value_again 0 w y is_w in
+    let same : (v, place (0 + length (spelling v)) x) ≡ (w, place (0 + length (spelling w)) y) =
+    ok_is _ _ _ first (ap (λ (t : List ℕ). value_at (place 0 t)) e ∙ second) in
+    (ap (λ (z : Value × Place). z.0) same, ap (λ (z : Value × Place). z.1.rest) same)
