@@ -7,7 +7,7 @@ use Rattle.std.proofs.lemmas.List.{length-append}
 use Rattle.pmg_value.specs.declared.refusal.Cause.TheVariants as causes
 use Rattle.pmg_value.specs.declared.process.Proc.{Proc}
 use Rattle.pmg_value.specs.declared.value.Value.{Value}
-use Rattle.pmg_value.specs.Spelling.{spelling}
+use Rattle.pmg_value.specs.Spelling.{spelling, IsValue}
 use Rattle.pmg_value.specs.Names.{is_key}
 use Rattle.pmg_wire.specs.declared.fields.Admits.TheVariants as admits
 use Rattle.pmg_wire.specs.Fields.{value_at}
@@ -41,10 +41,10 @@ entry_if from to before at fits =
     bind_if (numbered key middle) (number_if w64 (2 ^ 64) wide64 middle middle_fits) (λ number later n.
     check_if (in_range number) (fault middle.offset causes.Number) (λ _. valued key (number, later)) (λ within.
     let parts = and_parts (nat_lt from number) (nat_le number to) within in
-    bind_if (made key number) (value_if later) (λ v after t.
+    bind_if (made key number) (value_if later (IsBytes-after (to_be_bytes w64 number) middle_fits n.takes)) (λ v after t.
     done_if (record {
       takes = Takes-then (key_spelling key) (to_be_bytes w64 number ++ spelling v) k.takes (Takes-then (to_be_bytes w64 number) (spelling v) n.takes t.takes);
-      follows = record { key = k.is; order = order; above = ltb-true _ _ parts.0; within = leb-true _ _ parts.1; value = v; bytes = refl };
+      follows = record { key = k.is; order = order; above = ltb-true _ _ parts.0; within = leb-true _ _ parts.1; value = v; is = t.is; bytes = refl };
     }))))))
 
 -- what a piece's body took
@@ -99,15 +99,15 @@ fits64 from to number a b = omega arith
 entry_of : List ℕ → ℕ → Value → Entry
 entry_of key number v = record { key = key; number = number; bytes = spelling v }
 
-entry_made_again : (from to : ℕ) (before : Option Entry) (o : ℕ) (key : List ℕ) (number : ℕ) (v : Value) (rest : List ℕ) → IsTrue (is_key key) → IsTrue (is_after before key) → from < number → number ≤ to → to ≤ 4294967295
+entry_made_again : (from to : ℕ) (before : Option Entry) (o : ℕ) (key : List ℕ) (number : ℕ) (v : Value) (rest : List ℕ) → IsValue v → IsTrue (is_key key) → IsTrue (is_after before key) → from < number → number ≤ to → to ≤ 4294967295
     → entry_at from to before (place o (entry_spelling (entry_of key number v) ++ rest)) ≡ Ok (entry_of key number v, place (o + length (entry_spelling (entry_of key number v))) rest)
 unfolding entry_at entry_of
-entry_made_again from to before o key number v rest is order above within last =
+entry_made_again from to before o key number v rest fits is order above within last =
     let number_text = to_be_bytes w64 number in
     let regrouped : (key_spelling key ++ (number_text ++ spelling v)) ++ rest ≡ key_spelling key ++ (number_text ++ (spelling v ++ rest)) = append_assoc (key_spelling key) (number_text ++ spelling v) rest ∙ ap (λ (t : List ℕ). key_spelling key ++ t) (append_assoc number_text (spelling v) rest) in
     let k = key_again o key (number_text ++ (spelling v ++ rest)) is in
     let n = number_again w64 (2 ^ 64) wide64 (o + length (key_spelling key)) number (spelling v ++ rest) (fits64 from to number within last) in
-    let t = value_again (o + length (key_spelling key) + 8) v rest in
+    let t = value_again (o + length (key_spelling key) + 8) v rest fits in
     let in_range : IsTrue (nat_lt from number && nat_le number to) = and_from (nat_lt from number) (nat_le number to) (lt-ltb _ _ above) (le-leb _ _ within) in
     let end : o + length (key_spelling key) + 8 + length (spelling v) ≡ o + length (key_spelling key ++ (number_text ++ spelling v)) = omega (arith, length-append (key_spelling key) (number_text ++ spelling v)) in
     ap (λ (text : List ℕ). entry_at from to before (place o text)) regrouped
@@ -119,7 +119,7 @@ unfolding entry_of
 entry_again from to last before o e rest f =
     let Again : Entry → Type 0 = λ x. entry_at from to before (place o (entry_spelling x ++ rest)) ≡ Ok (x, place (o + length (entry_spelling x)) rest) in
     let same : entry_of e.key e.number f.value ≡ e = ap (λ (b : List ℕ). record { key = e.key; number = e.number; bytes = b }) (sym f.bytes) in
-    subst Again same (entry_made_again from to before o e.key e.number f.value rest f.key f.order f.above f.within last)
+    subst Again same (entry_made_again from to before o e.key e.number f.value rest f.is f.key f.order f.above f.within last)
 
 regroup_5 : (a b c d e r : List ℕ) → (a ++ (b ++ (c ++ (d ++ e)))) ++ r ≡ a ++ (b ++ (c ++ (d ++ (e ++ r))))
 regroup_5 a b c d e r = simp append_assoc

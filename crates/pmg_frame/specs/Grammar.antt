@@ -2,7 +2,7 @@
 use Rattle.std.specs.Prelude.{◌≡◌, ◌↔◌, ℕ, ◌<◌, ◌≤◌, List, [], ◌∷◌, ◌++◌, length, Option, Some, None, Ok, IsTrue}
 use Rattle.pmg_value.specs.declared.value.Value.{Value}
 use Rattle.pmg_value.specs.Names.{is_nspace, is_key}
-use Rattle.pmg_value.specs.Spelling.{spelling}
+use Rattle.pmg_value.specs.Spelling.{spelling, IsValue}
 use Rattle.pmg_wire.specs.declared.fields.Admits.TheVariants as admits
 use Rattle.pmg_wire.specs.Fields.{is_admitted}
 use Rattle.pmg_wire.specs.Many.{Chain}
@@ -23,6 +23,7 @@ pub record Follows (from to : ℕ) (before : Option Entry) (e : Entry) : Type 0 
   pub above : from < e.number
   pub within : e.number ≤ to
   pub value : Value
+  pub is : IsValue value
   pub bytes : e.bytes ≡ spelling value
 
 -- what a piece says keeps its rules

@@ -16,7 +16,7 @@ use Rattle.std.proofs.lemmas.Bool.{and_parts, or_left, or_right, false_from_ne_t
 use Rattle.pmg_commit.specs.Entries.{Entry, best_of_two, is_later}
 use Rattle.pmg_store.specs.Tables.{best_at, improves}
 use Rattle.pmg_value.specs.declared.value.Value.{Value}
-use Rattle.pmg_value.specs.Spelling.{spelling}
+use Rattle.pmg_value.specs.Spelling.{spelling, IsValue}
 use Rattle.pmg_value.specs.Text.{text_of}
 use Rattle.std.specs.BTreeMap.{BTreeMap, get, is_at}
 use Rattle.pmg_commit.specs.Pieces.{entry_of}
@@ -133,6 +133,6 @@ inserted level old new key value entry q put same_key same_value i =
     ∙ kept level (best_at old) (entry_of entry) q i
 
 -- the text of a value's canonical bytes is the value's
-pub value_text-spelling : (v : Value) → value_text (spelling v) ≡ text_of v
+pub value_text-spelling : (v : Value) → IsValue v → value_text (spelling v) ≡ text_of v
 unfolding value_text
-value_text-spelling v = ap text_read (ap (λ (t : List ℕ). value_at (record { offset = 0; rest = t })) (sym (append-nil (spelling v))) ∙ value_again 0 v [])
+value_text-spelling v is = ap text_read (ap (λ (t : List ℕ). value_at (record { offset = 0; rest = t })) (sym (append-nil (spelling v))) ∙ value_again 0 v [] is)

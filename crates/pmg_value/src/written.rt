@@ -2,6 +2,7 @@
 //!
 //! Where a writer fails, what it took before is a front of the text: nothing out of order, nothing else.
 ghost use Rattle.std.specs.Prelude.{◌≡◌, decimal};
+ghost use Rattle.std.specs.Fmt.{signed_decimal};
 ghost use Rattle.pmg_value.specs.Written.{Writes};
 
 use itoa::Buffer;
@@ -39,4 +40,12 @@ pub fn put_number<W: Write>(writer: &mut W, number: u64) -> io::Result<()>
 {
     let mut buffer = Buffer::new();
     put_text(writer, buffer.format(number).as_bytes())
+}
+
+/// Writes `integer` in decimal, `-` before its digits where it is negative, as `put_text` writes.
+pub fn put_signed<W: Write>(writer: &mut W, integer: i64) -> io::Result<()>
+    ensures { Writes (W.contents writer.old) (W.contents writer.new) result (signed_decimal integer) }
+{
+    let mut buffer = Buffer::new();
+    put_text(writer, buffer.format(integer).as_bytes())
 }

@@ -1,6 +1,9 @@
 -- A key, a process or a value that is read was spelled so, and what is spelled so is read.
-use Rattle.std.proofs.Common.{◌≡◌, ℕ, ◌+◌, ◌^◌, ◌<◌, Bool, true, false, ◌&&◌, ◌||◌, not, nat_lt, nat_le, ◌==◌, cond, List, [], ◌∷◌, ◌++◌, length, Ok, IsTrue, refl, sym, ap, ◌∙◌, append_assoc, arith}
-use Rattle.std.specs.Int.{w16, w32, to_be_bytes}
+use Rattle.std.proofs.Common.{◌≡◌, ℕ, ◌+◌, ◌^◌, ◌<◌, ◌≤◌, Bool, true, false, ◌&&◌, ◌||◌, not, nat_lt, nat_le, ◌==◌, cond, List, [], ◌∷◌, ◌++◌, length, Result, Ok, Err, IsTrue, refl, sym, ap, subst, ◌∙◌, append_assoc, arith, ℤ, FitsSigned}
+use Rattle.std.specs.Int.{Width, w8, w16, w32, w64, to_be_bytes, byte_len, cast_signed, cast_unsigned}
+use mir.Val.{bits}
+use mir.ValLaws.{to_z-Fits, of_z_fits}
+use Rattle.std.proofs.lemmas.Int.{of_z-to_z, to_z-of_z}
 use Rattle.pmg_value.specs.declared.refusal.Cause.TheVariants as causes
 use Rattle.pmg_value.specs.declared.process.Proc.{Proc}
 use Rattle.pmg_value.specs.declared.value.Value.{Value}
@@ -9,17 +12,17 @@ use Rattle.pmg_value.specs.Names.{is_nspace, is_key, is_reserved}
 use Rattle.pmg_value.specs.Process.{host_name}
 use Rattle.std.specs.Str.{bytes_eq}
 use Rattle.std.proofs.lemmas.Slice.Eq.{bytes_eq-Decides}
-use Rattle.pmg_value.specs.Spelling.{spelling, tag_of, body_of}
+use Rattle.pmg_value.specs.Spelling.{spelling, tag_of, body_of, IsValue}
 use Rattle.pmg_wire.specs.declared.fields.Admits.{Admits}
 use Rattle.pmg_wire.specs.declared.fields.Admits.TheVariants as admits
-use Rattle.pmg_wire.specs.Fields.{key_at, proc_at, flag_at, body_at, value_at, is_admitted, is_named, is_ranked}
-use Rattle.pmg_wire.specs.Reading.{Place, Read, fault, ◌>>=◌, check, bytes_at, number_at, IsBytes, Takes}
+use Rattle.pmg_wire.specs.Fields.{key_at, proc_at, flag_at, made, body_at, value_at, is_admitted, is_named, is_ranked}
+use Rattle.pmg_wire.specs.Reading.{Place, Read, fault, ◌>>=◌, check, bytes_at, byte_at, number_at, IsBytes, Takes}
 use Rattle.pmg_wire.specs.Spelling.{key_spelling, proc_spelling}
 use Rattle.pmg_wire.specs.Grammar.{SpellsKey, SpellsProc, SpellsValue}
 use Rattle.std.proofs.lemmas.List.{length-append}
 use Rattle.std.proofs.lemmas.Bool.{and_parts, or_left, eqb-true, leb-true}
 use Rattle.std.proofs.lemmas.Bool.Decides.{nat_tests}
-use Rattle.pmg_wire.proofs.Steps.{place, IfRead, bind_if, check_if, done_if, refused_if, choice_if, Takes-then, IsBytes-after, bytes_if, bytes_again, wide16, wide32, number_if, number_again, byte_if, byte_again}
+use Rattle.pmg_wire.proofs.Steps.{place, IfRead, bind_if, check_if, done_if, refused_if, choice_if, Takes-then, IsBytes-after, bytes_if, bytes_again, IsWide, wide16, wide32, wide64, number_if, number_again, byte_if, byte_again}
 
 pub key_if : (at : Place) → IsBytes at.rest → IfRead (key_at at) (SpellsKey at)
 unfolding key_at
@@ -128,24 +131,59 @@ bool_body true = refl
 bool_body false = refl
 
 -- a value behind its tag
-TakesBody : ℕ → Place → Value → Place → Type 0
-TakesBody tag at v after = Takes at (body_of v) after × (tag ≡ tag_of v)
+record TakesBody (tag : ℕ) (at : Place) (v : Value) (after : Place) : Type 0 where
+  pub takes : Takes at (body_of v) after
+  pub tag_is : tag ≡ tag_of v
+  pub is : IsValue v
 
-body_if : (tag offset : ℕ) (at : Place) → IfRead (body_at tag offset at) (TakesBody tag at)
-unfolding body_at TakesBody
-body_if tag offset at = choice_if (tag == 1)
-    (λ is. bind_if _ (flag_if at) (λ b after t. done_if (rw (bool_body b) t, eqb-true tag 1 is)))
-    (λ _. choice_if (tag == 9)
-    (λ is. bind_if _ (byte_if at) (λ n after t. done_if (t.takes, eqb-true tag 9 is)))
-    (λ _. refused_if))
+-- the body of a kind that holds one byte
+byte_kind : (tag own : ℕ) (at : Place) → IsBytes at.rest → (kind : ℕ → Value) → IsTrue (tag == own)
+    → ((n : ℕ) → n < 2 ^ 8 → (body_of (kind n) ≡ n ∷ []) × (tag_of (kind n) ≡ own) × IsValue (kind n))
+    → IfRead (made kind (byte_at at)) (TakesBody tag at)
+byte_kind tag own at fits kind is rule = bind_if _ (byte_if at) (λ n after t.
+    let r = rule n (t.small fits) in
+    done_if (record { takes = rw r.0 t.takes; tag_is = eqb-true tag own is ∙ sym r.1; is = r.2 }))
 
-pub value_if : (at : Place) → IfRead (value_at at) (SpellsValue at)
-unfolding value_at TakesBody
-value_if at = bind_if _ (byte_if at) (λ tag after t.
+-- the body of a kind that holds a number of that width
+number_kind : (w : Width) (limit : ℕ) → IsWide w limit → (tag own : ℕ) (at : Place) → IsBytes at.rest → (kind : ℕ → Value) → IsTrue (tag == own)
+    → ((n : ℕ) → n < limit → (body_of (kind n) ≡ to_be_bytes w n) × (tag_of (kind n) ≡ own) × IsValue (kind n))
+    → IfRead (made kind (number_at w at)) (TakesBody tag at)
+number_kind w limit wide tag own at fits kind is rule = bind_if _ (number_if w limit wide at fits) (λ n after t.
+    let r = rule n t.small in
+    done_if (record { takes = rw r.0 t.takes; tag_is = eqb-true tag own is ∙ sym r.1; is = r.2 }))
+
+-- a signed number's bytes are those of its two's complement, and it lies in its range
+signed_rule : (w : Width) (n : ℕ) → n < 2 ^ bits w → (cast_unsigned w (cast_signed w n) ≡ n) × FitsSigned w (cast_signed w n)
+signed_rule w n lt = (of_z-to_z w n lt, to_z-Fits w n (record { fits = lt }))
+
+body_if : (tag offset : ℕ) (at : Place) → IsBytes at.rest → IfRead (body_at tag offset at) (TakesBody tag at)
+unfolding body_at
+body_if tag offset at fits =
+    choice_if (tag == 1) (λ is. bind_if _ (flag_if at) (λ b after t. done_if (record { takes = rw (bool_body b) t; tag_is = eqb-true tag 1 is; is = tt }))) (λ _.
+    choice_if (tag == 2) (λ is. byte_kind tag 2 at fits values.Byte is (λ n lt. (refl, refl, lt))) (λ _.
+    choice_if (tag == 4) (λ is. number_kind w64 (2 ^ 64) wide64 tag 4 at fits values.Size is (λ n lt. (refl, refl, lt))) (λ _.
+    choice_if (tag == 5) (λ is. byte_kind tag 5 at fits (λ n. values.I8 (cast_signed w8 n)) is (λ n lt. let s = signed_rule w8 n lt in (ap (λ (m : ℕ). m ∷ []) s.0, refl, s.1))) (λ _.
+    choice_if (tag == 6) (λ is. number_kind w16 (2 ^ 16) wide16 tag 6 at fits (λ n. values.I16 (cast_signed w16 n)) is (λ n lt. let s = signed_rule w16 n lt in (ap (to_be_bytes w16) s.0, refl, s.1))) (λ _.
+    choice_if (tag == 7) (λ is. number_kind w32 (2 ^ 32) wide32 tag 7 at fits (λ n. values.I32 (cast_signed w32 n)) is (λ n lt. let s = signed_rule w32 n lt in (ap (to_be_bytes w32) s.0, refl, s.1))) (λ _.
+    choice_if (tag == 8) (λ is. number_kind w64 (2 ^ 64) wide64 tag 8 at fits (λ n. values.I64 (cast_signed w64 n)) is (λ n lt. let s = signed_rule w64 n lt in (ap (to_be_bytes w64) s.0, refl, s.1))) (λ _.
+    choice_if (tag == 9) (λ is. byte_kind tag 9 at fits values.U8 is (λ n lt. (refl, refl, lt))) (λ _.
+    choice_if (tag == 10) (λ is. number_kind w16 (2 ^ 16) wide16 tag 10 at fits values.U16 is (λ n lt. (refl, refl, lt))) (λ _.
+    choice_if (tag == 11) (λ is. number_kind w32 (2 ^ 32) wide32 tag 11 at fits values.U32 is (λ n lt. (refl, refl, lt))) (λ _.
+    choice_if (tag == 12) (λ is. number_kind w64 (2 ^ 64) wide64 tag 12 at fits values.U64 is (λ n lt. (refl, refl, lt))) (λ _.
+    choice_if (tag == 13) (λ is. number_kind w32 (2 ^ 32) wide32 tag 13 at fits (λ n. values.Int (cast_signed w32 n)) is (λ n lt. let s = signed_rule w32 n lt in (ap (to_be_bytes w32) s.0, refl, s.1))) (λ _.
+    choice_if (tag == 14) (λ is. number_kind w32 (2 ^ 32) wide32 tag 14 at fits values.Uint is (λ n lt. (refl, refl, lt))) (λ _.
+    choice_if (tag == 15) (λ is. number_kind w32 (2 ^ 32) wide32 tag 15 at fits values.Rank is (λ n lt. (refl, refl, lt))) (λ _.
+    choice_if (tag == 17) (λ is. number_kind w32 (2 ^ 32) wide32 tag 17 at fits (λ n. values.Status (cast_signed w32 n)) is (λ n lt. let s = signed_rule w32 n lt in (ap (to_be_bytes w32) s.0, refl, s.1))) (λ _.
+    refused_if)))))))))))))))
+
+pub value_if : (at : Place) → IsBytes at.rest → IfRead (value_at at) (SpellsValue at)
+unfolding value_at
+value_if at fits = bind_if _ (byte_if at) (λ tag after t.
+    let after_fits : IsBytes after.rest = IsBytes-after (tag ∷ []) fits t.takes in
     record {
       holds = λ v end e.
-          let u = (body_if tag at.offset after).holds v end e in
-          record { takes = Takes-then (tag_of v ∷ []) (body_of v) (rw (← u.1) t.takes) u.0 };
+          let u = (body_if tag at.offset after after_fits).holds v end e in
+          record { takes = Takes-then (tag_of v ∷ []) (body_of v) (rw (← u.tag_is) t.takes) u.takes; is = u.is };
     })
 
 name_len : (name : List ℕ) → IsTrue (is_nspace name) → IsTrue (nat_lt 0 (length name))
@@ -175,11 +213,50 @@ unfolding flag_at
 flag_again o true rest = rw (byte_again o 1 rest) refl
 flag_again o false rest = rw (byte_again o 0 rest) refl
 
-pub value_again : (o : ℕ) (v : Value) (rest : List ℕ) → value_at (place o (spelling v ++ rest)) ≡ Ok (v, place (o + length (spelling v)) rest)
-unfolding value_at body_at
-value_again o (values.Bool true) rest = rw (byte_again o 1 (1 ∷ rest), flag_again (o + 1) true rest) (ap (λ (k : ℕ). Ok (values.Bool true, place k rest)) (omega arith))
-value_again o (values.Bool false) rest = rw (byte_again o 1 (0 ∷ rest), flag_again (o + 1) false rest) (ap (λ (k : ℕ). Ok (values.Bool false, place k rest)) (omega arith))
-value_again o (values.U8 n) rest = rw (byte_again o 9 (n ∷ rest), byte_again (o + 1) n rest) (ap (λ (k : ℕ). Ok (values.U8 n, place k rest)) (omega arith))
+-- a kind that holds one byte is read again
+byte_kind_again : (kind : ℕ → Value) (o n : ℕ) (rest : List ℕ) → made kind (byte_at (place o (n ∷ rest))) ≡ Ok (kind n, place (o + 1) rest)
+byte_kind_again kind o n rest = rw (byte_again o n rest) refl
+
+-- a kind that holds a number of that width is read again
+number_kind_again : (w : Width) (limit : ℕ) → IsWide w limit → (kind : ℕ → Value) (o n : ℕ) (rest : List ℕ) → n < limit
+    → made kind (number_at w (place o (to_be_bytes w n ++ rest))) ≡ Ok (kind n, place (o + byte_len w) rest)
+number_kind_again w limit wide kind o n rest lt = rw (number_again w limit wide o n rest lt) refl
+
+-- a kind that holds a signed number of that width is read again
+signed_kind_again : (w : Width) → IsWide w (2 ^ bits w) → (kind : ℤ → Value) (o : ℕ) (z : ℤ) (rest : List ℕ) → FitsSigned w z
+    → made (λ n. kind (cast_signed w n)) (number_at w (place o (to_be_bytes w (cast_unsigned w z) ++ rest))) ≡ Ok (kind z, place (o + byte_len w) rest)
+signed_kind_again w wide kind o z rest fits =
+    number_kind_again w (2 ^ bits w) wide (λ n. kind (cast_signed w n)) o (cast_unsigned w z) rest (of_z_fits w z fits).fits
+    ∙ ap (λ (y : ℤ). Ok (kind y, place (o + byte_len w) rest)) (to_z-of_z w z fits)
+
+-- what is read behind a tag is the value, and reading stands behind it
+value_is : (o own len : ℕ) (v : Value) (rest bytes : List ℕ) (end : ℕ) → (o + 1) + len ≡ end
+    → body_at own o (place (o + 1) bytes) ≡ Ok (v, place (o + 1 + len) rest)
+    → value_at (place o (own ∷ bytes)) ≡ Ok (v, place end rest)
+unfolding value_at
+value_is o own len v rest bytes end e read = rw (byte_again o own bytes) (read ∙ ap (λ (k : ℕ). Ok (v, place k rest)) e)
+
+pub value_again : (o : ℕ) (v : Value) (rest : List ℕ) → IsValue v → value_at (place o (spelling v ++ rest)) ≡ Ok (v, place (o + length (spelling v)) rest)
+unfolding body_at
+value_again o (values.Bool true) rest is = value_is o 1 1 _ rest _ _ (omega arith) (rw (flag_again (o + 1) true rest) refl)
+value_again o (values.Bool false) rest is = value_is o 1 1 _ rest _ _ (omega arith) (rw (flag_again (o + 1) false rest) refl)
+value_again o (values.Byte n) rest is = value_is o 2 1 _ rest _ _ (omega arith) (byte_kind_again values.Byte (o + 1) n rest)
+value_again o (values.Size n) rest is = value_is o 4 8 _ rest _ _ (omega arith) (number_kind_again w64 (2 ^ 64) wide64 values.Size (o + 1) n rest is)
+value_again o (values.I8 z) rest is =
+    value_is o 5 1 _ rest _ _ (omega arith)
+    (byte_kind_again (λ n. values.I8 (cast_signed w8 n)) (o + 1) (cast_unsigned w8 z) rest
+    ∙ ap (λ (y : ℤ). Ok (values.I8 y, place (o + 1 + 1) rest)) (to_z-of_z w8 z is))
+value_again o (values.I16 z) rest is = value_is o 6 2 _ rest _ _ (omega arith) (signed_kind_again w16 wide16 values.I16 (o + 1) z rest is)
+value_again o (values.I32 z) rest is = value_is o 7 4 _ rest _ _ (omega arith) (signed_kind_again w32 wide32 values.I32 (o + 1) z rest is)
+value_again o (values.I64 z) rest is = value_is o 8 8 _ rest _ _ (omega arith) (signed_kind_again w64 wide64 values.I64 (o + 1) z rest is)
+value_again o (values.U8 n) rest is = value_is o 9 1 _ rest _ _ (omega arith) (byte_kind_again values.U8 (o + 1) n rest)
+value_again o (values.U16 n) rest is = value_is o 10 2 _ rest _ _ (omega arith) (number_kind_again w16 (2 ^ 16) wide16 values.U16 (o + 1) n rest is)
+value_again o (values.U32 n) rest is = value_is o 11 4 _ rest _ _ (omega arith) (number_kind_again w32 (2 ^ 32) wide32 values.U32 (o + 1) n rest is)
+value_again o (values.U64 n) rest is = value_is o 12 8 _ rest _ _ (omega arith) (number_kind_again w64 (2 ^ 64) wide64 values.U64 (o + 1) n rest is)
+value_again o (values.Int z) rest is = value_is o 13 4 _ rest _ _ (omega arith) (signed_kind_again w32 wide32 values.Int (o + 1) z rest is)
+value_again o (values.Uint n) rest is = value_is o 14 4 _ rest _ _ (omega arith) (number_kind_again w32 (2 ^ 32) wide32 values.Uint (o + 1) n rest is)
+value_again o (values.Rank n) rest is = value_is o 15 4 _ rest _ _ (omega arith) (number_kind_again w32 (2 ^ 32) wide32 values.Rank (o + 1) n rest is)
+value_again o (values.Status z) rest is = value_is o 17 4 _ rest _ _ (omega arith) (signed_kind_again w32 wide32 values.Status (o + 1) z rest is)
 
 -- ---- both ways
 
@@ -195,4 +272,15 @@ pub proc_only : (who : Admits) (at : Place) (p : Proc) (after : Place) → Spell
 proc_only who at p after s = whole (proc_at who) p (proc_spelling p) s.takes (proc_again who at.offset p after.rest s.name s.admitted)
 
 pub value_only : (at : Place) (v : Value) (after : Place) → SpellsValue at v after → value_at at ≡ Ok (v, after)
-value_only at v after s = whole value_at v (spelling v) s.takes (value_again at.offset v after.rest)
+value_only at v after s = whole value_at v (spelling v) s.takes (value_again at.offset v after.rest s.is)
+
+ok_is : (x y : Value × Place) (r : Read Value) → r ≡ Ok x → r ≡ Ok y → x ≡ y
+ok_is x y r p q = cc
+
+pub one_spelling : (v w : Value) (x y : List ℕ) → IsValue v → IsValue w → spelling v ++ x ≡ spelling w ++ y → (v ≡ w) × (x ≡ y)
+one_spelling v w x y is_v is_w e =
+    let first = value_again 0 v x is_v in
+    let second = value_again 0 w y is_w in
+    let same : (v, place (0 + length (spelling v)) x) ≡ (w, place (0 + length (spelling w)) y) =
+    ok_is _ _ _ first (ap (λ (t : List ℕ). value_at (place 0 t)) e ∙ second) in
+    (ap (λ (z : Value × Place). z.0) same, ap (λ (z : Value × Place). z.1.rest) same)

@@ -1,6 +1,6 @@
 -- How keys, processes and values are read.
-use Rattle.std.specs.Prelude.{ℕ, ◌==◌, Bool, ◌&&◌, ◌||◌, not, nat_lt, nat_le, List, Ok, Err, if◌then◌else◌}
-use Rattle.std.specs.Int.{w16, w32}
+use Rattle.std.specs.Prelude.{ℕ, ◌==◌, Bool, true, false, ◌&&◌, ◌||◌, not, nat_lt, nat_le, nat_eq, List, Result, Ok, Err, if◌then◌else◌}
+use Rattle.std.specs.Int.{w8, w16, w32, w64, cast_signed}
 use Rattle.std.specs.Str.{bytes_eq}
 use Rattle.pmg_value.specs.declared.refusal.Cause.TheVariants as causes
 use Rattle.pmg_value.specs.declared.process.Proc.{Proc}
@@ -53,11 +53,28 @@ flag_at at = do
   _ ← check (nat_lt byte.0 2) (fault at.offset causes.Bool)
   Ok (byte.0 == 1, byte.1)
 
+-- a value of that kind, made of what is read
+abbrev pub made : {X : Type 0} → (X → Value) → Read X → Read Value
+made kind read = read >>= λ x. Ok (kind x.0, x.1)
+
 -- the body of a value with this tag, which stands at that offset
 unfoldable pub body_at : ℕ → ℕ → Place → Read Value
 body_at tag offset at =
-    if tag == 1 then (flag_at at >>= λ b. Ok (values.Bool b.0, b.1))
-    else if tag == 9 then (byte_at at >>= λ n. Ok (values.U8 n.0, n.1))
+    if tag == 1 then made values.Bool (flag_at at)
+    else if tag == 2 then made values.Byte (byte_at at)
+    else if tag == 4 then made values.Size (number_at w64 at)
+    else if tag == 5 then made (λ n. values.I8 (cast_signed w8 n)) (byte_at at)
+    else if tag == 6 then made (λ n. values.I16 (cast_signed w16 n)) (number_at w16 at)
+    else if tag == 7 then made (λ n. values.I32 (cast_signed w32 n)) (number_at w32 at)
+    else if tag == 8 then made (λ n. values.I64 (cast_signed w64 n)) (number_at w64 at)
+    else if tag == 9 then made values.U8 (byte_at at)
+    else if tag == 10 then made values.U16 (number_at w16 at)
+    else if tag == 11 then made values.U32 (number_at w32 at)
+    else if tag == 12 then made values.U64 (number_at w64 at)
+    else if tag == 13 then made (λ n. values.Int (cast_signed w32 n)) (number_at w32 at)
+    else if tag == 14 then made values.Uint (number_at w32 at)
+    else if tag == 15 then made values.Rank (number_at w32 at)
+    else if tag == 17 then made (λ n. values.Status (cast_signed w32 n)) (number_at w32 at)
     else Err (fault offset causes.Tag)
 
 -- a value: its tag and its body

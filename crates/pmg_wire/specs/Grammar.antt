@@ -1,12 +1,12 @@
 -- The grammar: what stands between two places of the bytes.
-use Rattle.std.specs.Prelude.{ℕ, List, IsTrue}
+use Rattle.std.specs.Prelude.{◌≡◌, ℕ, List, ◌++◌, Ok, IsTrue}
 use Rattle.pmg_value.specs.declared.process.Proc.{Proc}
 use Rattle.pmg_value.specs.declared.value.Value.{Value}
 use Rattle.pmg_value.specs.Names.{is_nspace, is_key}
-use Rattle.pmg_value.specs.Spelling.{spelling}
+use Rattle.pmg_value.specs.Spelling.{spelling, IsValue}
 use Rattle.pmg_wire.specs.declared.fields.Admits.{Admits}
-use Rattle.pmg_wire.specs.Fields.{is_admitted}
-use Rattle.pmg_wire.specs.Reading.{Place, Takes}
+use Rattle.pmg_wire.specs.Fields.{is_admitted, value_at}
+use Rattle.pmg_wire.specs.Reading.{Place, Takes, IsBytes}
 use Rattle.pmg_wire.specs.Spelling.{key_spelling, proc_spelling}
 
 -- a key, spelled
@@ -23,3 +23,16 @@ pub record SpellsProc (who : Admits) (at : Place) (p : Proc) (after : Place) : T
 -- a value, spelled
 pub record SpellsValue (at : Place) (v : Value) (after : Place) : Type 0 where
   pub takes : Takes at (spelling v) after
+  pub is : IsValue v
+
+-- what is read as a value is spelled so
+abbrev pub IsFound : Type 0
+IsFound = (at : Place) (v : Value) (after : Place) → IsBytes at.rest → value_at at ≡ Ok (v, after) → SpellsValue at v after
+
+-- what is spelled as a value is read
+abbrev pub IsOnly : Type 0
+IsOnly = (at : Place) (v : Value) (after : Place) → SpellsValue at v after → value_at at ≡ Ok (v, after)
+
+-- no value's spelling begins another's
+abbrev pub IsOneSpelling : Type 0
+IsOneSpelling = (v w : Value) (x y : List ℕ) → IsValue v → IsValue w → spelling v ++ x ≡ spelling w ++ y → (v ≡ w) × (x ≡ y)

@@ -135,7 +135,20 @@ fn body_of(tag: u8, offset: u64, at: &mut Cursor<'_>) -> Result<Value, Refusal>
 {
     match tag {
         1 => Ok(Value::Bool(get_flag(at)?)),
+        2 => Ok(Value::Byte(at.get_u8()?)),
+        4 => Ok(Value::Size(at.get_u64()?)),
+        5 => Ok(Value::I8(at.get_u8()?.cast_signed())),
+        6 => Ok(Value::I16(at.get_u16()?.cast_signed())),
+        7 => Ok(Value::I32(at.get_u32()?.cast_signed())),
+        8 => Ok(Value::I64(at.get_u64()?.cast_signed())),
         9 => Ok(Value::U8(at.get_u8()?)),
+        10 => Ok(Value::U16(at.get_u16()?)),
+        11 => Ok(Value::U32(at.get_u32()?)),
+        12 => Ok(Value::U64(at.get_u64()?)),
+        13 => Ok(Value::Int(at.get_u32()?.cast_signed())),
+        14 => Ok(Value::Uint(at.get_u32()?)),
+        15 => Ok(Value::Rank(Rank::new(at.get_u32()?))),
+        17 => Ok(Value::Status(at.get_u32()?.cast_signed())),
         _ => Err(Cursor::refuse(offset, Cause::Tag)),
     }
 }

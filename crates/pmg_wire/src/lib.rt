@@ -3,11 +3,15 @@
 
 mod cursor;
 mod fields;
+mod laws;
 mod put;
 
 pub use cursor::Cursor;
 pub use fields::{Admits, get_flag, get_key, get_proc, get_value};
+pub use laws::value_rules;
 pub use put::{put_key, put_proc, put_value};
 
 #[cfg(test)]
 mod tests;
+#[cfg(test)]
+mod value_tests;

@@ -1,6 +1,6 @@
 ghost use Rattle.std.specs.Prelude.{◌≡◌, ◌++◌, OnOk, OnErr};
 ghost use Rattle.pmg_wire.specs.Spelling.{key_spelling, proc_spelling};
-ghost use Rattle.pmg_value.specs.Spelling.{spelling};
+ghost use Rattle.pmg_value.specs.Spelling.{spelling, IsValue};
 
 use bytes::BytesMut;
 use pmg_value::{Key, Proc, Value};
@@ -35,6 +35,7 @@ pub fn put_proc(out: &mut BytesMut, process: &Proc) -> Result<(), AllocError>
 /// Writes a value's canonical bytes at the end of a buffer.
 pub fn put_value(out: &mut BytesMut, value: &Value) -> Result<(), AllocError>
     ensures ok { OnOk result (out.new.items ≡ out.old.items ++ spelling value.now) }
+    ensures is { IsValue value.now }
     ensures err { OnErr result (out.new.items ≡ out.old.items) }
 {
     let body = value.body();

@@ -11,7 +11,7 @@ returns-in_err-value-clause-only c = λ v after s.
     rw (err.1, err.2) (fails_as_due c.in_err-value.field-0.0 (value_at c.fork-ahead.result) _ c.in_err-value.ensures (ap value_at c.fork-ahead.ensures.place ∙ value_only c.args.at.now v after s))
 
 pub returns-clause-found : goal.returns-clause-found
-returns-clause-found c = (value_if c.args.at.now).holds c.in_ok-value.value c.value_of.new.at (ap value_at (sym c.fork-ahead.ensures.place) ∙ c.in_ok-value.ensures)
+returns-clause-found c = (value_if c.args.at.now c.fork-ahead.ensures.bytes).holds c.in_ok-value.value c.value_of.new.at (ap value_at (sym c.fork-ahead.ensures.place) ∙ c.in_ok-value.ensures)
 
 pub returns-clause-only : goal.returns-clause-only
 returns-clause-only c = λ v after s. sym (value_only c.args.at.now v after s) ∙ (ap value_at (sym c.fork-ahead.ensures.place) ∙ c.in_ok-value.ensures)
