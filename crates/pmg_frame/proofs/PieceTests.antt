@@ -74,7 +74,7 @@ follows_behind from to e (f ∷ fs) rises within are =
     let order = and_parts (is_key_rising e f) (leads is_key_rising f fs) rises in
     let number = and_parts (is_numbered from to f) (list_all (is_numbered from to) fs) within in
     let range = and_parts (nat_lt from f.number) (nat_le f.number to) number.0 in
-    let one : Follows from to (Some e) f = record { key = are.0.key; order = order.0; above = ltb-true _ _ range.0; within = leb-true _ _ range.1; value = are.0.value; bytes = are.0.bytes } in
+    let one : Follows from to (Some e) f = record { key = are.0.key; order = order.0; above = ltb-true _ _ range.0; within = leb-true _ _ range.1; value = are.0.value; is = are.0.is; bytes = are.0.bytes } in
     (one, follows_behind from to f fs order.1 number.1 are.1)
 
 follows : (from to : ℕ) (es : List Entry) → IsTrue (is_chain is_key_rising es) → IsTrue (list_all (is_numbered from to) es) → AreEntries es → Chain (Follows from to) None es
@@ -82,7 +82,7 @@ follows from to [] rises within are = tt
 follows from to (e ∷ es) rises within are =
     let number = and_parts (is_numbered from to e) (list_all (is_numbered from to) es) within in
     let range = and_parts (nat_lt from e.number) (nat_le e.number to) number.0 in
-    let one : Follows from to None e = record { key = are.0.key; order = refl; above = ltb-true _ _ range.0; within = leb-true _ _ range.1; value = are.0.value; bytes = are.0.bytes } in
+    let one : Follows from to None e = record { key = are.0.key; order = refl; above = ltb-true _ _ range.0; within = leb-true _ _ range.1; value = are.0.value; is = are.0.is; bytes = are.0.bytes } in
     (one, follows_behind from to e es rises number.1 are.1)
 
 piece_says : (c : Contribution) → IsTrue (is_nspace c.proc.nspace) → AreEntries c.entries → IsTrue (is_piece c) → IsPiece c × (length (piece_body c) ≤ 16777216)

@@ -66,6 +66,7 @@ IsOneSpelling = (f g : Frame) (x y : List ℕ) → AreFrames (f ∷ g ∷ []) �
 pub record IsEntry (e : Entry) : Type 0 where
   pub key : IsTrue (is_key e.key)
   pub value : Value
+  pub is : IsValue value
   pub bytes : e.bytes ≡ spelling value
 
 -- each is an entry

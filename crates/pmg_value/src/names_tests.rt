@@ -194,12 +194,12 @@ fn values_have_one_spelling_and_one_text(rt: HostRuntime) -> Result<(), Refusal>
         (Value::U8(0), [9, 0], b"u8:0"),
         (Value::U8(255), [9, 255], b"u8:255"),
     ];
-    for (value, spelling, text) in cases {
-        check_value(&rt, &value, spelling, text);
+    for (value, spelling, text) in &cases {
+        check_value(&rt, value, *spelling, text);
         check_value(
             &rt,
             &again!(value.copy().map_err(Refusal::from))?,
-            spelling,
+            *spelling,
             text,
         );
     }
