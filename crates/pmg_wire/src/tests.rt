@@ -13,7 +13,7 @@ fn stands(alloc: Global, row: &Row<'_>) -> Result<bool, Refusal> {
     let mut out = BytesMut::new(alloc);
     put_value(&mut out, value)?;
     let mut at = Cursor::new(7, bytes);
-    let again = get_value(&mut at)?;
+    let again = get_value(alloc, &mut at)?;
     let mut written = Vec::new(alloc);
     if again.write_text(&mut written).is_err() {
         return Err(Refusal::NoMemory);
@@ -150,8 +150,8 @@ fn numbers_with_a_sign(rt: HostRuntime) -> Result<(), Refusal> {
 }
 
 // The refusal of these bytes, or that of nothing where they are read.
-fn refused(bytes: &[u8]) -> Refusal {
-    match get_value(&mut Cursor::new(7, bytes)) {
+fn refused(alloc: Global, bytes: &[u8]) -> Refusal {
+    match get_value(alloc, &mut Cursor::new(7, bytes)) {
         Ok(_) => Refusal::NotFound,
         Err(e) => e,
     }
@@ -172,7 +172,7 @@ fn the_first_fault_of_a_value(rt: HostRuntime) -> Result<(), Refusal> {
     ];
     for (bytes, offset, cause) in rows {
         let want = Refusal::BadFrame(Fault { offset, cause });
-        assert_eq!(rt; refused(bytes), want);
+        assert_eq!(rt; refused(rt.alloc(), bytes), want);
     }
     Ok(())
 }
