@@ -42,7 +42,7 @@ fn get_entry(
     if number <= from || to < number {
         return Err(Cursor::refuse(number_at, Cause::Number));
     }
-    let value = get_value(at)?;
+    let value = get_value(alloc, at)?;
     Ok(PieceEntry { key, number, value })
 }
 

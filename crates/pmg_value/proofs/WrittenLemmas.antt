@@ -8,7 +8,7 @@ use Rattle.std.specs.Io.KnownBytes.{Appends, Keeps}
 use Rattle.std.proofs.Math.Seq.{take-add, take-append-add}
 use Rattle.std.proofs.lemmas.Grind.{common_steps}
 use Rattle.std.proofs.lemmas.Result.{on_ok_weaker}
-use Rattle.pmg_value.specs.Written.{AppendsFront}
+use Rattle.pmg_value.specs.Written.{AppendsFront, Writes}
 
 -- no text
 pub appends_nothing : (known : Option (List ℕ)) → Appends known known []
@@ -74,3 +74,8 @@ appends_taken old mid new text rest done taken is second first =
 
 -- what a function that writes a text in parts, each behind a `?`, has to prove at its exits
 pub ruleset written_in_parts = (appends_nothing, appends_then, ok_then, front_of_first, front_of_second, front_of_all)
+
+-- two parts, where each is known by another name
+pub two_parts : {T E : Type 0} (result : Result T E) (old mid new : Option (List ℕ)) (a b c d : List ℕ) → a ≡ c → b ≡ d → Writes mid new result b → Appends old mid a → Writes old new result (c ++ d)
+two_parts result old mid new a b c d is_c is_d second first =
+    rw (← is_c, ← is_d) (front_of_second a second.0 first, ok_then result old mid new a b second.1 first)

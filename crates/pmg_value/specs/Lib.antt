@@ -1,8 +1,10 @@
 pub mod Answers
+pub mod Blobs
 pub mod Lists
 pub mod Maps
 pub mod Names
 pub mod Operations
+pub mod Parts
 pub mod Process
 pub mod RefusalText
 pub mod Refusals

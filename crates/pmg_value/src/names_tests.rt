@@ -175,7 +175,7 @@ fn a_group_has_64_nodes(rt: HostRuntime) -> Result<(), Refusal> {
 
 fn check_value(rt: &impl Abort, value: &Value, spelling: [u8; 2], text: &[u8]) {
     assert_eq!(rt; value.tag(), spelling[0]);
-    assert_eq!(rt; value.body().as_slice(), &spelling[1..]);
+    assert_eq!(rt; value.parts().head.as_slice(), &spelling[1..]);
     assert_eq!(rt; value.size(), 2);
     let mut held = [0; 16];
     let mut writer = &mut held[..];

@@ -1,16 +1,24 @@
-ghost use Rattle.std.specs.Prelude.{◌≡◌, ◌≤◌, ◌<◌, ◌/◌, ◌%◌, ◌++◌, length, decimal, IfOk};
-ghost use Rattle.std.specs.Char.{digit_char};
+ghost use Rattle.std.specs.Prelude.{◌≡◌, ◌≤◌, ◌<◌, ◌^◌, [], ◌∷◌, ◌++◌, length, codes, decimal, IfOk, IsTrue, if◌then◌else◌};
 ghost use Rattle.std.specs.Fmt.{signed_decimal};
-ghost use Rattle.std.specs.Ordering.{nat_cmp};
+ghost use Rattle.std.specs.Ordering.{nat_cmp, ordering_then};
+ghost use Rattle.std.specs.Int.{w32, from_be_bytes, to_be_bytes};
 ghost use Rattle.std.specs.Cmp.Lexicographic.{slice_cmp};
-ghost use Rattle.pmg_value.specs.Spelling.{spelling, tag_of, body_of, IsValue};
-ghost use Rattle.pmg_value.specs.Text.{text_of, hex_byte};
+ghost use Rattle.pmg_value.specs.Spelling.{spelling, tag_of, body_of, counted, IsValue};
+ghost use Rattle.pmg_value.specs.Parts.{head_len, middle_len};
+ghost use Rattle.pmg_value.specs.Blobs.{is_text, is_blob};
+ghost use Rattle.pmg_value.specs.Names.{is_nspace};
+ghost use Rattle.pmg_value.specs.Answers.{Gives};
+ghost use Rattle.pmg_value.specs.declared.value.Value.TheVariants as values;
+ghost use Rattle.pmg_value.specs.declared.refusal.Refusal.TheVariants as refusals;
+ghost use Rattle.pmg_value.specs.Text.{text_of, hex_text};
 ghost use Rattle.pmg_value.specs.Written.{Writes};
 
-use crate::process::Rank;
-use crate::written::{put_number, put_signed, put_text};
+use crate::blobs::{Octets, Text};
+use crate::process::{Proc, Rank};
+use crate::refusal::Refusal;
+use crate::written::{put_hex, put_number, put_signed, put_text};
 use arrayvec::ArrayVec;
-use std::alloc::AllocError;
+use std::alloc::{AllocError, Global};
 use std::cmp::Ordering;
 use std::io;
 use std::io::Write;
@@ -26,6 +34,8 @@ pub enum Value {
     Bool(bool),
     /// PMIX_BYTE.
     Byte(u8),
+    /// PMIX_STRING.
+    Str(Text),
     /// PMIX_SIZE.
     Size(u64),
     /// PMIX_INT8.
@@ -50,11 +60,40 @@ pub enum Value {
     Uint(u32),
     /// PMIX_PROC_RANK.
     Rank(Rank),
+    /// PMIX_PROC.
+    Proc(Proc),
     /// PMIX_STATUS.
     Status(i32),
+    /// PMIX_BYTE_OBJECT.
+    Bytes(Octets),
+}
+
+/// The canonical bytes behind a value's tag, in three parts: a head of at most eight bytes, the bytes of a
+/// namespace, a string or a byte object, and a rank.
+#[derive(Drop)]
+pub struct Parts<'a> {
+    pub head: ArrayVec<u8, 8>,
+    pub middle: &'a [u8],
+    pub end: ArrayVec<u8, 8>,
 }
 
 impl Value {
+    /// The string of these bytes. Refused as BadParam where one is zero or the value would be longer than
+    /// 1,048,576 canonical bytes, and as NoMemory.
+    pub fn string(alloc: Global, text: &[u8]) -> Result<Value, Refusal>
+        ensures { Gives (λ v. v) result (if is_text text.now then Ok (values.Str text.now) else Err refusals.BadParam) }
+    {
+        Ok(Value::Str(Text::read(alloc, text)?))
+    }
+
+    /// The byte object of these bytes. Refused as BadParam where the value would be longer than 1,048,576
+    /// canonical bytes, and as NoMemory.
+    pub fn bytes(alloc: Global, bytes: &[u8]) -> Result<Value, Refusal>
+        ensures { Gives (λ v. v) result (if is_blob bytes.now then Ok (values.Bytes bytes.now) else Err refusals.BadParam) }
+    {
+        Ok(Value::Bytes(Octets::read(alloc, bytes)?))
+    }
+
     /// The tag, the first of the canonical bytes.
     pub fn tag(&self) -> u8
         ensures { result ≡ tag_of self.now }
@@ -62,6 +101,7 @@ impl Value {
         match self {
             Value::Bool(_) => 1,
             Value::Byte(_) => 2,
+            Value::Str(_) => 3,
             Value::Size(_) => 4,
             Value::I8(_) => 5,
             Value::I16(_) => 6,
@@ -74,31 +114,38 @@ impl Value {
             Value::Int(_) => 13,
             Value::Uint(_) => 14,
             Value::Rank(_) => 15,
+            Value::Proc(_) => 16,
             Value::Status(_) => 17,
+            Value::Bytes(_) => 18,
         }
     }
 
-    /// The canonical bytes behind the tag.
-    pub fn body(&self) -> ArrayVec<u8, 8>
-        ensures value { result.items ≡ body_of self.now }
-        ensures range { IsValue self.now }
+    /// The canonical bytes behind the tag, in parts.
+    pub fn parts(&self) -> Parts<'_>
+        ensures body { result.head.items ++ (result.middle.now ++ result.end.items) ≡ body_of self.now }
+        ensures head { length result.head.items ≡ head_len (tag_of self.now) }
+        ensures middle { length result.middle.now ≡ middle_len (tag_of self.now) result.head.items }
+        ensures is { IsValue self.now }
     {
         match self {
-            Value::Bool(b) => held(&[u8::from(*b)]),
-            Value::Byte(n) => held(&[*n]),
-            Value::Size(n) => held(&n.to_be_bytes()),
-            Value::I8(n) => held(&n.to_be_bytes()),
-            Value::I16(n) => held(&n.to_be_bytes()),
-            Value::I32(n) => held(&n.to_be_bytes()),
-            Value::I64(n) => held(&n.to_be_bytes()),
-            Value::U8(n) => held(&[*n]),
-            Value::U16(n) => held(&n.to_be_bytes()),
-            Value::U32(n) => held(&n.to_be_bytes()),
-            Value::U64(n) => held(&n.to_be_bytes()),
-            Value::Int(n) => held(&n.to_be_bytes()),
-            Value::Uint(n) => held(&n.to_be_bytes()),
-            Value::Rank(rank) => held(&rank.number().to_be_bytes()),
-            Value::Status(n) => held(&n.to_be_bytes()),
+            Value::Bool(b) => alone(&[u8::from(*b)]),
+            Value::Byte(n) => alone(&[*n]),
+            Value::Str(text) => counted(text.as_bytes()),
+            Value::Size(n) => alone(&n.to_be_bytes()),
+            Value::I8(n) => alone(&n.to_be_bytes()),
+            Value::I16(n) => alone(&n.to_be_bytes()),
+            Value::I32(n) => alone(&n.to_be_bytes()),
+            Value::I64(n) => alone(&n.to_be_bytes()),
+            Value::U8(n) => alone(&[*n]),
+            Value::U16(n) => alone(&n.to_be_bytes()),
+            Value::U32(n) => alone(&n.to_be_bytes()),
+            Value::U64(n) => alone(&n.to_be_bytes()),
+            Value::Int(n) => alone(&n.to_be_bytes()),
+            Value::Uint(n) => alone(&n.to_be_bytes()),
+            Value::Rank(rank) => alone(&rank.number().to_be_bytes()),
+            Value::Proc(process) => named(process),
+            Value::Status(n) => alone(&n.to_be_bytes()),
+            Value::Bytes(octets) => counted(octets.as_bytes()),
         }
     }
 
@@ -113,6 +160,9 @@ impl Value {
             Value::I32(_) | Value::U32(_) => 5,
             Value::Int(_) | Value::Uint(_) | Value::Rank(_) | Value::Status(_) => 5,
             Value::Size(_) | Value::I64(_) | Value::U64(_) => 9,
+            Value::Str(text) => 5 + text.as_bytes().len(),
+            Value::Proc(process) => 6 + process.nspace.as_bytes().len(),
+            Value::Bytes(octets) => 5 + octets.as_bytes().len(),
         }
     }
 
@@ -124,7 +174,7 @@ impl Value {
         if order.is_ne() {
             return order;
         }
-        self.body().as_slice().cmp(other.body().as_slice())
+        cmp_parts(&self.parts(), &other.parts())
     }
 
     /// Another value of the same meaning.
@@ -134,6 +184,7 @@ impl Value {
         Ok(match self {
             Value::Bool(b) => Value::Bool(*b),
             Value::Byte(n) => Value::Byte(*n),
+            Value::Str(text) => Value::Str(text.copy()?),
             Value::Size(n) => Value::Size(*n),
             Value::I8(n) => Value::I8(*n),
             Value::I16(n) => Value::I16(*n),
@@ -146,7 +197,9 @@ impl Value {
             Value::Int(n) => Value::Int(*n),
             Value::Uint(n) => Value::Uint(*n),
             Value::Rank(rank) => Value::Rank(*rank),
+            Value::Proc(process) => Value::Proc(process.copy()?),
             Value::Status(n) => Value::Status(*n),
+            Value::Bytes(octets) => Value::Bytes(octets.copy()?),
         })
     }
 
@@ -154,12 +207,13 @@ impl Value {
     #[tactic(auto, using(crate::proofs::WrittenLemmas::written_in_parts))]
     pub fn write_text<W: Write>(&self, writer: &mut W) -> io::Result<()>
         ensures text { Writes (W.contents writer.old) (W.contents writer.new) result (text_of self.now) }
-        ensures range { IsValue self.now }
+        ensures is { IsValue self.now }
     {
         match self {
             Value::Bool(false) => put_text(writer, b"bool:false"),
             Value::Bool(true) => put_text(writer, b"bool:true"),
-            Value::Byte(n) => put_byte(writer, b"byte:", *n),
+            Value::Byte(n) => put_blob(writer, b"byte:", &[*n]),
+            Value::Str(text) => put_blob(writer, b"string:", text.as_bytes()),
             Value::Size(n) => put_unsigned(writer, b"size:", *n),
             Value::I8(n) => put_integer(writer, b"i8:", i64::from(*n)),
             Value::I16(n) => put_integer(writer, b"i16:", i64::from(*n)),
@@ -172,7 +226,9 @@ impl Value {
             Value::Int(n) => put_integer(writer, b"int:", i64::from(*n)),
             Value::Uint(n) => put_unsigned(writer, b"uint:", u64::from(*n)),
             Value::Rank(rank) => put_unsigned(writer, b"rank:", u64::from(rank.number())),
+            Value::Proc(process) => put_process(writer, process),
             Value::Status(n) => put_integer(writer, b"status:", i64::from(*n)),
+            Value::Bytes(octets) => put_blob(writer, b"bytes:", octets.as_bytes()),
         }
     }
 }
@@ -187,25 +243,88 @@ fn held(bytes: &[u8]) -> ArrayVec<u8, 8>
     held
 }
 
-// A lower hexadecimal digit.
-fn hex_digit(digit: u8) -> u8
-    requires { digit < 16 }
-    ensures { result ≡ digit_char digit }
+// A body that is a head alone, of these bytes.
+fn alone(bytes: &[u8]) -> Parts<'static>
+    requires { length bytes.now ≤ 8 }
+    ensures body { result.head.items ≡ bytes.now }
+    ensures middle { result.middle.now ≡ [] }
+    ensures end { result.end.items ≡ [] }
 {
-    if digit < 10 {
-        b'0' + digit
-    } else {
-        b'a' - 10 + digit
+    Parts {
+        head: held(bytes),
+        middle: &[],
+        end: ArrayVec::new(),
     }
 }
 
-// A kind's name with its colon, and a byte in hexadecimal.
+// A body of these bytes, behind four bytes of their number.
+#[tactic(auto, using(crate::proofs::OrderLemmas::length_again))]
+fn counted(bytes: &[u8]) -> Parts<'_>
+    requires { length bytes.now ≤ 1048571 }
+    ensures body { result.head.items ++ (result.middle.now ++ result.end.items) ≡ counted bytes.now }
+    ensures head { length result.head.items ≡ 4 }
+    ensures middle { length result.middle.now ≡ from_be_bytes w32 result.head.items }
+{
+    Parts {
+        head: held(&(bytes.len() as u32).to_be_bytes()),
+        middle: bytes,
+        end: ArrayVec::new(),
+    }
+}
+
+// A body of a process: one byte of length, the namespace, and four bytes of rank.
+fn named(process: &Proc) -> Parts<'_>
+    ensures head { result.head.items ≡ length process.now.nspace ∷ [] }
+    ensures middle { result.middle.now ≡ process.now.nspace }
+    ensures end { result.end.items ≡ to_be_bytes w32 process.now.rank }
+    ensures name { IsTrue (is_nspace process.now.nspace) }
+    ensures rank { process.now.rank < 2 ^ 32 }
+{
+    let name = process.nspace.as_bytes();
+    Parts {
+        head: held(&[name.len() as u8]),
+        middle: name,
+        end: held(&process.rank.number().to_be_bytes()),
+    }
+}
+
+// The order of bodies of one kind: by their heads, then their middles, then their ends.
+fn cmp_parts(a: &Parts<'_>, b: &Parts<'_>) -> Ordering
+    ensures { result ≡ ordering_then (slice_cmp nat_cmp a.now.head.items b.now.head.items)
+        (ordering_then (slice_cmp nat_cmp a.now.middle.now b.now.middle.now) (slice_cmp nat_cmp a.now.end.items b.now.end.items)) }
+{
+    let order = a.head.as_slice().cmp(b.head.as_slice());
+    if order.is_ne() {
+        return order;
+    }
+    let order = a.middle.cmp(b.middle);
+    if order.is_ne() {
+        return order;
+    }
+    a.end.as_slice().cmp(b.end.as_slice())
+}
+
+// A kind's name with its colon, and bytes in hexadecimal.
 #[tactic(auto, using(crate::proofs::WrittenLemmas::written_in_parts))]
-fn put_byte<W: Write>(writer: &mut W, label: &[u8], byte: u8) -> io::Result<()>
-    ensures { Writes (W.contents writer.old) (W.contents writer.new) result (label.now ++ hex_byte byte) }
+fn put_blob<W: Write>(writer: &mut W, label: &[u8], bytes: &[u8]) -> io::Result<()>
+    ensures { Writes (W.contents writer.old) (W.contents writer.new) result (label.now ++ hex_text bytes.now) }
 {
     put_text(writer, label)?;
-    put_text(writer, &[hex_digit(byte / 16), hex_digit(byte % 16)])
+    put_hex(writer, bytes)
+}
+
+// A process: the namespace in hexadecimal, and the rank.
+#[tactic(auto, using(crate::proofs::WrittenLemmas::written_in_parts))]
+fn put_process<W: Write>(writer: &mut W, process: &Proc) -> io::Result<()>
+    ensures text { Writes (W.contents writer.old) (W.contents writer.new) result
+        ((codes "proc:" ++ hex_text process.now.nspace) ++ (codes "/" ++ decimal process.now.rank)) }
+    ensures name { IsTrue (is_nspace process.now.nspace) }
+    ensures rank { process.now.rank < 2 ^ 32 }
+{
+    let name = process.nspace.as_bytes();
+    let rank = process.rank.number();
+    put_blob(writer, b"proc:", name)?;
+    put_unsigned(writer, b"/", u64::from(rank))
 }
 
 // A kind's name with its colon, and a number from 0 up.

@@ -22,6 +22,7 @@ use Rattle.pmg_wire.specs.Grammar.{SpellsKey, SpellsProc, SpellsValue}
 use Rattle.std.proofs.lemmas.List.{length-append}
 use Rattle.std.proofs.lemmas.Bool.{and_parts, or_left, eqb-true, leb-true}
 use Rattle.std.proofs.lemmas.Bool.Decides.{nat_tests}
+use Rattle.pmg_wire.proofs.BlobLaws.{text_if, text_again, blob_if, blob_again, any_proc_if, any_proc_again, name_len}
 use Rattle.pmg_wire.proofs.Steps.{place, IfRead, bind_if, check_if, done_if, refused_if, choice_if, Takes-then, IsBytes-after, bytes_if, bytes_again, IsWide, wide16, wide32, wide64, number_if, number_again, byte_if, byte_again}
 
 pub key_if : (at : Place) → IsBytes at.rest → IfRead (key_at at) (SpellsKey at)
@@ -161,6 +162,7 @@ unfolding body_at
 body_if tag offset at fits =
     choice_if (tag == 1) (λ is. bind_if _ (flag_if at) (λ b after t. done_if (record { takes = rw (bool_body b) t; tag_is = eqb-true tag 1 is; is = tt }))) (λ _.
     choice_if (tag == 2) (λ is. byte_kind tag 2 at fits values.Byte is (λ n lt. (refl, refl, lt))) (λ _.
+    choice_if (tag == 3) (λ is. bind_if _ (text_if offset at fits) (λ t after u. done_if (record { takes = u.takes; tag_is = eqb-true tag 3 is; is = u.is }))) (λ _.
     choice_if (tag == 4) (λ is. number_kind w64 (2 ^ 64) wide64 tag 4 at fits values.Size is (λ n lt. (refl, refl, lt))) (λ _.
     choice_if (tag == 5) (λ is. byte_kind tag 5 at fits (λ n. values.I8 (cast_signed w8 n)) is (λ n lt. let s = signed_rule w8 n lt in (ap (λ (m : ℕ). m ∷ []) s.0, refl, s.1))) (λ _.
     choice_if (tag == 6) (λ is. number_kind w16 (2 ^ 16) wide16 tag 6 at fits (λ n. values.I16 (cast_signed w16 n)) is (λ n lt. let s = signed_rule w16 n lt in (ap (to_be_bytes w16) s.0, refl, s.1))) (λ _.
@@ -173,8 +175,10 @@ body_if tag offset at fits =
     choice_if (tag == 13) (λ is. number_kind w32 (2 ^ 32) wide32 tag 13 at fits (λ n. values.Int (cast_signed w32 n)) is (λ n lt. let s = signed_rule w32 n lt in (ap (to_be_bytes w32) s.0, refl, s.1))) (λ _.
     choice_if (tag == 14) (λ is. number_kind w32 (2 ^ 32) wide32 tag 14 at fits values.Uint is (λ n lt. (refl, refl, lt))) (λ _.
     choice_if (tag == 15) (λ is. number_kind w32 (2 ^ 32) wide32 tag 15 at fits values.Rank is (λ n lt. (refl, refl, lt))) (λ _.
+    choice_if (tag == 16) (λ is. bind_if _ (any_proc_if at fits) (λ p after u. done_if (record { takes = u.takes; tag_is = eqb-true tag 16 is; is = (u.name, u.rank) }))) (λ _.
     choice_if (tag == 17) (λ is. number_kind w32 (2 ^ 32) wide32 tag 17 at fits (λ n. values.Status (cast_signed w32 n)) is (λ n lt. let s = signed_rule w32 n lt in (ap (to_be_bytes w32) s.0, refl, s.1))) (λ _.
-    refused_if)))))))))))))))
+    choice_if (tag == 18) (λ is. bind_if _ (blob_if offset at fits) (λ b after u. done_if (record { takes = u.takes; tag_is = eqb-true tag 18 is; is = u.is }))) (λ _.
+    refused_if))))))))))))))))))
 
 pub value_if : (at : Place) → IsBytes at.rest → IfRead (value_at at) (SpellsValue at)
 unfolding value_at
@@ -185,9 +189,6 @@ value_if at fits = bind_if _ (byte_if at) (λ tag after t.
           let u = (body_if tag at.offset after after_fits).holds v end e in
           record { takes = Takes-then (tag_of v ∷ []) (body_of v) (rw (← u.tag_is) t.takes) u.takes; is = u.is };
     })
-
-name_len : (name : List ℕ) → IsTrue (is_nspace name) → IsTrue (nat_lt 0 (length name))
-name_len name h = (and_parts (nat_lt 0 (length name)) (nat_le (length name) 255) (and_parts (nat_lt 0 (length name) && nat_le (length name) 255) _ h).0).0
 
 rank_fits : (h : Bool) (rank : ℕ) → IsTrue (cond h (rank == 0) (nat_le rank 4095)) → rank < 2 ^ 32
 rank_fits true rank r = let e = eqb-true rank 0 r in omega arith
@@ -212,6 +213,10 @@ flag_again : (o : ℕ) (b : Bool) (rest : List ℕ) → flag_at (place o (cond b
 unfolding flag_at
 flag_again o true rest = rw (byte_again o 1 rest) refl
 flag_again o false rest = rw (byte_again o 0 rest) refl
+
+-- what is read again makes the value again
+made_again : {X : Type 0} (kind : X → Value) {read : Read X} {x : X} {after : Place} → read ≡ Ok (x, after) → made kind read ≡ Ok (kind x, after)
+made_again kind e = ap (made kind) e
 
 -- a kind that holds one byte is read again
 byte_kind_again : (kind : ℕ → Value) (o n : ℕ) (rest : List ℕ) → made kind (byte_at (place o (n ∷ rest))) ≡ Ok (kind n, place (o + 1) rest)
@@ -241,6 +246,9 @@ unfolding body_at
 value_again o (values.Bool true) rest is = value_is o 1 1 _ rest _ _ (omega arith) (rw (flag_again (o + 1) true rest) refl)
 value_again o (values.Bool false) rest is = value_is o 1 1 _ rest _ _ (omega arith) (rw (flag_again (o + 1) false rest) refl)
 value_again o (values.Byte n) rest is = value_is o 2 1 _ rest _ _ (omega arith) (byte_kind_again values.Byte (o + 1) n rest)
+value_again o (values.Str t) rest is =
+    value_is o 3 (4 + length t) _ rest _ _ (omega (arith, length-append (to_be_bytes w32 (length t)) t))
+    (made_again values.Str (text_again o (o + 1) t rest is) ∙ ap (λ (k : ℕ). Ok (values.Str t, place k rest)) (omega arith))
 value_again o (values.Size n) rest is = value_is o 4 8 _ rest _ _ (omega arith) (number_kind_again w64 (2 ^ 64) wide64 values.Size (o + 1) n rest is)
 value_again o (values.I8 z) rest is =
     value_is o 5 1 _ rest _ _ (omega arith)
@@ -256,6 +264,12 @@ value_again o (values.U64 n) rest is = value_is o 12 8 _ rest _ _ (omega arith) 
 value_again o (values.Int z) rest is = value_is o 13 4 _ rest _ _ (omega arith) (signed_kind_again w32 wide32 values.Int (o + 1) z rest is)
 value_again o (values.Uint n) rest is = value_is o 14 4 _ rest _ _ (omega arith) (number_kind_again w32 (2 ^ 32) wide32 values.Uint (o + 1) n rest is)
 value_again o (values.Rank n) rest is = value_is o 15 4 _ rest _ _ (omega arith) (number_kind_again w32 (2 ^ 32) wide32 values.Rank (o + 1) n rest is)
+value_again o (values.Proc p) rest is =
+    value_is o 16 (5 + length p.nspace) _ rest _ _ (omega (arith, length-append p.nspace (to_be_bytes w32 p.rank)))
+    (made_again values.Proc (any_proc_again (o + 1) p rest is.0 is.1) ∙ ap (λ (k : ℕ). Ok (values.Proc p, place k rest)) (omega arith))
+value_again o (values.Bytes b) rest is =
+    value_is o 18 (4 + length b) _ rest _ _ (omega (arith, length-append (to_be_bytes w32 (length b)) b))
+    (made_again values.Bytes (blob_again o (o + 1) b rest is) ∙ ap (λ (k : ℕ). Ok (values.Bytes b, place k rest)) (omega arith))
 value_again o (values.Status z) rest is = value_is o 17 4 _ rest _ _ (omega arith) (signed_kind_again w32 wide32 values.Status (o + 1) z rest is)
 
 -- ---- both ways

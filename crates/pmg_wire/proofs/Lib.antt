@@ -1,3 +1,4 @@
 pub mod Steps
+pub mod BlobLaws
 pub mod FieldLaws
 pub mod Counted

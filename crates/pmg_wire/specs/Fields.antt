@@ -1,11 +1,14 @@
 -- How keys, processes and values are read.
-use Rattle.std.specs.Prelude.{ℕ, ◌==◌, Bool, true, false, ◌&&◌, ◌||◌, not, nat_lt, nat_le, nat_eq, List, Result, Ok, Err, if◌then◌else◌}
+use Rattle.std.specs.Prelude.{ℕ, ◌+◌, ◌==◌, Bool, true, false, ◌&&◌, ◌||◌, not, nat_lt, nat_le, nat_eq, List, Option, Some, None, Result, Ok, Err, if◌then◌else◌}
 use Rattle.std.specs.Int.{w8, w16, w32, w64, cast_signed}
 use Rattle.std.specs.Str.{bytes_eq}
 use Rattle.pmg_value.specs.declared.refusal.Cause.TheVariants as causes
 use Rattle.pmg_value.specs.declared.process.Proc.{Proc}
 use Rattle.pmg_value.specs.declared.value.Value.{Value}
 use Rattle.pmg_value.specs.declared.value.Value.TheVariants as values
+use Rattle.std.specs.List.{position}
+use Rattle.pmg_value.specs.declared.refusal.Fault.{Fault}
+use Rattle.pmg_value.specs.Blobs.{is_zero, is_blob}
 use Rattle.pmg_value.specs.Names.{is_nspace, is_reserved, is_key}
 use Rattle.pmg_value.specs.Process.{host_name, is_client, is_host}
 use Rattle.pmg_wire.specs.declared.fields.Admits.{Admits}
@@ -53,6 +56,38 @@ flag_at at = do
   _ ← check (nat_lt byte.0 2) (fault at.offset causes.Bool)
   Ok (byte.0 == 1, byte.1)
 
+-- the bytes of a string hold no zero: where the first one stands, if any, and where the bytes start
+abbrev pub check_text : Option ℕ → ℕ → Result (Unit {0}) Fault
+check_text None start = Ok tt
+check_text (Some i) start = Err (fault (start + i) causes.Text)
+
+-- a string of a value whose tag stands at that offset: four bytes of length, and the bytes
+unfoldable pub text_at : ℕ → Place → Read (List ℕ)
+text_at offset at = do
+  len ← number_at w32 at
+  text ← bytes_at len.0 len.1
+  _ ← check_text (position is_zero text.0) len.1.offset
+  _ ← check (is_blob text.0) (fault offset causes.Size)
+  Ok text
+
+-- a byte object of a value whose tag stands at that offset: four bytes of length, and the bytes
+unfoldable pub blob_at : ℕ → Place → Read (List ℕ)
+blob_at offset at = do
+  len ← number_at w32 at
+  bytes ← bytes_at len.0 len.1
+  _ ← check (is_blob bytes.0) (fault offset causes.Size)
+  Ok bytes
+
+-- any process: one byte of length, the namespace, and four bytes of rank
+unfoldable pub any_proc_at : Place → Read Proc
+any_proc_at at = do
+  len ← byte_at at
+  _ ← check (nat_lt 0 len.0) (fault at.offset causes.Name)
+  name ← bytes_at len.0 len.1
+  _ ← check (is_nspace name.0) (fault at.offset causes.Name)
+  rank ← number_at w32 name.1
+  Ok (record { nspace = name.0; rank = rank.0 }, rank.1)
+
 -- a value of that kind, made of what is read
 abbrev pub made : {X : Type 0} → (X → Value) → Read X → Read Value
 made kind read = read >>= λ x. Ok (kind x.0, x.1)
@@ -62,6 +97,7 @@ unfoldable pub body_at : ℕ → ℕ → Place → Read Value
 body_at tag offset at =
     if tag == 1 then made values.Bool (flag_at at)
     else if tag == 2 then made values.Byte (byte_at at)
+    else if tag == 3 then made values.Str (text_at offset at)
     else if tag == 4 then made values.Size (number_at w64 at)
     else if tag == 5 then made (λ n. values.I8 (cast_signed w8 n)) (byte_at at)
     else if tag == 6 then made (λ n. values.I16 (cast_signed w16 n)) (number_at w16 at)
@@ -74,7 +110,9 @@ body_at tag offset at =
     else if tag == 13 then made (λ n. values.Int (cast_signed w32 n)) (number_at w32 at)
     else if tag == 14 then made values.Uint (number_at w32 at)
     else if tag == 15 then made values.Rank (number_at w32 at)
+    else if tag == 16 then made values.Proc (any_proc_at at)
     else if tag == 17 then made (λ n. values.Status (cast_signed w32 n)) (number_at w32 at)
+    else if tag == 18 then made values.Bytes (blob_at offset at)
     else Err (fault offset causes.Tag)
 
 -- a value: its tag and its body

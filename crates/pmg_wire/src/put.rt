@@ -38,9 +38,11 @@ pub fn put_value(out: &mut BytesMut, value: &Value) -> Result<(), AllocError>
     ensures is { IsValue value.now }
     ensures err { OnErr result (out.new.items ≡ out.old.items) }
 {
-    let body = value.body();
+    let parts = value.parts();
     out.reserve(value.size())?;
     out.extend_reserved(&[value.tag()]);
-    out.extend_reserved(body.as_slice());
+    out.extend_reserved(parts.head.as_slice());
+    out.extend_reserved(parts.middle);
+    out.extend_reserved(parts.end.as_slice());
     Ok(())
 }

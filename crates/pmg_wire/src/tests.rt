@@ -1,8 +1,8 @@
 //! What no clause says: that each call gives its answer where there is memory, and gives it when it is called
 //! again after memory ran out.
-use crate::{Admits, Cursor, get_flag, get_key, get_proc, get_value, put_key, put_proc, put_value};
+use crate::{Admits, Cursor, get_flag, get_key, get_proc, put_key, put_proc};
 use bytes::BytesMut;
-use pmg_value::{Cause, Fault, Key, Nspace, Proc, Rank, Refusal, Value};
+use pmg_value::{Cause, Fault, Key, Nspace, Proc, Rank, Refusal};
 use std::alloc::Global;
 
 // The answer, asked for a second time where memory ran out.
@@ -32,12 +32,6 @@ fn spelled_key(alloc: Global, key: &Key) -> Result<BytesMut, Refusal> {
 fn spelled_process(alloc: Global, process: &Proc) -> Result<BytesMut, Refusal> {
     let mut out = BytesMut::new(alloc);
     again!(put_proc(&mut out, process).map_err(Refusal::from))?;
-    Ok(out)
-}
-
-fn spelled_value(alloc: Global, value: &Value) -> Result<BytesMut, Refusal> {
-    let mut out = BytesMut::new(alloc);
-    again!(put_value(&mut out, value).map_err(Refusal::from))?;
     Ok(out)
 }
 
@@ -186,41 +180,4 @@ fn a_process_is_refused_at_its_first_fault(rt: HostRuntime) -> Result<(), Refusa
         assert_eq!(rt; (at.offset(), at.rest()), (3, bytes));
     }
     Ok(())
-}
-
-#[test]
-fn values_are_read_as_they_are_written(rt: HostRuntime) -> Result<(), Refusal> {
-    let cases = [
-        ([1, 0], Value::Bool(false)),
-        ([1, 1], Value::Bool(true)),
-        ([9, 0], Value::U8(0)),
-        ([9, 255], Value::U8(255)),
-    ];
-    for (spelling, value) in cases {
-        let mut at = Cursor::new(0, &spelling);
-        assert!(rt; get_value(&mut at)?.cmp(&value).is_eq());
-        assert!(rt; at.rest().is_empty());
-        assert_eq!(rt;
-            spelled_value(rt.alloc(), &value)?.as_slice(),
-            spelling.as_slice()
-        );
-    }
-    Ok(())
-}
-
-#[test]
-fn a_value_is_refused_at_its_first_fault(rt: HostRuntime) {
-    let cases: [(&[u8], Refusal); 6] = [
-        (&[], fault(43, Cause::Short)),
-        (&[0, 0], fault(43, Cause::Tag)),
-        (&[255], fault(43, Cause::Tag)),
-        (&[1], fault(44, Cause::Short)),
-        (&[1, 2], fault(44, Cause::Bool)),
-        (&[9], fault(44, Cause::Short)),
-    ];
-    for (bytes, want) in cases {
-        let mut at = Cursor::new(43, bytes);
-        assert_eq!(rt; get_value(&mut at).err(), Some(want));
-        assert_eq!(rt; (at.offset(), at.rest()), (43, bytes));
-    }
 }

@@ -1,7 +1,7 @@
 //! What no clause says: that calls succeed, and the bytes and the text of each kind of value, both ways.
 use crate::{Cursor, get_value, put_value};
 use bytes::BytesMut;
-use pmg_value::{Cause, Fault, Rank, Refusal, Value};
+use pmg_value::{Cause, Fault, MAX_BLOB_LEN, MAX_VALUE_SIZE, Nspace, Proc, Rank, Refusal, Value};
 use std::alloc::Global;
 
 // A value, its canonical bytes, and its text.
@@ -13,7 +13,7 @@ fn stands(alloc: Global, row: &Row<'_>) -> Result<bool, Refusal> {
     let mut out = BytesMut::new(alloc);
     put_value(&mut out, value)?;
     let mut at = Cursor::new(7, bytes);
-    let again = get_value(&mut at)?;
+    let again = get_value(alloc, &mut at)?;
     let mut written = Vec::new(alloc);
     if again.write_text(&mut written).is_err() {
         return Err(Refusal::NoMemory);
@@ -28,23 +28,33 @@ fn stands(alloc: Global, row: &Row<'_>) -> Result<bool, Refusal> {
 }
 
 #[test]
-fn numbers_from_zero_up(rt: HostRuntime) -> Result<(), Refusal> {
-    let rows: [Row<'_>; 20] = [
+fn flags_and_small_numbers(rt: HostRuntime) -> Result<(), Refusal> {
+    let rows: [Row<'_>; 9] = [
         (Value::Bool(false), b"\x01\x00", "bool:false"),
         (Value::Bool(true), b"\x01\x01", "bool:true"),
         (Value::Byte(0), b"\x02\x00", "byte:00"),
         (Value::Byte(0xa9), b"\x02\xa9", "byte:a9"),
         (Value::Byte(255), b"\x02\xff", "byte:ff"),
+        (Value::U8(0), b"\x09\x00", "u8:0"),
+        (Value::U8(255), b"\x09\xff", "u8:255"),
+        (Value::U16(258), b"\x0a\x01\x02", "u16:258"),
+        (Value::U16(65535), b"\x0a\xff\xff", "u16:65535"),
+    ];
+    for row in &rows {
+        assert!(rt; stands(rt.alloc(), row)?, "{}", row.2);
+    }
+    Ok(())
+}
+
+#[test]
+fn great_numbers(rt: HostRuntime) -> Result<(), Refusal> {
+    let rows: [Row<'_>; 11] = [
         (Value::Size(0), b"\x04\0\0\0\0\0\0\0\0", "size:0"),
         (
             Value::Size(18446744073709551615),
             b"\x04\xff\xff\xff\xff\xff\xff\xff\xff",
             "size:18446744073709551615",
         ),
-        (Value::U8(0), b"\x09\x00", "u8:0"),
-        (Value::U8(255), b"\x09\xff", "u8:255"),
-        (Value::U16(258), b"\x0a\x01\x02", "u16:258"),
-        (Value::U16(65535), b"\x0a\xff\xff", "u16:65535"),
         (
             Value::U32(16909060),
             b"\x0b\x01\x02\x03\x04",
@@ -91,7 +101,7 @@ fn numbers_from_zero_up(rt: HostRuntime) -> Result<(), Refusal> {
 
 #[test]
 fn numbers_with_a_sign(rt: HostRuntime) -> Result<(), Refusal> {
-    let rows: [Row<'_>; 18] = [
+    let rows: [Row<'_>; 9] = [
         (Value::I8(0), b"\x05\x00", "i8:0"),
         (Value::I8(127), b"\x05\x7f", "i8:127"),
         (Value::I8(-1), b"\x05\xff", "i8:-1"),
@@ -109,6 +119,16 @@ fn numbers_with_a_sign(rt: HostRuntime) -> Result<(), Refusal> {
             b"\x07\x80\0\0\0",
             "i32:-2147483648",
         ),
+    ];
+    for row in &rows {
+        assert!(rt; stands(rt.alloc(), row)?, "{}", row.2);
+    }
+    Ok(())
+}
+
+#[test]
+fn great_numbers_with_a_sign(rt: HostRuntime) -> Result<(), Refusal> {
+    let rows: [Row<'_>; 9] = [
         (
             Value::I64(9223372036854775807),
             b"\x08\x7f\xff\xff\xff\xff\xff\xff\xff",
@@ -149,9 +169,90 @@ fn numbers_with_a_sign(rt: HostRuntime) -> Result<(), Refusal> {
     Ok(())
 }
 
+fn process(alloc: Global, name: &[u8], rank: u32) -> Result<Value, Refusal> {
+    Ok(Value::Proc(Proc::new(Nspace::read_any(alloc, name)?, Rank::new(rank))))
+}
+
+#[test]
+fn strings_bytes_and_processes(rt: HostRuntime) -> Result<(), Refusal> {
+    let alloc = rt.alloc();
+    let rows: [Row<'_>; 8] = [
+        (Value::string(alloc, b"")?, b"\x03\0\0\0\0", "string:"),
+        (
+            Value::string(alloc, b"j/0")?,
+            b"\x03\0\0\0\x03j/0",
+            "string:6a2f30",
+        ),
+        (
+            Value::string(alloc, b"\x01\xff")?,
+            b"\x03\0\0\0\x02\x01\xff",
+            "string:01ff",
+        ),
+        (process(alloc, b"j", 0)?, b"\x10\x01j\0\0\0\0", "proc:6a/0"),
+        (
+            process(alloc, b"pmix~", 4096)?,
+            b"\x10\x05pmix~\0\0\x10\0",
+            "proc:706d69787e/4096",
+        ),
+        (
+            process(alloc, b"!", Rank::UNDEF)?,
+            b"\x10\x01!\xff\xff\xff\xff",
+            "proc:21/4294967295",
+        ),
+        (Value::bytes(alloc, b"")?, b"\x12\0\0\0\0", "bytes:"),
+        (
+            Value::bytes(alloc, b"\0\x0a\xf0")?,
+            b"\x12\0\0\0\x03\0\x0a\xf0",
+            "bytes:000af0",
+        ),
+    ];
+    for row in &rows {
+        assert!(rt; stands(alloc, row)?, "{}", row.2);
+    }
+    Ok(())
+}
+
+// The bytes of a value with this tag, of so many bytes that are all the same.
+fn filled(alloc: Global, tag: u8, len: usize, byte: u8) -> Result<BytesMut, Refusal> {
+    let mut out = BytesMut::new(alloc);
+    out.extend_from_slice(&[tag])?;
+    out.extend_from_slice(&(len as u32).to_be_bytes())?;
+    for _ in 0..len {
+        out.extend_from_slice(&[byte])?;
+    }
+    Ok(out)
+}
+
+#[test]
+fn a_value_is_at_most_a_mebibyte(rt: HostRuntime) -> Result<(), Refusal> {
+    let alloc = rt.alloc();
+    for tag in [3, 18] {
+        let most = filled(alloc, tag, MAX_BLOB_LEN, 1)?;
+        let value = get_value(alloc, &mut Cursor::new(7, most.as_slice()))?;
+        assert_eq!(rt; value.size(), MAX_VALUE_SIZE);
+        let more = filled(alloc, tag, MAX_BLOB_LEN + 1, 1)?;
+        let size = Refusal::BadFrame(Fault {
+            offset: 7,
+            cause: Cause::Size,
+        });
+        assert_eq!(rt; refused(alloc, more.as_slice()), size);
+        let text = &more.as_slice()[5..];
+        assert!(rt; matches!(Value::string(alloc, text), Err(Refusal::BadParam)));
+        assert!(rt; matches!(Value::bytes(alloc, text), Err(Refusal::BadParam)));
+    }
+    let zeros = filled(alloc, 3, MAX_BLOB_LEN + 1, 0)?;
+    let text = Refusal::BadFrame(Fault {
+        offset: 12,
+        cause: Cause::Text,
+    });
+    assert_eq!(rt; refused(alloc, zeros.as_slice()), text);
+    assert!(rt; matches!(Value::string(alloc, b"a\0b"), Err(Refusal::BadParam)));
+    Ok(())
+}
+
 // The refusal of these bytes, or that of nothing where they are read.
-fn refused(bytes: &[u8]) -> Refusal {
-    match get_value(&mut Cursor::new(7, bytes)) {
+fn refused(alloc: Global, bytes: &[u8]) -> Refusal {
+    match get_value(alloc, &mut Cursor::new(7, bytes)) {
         Ok(_) => Refusal::NotFound,
         Err(e) => e,
     }
@@ -159,7 +260,7 @@ fn refused(bytes: &[u8]) -> Refusal {
 
 #[test]
 fn the_first_fault_of_a_value(rt: HostRuntime) -> Result<(), Refusal> {
-    let rows: [(&[u8], u64, Cause); 9] = [
+    let rows: [(&[u8], u64, Cause); 17] = [
         (b"", 7, Cause::Short),
         (b"\x00\x00", 7, Cause::Tag),
         (b"\x14\x00", 7, Cause::Tag),
@@ -169,10 +270,18 @@ fn the_first_fault_of_a_value(rt: HostRuntime) -> Result<(), Refusal> {
         (b"\x06\x80", 8, Cause::Short),
         (b"\x11\0\0\0", 8, Cause::Short),
         (b"\x04\0\0\0\0\0\0\0", 8, Cause::Short),
+        (b"\x03\0\0\0", 8, Cause::Short),
+        (b"\x03\0\0\0\x02a", 12, Cause::Short),
+        (b"\x03\0\0\0\x03a\0\0", 13, Cause::Text),
+        (b"\x12\xff\xff\xff\xffa", 12, Cause::Short),
+        (b"\x10\0", 8, Cause::Name),
+        (b"\x10\x02j", 9, Cause::Short),
+        (b"\x10\x02j \0\0", 8, Cause::Name),
+        (b"\x10\x01j\0\0\0", 10, Cause::Short),
     ];
     for (bytes, offset, cause) in rows {
         let want = Refusal::BadFrame(Fault { offset, cause });
-        assert_eq!(rt; refused(bytes), want);
+        assert_eq!(rt; refused(rt.alloc(), bytes), want);
     }
     Ok(())
 }

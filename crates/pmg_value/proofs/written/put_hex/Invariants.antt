@@ -1,0 +1,8 @@
+use Rattle.std.proofs.Common.{take}
+use Rattle.std.specs.Io.KnownBytes.{Appends}
+use Rattle.pmg_value.specs.Text.{hex_text}
+use Rattle.pmg_value.proofs.written.put_hex.Given as goal
+
+-- what was written so far are the digits of the first bytes
+abbrev pub invariant-loop-byte : goal.invariant-loop-byte
+invariant-loop-byte g l = Appends (g.W.Write.contents l.fn.writer) (g.W.Write.contents l.writer) (hex_text (take l.byte-index l.fn.bytes))
