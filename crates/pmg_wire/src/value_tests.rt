@@ -169,54 +169,66 @@ fn great_numbers_with_a_sign(rt: HostRuntime) -> Result<(), Refusal> {
     Ok(())
 }
 
-fn process(alloc: Global, name: &[u8], rank: u32) -> Result<Value, Refusal> {
-    Ok(Value::Proc(Proc::new(Nspace::read_any(alloc, name)?, Rank::new(rank))))
+#[test]
+fn strings(rt: HostRuntime) -> Result<(), Refusal> {
+    let alloc = rt.alloc();
+    let rows: [(&[u8], &[u8], &str); 3] = [
+        (b"", b"\x03\0\0\0\0", "string:"),
+        (b"j/0", b"\x03\0\0\0\x03j/0", "string:6a2f30"),
+        (b"\x01\xff", b"\x03\0\0\0\x02\x01\xff", "string:01ff"),
+    ];
+    for (string, bytes, text) in rows {
+        let row = (Value::string(alloc, string)?, bytes, text);
+        assert!(rt; stands(alloc, &row)?, "{}", text);
+    }
+    Ok(())
 }
 
 #[test]
-fn strings_bytes_and_processes(rt: HostRuntime) -> Result<(), Refusal> {
+fn byte_objects(rt: HostRuntime) -> Result<(), Refusal> {
     let alloc = rt.alloc();
-    let rows: [Row<'_>; 8] = [
-        (Value::string(alloc, b"")?, b"\x03\0\0\0\0", "string:"),
+    let rows: [(&[u8], &[u8], &str); 2] = [
+        (b"", b"\x12\0\0\0\0", "bytes:"),
+        (b"\0\x0a\xf0", b"\x12\0\0\0\x03\0\x0a\xf0", "bytes:000af0"),
+    ];
+    for (object, bytes, text) in rows {
+        let row = (Value::bytes(alloc, object)?, bytes, text);
+        assert!(rt; stands(alloc, &row)?, "{}", text);
+    }
+    Ok(())
+}
+
+#[test]
+fn processes(rt: HostRuntime) -> Result<(), Refusal> {
+    let alloc = rt.alloc();
+    let rows: [(&[u8], u32, &[u8], &str); 3] = [
+        (b"j", 0, b"\x10\x01j\0\0\0\0", "proc:6a/0"),
         (
-            Value::string(alloc, b"j/0")?,
-            b"\x03\0\0\0\x03j/0",
-            "string:6a2f30",
-        ),
-        (
-            Value::string(alloc, b"\x01\xff")?,
-            b"\x03\0\0\0\x02\x01\xff",
-            "string:01ff",
-        ),
-        (process(alloc, b"j", 0)?, b"\x10\x01j\0\0\0\0", "proc:6a/0"),
-        (
-            process(alloc, b"pmix~", 4096)?,
+            b"pmix~",
+            4096,
             b"\x10\x05pmix~\0\0\x10\0",
             "proc:706d69787e/4096",
         ),
         (
-            process(alloc, b"!", Rank::UNDEF)?,
+            b"!",
+            Rank::UNDEF,
             b"\x10\x01!\xff\xff\xff\xff",
             "proc:21/4294967295",
         ),
-        (Value::bytes(alloc, b"")?, b"\x12\0\0\0\0", "bytes:"),
-        (
-            Value::bytes(alloc, b"\0\x0a\xf0")?,
-            b"\x12\0\0\0\x03\0\x0a\xf0",
-            "bytes:000af0",
-        ),
     ];
-    for row in &rows {
-        assert!(rt; stands(alloc, row)?, "{}", row.2);
+    for (name, rank, bytes, text) in rows {
+        let process = Proc::new(Nspace::read_any(alloc, name)?, Rank::new(rank));
+        let row = (Value::Proc(process), bytes, text);
+        assert!(rt; stands(alloc, &row)?, "{}", text);
     }
     Ok(())
 }
 
 // The bytes of a value with this tag, of so many bytes that are all the same.
-fn filled(alloc: Global, tag: u8, len: usize, byte: u8) -> Result<BytesMut, Refusal> {
+fn filled(alloc: Global, tag: u8, len: u32, byte: u8) -> Result<BytesMut, Refusal> {
     let mut out = BytesMut::new(alloc);
     out.extend_from_slice(&[tag])?;
-    out.extend_from_slice(&(len as u32).to_be_bytes())?;
+    out.extend_from_slice(&len.to_be_bytes())?;
     for _ in 0..len {
         out.extend_from_slice(&[byte])?;
     }
@@ -226,21 +238,23 @@ fn filled(alloc: Global, tag: u8, len: usize, byte: u8) -> Result<BytesMut, Refu
 #[test]
 fn a_value_is_at_most_a_mebibyte(rt: HostRuntime) -> Result<(), Refusal> {
     let alloc = rt.alloc();
+    let most_len = MAX_BLOB_LEN as u32;
     for tag in [3, 18] {
-        let most = filled(alloc, tag, MAX_BLOB_LEN, 1)?;
+        let most = filled(alloc, tag, most_len, 1)?;
         let value = get_value(alloc, &mut Cursor::new(7, most.as_slice()))?;
         assert_eq!(rt; value.size(), MAX_VALUE_SIZE);
-        let more = filled(alloc, tag, MAX_BLOB_LEN + 1, 1)?;
+        let more = filled(alloc, tag, most_len + 1, 1)?;
         let size = Refusal::BadFrame(Fault {
             offset: 7,
             cause: Cause::Size,
         });
         assert_eq!(rt; refused(alloc, more.as_slice()), size);
+        assert!(rt; more.as_slice().len() > 5);
         let text = &more.as_slice()[5..];
         assert!(rt; matches!(Value::string(alloc, text), Err(Refusal::BadParam)));
         assert!(rt; matches!(Value::bytes(alloc, text), Err(Refusal::BadParam)));
     }
-    let zeros = filled(alloc, 3, MAX_BLOB_LEN + 1, 0)?;
+    let zeros = filled(alloc, 3, most_len + 1, 0)?;
     let text = Refusal::BadFrame(Fault {
         offset: 12,
         cause: Cause::Text,
