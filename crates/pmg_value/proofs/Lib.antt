@@ -1,8 +1,11 @@
+pub mod ArrayLemmas
 pub mod ChainLemmas
-pub mod HexLemmas
+pub mod FlatLemmas
+pub mod FormLemmas
 pub mod ListLemmas
 pub mod MapLemmas
 pub mod OrderLemmas
 pub mod ProcessOrder
 pub mod SetLemmas
+pub mod TextLemmas
 pub mod WrittenLemmas

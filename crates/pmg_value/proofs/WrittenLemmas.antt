@@ -79,3 +79,8 @@ pub ruleset written_in_parts = (appends_nothing, appends_then, ok_then, front_of
 pub two_parts : {T E : Type 0} (result : Result T E) (old mid new : Option (List ℕ)) (a b c d : List ℕ) → a ≡ c → b ≡ d → Writes mid new result b → Appends old mid a → Writes old new result (c ++ d)
 two_parts result old mid new a b c d is_c is_d second first =
     rw (← is_c, ← is_d) (front_of_second a second.0 first, ok_then result old mid new a b second.1 first)
+
+-- a front of the first of two parts, which is known by another name, where the call fails
+pub first_part : {T E : Type 0} (result : Result T E) (old new : Option (List ℕ)) (a c d : List ℕ) → a ≡ c → AppendsFront old new a → OnOk result ⊥ → Writes old new result (c ++ d)
+first_part result old new a c d is front failed =
+    (subst (AppendsFront old new) (ap (λ (t : List ℕ). t ++ d) is) (front_of_first d front), on_ok_weaker result (λ never. absurd never) failed)

@@ -19,3 +19,8 @@ leads R x (y ∷ ys) = R x y && leads R y ys
 abbrev pub is_chain : {A : Type 0} → (A → A → Bool) → List A → Bool
 is_chain R [] = true
 is_chain R (x ∷ xs) = leads R x xs
+
+-- each item has the property
+abbrev pub Each : {A : Type 0} → (A → Type 0) → List A → Type 0
+Each P [] = Unit {0}
+Each P (x ∷ xs) = P x × Each P xs

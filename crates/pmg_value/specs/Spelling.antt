@@ -1,61 +1,82 @@
 -- A value's one spelling: its canonical bytes.
-use Rattle.std.specs.Prelude.{ℕ, ℤ, List, [], ◌∷◌, ◌++◌, length, ◌<◌, ◌^◌, true, false, IsTrue, FitsSigned}
-use Rattle.std.specs.Int.{Width, w8, w16, w32, w64, to_be_bytes, cast_unsigned}
+use Rattle.std.specs.Prelude.{ℕ, Bool, true, false, ◌≡◌, ◌+◌, ◌&&◌, List, ◌∷◌, length, map, IsTrue}
+use Rattle.std.specs.List.{list_all}
 use Rattle.pmg_value.specs.declared.value.Value.{Value}
 use Rattle.pmg_value.specs.declared.value.Value.TheVariants as values
-use Rattle.pmg_value.specs.Blobs.{is_text, is_blob}
-use Rattle.pmg_value.specs.Names.{is_nspace}
+use Rattle.pmg_value.specs.Plain.{Plain, IsPlain, plain_tag, plain_body}
+use Rattle.pmg_value.specs.Elements.{Elements, IsArray, is_array, array_body}
 
--- the byte that says a value's kind (PMIx Standard 5.0, data types: pmix_data_type_t; the numbers are this project's)
+-- what a value is: an array, or none
+pub data Form : Type 0 where
+  plain : Plain → Form
+  array : Elements → Form
+
+-- what this value is
+abbrev pub form : Value → Form
+form (values.Bool b) = Form.plain (Plain.bool b)
+form (values.Byte n) = Form.plain (Plain.byte n)
+form (values.Str t) = Form.plain (Plain.string t)
+form (values.Size n) = Form.plain (Plain.size n)
+form (values.I8 z) = Form.plain (Plain.int8 z)
+form (values.I16 z) = Form.plain (Plain.int16 z)
+form (values.I32 z) = Form.plain (Plain.int32 z)
+form (values.I64 z) = Form.plain (Plain.int64 z)
+form (values.U8 n) = Form.plain (Plain.uint8 n)
+form (values.U16 n) = Form.plain (Plain.uint16 n)
+form (values.U32 n) = Form.plain (Plain.uint32 n)
+form (values.U64 n) = Form.plain (Plain.uint64 n)
+form (values.Int z) = Form.plain (Plain.int z)
+form (values.Uint n) = Form.plain (Plain.uint n)
+form (values.Rank n) = Form.plain (Plain.rank n)
+form (values.Proc p) = Form.plain (Plain.proc p)
+form (values.Status z) = Form.plain (Plain.status z)
+form (values.Bytes b) = Form.plain (Plain.bytes b)
+form (values.Array a) = Form.array a
+
+-- the value that is so
+abbrev pub value_of : Form → Value
+value_of (Form.plain (Plain.bool b)) = values.Bool b
+value_of (Form.plain (Plain.byte n)) = values.Byte n
+value_of (Form.plain (Plain.string t)) = values.Str t
+value_of (Form.plain (Plain.size n)) = values.Size n
+value_of (Form.plain (Plain.int8 z)) = values.I8 z
+value_of (Form.plain (Plain.int16 z)) = values.I16 z
+value_of (Form.plain (Plain.int32 z)) = values.I32 z
+value_of (Form.plain (Plain.int64 z)) = values.I64 z
+value_of (Form.plain (Plain.uint8 n)) = values.U8 n
+value_of (Form.plain (Plain.uint16 n)) = values.U16 n
+value_of (Form.plain (Plain.uint32 n)) = values.U32 n
+value_of (Form.plain (Plain.uint64 n)) = values.U64 n
+value_of (Form.plain (Plain.int z)) = values.Int z
+value_of (Form.plain (Plain.uint n)) = values.Uint n
+value_of (Form.plain (Plain.rank n)) = values.Rank n
+value_of (Form.plain (Plain.proc p)) = values.Proc p
+value_of (Form.plain (Plain.status z)) = values.Status z
+value_of (Form.plain (Plain.bytes b)) = values.Bytes b
+value_of (Form.array a) = values.Array a
+
+-- the tag of what a value is
+abbrev pub form_tag : Form → ℕ
+form_tag (Form.plain p) = plain_tag p
+form_tag (Form.array a) = 19
+
+-- the bytes behind the tag
+abbrev pub form_body : Form → List ℕ
+form_body (Form.plain p) = plain_body p
+form_body (Form.array a) = array_body a
+
+-- what a value is keeps the rules of its kind
+abbrev pub IsForm : Form → Type 0
+IsForm (Form.plain p) = IsPlain p
+IsForm (Form.array a) = IsArray a
+
+-- the first of a value's canonical bytes, which says its kind
 abbrev pub tag_of : Value → ℕ
-tag_of (values.Bool b) = 1
-tag_of (values.Byte n) = 2
-tag_of (values.Str t) = 3
-tag_of (values.Size n) = 4
-tag_of (values.I8 z) = 5
-tag_of (values.I16 z) = 6
-tag_of (values.I32 z) = 7
-tag_of (values.I64 z) = 8
-tag_of (values.U8 n) = 9
-tag_of (values.U16 n) = 10
-tag_of (values.U32 n) = 11
-tag_of (values.U64 n) = 12
-tag_of (values.Int z) = 13
-tag_of (values.Uint n) = 14
-tag_of (values.Rank n) = 15
-tag_of (values.Proc p) = 16
-tag_of (values.Status z) = 17
-tag_of (values.Bytes b) = 18
-
--- a signed number of that width: its two's complement, the highest byte first
-abbrev pub signed_bytes : Width → ℤ → List ℕ
-signed_bytes w z = to_be_bytes w (cast_unsigned w z)
-
--- four bytes of length, and the bytes
-abbrev pub counted : List ℕ → List ℕ
-counted bytes = to_be_bytes w32 (length bytes) ++ bytes
+tag_of v = form_tag (form v)
 
 -- the bytes behind the tag
 abbrev pub body_of : Value → List ℕ
-body_of (values.Bool false) = 0 ∷ []
-body_of (values.Bool true) = 1 ∷ []
-body_of (values.Byte n) = n ∷ []
-body_of (values.Str t) = counted t
-body_of (values.Size n) = to_be_bytes w64 n
-body_of (values.I8 z) = cast_unsigned w8 z ∷ []
-body_of (values.I16 z) = signed_bytes w16 z
-body_of (values.I32 z) = signed_bytes w32 z
-body_of (values.I64 z) = signed_bytes w64 z
-body_of (values.U8 n) = n ∷ []
-body_of (values.U16 n) = to_be_bytes w16 n
-body_of (values.U32 n) = to_be_bytes w32 n
-body_of (values.U64 n) = to_be_bytes w64 n
-body_of (values.Int z) = signed_bytes w32 z
-body_of (values.Uint n) = to_be_bytes w32 n
-body_of (values.Rank n) = to_be_bytes w32 n
-body_of (values.Proc p) = (length p.nspace ∷ p.nspace) ++ to_be_bytes w32 p.rank
-body_of (values.Status z) = signed_bytes w32 z
-body_of (values.Bytes b) = counted b
+body_of v = form_body (form v)
 
 -- a value's canonical bytes: the tag and the body
 abbrev pub spelling : Value → List ℕ
@@ -63,21 +84,36 @@ spelling v = tag_of v ∷ body_of v
 
 -- what the value holds keeps the rules of its kind
 abbrev pub IsValue : Value → Type 0
-IsValue (values.Bool b) = Unit {0}
-IsValue (values.Byte n) = n < 2 ^ 8
-IsValue (values.Str t) = IsTrue (is_text t)
-IsValue (values.Size n) = n < 2 ^ 64
-IsValue (values.I8 z) = FitsSigned w8 z
-IsValue (values.I16 z) = FitsSigned w16 z
-IsValue (values.I32 z) = FitsSigned w32 z
-IsValue (values.I64 z) = FitsSigned w64 z
-IsValue (values.U8 n) = n < 2 ^ 8
-IsValue (values.U16 n) = n < 2 ^ 16
-IsValue (values.U32 n) = n < 2 ^ 32
-IsValue (values.U64 n) = n < 2 ^ 64
-IsValue (values.Int z) = FitsSigned w32 z
-IsValue (values.Uint n) = n < 2 ^ 32
-IsValue (values.Rank n) = n < 2 ^ 32
-IsValue (values.Proc p) = IsTrue (is_nspace p.nspace) × (p.rank < 2 ^ 32)
-IsValue (values.Status z) = FitsSigned w32 z
-IsValue (values.Bytes b) = IsTrue (is_blob b)
+IsValue v = IsForm (form v)
+
+-- the value is no array
+abbrev pub is_plain_form : Form → Bool
+is_plain_form (Form.plain p) = true
+is_plain_form (Form.array a) = false
+
+-- an item of an array as the array holds it (an array is no item: any element stands for it)
+abbrev pub plain_of : Form → Plain
+plain_of (Form.plain p) = p
+plain_of (Form.array a) = Plain.bool false
+
+-- no item is an array
+abbrev pub are_plain : List Value → Bool
+are_plain items = list_all (λ v. is_plain_form (form v)) items
+
+-- items as an array holds them
+abbrev pub plains_of : List Value → List Plain
+plains_of items = map (λ v. plain_of (form v)) items
+
+-- the array of these items with this tag
+abbrev pub elements : ℕ → List Value → Elements
+elements tag items = record { tag = tag; plains = plains_of items }
+
+-- no item is an array, and with this tag they are one
+abbrev pub makes_array : ℕ → List Value → Bool
+makes_array tag items = are_plain items && is_array (elements tag items)
+
+-- what an array in memory keeps: its items are no arrays, together they are one, and its size is that of the value
+pub record HoldsArray (tag size : ℕ) (items : List Value) : Type 0 where
+  pub plain : IsTrue (are_plain items)
+  pub is : IsArray (elements tag items)
+  pub sized : size ≡ 1 + length (array_body (elements tag items))

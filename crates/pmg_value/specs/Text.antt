@@ -1,37 +1,20 @@
 -- A value's text, as a dump shows it.
-use Rattle.std.specs.Prelude.{ℕ, List, [], ◌∷◌, ◌++◌, ◌/◌, ◌%◌, codes, decimal, true, false}
-use Rattle.std.specs.List.{flat_map}
-use Rattle.std.specs.Char.{digit_char}
-use Rattle.std.specs.Fmt.{signed_decimal}
+use Rattle.std.specs.Prelude.{ℕ, List, ◌++◌, codes}
+use Rattle.std.specs.List.{join_by}
 use Rattle.pmg_value.specs.declared.value.Value.{Value}
-use Rattle.pmg_value.specs.declared.value.Value.TheVariants as values
+use Rattle.pmg_value.specs.Plain.{plain_text, kind_name}
+use Rattle.pmg_value.specs.Elements.{Elements}
+use Rattle.pmg_value.specs.Spelling.{Form, form, tag_of}
 
--- a byte in two lower hexadecimal digits
-abbrev pub hex_byte : ℕ → List ℕ
-hex_byte n = digit_char (n / 16) ∷ digit_char (n % 16) ∷ []
+-- an array: the name of its elements' kind, and in brackets their texts without it
+abbrev pub array_text : Elements → List ℕ
+array_text a = kind_name a.tag ++ (codes "[" ++ (join_by plain_text (codes ",") a.plains ++ codes "]"))
 
--- bytes in lower hexadecimal digits
-abbrev pub hex_text : List ℕ → List ℕ
-hex_text bytes = flat_map hex_byte bytes
+-- the text behind the kind's name
+abbrev pub form_text : Form → List ℕ
+form_text (Form.plain p) = plain_text p
+form_text (Form.array a) = array_text a
 
--- the kind's name, a colon, and the value
+-- the kind's name, a colon, and what the value holds
 abbrev pub text_of : Value → List ℕ
-text_of (values.Bool false) = codes "bool:false"
-text_of (values.Bool true) = codes "bool:true"
-text_of (values.Byte n) = codes "byte:" ++ hex_byte n
-text_of (values.Str t) = codes "string:" ++ hex_text t
-text_of (values.Size n) = codes "size:" ++ decimal n
-text_of (values.I8 z) = codes "i8:" ++ signed_decimal z
-text_of (values.I16 z) = codes "i16:" ++ signed_decimal z
-text_of (values.I32 z) = codes "i32:" ++ signed_decimal z
-text_of (values.I64 z) = codes "i64:" ++ signed_decimal z
-text_of (values.U8 n) = codes "u8:" ++ decimal n
-text_of (values.U16 n) = codes "u16:" ++ decimal n
-text_of (values.U32 n) = codes "u32:" ++ decimal n
-text_of (values.U64 n) = codes "u64:" ++ decimal n
-text_of (values.Int z) = codes "int:" ++ signed_decimal z
-text_of (values.Uint n) = codes "uint:" ++ decimal n
-text_of (values.Rank n) = codes "rank:" ++ decimal n
-text_of (values.Proc p) = (codes "proc:" ++ hex_text p.nspace) ++ (codes "/" ++ decimal p.rank)
-text_of (values.Status z) = codes "status:" ++ signed_decimal z
-text_of (values.Bytes b) = codes "bytes:" ++ hex_text b
+text_of v = kind_name (tag_of v) ++ (codes ":" ++ form_text (form v))

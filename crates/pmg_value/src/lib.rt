@@ -1,24 +1,31 @@
 //! Names, values and refusals: what every crate of pmixgroup speaks of.
 #![tactic(auto)]
 
+mod array;
 mod blobs;
 mod names;
+mod parts;
 mod process;
 mod refusal;
 mod refusal_text;
 mod value;
+mod value_text;
 mod written;
 
+pub use array::Array;
 pub use blobs::{MAX_BLOB_LEN, Octets, Text, first_zero, is_string_text};
 pub use names::{
     Key, MAX_KEY_LEN, MAX_NSPACE_LEN, Nspace, is_key_text, is_nspace_name, is_reserved_name,
 };
+pub use parts::Parts;
 pub use process::{HOST_NAME, MAX_NODE, MAX_RANK, NodeId, Proc, Rank};
 pub use refusal::{Cause, Fault, Refusal};
-pub use value::{MAX_VALUE_SIZE, Parts, Value};
+pub use value::{MAX_VALUE_SIZE, Value};
 pub use written::{put_number, put_text};
 
 #[cfg(test)]
 mod names_tests;
 #[cfg(test)]
 mod tests;
+#[cfg(test)]
+mod value_tests;

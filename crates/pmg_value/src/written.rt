@@ -5,7 +5,7 @@ ghost use Rattle.std.specs.Prelude.{◌≡◌, ◌<◌, decimal};
 ghost use Rattle.std.specs.Char.{digit_char};
 ghost use Rattle.std.specs.Fmt.{signed_decimal};
 ghost use Rattle.pmg_value.specs.Written.{Writes};
-ghost use Rattle.pmg_value.specs.Text.{hex_byte, hex_text};
+ghost use Rattle.pmg_value.specs.Hex.{hex_byte, hex_text};
 
 use itoa::Buffer;
 use std::io;

@@ -1,6 +1,6 @@
 use Rattle.std.proofs.Common.{take}
 use Rattle.std.specs.Io.KnownBytes.{Appends}
-use Rattle.pmg_value.specs.Text.{hex_text}
+use Rattle.pmg_value.specs.Hex.{hex_text}
 use Rattle.pmg_value.proofs.written.put_hex.Given as goal
 
 -- what was written so far are the digits of the first bytes

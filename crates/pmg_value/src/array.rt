@@ -1,0 +1,126 @@
+//! Arrays as values.
+ghost use Rattle.std.specs.Prelude.{◌≡◌, ◌≤◌, ◌+◌, length, nat_le, ◌&&◌, true, false, IfOk, IfSome, IfNone, IsTrue, if◌then◌else◌};
+ghost use Rattle.pmg_value.specs.Lists.{Each};
+ghost use Rattle.pmg_value.specs.Elements.{IsArray, array_body};
+ghost use Rattle.pmg_value.specs.Spelling.{HoldsArray, IsValue, body_of, elements, are_plain, makes_array};
+ghost use Rattle.pmg_value.specs.declared.refusal.Refusal.TheVariants as refusals;
+
+use crate::refusal::Refusal;
+use crate::value::{MAX_VALUE_SIZE, Value};
+use std::alloc::AllocError;
+use std::marker::Model;
+
+/// The greatest tag of a kind that may stand in an array.
+const MAX_ELEMENT_TAG: u8 = 18;
+
+/// An array of values of one kind, none of them an array (PMIx Standard 5.0, pmix_data_array_t). As a value
+/// it is no longer than a value may be.
+#[cycle(value)]
+#[derive(Debug, Drop)]
+pub struct Array {
+    tag: u8,
+    size: usize,
+    items: Vec<Value>,
+}
+
+impl Model for Array {
+    ghost use Rattle.std.specs.Prelude.{length};
+    ghost use Rattle.pmg_value.specs.Elements.{Elements};
+
+    ghost Value = { Elements };
+
+    ghost use Rattle.pmg_value.specs.Spelling.{elements, HoldsArray};
+
+    ghost view = { λ a. elements a.tag a.items.items };
+
+    ghost invariant = { λ a. HoldsArray a.tag a.size a.items.items };
+
+    ghost size = { λ e. length e.plains };
+
+    ghost use Rattle.pmg_value.specs.Nesting.{is_flat};
+    ghost use Rattle.std.proofs.Common.{arith};
+
+    ghost size_decreases = { λ a h. Prim.omega (arith, is_flat a.items.items h.plain) };
+}
+
+impl Array {
+    /// The array of these items, whose kind has that tag. Refused as BadParam where the tag is that of an
+    /// array or of no kind, where an item is of another kind, and where the array as a value would be longer
+    /// than 1,048,576 canonical bytes.
+    pub fn new(tag: u8, items: Vec<Value>) -> Result<Array, Refusal>
+        ensures { result ≡ (if makes_array tag items.items then Ok (elements tag items.items) else Err refusals.BadParam) }
+    {
+        match size_of(tag, &items) {
+            Some(size) => Ok(Array { tag, size, items }),
+            None => Err(Refusal::BadParam),
+        }
+    }
+
+    /// The tag of the items' kind.
+    pub fn tag(&self) -> u8
+        ensures { result ≡ self.now.tag }
+    {
+        self.tag
+    }
+
+    /// The items.
+    pub fn items(&self) -> &[Value]
+        ensures items { elements self.now.tag result.now ≡ self.now }
+        ensures plain { IsTrue (are_plain result.now) }
+        ensures is { IsArray self.now }
+    {
+        self.items.as_slice()
+    }
+
+    /// The number of the canonical bytes of the array as a value.
+    pub fn size(&self) -> usize
+        ensures value { result ≡ 1 + length (array_body self.now) }
+        ensures bound { result ≤ 1048576 }
+    {
+        self.size
+    }
+
+    /// Another array of the same meaning.
+    #[cycle(copy)]
+    pub fn copy(&self) -> Result<Array, AllocError>
+        ensures { IfOk result (λ a. a ≡ self.now) }
+    {
+        let mut items = Vec::with_capacity(*self.items.allocator(), self.items.len())?;
+        for item in &self.items {
+            items.push(item.copy()?)?;
+        }
+        Ok(Array {
+            tag: self.tag,
+            size: self.size,
+            items,
+        })
+    }
+}
+
+// The size of the array of these items as a value, where they are one.
+fn size_of(tag: u8, items: &[Value]) -> Option<usize>
+    ensures some { IfSome result (λ size. HoldsArray tag size items.now) }
+    ensures none { IfNone result (makes_array tag items.now ≡ false) }
+{
+    if tag == 0 || tag > MAX_ELEMENT_TAG {
+        return None;
+    }
+    let mut size = 6;
+    for item in items {
+        let more = body_size(item);
+        if item.tag() != tag || more > MAX_VALUE_SIZE - size {
+            return None;
+        }
+        size += more;
+    }
+    Some(size)
+}
+
+// The number of the bytes that an item takes in an array.
+fn body_size(item: &Value) -> usize
+    ensures value { result ≡ length (body_of item.now) }
+    ensures is { IsValue item.now }
+{
+    let _parts = item.parts();
+    item.size() - 1
+}

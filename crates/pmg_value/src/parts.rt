@@ -1,0 +1,190 @@
+//! A value's body in parts, by which it is written and ordered.
+ghost use Rattle.std.specs.Prelude.{◌≡◌, ◌≤◌, ◌<◌, ◌^◌, [], ◌∷◌, ◌++◌, length, IsTrue};
+ghost use Rattle.std.specs.Ordering.{nat_cmp, ordering_then};
+ghost use Rattle.std.specs.Int.{w32, from_be_bytes, to_be_bytes};
+ghost use Rattle.std.specs.Cmp.Lexicographic.{slice_cmp};
+ghost use Rattle.pmg_value.specs.Elements.{IsArray, bodies, array_body};
+ghost use Rattle.pmg_value.specs.Spelling.{spelling, tag_of, body_of, plains_of, IsValue};
+ghost use Rattle.pmg_value.specs.Plain.{counted};
+ghost use Rattle.pmg_value.specs.Parts.{in_parts, head_len, middle_len, end_len, AreItems, AreAlike};
+ghost use Rattle.pmg_value.specs.Names.{is_nspace};
+
+use crate::array::Array;
+use crate::process::Proc;
+use crate::value::Value;
+use arrayvec::ArrayVec;
+use std::cmp::Ordering;
+
+/// The canonical bytes behind a value's tag, in parts: a head of at most eight bytes; the bytes of a
+/// namespace, a string or a byte object; a rank; and the items of an array, whose bodies stand last.
+#[derive(Drop)]
+pub struct Parts<'a> {
+    pub head: ArrayVec<u8, 8>,
+    pub middle: &'a [u8],
+    pub end: ArrayVec<u8, 8>,
+    pub items: &'a [Value],
+}
+
+impl Value {
+    /// The canonical bytes behind the tag, in parts.
+    pub fn parts(&self) -> Parts<'_>
+        ensures body { in_parts result.head.items result.middle.now result.end.items result.items.now ≡ body_of self.now }
+        ensures head { length result.head.items ≡ head_len (tag_of self.now) }
+        ensures middle { length result.middle.now ≡ middle_len (tag_of self.now) result.head.items }
+        ensures end { length result.end.items ≡ end_len (tag_of self.now) }
+        ensures items { AreItems (tag_of self.now) result.head.items result.items.now }
+        ensures is { IsValue self.now }
+    {
+        match self {
+            Value::Bool(b) => alone(&[u8::from(*b)]),
+            Value::Byte(n) => alone(&[*n]),
+            Value::Str(text) => counted(text.as_bytes()),
+            Value::Size(n) => alone(&n.to_be_bytes()),
+            Value::I8(n) => alone(&n.to_be_bytes()),
+            Value::I16(n) => alone(&n.to_be_bytes()),
+            Value::I32(n) => alone(&n.to_be_bytes()),
+            Value::I64(n) => alone(&n.to_be_bytes()),
+            Value::U8(n) => alone(&[*n]),
+            Value::U16(n) => alone(&n.to_be_bytes()),
+            Value::U32(n) => alone(&n.to_be_bytes()),
+            Value::U64(n) => alone(&n.to_be_bytes()),
+            Value::Int(n) => alone(&n.to_be_bytes()),
+            Value::Uint(n) => alone(&n.to_be_bytes()),
+            Value::Rank(rank) => alone(&rank.number().to_be_bytes()),
+            Value::Proc(process) => named(process),
+            Value::Status(n) => alone(&n.to_be_bytes()),
+            Value::Bytes(octets) => counted(octets.as_bytes()),
+            Value::Array(array) => listed(array),
+        }
+    }
+
+    /// The order of the canonical bytes.
+    pub fn cmp(&self, other: &Value) -> Ordering
+        ensures { result ≡ slice_cmp nat_cmp (spelling self.now) (spelling other.now) }
+    {
+        let order = self.tag().cmp(&other.tag());
+        if order.is_ne() {
+            return order;
+        }
+        let (own, others) = (self.parts(), other.parts());
+        let order = cmp_parts(&own, &others);
+        if order.is_ne() {
+            return order;
+        }
+        cmp_items(own.items, others.items)
+    }
+}
+
+// These bytes, of which there are at most eight.
+fn held(bytes: &[u8]) -> ArrayVec<u8, 8>
+    requires { length bytes.now ≤ 8 }
+    ensures { result.items ≡ bytes.now }
+{
+    let mut held = ArrayVec::new();
+    held.try_extend_from_slice(bytes).unwrap();
+    held
+}
+
+// A body that is a head alone, of these bytes.
+fn alone(bytes: &[u8]) -> Parts<'static>
+    requires { length bytes.now ≤ 8 }
+    ensures body { in_parts result.head.items result.middle.now result.end.items result.items.now ≡ bytes.now }
+    ensures head { result.head.items ≡ bytes.now }
+    ensures middle { result.middle.now ≡ [] }
+    ensures end { result.end.items ≡ [] }
+    ensures items { result.items.now ≡ [] }
+{
+    Parts {
+        head: held(bytes),
+        middle: &[],
+        end: ArrayVec::new(),
+        items: &[],
+    }
+}
+
+// A body of these bytes, behind four bytes of their number.
+#[tactic(auto, using(crate::proofs::OrderLemmas::length_again))]
+fn counted(bytes: &[u8]) -> Parts<'_>
+    requires { length bytes.now ≤ 1048571 }
+    ensures body { in_parts result.head.items result.middle.now result.end.items result.items.now ≡ counted bytes.now }
+    ensures head { length result.head.items ≡ 4 }
+    ensures middle { length result.middle.now ≡ from_be_bytes w32 result.head.items }
+    ensures end { result.end.items ≡ [] }
+    ensures items { result.items.now ≡ [] }
+{
+    Parts {
+        head: held(&(bytes.len() as u32).to_be_bytes()),
+        middle: bytes,
+        end: ArrayVec::new(),
+        items: &[],
+    }
+}
+
+// A body of a process: one byte of length, the namespace, and four bytes of rank.
+fn named(process: &Proc) -> Parts<'_>
+    ensures body { in_parts result.head.items result.middle.now result.end.items result.items.now
+        ≡ (length process.now.nspace ∷ process.now.nspace) ++ to_be_bytes w32 process.now.rank }
+    ensures head { result.head.items ≡ length process.now.nspace ∷ [] }
+    ensures middle { result.middle.now ≡ process.now.nspace }
+    ensures end { length result.end.items ≡ 4 }
+    ensures items { result.items.now ≡ [] }
+    ensures name { IsTrue (is_nspace process.now.nspace) }
+    ensures rank { process.now.rank < 2 ^ 32 }
+{
+    let name = process.nspace.as_bytes();
+    Parts {
+        head: held(&[name.len() as u8]),
+        middle: name,
+        end: held(&process.rank.number().to_be_bytes()),
+        items: &[],
+    }
+}
+
+// A body of an array: the tag of its items, four bytes of their number, and their bodies.
+fn listed(array: &Array) -> Parts<'_>
+    ensures body { in_parts result.head.items result.middle.now result.end.items result.items.now ≡ array_body array.now }
+    ensures head { length result.head.items ≡ 5 }
+    ensures middle { result.middle.now ≡ [] }
+    ensures end { result.end.items ≡ [] }
+    ensures items { AreItems 19 result.head.items result.items.now }
+    ensures is { IsArray array.now }
+{
+    let items = array.items();
+    let count = (items.len() as u32).to_be_bytes();
+    Parts {
+        head: held(&[array.tag(), count[0], count[1], count[2], count[3]]),
+        middle: &[],
+        end: ArrayVec::new(),
+        items,
+    }
+}
+
+// The order of what stands before the items: by the heads, then the middles, then the ends.
+fn cmp_parts(a: &Parts<'_>, b: &Parts<'_>) -> Ordering
+    ensures { result ≡ ordering_then (slice_cmp nat_cmp a.now.head.items b.now.head.items)
+        (ordering_then (slice_cmp nat_cmp a.now.middle.now b.now.middle.now) (slice_cmp nat_cmp a.now.end.items b.now.end.items)) }
+{
+    let order = a.head.as_slice().cmp(b.head.as_slice());
+    if order.is_ne() {
+        return order;
+    }
+    let order = a.middle.cmp(b.middle);
+    if order.is_ne() {
+        return order;
+    }
+    a.end.as_slice().cmp(b.end.as_slice())
+}
+
+// The order of equally many bodies of one kind, one after another.
+fn cmp_items(a: &[Value], b: &[Value]) -> Ordering
+    requires { AreAlike a.now b.now }
+    ensures { result ≡ slice_cmp nat_cmp (bodies (plains_of a.now)) (bodies (plains_of b.now)) }
+{
+    for i in 0..a.len() {
+        let order = cmp_parts(&a[i].parts(), &b[i].parts());
+        if order.is_ne() {
+            return order;
+        }
+    }
+    Ordering::Equal
+}
