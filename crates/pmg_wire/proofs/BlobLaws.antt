@@ -1,28 +1,23 @@
 -- A string, a byte object or any process that is read was spelled so, and what is spelled so is read.
-use Rattle.std.proofs.Common.{◌≡◌, ℕ, ◌+◌, ◌^◌, ◌<◌, ◌≤◌, Bool, true, false, ◌&&◌, nat_lt, nat_le, List, [], ◌∷◌, ◌++◌, length, Option, Some, None, Result, Ok, Err, IsTrue, is_none, refl, sym, ap, subst, ◌∙◌, append_assoc, arith}
-use Rattle.std.specs.Int.{w32, to_be_bytes}
+use Rattle.std.proofs.Common.{◌≡◌, ℕ, ◌+◌, ◌^◌, ◌<◌, ◌≤◌, ◌&&◌, nat_lt, nat_le, List, [], ◌∷◌, ◌++◌, length, Option, Some, None, Ok, IsTrue, is_none, refl, ap, ◌∙◌, append_assoc, arith}
+use Rattle.std.specs.Int.{Width, w32, byte_len, to_be_bytes}
 use Rattle.std.specs.List.{position}
 use Rattle.std.proofs.lemmas.List.{length-append}
-use Rattle.std.proofs.lemmas.Bool.{and_parts, and_from, leb-true}
+use Rattle.std.proofs.lemmas.Bool.{and_parts, and_from, le-leb, leb-true}
 use Rattle.pmg_value.specs.declared.refusal.Cause.TheVariants as causes
 use Rattle.pmg_value.specs.declared.process.Proc.{Proc}
 use Rattle.pmg_value.specs.Blobs.{is_zero, is_blob, is_text}
 use Rattle.pmg_value.specs.Names.{is_nspace}
-use Rattle.pmg_value.specs.Spelling.{counted}
+use Rattle.pmg_value.specs.Plain.{counted}
 use Rattle.pmg_wire.specs.Fields.{check_text, text_at, blob_at, any_proc_at}
-use Rattle.pmg_wire.specs.Reading.{Place, Read, fault, ◌>>=◌, check, bytes_at, byte_at, number_at, IsBytes, Takes}
+use Rattle.pmg_wire.specs.Reading.{Place, Read, fault, ◌>>=◌, check, bytes_at, number_at, IsBytes, Takes}
 use Rattle.pmg_wire.specs.Spelling.{proc_spelling}
 use Rattle.pmg_wire.proofs.Steps.{place, IfRead, bind_if, check_if, done_if, Takes-then, IsBytes-after, bytes_if, bytes_again, wide32, number_if, number_again, byte_if, byte_again}
 
 -- what a string's field took
 pub record TakesText (at : Place) (text : List ℕ) (after : Place) : Type 0 where
   pub takes : Takes at (counted text) after
-  pub is : IsTrue (is_text text)
-
--- what a byte object's field took
-pub record TakesBlob (at : Place) (bytes : List ℕ) (after : Place) : Type 0 where
-  pub takes : Takes at (counted bytes) after
-  pub is : IsTrue (is_blob bytes)
+  pub no_zero : IsTrue (is_none (position is_zero text))
 
 -- what any process's field took
 pub record TakesProc (at : Place) (p : Proc) (after : Place) : Type 0 where
@@ -34,23 +29,18 @@ check_text_if : {Y : Type 0} {Q : Y → Place → Type 0} (zero_at : Option ℕ)
 check_text_if None start f next = next refl
 check_text_if (Some i) start f next = record { holds = λ y end e. absurd cc }
 
-pub text_if : (offset : ℕ) (at : Place) → IsBytes at.rest → IfRead (text_at offset at) (TakesText at)
+pub text_if : (at : Place) → IsBytes at.rest → IfRead (text_at at) (TakesText at)
 unfolding text_at
-text_if offset at fits = bind_if _ (number_if w32 (2 ^ 32) wide32 at fits) (λ len after t.
-    let sized : List ℕ × Place → Read (List ℕ) = λ text. check (is_blob text.0) (fault offset causes.Size) >>= λ _. Ok text in
-    let whole : List ℕ × Place → Read (List ℕ) = λ text. check_text (position is_zero text.0) after.offset >>= λ _. sized text in
+text_if at fits = bind_if _ (number_if w32 (2 ^ 32) wide32 at fits) (λ len after t.
+    let whole : List ℕ × Place → Read (List ℕ) = λ text. check_text (position is_zero text.0) after.offset >>= λ _. Ok text in
     bind_if whole (bytes_if len after) (λ text end u.
-    check_text_if (position is_zero text) after.offset (λ _. sized (text, end)) (λ none.
-    check_if (is_blob text) (fault offset causes.Size) (λ _. Ok (text, end)) (λ small.
-    done_if (record { takes = Takes-then (to_be_bytes w32 (length text)) text (rw u.len t.takes) u.takes; is = and_from (is_none (position is_zero text)) (is_blob text) none small })))))
+    check_text_if (position is_zero text) after.offset (λ _. Ok (text, end)) (λ none.
+    done_if (record { takes = Takes-then (to_be_bytes w32 (length text)) text (rw u.len t.takes) u.takes; no_zero = none }))))
 
-pub blob_if : (offset : ℕ) (at : Place) → IsBytes at.rest → IfRead (blob_at offset at) (TakesBlob at)
+pub blob_if : (at : Place) → IsBytes at.rest → IfRead (blob_at at) (λ bytes after. Takes at (counted bytes) after)
 unfolding blob_at
-blob_if offset at fits = bind_if _ (number_if w32 (2 ^ 32) wide32 at fits) (λ len after t.
-    let sized : List ℕ × Place → Read (List ℕ) = λ bytes. check (is_blob bytes.0) (fault offset causes.Size) >>= λ _. Ok bytes in
-    bind_if sized (bytes_if len after) (λ bytes end u.
-    check_if (is_blob bytes) (fault offset causes.Size) (λ _. Ok (bytes, end)) (λ small.
-    done_if (record { takes = Takes-then (to_be_bytes w32 (length bytes)) bytes (rw u.len t.takes) u.takes; is = small }))))
+blob_if at fits = bind_if _ (number_if w32 (2 ^ 32) wide32 at fits) (λ len after t.
+    record { holds = λ bytes end e. let u = (bytes_if len after).holds bytes end e in Takes-then (to_be_bytes w32 (length bytes)) bytes (rw u.len t.takes) u.takes })
 
 pub any_proc_if : (at : Place) → IsBytes at.rest → IfRead (any_proc_at at) (TakesProc at)
 unfolding any_proc_at
@@ -74,6 +64,29 @@ zero_fits n at after text start i is fits read lt =
     let t = (bytes_if n at).holds text after read in
     omega (arith, is, fits, ap length t.takes.parts, length-append text after.rest, lt)
 
+-- a number's field is as long as its width
+pub number_len : (w : Width) (at : Place) → IfRead (number_at w at) (λ n after. length at.rest ≡ byte_len w + length after.rest)
+number_len w at = bind_if _ (bytes_if (byte_len w) at) (λ b after t.
+    done_if (ap length t.takes.parts ∙ length-append b after.rest ∙ ap (λ (n : ℕ). n + length after.rest) t.len))
+
+-- what was taken is no more than what was there
+pub taken_short : {at after : Place} (text : List ℕ) → Takes at text after → length at.rest ≤ 1048575 → length text ≤ 1048575
+taken_short {after = after} text t short = omega (arith, short, ap length t.parts, length-append text after.rest)
+
+-- bytes whose spelling is short enough are short enough
+pub short_counted : (bytes : List ℕ) → length (counted bytes) ≤ 1048575 → IsTrue (is_blob bytes)
+short_counted bytes h = le-leb (length bytes) 1048571 (omega (arith, h, length-append (to_be_bytes w32 (length bytes)) bytes))
+
+-- what is read from bytes that are no more than a value's body is a byte object
+pub blob_is : (at after : Place) (bytes : List ℕ) → IsBytes at.rest → length at.rest ≤ 1048575 → blob_at at ≡ Ok (bytes, after) → IsTrue (is_blob bytes)
+blob_is at after bytes fits short read = short_counted bytes (taken_short (counted bytes) ((blob_if at fits).holds bytes after read) short)
+
+-- or a string
+pub text_is : (at after : Place) (text : List ℕ) → IsBytes at.rest → length at.rest ≤ 1048575 → text_at at ≡ Ok (text, after) → IsTrue (is_text text)
+text_is at after text fits short read =
+    let t = (text_if at fits).holds text after read in
+    and_from (is_none (position is_zero text)) (is_blob text) t.no_zero (short_counted text (taken_short (counted text) t.takes short))
+
 -- ---- and again
 
 none_is : (o : Option ℕ) → IsTrue (is_none o) → o ≡ None
@@ -83,22 +96,21 @@ none_is (Some i) h = absurd cc
 blob_short : (bytes : List ℕ) → IsTrue (is_blob bytes) → length bytes < 2 ^ 32
 blob_short bytes h = let le = leb-true (length bytes) 1048571 h in omega arith
 
-pub text_again : (offset o : ℕ) (text rest : List ℕ) → IsTrue (is_text text) → text_at offset (place o (counted text ++ rest)) ≡ Ok (text, place (o + 4 + length text) rest)
+pub text_again : (o : ℕ) (text rest : List ℕ) → IsTrue (is_text text) → text_at (place o (counted text ++ rest)) ≡ Ok (text, place (o + 4 + length text) rest)
 unfolding text_at
-text_again offset o text rest is =
+text_again o text rest is =
     let parts = and_parts (is_none (position is_zero text)) (is_blob text) is in
     let none = none_is (position is_zero text) parts.0 in
-    let small = parts.1 in
-    let first = number_again w32 (2 ^ 32) wide32 o (length text) (text ++ rest) (blob_short text small) in
+    let first = number_again w32 (2 ^ 32) wide32 o (length text) (text ++ rest) (blob_short text parts.1) in
     let second = bytes_again (o + 4) text rest (length text) refl in
-    rw (first, second, none, small) refl
+    rw (first, second, none) refl
 
-pub blob_again : (offset o : ℕ) (bytes rest : List ℕ) → IsTrue (is_blob bytes) → blob_at offset (place o (counted bytes ++ rest)) ≡ Ok (bytes, place (o + 4 + length bytes) rest)
+pub blob_again : (o : ℕ) (bytes rest : List ℕ) → IsTrue (is_blob bytes) → blob_at (place o (counted bytes ++ rest)) ≡ Ok (bytes, place (o + 4 + length bytes) rest)
 unfolding blob_at
-blob_again offset o bytes rest small =
+blob_again o bytes rest small =
     let first = number_again w32 (2 ^ 32) wide32 o (length bytes) (bytes ++ rest) (blob_short bytes small) in
     let second = bytes_again (o + 4) bytes rest (length bytes) refl in
-    rw (first, second, small) refl
+    rw (first, second) refl
 
 pub name_len : (name : List ℕ) → IsTrue (is_nspace name) → IsTrue (nat_lt 0 (length name))
 name_len name h = (and_parts (nat_lt 0 (length name)) (nat_le (length name) 255) (and_parts (nat_lt 0 (length name) && nat_le (length name) 255) _ h).0).0

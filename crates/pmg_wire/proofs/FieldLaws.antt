@@ -1,29 +1,27 @@
 -- A key, a process or a value that is read was spelled so, and what is spelled so is read.
-use Rattle.std.proofs.Common.{◌≡◌, ℕ, ◌+◌, ◌^◌, ◌<◌, ◌≤◌, Bool, true, false, ◌&&◌, ◌||◌, not, nat_lt, nat_le, ◌==◌, cond, List, [], ◌∷◌, ◌++◌, length, Result, Ok, Err, IsTrue, refl, sym, ap, subst, ◌∙◌, append_assoc, arith, ℤ, FitsSigned}
-use Rattle.std.specs.Int.{Width, w8, w16, w32, w64, to_be_bytes, byte_len, cast_signed, cast_unsigned}
-use mir.Val.{bits}
-use mir.ValLaws.{to_z-Fits, of_z_fits}
-use Rattle.std.proofs.lemmas.Int.{of_z-to_z, to_z-of_z}
+use Rattle.std.proofs.Common.{◌≡◌, ℕ, ◌+◌, ◌-◌, ◌^◌, ◌<◌, ◌≤◌, Bool, true, false, ◌&&◌, ◌||◌, not, nat_lt, nat_le, ◌==◌, cond, List, [], ◌∷◌, ◌++◌, length, Ok, IsTrue, refl, sym, ap, ◌∙◌, append_assoc, arith}
+use Rattle.std.specs.Int.{w16, w32, to_be_bytes}
+use Rattle.std.specs.Str.{bytes_eq}
+use Rattle.std.proofs.lemmas.List.{length-append}
+use Rattle.std.proofs.lemmas.Bool.{and_parts, or_left, eqb-true, leb-true, le-leb}
+use Rattle.std.proofs.lemmas.Bool.Decides.{nat_tests}
+use Rattle.std.proofs.lemmas.Slice.Eq.{bytes_eq-Decides}
 use Rattle.pmg_value.specs.declared.refusal.Cause.TheVariants as causes
 use Rattle.pmg_value.specs.declared.process.Proc.{Proc}
 use Rattle.pmg_value.specs.declared.value.Value.{Value}
-use Rattle.pmg_value.specs.declared.value.Value.TheVariants as values
 use Rattle.pmg_value.specs.Names.{is_nspace, is_key, is_reserved}
 use Rattle.pmg_value.specs.Process.{host_name}
-use Rattle.std.specs.Str.{bytes_eq}
-use Rattle.std.proofs.lemmas.Slice.Eq.{bytes_eq-Decides}
-use Rattle.pmg_value.specs.Spelling.{spelling, tag_of, body_of, IsValue}
+use Rattle.pmg_value.specs.Spelling.{Form, form, value_of, form_tag, form_body, IsForm, body_of, spelling, IsValue}
+use Rattle.pmg_value.proofs.FormLemmas.{value_of-form, form-value_of}
 use Rattle.pmg_wire.specs.declared.fields.Admits.{Admits}
 use Rattle.pmg_wire.specs.declared.fields.Admits.TheVariants as admits
-use Rattle.pmg_wire.specs.Fields.{key_at, proc_at, flag_at, made, body_at, value_at, is_admitted, is_named, is_ranked}
-use Rattle.pmg_wire.specs.Reading.{Place, Read, fault, ◌>>=◌, check, bytes_at, byte_at, number_at, IsBytes, Takes}
-use Rattle.pmg_wire.specs.Spelling.{key_spelling, proc_spelling}
+use Rattle.pmg_wire.specs.Fields.{key_at, proc_at, body_at, value_at, is_admitted, is_named, is_ranked}
 use Rattle.pmg_wire.specs.Grammar.{SpellsKey, SpellsProc, SpellsValue}
-use Rattle.std.proofs.lemmas.List.{length-append}
-use Rattle.std.proofs.lemmas.Bool.{and_parts, or_left, eqb-true, leb-true}
-use Rattle.std.proofs.lemmas.Bool.Decides.{nat_tests}
-use Rattle.pmg_wire.proofs.BlobLaws.{text_if, text_again, blob_if, blob_again, any_proc_if, any_proc_again, name_len}
-use Rattle.pmg_wire.proofs.Steps.{place, IfRead, bind_if, check_if, done_if, refused_if, choice_if, Takes-then, IsBytes-after, bytes_if, bytes_again, IsWide, wide16, wide32, wide64, number_if, number_again, byte_if, byte_again}
+use Rattle.pmg_wire.specs.Reading.{Place, Read, fault, ◌>>=◌, check, bytes_at, number_at, IsBytes, Takes}
+use Rattle.pmg_wire.specs.Spelling.{key_spelling, proc_spelling}
+use Rattle.pmg_wire.proofs.ArrayLaws.{body_if, body_again, form_tag_is, form_short}
+use Rattle.pmg_wire.proofs.BlobLaws.{name_len}
+use Rattle.pmg_wire.proofs.Steps.{place, IfRead, bind_if, check_if, done_if, Takes-then, IsBytes-after, bytes_if, bytes_again, wide16, wide32, number_if, number_again, byte_if, byte_again}
 
 pub key_if : (at : Place) → IsBytes at.rest → IfRead (key_at at) (SpellsKey at)
 unfolding key_at
@@ -115,81 +113,6 @@ proc_if who at fits = bind_if _ (byte_if at) (λ len after t.
     let p : Proc = record { nspace = name; rank = rank } in
     done_if (record { takes = Takes-then ((length name ∷ []) ++ name) (to_be_bytes w32 rank) both v.takes; name = name_of who name n; admitted = admitted who p n r })))))))
 
--- ---- values
-
-flag_if : (at : Place) → IfRead (flag_at at) (λ b after. Takes at (cond b 1 0 ∷ []) after)
-unfolding flag_at
-flag_if at = bind_if _ (byte_if at) (λ n after t.
-    check_if (nat_lt n 2) (fault at.offset causes.Bool) (λ _. Ok (n == 1, after)) (λ small.
-    done_if (rw (← is_flag n small) t.takes)))
-  where
-    is_flag : (n : ℕ) → IsTrue (nat_lt n 2) → n ≡ cond (n == 1) 1 0
-    is_flag n h = grind (arith, nat_tests, h)
-
--- the two spellings of a flag are a value's body
-bool_body : (b : Bool) → body_of (values.Bool b) ≡ cond b 1 0 ∷ []
-bool_body true = refl
-bool_body false = refl
-
--- a value behind its tag
-record TakesBody (tag : ℕ) (at : Place) (v : Value) (after : Place) : Type 0 where
-  pub takes : Takes at (body_of v) after
-  pub tag_is : tag ≡ tag_of v
-  pub is : IsValue v
-
--- the body of a kind that holds one byte
-byte_kind : (tag own : ℕ) (at : Place) → IsBytes at.rest → (kind : ℕ → Value) → IsTrue (tag == own)
-    → ((n : ℕ) → n < 2 ^ 8 → (body_of (kind n) ≡ n ∷ []) × (tag_of (kind n) ≡ own) × IsValue (kind n))
-    → IfRead (made kind (byte_at at)) (TakesBody tag at)
-byte_kind tag own at fits kind is rule = bind_if _ (byte_if at) (λ n after t.
-    let r = rule n (t.small fits) in
-    done_if (record { takes = rw r.0 t.takes; tag_is = eqb-true tag own is ∙ sym r.1; is = r.2 }))
-
--- the body of a kind that holds a number of that width
-number_kind : (w : Width) (limit : ℕ) → IsWide w limit → (tag own : ℕ) (at : Place) → IsBytes at.rest → (kind : ℕ → Value) → IsTrue (tag == own)
-    → ((n : ℕ) → n < limit → (body_of (kind n) ≡ to_be_bytes w n) × (tag_of (kind n) ≡ own) × IsValue (kind n))
-    → IfRead (made kind (number_at w at)) (TakesBody tag at)
-number_kind w limit wide tag own at fits kind is rule = bind_if _ (number_if w limit wide at fits) (λ n after t.
-    let r = rule n t.small in
-    done_if (record { takes = rw r.0 t.takes; tag_is = eqb-true tag own is ∙ sym r.1; is = r.2 }))
-
--- a signed number's bytes are those of its two's complement, and it lies in its range
-signed_rule : (w : Width) (n : ℕ) → n < 2 ^ bits w → (cast_unsigned w (cast_signed w n) ≡ n) × FitsSigned w (cast_signed w n)
-signed_rule w n lt = (of_z-to_z w n lt, to_z-Fits w n (record { fits = lt }))
-
-body_if : (tag offset : ℕ) (at : Place) → IsBytes at.rest → IfRead (body_at tag offset at) (TakesBody tag at)
-unfolding body_at
-body_if tag offset at fits =
-    choice_if (tag == 1) (λ is. bind_if _ (flag_if at) (λ b after t. done_if (record { takes = rw (bool_body b) t; tag_is = eqb-true tag 1 is; is = tt }))) (λ _.
-    choice_if (tag == 2) (λ is. byte_kind tag 2 at fits values.Byte is (λ n lt. (refl, refl, lt))) (λ _.
-    choice_if (tag == 3) (λ is. bind_if _ (text_if offset at fits) (λ t after u. done_if (record { takes = u.takes; tag_is = eqb-true tag 3 is; is = u.is }))) (λ _.
-    choice_if (tag == 4) (λ is. number_kind w64 (2 ^ 64) wide64 tag 4 at fits values.Size is (λ n lt. (refl, refl, lt))) (λ _.
-    choice_if (tag == 5) (λ is. byte_kind tag 5 at fits (λ n. values.I8 (cast_signed w8 n)) is (λ n lt. let s = signed_rule w8 n lt in (ap (λ (m : ℕ). m ∷ []) s.0, refl, s.1))) (λ _.
-    choice_if (tag == 6) (λ is. number_kind w16 (2 ^ 16) wide16 tag 6 at fits (λ n. values.I16 (cast_signed w16 n)) is (λ n lt. let s = signed_rule w16 n lt in (ap (to_be_bytes w16) s.0, refl, s.1))) (λ _.
-    choice_if (tag == 7) (λ is. number_kind w32 (2 ^ 32) wide32 tag 7 at fits (λ n. values.I32 (cast_signed w32 n)) is (λ n lt. let s = signed_rule w32 n lt in (ap (to_be_bytes w32) s.0, refl, s.1))) (λ _.
-    choice_if (tag == 8) (λ is. number_kind w64 (2 ^ 64) wide64 tag 8 at fits (λ n. values.I64 (cast_signed w64 n)) is (λ n lt. let s = signed_rule w64 n lt in (ap (to_be_bytes w64) s.0, refl, s.1))) (λ _.
-    choice_if (tag == 9) (λ is. byte_kind tag 9 at fits values.U8 is (λ n lt. (refl, refl, lt))) (λ _.
-    choice_if (tag == 10) (λ is. number_kind w16 (2 ^ 16) wide16 tag 10 at fits values.U16 is (λ n lt. (refl, refl, lt))) (λ _.
-    choice_if (tag == 11) (λ is. number_kind w32 (2 ^ 32) wide32 tag 11 at fits values.U32 is (λ n lt. (refl, refl, lt))) (λ _.
-    choice_if (tag == 12) (λ is. number_kind w64 (2 ^ 64) wide64 tag 12 at fits values.U64 is (λ n lt. (refl, refl, lt))) (λ _.
-    choice_if (tag == 13) (λ is. number_kind w32 (2 ^ 32) wide32 tag 13 at fits (λ n. values.Int (cast_signed w32 n)) is (λ n lt. let s = signed_rule w32 n lt in (ap (to_be_bytes w32) s.0, refl, s.1))) (λ _.
-    choice_if (tag == 14) (λ is. number_kind w32 (2 ^ 32) wide32 tag 14 at fits values.Uint is (λ n lt. (refl, refl, lt))) (λ _.
-    choice_if (tag == 15) (λ is. number_kind w32 (2 ^ 32) wide32 tag 15 at fits values.Rank is (λ n lt. (refl, refl, lt))) (λ _.
-    choice_if (tag == 16) (λ is. bind_if _ (any_proc_if at fits) (λ p after u. done_if (record { takes = u.takes; tag_is = eqb-true tag 16 is; is = (u.name, u.rank) }))) (λ _.
-    choice_if (tag == 17) (λ is. number_kind w32 (2 ^ 32) wide32 tag 17 at fits (λ n. values.Status (cast_signed w32 n)) is (λ n lt. let s = signed_rule w32 n lt in (ap (to_be_bytes w32) s.0, refl, s.1))) (λ _.
-    choice_if (tag == 18) (λ is. bind_if _ (blob_if offset at fits) (λ b after u. done_if (record { takes = u.takes; tag_is = eqb-true tag 18 is; is = u.is }))) (λ _.
-    refused_if))))))))))))))))))
-
-pub value_if : (at : Place) → IsBytes at.rest → IfRead (value_at at) (SpellsValue at)
-unfolding value_at
-value_if at fits = bind_if _ (byte_if at) (λ tag after t.
-    let after_fits : IsBytes after.rest = IsBytes-after (tag ∷ []) fits t.takes in
-    record {
-      holds = λ v end e.
-          let u = (body_if tag at.offset after after_fits).holds v end e in
-          record { takes = Takes-then (tag_of v ∷ []) (body_of v) (rw (← u.tag_is) t.takes) u.takes; is = u.is };
-    })
-
 rank_fits : (h : Bool) (rank : ℕ) → IsTrue (cond h (rank == 0) (nat_le rank 4095)) → rank < 2 ^ 32
 rank_fits true rank r = let e = eqb-true rank 0 r in omega arith
 rank_fits false rank r = let e = leb-true rank 4095 r in omega arith
@@ -209,68 +132,40 @@ proc_again who o p rest name h =
     let end : o + 1 + length p.nspace + 4 ≡ o + length (proc_spelling p) = omega (arith, length-append p.nspace (to_be_bytes w32 p.rank)) in
     ap (proc_at who) regrouped ∙ rw (first, len, second, named, third, ranked) (ap (λ (n : ℕ). Ok (p, place n rest)) end)
 
-flag_again : (o : ℕ) (b : Bool) (rest : List ℕ) → flag_at (place o (cond b 1 0 ∷ rest)) ≡ Ok (b, place (o + 1) rest)
-unfolding flag_at
-flag_again o true rest = rw (byte_again o 1 rest) refl
-flag_again o false rest = rw (byte_again o 0 rest) refl
+-- ---- values
 
--- what is read again makes the value again
-made_again : {X : Type 0} (kind : X → Value) {read : Read X} {x : X} {after : Place} → read ≡ Ok (x, after) → made kind read ≡ Ok (kind x, after)
-made_again kind e = ap (made kind) e
+-- a value is spelled by its form
+spells : {at end : Place} (f : Form) → Takes at (form_tag f ∷ form_body f) end → IsForm f → SpellsValue at (value_of f) end
+spells f takes is = record { takes = rw (form-value_of f) takes; is = rw (form-value_of f) is }
 
--- a kind that holds one byte is read again
-byte_kind_again : (kind : ℕ → Value) (o n : ℕ) (rest : List ℕ) → made kind (byte_at (place o (n ∷ rest))) ≡ Ok (kind n, place (o + 1) rest)
-byte_kind_again kind o n rest = rw (byte_again o n rest) refl
-
--- a kind that holds a number of that width is read again
-number_kind_again : (w : Width) (limit : ℕ) → IsWide w limit → (kind : ℕ → Value) (o n : ℕ) (rest : List ℕ) → n < limit
-    → made kind (number_at w (place o (to_be_bytes w n ++ rest))) ≡ Ok (kind n, place (o + byte_len w) rest)
-number_kind_again w limit wide kind o n rest lt = rw (number_again w limit wide o n rest lt) refl
-
--- a kind that holds a signed number of that width is read again
-signed_kind_again : (w : Width) → IsWide w (2 ^ bits w) → (kind : ℤ → Value) (o : ℕ) (z : ℤ) (rest : List ℕ) → FitsSigned w z
-    → made (λ n. kind (cast_signed w n)) (number_at w (place o (to_be_bytes w (cast_unsigned w z) ++ rest))) ≡ Ok (kind z, place (o + byte_len w) rest)
-signed_kind_again w wide kind o z rest fits =
-    number_kind_again w (2 ^ bits w) wide (λ n. kind (cast_signed w n)) o (cast_unsigned w z) rest (of_z_fits w z fits).fits
-    ∙ ap (λ (y : ℤ). Ok (kind y, place (o + byte_len w) rest)) (to_z-of_z w z fits)
-
--- what is read behind a tag is the value, and reading stands behind it
-value_is : (o own len : ℕ) (v : Value) (rest bytes : List ℕ) (end : ℕ) → (o + 1) + len ≡ end
-    → body_at own o (place (o + 1) bytes) ≡ Ok (v, place (o + 1 + len) rest)
-    → value_at (place o (own ∷ bytes)) ≡ Ok (v, place end rest)
+pub value_if : (at : Place) → IsBytes at.rest → IfRead (value_at at) (SpellsValue at)
 unfolding value_at
-value_is o own len v rest bytes end e read = rw (byte_again o own bytes) (read ∙ ap (λ (k : ℕ). Ok (v, place k rest)) e)
+value_if at fits = bind_if _ (byte_if at) (λ tag after t.
+    let after_fits : IsBytes after.rest = IsBytes-after (tag ∷ []) fits t.takes in
+    let sized : Form × Place → Read Value = λ body. check (nat_le (body.1.offset - at.offset) 1048576) (fault at.offset causes.Size) >>= λ _. Ok (value_of body.0, body.1) in
+    check_if (nat_lt 0 tag && nat_lt tag 20) (fault at.offset causes.Tag) (λ _. body_at tag after >>= sized) (λ is.
+    bind_if sized (body_if tag after after_fits) (λ f end u.
+    check_if (nat_le (end.offset - at.offset) 1048576) (fault at.offset causes.Size) (λ _. Ok (value_of f, end)) (λ small.
+    let first : Takes at (form_tag f ∷ []) after = rw (← u.tag_is is) t.takes in
+    let le = leb-true (end.offset - at.offset) 1048576 small in
+    let short : length (form_body f) ≤ 1048575 = omega (arith, le, first.place, u.takes.place) in
+    done_if (spells f (Takes-then (form_tag f ∷ []) (form_body f) first u.takes) (u.is short))))))
+
+-- what a value's form spells is read again
+form_again : (o : ℕ) (f : Form) (rest : List ℕ) → IsForm f → value_at (place o (form_tag f ∷ form_body f ++ rest)) ≡ Ok (value_of f, place (o + 1 + length (form_body f)) rest)
+unfolding value_at
+form_again o f rest is =
+    let first = byte_again o (form_tag f) (form_body f ++ rest) in
+    let tag_is = form_tag_is f in
+    let second = body_again (o + 1) f rest is in
+    let size : nat_le ((o + 1 + length (form_body f)) - o) 1048576 ≡ true = le-leb _ _ (omega (arith, form_short f is)) in
+    rw (first, tag_is, second, size) refl
 
 pub value_again : (o : ℕ) (v : Value) (rest : List ℕ) → IsValue v → value_at (place o (spelling v ++ rest)) ≡ Ok (v, place (o + length (spelling v)) rest)
-unfolding body_at
-value_again o (values.Bool true) rest is = value_is o 1 1 _ rest _ _ (omega arith) (rw (flag_again (o + 1) true rest) refl)
-value_again o (values.Bool false) rest is = value_is o 1 1 _ rest _ _ (omega arith) (rw (flag_again (o + 1) false rest) refl)
-value_again o (values.Byte n) rest is = value_is o 2 1 _ rest _ _ (omega arith) (byte_kind_again values.Byte (o + 1) n rest)
-value_again o (values.Str t) rest is =
-    value_is o 3 (4 + length t) _ rest _ _ (omega (arith, length-append (to_be_bytes w32 (length t)) t))
-    (made_again values.Str (text_again o (o + 1) t rest is) ∙ ap (λ (k : ℕ). Ok (values.Str t, place k rest)) (omega arith))
-value_again o (values.Size n) rest is = value_is o 4 8 _ rest _ _ (omega arith) (number_kind_again w64 (2 ^ 64) wide64 values.Size (o + 1) n rest is)
-value_again o (values.I8 z) rest is =
-    value_is o 5 1 _ rest _ _ (omega arith)
-    (byte_kind_again (λ n. values.I8 (cast_signed w8 n)) (o + 1) (cast_unsigned w8 z) rest
-    ∙ ap (λ (y : ℤ). Ok (values.I8 y, place (o + 1 + 1) rest)) (to_z-of_z w8 z is))
-value_again o (values.I16 z) rest is = value_is o 6 2 _ rest _ _ (omega arith) (signed_kind_again w16 wide16 values.I16 (o + 1) z rest is)
-value_again o (values.I32 z) rest is = value_is o 7 4 _ rest _ _ (omega arith) (signed_kind_again w32 wide32 values.I32 (o + 1) z rest is)
-value_again o (values.I64 z) rest is = value_is o 8 8 _ rest _ _ (omega arith) (signed_kind_again w64 wide64 values.I64 (o + 1) z rest is)
-value_again o (values.U8 n) rest is = value_is o 9 1 _ rest _ _ (omega arith) (byte_kind_again values.U8 (o + 1) n rest)
-value_again o (values.U16 n) rest is = value_is o 10 2 _ rest _ _ (omega arith) (number_kind_again w16 (2 ^ 16) wide16 values.U16 (o + 1) n rest is)
-value_again o (values.U32 n) rest is = value_is o 11 4 _ rest _ _ (omega arith) (number_kind_again w32 (2 ^ 32) wide32 values.U32 (o + 1) n rest is)
-value_again o (values.U64 n) rest is = value_is o 12 8 _ rest _ _ (omega arith) (number_kind_again w64 (2 ^ 64) wide64 values.U64 (o + 1) n rest is)
-value_again o (values.Int z) rest is = value_is o 13 4 _ rest _ _ (omega arith) (signed_kind_again w32 wide32 values.Int (o + 1) z rest is)
-value_again o (values.Uint n) rest is = value_is o 14 4 _ rest _ _ (omega arith) (number_kind_again w32 (2 ^ 32) wide32 values.Uint (o + 1) n rest is)
-value_again o (values.Rank n) rest is = value_is o 15 4 _ rest _ _ (omega arith) (number_kind_again w32 (2 ^ 32) wide32 values.Rank (o + 1) n rest is)
-value_again o (values.Proc p) rest is =
-    value_is o 16 (5 + length p.nspace) _ rest _ _ (omega (arith, length-append p.nspace (to_be_bytes w32 p.rank)))
-    (made_again values.Proc (any_proc_again (o + 1) p rest is.0 is.1) ∙ ap (λ (k : ℕ). Ok (values.Proc p, place k rest)) (omega arith))
-value_again o (values.Bytes b) rest is =
-    value_is o 18 (4 + length b) _ rest _ _ (omega (arith, length-append (to_be_bytes w32 (length b)) b))
-    (made_again values.Bytes (blob_again o (o + 1) b rest is) ∙ ap (λ (k : ℕ). Ok (values.Bytes b, place k rest)) (omega arith))
-value_again o (values.Status z) rest is = value_is o 17 4 _ rest _ _ (omega arith) (signed_kind_again w32 wide32 values.Status (o + 1) z rest is)
+value_again o v rest is =
+    form_again o (form v) rest is
+    ∙ ap (λ (w : Value). Ok (w, place (o + 1 + length (body_of v)) rest)) (value_of-form v)
+    ∙ ap (λ (n : ℕ). Ok (v, place n rest)) (omega arith)
 
 -- ---- both ways
 

@@ -1,4 +1,10 @@
 pub mod Steps
 pub mod BlobLaws
 pub mod FieldLaws
+pub mod PlainLaws
+pub mod ArrayLaws
 pub mod Counted
+pub mod Passing
+pub mod Windows
+pub mod Building
+pub mod Writing

@@ -1,18 +1,21 @@
 -- How keys, processes and values are read.
-use Rattle.std.specs.Prelude.{ℕ, ◌+◌, ◌==◌, Bool, true, false, ◌&&◌, ◌||◌, not, nat_lt, nat_le, nat_eq, List, Option, Some, None, Result, Ok, Err, if◌then◌else◌}
+use Rattle.std.specs.Prelude.{ℕ, ◌+◌, ◌-◌, ◌==◌, Bool, ◌&&◌, ◌||◌, not, nat_lt, nat_le, List, Option, Some, None, Result, Ok, Err, if◌then◌else◌}
 use Rattle.std.specs.Int.{w8, w16, w32, w64, cast_signed}
 use Rattle.std.specs.Str.{bytes_eq}
 use Rattle.pmg_value.specs.declared.refusal.Cause.TheVariants as causes
 use Rattle.pmg_value.specs.declared.process.Proc.{Proc}
 use Rattle.pmg_value.specs.declared.value.Value.{Value}
-use Rattle.pmg_value.specs.declared.value.Value.TheVariants as values
 use Rattle.std.specs.List.{position}
 use Rattle.pmg_value.specs.declared.refusal.Fault.{Fault}
-use Rattle.pmg_value.specs.Blobs.{is_zero, is_blob}
+use Rattle.pmg_value.specs.Blobs.{is_zero}
+use Rattle.pmg_value.specs.Elements.{Elements}
+use Rattle.pmg_value.specs.Plain.{Plain, is_plain_tag}
+use Rattle.pmg_value.specs.Spelling.{Form, value_of}
 use Rattle.pmg_value.specs.Names.{is_nspace, is_reserved, is_key}
 use Rattle.pmg_value.specs.Process.{host_name, is_client, is_host}
 use Rattle.pmg_wire.specs.declared.fields.Admits.{Admits}
 use Rattle.pmg_wire.specs.declared.fields.Admits.TheVariants as admits
+use Rattle.pmg_wire.specs.Many.{many}
 use Rattle.pmg_wire.specs.Reading.{Place, Read, fault, ◌>>=◌, check, bytes_at, byte_at, number_at}
 
 -- a key: two bytes of length, and the key
@@ -61,22 +64,17 @@ abbrev pub check_text : Option ℕ → ℕ → Result (Unit {0}) Fault
 check_text None start = Ok tt
 check_text (Some i) start = Err (fault (start + i) causes.Text)
 
--- a string of a value whose tag stands at that offset: four bytes of length, and the bytes
-unfoldable pub text_at : ℕ → Place → Read (List ℕ)
-text_at offset at = do
+-- a string: four bytes of length, and the bytes
+unfoldable pub text_at : Place → Read (List ℕ)
+text_at at = do
   len ← number_at w32 at
   text ← bytes_at len.0 len.1
   _ ← check_text (position is_zero text.0) len.1.offset
-  _ ← check (is_blob text.0) (fault offset causes.Size)
   Ok text
 
--- a byte object of a value whose tag stands at that offset: four bytes of length, and the bytes
-unfoldable pub blob_at : ℕ → Place → Read (List ℕ)
-blob_at offset at = do
-  len ← number_at w32 at
-  bytes ← bytes_at len.0 len.1
-  _ ← check (is_blob bytes.0) (fault offset causes.Size)
-  Ok bytes
+-- a byte object: four bytes of length, and the bytes
+unfoldable pub blob_at : Place → Read (List ℕ)
+blob_at at = number_at w32 at >>= λ len. bytes_at len.0 len.1
 
 -- any process: one byte of length, the namespace, and four bytes of rank
 unfoldable pub any_proc_at : Place → Read Proc
@@ -88,33 +86,54 @@ any_proc_at at = do
   rank ← number_at w32 name.1
   Ok (record { nspace = name.0; rank = rank.0 }, rank.1)
 
--- a value of that kind, made of what is read
-abbrev pub made : {X : Type 0} → (X → Value) → Read X → Read Value
+-- something of that kind, made of what is read
+abbrev pub made : {X Y : Type 0} → (X → Y) → Read X → Read Y
 made kind read = read >>= λ x. Ok (kind x.0, x.1)
 
--- the body of a value with this tag, which stands at that offset
-unfoldable pub body_at : ℕ → ℕ → Place → Read Value
-body_at tag offset at =
-    if tag == 1 then made values.Bool (flag_at at)
-    else if tag == 2 then made values.Byte (byte_at at)
-    else if tag == 3 then made values.Str (text_at offset at)
-    else if tag == 4 then made values.Size (number_at w64 at)
-    else if tag == 5 then made (λ n. values.I8 (cast_signed w8 n)) (byte_at at)
-    else if tag == 6 then made (λ n. values.I16 (cast_signed w16 n)) (number_at w16 at)
-    else if tag == 7 then made (λ n. values.I32 (cast_signed w32 n)) (number_at w32 at)
-    else if tag == 8 then made (λ n. values.I64 (cast_signed w64 n)) (number_at w64 at)
-    else if tag == 9 then made values.U8 (byte_at at)
-    else if tag == 10 then made values.U16 (number_at w16 at)
-    else if tag == 11 then made values.U32 (number_at w32 at)
-    else if tag == 12 then made values.U64 (number_at w64 at)
-    else if tag == 13 then made (λ n. values.Int (cast_signed w32 n)) (number_at w32 at)
-    else if tag == 14 then made values.Uint (number_at w32 at)
-    else if tag == 15 then made values.Rank (number_at w32 at)
-    else if tag == 16 then made values.Proc (any_proc_at at)
-    else if tag == 17 then made (λ n. values.Status (cast_signed w32 n)) (number_at w32 at)
-    else if tag == 18 then made values.Bytes (blob_at offset at)
-    else Err (fault offset causes.Tag)
+-- what is read is passed over: where reading stands behind it, or the first fault
+abbrev pub passed : {X : Type 0} → Read X → Read (Unit {0})
+passed read = read >>= λ x. Ok (tt, x.1)
 
--- a value: its tag and its body
+-- the body of a value with this tag, which is no array's
+unfoldable pub plain_at : ℕ → Place → Read Plain
+plain_at tag at =
+    if tag == 1 then made Plain.bool (flag_at at)
+    else if tag == 2 then made Plain.byte (byte_at at)
+    else if tag == 3 then made Plain.string (text_at at)
+    else if tag == 4 then made Plain.size (number_at w64 at)
+    else if tag == 5 then made (λ n. Plain.int8 (cast_signed w8 n)) (byte_at at)
+    else if tag == 6 then made (λ n. Plain.int16 (cast_signed w16 n)) (number_at w16 at)
+    else if tag == 7 then made (λ n. Plain.int32 (cast_signed w32 n)) (number_at w32 at)
+    else if tag == 8 then made (λ n. Plain.int64 (cast_signed w64 n)) (number_at w64 at)
+    else if tag == 9 then made Plain.uint8 (byte_at at)
+    else if tag == 10 then made Plain.uint16 (number_at w16 at)
+    else if tag == 11 then made Plain.uint32 (number_at w32 at)
+    else if tag == 12 then made Plain.uint64 (number_at w64 at)
+    else if tag == 13 then made (λ n. Plain.int (cast_signed w32 n)) (number_at w32 at)
+    else if tag == 14 then made Plain.uint (number_at w32 at)
+    else if tag == 15 then made Plain.rank (number_at w32 at)
+    else if tag == 16 then made Plain.proc (any_proc_at at)
+    else if tag == 17 then made (λ n. Plain.status (cast_signed w32 n)) (number_at w32 at)
+    else made Plain.bytes (blob_at at)
+
+-- the body of an array: the tag of its elements, four bytes of their number, and their bodies
+unfoldable pub array_at : Place → Read Elements
+array_at at = do
+  tag ← byte_at at
+  _ ← check (is_plain_tag tag.0) (fault at.offset causes.Tag)
+  count ← number_at w32 tag.1
+  plains ← many (λ _. plain_at tag.0) count.0 None count.1
+  Ok (record { tag = tag.0; plains = plains.0 }, plains.1)
+
+-- the body of a value with this tag
+unfoldable pub body_at : ℕ → Place → Read Form
+body_at tag at = if tag == 19 then made Form.array (array_at at) else made Form.plain (plain_at tag at)
+
+-- a value: its tag and its body, and behind these how long it is
 unfoldable pub value_at : Place → Read Value
-value_at at = byte_at at >>= λ tag. body_at tag.0 at.offset tag.1
+value_at at = do
+  tag ← byte_at at
+  _ ← check (nat_lt 0 tag.0 && nat_lt tag.0 20) (fault at.offset causes.Tag)
+  body ← body_at tag.0 tag.1
+  _ ← check (nat_le (body.1.offset - at.offset) 1048576) (fault at.offset causes.Size)
+  Ok (value_of body.0, body.1)

@@ -10,3 +10,7 @@ key_spelling key = to_be_bytes w16 (length key) ++ key
 -- one byte of length, the namespace, and four bytes of rank
 abbrev pub proc_spelling : Proc → List ℕ
 proc_spelling p = (length p.nspace ∷ p.nspace) ++ to_be_bytes w32 p.rank
+
+-- what stands before the items of a body in parts
+abbrev pub front_of : List ℕ → List ℕ → List ℕ → List ℕ
+front_of head middle end = head ++ (middle ++ end)

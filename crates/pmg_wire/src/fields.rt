@@ -1,12 +1,12 @@
 ghost use Rattle.std.specs.Prelude.{◌≡◌, ℕ, List, IfOk, OnErr};
-ghost use Rattle.pmg_wire.specs.Grammar.{SpellsKey, SpellsProc, SpellsValue};
+ghost use Rattle.pmg_wire.specs.Grammar.{SpellsKey, SpellsProc};
 ghost use Rattle.pmg_wire.specs.Reading.{Place, Reads};
-ghost use Rattle.pmg_wire.specs.Fields.{is_admitted, is_named, is_ranked, flag_at, key_at, proc_at, text_at, blob_at, any_proc_at, body_at, value_at};
+ghost use Rattle.pmg_wire.specs.Fields.{is_admitted, is_named, is_ranked, flag_at, key_at, proc_at};
 
 use crate::cursor::Cursor;
 use pmg_value::{
-    Cause, HOST_NAME, Key, MAX_BLOB_LEN, MAX_KEY_LEN, MAX_RANK, Nspace, Octets, Proc, Rank,
-    Refusal, Text, Value, first_zero, is_key_text, is_nspace_name, is_reserved_name,
+    Cause, HOST_NAME, Key, MAX_KEY_LEN, MAX_RANK, Nspace, Proc, Rank, Refusal, is_key_text,
+    is_nspace_name, is_reserved_name,
 };
 use std::alloc::Global;
 
@@ -127,102 +127,4 @@ pub fn get_proc(alloc: Global, admits: Admits, at: &mut Cursor<'_>) -> Result<Pr
     let process = proc_of(alloc, admits, &mut ahead)?;
     *at = ahead;
     Ok(process)
-}
-
-// A string of a value whose tag stands at that offset.
-#[tactic(auto, unfolding(crate::specs::Fields::text_at))]
-fn text_of(alloc: Global, offset: u64, at: &mut Cursor<'_>) -> Result<Text, Refusal>
-    ensures { Reads (λ t. t) result at.new (text_at offset at.old) }
-{
-    let len = at.get_u32()? as usize;
-    let start = at.offset();
-    let text = at.take(len)?;
-    if let Some(i) = first_zero(text) {
-        return Err(Cursor::refuse(start + i as u64, Cause::Text));
-    }
-    if text.len() > MAX_BLOB_LEN {
-        return Err(Cursor::refuse(offset, Cause::Size));
-    }
-    Ok(Text::from_text(alloc, text)?)
-}
-
-// A byte object of a value whose tag stands at that offset.
-#[tactic(auto, unfolding(crate::specs::Fields::blob_at))]
-fn octets_of(alloc: Global, offset: u64, at: &mut Cursor<'_>) -> Result<Octets, Refusal>
-    ensures { Reads (λ o. o) result at.new (blob_at offset at.old) }
-{
-    let len = at.get_u32()? as usize;
-    let bytes = at.take(len)?;
-    if bytes.len() > MAX_BLOB_LEN {
-        return Err(Cursor::refuse(offset, Cause::Size));
-    }
-    Ok(Octets::from_bytes(alloc, bytes)?)
-}
-
-// Any process, also one that no group registers.
-#[tactic(auto, unfolding(crate::specs::Fields::any_proc_at))]
-fn any_proc_of(alloc: Global, at: &mut Cursor<'_>) -> Result<Proc, Refusal>
-    ensures { Reads (λ p. p) result at.new (any_proc_at at.old) }
-{
-    let start = at.offset();
-    let len = at.get_u8()? as usize;
-    if len == 0 {
-        return Err(Cursor::refuse(start, Cause::Name));
-    }
-    let name = at.take(len)?;
-    if !is_nspace_name(name) {
-        return Err(Cursor::refuse(start, Cause::Name));
-    }
-    let rank = at.get_u32()?;
-    Ok(Proc::new(Nspace::from_name(alloc, name)?, Rank::new(rank)))
-}
-
-#[tactic(auto, unfolding(crate::specs::Fields::body_at))]
-fn body_of(alloc: Global, tag: u8, offset: u64, at: &mut Cursor<'_>) -> Result<Value, Refusal>
-    ensures { Reads (λ v. v) result at.new (body_at tag offset at.old) }
-{
-    match tag {
-        1 => Ok(Value::Bool(get_flag(at)?)),
-        2 => Ok(Value::Byte(at.get_u8()?)),
-        3 => Ok(Value::Str(text_of(alloc, offset, at)?)),
-        4 => Ok(Value::Size(at.get_u64()?)),
-        5 => Ok(Value::I8(at.get_u8()?.cast_signed())),
-        6 => Ok(Value::I16(at.get_u16()?.cast_signed())),
-        7 => Ok(Value::I32(at.get_u32()?.cast_signed())),
-        8 => Ok(Value::I64(at.get_u64()?.cast_signed())),
-        9 => Ok(Value::U8(at.get_u8()?)),
-        10 => Ok(Value::U16(at.get_u16()?)),
-        11 => Ok(Value::U32(at.get_u32()?)),
-        12 => Ok(Value::U64(at.get_u64()?)),
-        13 => Ok(Value::Int(at.get_u32()?.cast_signed())),
-        14 => Ok(Value::Uint(at.get_u32()?)),
-        15 => Ok(Value::Rank(Rank::new(at.get_u32()?))),
-        16 => Ok(Value::Proc(any_proc_of(alloc, at)?)),
-        17 => Ok(Value::Status(at.get_u32()?.cast_signed())),
-        18 => Ok(Value::Bytes(octets_of(alloc, offset, at)?)),
-        _ => Err(Cursor::refuse(offset, Cause::Tag)),
-    }
-}
-
-#[tactic(auto, unfolding(crate::specs::Fields::value_at))]
-fn value_of(alloc: Global, at: &mut Cursor<'_>) -> Result<Value, Refusal>
-    ensures { Reads (λ v. v) result at.new (value_at at.old) }
-{
-    let start = at.offset();
-    let tag = at.get_u8()?;
-    body_of(alloc, tag, start, at)
-}
-
-/// Reads a value: its tag, and a body of the tag's form. Refused as BadFrame at the first fault: Short,
-/// Tag, Bool, Name, Text, and at its end Size; and as NoMemory. A refusal leaves the cursor where it was.
-pub fn get_value(alloc: Global, at: &mut Cursor<'_>) -> Result<Value, Refusal>
-    ensures found { IfOk result (λ v. SpellsValue at.old v at.new) }
-    ensures only { (v : Value) (after : Place) → SpellsValue at.old v after → Reads (λ v. v) result at.new (Ok (v, after)) }
-    ensures first_fault { Reads (λ v. v) result at.new (value_at at.old) }
-    ensures err { OnErr result (at.new ≡ at.old) }
-{
-    let mut ahead = at.fork();
-    let value = value_of(alloc, &mut ahead)?;
-    *at = ahead;
-    Ok(value)
 }

@@ -5,12 +5,18 @@ mod cursor;
 mod fields;
 mod laws;
 mod put;
+mod skip;
+mod texts;
+mod values;
 
 pub use cursor::Cursor;
-pub use fields::{Admits, get_flag, get_key, get_proc, get_value};
+pub use fields::{Admits, get_flag, get_key, get_proc};
 pub use laws::value_rules;
 pub use put::{put_key, put_proc, put_value};
+pub use values::get_value;
 
+#[cfg(test)]
+mod array_tests;
 #[cfg(test)]
 mod tests;
 #[cfg(test)]

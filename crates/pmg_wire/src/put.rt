@@ -1,9 +1,10 @@
-ghost use Rattle.std.specs.Prelude.{◌≡◌, ◌++◌, OnOk, OnErr};
-ghost use Rattle.pmg_wire.specs.Spelling.{key_spelling, proc_spelling};
-ghost use Rattle.pmg_value.specs.Spelling.{spelling, IsValue};
+ghost use Rattle.std.specs.Prelude.{◌≡◌, ◌≤◌, ◌+◌, ◌++◌, length, IsTrue, OnOk, OnErr};
+ghost use Rattle.pmg_wire.specs.Spelling.{key_spelling, proc_spelling, front_of};
+ghost use Rattle.pmg_value.specs.Elements.{bodies};
+ghost use Rattle.pmg_value.specs.Spelling.{spelling, are_plain, plains_of, IsValue};
 
 use bytes::BytesMut;
-use pmg_value::{Key, Proc, Value};
+use pmg_value::{Key, Parts, Proc, Value};
 use std::alloc::AllocError;
 
 /// Writes a key's spelling at the end of a buffer: two bytes of length, and the key.
@@ -41,8 +42,29 @@ pub fn put_value(out: &mut BytesMut, value: &Value) -> Result<(), AllocError>
     let parts = value.parts();
     out.reserve(value.size())?;
     out.extend_reserved(&[value.tag()]);
+    put_parts(out, &parts);
+    put_items(out, parts.items);
+    Ok(())
+}
+
+// Writes what stands before the items of a body, where there is room.
+fn put_parts(out: &mut BytesMut, parts: &Parts<'_>)
+    requires { length (front_of parts.now.head.items parts.now.middle.now parts.now.end.items) ≤ out.old.spare }
+    ensures items { out.new.items ≡ out.old.items ++ front_of parts.now.head.items parts.now.middle.now parts.now.end.items }
+    ensures spare { out.new.spare + length (front_of parts.now.head.items parts.now.middle.now parts.now.end.items) ≡ out.old.spare }
+{
     out.extend_reserved(parts.head.as_slice());
     out.extend_reserved(parts.middle);
     out.extend_reserved(parts.end.as_slice());
-    Ok(())
+}
+
+// Writes the bodies of items that are no arrays, one after another, where there is room.
+fn put_items(out: &mut BytesMut, items: &[Value])
+    requires plain { IsTrue (are_plain items.now) }
+    requires room { length (bodies (plains_of items.now)) ≤ out.old.spare }
+    ensures { out.new.items ≡ out.old.items ++ bodies (plains_of items.now) }
+{
+    for item in items {
+        put_parts(out, &item.parts());
+    }
 }

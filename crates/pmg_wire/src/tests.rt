@@ -1,6 +1,6 @@
 //! What no clause says: that each call gives its answer where there is memory, and gives it when it is called
 //! again after memory ran out.
-use crate::{Admits, Cursor, get_flag, get_key, get_proc, put_key, put_proc};
+use crate::{Admits, Cursor, get_flag, get_key, get_proc, get_value, put_key, put_proc, put_value};
 use bytes::BytesMut;
 use pmg_value::{Cause, Fault, Key, Nspace, Proc, Rank, Refusal};
 use std::alloc::Global;
@@ -178,6 +178,25 @@ fn a_process_is_refused_at_its_first_fault(rt: HostRuntime) -> Result<(), Refusa
         let refusal = process_at(rt.alloc(), Admits::ClientsAndHost, &mut at).err();
         assert_eq!(rt; refusal, Some(want));
         assert_eq!(rt; (at.offset(), at.rest()), (3, bytes));
+    }
+    Ok(())
+}
+
+#[test]
+fn values_are_read_copied_and_written(rt: HostRuntime) -> Result<(), Refusal> {
+    let rows = [
+        b"\x03\0\0\0\x02hi".as_slice(),
+        b"\x12\0\0\0\x02\0\xff",
+        b"\x10\x01j\0\0\0\x03",
+        b"\x13\x03\0\0\0\x02\0\0\0\x01a\0\0\0\x01b",
+    ];
+    for bytes in &rows {
+        let mut at = Cursor::new(0, bytes);
+        let value = again!(get_value(rt.alloc(), &mut at))?;
+        let copy = again!(value.copy().map_err(Refusal::from))?;
+        let mut out = BytesMut::new(rt.alloc());
+        again!(put_value(&mut out, &copy).map_err(Refusal::from))?;
+        assert_eq!(rt; out.as_slice(), *bytes);
     }
     Ok(())
 }

@@ -3,7 +3,7 @@ use Rattle.std.proofs.lemmas.Result.{err_from_is_err_and}
 use Rattle.pmg_wire.specs.Fields.{value_at}
 use Rattle.pmg_wire.proofs.Steps.{fails_as_due}
 use Rattle.pmg_wire.proofs.FieldLaws.{value_if, value_only}
-use Rattle.pmg_wire.proofs.fields.get_value.Goals as goal
+use Rattle.pmg_wire.proofs.values.get_value.Goals as goal
 
 pub returns-in_err-value-clause-only : goal.returns-in_err-value-clause-only
 returns-in_err-value-clause-only c = λ v after s.

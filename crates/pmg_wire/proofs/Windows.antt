@@ -1,0 +1,122 @@
+-- A value whose bytes were passed over is read from these bytes alone.
+use Rattle.std.proofs.Common.{◌≡◌, ℕ, ◌+◌, ◌-◌, ◌<◌, ◌≤◌, true, ◌&&◌, nat_lt, nat_le, List, [], ◌++◌, length, take, Ok, IsTrue, sym, ap, subst, ◌∙◌, arith}
+use Rattle.std.proofs.lemmas.List.{length-append, length-take, take_at, append-nil}
+use Rattle.std.proofs.lemmas.Bool.{and_from, le-leb, lt-ltb}
+use Rattle.pmg_value.specs.declared.refusal.Refusal.{Refusal}
+use Rattle.pmg_value.specs.declared.refusal.Refusal.TheVariants as refusals
+use Rattle.pmg_value.specs.declared.value.Value.{Value}
+use Rattle.pmg_value.specs.Spelling.{Form, form, value_of, form_body}
+use Rattle.pmg_value.proofs.FormLemmas.{value_of-form}
+use Rattle.pmg_wire.specs.Fields.{passed, body_at, value_at}
+use Rattle.pmg_wire.specs.Reading.{Place, Read, front, byte_at, IsBytes, Takes, FailsReading}
+use Rattle.pmg_wire.proofs.ArrayLaws.{TakesBody, body_if, body_again}
+use Rattle.pmg_wire.proofs.Passing.{was_passed}
+use Rattle.pmg_wire.proofs.Steps.{place, byte_if}
+
+-- a body that was passed over
+pub record IsPassed (tag : ℕ) (at behind : Place) : Type 0 where
+  pub form : Form
+  pub read : body_at tag at ≡ Ok (form, behind)
+  pub took : TakesBody tag at form behind
+
+pub is_passed : (tag : ℕ) (at : Place) (u : Unit {0}) (behind : Place) → IsBytes at.rest → passed (body_at tag at) ≡ Ok (u, behind) → IsPassed tag at behind
+is_passed tag at u behind fits e =
+    let w = was_passed (body_at tag at) u behind e in
+    record { form = w.0; read = w.1; took = (body_if tag at fits).holds w.0 behind w.1 }
+
+-- by a second cursor, too
+pub passed_body : (tag : ℕ) (at fork : Place) (u : Unit {0}) (behind : Place) → fork ≡ at → IsBytes at.rest → passed (body_at tag fork) ≡ Ok (u, behind) → IsPassed tag at behind
+passed_body tag at fork u behind same fits e = is_passed tag at u behind fits (ap (λ (x : Place). passed (body_at tag x)) (sym same) ∙ e)
+
+-- how far it reaches
+pub record Reaches (at behind : Place) : Type 0 where
+  pub forward : at.offset ≤ behind.offset
+  pub within : behind.offset - at.offset ≤ length at.rest
+
+pub reaches : (tag : ℕ) (at behind : Place) → IsPassed tag at behind → Reaches at behind
+reaches tag at behind p =
+    let t = p.took.takes in
+    let all = ap length t.parts in
+    let sum = length-append (form_body p.form) behind.rest in
+    record { forward = omega (arith, t.place); within = omega (arith, t.place, all, sum) }
+
+-- its bytes are those between the two places
+between : (at behind : Place) (text : List ℕ) → Takes at text behind → front (behind.offset - at.offset) at ≡ place at.offset (text ++ [])
+between at behind text t =
+    let len : length text ≡ behind.offset - at.offset = omega (arith, t.place) in
+    ap (place at.offset) (ap (take (behind.offset - at.offset)) t.parts ∙ take_at text behind.rest (behind.offset - at.offset) len ∙ sym (append-nil text))
+
+-- what was passed over is read from its bytes alone
+pub in_window : (tag : ℕ) (at behind : Place) → (p : IsPassed tag at behind) → IsTrue (nat_lt 0 tag && nat_lt tag 20) → behind.offset - at.offset ≤ 1048575
+    → body_at tag (front (behind.offset - at.offset) at) ≡ Ok (p.form, place (at.offset + length (form_body p.form)) [])
+in_window tag at behind p is small =
+    let t = p.took.takes in
+    let short : length (form_body p.form) ≤ 1048575 = omega (arith, t.place, small) in
+    let tag_is = p.took.tag_is is in
+    ap (body_at tag) (between at behind (form_body p.form) t)
+    ∙ ap (λ (n : ℕ). body_at n (place at.offset (form_body p.form ++ []))) tag_is
+    ∙ body_again at.offset p.form [] (p.took.is short)
+
+form_is : (f g : Form) (x y : Place) (r : Read Form) → r ≡ Ok (f, x) → r ≡ Ok (g, y) → f ≡ g
+form_is f g x y r p q =
+    let same : (f, x) ≡ (g, y) = cc in
+    ap (λ (z : Form × Place). z.0) same
+
+-- a value whose tag was read and whose body was passed over
+pub record HasPassed (at : Place) (tag : ℕ) (after behind : Place) : Type 0 where
+  pub tag_read : byte_at at ≡ Ok (tag, after)
+  pub tag_is : IsTrue (nat_lt 0 tag && nat_lt tag 20)
+  pub body : IsPassed tag after behind
+  pub small : behind.offset - at.offset ≤ 1048576
+
+-- the tag is one byte
+pub tag_len : (at : Place) (tag : ℕ) (after : Place) → byte_at at ≡ Ok (tag, after) → after.offset ≡ at.offset + 1
+tag_len at tag after e = ((byte_if at).holds tag after e).takes.place
+
+pub behind_tag : (at : Place) (tag : ℕ) (after behind : Place) → HasPassed at tag after behind → behind.offset - after.offset ≤ 1048575
+behind_tag at tag after behind h =
+    omega (arith, tag_len at tag after h.tag_read, h.small, (reaches tag after behind h.body).forward)
+
+-- its bytes are no more than a value's body
+pub window_short : (at : Place) (tag : ℕ) (after behind : Place) → HasPassed at tag after behind → length (take (behind.offset - after.offset) after.rest) ≤ 1048575
+window_short at tag after behind h = omega (arith, length-take (behind.offset - after.offset) after.rest, behind_tag at tag after behind h)
+
+-- the facts in the code's own names
+pub has_passed : (at : Place) (tag : ℕ) (after fork : Place) (u : Unit {0}) (behind : Place) (start stop : ℕ) → byte_at at ≡ Ok (tag, after) → 0 < tag → tag < 20
+    → fork ≡ after → IsBytes after.rest → passed (body_at tag fork) ≡ Ok (u, behind) → start ≡ at.offset → stop ≡ behind.offset → stop - start ≤ 1048576 → HasPassed at tag after behind
+has_passed at tag after fork u behind start stop read above below same fits over from to small = record {
+  tag_read = read;
+  tag_is = and_from (nat_lt 0 tag) (nat_lt tag 20) (lt-ltb 0 tag above) (lt-ltb tag 20 below);
+  body = passed_body tag after fork u behind same fits over;
+  small = omega (arith, from, to, small);
+}
+
+pub window_is : (after behind window : Place) (start stop : ℕ) → start ≡ after.offset → stop ≡ behind.offset → window ≡ front (stop - start) after → window ≡ front (behind.offset - after.offset) after
+window_is after behind window start stop from to is =
+    let len : stop - start ≡ behind.offset - after.offset = omega (arith, from, to) in
+    is ∙ ap (λ (n : ℕ). front n after) len
+
+-- the value that its bytes give is the one that stands there
+pub reads_whole : (at : Place) (tag : ℕ) (after behind : Place) (v : Value) (end : Place) → HasPassed at tag after behind
+    → body_at tag (front (behind.offset - after.offset) after) ≡ Ok (form v, end) → value_at at ≡ Ok (v, behind)
+unfolding value_at
+reads_whole at tag after behind v end h read =
+    let first = h.tag_read in
+    let tag_is = h.tag_is in
+    let body = h.body.read in
+    let size : nat_le (behind.offset - at.offset) 1048576 ≡ true = le-leb _ _ h.small in
+    let window = in_window tag after behind h.body h.tag_is (behind_tag at tag after behind h) in
+    let same : h.body.form ≡ form v = form_is _ _ _ _ _ window read in
+    rw (first, tag_is, body, size) (ap (λ (w : Value). Ok (w, behind)) (ap value_of same ∙ value_of-form v))
+
+-- and reading there fails for want of memory alone
+pub fails_whole : (at : Place) (tag : ℕ) (after behind : Place) (e : Refusal) (due : Read Value) → HasPassed at tag after behind
+    → FailsReading e (body_at tag (front (behind.offset - after.offset) after)) → FailsReading e due
+fails_whole at tag after behind e due h failed =
+    let window = in_window tag after behind h.body h.tag_is (behind_tag at tag after behind h) in
+    no_fault e _ (subst (FailsReading e) window failed)
+  where
+    no_fault : (e : Refusal) (x : Form × Place) → FailsReading e (Ok x) → FailsReading e due
+    no_fault refusals.NoMemory x f = tt
+    no_fault (refusals.BadFrame d) x f = absurd cc
+    no_fault e x f = absurd f

@@ -1,0 +1,50 @@
+//! The strings, the byte objects and the processes of values, as they stand in the bytes.
+ghost use Rattle.std.specs.Prelude.{IfOk, IsTrue};
+ghost use Rattle.pmg_value.specs.Names.{is_nspace};
+ghost use Rattle.pmg_wire.specs.Reading.{Reads};
+ghost use Rattle.pmg_wire.specs.Fields.{text_at, blob_at, any_proc_at};
+
+use crate::cursor::Cursor;
+use pmg_value::{Cause, Refusal, first_zero, is_nspace_name};
+
+/// A string's bytes.
+#[tactic(auto, unfolding(crate::specs::Fields::text_at))]
+pub fn get_text<'a>(at: &mut Cursor<'a>) -> Result<&'a [u8], Refusal>
+    ensures { Reads (λ s. s.now) result at.new (text_at at.old) }
+{
+    let len = at.get_u32()? as usize;
+    let start = at.offset();
+    let text = at.take(len)?;
+    if let Some(i) = first_zero(text) {
+        return Err(Cursor::refuse(start + i as u64, Cause::Text));
+    }
+    Ok(text)
+}
+
+/// A byte object's bytes.
+#[tactic(auto, unfolding(crate::specs::Fields::blob_at))]
+pub fn get_blob<'a>(at: &mut Cursor<'a>) -> Result<&'a [u8], Refusal>
+    ensures { Reads (λ s. s.now) result at.new (blob_at at.old) }
+{
+    let len = at.get_u32()? as usize;
+    at.take(len)
+}
+
+/// The namespace and the rank of any process, also of one that no group registers.
+#[tactic(auto, unfolding(crate::specs::Fields::any_proc_at))]
+pub fn get_any_proc<'a>(at: &mut Cursor<'a>) -> Result<(&'a [u8], u32), Refusal>
+    ensures read { Reads (λ p. record { nspace = p.0.now; rank = p.1 }) result at.new (any_proc_at at.old) }
+    ensures name { IfOk result (λ p. IsTrue (is_nspace p.0.now)) }
+{
+    let start = at.offset();
+    let len = at.get_u8()? as usize;
+    if len == 0 {
+        return Err(Cursor::refuse(start, Cause::Name));
+    }
+    let name = at.take(len)?;
+    if !is_nspace_name(name) {
+        return Err(Cursor::refuse(start, Cause::Name));
+    }
+    let rank = at.get_u32()?;
+    Ok((name, rank))
+}

@@ -1,0 +1,155 @@
+//! Reading values. A value is read in two passes: the first finds the first fault and where the value ends,
+//! and takes no memory; the second builds the value from its bytes, all of which are there.
+ghost use Rattle.std.specs.Prelude.{◌≡◌, ◌≤◌, None, length, IfOk, IsTrue, OnErr};
+ghost use Rattle.pmg_value.specs.Spelling.{Form, form, are_plain, plains_of};
+ghost use Rattle.pmg_wire.specs.Grammar.{SpellsValue};
+ghost use Rattle.pmg_wire.specs.Many.{many};
+ghost use Rattle.pmg_wire.specs.Reading.{Place, Reads};
+ghost use Rattle.pmg_wire.specs.Fields.{made, text_at, blob_at, any_proc_at, plain_at, array_at, body_at, value_at};
+
+use crate::cursor::Cursor;
+use crate::fields::get_flag;
+use crate::skip::{ARRAY_TAG, skip_body};
+use crate::texts::{get_any_proc, get_blob, get_text};
+use pmg_value::{Cause, MAX_VALUE_SIZE, Nspace, Octets, Proc, Rank, Refusal, Text, Value};
+use std::alloc::Global;
+
+// A string, of bytes that are no more than a value's body.
+fn text_of(alloc: Global, at: &mut Cursor<'_>) -> Result<Text, Refusal>
+    requires { length at.old.rest ≤ 1048575 }
+    ensures { Reads (λ t. t) result at.new (text_at at.old) }
+{
+    // No effect at run time: the proof reads here that what is left are bytes.
+    let _start = at.offset();
+    let text = get_text(at)?;
+    Ok(Text::from_text(alloc, text)?)
+}
+
+// A byte object, of bytes that are no more than a value's body.
+fn octets_of(alloc: Global, at: &mut Cursor<'_>) -> Result<Octets, Refusal>
+    requires { length at.old.rest ≤ 1048575 }
+    ensures { Reads (λ o. o) result at.new (blob_at at.old) }
+{
+    // No effect at run time: the proof reads here that what is left are bytes.
+    let _start = at.offset();
+    let bytes = get_blob(at)?;
+    Ok(Octets::from_bytes(alloc, bytes)?)
+}
+
+// Any process, also one that no group registers.
+fn any_proc_of(alloc: Global, at: &mut Cursor<'_>) -> Result<Proc, Refusal>
+    ensures { Reads (λ p. p) result at.new (any_proc_at at.old) }
+{
+    let (name, rank) = get_any_proc(at)?;
+    Ok(Proc::new(Nspace::from_name(alloc, name)?, Rank::new(rank)))
+}
+
+// The value with this tag whose body is here. It is no array, and no longer than a value may be.
+#[tactic(auto, unfolding(crate::specs::Fields::plain_at))]
+fn plain_of(alloc: Global, tag: u8, at: &mut Cursor<'_>) -> Result<Value, Refusal>
+    requires { length at.old.rest ≤ 1048575 }
+    ensures { Reads form result at.new (made Form.plain (plain_at tag at.old)) }
+{
+    match tag {
+        1 => Ok(Value::Bool(get_flag(at)?)),
+        2 => Ok(Value::Byte(at.get_u8()?)),
+        3 => Ok(Value::Str(text_of(alloc, at)?)),
+        4 => Ok(Value::Size(at.get_u64()?)),
+        5 => Ok(Value::I8(at.get_u8()?.cast_signed())),
+        6 => Ok(Value::I16(at.get_u16()?.cast_signed())),
+        7 => Ok(Value::I32(at.get_u32()?.cast_signed())),
+        8 => Ok(Value::I64(at.get_u64()?.cast_signed())),
+        9 => Ok(Value::U8(at.get_u8()?)),
+        10 => Ok(Value::U16(at.get_u16()?)),
+        11 => Ok(Value::U32(at.get_u32()?)),
+        12 => Ok(Value::U64(at.get_u64()?)),
+        13 => Ok(Value::Int(at.get_u32()?.cast_signed())),
+        14 => Ok(Value::Uint(at.get_u32()?)),
+        15 => Ok(Value::Rank(Rank::new(at.get_u32()?))),
+        16 => Ok(Value::Proc(any_proc_of(alloc, at)?)),
+        17 => Ok(Value::Status(at.get_u32()?.cast_signed())),
+        _ => Ok(Value::Bytes(octets_of(alloc, at)?)),
+    }
+}
+
+fn elements_of(
+    alloc: Global,
+    tag: u8,
+    count: u32,
+    at: &mut Cursor<'_>,
+) -> Result<Vec<Value>, Refusal>
+    requires { length at.old.rest ≤ 1048575 }
+    ensures read { Reads (λ vs. plains_of vs.items) result at.new (many (λ _. plain_at tag) count None at.old) }
+    ensures plain { IfOk result (λ vs. IsTrue (are_plain vs.items)) }
+{
+    // No effect at run time: the proof reads here that what is left are bytes.
+    let _start = at.offset();
+    let mut items = Vec::with_capacity(alloc, count as usize)?;
+    for _ in 0..count {
+        let item = plain_of(alloc, tag, at)?;
+        items.push(item)?;
+    }
+    Ok(items)
+}
+
+#[tactic(auto, unfolding(crate::specs::Fields::array_at))]
+fn array_of(alloc: Global, at: &mut Cursor<'_>) -> Result<Value, Refusal>
+    requires { length at.old.rest ≤ 1048575 }
+    ensures { Reads form result at.new (made Form.array (array_at at.old)) }
+{
+    let start = at.offset();
+    let tag = at.get_u8()?;
+    if tag == 0 || tag >= ARRAY_TAG {
+        return Err(Cursor::refuse(start, Cause::Tag));
+    }
+    let count = at.get_u32()?;
+    let items = elements_of(alloc, tag, count, at)?;
+    Value::array(tag, items)
+}
+
+// The value with this tag whose body is here. It is no longer than a value may be.
+#[tactic(auto, unfolding(crate::specs::Fields::body_at))]
+fn body_of(alloc: Global, tag: u8, at: &mut Cursor<'_>) -> Result<Value, Refusal>
+    requires { length at.old.rest ≤ 1048575 }
+    ensures { Reads form result at.new (body_at tag at.old) }
+{
+    if tag == ARRAY_TAG {
+        array_of(alloc, at)
+    } else {
+        plain_of(alloc, tag, at)
+    }
+}
+
+#[tactic(auto, unfolding(crate::specs::Fields::value_at))]
+fn value_of(alloc: Global, at: &mut Cursor<'_>) -> Result<Value, Refusal>
+    ensures { Reads (λ v. v) result at.new (value_at at.old) }
+{
+    let start = at.offset();
+    let tag = at.get_u8()?;
+    if tag == 0 || tag > ARRAY_TAG {
+        return Err(Cursor::refuse(start, Cause::Tag));
+    }
+    let mut behind = at.fork();
+    skip_body(tag, &mut behind)?;
+    if behind.offset() - start > MAX_VALUE_SIZE as u64 {
+        return Err(Cursor::refuse(start, Cause::Size));
+    }
+    let len = (behind.offset() - at.offset()) as usize;
+    let value = body_of(alloc, tag, &mut at.window(len))?;
+    *at = behind;
+    Ok(value)
+}
+
+/// Reads a value: its tag, and a body of the tag's form. Refused as BadFrame at the first fault: Short,
+/// Tag, Bool, Name, Text, and at its end Size; and as NoMemory. A refusal leaves the cursor where it was.
+pub fn get_value(alloc: Global, at: &mut Cursor<'_>) -> Result<Value, Refusal>
+    ensures found { IfOk result (λ v. SpellsValue at.old v at.new) }
+    ensures only { (v : Value) (after : Place) → SpellsValue at.old v after → Reads (λ v. v) result at.new (Ok (v, after)) }
+    ensures first_fault { Reads (λ v. v) result at.new (value_at at.old) }
+    ensures err { OnErr result (at.new ≡ at.old) }
+{
+    let mut ahead = at.fork();
+    let value = value_of(alloc, &mut ahead)?;
+    *at = ahead;
+    Ok(value)
+}
