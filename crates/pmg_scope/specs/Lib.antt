@@ -1,0 +1,5 @@
+pub mod Examples
+pub mod Rules
+pub mod Scopes
+pub mod Scripts
+pub mod Sealing

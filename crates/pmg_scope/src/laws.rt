@@ -1,0 +1,22 @@
+ghost use Rattle.pmg_scope.specs.Examples.{EachScope, TwoValues, PutAgain, LostPut};
+ghost use Rattle.pmg_scope.specs.Rules.{CommitsNeverFall, PastValuesStay, PastSealsStay, EndIsLast, SealedIsValue, NoneIsNoValue};
+
+/// The rules of scripts: whatever is called later, the commits stay and what they sealed stays; the value that
+/// a commit leaves is the one that was sealed last; and after its end a process seals nothing.
+pub fn script_rules()
+    ensures commits_never_fall { CommitsNeverFall }
+    ensures past_values_stay { PastValuesStay }
+    ensures past_seals_stay { PastSealsStay }
+    ensures sealed_is_value { SealedIsValue }
+    ensures none_is_no_value { NoneIsNoValue }
+    ensures end_is_last { EndIsLast }
+{}
+
+/// Scripts by example: what a put of each scope reaches, two values of one key, a put that the next commit
+/// seals, and an end.
+pub fn script_examples()
+    ensures each_scope { EachScope }
+    ensures two_values { TwoValues }
+    ensures put_again { PutAgain }
+    ensures lost_put { LostPut }
+{}

@@ -1,0 +1,8 @@
+//! Scopes of puts, and what a script of calls seals for each reach.
+#![tactic(auto)]
+
+mod laws;
+mod scope;
+
+pub use laws::{script_examples, script_rules};
+pub use scope::{Reach, Scope, includes};
