@@ -1,3 +1,4 @@
+pub mod HonestLaws
 pub mod Joining
 pub mod PieceFacts
 pub mod ReadLaws

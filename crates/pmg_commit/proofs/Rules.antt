@@ -1,5 +1,5 @@
 -- The rules of knowledge, in the words of their statements.
-use Rattle.std.proofs.Common.{ℕ, zero, suc, ◌≡◌, Bool, false, nat_lt, nat_le, ◌&&◌, ◌||◌, not, sym, ap, ◌∙◌, arith}
+use Rattle.std.proofs.Common.{ℕ, zero, suc, ◌≡◌, Bool, false, nat_lt, nat_le, ◌&&◌, ◌||◌, not, List, Option, inl, inr, None, Some, sym, ap, subst, ◌∙◌, arith}
 use Rattle.std.specs.Ordering.{nat_cmp, eq_by_cmp}
 use Rattle.std.specs.FinSet as set
 use Rattle.std.proofs.lemmas.Cmp.{nat_cmp_total}
@@ -11,7 +11,7 @@ use Rattle.pmg_commit.specs.LevelLaws.{level_is, level_unique}
 use Rattle.pmg_commit.specs.Knowledge.{numbers_to, numbers_between, read}
 use Rattle.pmg_commit.specs.CoreLaws.{level-union, numbers-core, core_keeps}
 use Rattle.pmg_commit.specs.Rules.{NumbersBetween, LevelIsReach, LevelGrows, ReadIsLatest, ReadIsNone, CoreReadsAlike, CoreIsLeast, AlikeNow}
-use Rattle.pmg_commit.proofs.ReadLaws.{read_latest, read_none, read-core}
+use Rattle.pmg_commit.proofs.ReadLaws.{latest_of, read_latest, read_none, read-core}
 
 tie_up : (n m : ℕ) (rest : Bool) → rest ≡ (nat_lt 0 n && nat_le n m) → (eq_by_cmp nat_cmp n (suc m) || rest) ≡ (nat_lt 0 n && nat_le n (suc m))
 tie_up n m rest h = grind (arith, nat_tests)
@@ -48,8 +48,19 @@ read_is_latest k key e h r last =
       last = λ f has readable later. false≢true (sym (last f has ((is_readable-Decides (level k.numbers) key f).1 readable)) ∙ (is_later-Decides e f).1 later);
     })
 
+IsNothing : Option (List ℕ) → Type 0
+IsNothing None = Unit {0}
+IsNothing (Some bytes) = ⊥
+
 pub read_is_none : ReadIsNone
-read_is_none k key none = read_none k key (λ e h r. false≢true (sym (none e h) ∙ (is_readable-Decides (level k.numbers) key e).1 r))
+unfolding IsNothing
+read_is_none k key = (
+  λ is e h. elim (latest_of k key) [
+    | inl latest ↦ absurd (subst IsNothing (sym is ∙ read_latest k key latest.0 latest.1) tt)
+    | inr none ↦ false_from_ne_true _ (λ r. none e h ((is_readable-Decides (level k.numbers) key e).0 r))
+  ],
+  λ none. read_none k key (λ e h r. false≢true (sym (none e h) ∙ (is_readable-Decides (level k.numbers) key e).1 r)),
+)
 
 pub core_reads_alike : CoreReadsAlike
 core_reads_alike k = (ap level (numbers-core k), read-core k)

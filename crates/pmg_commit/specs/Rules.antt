@@ -1,5 +1,5 @@
 -- The rules of knowledge, of its levels, reads and cores, and of the data of all processes.
-use Rattle.std.specs.Prelude.{ℕ, ◌≤◌, ◌≡◌, nat_lt, nat_le, ◌&&◌, true, false, List, Some, None, if◌then◌else◌}
+use Rattle.std.specs.Prelude.{ℕ, ◌≤◌, ◌≡◌, ◌↔◌, nat_lt, nat_le, ◌&&◌, true, false, List, Some, None, if◌then◌else◌}
 use Rattle.std.specs.FinSet as set
 use Rattle.std.specs.Ordering.{nat_cmp, eq_by_cmp}
 use Rattle.pmg_value.specs.Process.{proc_cmp}
@@ -21,7 +21,7 @@ LevelIsReach = (numbers : set.FinSet nat_cmp) → IsReach (set.contains numbers)
 abbrev pub LevelGrows : Type 0
 LevelGrows = (k l : Knowledge) → level k.numbers ≤ level (union k l).numbers
 
--- a read gives a readable entry that no readable entry is later than
+-- a readable entry that no readable entry is later than is what is read
 abbrev pub ReadIsLatest : Type 0
 ReadIsLatest =
     (k : Knowledge) (key : List ℕ) (e : Entry)
@@ -34,8 +34,7 @@ ReadIsLatest =
 abbrev pub ReadIsNone : Type 0
 ReadIsNone =
     (k : Knowledge) (key : List ℕ)
-    → ((e : Entry) → set.contains k.entries e ≡ true → is_readable (level k.numbers) key e ≡ false)
-    → read k key ≡ None
+    → (read k key ≡ None) ↔ ((e : Entry) → set.contains k.entries e ≡ true → is_readable (level k.numbers) key e ≡ false)
 
 -- a core has the level and the reads of what it is the core of
 abbrev pub CoreReadsAlike : Type 0

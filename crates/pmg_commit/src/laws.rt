@@ -1,3 +1,4 @@
+ghost use Rattle.pmg_commit.specs.Honest.{HonestReading, EqualLevelsReadAlike, HonestStays, HonestIsOne};
 ghost use Rattle.pmg_value.specs.Operations.{IsAssociative, IsCommutative, IsIdempotent};
 ghost use Rattle.pmg_commit.specs.Knowledge.{union};
 ghost use Rattle.pmg_commit.specs.Cores.{join_cores};
@@ -43,4 +44,13 @@ pub fn data_rules()
     ensures cores_idem { IsIdempotent join_cores }
     ensures known_together { KnownTogether }
     ensures known_of_one { KnownOfOne }
+{}
+
+/// The rules of honest knowledge: what is read at a level is what the process's own commit of that number left,
+/// so that servers at equal levels read alike; and what is honest stays so.
+pub fn honest_rules()
+    ensures honest_reading { HonestReading }
+    ensures equal_levels_read_alike { EqualLevelsReadAlike }
+    ensures honest_stays { HonestStays }
+    ensures honest_is_one { HonestIsOne }
 {}

@@ -5,7 +5,7 @@ mod laws;
 mod piece;
 mod reading;
 
-pub use laws::{data_rules, knowledge_rules};
+pub use laws::{data_rules, honest_rules, knowledge_rules};
 pub use piece::{MAX_COMMIT, MAX_ENTRIES, MAX_PIECE_SIZE, Piece, PieceEntry};
 pub use reading::best_of;
 
