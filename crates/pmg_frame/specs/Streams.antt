@@ -93,20 +93,22 @@ said_by bytes = said_from (suc (length bytes)) (record { offset = 0; rest = byte
 abbrev pub IsSaid : Type 0
 IsSaid = (bytes : List ℕ) → IsBytes bytes → Says (record { offset = 0; rest = bytes }) (said_by bytes).frames (said_by bytes).fault (said_by bytes).end
 
--- Two feeds in a row are one feed of both; after a fault more bytes change nothing.
+-- two feeds in a row are one feed of both
 abbrev pub Joins : Type 0
 Joins = (at mid : Place) (a b : List ℕ) (fs gs : List Frame) (fault : Option Fault) (new : Option Place)
     → Feeds at a fs None (Some mid) → Feeds mid b gs fault new → Feeds at (a ++ b) (fs ++ gs) fault new
 
+-- after a fault more bytes change nothing
 abbrev pub StaysClosed : Type 0
 StaysClosed = (at : Place) (a b : List ℕ) (fs : List Frame) (f : Fault) → Feeds at a fs (Some f) None → Feeds at (a ++ b) fs (Some f) None
 
--- the frames, the fault and what is left are determined by the bytes
+-- the same frames, the same fault, the same left over
 pub record SameFeed (fs gs : List Frame) (f g : Option Fault) (new other : Option Place) : Type 0 where
   pub frames : fs ≡ gs
   pub fault : f ≡ g
   pub left : new ≡ other
 
+-- the frames, the fault and what is left are determined by the bytes
 abbrev pub IsDetermined : Type 0
 IsDetermined = (at : Place) (bytes : List ℕ) (fs gs : List Frame) (f g : Option Fault) (new other : Option Place)
     → Feeds at bytes fs f new → Feeds at bytes gs g other → SameFeed fs gs f g new other

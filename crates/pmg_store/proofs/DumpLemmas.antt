@@ -1,5 +1,5 @@
 -- What the dump of pieces is made of.
-use Rattle.std.proofs.Common.{ℕ, ◌+◌, ◌<◌, length, get_or, drop, drop-cons, add-one, List, [], ◌∷◌, ◌++◌, ◌≡◌, Bool, true, false, ◌||◌, cond, map, fold, refl, sym, ap, subst, ◌∙◌, arith}
+use Rattle.std.proofs.Common.{ℕ, ◌+◌, ◌<◌, length, get_or, drop, drop-cons, add-one, List, [], ◌∷◌, ◌++◌, ◌≡◌, Bool, true, false, ◌||◌, cond, map, fold, refl, sym, ap, subst, ◌∙◌}
 use Rattle.std.specs.Prelude.{Option, Some, None, is_some}
 use Rattle.std.specs.Option.{option_map}
 use Rattle.std.specs.List.{list_any, flat_map}
@@ -8,7 +8,6 @@ use Rattle.std.specs.Ordering.{nat_cmp, eq_by_cmp, is_eq}
 use Rattle.std.specs.Cmp.Lexicographic.{slice_cmp, nat_list_cmp_total}
 use Rattle.std.specs.BTreeMap.{BTreeMap, IsOrdered, is_at}
 use Rattle.std.specs.Map.{lookup}
-use Rattle.std.specs.BTreeSet as tree
 use Rattle.std.specs.FinMap as finite
 use Rattle.std.specs.FinMap.Entries.{find}
 use Rattle.std.specs.Cmp.{eq_by_cmp_equiv}
@@ -21,9 +20,9 @@ use Rattle.pmg_value.proofs.MapLemmas.{get-join_maps}
 use Rattle.pmg_value.proofs.ProcessOrder.{procs_total, exact_procs}
 use Rattle.pmg_join.specs.Joins.{join_all}
 use Rattle.pmg_commit.specs.Cores.{Core, join_cores, core_of}
-use Rattle.pmg_commit.specs.Data.{Data, join_data, of_contribution, known, level_at, read_at}
+use Rattle.pmg_commit.specs.Data.{Data, join_data, of_contribution, known}
 use Rattle.pmg_commit.specs.Entries.{Entry, best_of_two}
-use Rattle.pmg_commit.specs.Knowledge.{Contribution, Knowledge, knowledge_of, read}
+use Rattle.pmg_commit.specs.Knowledge.{Contribution, knowledge_of}
 use Rattle.pmg_commit.specs.Levels.{level}
 use Rattle.pmg_commit.specs.Pieces.{entry_of}
 use Rattle.pmg_commit.specs.declared.piece.PieceEntry.{PieceEntry}

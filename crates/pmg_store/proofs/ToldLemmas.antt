@@ -1,6 +1,5 @@
 -- What a stream tells is what was fed, where it was fed whole.
 use Rattle.std.proofs.Common.{◌≡◌, ℕ, ◌==◌, Bool, true, false, cond, List, [], length, Option, Some, None, Result, Ok, Err, refl, sym, ap, subst, ◌∙◌, arith}
-use Rattle.std.proofs.lemmas.Bool.{cases_Bool}
 use Rattle.pmg_value.specs.declared.refusal.Cause.TheVariants as causes
 use Rattle.pmg_value.specs.declared.refusal.Fault.{Fault}
 use Rattle.pmg_value.specs.declared.refusal.Refusal.{Refusal}

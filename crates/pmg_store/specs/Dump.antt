@@ -8,7 +8,7 @@ use Rattle.std.specs.FinSet as set
 use Rattle.pmg_value.specs.declared.process.Proc.{Proc}
 use Rattle.pmg_value.specs.declared.value.Value.{Value}
 use Rattle.pmg_value.specs.Text.{text_of}
-use Rattle.pmg_wire.specs.Reading.{Place, Read}
+use Rattle.pmg_wire.specs.Reading.{Read}
 use Rattle.pmg_wire.specs.Fields.{value_at}
 use Rattle.pmg_commit.specs.Entries.{Entry}
 use Rattle.pmg_commit.specs.Levels.{level}

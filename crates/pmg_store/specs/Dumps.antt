@@ -1,5 +1,5 @@
 -- What the dump of an input is.
-use Rattle.std.specs.Prelude.{ℕ, List, Ok, Err}
+use Rattle.std.specs.Prelude.{ℕ, List, Ok}
 use Rattle.std.specs.declared.result.Result.{Result}
 use Rattle.pmg_value.specs.declared.refusal.Fault.{Fault}
 use Rattle.pmg_wire.specs.Reading.{◌>>=◌}

@@ -4,7 +4,6 @@ use Rattle.std.specs.Option.{option_map}
 use Rattle.std.specs.Ordering.{nat_cmp}
 use Rattle.std.specs.Cmp.Lexicographic.{slice_cmp}
 use Rattle.std.specs.BTreeMap.{BTreeMap, get}
-use Rattle.pmg_value.specs.declared.names.Key.{Key}
 use Rattle.pmg_value.specs.Spelling.{spelling}
 use Rattle.pmg_commit.specs.Entries.{Entry, is_later}
 use Rattle.pmg_commit.specs.Pieces.{entry_of}

@@ -8,7 +8,7 @@ use Rattle.pmg_commit.specs.Knowledge.{Contribution}
 use Rattle.pmg_commit.specs.Data.{Data}
 use Rattle.pmg_frame.specs.declared.frame.Frame.{Frame}
 use Rattle.pmg_frame.specs.declared.frame.Frame.TheVariants as frames
-use Rattle.pmg_frame.specs.Streams.{Said, said_by}
+use Rattle.pmg_frame.specs.Streams.{said_by}
 use Rattle.pmg_store.specs.Pieces.{data_of}
 
 -- the contributions in frames

@@ -5,7 +5,7 @@ ghost use Rattle.std.specs.Io.KnownBytes.{ReadConsumes};
 ghost use Rattle.pmg_store.specs.Input.{input_of, too_much_input};
 ghost use Rattle.pmg_store.specs.Outcomes.{Gives};
 
-use super::failure::Failure;
+use crate::failure::Failure;
 use pmg_value::{Cause, Fault, Refusal};
 use std::alloc::Global;
 use std::io;

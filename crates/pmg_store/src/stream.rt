@@ -6,9 +6,9 @@ ghost use Rattle.pmg_store.specs.Outcomes.{Dumps};
 ghost use Rattle.pmg_store.specs.Pieces.{data_of};
 ghost use Rattle.pmg_store.specs.Told.{contributions, data_told};
 
-use super::failure::Failure;
-use super::input::read_input;
-use super::store::Store;
+use crate::failure::Failure;
+use crate::input::read_input;
+use crate::store::Store;
 use pmg_frame::{Frame, Stream};
 use pmg_value::Refusal;
 use std::alloc::{AllocError, Global};
