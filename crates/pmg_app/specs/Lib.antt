@@ -1,3 +1,4 @@
+pub mod CommandLine
 pub mod Dump
 pub mod Output
 pub mod Text

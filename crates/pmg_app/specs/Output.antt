@@ -15,6 +15,10 @@ pub record Output : Type 0 where
   pub status : ℕ
   pub printed : List ℕ
 
+-- the statuses of a failure
+abbrev pub IsFailureStatus : ℕ → Type 0
+IsFailureStatus status = (status ≡ 1) ⊎ (status ≡ 3)
+
 -- 3 where memory was wanting, and else 1
 abbrev pub failure_status : Failure → ℕ
 failure_status (Refused NoMemory) = 3

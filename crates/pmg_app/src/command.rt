@@ -1,11 +1,19 @@
 //! The command line.
-use clap::error::ErrorKind;
+ghost use Rattle.std.specs.Prelude.{◌≡◌, ◌≢◌, ℕ, List, [], ◌∷◌, codes, map, IfOk, IfErr};
+ghost use Rattle.std.specs.IoError.{error_kind};
+ghost use Rattle.clap.specs.Words.{app_of, fault_of, kind_of};
+ghost use Rattle.pmg_app.specs.CommandLine.{program, shown_status, IsChosen, HasStatus};
+
+use clap::error::ErrorKind as Kind;
 use clap::{Command, Error};
-use std::alloc::{AllocError, Global};
+use std::alloc::Global;
+use std::convert::AsStr;
+use std::io::ErrorKind;
 use std::rt::Env;
 use std::{env, io};
 
 /// What the command line asks for.
+#[derive(Clone, Copy, Debug, PartialEq, Eq)]
 pub enum Chosen {
     /// The command `dump`.
     Dump,
@@ -25,25 +33,56 @@ Example:
 /// Reads the command line. Help and the version go to standard output, a usage fault to standard error.
 ///
 /// Fails with `InvalidData` where an argument is not UTF-8.
-pub fn read_command_line<R: Env + Print + Eprint + AllocGlobal>(rt: &R) -> io::Result<Chosen> {
+pub fn read_command_line<R: Env + Print + Eprint + AllocGlobal>(rt: &R) -> io::Result<Chosen>
+    ensures { IfOk result HasStatus }
+{
     let words: Vec<String> = env::args(rt)?.collect(rt.alloc())?;
+    choose(rt, words.as_slice())
+}
+
+/// What these words ask for, the program's name first. Help, the version and a usage fault are shown.
+pub fn choose<R: Print + Eprint + AllocGlobal, S: AsStr>(rt: &R, words: &[S]) -> io::Result<Chosen>
+    ensures chosen { IfOk result (IsChosen (map S.text words.now)) }
+    ensures dump { (name : List ℕ) → map S.text words.now ≡ name ∷ codes "dump" ∷ [] → IfOk result (λ chosen. chosen ≡ Chosen.Dump) }
+    ensures help { (name : List ℕ) → map S.text words.now ≡ name ∷ codes "--help" ∷ [] → IfOk result (λ chosen. chosen ≡ Chosen.Shown 0) }
+    ensures version { (name : List ℕ) → map S.text words.now ≡ name ∷ codes "--version" ∷ [] → IfOk result (λ chosen. chosen ≡ Chosen.Shown 0) }
+    ensures nothing { (name : List ℕ) → map S.text words.now ≡ name ∷ [] → IfOk result (λ chosen. chosen ≡ Chosen.Shown 2) }
+    ensures status { IfOk result HasStatus }
+    ensures err { IfErr result (λ e. fault_of program (map S.text words.now) ≡ [] → error_kind e ≡ ErrorKind.OutOfMemory) }
+{
     let command = command_line(rt.alloc())?;
-    match command.try_get_matches_from(words.as_slice()) {
+    match command.try_get_matches_from(words) {
         Ok(_) => Ok(Chosen::Dump),
         Err(error) => show(rt, &error),
     }
 }
 
-fn show(rt: &(impl Print + Eprint), error: &Error) -> io::Result<Chosen> {
-    if error.kind() == ErrorKind::OutOfMemory {
-        return Err(io::Error::from(AllocError));
+// Prints what the words were answered with, where that was not want of memory.
+fn show(rt: &(impl Print + Eprint), error: &Error) -> io::Result<Chosen>
+    ensures shown { IfOk result (λ chosen. chosen ≡ Chosen.Shown (shown_status (kind_of error.now))) }
+    ensures kind { IfOk result (λ _. kind_of error.now ≢ Kind.OutOfMemory) }
+    ensures memory { kind_of error.now ≡ Kind.OutOfMemory → IfErr result (λ e. error_kind e ≡ ErrorKind.OutOfMemory) }
+{
+    if error.kind() == Kind::OutOfMemory {
+        return Err(io::Error::from(ErrorKind::OutOfMemory));
     }
     error.print(rt)?;
-    let status = if error.use_stderr() { USAGE_FAULT } else { 0 };
-    Ok(Chosen::Shown(status))
+    Ok(Chosen::Shown(status_of(error.kind())))
 }
 
-fn command_line<'a>(alloc: Global) -> io::Result<Command<'a>> {
+fn status_of(kind: Kind) -> u8
+    ensures { result ≡ shown_status kind }
+{
+    match kind {
+        Kind::DisplayHelp | Kind::DisplayVersion => 0,
+        _ => USAGE_FAULT,
+    }
+}
+
+fn command_line<'a>(alloc: Global) -> io::Result<Command<'a>>
+    ensures ok { IfOk result (λ command. app_of command ≡ program) }
+    ensures err { IfErr result (λ e. error_kind e ≡ ErrorKind.OutOfMemory) }
+{
     let dump = Command::new(alloc, "dump")
         .about("Prints the dump of the frames that standard input holds in hexadecimal")
         .after_help(EXAMPLE);

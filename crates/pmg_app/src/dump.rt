@@ -1,8 +1,8 @@
 //! The command `dump`.
-ghost use Rattle.std.specs.Prelude.{IfSome};
+ghost use Rattle.std.specs.Prelude.{◌≡◌, ◌⊎◌, IfSome};
 ghost use Rattle.pmg_store.specs.Outcomes.{Dumps};
 ghost use Rattle.pmg_app.specs.Dump.{text_dump, dump_output};
-ghost use Rattle.pmg_app.specs.Output.{Runs};
+ghost use Rattle.pmg_app.specs.Output.{IsFailureStatus, Runs};
 
 use crate::reporting::report;
 use crate::text::decode_text;
@@ -18,8 +18,9 @@ const WRITE_FAULT: u8 = 1;
 /// fault and a write fault, 3 where memory was wanted and not given. A refusal and a read fault print a line;
 /// where the writer fails, nothing more is printed.
 pub fn run_dump<R: Read, W: Write>(alloc: Global, reader: &mut R, writer: &mut W) -> u8
-    ensures { IfSome (R.remaining reader.old) (λ text.
+    ensures printed { IfSome (R.remaining reader.old) (λ text.
         Runs (W.contents writer.old) (W.contents writer.new) result (dump_output text)) }
+    ensures status { (result ≡ 0) ⊎ IsFailureStatus result }
 {
     let status = print_dump(alloc, reader, writer);
     match writer.flush() {
@@ -29,8 +30,9 @@ pub fn run_dump<R: Read, W: Write>(alloc: Global, reader: &mut R, writer: &mut W
 }
 
 fn print_dump<R: Read, W: Write>(alloc: Global, reader: &mut R, writer: &mut W) -> u8
-    ensures { IfSome (R.remaining reader.old) (λ text.
+    ensures printed { IfSome (R.remaining reader.old) (λ text.
         Runs (W.contents writer.old) (W.contents writer.new) result (dump_output text)) }
+    ensures status { (result ≡ 0) ⊎ IsFailureStatus result }
 {
     match dump_text(alloc, reader, writer) {
         Ok(()) => 0,

@@ -1,7 +1,7 @@
 //! The line that a failure prints, and the status that it ends with.
 ghost use Rattle.std.specs.Prelude.{◌≡◌};
 ghost use Rattle.pmg_value.specs.Written.{Writes};
-ghost use Rattle.pmg_app.specs.Output.{failure_status, failure_line, failure_output, Prints};
+ghost use Rattle.pmg_app.specs.Output.{failure_status, failure_line, failure_output, IsFailureStatus, Prints};
 
 use pmg_store::Failure;
 use pmg_value::{Refusal, put_text};
@@ -14,7 +14,8 @@ const NO_MEMORY: u8 = 3;
 
 /// Prints the failure's line and answers its status. Where the writer fails the status is 1.
 pub fn report<W: Write>(writer: &mut W, failure: &Failure) -> u8
-    ensures { Prints (W.contents writer.old) (W.contents writer.new) result (failure_output failure.now) }
+    ensures printed { Prints (W.contents writer.old) (W.contents writer.new) result (failure_output failure.now) }
+    ensures status { IsFailureStatus result }
 {
     match write_line(writer, failure) {
         Ok(()) => status(failure),
@@ -23,7 +24,8 @@ pub fn report<W: Write>(writer: &mut W, failure: &Failure) -> u8
 }
 
 fn status(failure: &Failure) -> u8
-    ensures { result ≡ failure_status failure.now }
+    ensures value { result ≡ failure_status failure.now }
+    ensures bound { IsFailureStatus result }
 {
     match failure {
         Failure::Refused(Refusal::NoMemory) => NO_MEMORY,

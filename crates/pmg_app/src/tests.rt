@@ -1,4 +1,6 @@
-//! What no clause says: that input is read and printed, and what readers and writers that fail leave.
+//! What no clause says: that the word `dump` is taken, that input is read and printed, and what readers and
+//! writers that fail leave.
+use crate::command::{Chosen, choose};
 use crate::dump::run_dump;
 use crate::text::decode_text;
 use pmg_value::Refusal;
@@ -64,6 +66,13 @@ impl Write for FailingWriter {
             Err(io::Error::from(ErrorKind::BrokenPipe))
         }
     }
+}
+
+#[test]
+fn the_word_dump_asks_for_the_dump(rt: HostRuntime) -> io::Result<()> {
+    let words = ["pmixgroup", "dump"];
+    assert_eq!(rt; choose(&rt, words.as_slice())?, Chosen::Dump);
+    Ok(())
 }
 
 #[test]

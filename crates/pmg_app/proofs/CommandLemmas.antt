@@ -1,0 +1,67 @@
+-- What the words of the command line ask for.
+use Rattle.std.proofs.Common.{◌≡◌, ◌≢◌, ◌⊎◌, ◌∙◌, inl, inr, refl, sym, ap, subst, true, List, [], ◌∷◌, codes, Ok, Err}
+use Rattle.std.specs.Prelude.{IfOk, IfErr}
+use Rattle.std.specs.declared.result.Result.{Result}
+use Rattle.clap.specs.Walk.{Text}
+use Rattle.clap.specs.Kinds.{IsAmong}
+use Rattle.clap.specs.Faults.{fault_of, is_simple_and_free}
+use Rattle.clap.specs.declared.error.kind.ErrorKind.{ErrorKind}
+use Rattle.clap.specs.declared.error.kind.ErrorKind.TheVariants.{OutOfMemory, DisplayHelp, DisplayVersion, MissingSubcommand}
+use Rattle.clap.proofs.OnLiterals.{clap_on_literals}
+use Rattle.pmg_app.specs.declared.command.Chosen.{Chosen}
+use Rattle.pmg_app.specs.declared.command.Chosen.TheVariants.{Dump, Shown}
+use Rattle.pmg_app.specs.CommandLine.{program, shown_status, IsChosen}
+
+-- the command line is one of which `clap` says when it takes the words
+pub is_simple_program : is_simple_and_free program ≡ true
+unfolding clap_on_literals
+is_simple_program = refl
+
+-- what was found amiss is shown, but for want of memory
+pub shown_is_chosen : {E : Type 0} (result : Result Chosen E) (words : List Text) (kind : ErrorKind) → IfOk result (λ chosen. chosen ≡ Shown (shown_status kind))
+    → IfOk result (λ _. kind ≢ OutOfMemory) → (kind ≡ OutOfMemory) ⊎ IsAmong kind (fault_of program words) → IfOk result (IsChosen words)
+shown_is_chosen (Err e) words kind shown memory found = tt
+shown_is_chosen (Ok chosen) words kind shown memory (inl wanting) = absurd (memory wanting)
+shown_is_chosen (Ok chosen) words kind shown memory (inr among) = subst (IsChosen words) (sym shown) (kind, among, refl)
+
+-- where nothing is amiss, the dump is asked for
+pub is_dump : {E : Type 0} (result : Result Chosen E) (words : List Text) → fault_of program words ≡ [] → IfOk result (IsChosen words) → IfOk result (λ chosen. chosen ≡ Dump)
+is_dump (Err e) words none chosen = tt
+is_dump (Ok Dump) words none chosen = refl
+is_dump (Ok (Shown status)) words none chosen = absurd (subst (IsAmong chosen.0) none chosen.1)
+
+-- where one thing is found, it is shown
+pub is_shown : {E : Type 0} (result : Result Chosen E) (words : List Text) (kind : ErrorKind) → fault_of program words ≡ kind ∷ [] → IfOk result (IsChosen words)
+    → IfOk result (λ chosen. chosen ≡ Shown (shown_status kind))
+is_shown (Err e) words kind one chosen = tt
+is_shown (Ok Dump) words kind one chosen = let both : [] ≡ kind ∷ [] = sym chosen ∙ one in cc
+is_shown (Ok (Shown status)) words kind one chosen = elim (subst (IsAmong chosen.0) one chosen.1) [
+  | inl same ↦ ap Shown (chosen.2 ∙ ap shown_status same)
+  | inr none ↦ absurd none
+]
+
+-- lines of words
+pub of_dump : (name : Text) → fault_of program (name ∷ codes "dump" ∷ []) ≡ []
+unfolding clap_on_literals
+of_dump name = refl
+
+pub of_help : (name : Text) → fault_of program (name ∷ codes "--help" ∷ []) ≡ DisplayHelp ∷ []
+unfolding clap_on_literals
+of_help name = refl
+
+pub of_version : (name : Text) → fault_of program (name ∷ codes "--version" ∷ []) ≡ DisplayVersion ∷ []
+unfolding clap_on_literals
+of_version name = refl
+
+pub of_name : (name : Text) → fault_of program (name ∷ []) ≡ MissingSubcommand ∷ []
+unfolding clap_on_literals
+of_name name = refl
+
+-- nothing is amiss, and so memory was wanting
+pub is_wanting : (words : List Text) (kind : ErrorKind) → fault_of program words ≡ [] → (kind ≡ OutOfMemory) ⊎ IsAmong kind (fault_of program words) → kind ≡ OutOfMemory
+is_wanting words kind none (inl is) = is
+is_wanting words kind none (inr among) = absurd (subst (IsAmong kind) none among)
+
+pub err_where : {T E : Type 0} (result : Result T E) (A : Type 0) (P : E → Type 0) → (A → IfErr result P) → IfErr result (λ e. A → P e)
+err_where (Ok value) A P h = tt
+err_where (Err e) A P h = h
