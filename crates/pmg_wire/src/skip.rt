@@ -46,6 +46,7 @@ fn skip_plain(tag: u8, at: &mut Cursor<'_>) -> Result<(), Refusal>
     Ok(())
 }
 
+// Passes over so many elements of that kind.
 fn skip_elements(tag: u8, count: u32, at: &mut Cursor<'_>) -> Result<(), Refusal>
     ensures { Reads (λ u. u) result at.new (passed (many (λ _. plain_at tag) count None at.old)) }
 {
@@ -55,6 +56,7 @@ fn skip_elements(tag: u8, count: u32, at: &mut Cursor<'_>) -> Result<(), Refusal
     Ok(())
 }
 
+// Passes over the body of an array.
 #[tactic(auto, unfolding(crate::specs::Fields::array_at))]
 fn skip_array(at: &mut Cursor<'_>) -> Result<(), Refusal>
     ensures { Reads (λ u. u) result at.new (passed (array_at at.old)) }

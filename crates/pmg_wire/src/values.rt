@@ -72,6 +72,7 @@ fn plain_of(alloc: Global, tag: u8, at: &mut Cursor<'_>) -> Result<Value, Refusa
     }
 }
 
+// So many elements of that kind. The first pass saw that all of them are here, so room is made for all at once.
 fn elements_of(
     alloc: Global,
     tag: u8,
@@ -92,6 +93,7 @@ fn elements_of(
     Ok(items)
 }
 
+// An array: the tag of its elements, their number, and their bodies.
 #[tactic(auto, unfolding(crate::specs::Fields::array_at))]
 fn array_of(alloc: Global, at: &mut Cursor<'_>) -> Result<Value, Refusal>
     requires { length at.old.rest ≤ 1048575 }
@@ -120,6 +122,7 @@ fn body_of(alloc: Global, tag: u8, at: &mut Cursor<'_>) -> Result<Value, Refusal
     }
 }
 
+// A value: what is wrong with it and where it ends first, and then its parts.
 #[tactic(auto, unfolding(crate::specs::Fields::value_at))]
 fn value_of(alloc: Global, at: &mut Cursor<'_>) -> Result<Value, Refusal>
     ensures { Reads (λ v. v) result at.new (value_at at.old) }
