@@ -1,2 +1,3 @@
+pub mod CacheLaws
 pub mod ScriptLaws
 pub mod SealingLaws

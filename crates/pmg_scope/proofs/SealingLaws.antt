@@ -46,11 +46,11 @@ part_still s t (suc i) le = by_end s
 
 -- ---- reads, part by part
 
-none_earlier : (x : Option (List ℕ)) → later_of x None ≡ x
+pub none_earlier : (x : Option (List ℕ)) → later_of x None ≡ x
 none_earlier None = refl
 none_earlier (Some v) = refl
 
-later_assoc : (x y z : Option (List ℕ)) → later_of (later_of x y) z ≡ later_of x (later_of y z)
+pub later_assoc : (x y z : Option (List ℕ)) → later_of (later_of x y) z ≡ later_of x (later_of y z)
 later_assoc None y z = refl
 later_assoc (Some v) y z = refl
 

@@ -1,3 +1,5 @@
+pub mod Cached
+pub mod CacheRules
 pub mod Examples
 pub mod Rules
 pub mod Scopes

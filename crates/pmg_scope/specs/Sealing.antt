@@ -1,7 +1,7 @@
 -- Which put a process's commits sealed last.
 use Rattle.std.specs.Prelude.{◌≡◌, ℕ, zero, suc, ◌<◌, ◌≤◌, List, [], ◌∷◌, Some, None}
 use Rattle.pmg_scope.specs.declared.scope.Reach.{Reach}
-use Rattle.pmg_scope.specs.Scripts.{Call, Script, sealed, last_put}
+use Rattle.pmg_scope.specs.Scripts.{Call, Script, sealed, count_commits, last_put}
 
 -- the calls that the commit seals which n others precede
 unfoldable pub part : ℕ → Script → Script
@@ -30,3 +30,7 @@ pub record IsSealed (s : Script) (r : Reach) (k : List ℕ) (n j : ℕ) (bytes :
 -- the first n commits sealed nothing under the key for that reach
 abbrev pub NoneSealed : Script → Reach → List ℕ → ℕ → Type 0
 NoneSealed s r k n = (i : ℕ) → 0 < i → i ≤ n → last_put r k (part_of s i) ≡ None
+
+-- the calls that the next commit will seal
+abbrev pub next_part : Script → Script
+next_part s = part (count_commits s) s

@@ -1,3 +1,4 @@
+ghost use Rattle.pmg_scope.specs.CacheRules.{NewFits, PutFits, CommitFits, EnterFits, CacheIsOne, CommitSealsNext};
 ghost use Rattle.pmg_scope.specs.Examples.{EachScope, TwoValues, PutAgain, LostPut};
 ghost use Rattle.pmg_scope.specs.Rules.{CommitsNeverFall, PastValuesStay, PastSealsStay, EndIsLast, SealedIsValue, NoneIsNoValue};
 
@@ -19,4 +20,15 @@ pub fn script_examples()
     ensures two_values { TwoValues }
     ensures put_again { PutAgain }
     ensures lost_put { LostPut }
+{}
+
+/// The rules of a client's cache: it fits the script of the client's calls, and goes on with it call by call;
+/// what it has for the others is what the next commit seals.
+pub fn cache_rules()
+    ensures new_fits { NewFits }
+    ensures put_fits { PutFits }
+    ensures commit_fits { CommitFits }
+    ensures enter_fits { EnterFits }
+    ensures cache_is_one { CacheIsOne }
+    ensures commit_seals_next { CommitSealsNext }
 {}

@@ -4,5 +4,5 @@
 mod laws;
 mod scope;
 
-pub use laws::{script_examples, script_rules};
+pub use laws::{cache_rules, script_examples, script_rules};
 pub use scope::{Reach, Scope, includes};

@@ -1,0 +1,32 @@
+-- How a cache and a script go on together.
+use Rattle.std.specs.Prelude.{◌≡◌, ℕ, suc, List, [], ◌∷◌, ◌++◌, false}
+use Rattle.pmg_value.specs.Signatures.{Signature}
+use Rattle.pmg_scope.specs.declared.scope.Scope.{Scope}
+use Rattle.pmg_scope.specs.Scripts.{Call, Script, has_end, commits}
+use Rattle.pmg_scope.specs.Sealing.{part_of, next_part}
+use Rattle.pmg_scope.specs.Cached.{Cached, FitsCache, no_puts, with_put, marked}
+
+-- a new cache fits a script without calls
+abbrev pub NewFits : Type 0
+NewFits = FitsCache no_puts []
+
+-- a put goes into both
+abbrev pub PutFits : Type 0
+PutFits =
+    (c : Cached) (s : Script) (scope : Scope) (key value : List ℕ) → FitsCache c s → FitsCache (with_put c scope key value) (s ++ Call.put scope key value ∷ [])
+
+-- a commit takes what was not sealed out of the cache
+abbrev pub CommitFits : Type 0
+CommitFits = (c : Cached) (s : Script) → FitsCache c s → FitsCache (marked c) (s ++ Call.commit ∷ [])
+
+-- an entry into a fence changes no cache
+abbrev pub EnterFits : Type 0
+EnterFits = (c : Cached) (s : Script) (f : Signature) → FitsCache c s → FitsCache c (s ++ Call.enter f ∷ [])
+
+-- a script has one cache
+abbrev pub CacheIsOne : Type 0
+CacheIsOne = (c d : Cached) (s : Script) → FitsCache c s → FitsCache d s → c ≡ d
+
+-- what a cache has for the others is what the next commit seals
+abbrev pub CommitSealsNext : Type 0
+CommitSealsNext = (s : Script) → has_end s ≡ false → part_of (s ++ Call.commit ∷ []) (suc (commits s)) ≡ next_part s
