@@ -1,3 +1,5 @@
 pub mod CacheLaws
 pub mod ScriptLaws
 pub mod SealingLaws
+pub mod TableLemmas
+pub mod SizeLemmas

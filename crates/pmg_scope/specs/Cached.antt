@@ -1,8 +1,13 @@
 -- What a client's cache holds.
-use Rattle.std.specs.Prelude.{◌≡◌, Bool, ℕ, List, if◌then◌else◌}
+use Rattle.std.specs.Prelude.{◌≡◌, Bool, ◌&&◌, ◌||◌, not, ℕ, ◌+◌, nat_le, List, length, Result, Ok, Err, if◌then◌else◌, refl}
+use Rattle.std.specs.Coded.{Coded, code_by, coded×, coded_list, coded_ℕ}
 use Rattle.std.specs.FinMap as map
+use Rattle.std.specs.List.{sum_by}
 use Rattle.std.specs.Ordering.{nat_cmp}
 use Rattle.std.specs.Cmp.Lexicographic.{slice_cmp}
+use Rattle.pmg_value.specs.Names.{is_reserved}
+use Rattle.pmg_value.specs.declared.refusal.Refusal.{Refusal}
+use Rattle.pmg_value.specs.declared.refusal.Refusal.TheVariants as refusals
 use Rattle.pmg_scope.specs.declared.scope.Scope.{Scope}
 use Rattle.pmg_scope.specs.declared.scope.Reach.{Reach}
 use Rattle.pmg_scope.specs.declared.scope.Reach.TheVariants as reach
@@ -14,11 +19,47 @@ use Rattle.pmg_scope.specs.Sealing.{next_part}
 abbrev pub Table : Type 0
 Table = map.FinMap (slice_cmp nat_cmp) (List ℕ)
 
+abbrev pub coded_table : Coded Table
+coded_table = map.code (coded_list coded_ℕ) (coded_list coded_ℕ)
+
+-- what a key and its value count for: their bytes, and ten more
+abbrev pub row_size : List ℕ × List ℕ → ℕ
+row_size e = 10 + length e.0 + length e.1
+
+-- what a table counts for
+abbrev pub table_size : Table → ℕ
+table_size m = sum_by row_size (map.entries m)
+
+-- a table within the limits: at most 65,535 keys, which count for at most 16,000,000 bytes
+abbrev pub is_within : Table → Bool
+is_within m = nat_le (map.len m) 65535 && nat_le (table_size m) 16000000
+
 -- under each key the last put that the process itself sees, and for each other reach the last put that no commit sealed
 pub record Cached : Type 0 where
   pub own : Table
   pub near : Table
   pub far : Table
+
+abbrev pub coded_cached : Coded Cached
+coded_cached =
+    code_by (Table × (Table × Table)) (coded× coded_table (coded× coded_table coded_table)) (λ c. (c.own, (c.near, c.far))) (λ p. record { own = p.0; near = p.1.0; far = p.1.1 })
+    (λ _. refl)
+
+-- a cache within the limits, which hold for each reach by itself
+abbrev pub is_cache : Cached → Bool
+is_cache c = is_within c.own && is_within c.near && is_within c.far
+
+-- what no commit sealed: under each key the last put for each reach but the process's own
+pub record Unsealed : Type 0 where
+  pub near : Table
+  pub far : Table
+
+abbrev pub coded_unsealed : Coded Unsealed
+coded_unsealed = code_by (Table × Table) (coded× coded_table coded_table) (λ c. (c.near, c.far)) (λ p. record { near = p.0; far = p.1 }) (λ _. refl)
+
+-- what of a cache no commit sealed
+abbrev pub unsealed_of : Cached → Unsealed
+unsealed_of c = record { near = c.near; far = c.far }
 
 -- a cache of nothing
 abbrev pub no_puts : Cached
@@ -39,6 +80,13 @@ with_put c scope key value = record {
 -- the cache once all of it is sealed
 abbrev pub marked : Cached → Cached
 marked c = record { own = c.own; near = map.empty; far = map.empty }
+
+-- what a put answers: its key is none of the standard's, its scope is one, and the cache stays within its limits
+abbrev pub put_answer : Cached → Scope → List ℕ → List ℕ → Result (Unit {0}) Refusal
+put_answer c scope key value =
+    if not (reaches scope reach.Own) || is_reserved key then Err refusals.BadParam
+    else if is_cache (with_put c scope key value) then Ok tt
+    else Err refusals.TooMany
 
 -- what the cache has for a reach
 abbrev pub kept : Cached → Reach → Table

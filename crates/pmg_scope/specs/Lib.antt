@@ -5,3 +5,4 @@ pub mod Rules
 pub mod Scopes
 pub mod Scripts
 pub mod Sealing
+pub mod Rows

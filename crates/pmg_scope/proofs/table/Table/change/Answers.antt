@@ -1,0 +1,18 @@
+use Rattle.std.proofs.Common.{ap, ◌∙◌}
+use Rattle.pmg_scope.proofs.TableLemmas.{at_key, changed_there, changed_nowhere, found_is, some_found}
+use Rattle.pmg_scope.specs.Rows.{table_of, changed_at}
+use Rattle.pmg_scope.proofs.table.Table.change.Goals as goal
+use Rattle.pmg_scope.proofs.table.Table.change.Goals.{in-Some, in_default}
+
+pub returns : goal.returns
+returns c =
+    let old = c.self.inside.rows.entries in
+    elim c.match-get_mut.branch [
+      | in-Some w ↦
+          let there = found_is c.get_mut.result w.in-Some.kept (at_key c.args.key.now old) w.in-Some.is c.get_mut.ensures.value in
+          let updates = ((c.get_mut.follows.holds w.swap.new.x).3 (some_found there)).0 in
+          ap (λ a. table_of a.rows.entries) w.self-inside-is
+          ∙ changed_there old (c.get_mut.follows.lender w.swap.new.x).entries c.args.self.now c.args.key.now w.swap.new.x w.in-Some.kept.now c.self.view_is there updates
+          ∙ ap (λ v. changed_at c.args.self.now c.args.key.now v) w.swap.ensures.x_after
+      | in_default w ↦ ap (λ a. table_of a.rows.entries) w.self-inside-is ∙ ap (λ a. table_of a.entries) c.get_mut.follows.holds-at-none ∙ changed_nowhere old c.args.self.now c.args.key.now c.args.value c.self.view_is w.in_default.ensures.value
+    ]

@@ -1,0 +1,53 @@
+-- Tables as they are kept.
+use Rattle.std.specs.Prelude.{◌≡◌, ℕ, List, map, Option, Some, None, if◌then◌else◌}
+use Rattle.std.specs.FinMap as finite
+use Rattle.std.specs.List.Sorted.{IsStrictlySortedBy}
+use Rattle.std.specs.Map.{keys_of}
+use Rattle.std.specs.Ordering.{nat_cmp}
+use Rattle.std.specs.Cmp.Lexicographic.{slice_cmp}
+use Rattle.pmg_value.specs.declared.value.Value.{Value}
+use Rattle.pmg_value.specs.Spelling.{spelling}
+use Rattle.pmg_scope.specs.declared.table.Before.{Before}
+use Rattle.pmg_scope.specs.declared.table.Before.TheVariants as before
+use Rattle.pmg_scope.specs.declared.tables.Tables.{Tables}
+use Rattle.pmg_scope.specs.declared.sizes.Sizes.{Sizes}
+use Rattle.pmg_scope.specs.Cached.{Table, Cached, row_size, table_size}
+
+-- rows of keys and values as a table
+abbrev pub table_of : List (List ℕ × Value) → Table
+table_of rows = finite.from_entries (map (λ e. (e.0, spelling e.1)) rows)
+
+-- the keys rise
+abbrev pub IsRising : List (List ℕ × Value) → Type 0
+IsRising rows = IsStrictlySortedBy (slice_cmp nat_cmp) (keys_of rows)
+
+-- what was under a key
+abbrev pub before_of : Option Value → Before
+before_of (Some value) = before.Held value
+before_of None = before.Absent
+
+-- the table with another value under the key, where it has one
+abbrev pub changed_at : Table → List ℕ → Value → Table
+changed_at m key value = if finite.contains_key m key then finite.insert m key (spelling value) else m
+
+-- the table with what was there before a put of the key
+abbrev pub restored : Table → List ℕ → Before → Table
+restored m key before.Unseen = m
+restored m key before.Absent = finite.remove m key
+restored m key (before.Held value) = changed_at m key value
+
+-- what the value under the key counts for, 0 where there is none
+abbrev pub counted : List ℕ → Option (List ℕ) → ℕ
+counted key None = 0
+counted key (Some bytes) = row_size (key, bytes)
+
+abbrev pub counted_at : Table → List ℕ → ℕ
+counted_at m key = counted key (finite.get m key)
+
+-- the tables of the three reaches as what a cache holds
+abbrev pub cached_of : Tables → Cached
+cached_of t = record { own = t.own; near = t.near; far = t.far }
+
+-- what the tables count for
+abbrev pub AreSizes : Sizes → Cached → Type 0
+AreSizes s c = (s.own ≡ table_size c.own) × (s.near ≡ table_size c.near) × (s.far ≡ table_size c.far)

@@ -1,0 +1,57 @@
+ghost use Rattle.std.specs.Prelude.{◌≡◌, IfOk};
+ghost use Rattle.pmg_scope.specs.Rows.{IsRising, table_of};
+
+use crate::table::Table;
+use pmg_value::{Key, Value};
+use std::alloc::{AllocError, Global};
+use std::marker::Model;
+
+/// What a commit is to seal: under each key the last put that no commit sealed, for the other processes on the node
+/// and for those on other nodes.
+#[derive(Debug, Drop)]
+pub struct Batch {
+    near: Vec<(Key, Value)>,
+    far: Vec<(Key, Value)>,
+}
+
+impl Model for Batch {
+    ghost use Rattle.pmg_scope.specs.Cached.{Unsealed, coded_unsealed};
+    ghost use Rattle.pmg_scope.specs.Rows.{IsRising, table_of};
+
+    ghost Value = { Unsealed };
+
+    ghost coded = { coded_unsealed };
+
+    ghost view = { λ a. record { near = table_of a.near.items; far = table_of a.far.items } };
+
+    ghost invariant = { λ a. IsRising a.near.items × IsRising a.far.items };
+}
+
+impl Batch {
+    /// The batch of what these tables hold.
+    pub(crate) fn of_tables(alloc: Global, near: &Table, far: &Table) -> Result<Batch, AllocError>
+        ensures near { IfOk result (λ b. b.near ≡ near.now) }
+        ensures far { IfOk result (λ b. b.far ≡ far.now) }
+    {
+        Ok(Batch {
+            near: near.rows(alloc)?,
+            far: far.rows(alloc)?,
+        })
+    }
+
+    /// What is to be sealed for the other processes on the node, in the order of the keys.
+    pub fn near(&self) -> &[(Key, Value)]
+        ensures table { table_of result.now ≡ self.now.near }
+        ensures rising { IsRising result.now }
+    {
+        &self.near
+    }
+
+    /// What is to be sealed for the processes on other nodes, in the order of the keys.
+    pub fn far(&self) -> &[(Key, Value)]
+        ensures table { table_of result.now ≡ self.now.far }
+        ensures rising { IsRising result.now }
+    {
+        &self.far
+    }
+}

@@ -1,0 +1,109 @@
+ghost use Rattle.std.specs.Prelude.{◌≡◌, IfOk, OnOk, OnErr};
+ghost use Rattle.std.specs.FinMap as map;
+ghost use Rattle.std.specs.Option.{option_map};
+ghost use Rattle.pmg_value.specs.Answers.{Gives};
+ghost use Rattle.pmg_value.specs.Spelling.{spelling};
+ghost use Rattle.pmg_scope.specs.Cached.{no_puts, with_put, marked, unsealed_of, put_answer};
+
+use crate::batch::Batch;
+use crate::scope::{Reach, Scope, includes};
+use crate::sizes::Sizes;
+use crate::tables::Tables;
+use pmg_value::{Key, Refusal, Value};
+use std::alloc::{AllocError, Global};
+use std::marker::Model;
+
+/// What a client has put: under each key its last put for itself, and for each other reach the last put that no
+/// commit sealed (PMIx Standard 5.0, PMIx_Put).
+#[derive(Drop)]
+pub struct Cache {
+    alloc: Global,
+    tables: Tables,
+    sizes: Sizes,
+}
+
+impl Model for Cache {
+    ghost use Rattle.std.specs.Prelude.{IsTrue};
+    ghost use Rattle.pmg_scope.specs.Cached.{Cached, coded_cached, is_cache};
+    ghost use Rattle.pmg_scope.specs.Rows.{cached_of, AreSizes};
+
+    ghost Value = { Cached };
+
+    ghost coded = { coded_cached };
+
+    ghost view = { λ a. cached_of a.tables };
+
+    ghost invariant = { λ a. AreSizes a.sizes (cached_of a.tables) × IsTrue (is_cache (cached_of a.tables)) };
+}
+
+impl Cache {
+    /// A cache without puts. It keeps the allocator.
+    pub fn new(alloc: Global) -> Cache
+        ensures { result ≡ no_puts }
+    {
+        Cache {
+            alloc,
+            tables: Tables::new(alloc),
+            sizes: Sizes {
+                own: 0,
+                near: 0,
+                far: 0,
+            },
+        }
+    }
+
+    /// Puts the value under the key, to be seen as the scope says (PMIx Standard 5.0, PMIx_Put). Refused as
+    /// BadParam where the key begins with `pmix` or the scope is PMIX_SCOPE_UNDEF; as TooMany where the cache would
+    /// have, for one reach, more than 65535 keys, or more than 16000000 bytes of keys and values, ten bytes more
+    /// counted for each; and as NoMemory. A refused put changes nothing.
+    pub fn put(&mut self, scope: Scope, key: Key, value: Value) -> Result<(), Refusal>
+        ensures answer { Gives (λ _. tt) result (put_answer self.old scope key (spelling value)) }
+        ensures ok { OnOk result (self.new ≡ with_put self.old scope key (spelling value)) }
+        ensures err { OnErr result (self.new ≡ self.old) }
+    {
+        if !includes(scope, Reach::Own) || key.is_reserved() {
+            return Err(Refusal::BadParam);
+        }
+        let Some(sizes) = self.sizes.with_put(&self.tables, scope, &key, &value) else {
+            return Err(Refusal::TooMany);
+        };
+        self.tables.put(scope, &key, &value)?;
+        self.sizes = sizes;
+        Ok(())
+    }
+
+    /// What the process itself reads under the key: its last put, of whatever scope, committed or not.
+    pub fn own(&self, key: &Key) -> Option<&Value>
+        ensures { option_map (λ v. spelling v.now) result ≡ map.get self.now.own key.now }
+    {
+        self.tables.own.get(key)
+    }
+
+    /// What no commit sealed, for the others to see (PMIx Standard 5.0, PMIx_Commit).
+    pub fn unsealed(&self) -> Result<Batch, AllocError>
+        ensures { IfOk result (λ b. b ≡ unsealed_of self.now) }
+    {
+        Batch::of_tables(self.alloc, &self.tables.near, &self.tables.far)
+    }
+
+    /// Marks all puts as sealed by a commit.
+    pub fn mark_sealed(&mut self)
+        ensures { self.new ≡ marked self.old }
+    {
+        self.tables.near.clear();
+        self.tables.far.clear();
+        self.sizes.near = 0;
+        self.sizes.far = 0;
+    }
+
+    /// Another cache of the same meaning.
+    pub fn copy(&self) -> Result<Cache, AllocError>
+        ensures { IfOk result (λ c. c ≡ self.now) }
+    {
+        Ok(Cache {
+            alloc: self.alloc,
+            tables: self.tables.copy(self.alloc)?,
+            sizes: self.sizes,
+        })
+    }
+}

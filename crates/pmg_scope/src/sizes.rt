@@ -1,0 +1,103 @@
+ghost use Rattle.std.specs.Prelude.{◌≡◌, ◌+◌, ◌≤◌, Some, None, is_some, IfSome, IsTrue, if◌then◌else◌};
+ghost use Rattle.std.specs.FinMap as map;
+ghost use Rattle.pmg_value.specs.Spelling.{spelling};
+ghost use Rattle.pmg_scope.specs.Cached.{put_if, with_put, row_size, table_size, is_within, is_cache};
+ghost use Rattle.pmg_scope.specs.Rows.{counted_at, cached_of, AreSizes};
+
+use crate::scope::{Reach, Scope, includes};
+use crate::table::Table;
+use crate::tables::Tables;
+use pmg_value::{Key, Value};
+
+/// The most keys that a cache holds for a reach.
+pub const MAX_KEYS: usize = 65_535;
+
+/// The most that the keys and values of a cache count for, for a reach.
+pub const MAX_CACHE_SIZE: usize = 16_000_000;
+
+/// What a key and its value count for: their bytes, and ten more.
+pub fn row_size(key: &Key, value: &Value) -> usize
+    ensures value { result ≡ row_size (key.now, spelling value.now) }
+    ensures bound { result ≤ 1049097 }
+{
+    10 + key.as_bytes().len() + value.size()
+}
+
+/// What the value under the key counts for, 0 where there is none.
+fn counted_at(table: &Table, key: &Key) -> usize
+    ensures value { result ≡ counted_at table.now key.now }
+    ensures bound { result ≤ 1049097 }
+{
+    match table.get(key) {
+        Some(value) => row_size(key, value),
+        None => 0,
+    }
+}
+
+/// How many keys the table has once the value is put.
+fn len_put(table: &Table, key: &Key, value: &Value) -> usize
+    requires { map.len table.now ≤ 65535 }
+    ensures { result ≡ map.len (map.insert table.now key.now (spelling value.now)) }
+{
+    match table.get(key) {
+        Some(_) => table.len(),
+        None => table.len() + 1,
+    }
+}
+
+/// What the table counts for once the value is put. It counts for `size` now.
+fn size_put(table: &Table, size: usize, key: &Key, value: &Value) -> usize
+    requires counted { size ≡ table_size table.now }
+    requires bound { size ≤ 16000000 }
+    ensures { result ≡ table_size (map.insert table.now key.now (spelling value.now)) }
+{
+    size + row_size(key, value) - counted_at(table, key)
+}
+
+/// What the table counts for once the value is put, where the put is seen there; none if the table would pass its
+/// limits. It counts for `size` now.
+fn size_with(
+    table: &Table,
+    size: usize,
+    seen: bool,
+    key: &Key,
+    value: &Value,
+) -> Option<usize>
+    requires counted { size ≡ table_size table.now }
+    requires limits { IsTrue (is_within table.now) }
+    ensures { result ≡ (if is_within (put_if seen table.now key.now (spelling value.now))
+        then Some (table_size (put_if seen table.now key.now (spelling value.now))) else None) }
+{
+    if !seen {
+        return Some(size);
+    }
+    let size = size_put(table, size, key, value);
+    if len_put(table, key, value) <= MAX_KEYS && size <= MAX_CACHE_SIZE {
+        Some(size)
+    } else {
+        None
+    }
+}
+
+/// What the table of each reach counts for.
+#[derive(Clone, Copy, Debug)]
+pub struct Sizes {
+    pub own: usize,
+    pub near: usize,
+    pub far: usize,
+}
+
+impl Sizes {
+    /// What the tables count for once the value is put; none if one of them would pass its limits.
+    pub fn with_put(&self, tables: &Tables, scope: Scope, key: &Key, value: &Value) -> Option<Sizes>
+        requires counted { AreSizes self.now (cached_of tables.now) }
+        requires limits { IsTrue (is_cache (cached_of tables.now)) }
+        ensures within { is_some result ≡ is_cache (with_put (cached_of tables.now) scope key.now (spelling value.now)) }
+        ensures sizes { IfSome result (λ s. AreSizes s (with_put (cached_of tables.now) scope key.now (spelling value.now))) }
+    {
+        let own = size_with(&tables.own, self.own, includes(scope, Reach::Own), key, value)?;
+        let near = size_with(&tables.near, self.near, includes(scope, Reach::Near), key, value)?;
+        let far = size_with(&tables.far, self.far, includes(scope, Reach::Far), key, value)?;
+        Some(Sizes { own, near, far })
+    }
+}

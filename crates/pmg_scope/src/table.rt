@@ -1,0 +1,177 @@
+ghost use Rattle.std.specs.Prelude.{◌≡◌, IfOk, OnOk, OnErr};
+ghost use Rattle.std.specs.FinMap as map;
+ghost use Rattle.std.specs.Option.{option_map};
+ghost use Rattle.pmg_value.specs.Spelling.{spelling};
+ghost use Rattle.pmg_scope.specs.Cached.{put_if};
+ghost use Rattle.pmg_scope.specs.Rows.{IsRising, before_of, changed_at, restored, table_of};
+
+use pmg_value::{Key, Value};
+use std::alloc::{AllocError, Global};
+use std::collections::BTreeMap;
+use std::marker::Model;
+use std::mem;
+
+/// Values under keys, in the order of the keys.
+#[derive(Debug, Drop)]
+pub struct Table {
+    rows: BTreeMap<Key, Value>,
+}
+
+impl Model for Table {
+    ghost use Rattle.pmg_scope.specs.Cached.{Table, coded_table};
+
+    ghost Value = { Table };
+
+    ghost coded = { coded_table };
+
+    ghost use Rattle.pmg_scope.specs.Rows.{table_of};
+
+    ghost view = { λ a. table_of a.rows.entries };
+}
+
+/// What a put found in a table, by which it can be taken back.
+#[derive(Debug, Drop)]
+pub enum Before {
+    /// The put is not seen there.
+    Unseen,
+    /// There was no value under the key.
+    Absent,
+    /// There was this one.
+    Held(Value),
+}
+
+impl Before {
+    /// What was under the key.
+    fn found(value: Option<Value>) -> Before
+        ensures { result ≡ before_of value }
+    {
+        match value {
+            Some(value) => Before::Held(value),
+            None => Before::Absent,
+        }
+    }
+}
+
+impl Table {
+    /// A table of nothing. It keeps the allocator.
+    pub fn new(alloc: Global) -> Table
+        ensures { result ≡ map.empty }
+    {
+        Table {
+            rows: BTreeMap::new(alloc),
+        }
+    }
+
+    /// The value under the key.
+    pub fn get(&self, key: &Key) -> Option<&Value>
+        ensures { option_map (λ v. spelling v.now) result ≡ map.get self.now key.now }
+    {
+        self.rows.get(key)
+    }
+
+    /// Puts the value under the key, where the put is seen there, and tells what was there.
+    pub fn put_if(&mut self, seen: bool, key: &Key, value: &Value) -> Result<Before, AllocError>
+        ensures ok { OnOk result (self.new ≡ put_if seen self.old key.now (spelling value.now)) }
+        ensures before { IfOk result (λ b. restored self.new key.now b ≡ self.old) }
+        ensures err { OnErr result (self.new ≡ self.old) }
+    {
+        if !seen {
+            return Ok(Before::Unseen);
+        }
+        let before = self.set(key.copy()?, value.copy()?)?;
+        Ok(Before::found(before))
+    }
+
+    /// Puts the value under the key, and gives back what was there.
+    fn set(&mut self, key: Key, value: Value) -> Result<Option<Value>, AllocError>
+        ensures ok { OnOk result (self.new ≡ map.insert self.old key (spelling value)) }
+        ensures before { IfOk result (λ b. option_map spelling b ≡ map.get self.old key) }
+        ensures err { OnErr result (self.new ≡ self.old) }
+    {
+        Ok(self.rows.insert(key, value)?)
+    }
+
+    /// Puts the value under the key.
+    fn add(&mut self, key: Key, value: Value) -> Result<(), AllocError>
+        ensures { OnOk result (self.new ≡ map.insert self.old key (spelling value)) }
+    {
+        let _ = self.set(key, value)?;
+        Ok(())
+    }
+
+    /// Takes a put of the key back, as the put told.
+    pub fn take_back(&mut self, key: &Key, before: Before)
+        ensures { self.new ≡ restored self.old key.now before }
+    {
+        match before {
+            Before::Unseen => {}
+            Before::Absent => {
+                let _ = self.remove(key);
+            }
+            Before::Held(value) => {
+                let _ = self.change(key, value);
+            }
+        }
+    }
+
+    /// Takes the value under the key out.
+    fn remove(&mut self, key: &Key) -> Option<Value>
+        ensures { self.new ≡ map.remove self.old key.now }
+    {
+        self.rows.remove(key)
+    }
+
+    /// Puts another value under the key, where there is one, and gives back what is left.
+    fn change(&mut self, key: &Key, mut value: Value) -> Value
+        ensures { self.new ≡ changed_at self.old key.now value }
+    {
+        if let Some(kept) = self.rows.get_mut(key) {
+            mem::swap(kept, &mut value);
+        }
+        value
+    }
+
+    /// The number of the keys.
+    pub fn len(&self) -> usize
+        ensures { result ≡ map.len self.now }
+    {
+        self.rows.len()
+    }
+
+    /// The keys and values in their order, copied.
+    pub fn rows(&self, alloc: Global) -> Result<Vec<(Key, Value)>, AllocError>
+        ensures table { IfOk result (λ rs. table_of rs.items ≡ self.now) }
+        ensures rising { IfOk result (λ rs. IsRising rs.items) }
+    {
+        let mut rows = Vec::with_capacity(alloc, self.rows.len())?;
+        for (key, value) in self.rows.iter() {
+            rows.push((key.copy()?, value.copy()?))?;
+        }
+        Ok(rows)
+    }
+
+    /// The table of these keys and values.
+    fn of_rows(alloc: Global, mut rows: Vec<(Key, Value)>) -> Result<Table, AllocError>
+        ensures { IfOk result (λ t. t ≡ table_of rows.items) }
+    {
+        let mut table = Table::new(alloc);
+        while let Some((key, value)) = rows.pop() {
+            table.add(key, value)?;
+        }
+        Ok(table)
+    }
+
+    /// Another table of the same meaning.
+    pub fn copy(&self, alloc: Global) -> Result<Table, AllocError>
+        ensures { IfOk result (λ t. t ≡ self.now) }
+    {
+        Table::of_rows(alloc, self.rows(alloc)?)
+    }
+
+    /// Takes all values out.
+    pub fn clear(&mut self)
+        ensures { self.new ≡ map.empty }
+    {
+        self.rows.clear();
+    }
+}
