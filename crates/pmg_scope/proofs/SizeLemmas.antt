@@ -12,10 +12,7 @@ use Rattle.std.proofs.lemmas.Bool.{and_parts}
 use Rattle.std.proofs.lemmas.Map.Lookups.{exact_bytes}
 use Rattle.pmg_scope.specs.Cached.{Table, Cached, no_puts, marked, row_size, table_size, is_within, is_cache}
 use Rattle.pmg_scope.specs.Rows.{counted, counted_at}
-use Rattle.pmg_scope.proofs.TableLemmas.{no_items}
-
-pub entries_of_nothing : finite.entries (finite.empty {X = List ℕ} {R = slice_cmp nat_cmp}) ≡ []
-entries_of_nothing = no_items _ (sym (finite.len-entries finite.empty) ∙ finite.len-empty (slice_cmp nat_cmp) (List ℕ))
+use Rattle.pmg_scope.proofs.RowLemmas.{entries_of_nothing}
 
 pub size_of_nothing : table_size finite.empty ≡ 0
 size_of_nothing = ap (sum_by row_size) entries_of_nothing

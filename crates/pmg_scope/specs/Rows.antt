@@ -13,12 +13,20 @@ use Rattle.pmg_scope.specs.declared.tables.Tables.{Tables}
 use Rattle.pmg_scope.specs.declared.sizes.Sizes.{Sizes}
 use Rattle.pmg_scope.specs.Cached.{Table, Cached, row_size, table_size}
 
+-- what stands under keys
+abbrev pub KeyMap : Type 0 → Type 0
+KeyMap X = finite.FinMap (slice_cmp nat_cmp) X
+
+-- rows of keys and values as a map, where f says what a value means
+abbrev pub rows_of : {V X : Type 0} → (V → X) → List (List ℕ × V) → KeyMap X
+rows_of f rows = finite.from_entries (map (λ e. (e.0, f e.1)) rows)
+
 -- rows of keys and values as a table
 abbrev pub table_of : List (List ℕ × Value) → Table
-table_of rows = finite.from_entries (map (λ e. (e.0, spelling e.1)) rows)
+table_of rows = rows_of spelling rows
 
 -- the keys rise
-abbrev pub IsRising : List (List ℕ × Value) → Type 0
+abbrev pub IsRising : {V : Type 0} → List (List ℕ × V) → Type 0
 IsRising rows = IsStrictlySortedBy (slice_cmp nat_cmp) (keys_of rows)
 
 -- what was under a key

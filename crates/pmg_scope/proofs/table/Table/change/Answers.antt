@@ -1,5 +1,6 @@
 use Rattle.std.proofs.Common.{ap, ◌∙◌}
-use Rattle.pmg_scope.proofs.TableLemmas.{at_key, changed_there, changed_nowhere, found_is, some_found}
+use Rattle.pmg_scope.proofs.RowLemmas.{at_key}
+use Rattle.pmg_scope.proofs.TableLemmas.{changed_there, changed_nowhere, found_is, some_found}
 use Rattle.pmg_scope.specs.Rows.{table_of, changed_at}
 use Rattle.pmg_scope.proofs.table.Table.change.Goals as goal
 use Rattle.pmg_scope.proofs.table.Table.change.Goals.{in-Some, in_default}

@@ -1,7 +1,8 @@
 use Rattle.std.proofs.Common.{ap, sym, ◌∙◌}
 use Rattle.std.specs.FinMap as map
-use Rattle.pmg_scope.proofs.TableLemmas.{table_without}
+use Rattle.pmg_value.specs.Spelling.{spelling}
+use Rattle.pmg_scope.proofs.RowLemmas.{rows_without}
 use Rattle.pmg_scope.proofs.table.Table.remove.Goals as goal
 
 pub returns : goal.returns
-returns c = table_without _ _ _ (λ q. c.remove.ensures.updates.0 q) ∙ ap (λ m. map.remove m c.args.key.now) c.self.view_is
+returns c = rows_without spelling _ _ _ (λ q. c.remove.ensures.updates.0 q) ∙ ap (λ m. map.remove m c.args.key.now) c.self.view_is
