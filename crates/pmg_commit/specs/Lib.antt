@@ -10,3 +10,5 @@ pub mod Cores
 pub mod Data
 pub mod Pieces
 pub mod Rules
+pub mod Sealed
+pub mod SealerRules

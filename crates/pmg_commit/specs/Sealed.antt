@@ -1,0 +1,125 @@
+-- What a process's commits sealed.
+use Rattle.std.specs.Prelude.{ℕ, suc, ◌+◌, Bool, true, false, ◌&&◌, not, nat_lt, nat_le, List, [], ◌∷◌, length, map, Result, Ok, Err, if◌then◌else◌, refl}
+use Rattle.std.specs.Coded.{Coded, code_by, coded×, coded_list, coded_ℕ, coded_bool}
+use Rattle.std.specs.FinMap as finite
+use Rattle.std.specs.List.{filter, sum_by}
+use Rattle.pmg_value.specs.Process.{coded_proc}
+use Rattle.pmg_value.specs.declared.process.Proc.{Proc}
+use Rattle.pmg_value.specs.declared.refusal.Refusal.{Refusal}
+use Rattle.pmg_value.specs.declared.refusal.Refusal.TheVariants as refusals
+use Rattle.pmg_scope.specs.Cached.{Table, Unsealed}
+use Rattle.pmg_scope.specs.Rows.{KeyMap}
+use Rattle.pmg_scope.specs.Scripts.{term_key}
+use Rattle.pmg_scope.specs.declared.scope.Reach.{Reach}
+use Rattle.pmg_scope.specs.declared.scope.Reach.TheVariants as reach
+use Rattle.pmg_commit.specs.Entries.{Entry}
+use Rattle.pmg_commit.specs.Knowledge.{Contribution}
+
+-- The put that was sealed last under a key: the number of its commit, and the value's canonical bytes.
+pub record Stamp : Type 0 where
+  pub number : ℕ
+  pub bytes : List ℕ
+
+-- stamps by their keys
+abbrev pub Stamps : Type 0
+Stamps = KeyMap Stamp
+
+abbrev pub coded_stamps : Coded Stamps
+coded_stamps =
+    finite.code (coded_list coded_ℕ)
+      (code_by (ℕ × List ℕ) (coded× coded_ℕ (coded_list coded_ℕ)) (λ s. (s.number, s.bytes)) (λ p. record { number = p.0; bytes = p.1 }) (λ _. refl))
+
+-- A process, how many commits it made, whether it has ended, and what they sealed last under each key: for the other
+-- processes on its node, and for those on other nodes (PMIx Standard 5.0, PMIx_Commit; the numbers are this project's).
+pub record Sealed : Type 0 where
+  pub proc : Proc
+  pub level : ℕ
+  pub ended : Bool
+  pub near : Stamps
+  pub far : Stamps
+
+abbrev pub coded_sealed : Coded Sealed
+coded_sealed =
+    code_by (Proc × (ℕ × (Bool × (Stamps × Stamps)))) (coded× coded_proc (coded× coded_ℕ (coded× coded_bool (coded× coded_stamps coded_stamps))))
+      (λ z. (z.proc, (z.level, (z.ended, (z.near, z.far))))) (λ p. record { proc = p.0; level = p.1.0; ended = p.1.1.0; near = p.1.1.1.0; far = p.1.1.1.1 }) (λ _. refl)
+
+-- a process that made no commit
+abbrev pub fresh : Proc → Sealed
+fresh proc = record { proc = proc; level = 0; ended = false; near = finite.empty; far = finite.empty }
+
+-- the stamps, once the commit of that number seals these keys and values one after the other
+abbrev pub stamp_all : ℕ → Stamps → List (List ℕ × List ℕ) → Stamps
+stamp_all n stamps [] = stamps
+stamp_all n stamps (e ∷ es) = stamp_all n (finite.insert stamps e.0 (record { number = n; bytes = e.1 })) es
+
+-- the stamps, once the commit of that number seals a table
+unfoldable pub stamped : ℕ → Table → Stamps → Stamps
+stamped n table stamps = stamp_all n stamps (finite.entries table)
+
+-- once the next commit seals a batch
+abbrev pub sealed_with : Sealed → Unsealed → Sealed
+sealed_with z b = record {
+  proc = z.proc;
+  level = suc z.level;
+  ended = z.ended;
+  near = stamped (suc z.level) b.near z.near;
+  far = stamped (suc z.level) b.far z.far;
+}
+
+-- what an end seals for all: the key `pmix.term`, true
+abbrev pub term_table : Table
+term_table = finite.insert finite.empty term_key (1 ∷ 1 ∷ [])
+
+-- once the process ends, which is its last commit
+abbrev pub ended_with : Sealed → Sealed
+ended_with z = record {
+  proc = z.proc;
+  level = suc z.level;
+  ended = true;
+  near = stamped (suc z.level) term_table z.near;
+  far = stamped (suc z.level) term_table z.far;
+}
+
+-- what a key and its stamp count for: the bytes of key and value, and ten more
+abbrev pub stamp_size : List ℕ × Stamp → ℕ
+stamp_size e = 10 + length e.0 + length e.1.bytes
+
+abbrev pub stamps_size : Stamps → ℕ
+stamps_size m = sum_by stamp_size (finite.entries m)
+
+-- stamps within the limits, which are those of a cache: at most 65,535 keys, which count for at most 16,000,000 bytes
+abbrev pub are_within : Stamps → Bool
+are_within m = nat_le (finite.len m) 65535 && nat_le (stamps_size m) 16000000
+
+-- What a commit answers: its number. The number 4,294,967,295 is kept for the end, behind which there is no commit.
+abbrev pub seal_answer : Sealed → Unsealed → Result ℕ Refusal
+seal_answer z b =
+    if not z.ended && nat_lt z.level 4294967294 && are_within (sealed_with z b).near && are_within (sealed_with z b).far then Ok (suc z.level)
+    else Err refusals.TooMany
+
+-- the stamps for a reach, none for the process's own
+abbrev pub stamps_for : Sealed → Reach → Stamps
+stamps_for z reach.Own = finite.empty
+stamps_for z reach.Near = z.near
+stamps_for z reach.Far = z.far
+
+abbrev pub stamped_entry : List ℕ × Stamp → Entry
+stamped_entry e = record { key = e.0; number = e.1.number; bytes = e.1.bytes }
+
+-- the stamps of the commits above a number, as entries in the order of their keys
+abbrev pub newer_than : ℕ → Stamps → List Entry
+newer_than from m = map stamped_entry (filter (λ e. nat_lt from e.1.number) (finite.entries m))
+
+-- what the commits above a number sealed for a reach
+abbrev pub piece_at : Sealed → ℕ → Reach → Contribution
+piece_at z from r = record { proc = z.proc; from = from; to = z.level; entries = newer_than from (stamps_for z r) }
+
+-- a reach of other processes
+abbrev pub is_other : Reach → Bool
+is_other reach.Own = false
+is_other reach.Near = true
+is_other reach.Far = true
+
+-- the piece from a number to the level, where there is one
+abbrev pub piece_answer : Sealed → ℕ → Reach → Result Contribution Refusal
+piece_answer z from r = if is_other r && nat_lt from z.level then Ok (piece_at z from r) else Err refusals.BadParam
