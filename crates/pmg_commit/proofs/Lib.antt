@@ -3,3 +3,4 @@ pub mod Joining
 pub mod PieceFacts
 pub mod ReadLaws
 pub mod Rules
+pub mod StampLemmas

@@ -12,3 +12,4 @@ pub mod Pieces
 pub mod Rules
 pub mod Sealed
 pub mod SealerRules
+pub mod Stamped

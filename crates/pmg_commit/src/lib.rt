@@ -4,6 +4,7 @@
 mod laws;
 mod piece;
 mod reading;
+mod stamps;
 
 pub use laws::{data_rules, honest_rules, knowledge_rules};
 pub use piece::{MAX_COMMIT, MAX_ENTRIES, MAX_PIECE_SIZE, Piece, PieceEntry};

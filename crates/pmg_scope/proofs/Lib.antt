@@ -4,3 +4,4 @@ pub mod SealingLaws
 pub mod TableLemmas
 pub mod SizeLemmas
 pub mod RowLemmas
+pub mod SumLemmas

@@ -1,5 +1,5 @@
 -- Tables as they are kept.
-use Rattle.std.specs.Prelude.{◌≡◌, ℕ, List, map, Option, Some, None, if◌then◌else◌}
+use Rattle.std.specs.Prelude.{◌≡◌, ℕ, ◌+◌, List, length, map, Option, Some, None, if◌then◌else◌}
 use Rattle.std.specs.FinMap as finite
 use Rattle.std.specs.List.Sorted.{IsStrictlySortedBy}
 use Rattle.std.specs.Map.{keys_of}
@@ -11,7 +11,7 @@ use Rattle.pmg_scope.specs.declared.table.Before.{Before}
 use Rattle.pmg_scope.specs.declared.table.Before.TheVariants as before
 use Rattle.pmg_scope.specs.declared.tables.Tables.{Tables}
 use Rattle.pmg_scope.specs.declared.sizes.Sizes.{Sizes}
-use Rattle.pmg_scope.specs.Cached.{Table, Cached, row_size, table_size}
+use Rattle.pmg_scope.specs.Cached.{Table, Cached, table_size}
 
 -- what stands under keys
 abbrev pub KeyMap : Type 0 → Type 0
@@ -44,13 +44,18 @@ restored m key before.Unseen = m
 restored m key before.Absent = finite.remove m key
 restored m key (before.Held value) = changed_at m key value
 
--- what the value under the key counts for, 0 where there is none
-abbrev pub counted : List ℕ → Option (List ℕ) → ℕ
-counted key None = 0
-counted key (Some bytes) = row_size (key, bytes)
+-- what a key counts for together with what stands under it, which counts for as many bytes as h says: ten bytes more
+abbrev pub size_by : {X : Type 0} → (X → ℕ) → List ℕ × X → ℕ
+size_by h e = 10 + length e.0 + h e.1
 
+-- what stands under the key counts for, 0 where nothing does
+abbrev pub counted_by : {X : Type 0} → (X → ℕ) → List ℕ → Option X → ℕ
+counted_by h key None = 0
+counted_by h key (Some x) = size_by h (key, x)
+
+-- what the value under the key counts for, 0 where there is none
 abbrev pub counted_at : Table → List ℕ → ℕ
-counted_at m key = counted key (finite.get m key)
+counted_at m key = counted_by length key (finite.get m key)
 
 -- the tables of the three reaches as what a cache holds
 abbrev pub cached_of : Tables → Cached

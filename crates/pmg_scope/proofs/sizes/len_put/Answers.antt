@@ -1,6 +1,6 @@
 use Rattle.std.proofs.Common.{ap, ◌+◌, ◌∙◌}
 use Rattle.pmg_value.specs.Spelling.{spelling}
-use Rattle.pmg_scope.proofs.SizeLemmas.{len_held, len_added}
+use Rattle.pmg_scope.proofs.SumLemmas.{len_held, len_added}
 use Rattle.pmg_scope.proofs.sizes.len_put.Goals as goal
 
 pub returns-in-Some : goal.returns-in-Some

@@ -1,0 +1,24 @@
+-- Stamps in memory.
+use Rattle.std.proofs.Common.{◌≡◌, ℕ, ◌+◌, ◌≤◌, Bool, true, false, cond, nat_lt, List, [], ◌∷◌, ◌++◌, map, refl, sym, ap, ◌∙◌, arith}
+use Rattle.std.specs.FinMap as finite
+use Rattle.std.specs.List.{filter}
+use Rattle.pmg_value.specs.Spelling.{spelling}
+use Rattle.pmg_value.specs.declared.value.Value.{Value}
+use Rattle.pmg_scope.specs.Rows.{IsRising, rows_of, table_of}
+use Rattle.pmg_scope.proofs.RowLemmas.{shown, entries_rising}
+use Rattle.pmg_commit.specs.declared.stamps.SealedPut.{SealedPut}
+use Rattle.pmg_commit.specs.Entries.{Entry}
+use Rattle.pmg_commit.specs.Sealed.{Stamps, stamp_all, stamped, stamped_entry, newer_than}
+use Rattle.pmg_commit.specs.Stamped.{stamp_of}
+
+-- the rows of the commits above a number, as entries
+abbrev pub newer_rows : ℕ → List (List ℕ × SealedPut) → List Entry
+newer_rows from rows = map stamped_entry (filter (λ e. nat_lt from e.1.number) (shown stamp_of rows))
+
+pub newer-rising : (from : ℕ) (rows : List (List ℕ × SealedPut)) (m : Stamps) → IsRising rows → rows_of stamp_of rows ≡ m → newer_rows from rows ≡ newer_than from m
+newer-rising from rows m rising same =
+    sym (ap (λ es. map stamped_entry (filter (λ e. nat_lt from e.1.number) es)) (entries_rising stamp_of rows rising)) ∙ ap (newer_than from) same
+
+pub stamped-rising : (n : ℕ) (puts : List (List ℕ × Value)) (m : Stamps) → IsRising puts → stamp_all n m (shown spelling puts) ≡ stamped n (table_of puts) m
+unfolding stamped
+stamped-rising n puts m rising = ap (stamp_all n m) (sym (entries_rising spelling puts rising))
