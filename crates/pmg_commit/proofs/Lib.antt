@@ -4,3 +4,4 @@ pub mod PieceFacts
 pub mod ReadLaws
 pub mod Rules
 pub mod StampLemmas
+pub mod SealerFacts

@@ -1,9 +1,9 @@
 -- What a process's commits sealed.
-use Rattle.std.specs.Prelude.{ℕ, suc, ◌+◌, Bool, true, false, ◌&&◌, not, nat_lt, nat_le, List, [], ◌∷◌, length, map, Result, Ok, Err, if◌then◌else◌, refl}
+use Rattle.std.specs.Prelude.{ℕ, suc, ◌+◌, Bool, true, false, ◌&&◌, ◌||◌, not, nat_lt, nat_le, List, [], ◌∷◌, length, map, Result, Ok, Err, if◌then◌else◌, refl}
 use Rattle.std.specs.Coded.{Coded, code_by, coded×, coded_list, coded_ℕ, coded_bool}
 use Rattle.std.specs.FinMap as finite
 use Rattle.std.specs.List.{filter, sum_by}
-use Rattle.pmg_value.specs.Process.{coded_proc}
+use Rattle.pmg_value.specs.Process.{coded_proc, is_client, is_host}
 use Rattle.pmg_value.specs.declared.process.Proc.{Proc}
 use Rattle.pmg_value.specs.declared.refusal.Refusal.{Refusal}
 use Rattle.pmg_value.specs.declared.refusal.Refusal.TheVariants as refusals
@@ -47,6 +47,10 @@ coded_sealed =
 abbrev pub fresh : Proc → Sealed
 fresh proc = record { proc = proc; level = 0; ended = false; near = finite.empty; far = finite.empty }
 
+-- a sealer is of a process that commits: a client of a group, or its host
+abbrev pub new_answer : Proc → Result Sealed Refusal
+new_answer proc = if is_client proc || is_host proc then Ok (fresh proc) else Err refusals.BadParam
+
 -- the stamps, once the commit of that number seals these keys and values one after the other
 abbrev pub stamp_all : ℕ → Stamps → List (List ℕ × List ℕ) → Stamps
 stamp_all n stamps [] = stamps
@@ -79,6 +83,10 @@ ended_with z = record {
   near = stamped (suc z.level) term_table z.near;
   far = stamped (suc z.level) term_table z.far;
 }
+
+-- a process ends once
+abbrev pub end_of : Sealed → Sealed
+end_of z = if z.ended then z else ended_with z
 
 -- what a key and its stamp count for: the bytes of key and value, and ten more
 abbrev pub stamp_size : List ℕ × Stamp → ℕ

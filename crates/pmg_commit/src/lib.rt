@@ -4,11 +4,13 @@
 mod laws;
 mod piece;
 mod reading;
+mod sealer;
 mod stamps;
 
 pub use laws::{data_rules, honest_rules, knowledge_rules};
 pub use piece::{MAX_COMMIT, MAX_ENTRIES, MAX_PIECE_SIZE, Piece, PieceEntry};
 pub use reading::best_of;
+pub use sealer::Sealer;
 
 #[cfg(test)]
 mod tests;

@@ -146,14 +146,20 @@ fn are_few(proc: &Proc, entries: &[PieceEntry]) -> bool
         && proc.nspace.as_bytes().len() + 25 + entries_size(entries) <= MAX_PIECE_SIZE
 }
 
+/// Whether the process is one that commits: a client of a group, or its host.
+pub fn commits(proc: &Proc) -> bool
+    ensures { result ≡ (is_client proc.now || is_host proc.now) }
+{
+    proc.is_client() || proc.is_host()
+}
+
 /// Whether a frame can hold the contribution.
 #[tactic(auto, unfolding(crate::specs::Pieces::is_piece))]
 fn can_be_framed(proc: &Proc, from: u64, to: u64, entries: &[PieceEntry]) -> bool
     ensures { result ≡ is_piece (contribution proc.now from to entries.now) }
 {
-    let commits = proc.is_client() || proc.is_host();
     let ranges = from < to && to <= MAX_COMMIT;
-    commits
+    commits(proc)
         && ranges
         && are_few(proc, entries)
         && are_keys_rising(entries)
