@@ -13,4 +13,6 @@ pub use reading::best_of;
 pub use sealer::Sealer;
 
 #[cfg(test)]
+mod sealer_tests;
+#[cfg(test)]
 mod tests;

@@ -99,15 +99,15 @@ impl Sealer {
         if self.ended {
             return Ok(self.level);
         }
-        let number = self.level + 1;
-        let last = last_puts(self.alloc)?;
-        let near = self.near.stamped(self.alloc, number, &last)?;
-        let far = self.far.stamped(self.alloc, number, &last)?;
-        self.level = number;
+        let last = self.level + 1;
+        let puts = last_puts(self.alloc)?;
+        let near = self.near.stamped(self.alloc, last, &puts)?;
+        let far = self.far.stamped(self.alloc, last, &puts)?;
+        self.level = last;
         self.ended = true;
         self.near = near;
         self.far = far;
-        Ok(number)
+        Ok(last)
     }
 
     /// What the commits from+1 to the level sealed for that reach. Refused as BadParam where there is no such commit, or

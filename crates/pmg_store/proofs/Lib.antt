@@ -7,3 +7,4 @@ pub mod OutcomeLemmas
 pub mod ReadTable
 pub mod Telling
 pub mod ToldLemmas
+pub mod HonestPieces

@@ -7,3 +7,4 @@ pub mod Outcomes
 pub mod Pieces
 pub mod Tables
 pub mod Told
+pub mod HonestStores

@@ -1,3 +1,4 @@
+ghost use Rattle.pmg_store.specs.HonestStores.{StoreReadsHonestly, EqualLevelsReadAlike};
 ghost use Rattle.pmg_store.specs.Convergence.{SameInAnyOrder, SameInAnyGrouping, ReadsAlike, PrintsAlike, StreamsPrintAlike, HoldsUnion};
 
 /// Two servers that have taken the same pieces, in any order, in any grouping and with any repeats, hold and
@@ -9,4 +10,11 @@ pub fn pieces_in_any_order()
     ensures prints_alike { PrintsAlike }
     ensures streams_print_alike { StreamsPrintAlike }
     ensures union { HoldsUnion }
+{}
+
+/// Of stores that took pieces which are what a process's own commits sealed: they read what its commit left whose
+/// number is their level of it, so that servers at equal levels of a process read alike of it.
+pub fn honest_stores()
+    ensures store_reads_honestly { StoreReadsHonestly }
+    ensures equal_levels_read_alike { EqualLevelsReadAlike }
 {}

@@ -1,6 +1,7 @@
 //! Stores: what is known of all processes from pieces in any order, and what a stream of frames tells.
 #![tactic(auto)]
 
+mod board;
 mod dump;
 mod failure;
 mod input;
@@ -8,9 +9,10 @@ mod laws;
 mod store;
 mod stream;
 
+pub use board::Board;
 pub use failure::Failure;
 pub use input::{Counted, INPUT_LIMIT, MOST_READS, read_counted, read_input};
-pub use laws::pieces_in_any_order;
+pub use laws::{honest_stores, pieces_in_any_order};
 pub use store::Store;
 pub use stream::{dump_stream, store_of_stream};
 

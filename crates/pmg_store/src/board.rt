@@ -1,0 +1,71 @@
+ghost use Rattle.std.specs.Prelude.{◌≡◌, IfOk, OnOk, OnErr};
+ghost use Rattle.std.specs.FinMap as finite;
+ghost use Rattle.pmg_commit.specs.Data.{absorbed};
+
+use crate::store::Store;
+use pmg_commit::Piece;
+use std::alloc::{AllocError, Global};
+
+/// What a server has: in the near store what the processes of its own node sealed for one another, in the far store
+/// what the processes of all nodes sealed for those on other nodes.
+#[derive(Debug, Drop)]
+pub struct Board {
+    near: Store,
+    far: Store,
+}
+
+impl Board {
+    /// A board that has taken nothing. It keeps the allocator.
+    pub fn new(alloc: Global) -> Board
+        ensures near { result.near ≡ finite.empty }
+        ensures far { result.far ≡ finite.empty }
+    {
+        Board {
+            near: Store::new(alloc),
+            far: Store::new(alloc),
+        }
+    }
+
+    /// The near store, with its levels and reads.
+    pub fn near(&self) -> &Store
+        ensures { result.now ≡ self.now.near }
+    {
+        &self.near
+    }
+
+    /// The far store, with its levels and reads.
+    pub fn far(&self) -> &Store
+        ensures { result.now ≡ self.now.far }
+    {
+        &self.far
+    }
+
+    /// Takes the piece into the near store.
+    pub fn absorb_near(&mut self, piece: &Piece) -> Result<(), AllocError>
+        ensures near { OnOk result (self.new.near ≡ absorbed self.old.near piece.now) }
+        ensures far { self.new.far ≡ self.old.far }
+        ensures err { OnErr result (self.new.near ≡ self.old.near) }
+    {
+        self.near.absorb(piece)
+    }
+
+    /// Takes the piece into the far store.
+    pub fn absorb_far(&mut self, piece: &Piece) -> Result<(), AllocError>
+        ensures far { OnOk result (self.new.far ≡ absorbed self.old.far piece.now) }
+        ensures near { self.new.near ≡ self.old.near }
+        ensures err { OnErr result (self.new.far ≡ self.old.far) }
+    {
+        self.far.absorb(piece)
+    }
+
+    /// Another board of the same meaning.
+    pub fn copy(&self) -> Result<Board, AllocError>
+        ensures near { IfOk result (λ b. b.near ≡ self.now.near) }
+        ensures far { IfOk result (λ b. b.far ≡ self.now.far) }
+    {
+        Ok(Board {
+            near: self.near.copy()?,
+            far: self.far.copy()?,
+        })
+    }
+}
