@@ -81,10 +81,10 @@ capped cs c j i lt le =
 
 -- ---- reading
 
-not_none : {a : List ℕ} → None ≡ Some a → ⊥
+pub not_none : {A : Type 0} {a : A} → None ≡ Some a → ⊥
 not_none e = cc
 
-some_is : {a b : List ℕ} → Some a ≡ Some b → a ≡ b
+pub some_is : {A : Type 0} {a b : A} → Some a ≡ Some b → a ≡ b
 some_is e = cc
 
 module _ (s : Script) (r : Reach) (cs : List Contribution) (honest : Each (IsHonest s r) cs) where
@@ -141,7 +141,7 @@ pub equal_levels_read_alike : EqualLevelsReadAlike
 equal_levels_read_alike s r cs ds a b same key =
     honest_reading s r cs a key ∙ ap (λ (n : ℕ). value_at s n r key) same ∙ sym (honest_reading s r ds b key)
 
-sealed_still_last : (s t : Script) (r : Reach) (k : List ℕ) (n j : ℕ) (bytes : List ℕ) → n ≤ commits s → IsSealed s r k n j bytes → IsSealed (s ++ t) r k n j bytes
+pub sealed_still_last : (s t : Script) (r : Reach) (k : List ℕ) (n j : ℕ) (bytes : List ℕ) → n ≤ commits s → IsSealed s r k n j bytes → IsSealed (s ++ t) r k n j bytes
 sealed_still_last s t r k n j bytes le h = record {
   some = h.some;
   within = h.within;
@@ -149,7 +149,7 @@ sealed_still_last s t r k n j bytes le h = record {
   last = λ i lt few. ap (last_put r k) (part_still s t i (omega (arith, le, few))) ∙ h.last i lt few;
 }
 
-sealed_before_last : (s t : Script) (r : Reach) (k : List ℕ) (n j : ℕ) (bytes : List ℕ) → n ≤ commits s → IsSealed (s ++ t) r k n j bytes → IsSealed s r k n j bytes
+pub sealed_before_last : (s t : Script) (r : Reach) (k : List ℕ) (n j : ℕ) (bytes : List ℕ) → n ≤ commits s → IsSealed (s ++ t) r k n j bytes → IsSealed s r k n j bytes
 sealed_before_last s t r k n j bytes le h = record {
   some = h.some;
   within = h.within;

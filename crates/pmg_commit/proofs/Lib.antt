@@ -3,5 +3,6 @@ pub mod Joining
 pub mod PieceFacts
 pub mod ReadLaws
 pub mod Rules
-pub mod StampLemmas
 pub mod SealerFacts
+pub mod SealerLaws
+pub mod StampLemmas

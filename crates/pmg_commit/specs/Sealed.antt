@@ -27,7 +27,7 @@ Stamps = KeyMap Stamp
 abbrev pub coded_stamps : Coded Stamps
 coded_stamps =
     finite.code (coded_list coded_ℕ)
-      (code_by (ℕ × List ℕ) (coded× coded_ℕ (coded_list coded_ℕ)) (λ s. (s.number, s.bytes)) (λ p. record { number = p.0; bytes = p.1 }) (λ _. refl))
+    (code_by (ℕ × List ℕ) (coded× coded_ℕ (coded_list coded_ℕ)) (λ s. (s.number, s.bytes)) (λ p. record { number = p.0; bytes = p.1 }) (λ _. refl))
 
 -- A process, how many commits it made, whether it has ended, and what they sealed last under each key: for the other
 -- processes on its node, and for those on other nodes (PMIx Standard 5.0, PMIx_Commit; the numbers are this project's).
@@ -41,7 +41,7 @@ pub record Sealed : Type 0 where
 abbrev pub coded_sealed : Coded Sealed
 coded_sealed =
     code_by (Proc × (ℕ × (Bool × (Stamps × Stamps)))) (coded× coded_proc (coded× coded_ℕ (coded× coded_bool (coded× coded_stamps coded_stamps))))
-      (λ z. (z.proc, (z.level, (z.ended, (z.near, z.far))))) (λ p. record { proc = p.0; level = p.1.0; ended = p.1.1.0; near = p.1.1.1.0; far = p.1.1.1.1 }) (λ _. refl)
+    (λ z. (z.proc, (z.level, (z.ended, (z.near, z.far))))) (λ p. record { proc = p.0; level = p.1.0; ended = p.1.1.0; near = p.1.1.1.0; far = p.1.1.1.1 }) (λ _. refl)
 
 -- a process that made no commit
 abbrev pub fresh : Proc → Sealed

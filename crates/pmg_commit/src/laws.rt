@@ -17,6 +17,16 @@ ghost use Rattle.pmg_commit.specs.Rules.{
   KnownTogether,
   KnownOfOne,
 };
+ghost use Rattle.pmg_commit.specs.SealerRules.{
+  BatchFits,
+  NewSealerFits,
+  SealFits,
+  EndFits,
+  PutSealsNothing,
+  EnterSealsNothing,
+  PiecesAreHonest,
+  SealerIsOne,
+};
 
 /// The rules of knowledge of one process: what its level and its reads are, and that its core stands for
 /// it now and after all that may still be learned.
@@ -53,4 +63,17 @@ pub fn honest_rules()
     ensures equal_levels_read_alike { EqualLevelsReadAlike }
     ensures honest_stays { HonestStays }
     ensures honest_is_one { HonestIsOne }
+{}
+
+/// The rules of a sealer: it fits the script of its calls, commit by commit and through the end, by what a cache
+/// that fits has for the others; its pieces are honest; and a process and its script have one sealer.
+pub fn sealer_rules()
+    ensures batch_fits { BatchFits }
+    ensures new_fits { NewSealerFits }
+    ensures seal_fits { SealFits }
+    ensures end_fits { EndFits }
+    ensures put_seals_nothing { PutSealsNothing }
+    ensures enter_seals_nothing { EnterSealsNothing }
+    ensures pieces_are_honest { PiecesAreHonest }
+    ensures sealer_is_one { SealerIsOne }
 {}

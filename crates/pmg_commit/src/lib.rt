@@ -7,7 +7,7 @@ mod reading;
 mod sealer;
 mod stamps;
 
-pub use laws::{data_rules, honest_rules, knowledge_rules};
+pub use laws::{data_rules, honest_rules, knowledge_rules, sealer_rules};
 pub use piece::{MAX_COMMIT, MAX_ENTRIES, MAX_PIECE_SIZE, Piece, PieceEntry};
 pub use reading::best_of;
 pub use sealer::Sealer;

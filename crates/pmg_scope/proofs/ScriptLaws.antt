@@ -46,7 +46,7 @@ count_more (Call.commit ∷ cs) t = omega (arith, count_more cs t)
 count_more (Call.enter f ∷ cs) t = count_more cs t
 count_more (Call.terminate ∷ cs) t = count_more cs t
 
-count_kept : (b : Bool) (scope : _) (key value : List ℕ) (cs : Script) → count_commits (cond b (Call.put scope key value ∷ cs) cs) ≡ count_commits cs
+pub count_kept : (b : Bool) (scope : _) (key value : List ℕ) (cs : Script) → count_commits (cond b (Call.put scope key value ∷ cs) cs) ≡ count_commits cs
 count_kept true scope key value cs = refl
 count_kept false scope key value cs = refl
 
