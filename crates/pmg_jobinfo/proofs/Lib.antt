@@ -1,0 +1,7 @@
+pub mod HomeLemmas
+pub mod MemberLemmas
+pub mod NameLemmas
+pub mod PeerLemmas
+pub mod RuleLemmas
+pub mod SearchLemmas
+pub mod TableLemmas

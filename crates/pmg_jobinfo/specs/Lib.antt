@@ -1,0 +1,5 @@
+pub mod Expansion
+pub mod Jobs
+pub mod Refusing
+pub mod Reserved
+pub mod Rules

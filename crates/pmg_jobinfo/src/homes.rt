@@ -1,0 +1,147 @@
+//! The homes of a namespace's ranks.
+ghost use Rattle.std.specs.Prelude.{◌≡◌, ◌==◌, ◌≤◌, ◌++◌, length, codes, decimal, map, IfOk, OnOk};
+ghost use Rattle.std.specs.List.{join_by, list_any};
+ghost use Rattle.pmg_jobinfo.specs.Reserved.{count_at, count_hosts, ranks_at, peers_text};
+
+use pmg_value::{NodeId, Text, put_number};
+use std::alloc::{AllocError, Global};
+use std::marker::Model;
+
+/// The home of each rank 0, 1, ..
+#[derive(Debug, Drop)]
+pub struct Homes {
+    nodes: Vec<NodeId>,
+}
+
+impl Model for Homes {
+    ghost use Rattle.std.specs.Prelude.{ℕ, List};
+
+    ghost Value = { List ℕ };
+
+    ghost view = { λ a. a.nodes.items };
+}
+
+impl Homes {
+    /// These homes.
+    pub fn new(alloc: Global, homes: &[NodeId]) -> Result<Homes, AllocError>
+        ensures { IfOk result (λ h. h ≡ homes.now) }
+    {
+        let mut nodes = Vec::with_capacity(alloc, homes.len())?;
+        nodes.extend_from_slice(homes)?;
+        Ok(Homes { nodes })
+    }
+
+    /// The homes.
+    pub fn as_slice(&self) -> &[NodeId]
+        ensures { result.now ≡ self.now }
+    {
+        self.nodes.as_slice()
+    }
+
+    /// The same homes, with the same allocator.
+    pub fn copy(&self) -> Result<Homes, AllocError>
+        ensures { IfOk result (λ h. h ≡ self.now) }
+    {
+        Homes::new(*self.nodes.allocator(), &self.nodes)
+    }
+}
+
+/// How many of the homes are at the node.
+pub fn count_at(homes: &[NodeId], node: NodeId) -> usize
+    ensures value { result ≡ count_at node homes.now }
+    ensures bound { result ≤ length homes.now }
+{
+    let mut count = 0;
+    for home in homes {
+        if *home == node {
+            count += 1;
+        }
+    }
+    count
+}
+
+/// Whether the node is the home of a rank.
+fn is_host(homes: &[NodeId], node: usize) -> bool
+    ensures { result ≡ list_any (λ home. home == node) homes.now }
+{
+    for home in homes {
+        if home.index() as usize == node {
+            return true;
+        }
+    }
+    false
+}
+
+/// How many of so many nodes are the home of a rank.
+#[tactic(auto, using(crate::proofs::HomeLemmas::node_counted, crate::proofs::HomeLemmas::node_passed))]
+pub fn count_hosts(homes: &[NodeId], nodes: usize) -> usize
+    requires { nodes ≤ 64 }
+    ensures value { result ≡ count_hosts nodes homes.now }
+    ensures bound { result ≤ nodes }
+{
+    let mut count = 0;
+    for node in 0..nodes {
+        if is_host(homes, node) {
+            count += 1;
+        }
+    }
+    count
+}
+
+/// The ranks at home at the node, rising.
+#[tactic(auto, using(crate::proofs::HomeLemmas::rank_taken, crate::proofs::HomeLemmas::rank_left))]
+fn ranks_at(alloc: Global, homes: &[NodeId], node: NodeId) -> Result<Vec<u32>, AllocError>
+    requires { length homes.now ≤ 4096 }
+    ensures { IfOk result (λ ranks. ranks.items ≡ ranks_at node homes.now) }
+{
+    let mut ranks = Vec::new(alloc);
+    for rank in 0..homes.len() {
+        if homes[rank] == node {
+            ranks.push(rank as u32)?;
+        }
+    }
+    Ok(ranks)
+}
+
+/// The number in decimal, behind the text.
+fn push_number(text: &mut Vec<u8>, number: u32) -> Result<(), AllocError>
+    ensures { OnOk result (text.new.items ≡ text.old.items ++ decimal number) }
+{
+    match put_number(text, u64::from(number)) {
+        Ok(()) => Ok(()),
+        Err(_) => Err(AllocError),
+    }
+}
+
+/// A comma and the number in decimal, behind the text.
+fn push_next(text: &mut Vec<u8>, number: u32) -> Result<(), AllocError>
+    ensures { OnOk result (text.new.items ≡ text.old.items ++ (codes "," ++ decimal number)) }
+{
+    text.extend_from_slice(b",")?;
+    push_number(text, number)
+}
+
+/// The ranks in decimal, with commas between them.
+fn joined(alloc: Global, ranks: &[u32]) -> Result<Vec<u8>, AllocError>
+    ensures { IfOk result (λ text. text.items ≡ join_by decimal (codes ",") ranks.now) }
+{
+    let mut text = Vec::new(alloc);
+    let Some((first, others)) = ranks.split_first() else {
+        return Ok(text);
+    };
+    push_number(&mut text, *first)?;
+    for rank in others {
+        push_next(&mut text, *rank)?;
+    }
+    Ok(text)
+}
+
+/// The ranks at home at the node, rising, in decimal, with commas between them.
+pub fn peers_at(alloc: Global, homes: &[NodeId], node: NodeId) -> Result<Text, AllocError>
+    requires { length homes.now ≤ 4096 }
+    ensures { IfOk result (λ text. text ≡ peers_text node homes.now) }
+{
+    let ranks = ranks_at(alloc, homes, node)?;
+    let text = joined(alloc, &ranks)?;
+    Text::from_text(alloc, &text)
+}

@@ -1,0 +1,69 @@
+//! The names of nodes.
+ghost use Rattle.std.specs.Prelude.{◌≡◌, map, IfOk, IsTrue};
+ghost use Rattle.std.specs.List.{list_all};
+ghost use Rattle.std.specs.Ordering.{nat_cmp, eq_by_cmp};
+ghost use Rattle.std.specs.Cmp.Lexicographic.{slice_cmp};
+ghost use Rattle.std.specs.BTreeSet.{IsFromIterResult};
+ghost use Rattle.pmg_value.specs.Names.{is_nspace};
+ghost use Rattle.pmg_jobinfo.specs.Refusing.{are_distinct, are_names};
+
+use pmg_value::{Text, is_nspace_name};
+use std::alloc::{AllocError, Global};
+use std::collections::BTreeSet;
+
+/// Whether each is a name that a node may have: 1 to 255 bytes of 0x21 to 0x7E.
+fn are_graphic(names: &[&[u8]]) -> bool
+    ensures { result ≡ list_all is_nspace (map (λ n. n.now) names.now) }
+{
+    for name in names {
+        if !is_nspace_name(name) {
+            return false;
+        }
+    }
+    true
+}
+
+/// The set of the names.
+fn set_of<'a>(alloc: Global, names: &[&'a [u8]]) -> Result<BTreeSet<&'a [u8]>, AllocError>
+    ensures { IfOk result (IsFromIterResult (λ x y. slice_cmp nat_cmp x.now y.now) names.now) }
+{
+    names.iter().copied().collect(alloc)
+}
+
+/// Whether no two are equal.
+fn are_distinct(alloc: Global, names: &[&[u8]]) -> Result<bool, AllocError>
+    ensures { IfOk result (λ b. b ≡ are_distinct (map (λ n. n.now) names.now)) }
+{
+    let different = set_of(alloc, names)?;
+    Ok(different.len() == names.len())
+}
+
+/// Whether nodes may have these names: each is one, and no two are equal.
+pub fn are_node_names(alloc: Global, names: &[&[u8]]) -> Result<bool, AllocError>
+    ensures { IfOk result (λ b. b ≡ are_names (map (λ n. n.now) names.now)) }
+{
+    Ok(are_graphic(names) && are_distinct(alloc, names)?)
+}
+
+/// The names, as texts.
+pub fn texts_of(alloc: Global, names: &[&[u8]]) -> Result<Vec<Text>, AllocError>
+    requires { IsTrue (list_all is_nspace (map (λ n. n.now) names.now)) }
+    ensures { IfOk result (λ texts. texts.items ≡ map (λ n. n.now) names.now) }
+{
+    let mut texts = Vec::with_capacity(alloc, names.len())?;
+    for name in names {
+        texts.push(Text::from_text(alloc, name)?)?;
+    }
+    Ok(texts)
+}
+
+/// Other texts of the same meaning, with the same allocator.
+pub fn copy_texts(texts: &Vec<Text>) -> Result<Vec<Text>, AllocError>
+    ensures { IfOk result (λ copies. copies.items ≡ texts.now.items) }
+{
+    let mut copies = Vec::with_capacity(*texts.allocator(), texts.len())?;
+    for text in texts {
+        copies.push(text.copy()?)?;
+    }
+    Ok(copies)
+}

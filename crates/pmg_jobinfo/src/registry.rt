@@ -1,0 +1,211 @@
+//! The registered namespaces and the homes of their processes.
+ghost use Rattle.std.specs.Prelude.{◌≡◌, ◌<◌, ◌≤◌, [], map, length, slice_index_or, Some, IfOk, OnOk, OnErr, IfSome};
+ghost use Rattle.std.specs.List.{list_all};
+ghost use Rattle.std.specs.Ordering.{nat_cmp};
+ghost use Rattle.std.specs.Cmp.Lexicographic.{slice_cmp};
+ghost use Rattle.std.specs.FinMap as finite;
+ghost use Rattle.std.specs.Option.{option_map};
+ghost use Rattle.pmg_value.specs.Answers.{Gives};
+ghost use Rattle.pmg_value.specs.CheckOrder.{first_of};
+ghost use Rattle.pmg_jobinfo.specs.Jobs.{AreJobs, IsSpace, opened, registered, size_of, home_of, is_node};
+ghost use Rattle.pmg_jobinfo.specs.Refusing.{new_cause, register_cause, size_cause, home_cause};
+
+use crate::homes::Homes;
+use crate::names::{are_node_names, copy_texts, texts_of};
+use pmg_value::{NodeId, Nspace, Proc, Refusal, Text};
+use std::alloc::{AllocError, Global};
+use std::collections::BTreeMap;
+use std::marker::Model;
+
+/// The most nodes of a group.
+pub const MAX_NODES: usize = 64;
+
+/// The most namespaces of a group.
+pub const MAX_SPACES: usize = 16;
+
+/// The most ranks of a namespace.
+pub const MAX_RANKS: usize = 4_096;
+
+/// The nodes of a group, the namespaces that are registered with it, and the home of each of their processes
+/// (PMIx Standard 5.0, PMIx_server_register_nspace). A look-up takes about the logarithm of the number of
+/// namespaces, whatever the rank.
+#[derive(Debug, Drop)]
+pub struct Registry {
+    nodes: Vec<Text>,
+    spaces: BTreeMap<Nspace, Homes>,
+}
+
+impl Model for Registry {
+    ghost use Rattle.std.specs.FinMap as finite;
+    ghost use Rattle.pmg_jobinfo.specs.Jobs.{Jobs, coded_jobs, AreJobs, jobs_of};
+
+    ghost Value = { Jobs };
+
+    ghost coded = { coded_jobs };
+
+    ghost view = { λ a. jobs_of a.nodes.items a.spaces.entries };
+
+    ghost invariant = { λ a. AreJobs (jobs_of a.nodes.items a.spaces.entries) };
+}
+
+impl Registry {
+    /// A registry of a group with nodes of these names, by index from 0. It keeps the allocator. Refused as
+    /// BadParam where there is no name, one is not 1 to 255 bytes of 0x21 to 0x7E, or two are equal; as TooMany
+    /// past 64; and as NoMemory.
+    pub fn new(alloc: Global, names: &[&[u8]]) -> Result<Registry, Refusal>
+        ensures { Gives (λ r. r) result (first_of (new_cause (map (λ n. n.now) names.now)) (opened (map (λ n. n.now) names.now))) }
+    {
+        if names.is_empty() || !are_node_names(alloc, names)? {
+            return Err(Refusal::BadParam);
+        }
+        if names.len() > MAX_NODES {
+            return Err(Refusal::TooMany);
+        }
+        Ok(Registry {
+            nodes: texts_of(alloc, names)?,
+            spaces: BTreeMap::new(alloc),
+        })
+    }
+
+    /// The homes of the namespace's ranks, if it is registered.
+    pub fn homes(&self, nspace: &Nspace) -> Option<&[NodeId]>
+        ensures value { option_map (λ h. h.now) result ≡ finite.get self.now.spaces nspace.now }
+        ensures space { IfSome result (λ h. IsSpace (length self.now.nodes) nspace.now h.now) }
+    {
+        match self.spaces.get(nspace) {
+            Some(homes) => Some(homes.as_slice()),
+            None => None,
+        }
+    }
+
+    /// How many nodes the group has: 1 to 64.
+    pub fn node_count(&self) -> usize
+        ensures value { result ≡ length self.now.nodes }
+        ensures jobs { AreJobs self.now }
+    {
+        self.nodes.len()
+    }
+
+    /// Whether the group has the node.
+    pub fn has_node(&self, node: NodeId) -> bool
+        ensures { result ≡ is_node self.now node }
+    {
+        (node.index() as usize) < self.node_count()
+    }
+
+    /// The name of a node.
+    pub fn node_name(&self, node: NodeId) -> &Text
+        requires { node < length self.now.nodes }
+        ensures { result.now ≡ slice_index_or self.now.nodes node [] }
+    {
+        &self.nodes[node.index() as usize]
+    }
+
+    /// The allocator that the registry keeps.
+    pub(crate) fn allocator(&self) -> Global {
+        *self.nodes.allocator()
+    }
+
+    /// Registers the namespace, with the homes of its ranks 0, 1, .. Refused as BadParam where its name begins with
+    /// `pmix`, where it has no rank, and where a home is no node of the group; as Exists where the name is
+    /// registered; as TooMany past 4,096 ranks or 16 namespaces; and as NoMemory.
+    pub fn register(&mut self, nspace: Nspace, homes: &[NodeId]) -> Result<(), Refusal>
+        ensures value { Gives (λ u. u) result (first_of (register_cause self.old nspace homes.now) tt) }
+        ensures ok { OnOk result (self.new ≡ registered self.old nspace homes.now) }
+        ensures err { OnErr result (self.new ≡ self.old) }
+    {
+        self.check_space(&nspace, homes)?;
+        let homes = Homes::new(*self.nodes.allocator(), homes)?;
+        self.spaces.insert(nspace, homes)?;
+        Ok(())
+    }
+
+    /// Whether the namespace can be registered with these homes.
+    fn check_space(&self, nspace: &Nspace, homes: &[NodeId]) -> Result<(), Refusal>
+        ensures value { result ≡ first_of (register_cause self.now nspace.now homes.now) tt }
+        ensures space { OnOk result (IsSpace (length self.now.nodes) nspace.now homes.now) }
+    {
+        if nspace.is_reserved() || homes.is_empty() || !self.are_nodes(homes) {
+            return Err(Refusal::BadParam);
+        }
+        if self.homes(nspace).is_some() {
+            return Err(Refusal::Exists);
+        }
+        if homes.len() > MAX_RANKS || self.space_count() >= MAX_SPACES {
+            return Err(Refusal::TooMany);
+        }
+        Ok(())
+    }
+
+    /// Whether each is a node of the group.
+    fn are_nodes(&self, homes: &[NodeId]) -> bool
+        ensures { result ≡ list_all (is_node self.now) homes.now }
+    {
+        for home in homes {
+            if !self.has_node(*home) {
+                return false;
+            }
+        }
+        true
+    }
+
+    /// How many namespaces are registered.
+    fn space_count(&self) -> usize
+        ensures { result ≡ finite.len self.now.spaces }
+    {
+        self.spaces.len()
+    }
+
+    /// How many processes the namespace has. Refused as UnknownNamespace where it is not registered.
+    pub fn size(&self, nspace: &Nspace) -> Result<u32, Refusal>
+        ensures { result ≡ first_of (size_cause self.now nspace.now) (size_of self.now nspace.now) }
+    {
+        match self.homes(nspace) {
+            Some(homes) => Ok(homes.len() as u32),
+            None => Err(Refusal::UnknownNamespace),
+        }
+    }
+
+    /// The process's home. That of `pmix.host 0` is node 0. Refused as BadParam where the rank is not one of the
+    /// namespace, and as UnknownNamespace where that is not registered.
+    pub fn home(&self, proc: &Proc) -> Result<NodeId, Refusal>
+        ensures value { result ≡ first_of (home_cause self.now proc.now) (home_of self.now proc.now) }
+        ensures bound { IfOk result (λ node. node < length self.now.nodes) }
+    {
+        let _nodes = &self.nodes;
+        let Some(homes) = self.homes(&proc.nspace) else {
+            if proc.is_host() {
+                return NodeId::new(0);
+            }
+            return Err(Refusal::UnknownNamespace);
+        };
+        match homes.get(proc.rank.number() as usize) {
+            Some(home) => Ok(*home),
+            None => Err(Refusal::BadParam),
+        }
+    }
+
+    /// Another registry of the same nodes and namespaces, with the same allocator.
+    pub fn copy(&self) -> Result<Registry, AllocError>
+        ensures { IfOk result (λ r. r ≡ self.now) }
+    {
+        Ok(Registry {
+            nodes: copy_texts(&self.nodes)?,
+            spaces: copy_spaces(*self.nodes.allocator(), &self.spaces)?,
+        })
+    }
+}
+
+/// A table of the same namespaces and homes.
+fn copy_spaces(
+    alloc: Global,
+    spaces: &BTreeMap<Nspace, Homes>,
+) -> Result<BTreeMap<Nspace, Homes>, AllocError>
+    ensures { IfOk result (λ copies. finite.from_entries {R = slice_cmp nat_cmp} copies.entries ≡ finite.from_entries spaces.now.entries) }
+{
+    let mut copies = BTreeMap::new(alloc);
+    for (name, homes) in spaces.iter() {
+        copies.insert(name.copy()?, homes.copy()?)?;
+    }
+    Ok(copies)
+}
