@@ -1,5 +1,6 @@
 pub mod Answers
 pub mod Blobs
+pub mod CheckOrder
 pub mod Elements
 pub mod Hex
 pub mod Lists
