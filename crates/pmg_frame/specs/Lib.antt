@@ -1,3 +1,4 @@
+pub mod Fences
 pub mod Frames
 pub mod Grammar
 pub mod Reading
@@ -6,3 +7,4 @@ pub mod Streams
 pub use Rattle.pmg_commit.specs.Entries
 pub use Rattle.pmg_commit.specs.Knowledge
 pub use Rattle.pmg_wire.specs.Reading as Places
+pub use Rattle.pmg_value.specs.Signatures

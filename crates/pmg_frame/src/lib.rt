@@ -1,14 +1,24 @@
 //! Frames: what servers send one another, and streams of them.
 #![tactic(auto)]
 
+mod asks;
+mod fence_name;
 mod frame;
+mod header;
 mod laws;
+mod local;
 mod reading;
+mod signature;
 mod stream;
 
+pub use asks::{DirectAsk, FenceAsk, RangeAsk};
+pub use fence_name::{FenceName, MAX_INSTANCE};
 pub use frame::{Frame, HEAD_SIZE, MAX_BODY_SIZE};
+pub use header::Header;
 pub use laws::{frame_rules, stream_rules};
+pub use local::{Local, State};
 pub use reading::get_frame;
+pub use signature::{MAX_PARTICIPANTS, Signature};
 pub use stream::{Fed, Stream};
 
 #[cfg(test)]

@@ -17,7 +17,7 @@ use Rattle.pmg_wire.specs.Reading.{Place, Read, fault, byte_at, number_at, IsByt
 use Rattle.pmg_wire.proofs.BlobLaws.{short_counted, text_if, text_again, blob_if, blob_again, any_proc_if, any_proc_again}
 use Rattle.pmg_wire.proofs.Steps.{place, IfRead, bind_if, check_if, done_if, choice_if, IsWide, wide16, wide32, wide64, number_if, number_again, byte_if, byte_again}
 
-flag_if : (at : Place) → IfRead (flag_at at) (λ b after. Takes at (cond b 1 0 ∷ []) after)
+pub flag_if : (at : Place) → IfRead (flag_at at) (λ b after. Takes at (cond b 1 0 ∷ []) after)
 unfolding flag_at
 flag_if at = bind_if _ (byte_if at) (λ n after t.
     check_if (nat_lt n 2) (fault at.offset causes.Bool) (λ _. Ok (n == 1, after)) (λ small.
@@ -107,7 +107,7 @@ plain_if tag at fits =
 
 -- ---- and again
 
-flag_again : (o : ℕ) (b : Bool) (rest : List ℕ) → flag_at (place o (cond b 1 0 ∷ rest)) ≡ Ok (b, place (o + 1) rest)
+pub flag_again : (o : ℕ) (b : Bool) (rest : List ℕ) → flag_at (place o (cond b 1 0 ∷ rest)) ≡ Ok (b, place (o + 1) rest)
 unfolding flag_at
 flag_again o true rest = rw (byte_again o 1 rest) refl
 flag_again o false rest = rw (byte_again o 0 rest) refl

@@ -1,0 +1,11 @@
+use Rattle.std.proofs.Common.{sym, ◌∙◌, ap}
+use Rattle.pmg_value.proofs.ProcessOrder.{procs_total, exact_procs}
+use Rattle.pmg_value.specs.Signatures.{Signature}
+use Rattle.pmg_frame.specs.Fences.{in_order}
+use Rattle.pmg_frame.proofs.Rising.{in_order-from_list}
+use Rattle.pmg_frame.proofs.signature.Signature.participants.Goals as goal
+
+pub returns-clause-value : goal.returns-clause-value
+returns-clause-value c =
+    c.deref.ensures.value ∙ sym (in_order-from_list procs_total exact_procs c.self.inside.participants.items c.self.invariant.rising)
+    ∙ ap (λ (s : Signature). in_order s.participants) c.self.view_is

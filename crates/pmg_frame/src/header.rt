@@ -1,0 +1,140 @@
+ghost use Rattle.std.specs.Prelude.{◌≡◌, IsTrue, IfOk, Ok, Err, if◌then◌else◌};
+ghost use Rattle.std.specs.List.{list_all};
+ghost use Rattle.pmg_value.specs.Lists.{is_chain};
+ghost use Rattle.pmg_value.specs.declared.refusal.Refusal.TheVariants as refusals;
+ghost use Rattle.pmg_frame.specs.Fences.{header, is_local_rising, is_listed, is_header};
+
+use crate::fence_name::FenceName;
+use crate::local::Local;
+use pmg_commit::MAX_COMMIT;
+use pmg_value::{NodeId, Refusal};
+use std::alloc::AllocError;
+use std::marker::Model;
+
+/// A fence header: what a node tells of each of its own participants in a fence (PMIx Standard 5.0,
+/// PMIx_Fence). It fits into a frame.
+#[derive(Debug, Drop)]
+pub struct Header {
+    node: NodeId,
+    name: FenceName,
+    locals: Vec<Local>,
+}
+
+impl Model for Header {
+    ghost use Rattle.pmg_frame.specs.Fences as fences;
+
+    ghost Value = { fences.Header };
+
+    ghost coded = { fences.coded_header };
+
+    ghost use Rattle.std.specs.Prelude.{IsTrue};
+
+    ghost view = { λ a. fences.header a.node a.name a.locals.items };
+
+    ghost invariant = { λ a. IsTrue (fences.is_header (fences.header a.node a.name a.locals.items)) };
+}
+
+/// Whether the next one is a greater process.
+fn is_before(local: &Local, next: &Local) -> bool
+    ensures { result ≡ is_local_rising local.now next.now }
+{
+    local.proc < next.proc
+}
+
+/// Whether the processes rise strictly.
+fn are_rising(locals: &[Local]) -> bool
+    ensures { result ≡ is_chain is_local_rising locals.now }
+{
+    for i in 1..locals.len() {
+        if !is_before(&locals[i - 1], &locals[i]) {
+            return false;
+        }
+    }
+    true
+}
+
+/// Whether the process is a participant, and the level one that a frame can hold.
+fn is_one_of(name: &FenceName, local: &Local) -> bool
+    ensures { result ≡ is_listed name.now local.now }
+{
+    name.signature().contains(&local.proc) && local.level <= MAX_COMMIT
+}
+
+/// Whether each process is a participant, and each level one that a frame can hold.
+fn are_listed(name: &FenceName, locals: &[Local]) -> bool
+    ensures { result ≡ list_all (is_listed name.now) locals.now }
+{
+    for local in locals {
+        if !is_one_of(name, local) {
+            return false;
+        }
+    }
+    true
+}
+
+/// Whether a frame can hold the header.
+#[tactic(auto, unfolding(crate::specs::Fences::is_header))]
+fn can_be_framed(node: NodeId, name: &FenceName, locals: &[Local]) -> bool
+    ensures { result ≡ is_header (header node name.now locals.now) }
+{
+    let some = 0 < locals.len() && locals.len() <= name.signature().participants().len();
+    some && are_rising(locals) && are_listed(name, locals)
+}
+
+impl Header {
+    /// The header of that node for that fence. Refused as BadParam where no frame can hold it: where it lists
+    /// no process or more than there are participants, the processes do not rise strictly, one is no
+    /// participant, or a level goes past 4294967295.
+    pub fn new(node: NodeId, name: FenceName, locals: Vec<Local>) -> Result<Header, Refusal>
+        ensures { result ≡ (if is_header (header node name locals.items) then Ok (header node name locals.items) else Err refusals.BadParam) }
+    {
+        if !can_be_framed(node, &name, &locals) {
+            return Err(Refusal::BadParam);
+        }
+        Ok(Header { node, name, locals })
+    }
+
+    /// The node that tells.
+    pub fn node(&self) -> NodeId
+        ensures { result ≡ self.now.node }
+    {
+        self.node
+    }
+
+    /// The fence's name.
+    pub fn name(&self) -> &FenceName
+        ensures { result.now ≡ self.now.name }
+    {
+        &self.name
+    }
+
+    /// What it tells of each of its participants, in their order.
+    pub fn locals(&self) -> &[Local]
+        ensures value { result.now ≡ self.now.locals }
+        ensures header { IsTrue (is_header self.now) }
+    {
+        &self.locals
+    }
+
+    /// Another header of the same meaning.
+    pub fn copy(&self) -> Result<Header, AllocError>
+        ensures { IfOk result (λ h. h ≡ self.now) }
+    {
+        Ok(Header {
+            node: self.node,
+            name: self.name.copy()?,
+            locals: copy_locals(&self.locals)?,
+        })
+    }
+}
+
+/// Other ones of the same meaning, with the same allocator.
+fn copy_locals(locals: &Vec<Local>) -> Result<Vec<Local>, AllocError>
+    ensures { IfOk result (λ ls. ls.items ≡ locals.now.items) }
+{
+    let mut copies = Vec::with_capacity(*locals.allocator(), locals.len())?;
+    for local in locals {
+        copies.push(local.copy()?)?;
+    }
+    Ok(copies)
+}

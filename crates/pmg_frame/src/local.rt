@@ -1,0 +1,33 @@
+ghost use Rattle.std.specs.Prelude.{◌≡◌, IfOk};
+
+use pmg_value::Proc;
+use std::alloc::AllocError;
+
+/// How a participant stands to a fence: it has entered it, or it terminated before it did.
+#[derive(Clone, Copy, Debug, PartialEq, Eq)]
+pub enum State {
+    Entered,
+    Gone,
+}
+
+/// What a header tells of one of its node's own participants: how it stands to the fence, and its level at the
+/// entry, or at its termination.
+#[derive(Debug, Drop)]
+pub struct Local {
+    pub proc: Proc,
+    pub state: State,
+    pub level: u64,
+}
+
+impl Local {
+    /// Another one of the same meaning.
+    pub fn copy(&self) -> Result<Local, AllocError>
+        ensures { IfOk result (λ l. l ≡ self.now) }
+    {
+        Ok(Local {
+            proc: self.proc.copy()?,
+            state: self.state,
+            level: self.level,
+        })
+    }
+}

@@ -1,0 +1,114 @@
+ghost use Rattle.std.specs.Prelude.{◌≡◌, ◌≤◌, length, IsTrue, IfOk};
+ghost use Rattle.std.specs.FinSet as set;
+ghost use Rattle.std.specs.List.{list_all};
+ghost use Rattle.pmg_value.specs.Process.{is_client};
+ghost use Rattle.pmg_frame.specs.Fences.{in_order, asked_signature};
+
+use pmg_value::{Proc, Refusal};
+use std::alloc::AllocError;
+use std::marker::Model;
+
+/// The most participants of a fence.
+pub const MAX_PARTICIPANTS: usize = 4096;
+
+/// The processes that meet in a fence, each once, and whether the fence collects data (PMIx Standard 5.0,
+/// PMIx_Fence, PMIX_COLLECT_DATA).
+#[derive(Debug, Drop)]
+pub struct Signature {
+    participants: Vec<Proc>,
+    collect: bool,
+}
+
+impl Model for Signature {
+    ghost use Rattle.pmg_value.specs.Signatures as fences;
+
+    ghost Value = { fences.Signature };
+
+    ghost use Rattle.pmg_frame.specs.Fences.{coded_signature};
+
+    ghost coded = { coded_signature };
+
+    ghost use Rattle.pmg_frame.specs.Fences.{AreParticipants, signature};
+
+    ghost view = { λ a. signature a.participants.items a.collect };
+
+    ghost invariant = { λ a. AreParticipants a.participants.items };
+}
+
+fn are_clients(list: &[Proc]) -> bool
+    ensures { result ≡ list_all is_client list.now }
+{
+    list.iter().all(|process| process.is_client())
+}
+
+impl Signature {
+    /// The signature of the processes in the list; order and repeats do not matter. Refused as BadParam where
+    /// the list is empty, or names a process that no group may register, and as TooMany where it names more
+    /// than 4096.
+    #[tactic(auto, unfolding(crate::specs::Fences::asked_signature))]
+    pub fn new(list: Vec<Proc>, collect: bool) -> Result<Signature, Refusal>
+        ensures { result ≡ asked_signature list.items collect }
+    {
+        if list.is_empty() {
+            return Err(Refusal::BadParam);
+        }
+        if !are_clients(&list) {
+            return Err(Refusal::BadParam);
+        }
+        let mut participants = list;
+        participants.sort_unstable();
+        participants.dedup();
+        if participants.len() > MAX_PARTICIPANTS {
+            return Err(Refusal::TooMany);
+        }
+        Ok(Signature {
+            participants,
+            collect,
+        })
+    }
+
+    /// The participants, each greater than the one before.
+    pub fn participants(&self) -> &[Proc]
+        ensures value { result.now ≡ in_order self.now.participants }
+        ensures clients { IsTrue (list_all is_client result.now) }
+        ensures some { 1 ≤ length result.now }
+        ensures few { length result.now ≤ 4096 }
+    {
+        &self.participants
+    }
+
+    /// Whether the fence collects data.
+    pub fn collect(&self) -> bool
+        ensures { result ≡ self.now.collect }
+    {
+        self.collect
+    }
+
+    /// Whether the process is a participant.
+    pub fn contains(&self, process: &Proc) -> bool
+        ensures { result ≡ set.contains self.now.participants process.now }
+    {
+        self.participants.binary_search(process).is_ok()
+    }
+
+    /// Another signature of the same meaning.
+    pub fn copy(&self) -> Result<Signature, AllocError>
+        ensures { IfOk result (λ s. s ≡ self.now) }
+    {
+        Ok(Signature {
+            participants: copy_procs(&self.participants)?,
+            collect: self.collect,
+        })
+    }
+}
+
+/// Other handles of the same processes, with the same allocator.
+fn copy_procs(procs: &Vec<Proc>) -> Result<Vec<Proc>, AllocError>
+    ensures { IfOk result (λ ps. ps.items ≡ procs.now.items) }
+{
+    let mut copies = Vec::with_capacity(*procs.allocator(), procs.len())?;
+    for process in procs {
+        copies.push(process.copy()?)?;
+    }
+    Ok(copies)
+}
