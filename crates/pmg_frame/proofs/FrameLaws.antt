@@ -1,23 +1,28 @@
 -- A frame that is read was spelled so, and what is spelled so is read.
-use Rattle.std.proofs.Common.{◌≡◌, ℕ, ◌+◌, ◌^◌, ◌≤◌, Bool, true, false, ◌==◌, nat_le, cond, ltb, List, [], ◌∷◌, ◌++◌, length, take, drop, Option, Some, None, Result, Ok, IsTrue, refl, sym, ap, subst, ◌∙◌, append_assoc, arith}
+use Rattle.std.proofs.Common.{◌≡◌, ℕ, ◌+◌, ◌^◌, ◌≤◌, Bool, true, false, ◌==◌, ◌&&◌, nat_lt, nat_le, cond, ltb, List, [], ◌∷◌, ◌++◌, length, take, drop, Option, Some, None, Result, Ok, IsTrue, refl, sym, ap, subst, ◌∙◌, append_assoc, arith}
 use Rattle.std.specs.Int.{w32, to_be_bytes}
-use Rattle.std.proofs.lemmas.Bool.{ltb-false, le-ltb, leb-true, le-leb, eqb-true, eq-eqb}
+use Rattle.std.proofs.lemmas.Bool.{ltb-false, le-ltb, leb-true, le-leb, eqb-true}
 use Rattle.std.proofs.lemmas.List.{length-append, length-take, take-append-drop, take_at, drop_at, append-nil}
 use Rattle.pmg_value.specs.declared.refusal.Cause.TheVariants as causes
 use Rattle.pmg_value.specs.declared.refusal.Fault.{Fault}
 use Rattle.pmg_wire.specs.Reading.{Place, past, front, Read, fault, ◌>>=◌, check, byte_at, number_at, IsBytes, Takes}
-use Rattle.pmg_wire.proofs.Steps.{place, IfRead, bind_if, check_if, done_if, bind_ok, Takes-then, IsBytes-after, IsBytes-take, IsBytes-drop, wide32, number_if, number_again, byte_if, byte_again}
+use Rattle.pmg_wire.proofs.Steps.{place, IfRead, bind_if, check_if, choice_if, done_if, bind_ok, Takes-then, IsBytes-after, IsBytes-take, IsBytes-drop, wide32, number_if, number_again, byte_if, byte_again}
 use Rattle.pmg_frame.specs.declared.frame.Frame.{Frame}
 use Rattle.pmg_frame.specs.declared.frame.Frame.TheVariants as frames
 use Rattle.pmg_frame.specs.Grammar.{IsFrame, AreFrames, SpellsFrame}
-use Rattle.pmg_frame.specs.Reading.{piece_at, fields_at, body_at, head_at, behind_head, frame_at}
-use Rattle.pmg_frame.specs.Spelling.{piece_body, kind_of, body_spelling, head_spelling, frame_spelling}
+use Rattle.pmg_frame.specs.Reading.{fields_at, body_at, head_at, behind_head, frame_at}
+use Rattle.pmg_frame.specs.Spelling.{kind_of, body_spelling, head_spelling, frame_spelling}
 use Rattle.pmg_frame.proofs.PieceLaws.{piece_if, piece_again}
+use Rattle.pmg_frame.proofs.HeaderLaws.{header_if, header_again, fence_ask_if, fence_ask_again, commit_ask_if, commit_ask_again}
+
+-- the kinds of frames
+abbrev is_kind : ℕ → Bool
+is_kind k = nat_lt 0 k && nat_lt k 6
 
 -- what a head took
 pub record TakesHead (at : Place) (head : ℕ × ℕ) (after : Place) : Type 0 where
   pub takes : Takes at (head_spelling head.0 head.1) after
-  pub kind : head.0 ≡ 1
+  pub kind : IsTrue (is_kind head.0)
   pub small : head.1 ≤ 16777216
 
 pub head_if : (at : Place) → IsBytes at.rest → IfRead (head_at at) (TakesHead at)
@@ -25,28 +30,28 @@ unfolding head_at
 head_if at fits =
     let made : ℕ → Place → ℕ × Place → Read (ℕ × ℕ) = λ kind at_len len. check (nat_le len.0 16777216) (fault at_len.offset causes.Length) >>= λ _. Ok ((kind, len.0), len.1) in
     let sized : ℕ × Place → Read (ℕ × ℕ) = λ kind. number_at w32 kind.1 >>= made kind.0 kind.1 in
-    let kinded : Place → ℕ × Place → Read (ℕ × ℕ) = λ at_kind kind. check (kind.0 == 1) (fault at_kind.offset causes.Kind) >>= λ _. sized kind in
+    let kinded : Place → ℕ × Place → Read (ℕ × ℕ) = λ at_kind kind. check (is_kind kind.0) (fault at_kind.offset causes.Kind) >>= λ _. sized kind in
     let versioned : ℕ × Place → Read (ℕ × ℕ) = λ version. byte_at version.1 >>= kinded version.1 in
     bind_if (λ version. check (version.0 == 1) (fault at.offset causes.Version) >>= λ _. versioned version) (byte_if at) (λ version a v.
     let a_fits : IsBytes a.rest = IsBytes-after (version ∷ []) fits v.takes in
     check_if (version == 1) (fault at.offset causes.Version) (λ _. versioned (version, a)) (λ first.
     bind_if (kinded a) (byte_if a) (λ kind b k.
     let b_fits : IsBytes b.rest = IsBytes-after (kind ∷ []) a_fits k.takes in
-    check_if (kind == 1) (fault a.offset causes.Kind) (λ _. sized (kind, b)) (λ second.
+    check_if (is_kind kind) (fault a.offset causes.Kind) (λ _. sized (kind, b)) (λ second.
     bind_if (made kind b) (number_if w32 (2 ^ 32) wide32 b b_fits) (λ len d n.
     check_if (nat_le len 16777216) (fault b.offset causes.Length) (λ _. Ok ((kind, len), d)) (λ third.
     let is_one : version ≡ 1 = eqb-true version 1 first in
     let two = Takes-then (kind ∷ []) (to_be_bytes w32 len) k.takes n.takes in
     let all = Takes-then (1 ∷ []) (kind ∷ to_be_bytes w32 len) (rw (← is_one) v.takes) two in
-    done_if (record { takes = all; kind = eqb-true kind 1 second; small = leb-true len 16777216 third })))))))
+    done_if (record { takes = all; kind = second; small = leb-true len 16777216 third })))))))
 
-pub head_again : (o kind len : ℕ) → kind ≡ 1 → len ≤ 16777216 → head_at (place o (head_spelling kind len)) ≡ Ok ((kind, len), place (o + 6) [])
+pub head_again : (o kind len : ℕ) → IsTrue (is_kind kind) → len ≤ 16777216 → head_at (place o (head_spelling kind len)) ≡ Ok ((kind, len), place (o + 6) [])
 unfolding head_at
 head_again o kind len is small =
     let first = byte_again o 1 (kind ∷ to_be_bytes w32 len) in
     let second = byte_again (o + 1) kind (to_be_bytes w32 len) in
     let third = number_again w32 (2 ^ 32) wide32 (o + 1 + 1) len [] (omega arith) in
-    rw (first, second, eq-eqb kind 1 is, third, le-leb len 16777216 small) (ap (λ (n : ℕ). Ok ((kind, len), place n [])) (omega arith))
+    rw (first, second, is, third, le-leb len 16777216 small) (ap (λ (n : ℕ). Ok ((kind, len), place n [])) (omega arith))
 
 check_ok : {B : Type 0} (b : Bool) (d : Fault) (f : Unit {0} → Result B Fault) (y : B) → (check b d >>= f) ≡ Ok y → IsTrue b × (f tt ≡ Ok y)
 check_ok true d f y e = (refl, e)
@@ -68,28 +73,51 @@ pub record IsBody (kind : ℕ) (at : Place) (frame : Frame) : Type 0 where
   pub is : IsFrame frame
   pub of_kind : kind ≡ kind_of frame
 
-pub body_found : (kind : ℕ) (at : Place) (frame : Frame) → kind ≡ 1 → IsBytes at.rest → body_at kind at ≡ Ok frame → IsBody kind at frame
-unfolding body_at fields_at
-body_found kind at frame one fits e =
-    let whole = bind_ok (piece_at at >>= λ c. Ok (frames.Piece c.0, c.1)) _ frame e in
-    let read = bind_ok (piece_at at) (λ c. Ok (frames.Piece c.0, c.1)) whole.0 whole.1 in
-    let c = read.0 in
-    let taken = (piece_if at fits).holds c.0 c.1 read.1 in
+-- what the fields of a body took
+pub record TakesFields (kind : ℕ) (at : Place) (frame : Frame) (after : Place) : Type 0 where
+  pub takes : Takes at (body_spelling frame) after
+  pub is : IsFrame frame
+  pub of_kind : kind ≡ kind_of frame
+
+last_kind : (k : ℕ) → IsTrue (is_kind k) → (k == 1) ≡ false → (k == 2) ≡ false → (k == 3) ≡ false → (k == 4) ≡ false → k ≡ 5
+last_kind k is n1 n2 n3 n4 = grind arith
+
+fields_if : (kind : ℕ) (at : Place) → IsTrue (is_kind kind) → IsBytes at.rest → IfRead (fields_at kind at) (TakesFields kind at)
+unfolding fields_at
+fields_if kind at known fits =
+    choice_if (kind == 1) (λ is. bind_if (λ x. Ok (frames.Piece x.0, x.1)) (piece_if at fits) (λ x after t. done_if (record { takes = t.takes; is = t.is; of_kind = eqb-true kind 1 is }))) (λ n1.
+    choice_if (kind == 2) (λ is. bind_if (λ x. Ok (frames.Header x.0, x.1)) (header_if at fits) (λ x after t. done_if (record { takes = t.takes; is = t.is; of_kind = eqb-true kind 2 is }))) (λ n2.
+    choice_if (kind == 3) (λ is. bind_if (λ x. Ok (frames.FenceAsk x.0, x.1)) (fence_ask_if at fits) (λ x after t. done_if (record { takes = t.takes; is = t.is; of_kind = eqb-true kind 3 is }))) (λ n3.
+    choice_if (kind == 4) (λ is. bind_if (λ x. Ok (frames.RangeAsk x.0, x.1)) (commit_ask_if at fits) (λ x after t. done_if (record { takes = t.takes; is = t.is; of_kind = eqb-true kind 4 is }))) (λ n4.
+    bind_if (λ x. Ok (frames.DirectAsk x.0, x.1)) (commit_ask_if at fits) (λ x after t. done_if (record { takes = t.takes; is = t.is; of_kind = last_kind kind known n1 n2 n3 n4 }))))))
+
+pub body_found : (kind : ℕ) (at : Place) (frame : Frame) → IsTrue (is_kind kind) → IsBytes at.rest → body_at kind at ≡ Ok frame → IsBody kind at frame
+unfolding body_at
+body_found kind at frame known fits e =
+    let whole = bind_ok (fields_at kind at) _ frame e in
+    let taken = (fields_if kind at known fits).holds whole.0.0 whole.0.1 whole.1 in
     let checked = check_ok (length whole.0.1.rest == 0) _ (λ _. Ok whole.0.0) frame whole.2 in
-    let both : (frames.Piece c.0, c.1) ≡ whole.0 = ok_is (frames.Piece c.0, c.1) whole.0 read.2 in
-    let is_frame : frames.Piece c.0 ≡ frame = ap (λ (x : Frame × Place). x.0) both ∙ ok_is whole.0.0 frame checked.1 in
-    let empty : c.1.rest ≡ [] = no_items c.1.rest (ap (λ (x : Frame × Place). length x.1.rest) both ∙ eqb-true (length whole.0.1.rest) 0 checked.0) in
-    let body : IsBody kind at (frames.Piece c.0) = record {
-      text = taken.takes.parts ∙ rw (empty, append-nil (piece_body c.0)) refl;
+    let empty : whole.0.1.rest ≡ [] = no_items whole.0.1.rest (eqb-true (length whole.0.1.rest) 0 checked.0) in
+    let body : IsBody kind at whole.0.0 = record {
+      text = taken.takes.parts ∙ rw (empty, append-nil (body_spelling whole.0.0)) refl;
       is = taken.is;
-      of_kind = one;
+      of_kind = taken.of_kind;
     } in
-    subst (IsBody kind at) is_frame body
+    subst (IsBody kind at) (ok_is whole.0.0 frame checked.1) body
+
+fields_again : (o : ℕ) (frame : Frame) (rest : List ℕ) → IsFrame frame → fields_at (kind_of frame) (place o (body_spelling frame ++ rest)) ≡ Ok (frame, place (o + length (body_spelling frame)) rest)
+unfolding fields_at
+fields_again o (frames.Piece c) rest is = rw (piece_again o c rest is) refl
+fields_again o (frames.Header h) rest is = rw (header_again o h rest is) refl
+fields_again o (frames.FenceAsk a) rest is = rw (fence_ask_again o a rest is) refl
+fields_again o (frames.RangeAsk a) rest is = rw (commit_ask_again o a rest is) refl
+fields_again o (frames.DirectAsk a) rest is = rw (commit_ask_again o a rest is) refl
 
 pub body_again : (o : ℕ) (frame : Frame) → IsFrame frame → body_at (kind_of frame) (place o (body_spelling frame)) ≡ Ok frame
-unfolding body_at fields_at
-body_again o (frames.Piece c) is =
-    let padded : piece_at (place o (piece_body c)) ≡ Ok (c, place (o + length (piece_body c)) []) = ap (λ (t : List ℕ). piece_at (place o t)) (sym (append-nil (piece_body c))) ∙ piece_again o c [] is in
+unfolding body_at
+body_again o frame is =
+    let padded : fields_at (kind_of frame) (place o (body_spelling frame)) ≡ Ok (frame, place (o + length (body_spelling frame)) []) =
+    ap (λ (t : List ℕ). fields_at (kind_of frame) (place o t)) (sym (append-nil (body_spelling frame))) ∙ fields_again o frame [] is in
     rw padded refl
 
 -- a front of the bytes that is there
@@ -140,8 +168,12 @@ frame_found at frame after fits e =
     let is : (body_read.0, past (past at 6) head.1) ≡ (frame, after) = some_is _ (frame, after) body_read.2 in
     subst (λ (x : Frame × Place). SpellsFrame at x.0 x.1) is found
 
-kind_one : (frame : Frame) → kind_of frame ≡ 1
-kind_one (frames.Piece c) = refl
+kind_known : (frame : Frame) → IsTrue (is_kind (kind_of frame))
+kind_known (frames.Piece c) = refl
+kind_known (frames.Header h) = refl
+kind_known (frames.FenceAsk a) = refl
+kind_known (frames.RangeAsk a) = refl
+kind_known (frames.DirectAsk a) = refl
 
 pub frame_again : (o : ℕ) (frame : Frame) (rest : List ℕ) → length (body_spelling frame) ≤ 16777216 → IsFrame frame
     → frame_at (place o (frame_spelling frame ++ rest)) ≡ Ok (Some (frame, place (o + length (frame_spelling frame)) rest))
@@ -153,7 +185,7 @@ frame_again o frame rest small is =
     let regrouped : frame_spelling frame ++ rest ≡ head_text ++ behind = append_assoc head_text body rest in
     let long : ltb (length (head_text ++ behind)) 6 ≡ false = le-ltb _ _ (omega (arith, length-append head_text behind)) in
     let enough : ltb (length behind) (length body) ≡ false = le-ltb _ _ (omega (arith, length-append body rest)) in
-    let h = head_again o (kind_of frame) (length body) (kind_one frame) small in
+    let h = head_again o (kind_of frame) (length body) (kind_known frame) small in
     let b = body_again (o + 6) frame is in
     let end : o + 6 + length body ≡ o + length (frame_spelling frame) = omega (arith, length-append head_text body) in
     ap (λ (t : List ℕ). frame_at (place o t)) regrouped

@@ -1,8 +1,12 @@
 pub mod PieceLaws
 pub mod PieceTests
-pub mod Writing
+pub mod Appending
 pub mod FrameLaws
 pub mod Cuts
 pub mod Rising
 pub mod Kept
 pub mod Searching
+pub mod FenceLaws
+pub mod Lasts
+pub mod HeaderLaws
+pub mod HeaderTests

@@ -48,6 +48,19 @@ coded_name = code_by (Signature × ℕ) (coded× coded_signature coded_ℕ) (λ 
 abbrev pub signature : List Proc → Bool → Signature
 signature ps collect = record { participants = set.from_list ps; collect = collect }
 
+-- the fields of a fence's name, with its participants as a list
+pub record NameFields : Type 0 where
+  pub collect : Bool
+  pub number : ℕ
+  pub list : List Proc
+
+abbrev pub name_fields : Bool → ℕ → List Proc → NameFields
+name_fields collect number list = record { collect = collect; number = number; list = list }
+
+-- the name that has these fields
+abbrev pub fence_name : NameFields → FenceName
+fence_name fields = record { signature = signature fields.list fields.collect; instance = fields.number }
+
 -- The signature that a list asks for: of no process, or of one that no group may register, there is none, and of
 -- more than 4096 neither (PMIx Standard 5.0, PMIx_Fence).
 unfoldable pub asked_signature : List Proc → Bool → Result Signature Refusal

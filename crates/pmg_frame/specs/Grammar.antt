@@ -1,6 +1,12 @@
 -- The grammar of frames: what stands between two places.
 use Rattle.std.specs.Prelude.{◌≡◌, ◌↔◌, ℕ, ◌<◌, ◌≤◌, List, [], ◌∷◌, ◌++◌, length, Option, Some, None, Ok, IsTrue}
+use Rattle.std.specs.FinSet as set
+use Rattle.std.specs.Option.{option_map}
 use Rattle.pmg_value.specs.declared.value.Value.{Value}
+use Rattle.pmg_value.specs.declared.process.Proc.{Proc}
+use Rattle.pmg_value.specs.Lists.{Each}
+use Rattle.pmg_value.specs.Process.{is_client}
+use Rattle.pmg_value.specs.Signatures.{FenceName}
 use Rattle.pmg_value.specs.Names.{is_nspace, is_key}
 use Rattle.pmg_value.specs.Spelling.{spelling, IsValue}
 use Rattle.pmg_wire.specs.declared.fields.Admits.TheVariants as admits
@@ -10,10 +16,13 @@ use Rattle.pmg_wire.specs.Reading.{Place, Takes, IsBytes}
 use Rattle.pmg_commit.specs.Entries.{Entry}
 use Rattle.pmg_commit.specs.Knowledge.{Contribution}
 use Rattle.pmg_commit.specs.Pieces.{is_piece}
+use Rattle.pmg_frame.specs.Fences.{participants_of, is_instance, is_level, is_header, Header, FenceAsk, CommitAsk}
+use Rattle.pmg_frame.specs.FenceReading.{is_greater}
+use Rattle.pmg_frame.specs.declared.local.Local.{Local}
 use Rattle.pmg_frame.specs.declared.frame.Frame.{Frame}
 use Rattle.pmg_frame.specs.declared.frame.Frame.TheVariants as frames
 use Rattle.pmg_frame.specs.Reading.{is_after, frame_at}
-use Rattle.pmg_frame.specs.Spelling.{piece_body, body_spelling, frame_spelling}
+use Rattle.pmg_frame.specs.Spelling.{piece_body, kind_of, body_spelling, frame_spelling}
 
 -- An entry of a piece of the commits from+1 to to: of a greater key than the entry before, of one of these
 -- commits, and with the canonical bytes of a value.
@@ -35,9 +44,52 @@ pub record IsPiece (c : Contribution) : Type 0 where
   pub count : length c.entries ≤ 65536
   pub entries : Chain (Follows c.from c.to) None c.entries
 
+-- a process that a group may register
+pub record IsClient (p : Proc) : Type 0 where
+  pub name : IsTrue (is_nspace p.nspace)
+  pub client : IsTrue (is_client p)
+
+-- what a fence's name says keeps its rules
+pub record IsName (name : FenceName) : Type 0 where
+  pub number : IsTrue (is_instance name.instance)
+  pub some : 1 ≤ length (participants_of name)
+  pub few : length (participants_of name) ≤ 4096
+  pub clients : Each IsClient (participants_of name)
+
+-- What a header tells of a participant of that fence: it is greater than the one before, and its level is one.
+pub record FollowsLocal (name : FenceName) (before : Option Local) (l : Local) : Type 0 where
+  pub is : IsClient l.proc
+  pub order : IsTrue (is_greater (option_map (λ b. b.proc) before) l.proc)
+  pub member : IsTrue (set.contains name.signature.participants l.proc)
+  pub level : IsTrue (is_level l.level)
+
+-- what a header says keeps its rules
+pub record IsHeader (h : Header) : Type 0 where
+  pub node : h.node ≤ 63
+  pub name : IsName h.name
+  pub some : 1 ≤ length h.locals
+  pub few : length h.locals ≤ length (participants_of h.name)
+  pub locals : Chain (FollowsLocal h.name) None h.locals
+
+-- what a fence ask says keeps its rules
+pub record IsFenceAsk (a : FenceAsk) : Type 0 where
+  pub node : a.node ≤ 63
+  pub name : IsName a.name
+
+-- what an ask for commits says keeps its rules
+pub record IsCommitAsk (a : CommitAsk) : Type 0 where
+  pub node : a.node ≤ 63
+  pub name : IsTrue (is_nspace a.proc.nspace)
+  pub admitted : IsTrue (is_admitted admits.ClientsAndHost a.proc)
+  pub level : IsTrue (is_level a.level)
+
 -- what a frame says keeps the rules of its kind
 abbrev pub IsFrame : Frame → Type 0
 IsFrame (frames.Piece c) = IsPiece c
+IsFrame (frames.Header h) = IsHeader h
+IsFrame (frames.FenceAsk a) = IsFenceAsk a
+IsFrame (frames.RangeAsk a) = IsCommitAsk a
+IsFrame (frames.DirectAsk a) = IsCommitAsk a
 
 -- a frame, spelled
 pub record SpellsFrame (at : Place) (frame : Frame) (after : Place) : Type 0 where
@@ -78,3 +130,11 @@ AreEntries (e ∷ es) = IsEntry e × AreEntries es
 abbrev pub ArePieces : Type 0
 ArePieces = (c : Contribution) → IsTrue (is_nspace c.proc.nspace) → AreEntries c.entries
     → IsTrue (is_piece c) ↔ (IsPiece c × (length (piece_body c) ≤ 16777216))
+
+-- Of headers of a node for a fence, those that `Header::new` makes are those that a frame can say.
+abbrev pub AreHeaders : Type 0
+AreHeaders = (h : Header) → h.node ≤ 63 → IsName h.name → IsTrue (is_header h) ↔ IsHeader h
+
+-- each header, and each ask, fits into a frame
+abbrev pub AreFitting : Type 0
+AreFitting = (frame : Frame) → IsFrame frame → 1 < kind_of frame → length (body_spelling frame) ≤ 16777216

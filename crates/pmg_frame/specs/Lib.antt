@@ -1,3 +1,4 @@
+pub mod FenceReading
 pub mod Fences
 pub mod Frames
 pub mod Grammar

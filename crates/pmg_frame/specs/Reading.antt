@@ -7,11 +7,12 @@ use Rattle.pmg_value.specs.declared.refusal.Cause.TheVariants as causes
 use Rattle.pmg_value.specs.declared.refusal.Fault.{Fault}
 use Rattle.pmg_value.specs.Spelling.{spelling}
 use Rattle.pmg_wire.specs.declared.fields.Admits.TheVariants as admits
-use Rattle.pmg_wire.specs.Fields.{key_at, proc_at, value_at}
+use Rattle.pmg_wire.specs.Fields.{key_at, proc_at, value_at, made}
 use Rattle.pmg_wire.specs.Many.{many}
 use Rattle.pmg_wire.specs.Reading.{Place, past, front, Read, fault, ◌>>=◌, check, byte_at, number_at}
 use Rattle.pmg_commit.specs.Entries.{Entry}
 use Rattle.pmg_commit.specs.Knowledge.{Contribution}
+use Rattle.pmg_frame.specs.FenceReading.{header_at, fence_ask_at, commit_ask_at}
 use Rattle.pmg_frame.specs.declared.frame.Frame.{Frame}
 use Rattle.pmg_frame.specs.declared.frame.Frame.TheVariants as frames
 
@@ -44,7 +45,12 @@ piece_at at = do
 
 -- the fields of a body of that kind
 unfoldable pub fields_at : ℕ → Place → Read Frame
-fields_at kind at = piece_at at >>= λ c. Ok (frames.Piece c.0, c.1)
+fields_at kind at =
+    if kind == 1 then made frames.Piece (piece_at at)
+    else if kind == 2 then made frames.Header (header_at at)
+    else if kind == 3 then made frames.FenceAsk (fence_ask_at at)
+    else if kind == 4 then made frames.RangeAsk (commit_ask_at at)
+    else made frames.DirectAsk (commit_ask_at at)
 
 -- a body: its fields, and nothing behind them
 unfoldable pub body_at : ℕ → Place → Result Frame Fault
@@ -59,7 +65,7 @@ head_at at = do
   version ← byte_at at
   _ ← check (version.0 == 1) (fault at.offset causes.Version)
   kind ← byte_at version.1
-  _ ← check (kind.0 == 1) (fault version.1.offset causes.Kind)
+  _ ← check (nat_lt 0 kind.0 && nat_lt kind.0 6) (fault version.1.offset causes.Kind)
   len ← number_at w32 kind.1
   _ ← check (nat_le len.0 16777216) (fault kind.1.offset causes.Length)
   Ok ((kind.0, len.0), len.1)

@@ -1,10 +1,14 @@
 -- How frames are written: each has one spelling.
-use Rattle.std.specs.Prelude.{ℕ, List, ◌∷◌, ◌++◌, length}
+use Rattle.std.specs.Prelude.{ℕ, Bool, if◌then◌else◌, List, [], ◌∷◌, ◌++◌, length}
 use Rattle.std.specs.List.{flat_map}
 use Rattle.std.specs.Int.{w32, w64, to_be_bytes}
+use Rattle.pmg_value.specs.declared.process.Proc.{Proc}
 use Rattle.pmg_wire.specs.Spelling.{key_spelling, proc_spelling}
 use Rattle.pmg_commit.specs.Entries.{Entry}
 use Rattle.pmg_commit.specs.Knowledge.{Contribution}
+use Rattle.pmg_value.specs.Signatures.{FenceName}
+use Rattle.pmg_frame.specs.Fences.{participants_of, is_gone, Header, FenceAsk, CommitAsk}
+use Rattle.pmg_frame.specs.declared.local.Local.{Local}
 use Rattle.pmg_frame.specs.declared.frame.Frame.{Frame}
 use Rattle.pmg_frame.specs.declared.frame.Frame.TheVariants as frames
 
@@ -16,13 +20,49 @@ entry_spelling e = key_spelling e.key ++ (to_be_bytes w64 e.number ++ e.bytes)
 abbrev pub piece_body : Contribution → List ℕ
 piece_body c = proc_spelling c.proc ++ (to_be_bytes w64 c.from ++ (to_be_bytes w64 c.to ++ (to_be_bytes w32 (length c.entries) ++ flat_map entry_spelling c.entries)))
 
+-- a flag: the byte 0 or 1
+abbrev pub flag_spelling : Bool → List ℕ
+flag_spelling b = (if b then 1 else 0) ∷ []
+
+-- a list of processes: their number, and the processes
+abbrev pub procs_spelling : List Proc → List ℕ
+procs_spelling ps = to_be_bytes w32 (length ps) ++ flat_map proc_spelling ps
+
+-- a fence's name: whether it collects, the instance, and the participants in their order
+abbrev pub name_spelling : FenceName → List ℕ
+name_spelling name = flag_spelling name.signature.collect ++ (to_be_bytes w64 name.instance ++ procs_spelling (participants_of name))
+
+-- what a header tells of one participant: the process, whether it is gone, and the level
+abbrev pub local_spelling : Local → List ℕ
+local_spelling l = proc_spelling l.proc ++ (flag_spelling (is_gone l.state) ++ to_be_bytes w64 l.level)
+
+-- the body of a header: the node, the fence's name, and what it tells of each of its participants
+abbrev pub header_body : Header → List ℕ
+header_body h = to_be_bytes w32 h.node ++ (name_spelling h.name ++ (to_be_bytes w32 (length h.locals) ++ flat_map local_spelling h.locals))
+
+-- the body of a fence ask: the node, and the fence's name
+abbrev pub fence_ask_body : FenceAsk → List ℕ
+fence_ask_body a = to_be_bytes w32 a.node ++ name_spelling a.name
+
+-- the body of an ask for commits: the node, the process, and the level
+abbrev pub commit_ask_body : CommitAsk → List ℕ
+commit_ask_body a = to_be_bytes w32 a.node ++ (proc_spelling a.proc ++ to_be_bytes w64 a.level)
+
 -- the number of a frame's kind
 abbrev pub kind_of : Frame → ℕ
 kind_of (frames.Piece c) = 1
+kind_of (frames.Header h) = 2
+kind_of (frames.FenceAsk a) = 3
+kind_of (frames.RangeAsk a) = 4
+kind_of (frames.DirectAsk a) = 5
 
 -- a frame's body
 abbrev pub body_spelling : Frame → List ℕ
 body_spelling (frames.Piece c) = piece_body c
+body_spelling (frames.Header h) = header_body h
+body_spelling (frames.FenceAsk a) = fence_ask_body a
+body_spelling (frames.RangeAsk a) = commit_ask_body a
+body_spelling (frames.DirectAsk a) = commit_ask_body a
 
 -- a frame's head: the version, the kind, and the length of the body
 abbrev pub head_spelling : ℕ → ℕ → List ℕ

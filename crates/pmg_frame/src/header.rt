@@ -1,4 +1,4 @@
-ghost use Rattle.std.specs.Prelude.{◌≡◌, IsTrue, IfOk, Ok, Err, if◌then◌else◌};
+ghost use Rattle.std.specs.Prelude.{◌≡◌, ◌≤◌, length, IsTrue, IfOk, Ok, Err, if◌then◌else◌};
 ghost use Rattle.std.specs.List.{list_all};
 ghost use Rattle.pmg_value.specs.Lists.{is_chain};
 ghost use Rattle.pmg_value.specs.declared.refusal.Refusal.TheVariants as refusals;
@@ -112,7 +112,10 @@ impl Header {
     pub fn locals(&self) -> &[Local]
         ensures value { result.now ≡ self.now.locals }
         ensures header { IsTrue (is_header self.now) }
+        ensures few { length result.now ≤ 4096 }
     {
+        // No effect at run time: the proof reads here how many participants there are.
+        let _participants = self.name.signature().participants();
         &self.locals
     }
 

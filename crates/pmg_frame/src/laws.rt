@@ -1,13 +1,16 @@
-ghost use Rattle.pmg_frame.specs.Grammar.{IsFound, IsOnly, IsOneSpelling, ArePieces};
+ghost use Rattle.pmg_frame.specs.Grammar.{IsFound, IsOnly, IsOneSpelling, ArePieces, AreHeaders, AreFitting};
 ghost use Rattle.pmg_frame.specs.Streams.{Joins, StaysClosed, IsDetermined, AreSpelled, AreFound, IsSaid};
 
 /// The laws of frames: what is read as a frame is spelled so; what is spelled so is read; and no frame's
-/// spelling begins another's, so each frame has one. What a piece can hold is what a frame can say.
+/// spelling begins another's, so each frame has one. What a piece or a header can hold is what a frame can say,
+/// and headers and asks fit into a frame.
 pub fn frame_rules()
     ensures found { IsFound }
     ensures only { IsOnly }
     ensures one_spelling { IsOneSpelling }
     ensures pieces { ArePieces }
+    ensures headers { AreHeaders }
+    ensures fitting { AreFitting }
 {}
 
 /// The laws of streams: however the bytes are cut, they say the same frames and the same fault, and those

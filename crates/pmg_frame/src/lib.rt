@@ -3,13 +3,16 @@
 
 mod asks;
 mod fence_name;
+mod fence_reading;
 mod frame;
 mod header;
 mod laws;
 mod local;
+mod piece_reading;
 mod reading;
 mod signature;
 mod stream;
+mod writing;
 
 pub use asks::{DirectAsk, FenceAsk, RangeAsk};
 pub use fence_name::{FenceName, MAX_INSTANCE};
@@ -21,5 +24,7 @@ pub use reading::get_frame;
 pub use signature::{MAX_PARTICIPANTS, Signature};
 pub use stream::{Fed, Stream};
 
+#[cfg(test)]
+mod kind_tests;
 #[cfg(test)]
 mod tests;

@@ -2,7 +2,7 @@ ghost use Rattle.std.specs.Prelude.{◌≡◌, ◌≤◌, length, IsTrue, IfOk};
 ghost use Rattle.std.specs.FinSet as set;
 ghost use Rattle.std.specs.List.{list_all};
 ghost use Rattle.pmg_value.specs.Process.{is_client};
-ghost use Rattle.pmg_frame.specs.Fences.{in_order, asked_signature};
+ghost use Rattle.pmg_frame.specs.Fences.{AreParticipants, in_order, signature, asked_signature};
 
 use pmg_value::{Proc, Refusal};
 use std::alloc::AllocError;
@@ -65,6 +65,17 @@ impl Signature {
             participants,
             collect,
         })
+    }
+
+    /// The signature of processes that are in order already.
+    pub fn from_rising(participants: Vec<Proc>, collect: bool) -> Signature
+        requires { AreParticipants participants.items }
+        ensures { result ≡ signature participants.items collect }
+    {
+        Signature {
+            participants,
+            collect,
+        }
     }
 
     /// The participants, each greater than the one before.

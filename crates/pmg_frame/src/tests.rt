@@ -95,7 +95,10 @@ fn a_frame_is_read_and_spelled_again(rt: HostRuntime) -> Result<(), Refusal> {
     let fed = found_in(alloc, &PIECE)?;
     assert_eq!(rt; fed.fault, None);
     assert_spelled(&rt, alloc, &fed.frames, &[&PIECE])?;
-    for Frame::Piece(piece) in &fed.frames {
+    for frame in &fed.frames {
+        let Frame::Piece(piece) = frame else {
+            return Err(Refusal::NotFound);
+        };
         assert_eq!(rt; piece.proc().nspace.as_bytes(), b"j".as_slice());
         assert_eq!(rt; piece.proc().rank.number(), 0);
         assert_eq!(rt; (piece.from(), piece.to(), piece.count()), (0, 1, 1));

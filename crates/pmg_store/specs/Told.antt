@@ -11,10 +11,11 @@ use Rattle.pmg_frame.specs.declared.frame.Frame.TheVariants as frames
 use Rattle.pmg_frame.specs.Streams.{said_by}
 use Rattle.pmg_store.specs.Pieces.{data_of}
 
--- the contributions in frames
+-- the contributions in frames: a frame that is no piece tells nothing
 abbrev pub contributions : List Frame → List Contribution
 contributions [] = []
 contributions (frames.Piece c ∷ fs) = c ∷ contributions fs
+contributions (frame ∷ fs) = contributions fs
 
 -- the contributions in what was read, where all of it was whole frames
 abbrev pub told_by_said : List Frame → Option Fault → ℕ → ℕ → Result (List Contribution) Fault

@@ -14,7 +14,7 @@ use pmg_value::Refusal;
 use std::alloc::{AllocError, Global};
 use std::io::{Read, Write};
 
-// A store that took the contributions in the frames.
+// A store that took the contributions in the frames. A frame that is no piece tells nothing.
 fn store_of_frames(alloc: Global, frames: &[Frame]) -> Result<Store, AllocError>
     ensures { IfOk result (λ s. s ≡ data_of (contributions frames.now)) }
 {
@@ -22,6 +22,10 @@ fn store_of_frames(alloc: Global, frames: &[Frame]) -> Result<Store, AllocError>
     for frame in frames {
         match frame {
             Frame::Piece(piece) => store.absorb(piece)?,
+            Frame::Header(_) => {}
+            Frame::FenceAsk(_) => {}
+            Frame::RangeAsk(_) => {}
+            Frame::DirectAsk(_) => {}
         }
     }
     Ok(store)
@@ -43,7 +47,8 @@ pub fn store_of_stream(alloc: Global, bytes: &[u8]) -> Result<Store, Refusal>
     }
 }
 
-/// Reads a stream of frames to its end, and then writes the dump of a store that took its contributions.
+/// Reads a stream of frames to its end, and then writes the dump of a store that took its contributions. Frames
+/// that are no pieces are checked like any other, and add nothing.
 ///
 /// A stream with a fault is refused as BadFrame, with the first fault: Input past 67,108,864 bytes, else that
 /// of the frames, else Cut. Any error of the reader is a read fault. Nothing is written before the whole

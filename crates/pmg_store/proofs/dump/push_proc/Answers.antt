@@ -2,7 +2,7 @@ use Rattle.std.proofs.Common.{◌≡◌, ◌<◌, ◌++◌, sym, ◌∙◌, arit
 use Rattle.std.proofs.lemmas.List.{append-nil}
 use Rattle.std.proofs.lemmas.Result.{on_ok_weaker}
 use Rattle.std.specs.List.{flat_map}
-use Rattle.pmg_frame.proofs.Writing.{appended_2}
+use Rattle.pmg_frame.proofs.Appending.{appended_2}
 use Rattle.pmg_store.specs.Dump.{key_line, proc_line}
 use Rattle.pmg_store.specs.Tables.{lines_of}
 use Rattle.pmg_store.proofs.DumpLemmas.{silent, told_text}

@@ -1,0 +1,12 @@
+-- Texts that are written one behind another.
+use Rattle.std.proofs.Common.{◌≡◌, ℕ, List, ◌++◌, ap, ◌∙◌, append_assoc}
+
+pub appended_2 : (o x y a b : List ℕ) → x ≡ o ++ a → y ≡ x ++ b → y ≡ o ++ (a ++ b)
+appended_2 o x y a b p q = q ∙ ap (λ (t : List ℕ). t ++ b) p ∙ append_assoc o a b
+
+pub appended_5 : (o x y z u v a b c d e : List ℕ) → x ≡ o ++ a → y ≡ x ++ b → z ≡ y ++ c → u ≡ z ++ d → v ≡ u ++ e → v ≡ o ++ (a ++ (b ++ (c ++ (d ++ e))))
+appended_5 o x y z u v a b c d e p q r s t =
+    appended_2 o x v a (b ++ (c ++ (d ++ e))) p (appended_2 x y v b (c ++ (d ++ e)) q (appended_2 y z v c (d ++ e) r (appended_2 z u v d e s t)))
+
+pub appended_4 : (o x y z u a b c d : List ℕ) → x ≡ o ++ a → y ≡ x ++ b → z ≡ y ++ c → u ≡ z ++ d → u ≡ o ++ (a ++ (b ++ (c ++ d)))
+appended_4 o x y z u a b c d p q r s = appended_2 o x u a (b ++ (c ++ d)) p (appended_2 x y u b (c ++ d) q (appended_2 y z u c d r s))

@@ -1,0 +1,127 @@
+-- What passes the test of a header keeps the rules of one, and headers and asks fit into a frame.
+use Rattle.std.proofs.Common.{◌≡◌, ℕ, ◌+◌, ◌*◌, ◌<◌, ◌≤◌, Bool, true, ◌&&◌, nat_lt, nat_le, List, [], ◌∷◌, ◌++◌, length, Option, Some, None, IsTrue, refl, sym, ap, subst, ◌∙◌, arith, inl, inr}
+use Rattle.std.specs.FinSet as set
+use Rattle.std.specs.Cmp.{Equal-is}
+use Rattle.std.specs.Int.{w32, w64, to_be_bytes}
+use Rattle.std.specs.List.{flat_map, list_all}
+use Rattle.std.specs.Option.{option_map}
+use Rattle.std.specs.Ordering.{eq_by_cmp}
+use Rattle.std.proofs.lemmas.Bool.{and_parts, ltb-true, leb-true}
+use Rattle.std.proofs.lemmas.List.{length-append}
+use Rattle.pmg_value.specs.Lists.{In, Each, leads, is_chain}
+use Rattle.pmg_value.specs.Names.{is_nspace, is_graphic}
+use Rattle.pmg_value.specs.Process.{proc_cmp}
+use Rattle.pmg_value.specs.Signatures.{FenceName}
+use Rattle.pmg_value.specs.declared.process.Proc.{Proc}
+use Rattle.pmg_value.proofs.ListLemmas.{in_from_list_any}
+use Rattle.pmg_value.proofs.ProcessOrder.{procs_total, exact_procs}
+use Rattle.pmg_wire.specs.Many.{Chain}
+use Rattle.pmg_wire.specs.Spelling.{proc_spelling}
+use Rattle.pmg_frame.specs.Fences.{participants_of, is_gone, is_local_rising, is_listed, is_level, is_header, Header, CommitAsk}
+use Rattle.pmg_frame.specs.Grammar.{IsClient, IsName, FollowsLocal, IsHeader, IsCommitAsk, AreHeaders, AreFitting}
+use Rattle.pmg_frame.specs.Spelling.{flag_spelling, name_spelling, local_spelling, header_body, commit_ask_body}
+use Rattle.pmg_frame.specs.declared.frame.Frame.TheVariants as frames
+use Rattle.pmg_frame.specs.declared.local.Local.{Local}
+use Rattle.pmg_frame.proofs.FenceLaws.{length_4}
+use Rattle.pmg_frame.proofs.HeaderLaws.{header_passes, length_3}
+use Rattle.pmg_frame.proofs.Rising.{any_in_order}
+
+-- ---- what passes is a header
+
+in_each : {A : Type 0} (P : A → Type 0) (x : A) (xs : List A) → In x xs → Each P xs → P x
+in_each P x [] i all = absurd i
+in_each P x (y ∷ ys) (inl e) all = subst P (sym e) all.0
+in_each P x (y ∷ ys) (inr i) all = in_each P x ys i all.1
+
+-- a participant is a process that a group may register
+member_is : (name : FenceName) (p : Proc) → IsName name → IsTrue (set.contains name.signature.participants p) → IsClient p
+member_is name p is member =
+    let found = in_from_list_any (eq_by_cmp proc_cmp p) (participants_of name) (any_in_order procs_total name.signature.participants p ∙ member) in
+    subst IsClient (sym (exact_procs p found.0 ((Equal-is _).0 found.2))) (in_each IsClient found.0 (participants_of name) found.1 is.clients)
+
+told : (name : FenceName) (before : Option Local) (l : Local) → IsName name → IsTrue (is_listed name l) → FollowsLocal name None l
+told name before l is listed =
+    let parts = and_parts (set.contains name.signature.participants l.proc) (is_level l.level) listed in
+    record { is = member_is name l.proc is parts.0; order = refl; member = parts.0; level = parts.1 }
+
+chain_behind : (name : FenceName) (l : Local) (ls : List Local) → IsName name → IsTrue (leads is_local_rising l ls) → IsTrue (list_all (is_listed name) ls) → Chain (FollowsLocal name) (Some l) ls
+chain_behind name l [] is rises listed = tt
+chain_behind name l (k ∷ ks) is rises listed =
+    let order = and_parts (is_local_rising l k) (leads is_local_rising k ks) rises in
+    let each = and_parts (is_listed name k) (list_all (is_listed name) ks) listed in
+    let one = told name None k is each.0 in
+    (record { is = one.is; order = order.0; member = one.member; level = one.level }, chain_behind name k ks is order.1 each.1)
+
+chain_of : (name : FenceName) (ls : List Local) → IsName name → IsTrue (is_chain is_local_rising ls) → IsTrue (list_all (is_listed name) ls) → Chain (FollowsLocal name) None ls
+chain_of name [] is rises listed = tt
+chain_of name (l ∷ ls) is rises listed =
+    let each = and_parts (is_listed name l) (list_all (is_listed name) ls) listed in
+    (told name None l is each.0, chain_behind name l ls is rises each.1)
+
+header_says : (h : Header) → h.node ≤ 63 → IsName h.name → IsTrue (is_header h) → IsHeader h
+unfolding is_header
+header_says h node name passes =
+    let listed = and_parts _ _ passes in
+    let rises = and_parts _ _ listed.0 in
+    let count = and_parts _ _ rises.0 in
+    record {
+      node = node;
+      name = name;
+      some = ltb-true _ _ count.0;
+      few = leb-true _ _ count.1;
+      locals = chain_of h.name h.locals name rises.1 listed.1;
+    }
+
+pub are_headers : AreHeaders
+are_headers h node name = (header_says h node name, header_passes h)
+
+-- ---- sizes
+
+proc_short : (p : Proc) → IsTrue (is_nspace p.nspace) → length (proc_spelling p) ≤ 260
+proc_short p name =
+    let len = leb-true (length p.nspace) 255 (and_parts _ _ (and_parts (nat_lt 0 (length p.nspace) && nat_le (length p.nspace) 255) (list_all is_graphic p.nspace) name).0).1 in
+    omega (arith, len, length-append (length p.nspace ∷ p.nspace) (to_be_bytes w32 p.rank))
+
+added : (a b : List ℕ) (m n : ℕ) → length a ≤ m → length b ≤ n → length (a ++ b) ≤ m + n
+added a b m n p q = omega (arith, length-append a b, p, q)
+
+procs_short : (ps : List Proc) → Each IsClient ps → length (flat_map proc_spelling ps) ≤ 260 * length ps
+procs_short [] is = omega arith
+procs_short (p ∷ ps) is =
+    let both = added (proc_spelling p) (flat_map proc_spelling ps) 260 (260 * length ps) (proc_short p is.0.name) (procs_short ps is.1) in
+    omega (arith, both)
+
+local_short : (name : FenceName) (before : Option Local) (l : Local) → FollowsLocal name before l → length (local_spelling l) ≤ 269
+local_short name before l f = omega (arith, proc_short l.proc f.is.name, length_3 (proc_spelling l.proc) (flag_spelling (is_gone l.state)) (to_be_bytes w64 l.level))
+
+locals_short : (name : FenceName) (before : Option Local) (ls : List Local) → Chain (FollowsLocal name) before ls → length (flat_map local_spelling ls) ≤ 269 * length ls
+locals_short name before [] chain = omega arith
+locals_short name before (l ∷ ls) chain =
+    let both = added (local_spelling l) (flat_map local_spelling ls) 269 (269 * length ls) (local_short name before l chain.0) (locals_short name (Some l) ls chain.1) in
+    omega (arith, both)
+
+name_short : (name : FenceName) → IsName name → length (name_spelling name) ≤ 1064973
+name_short name is =
+    let ps = participants_of name in
+    omega (arith, procs_short ps is.clients, is.few, length_4 (flag_spelling name.signature.collect) (to_be_bytes w64 name.instance) (to_be_bytes w32 (length ps)) (flat_map proc_spelling ps))
+
+header_short : (h : Header) → IsHeader h → length (header_body h) ≤ 16777216
+header_short h is =
+    omega (
+      arith,
+      name_short h.name is.name,
+      locals_short h.name None h.locals is.locals,
+      is.few,
+      is.name.few,
+      length_4 (to_be_bytes w32 h.node) (name_spelling h.name) (to_be_bytes w32 (length h.locals)) (flat_map local_spelling h.locals),
+    )
+
+commit_ask_short : (a : CommitAsk) → IsCommitAsk a → length (commit_ask_body a) ≤ 16777216
+commit_ask_short a is = omega (arith, proc_short a.proc is.name, length_3 (to_be_bytes w32 a.node) (proc_spelling a.proc) (to_be_bytes w64 a.level))
+
+pub are_fitting : AreFitting
+are_fitting (frames.Piece c) is kind = absurd (omega arith)
+are_fitting (frames.Header h) is kind = header_short h is
+are_fitting (frames.FenceAsk a) is kind = omega (arith, name_short a.name is.name, length-append (to_be_bytes w32 a.node) (name_spelling a.name))
+are_fitting (frames.RangeAsk a) is kind = commit_ask_short a is
+are_fitting (frames.DirectAsk a) is kind = commit_ask_short a is

@@ -1,0 +1,12 @@
+use Rattle.std.proofs.Common.{◌≡◌, ◌++◌, [], length, sym, ◌∙◌}
+use Rattle.pmg_frame.specs.Spelling.{piece_body, head_spelling}
+use Rattle.pmg_frame.proofs.PieceTests.{length-piece_body}
+use Rattle.pmg_frame.proofs.Appending.{appended_2}
+use Rattle.pmg_frame.proofs.writing.encode_piece.Goals as goal
+
+pub returns : goal.returns
+returns c =
+    let body = piece_body c.args.piece.now in
+    let size : c.size-size.result ≡ length body = c.size-size.ensures.value ∙ sym (length-piece_body c.args.piece.now) in
+    let head : c.put_head.new.out.items ≡ [] ++ head_spelling 1 (length body) = rw (c.in_ok-out.ensures.items, size) at c.in_ok-put_head.ensures in
+    appended_2 [] c.put_head.new.out.items c.put_piece.new.out.items (head_spelling 1 (length body)) body head c.in_ok-put_piece.ensures

@@ -1,0 +1,234 @@
+//! Frames as bytes: each kind has one spelling.
+ghost use Rattle.std.specs.Prelude.{◌≡◌, ◌++◌, ◌+◌, ◌*◌, ◌<◌, ◌≤◌, ◌^◌, IfOk, OnOk, map, length};
+ghost use Rattle.std.specs.Int.{w32, to_be_bytes};
+ghost use Rattle.std.specs.List.{flat_map};
+ghost use Rattle.pmg_wire.specs.Spelling.{proc_spelling};
+ghost use Rattle.pmg_commit.specs.Pieces.{entry_of};
+ghost use Rattle.pmg_frame.specs.declared.frame.Frame.TheVariants as frames;
+ghost use Rattle.pmg_frame.specs.Fences.{is_gone, commit_ask};
+ghost use Rattle.pmg_frame.specs.Spelling.{entry_spelling, piece_body, head_spelling, frame_spelling, flag_spelling, procs_spelling, name_spelling, local_spelling, header_body, fence_ask_body, commit_ask_body};
+
+use crate::asks::{DirectAsk, FenceAsk, RangeAsk};
+use crate::fence_name::FenceName;
+use crate::frame::HEAD_SIZE;
+use crate::header::Header;
+use crate::local::{Local, State};
+use bytes::BytesMut;
+use pmg_commit::{Piece, PieceEntry};
+use pmg_value::{NodeId, Proc};
+use pmg_wire::{put_key, put_proc, put_value};
+use std::alloc::{AllocError, Global};
+
+fn put_head(out: &mut BytesMut, kind: u8, len: u32) -> Result<(), AllocError>
+    ensures { OnOk result (out.new.items ≡ out.old.items ++ head_spelling kind len) }
+{
+    out.extend_from_slice(&[1, kind])?;
+    out.extend_from_slice(&len.to_be_bytes())
+}
+
+pub fn encode_piece(alloc: Global, piece: &Piece) -> Result<BytesMut, AllocError>
+    ensures { IfOk result (λ out. out.items ≡ frame_spelling (frames.Piece piece.now)) }
+{
+    let size = piece.size();
+    let mut out = BytesMut::with_capacity(alloc, HEAD_SIZE + size)?;
+    put_head(&mut out, 1, size as u32)?;
+    put_piece(&mut out, piece)?;
+    Ok(out)
+}
+
+fn put_piece(out: &mut BytesMut, piece: &Piece) -> Result<(), AllocError>
+    ensures { OnOk result (out.new.items ≡ out.old.items ++ piece_body piece.now) }
+{
+    put_proc(out, piece.proc())?;
+    out.extend_from_slice(&piece.from().to_be_bytes())?;
+    out.extend_from_slice(&piece.to().to_be_bytes())?;
+    out.extend_from_slice(&(piece.count() as u32).to_be_bytes())?;
+    put_entries(out, piece.entries())
+}
+
+fn put_entries(out: &mut BytesMut, entries: &[PieceEntry]) -> Result<(), AllocError>
+    ensures { OnOk result (out.new.items ≡ out.old.items ++ flat_map entry_spelling (map entry_of entries.now)) }
+{
+    for entry in entries {
+        put_entry(out, entry)?;
+    }
+    Ok(())
+}
+
+fn put_entry(out: &mut BytesMut, entry: &PieceEntry) -> Result<(), AllocError>
+    ensures { OnOk result (out.new.items ≡ out.old.items ++ entry_spelling (entry_of entry.now)) }
+{
+    put_key(out, &entry.key)?;
+    out.extend_from_slice(&entry.number.to_be_bytes())?;
+    put_value(out, &entry.value)
+}
+
+/// The bytes that a process takes in a frame.
+fn proc_size(proc: &Proc) -> usize
+    ensures value { result ≡ length (proc_spelling proc.now) }
+    ensures bound { result ≤ 260 }
+{
+    proc.nspace.as_bytes().len() + 5
+}
+
+/// The bytes that these processes take in a frame.
+fn procs_size(procs: &[Proc]) -> usize
+    requires { length procs.now ≤ 4096 }
+    ensures value { result ≡ length (flat_map proc_spelling procs.now) }
+    ensures bound { result ≤ 1064960 }
+{
+    let mut size = 0;
+    for process in procs {
+        size += proc_size(process);
+    }
+    size
+}
+
+/// The bytes that these take in a frame.
+fn locals_size(locals: &[Local]) -> usize
+    requires { length locals.now ≤ 4096 }
+    ensures value { result ≡ length (flat_map local_spelling locals.now) }
+    ensures bound { result ≤ 1101824 }
+{
+    let mut size = 0;
+    for local in locals {
+        size += proc_size(&local.proc) + 9;
+    }
+    size
+}
+
+/// The bytes that a fence's name takes in a frame.
+fn name_size(name: &FenceName) -> usize
+    ensures value { result ≡ length (name_spelling name.now) }
+    ensures bound { result ≤ 1064973 }
+{
+    procs_size(name.signature().participants()) + 13
+}
+
+fn put_flag(out: &mut BytesMut, flag: bool) -> Result<(), AllocError>
+    ensures { OnOk result (out.new.items ≡ out.old.items ++ flag_spelling flag) }
+{
+    let byte = if flag { 1 } else { 0 };
+    out.extend_from_slice(&[byte])
+}
+
+fn put_node(out: &mut BytesMut, node: NodeId) -> Result<(), AllocError>
+    ensures { OnOk result (out.new.items ≡ out.old.items ++ to_be_bytes w32 node) }
+{
+    out.extend_from_slice(&node.index().to_be_bytes())
+}
+
+fn put_procs(out: &mut BytesMut, procs: &[Proc]) -> Result<(), AllocError>
+    ensures { OnOk result (out.new.items ≡ out.old.items ++ flat_map proc_spelling procs.now) }
+{
+    for process in procs {
+        put_proc(out, process)?;
+    }
+    Ok(())
+}
+
+fn put_name(out: &mut BytesMut, name: &FenceName) -> Result<(), AllocError>
+    ensures { OnOk result (out.new.items ≡ out.old.items ++ name_spelling name.now) }
+{
+    let participants = name.signature().participants();
+    put_flag(out, name.signature().collect())?;
+    out.extend_from_slice(&name.instance().to_be_bytes())?;
+    out.extend_from_slice(&(participants.len() as u32).to_be_bytes())?;
+    put_procs(out, participants)
+}
+
+fn put_local(out: &mut BytesMut, local: &Local) -> Result<(), AllocError>
+    ensures { OnOk result (out.new.items ≡ out.old.items ++ local_spelling local.now) }
+{
+    put_proc(out, &local.proc)?;
+    put_flag(out, is_gone(local.state))?;
+    out.extend_from_slice(&local.level.to_be_bytes())
+}
+
+fn is_gone(state: State) -> bool
+    ensures { result ≡ is_gone state }
+{
+    match state {
+        State::Entered => false,
+        State::Gone => true,
+    }
+}
+
+fn put_locals(out: &mut BytesMut, locals: &[Local]) -> Result<(), AllocError>
+    ensures { OnOk result (out.new.items ≡ out.old.items ++ flat_map local_spelling locals.now) }
+{
+    for local in locals {
+        put_local(out, local)?;
+    }
+    Ok(())
+}
+
+fn put_header(out: &mut BytesMut, header: &Header) -> Result<(), AllocError>
+    ensures { OnOk result (out.new.items ≡ out.old.items ++ header_body header.now) }
+{
+    let locals = header.locals();
+    put_node(out, header.node())?;
+    put_name(out, header.name())?;
+    out.extend_from_slice(&(locals.len() as u32).to_be_bytes())?;
+    put_locals(out, locals)
+}
+
+pub fn encode_header(alloc: Global, header: &Header) -> Result<BytesMut, AllocError>
+    ensures { IfOk result (λ out. out.items ≡ frame_spelling (frames.Header header.now)) }
+{
+    let size = name_size(header.name()) + locals_size(header.locals()) + 8;
+    let mut out = BytesMut::with_capacity(alloc, HEAD_SIZE + size)?;
+    put_head(&mut out, 2, size as u32)?;
+    put_header(&mut out, header)?;
+    Ok(out)
+}
+
+fn put_fence_ask(out: &mut BytesMut, ask: &FenceAsk) -> Result<(), AllocError>
+    ensures { OnOk result (out.new.items ≡ out.old.items ++ fence_ask_body ask.now) }
+{
+    put_node(out, ask.node())?;
+    put_name(out, ask.name())
+}
+
+pub fn encode_fence_ask(alloc: Global, ask: &FenceAsk) -> Result<BytesMut, AllocError>
+    ensures { IfOk result (λ out. out.items ≡ frame_spelling (frames.FenceAsk ask.now)) }
+{
+    let size = name_size(ask.name()) + 4;
+    let mut out = BytesMut::with_capacity(alloc, HEAD_SIZE + size)?;
+    put_head(&mut out, 3, size as u32)?;
+    put_fence_ask(&mut out, ask)?;
+    Ok(out)
+}
+
+fn put_commit_ask(
+    out: &mut BytesMut,
+    node: NodeId,
+    proc: &Proc,
+    level: u64,
+) -> Result<(), AllocError>
+    ensures { OnOk result (out.new.items ≡ out.old.items ++ commit_ask_body (commit_ask node proc.now level)) }
+{
+    put_node(out, node)?;
+    put_proc(out, proc)?;
+    out.extend_from_slice(&level.to_be_bytes())
+}
+
+pub fn encode_range_ask(alloc: Global, ask: &RangeAsk) -> Result<BytesMut, AllocError>
+    ensures { IfOk result (λ out. out.items ≡ frame_spelling (frames.RangeAsk ask.now)) }
+{
+    let size = proc_size(ask.proc()) + 12;
+    let mut out = BytesMut::with_capacity(alloc, HEAD_SIZE + size)?;
+    put_head(&mut out, 4, size as u32)?;
+    put_commit_ask(&mut out, ask.node(), ask.proc(), ask.from())?;
+    Ok(out)
+}
+
+pub fn encode_direct_ask(alloc: Global, ask: &DirectAsk) -> Result<BytesMut, AllocError>
+    ensures { IfOk result (λ out. out.items ≡ frame_spelling (frames.DirectAsk ask.now)) }
+{
+    let size = proc_size(ask.proc()) + 12;
+    let mut out = BytesMut::with_capacity(alloc, HEAD_SIZE + size)?;
+    put_head(&mut out, 5, size as u32)?;
+    put_commit_ask(&mut out, ask.node(), ask.proc(), ask.level())?;
+    Ok(out)
+}
