@@ -115,7 +115,7 @@ stamp_all_of n m (e ∷ es) h =
     let stamp : Stamp = record { number = suc n; bytes = e.1 } in
     let is = and_from (nat_lt 0 (suc n)) (nat_le (suc n) (suc n)) (lt-ltb 0 (suc n) (omega arith)) (le-leb (suc n) (suc n) (omega arith)) in
     stamp_all_of n (finite.insert m e.0 stamp) es
-      (ap (list_all (λ e. nat_lt 0 e.1.number && nat_le e.1.number (suc n))) (finite.entries-insert nat_list_cmp_total m e.0 stamp) ∙ put_of (suc n) e.0 stamp (finite.entries m) is h)
+    (ap (list_all (λ e. nat_lt 0 e.1.number && nat_le e.1.number (suc n))) (finite.entries-insert nat_list_cmp_total m e.0 stamp) ∙ put_of (suc n) e.0 stamp (finite.entries m) is h)
 
 stamped_of : (n : ℕ) (table : Table) (m : Stamps) → are_of n m ≡ true → are_of (suc n) (stamped (suc n) table m) ≡ true
 unfolding stamped
@@ -249,12 +249,12 @@ unfolding is_piece
 newer_is_piece proc from level m commits name less last small numbered =
     let sorted = t_true _ (finite.entries_sorted m) in
     and_from _ _
-      (and_from _ _
-        (and_from _ _
-          (and_from _ _ commits (and_from _ _ (lt-ltb from level less) (le-leb level 4294967295 last)))
-          (newer_small proc from m name small))
-        (chain_sorted (filter (λ e. nat_lt from e.1.number) (finite.entries m)) (sorted_filter (λ e. nat_lt from e.1.number) (finite.entries m) sorted)))
-      (numbered_filter from level (finite.entries m) numbered)
+    (and_from _ _
+    (and_from _ _
+    (and_from _ _ commits (and_from _ _ (lt-ltb from level less) (le-leb level 4294967295 last)))
+    (newer_small proc from m name small))
+    (chain_sorted (filter (λ e. nat_lt from e.1.number) (finite.entries m)) (sorted_filter (λ e. nat_lt from e.1.number) (finite.entries m) sorted)))
+    (numbered_filter from level (finite.entries m) numbered)
 
 name_short : (name : List ℕ) → is_nspace name ≡ true → length name ≤ 255
 name_short name h = leb-true (length name) 255 (and_parts _ _ (and_parts _ _ h).0).1
@@ -269,5 +269,5 @@ gives_piece proc from level m k result h name less same is =
     let piece = newer_is_piece proc from level m h.commits (name_short proc.nspace name) less h.last h.small h.numbered in
     let done : result ≡ Ok k = is ∙ ap (λ b. cond b (Ok k) (Err refusals.BadParam)) (ap is_piece same ∙ piece) in
     let due : newer_answer proc from level m ≡ Ok k =
-      ap (λ b. cond b (Ok (record { proc = proc; from = from; to = level; entries = newer_than from m })) (Err refusals.BadParam)) (lt-ltb from level less) ∙ ap Ok (sym same) in
+    ap (λ b. cond b (Ok (record { proc = proc; from = from; to = level; entries = newer_than from m })) (Err refusals.BadParam)) (lt-ltb from level less) ∙ ap Ok (sym same) in
     subst (λ (r : Result Contribution Refusal). Gives (λ (p : Contribution). p) r (newer_answer proc from level m)) (sym done) due

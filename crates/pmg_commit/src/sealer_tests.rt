@@ -1,6 +1,6 @@
 //! What no clause says: that commits succeed, and what pieces of worked scripts hold.
 use crate::{Piece, Sealer};
-use pmg_scope::{Cache, Reach, Scope};
+use pmg_scope::{Batch, Cache, Reach, Scope};
 use pmg_value::{Key, Nspace, Proc, Rank, Refusal, Value};
 use std::alloc::Global;
 
@@ -13,13 +13,7 @@ fn sealer(alloc: Global) -> Result<Sealer, Refusal> {
 }
 
 // Puts a small number under a key of one byte.
-fn put(
-    alloc: Global,
-    cache: &mut Cache,
-    scope: Scope,
-    key: u8,
-    value: u8,
-) -> Result<(), Refusal> {
+fn put(alloc: Global, cache: &mut Cache, scope: Scope, key: u8, value: u8) -> Result<(), Refusal> {
     cache.put(scope, Key::read(alloc, &[key])?, Value::U8(value))
 }
 
@@ -64,8 +58,14 @@ fn a_commit_seals_for_each_reach(rt: HostRuntime) -> Result<(), Refusal> {
     let far = sealer.piece_of(0, Reach::Far)?;
     assert!(rt; holds(&far, &[(b'w', 1, 4), (b'z', 1, 3)]));
     assert_eq!(rt; (far.from(), far.to()), (0, 1));
-    assert_eq!(rt; sealer.piece_of(1, Reach::Far).err(), Some(Refusal::BadParam));
-    assert_eq!(rt; sealer.piece_of(0, Reach::Own).err(), Some(Refusal::BadParam));
+    assert_eq!(rt;
+        sealer.piece_of(1, Reach::Far).err(),
+        Some(Refusal::BadParam)
+    );
+    assert_eq!(rt;
+        sealer.piece_of(0, Reach::Own).err(),
+        Some(Refusal::BadParam)
+    );
     Ok(())
 }
 
@@ -127,7 +127,10 @@ fn an_end_is_sealed_for_all(rt: HostRuntime) -> Result<(), Refusal> {
         let Some(term) = piece.entry(1) else {
             return Err(Refusal::NotFound);
         };
-        assert_eq!(rt; (term.key.as_bytes(), term.number), (b"pmix.term".as_slice(), 2));
+        assert_eq!(rt;
+            (term.key.as_bytes(), term.number),
+            (b"pmix.term".as_slice(), 2)
+        );
         assert!(rt; matches!(term.value, Value::Bool(true)));
     }
     assert_eq!(rt; sealer.seal(&cache.unsealed()?), Err(Refusal::TooMany));
@@ -148,4 +151,36 @@ fn a_sealer_is_of_a_process_that_commits(rt: HostRuntime) -> Result<(), Refusal>
         assert_eq!(rt; made.is_err(), refused);
     }
     Ok(())
+}
+
+// What a cache with one put for all seals.
+fn batch_of_one(alloc: Global) -> Result<Batch, Refusal> {
+    let mut cache = Cache::new(alloc);
+    put(alloc, &mut cache, Scope::Global, b'a', 5)?;
+    Ok(cache.unsealed()?)
+}
+
+#[test]
+fn refused_memory_leaves_a_sealer_as_it_was(rt: HostRuntime) {
+    let alloc = rt.alloc();
+    let (Ok(mut sealer), Ok(batch)) = (sealer(alloc), batch_of_one(alloc)) else {
+        return;
+    };
+    let mut number = sealer.seal(&batch);
+    if number.is_err() {
+        assert_eq!(rt; sealer.level(), 0);
+        number = sealer.seal(&batch);
+    }
+    assert_eq!(rt; number, Ok(1));
+    let mut piece = sealer.piece_of(0, Reach::Far);
+    if piece.is_err() {
+        piece = sealer.piece_of(0, Reach::Far);
+    }
+    assert!(rt; matches!(piece, Ok(piece) if holds(&piece, &[(b'a', 1, 5)])));
+    let mut last = sealer.seal_end();
+    if last.is_err() {
+        assert_eq!(rt; sealer.level(), 1);
+        last = sealer.seal_end();
+    }
+    assert!(rt; matches!(last, Ok(2)));
 }

@@ -60,11 +60,11 @@ module _ {V X : Type 0} (f : V → X) where
       → rows_of f new ≡ finite.insert (rows_of f old) k (f v)
   rows_with old new k v updates =
       same_rows (rows_of f new) (finite.insert (rows_of f old) k (f v)) (λ q.
-        get-rows_of new q
-        ∙ ap (option_map f) (updates q)
-        ∙ shown_cond (is_at (slice_cmp nat_cmp k) q) (Some v) (at_key q old)
-        ∙ (λ i. cond (turned k q i) (Some (f v)) (sym (get-rows_of old q) i))
-        ∙ sym (finite.get-insert nat_list_cmp_total (rows_of f old) k (f v) q))
+      get-rows_of new q
+      ∙ ap (option_map f) (updates q)
+      ∙ shown_cond (is_at (slice_cmp nat_cmp k) q) (Some v) (at_key q old)
+      ∙ (λ i. cond (turned k q i) (Some (f v)) (sym (get-rows_of old q) i))
+      ∙ sym (finite.get-insert nat_list_cmp_total (rows_of f old) k (f v) q))
 
   -- rows that have nothing under the key, and else what they had
   pub rows_without : (old new : List (List ℕ × V)) (k : List ℕ)
@@ -72,11 +72,11 @@ module _ {V X : Type 0} (f : V → X) where
       → rows_of f new ≡ finite.remove (rows_of f old) k
   rows_without old new k updates =
       same_rows (rows_of f new) (finite.remove (rows_of f old) k) (λ q.
-        get-rows_of new q
-        ∙ ap (option_map f) (updates q)
-        ∙ shown_cond (is_at (slice_cmp nat_cmp k) q) None (at_key q old)
-        ∙ (λ i. cond (turned k q i) None (sym (get-rows_of old q) i))
-        ∙ sym (finite.get-remove nat_list_cmp_total (rows_of f old) k q))
+      get-rows_of new q
+      ∙ ap (option_map f) (updates q)
+      ∙ shown_cond (is_at (slice_cmp nat_cmp k) q) None (at_key q old)
+      ∙ (λ i. cond (turned k q i) None (sym (get-rows_of old q) i))
+      ∙ sym (finite.get-remove nat_list_cmp_total (rows_of f old) k q))
 
   -- the value under a key, read where a query finds it
   read_there : (o : Option (Bor V)) (x : Option V) → option_copied o ≡ x → option_map (λ v. f v.now) o ≡ option_map f x

@@ -39,7 +39,7 @@ module _ {X : Type 0} (h : X → ℕ) where
       → T (below_all (slice_cmp nat_cmp) e.0 es)
       → sum_by (size_by h) (put (slice_cmp nat_cmp) k v es) + counted_by h k (find (slice_cmp nat_cmp) k es) ≡ sum_by (size_by h) es + size_by h (k, v)
       → sum_by (size_by h) (by_order o ((k, v) ∷ e ∷ es) ((e.0, v) ∷ es) (e ∷ put (slice_cmp nat_cmp) k v es)) + counted_by h k (cond (is_eq o) (Some e.1) (find (slice_cmp nat_cmp) k es))
-        ≡ sum_by (size_by h) (e ∷ es) + size_by h (k, v)
+      ≡ sum_by (size_by h) (e ∷ es) + size_by h (k, v)
   put_beside k v e es Less is below others =
       let none : counted_by h k (find (slice_cmp nat_cmp) k es) ≡ 0 = ap (counted_by h k) (none_below k e.0 es is below) in
       let rows = sum_by-cons (size_by h) (k, v) (e ∷ es) in
@@ -59,8 +59,8 @@ module _ {X : Type 0} (h : X → ℕ) where
   size_put k v [] sorted = omega arith
   size_put k v (e ∷ es) sorted =
       put_beside k v e es (slice_cmp nat_cmp k e.0) refl
-        (t_first (below_all (slice_cmp nat_cmp) e.0 es) (is_sorted (slice_cmp nat_cmp) es) sorted)
-        (size_put k v es (t_second (below_all (slice_cmp nat_cmp) e.0 es) (is_sorted (slice_cmp nat_cmp) es) sorted))
+      (t_first (below_all (slice_cmp nat_cmp) e.0 es) (is_sorted (slice_cmp nat_cmp) es) sorted)
+      (size_put k v es (t_second (below_all (slice_cmp nat_cmp) e.0 es) (is_sorted (slice_cmp nat_cmp) es) sorted))
 
   pub sum_put : (m : KeyMap X) (k : List ℕ) (v : X)
       → sum_by (size_by h) (finite.entries (finite.insert m k v)) + counted_by h k (finite.get m k) ≡ sum_by (size_by h) (finite.entries m) + size_by h (k, v)

@@ -56,13 +56,7 @@ fn size_put(table: &Table, size: usize, key: &Key, value: &Value) -> usize
 
 /// What the table counts for once the value is put, where the put is seen there; none if the table would pass its
 /// limits. It counts for `size` now.
-fn size_with(
-    table: &Table,
-    size: usize,
-    seen: bool,
-    key: &Key,
-    value: &Value,
-) -> Option<usize>
+fn size_with(table: &Table, size: usize, seen: bool, key: &Key, value: &Value) -> Option<usize>
     requires counted { size ≡ table_size table.now }
     requires limits { IsTrue (is_within table.now) }
     ensures { result ≡ (if is_within (put_if seen table.now key.now (spelling value.now))
@@ -95,9 +89,27 @@ impl Sizes {
         ensures within { is_some result ≡ is_cache (with_put (cached_of tables.now) scope key.now (spelling value.now)) }
         ensures sizes { IfSome result (λ s. AreSizes s (with_put (cached_of tables.now) scope key.now (spelling value.now))) }
     {
-        let own = size_with(&tables.own, self.own, includes(scope, Reach::Own), key, value)?;
-        let near = size_with(&tables.near, self.near, includes(scope, Reach::Near), key, value)?;
-        let far = size_with(&tables.far, self.far, includes(scope, Reach::Far), key, value)?;
+        let own = size_with(
+            &tables.own,
+            self.own,
+            includes(scope, Reach::Own),
+            key,
+            value,
+        )?;
+        let near = size_with(
+            &tables.near,
+            self.near,
+            includes(scope, Reach::Near),
+            key,
+            value,
+        )?;
+        let far = size_with(
+            &tables.far,
+            self.far,
+            includes(scope, Reach::Far),
+            key,
+            value,
+        )?;
         Some(Sizes { own, near, far })
     }
 }

@@ -11,8 +11,8 @@ invariant_of-self c =
     let old : Sealed = record { proc = z.proc; level = z.level; ended = z.ended; near = z.near; far = z.far } in
     let next : z.level + 1 ≡ suc z.level = omega arith in
     let near : c.in_ok-near.near ≡ stamped (suc z.level) term_table z.near =
-      c.in_ok-near.ensures ∙ (λ i. stamped (next i) ((ap table_of c.deref.ensures.value ∙ c.in_ok-puts.ensures.table) i) z.near) in
+    c.in_ok-near.ensures ∙ (λ i. stamped (next i) ((ap table_of c.deref.ensures.value ∙ c.in_ok-puts.ensures.table) i) z.near) in
     let far : c.in_ok-far.far ≡ stamped (suc z.level) term_table z.far =
-      c.in_ok-far.ensures ∙ (λ i. stamped (next i) ((ap table_of c.deref-2.ensures.value ∙ c.in_ok-puts.ensures.table) i) z.far) in
+    c.in_ok-far.ensures ∙ (λ i. stamped (next i) ((ap table_of c.deref-2.ensures.value ∙ c.in_ok-puts.ensures.table) i) z.far) in
     subst IsSealer (λ i. record { proc = z.proc; level = sym next i; ended = true; near = sym near i; far = sym far i })
-      (ended_is old c.self.invariant c.if-self.false)
+    (ended_is old c.self.invariant c.if-self.false)

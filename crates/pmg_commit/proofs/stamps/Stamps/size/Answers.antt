@@ -13,9 +13,9 @@ loop-key-init c =
     let rising = c.iter-key-items.ensures.ordered in
     let few = ap length start ∙ sym (len_rising stamp_of rows rising) ∙ ap finite.len c.self.view_is in
     let all =
-      ap (λ es. sum_by stamp_size (shown stamp_of es)) start
-      ∙ ap (sum_by stamp_size) (sym (entries_rising stamp_of rows rising))
-      ∙ ap stamps_size c.self.view_is in
+    ap (λ es. sum_by stamp_size (shown stamp_of es)) start
+    ∙ ap (sum_by stamp_size) (sym (entries_rising stamp_of rows rising))
+    ∙ ap stamps_size c.self.view_is in
     record {
       so_far = omega (arith, all);
       bound = omega (arith, few, c.requires);

@@ -5,7 +5,8 @@ use Rattle.pmg_scope.proofs.SizeLemmas.{size_of_nothing, marked_is_cache}
 use Rattle.pmg_scope.proofs.cache.Cache.mark_sealed.Goals as goal
 
 pub invariant_of-self : goal.invariant_of-self
-invariant_of-self c =
-    ((c.self.invariant.0.0, sym (ap table_size c.clear.ensures ∙ size_of_nothing), sym (ap table_size c.clear-2.ensures ∙ size_of_nothing)),
-     (λ i. is_cache (record { own = c.self.inside.tables.own; near = c.clear.ensures i; far = c.clear-2.ensures i }))
-     ∙ marked_is_cache (cached_of c.self.inside.tables) c.self.invariant.1)
+invariant_of-self c = (
+  (c.self.invariant.0.0, sym (ap table_size c.clear.ensures ∙ size_of_nothing), sym (ap table_size c.clear-2.ensures ∙ size_of_nothing)),
+  (λ i. is_cache (record { own = c.self.inside.tables.own; near = c.clear.ensures i; far = c.clear-2.ensures i }))
+      ∙ marked_is_cache (cached_of c.self.inside.tables) c.self.invariant.1,
+)
