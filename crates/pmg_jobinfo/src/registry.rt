@@ -172,6 +172,7 @@ impl Registry {
         ensures value { result ≡ first_of (home_cause self.now proc.now) (home_of self.now proc.now) }
         ensures bound { IfOk result (λ node. node < length self.now.nodes) }
     {
+        // The fields are opened here, and with them that a group has a node 0.
         let _nodes = &self.nodes;
         let Some(homes) = self.homes(&proc.nspace) else {
             if proc.is_host() {
