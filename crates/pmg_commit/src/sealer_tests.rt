@@ -1,186 +1,164 @@
 //! What no clause says: that commits succeed, and what pieces of worked scripts hold.
-use crate::{Piece, Sealer};
-use pmg_scope::{Batch, Cache, Reach, Scope};
+use crate::Sealer;
+use pmg_scope::{Cache, Reach, Scope};
 use pmg_value::{Key, Nspace, Proc, Rank, Refusal, Value};
 use std::alloc::Global;
 
-fn proc(alloc: Global, nspace: &[u8], rank: u32) -> Result<Proc, Refusal> {
-    Ok(Proc::new(Nspace::read_any(alloc, nspace)?, Rank::new(rank)))
+fn sealer_of(alloc: Global, nspace: &[u8], rank: u32) -> Result<Sealer, Refusal> {
+    let proc = Proc::new(Nspace::read_any(alloc, nspace)?, Rank::new(rank));
+    Sealer::new(alloc, &proc)
 }
 
-fn sealer(alloc: Global) -> Result<Sealer, Refusal> {
-    Sealer::new(alloc, &proc(alloc, b"j", 0)?)
-}
-
-// Puts a small number under a key of one byte.
-fn put(alloc: Global, cache: &mut Cache, scope: Scope, key: u8, value: u8) -> Result<(), Refusal> {
-    cache.put(scope, Key::read(alloc, &[key])?, Value::U8(value))
-}
-
-// Seals what the cache has for the others.
+// The number of the next commit, asked for again where memory ran out; then the sealer was as before.
 fn commit(cache: &mut Cache, sealer: &mut Sealer) -> Result<u64, Refusal> {
-    let number = sealer.seal(&cache.unsealed()?)?;
+    let batch = cache.unsealed()?;
+    let before = sealer.level();
+    let number = match sealer.seal(&batch) {
+        Err(Refusal::NoMemory) if sealer.level() == before => sealer.seal(&batch)?,
+        answer => answer?,
+    };
     cache.mark_sealed();
     Ok(number)
 }
 
-// Whether the piece's entries are these: a key of one byte, a commit's number, a small number.
-fn holds(piece: &Piece, entries: &[(u8, u64, u8)]) -> bool {
-    if piece.count() != entries.len() {
-        return false;
+// The scope of a step's first letter.
+fn scope_of(letter: u8) -> Scope {
+    match letter {
+        b'i' => Scope::Internal,
+        b'l' => Scope::Local,
+        b'r' => Scope::Remote,
+        _ => Scope::Global,
     }
-    for (i, (key, number, value)) in entries.iter().enumerate() {
-        let Some(entry) = piece.entry(i) else {
-            return false;
-        };
-        let same = matches!(entry.value, Value::U8(n) if n == *value);
-        if entry.key.as_bytes() != &[*key] || entry.number != *number || !same {
-            return false;
+}
+
+// One step of a process: a commit, its end, or the put of a digit under a key, as `gk1`.
+fn step(
+    alloc: Global,
+    cache: &mut Cache,
+    sealer: &mut Sealer,
+    letters: &[u8; 3],
+) -> Result<u64, Refusal> {
+    let [first, key, digit] = *letters;
+    match first {
+        b'c' => commit(cache, sealer),
+        b'e' => Ok(sealer.seal_end()?),
+        _ => {
+            cache.put(scope_of(first), Key::read(alloc, &[key])?, Value::U8(digit))?;
+            Ok(sealer.level())
         }
     }
-    true
+}
+
+// The sealer once these steps are taken.
+fn played(alloc: Global, steps: &[&[u8; 3]]) -> Result<Sealer, Refusal> {
+    let mut cache = Cache::new(alloc);
+    let mut sealer = sealer_of(alloc, b"j", 0)?;
+    for letters in steps {
+        step(alloc, &mut cache, &mut sealer, letters)?;
+    }
+    Ok(sealer)
+}
+
+// The digit that the value is; a point for another value.
+fn digit_of(value: &Value) -> u8 {
+    match value {
+        Value::U8(digit) => *digit,
+        _ => b'.',
+    }
+}
+
+// The entries of the piece from that commit on: of each its key, its commit's number and its digit.
+fn shown(alloc: Global, sealer: &Sealer, from: u64, reach: Reach) -> Result<Vec<u8>, Refusal> {
+    let piece = match sealer.piece_of(from, reach) {
+        Err(Refusal::NoMemory) => sealer.piece_of(from, reach)?,
+        answer => answer?,
+    };
+    let mut text = Vec::new(alloc);
+    for entry in piece.entries() {
+        text.extend_from_slice(entry.key.as_bytes())?;
+        text.push(if entry.number == 1 { b'1' } else { b'2' })?;
+        text.push(digit_of(&entry.value))?;
+    }
+    Ok(text)
 }
 
 #[test]
 fn a_commit_seals_for_each_reach(rt: HostRuntime) -> Result<(), Refusal> {
     let alloc = rt.alloc();
-    let mut cache = Cache::new(alloc);
-    let mut sealer = sealer(alloc)?;
-    put(alloc, &mut cache, Scope::Internal, b'x', 1)?;
-    put(alloc, &mut cache, Scope::Local, b'y', 2)?;
-    put(alloc, &mut cache, Scope::Remote, b'z', 3)?;
-    put(alloc, &mut cache, Scope::Global, b'w', 4)?;
-    assert_eq!(rt; commit(&mut cache, &mut sealer)?, 1);
-    let own = cache.own(&Key::read(alloc, b"x")?);
-    assert!(rt; matches!(own, Some(Value::U8(1))));
-    let near = sealer.piece_of(0, Reach::Near)?;
-    assert!(rt; holds(&near, &[(b'w', 1, 4), (b'y', 1, 2)]));
-    let far = sealer.piece_of(0, Reach::Far)?;
-    assert!(rt; holds(&far, &[(b'w', 1, 4), (b'z', 1, 3)]));
-    assert_eq!(rt; (far.from(), far.to()), (0, 1));
+    let sealer = played(alloc, &[b"ix1", b"ly2", b"rz3", b"gw4", b"c  "])?;
     assert_eq!(rt;
-        sealer.piece_of(1, Reach::Far).err(),
-        Some(Refusal::BadParam)
+        shown(alloc, &sealer, 0, Reach::Near)?.as_slice(),
+        b"w14y12".as_slice()
     );
     assert_eq!(rt;
-        sealer.piece_of(0, Reach::Own).err(),
-        Some(Refusal::BadParam)
+        shown(alloc, &sealer, 0, Reach::Far)?.as_slice(),
+        b"w14z13".as_slice()
     );
+    Ok(())
+}
+
+#[test]
+fn a_piece_is_of_commits_for_others(rt: HostRuntime) -> Result<(), Refusal> {
+    let sealer = played(rt.alloc(), &[b"gw4", b"c  "])?;
+    assert!(rt; matches!(sealer.piece_of(1, Reach::Far), Err(Refusal::BadParam)));
+    assert!(rt; matches!(sealer.piece_of(0, Reach::Own), Err(Refusal::BadParam)));
     Ok(())
 }
 
 #[test]
 fn two_values_of_one_key_stand_side_by_side(rt: HostRuntime) -> Result<(), Refusal> {
     let alloc = rt.alloc();
-    let mut cache = Cache::new(alloc);
-    let mut sealer = sealer(alloc)?;
-    put(alloc, &mut cache, Scope::Local, b'a', b's')?;
-    put(alloc, &mut cache, Scope::Remote, b'a', b't')?;
-    assert_eq!(rt; commit(&mut cache, &mut sealer)?, 1);
-    let near = sealer.piece_of(0, Reach::Near)?;
-    assert!(rt; holds(&near, &[(b'a', 1, b's')]));
-    let far = sealer.piece_of(0, Reach::Far)?;
-    assert!(rt; holds(&far, &[(b'a', 1, b't')]));
+    let sealer = played(alloc, &[b"las", b"rat", b"c  "])?;
+    assert_eq!(rt;
+        shown(alloc, &sealer, 0, Reach::Near)?.as_slice(),
+        b"a1s".as_slice()
+    );
+    assert_eq!(rt;
+        shown(alloc, &sealer, 0, Reach::Far)?.as_slice(),
+        b"a1t".as_slice()
+    );
     Ok(())
 }
 
 #[test]
 fn a_put_behind_a_commit_is_of_the_next_one(rt: HostRuntime) -> Result<(), Refusal> {
     let alloc = rt.alloc();
-    let mut cache = Cache::new(alloc);
-    let mut sealer = sealer(alloc)?;
-    put(alloc, &mut cache, Scope::Global, b'a', 1)?;
-    put(alloc, &mut cache, Scope::Global, b'b', 2)?;
-    assert_eq!(rt; commit(&mut cache, &mut sealer)?, 1);
-    put(alloc, &mut cache, Scope::Global, b'a', 3)?;
-    assert_eq!(rt; commit(&mut cache, &mut sealer)?, 2);
-    assert_eq!(rt; commit(&mut cache, &mut sealer)?, 3);
-    for sealer in [&sealer, &sealer.copy()?] {
-        assert_eq!(rt; sealer.level(), 3);
-        let all = sealer.piece_of(0, Reach::Far)?;
-        assert!(rt; holds(&all, &[(b'a', 2, 3), (b'b', 1, 2)]));
-        let late = sealer.piece_of(1, Reach::Far)?;
-        assert!(rt; holds(&late, &[(b'a', 2, 3)]));
-        let last = sealer.piece_of(2, Reach::Near)?;
-        assert!(rt; holds(&last, &[]));
-        assert_eq!(rt; (last.from(), last.to()), (2, 3));
-    }
+    let steps = [b"ga1", b"gb2", b"c  ", b"ga3", b"c  ", b"c  "];
+    let sealer = played(alloc, &steps)?.copy()?;
+    assert_eq!(rt; sealer.level(), 3);
+    assert_eq!(rt;
+        shown(alloc, &sealer, 0, Reach::Far)?.as_slice(),
+        b"a23b12".as_slice()
+    );
+    assert_eq!(rt;
+        shown(alloc, &sealer, 1, Reach::Far)?.as_slice(),
+        b"a23".as_slice()
+    );
     Ok(())
 }
 
 #[test]
 fn an_end_is_sealed_for_all(rt: HostRuntime) -> Result<(), Refusal> {
     let alloc = rt.alloc();
-    let mut cache = Cache::new(alloc);
-    let mut sealer = sealer(alloc)?;
-    put(alloc, &mut cache, Scope::Global, b'a', 5)?;
-    assert_eq!(rt; commit(&mut cache, &mut sealer)?, 1);
-    put(alloc, &mut cache, Scope::Global, b'a', 6)?;
-    assert_eq!(rt; sealer.seal_end()?, 2);
-    for reach in [Reach::Near, Reach::Far] {
-        let piece = sealer.piece_of(0, reach)?;
-        assert_eq!(rt; piece.count(), 2);
-        let Some(value) = piece.entry(0) else {
-            return Err(Refusal::NotFound);
-        };
-        assert!(rt; matches!(value.value, Value::U8(5)));
-        let Some(term) = piece.entry(1) else {
-            return Err(Refusal::NotFound);
-        };
-        assert_eq!(rt;
-            (term.key.as_bytes(), term.number),
-            (b"pmix.term".as_slice(), 2)
-        );
-        assert!(rt; matches!(term.value, Value::Bool(true)));
-    }
-    assert_eq!(rt; sealer.seal(&cache.unsealed()?), Err(Refusal::TooMany));
-    assert_eq!(rt; sealer.seal_end()?, 2);
+    let sealer = played(alloc, &[b"ga5", b"c  ", b"ga6", b"e  ", b"e  "])?;
     assert_eq!(rt; sealer.level(), 2);
+    let text = b"a15pmix.term2.".as_slice();
+    assert_eq!(rt; shown(alloc, &sealer, 0, Reach::Near)?.as_slice(), text);
+    assert_eq!(rt; shown(alloc, &sealer, 0, Reach::Far)?.as_slice(), text);
     Ok(())
 }
 
 #[test]
-fn a_sealer_is_of_a_process_that_commits(rt: HostRuntime) -> Result<(), Refusal> {
-    let alloc = rt.alloc();
-    for (rank, refused) in [(0, false), (4095, false), (4096, true), (4294967294, true)] {
-        let made = Sealer::new(alloc, &proc(alloc, b"j", rank)?);
-        assert_eq!(rt; made.is_err(), refused);
-    }
-    for (rank, refused) in [(0, false), (1, true)] {
-        let made = Sealer::new(alloc, &proc(alloc, b"pmix.host", rank)?);
-        assert_eq!(rt; made.is_err(), refused);
-    }
-    Ok(())
-}
-
-// What a cache with one put for all seals.
-fn batch_of_one(alloc: Global) -> Result<Batch, Refusal> {
-    let mut cache = Cache::new(alloc);
-    put(alloc, &mut cache, Scope::Global, b'a', 5)?;
-    Ok(cache.unsealed()?)
+fn a_process_commits_nothing_behind_its_end(rt: HostRuntime) {
+    let answer = played(rt.alloc(), &[b"e  ", b"c  "]);
+    assert!(rt; matches!(answer, Err(Refusal::TooMany)));
 }
 
 #[test]
-fn refused_memory_leaves_a_sealer_as_it_was(rt: HostRuntime) {
+fn a_sealer_is_of_a_process_that_commits(rt: HostRuntime) {
     let alloc = rt.alloc();
-    let (Ok(mut sealer), Ok(batch)) = (sealer(alloc), batch_of_one(alloc)) else {
-        return;
-    };
-    let mut number = sealer.seal(&batch);
-    if number.is_err() {
-        assert_eq!(rt; sealer.level(), 0);
-        number = sealer.seal(&batch);
-    }
-    assert_eq!(rt; number, Ok(1));
-    let mut piece = sealer.piece_of(0, Reach::Far);
-    if piece.is_err() {
-        piece = sealer.piece_of(0, Reach::Far);
-    }
-    assert!(rt; matches!(piece, Ok(piece) if holds(&piece, &[(b'a', 1, 5)])));
-    let mut last = sealer.seal_end();
-    if last.is_err() {
-        assert_eq!(rt; sealer.level(), 1);
-        last = sealer.seal_end();
-    }
-    assert!(rt; matches!(last, Ok(2)));
+    assert!(rt; sealer_of(alloc, b"j", 4095).is_ok());
+    assert!(rt; sealer_of(alloc, b"j", 4096).is_err());
+    assert!(rt; sealer_of(alloc, b"pmix.host", 0).is_ok());
+    assert!(rt; sealer_of(alloc, b"pmix.host", 1).is_err());
 }
