@@ -1,5 +1,5 @@
 -- What a sealer keeps, from commit to commit.
-use Rattle.std.proofs.Common.{◌≡◌, ℕ, suc, ◌+◌, ◌≤◌, ◌<◌, Bool, true, false, cond, ◌&&◌, ◌||◌, nat_lt, nat_le, T, List, [], ◌∷◌, length, map, Result, Ok, Err, refl, sym, ap, subst, ◌∙◌, IsTrue, arith}
+use Rattle.std.proofs.Common.{◌≡◌, ℕ, suc, ◌+◌, ◌≤◌, ◌<◌, Bool, true, false, cond, ◌&&◌, ◌||◌, nat_lt, nat_le, T, List, [], ◌∷◌, length, map, Result, Ok, Err, refl, sym, ap, subst, ◌∙◌, arith}
 use Rattle.std.specs.FinMap as finite
 use Rattle.std.specs.FinMap.Entries.{put, by_order, below_all, is_sorted}
 use Rattle.std.specs.List.{filter, list_all, sum_by}
@@ -7,7 +7,7 @@ use Rattle.std.specs.declared.cmp.Ordering.{Ordering}
 use Rattle.std.specs.declared.cmp.Ordering.TheVariants.{Less, Equal, Greater}
 use Rattle.std.specs.Ordering.{nat_cmp, is_lt}
 use Rattle.std.specs.Cmp.Lexicographic.{slice_cmp, nat_list_cmp_total}
-use Rattle.std.proofs.lemmas.Bool.{false≢true, and_parts, and_from, ltb-true, leb-true, lt-ltb, le-leb}
+use Rattle.std.proofs.lemmas.Bool.{false≢true, and_parts, and_from, leb-true, lt-ltb, le-leb}
 use Rattle.std.proofs.lemmas.List.Sums.{sum_by-cons}
 use Rattle.pmg_value.specs.Lists.{leads, is_chain}
 use Rattle.pmg_value.specs.Answers.{Gives}
@@ -19,8 +19,7 @@ use Rattle.pmg_value.specs.declared.process.Proc.{Proc}
 use Rattle.pmg_scope.specs.Cached.{Table, Unsealed}
 use Rattle.pmg_scope.specs.Scripts.{term_key}
 use Rattle.pmg_scope.proofs.RowLemmas.{entries_of_nothing}
-use Rattle.pmg_scope.proofs.SumLemmas.{t_first, t_second, sum_put, sum_of_nothing}
-use Rattle.pmg_commit.specs.Entries.{Entry}
+use Rattle.pmg_scope.proofs.SumLemmas.{sum_put}
 use Rattle.pmg_commit.specs.Knowledge.{Contribution}
 use Rattle.pmg_commit.specs.Pieces.{entry_size, body_size, is_small, is_numbered, is_key_rising, is_piece}
 use Rattle.pmg_commit.specs.Sealed.{Stamp, Stamps, Sealed, fresh, stamp_all, stamped, sealed_with, ended_with, term_table, stamp_size, stamps_size, are_within, stamped_entry, newer_than}

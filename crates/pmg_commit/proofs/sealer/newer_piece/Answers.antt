@@ -1,6 +1,5 @@
 use Rattle.std.proofs.Common.{◌≡◌, true, ap, sym, ◌∙◌}
 use Rattle.pmg_value.specs.Names.{is_nspace}
-use Rattle.pmg_value.specs.declared.process.Proc.{Proc}
 use Rattle.pmg_commit.proofs.SealerFacts.{gives_piece}
 use Rattle.pmg_commit.proofs.sealer.newer_piece.Goals as goal
 

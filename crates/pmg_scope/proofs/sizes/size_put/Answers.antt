@@ -1,4 +1,4 @@
-use Rattle.std.proofs.Common.{sym, ap, ◌∙◌, arith}
+use Rattle.std.proofs.Common.{arith}
 use Rattle.pmg_value.specs.Spelling.{spelling}
 use Rattle.pmg_scope.proofs.SizeLemmas.{size_with_put}
 use Rattle.pmg_scope.proofs.sizes.size_put.Goals as goal

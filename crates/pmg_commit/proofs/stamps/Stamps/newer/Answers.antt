@@ -1,4 +1,4 @@
-use Rattle.std.proofs.Common.{map, ◌++◌, ap, ◌∙◌}
+use Rattle.std.proofs.Common.{map, ◌++◌, ◌∙◌}
 use Rattle.pmg_commit.specs.Pieces.{entry_of}
 use Rattle.pmg_commit.proofs.StampLemmas.{newer_rows, newer-rising}
 use Rattle.pmg_commit.proofs.stamps.Stamps.newer.Goals as goal

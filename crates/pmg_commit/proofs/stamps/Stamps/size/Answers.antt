@@ -1,4 +1,4 @@
-use Rattle.std.proofs.Common.{◌≤◌, ◌*◌, length, ap, sym, subst, ◌∙◌, arith}
+use Rattle.std.proofs.Common.{length, ap, sym, ◌∙◌, arith}
 use Rattle.std.specs.FinMap as finite
 use Rattle.std.specs.List.{sum_by}
 use Rattle.pmg_scope.proofs.RowLemmas.{shown, entries_rising, len_rising}

@@ -1,5 +1,5 @@
-use Rattle.std.proofs.Common.{sym, ap, ◌∙◌, ◌&&◌}
-use Rattle.pmg_scope.specs.Cached.{table_size, is_within, is_cache}
+use Rattle.std.proofs.Common.{sym, ap, ◌∙◌}
+use Rattle.pmg_scope.specs.Cached.{table_size, is_cache}
 use Rattle.pmg_scope.proofs.SizeLemmas.{size_of_nothing, nothing_is_cache}
 use Rattle.pmg_scope.proofs.cache.Cache.new.Goals as goal
 

@@ -1,4 +1,4 @@
-use Rattle.std.proofs.Common.{◌≡◌, sym, ap, ◌∙◌}
+use Rattle.std.proofs.Common.{sym, ap, ◌∙◌}
 use Rattle.pmg_value.specs.Spelling.{spelling}
 use Rattle.pmg_scope.proofs.RowLemmas.{put_all, put_all-push, put_all-empty}
 use Rattle.pmg_scope.proofs.table.Table.of_rows.Goals as goal

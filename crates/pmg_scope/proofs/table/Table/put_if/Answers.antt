@@ -1,6 +1,4 @@
-use Rattle.std.proofs.Common.{◌≡◌, sym, ap, ◌∙◌}
-use Rattle.std.specs.FinMap as map
-use Rattle.std.specs.Option.{option_map}
+use Rattle.std.proofs.Common.{sym, ◌∙◌}
 use Rattle.pmg_value.specs.Spelling.{spelling}
 use Rattle.pmg_scope.specs.Rows.{restored}
 use Rattle.pmg_scope.proofs.TableLemmas.{put_restored}

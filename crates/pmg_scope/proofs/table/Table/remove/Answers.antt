@@ -1,4 +1,4 @@
-use Rattle.std.proofs.Common.{ap, sym, ◌∙◌}
+use Rattle.std.proofs.Common.{ap, ◌∙◌}
 use Rattle.std.specs.FinMap as map
 use Rattle.pmg_value.specs.Spelling.{spelling}
 use Rattle.pmg_scope.proofs.RowLemmas.{rows_without}
