@@ -1,7 +1,6 @@
 -- Stamps in memory.
-use Rattle.std.proofs.Common.{◌≡◌, ℕ, nat_lt, List, [], ◌∷◌, map, sym, ap, subst, ◌∙◌}
+use Rattle.std.proofs.Common.{◌≡◌, ℕ, nat_lt, List, map, sym, ap, ◌∙◌}
 use Rattle.std.specs.List.{filter}
-use Rattle.std.specs.List.Sorted.{IsStrictlySortedBy}
 use Rattle.pmg_value.specs.Spelling.{spelling}
 use Rattle.pmg_value.specs.declared.value.Value.{Value}
 use Rattle.pmg_scope.specs.Rows.{IsRising, rows_of, table_of}
@@ -22,8 +21,3 @@ newer-rising from rows m rising same =
 pub stamped-rising : (n : ℕ) (puts : List (List ℕ × Value)) (m : Stamps) → IsRising puts → stamp_all n m (shown spelling puts) ≡ stamped n (table_of puts) m
 unfolding stamped
 stamped-rising n puts m rising = ap (stamp_all n m) (sym (entries_rising spelling puts rising))
-
--- one row rises
-pub one_rises : (put : List ℕ × Value) (rows : List (List ℕ × Value)) → rows ≡ put ∷ [] → IsRising rows
-unfolding IsStrictlySortedBy
-one_rises put rows e = subst IsRising (sym e) (tt, tt)

@@ -2,15 +2,16 @@ ghost use Rattle.std.specs.Prelude.{◌≡◌, ◌≤◌, suc, length, IfOk, OnO
 ghost use Rattle.pmg_value.specs.Answers.{Gives};
 ghost use Rattle.pmg_value.specs.declared.refusal.Refusal.TheVariants as refusals;
 ghost use Rattle.pmg_value.specs.Process.{is_client, is_host};
-ghost use Rattle.pmg_scope.specs.Rows.{IsRising, table_of};
+ghost use Rattle.pmg_scope.specs.Rows.{IsRising, rows_of, table_of};
 ghost use Rattle.pmg_commit.specs.Sealed.{sealed_with, end_of, new_answer, seal_answer, piece_answer, term_table};
-ghost use Rattle.pmg_commit.specs.Stamped.{CanBeSent, newer_answer};
+ghost use Rattle.pmg_commit.specs.Stamped.{CanBeSent, newer_answer, stamp_of};
 
 use crate::piece::{MAX_COMMIT, Piece, commits};
-use crate::stamps::Stamps;
+use crate::stamps::{SealedPut, Stamps};
 use pmg_scope::{Batch, Reach};
 use pmg_value::{Key, Proc, Refusal, Value};
 use std::alloc::{AllocError, Global};
+use std::collections::BTreeMap;
 use std::marker::Model;
 
 /// What the commits of one process sealed: under each key what was sealed last, with the number of its commit
@@ -120,6 +121,14 @@ impl Sealer {
             Reach::Near => newer_piece(self.alloc, &self.proc, from, self.level, &self.near),
             Reach::Far => newer_piece(self.alloc, &self.proc, from, self.level, &self.far),
         }
+    }
+
+    /// What was sealed last for the processes on other nodes, under each key: to look one up takes about the logarithm
+    /// of the number of keys.
+    pub fn far_puts(&self) -> &BTreeMap<Key, SealedPut>
+        ensures { rows_of stamp_of result.now.entries ≡ self.now.far }
+    {
+        self.far.puts()
     }
 
     /// Another sealer of the same meaning.

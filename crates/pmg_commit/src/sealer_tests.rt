@@ -162,3 +162,23 @@ fn a_sealer_is_of_a_process_that_commits(rt: HostRuntime) {
     assert!(rt; sealer_of(alloc, b"pmix.host", 0).is_ok());
     assert!(rt; sealer_of(alloc, b"pmix.host", 1).is_err());
 }
+
+// What the sealer has for other nodes: of each key, its commit's number and its digit.
+fn far_shown(alloc: Global, sealer: &Sealer) -> Result<Vec<u8>, Refusal> {
+    let mut text = Vec::new(alloc);
+    for (key, put) in sealer.far_puts().iter() {
+        text.extend_from_slice(key.as_bytes())?;
+        text.push(if put.number() == 1 { b'1' } else { b'2' })?;
+        text.push(digit_of(put.value()))?;
+    }
+    Ok(text)
+}
+
+#[test]
+fn what_was_sealed_last_is_lent(rt: HostRuntime) -> Result<(), Refusal> {
+    let alloc = rt.alloc();
+    let steps = [b"ga1", b"gb2", b"lc3", b"c  ", b"ga4", b"c  ", b"gb5"];
+    let sealer = played(alloc, &steps)?;
+    assert_eq!(rt; far_shown(alloc, &sealer)?.as_slice(), b"a24b12".as_slice());
+    Ok(())
+}

@@ -21,6 +21,20 @@ pub struct SealedPut {
 }
 
 impl SealedPut {
+    /// The number of the commit that sealed it.
+    pub fn number(&self) -> u64
+        ensures { result ≡ (stamp_of self.now).number }
+    {
+        self.number
+    }
+
+    /// The value that was put.
+    pub fn value(&self) -> &Value
+        ensures { spelling result.now ≡ (stamp_of self.now).bytes }
+    {
+        &self.value
+    }
+
     /// Another one of the same meaning.
     fn copy(&self) -> Result<SealedPut, AllocError>
         ensures { IfOk result (λ p. p ≡ self.now) }
@@ -59,6 +73,13 @@ impl Stamps {
         Stamps {
             rows: BTreeMap::new(alloc),
         }
+    }
+
+    /// What was sealed last, under each key.
+    pub fn puts(&self) -> &BTreeMap<Key, SealedPut>
+        ensures { rows_of stamp_of result.now.entries ≡ self.now }
+    {
+        &self.rows
     }
 
     /// Puts what was sealed under the key, and gives back what was there.

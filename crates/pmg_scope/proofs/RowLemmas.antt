@@ -1,5 +1,5 @@
 -- Rows of keys and values in memory, and what stands under a key.
-use Rattle.std.proofs.Common.{◌≡◌, ℕ, Bool, true, false, cond, List, [], ◌∷◌, ◌++◌, map, length, Option, Some, None, refl, sym, ap, ◌∙◌, Bor, arith}
+use Rattle.std.proofs.Common.{◌≡◌, ℕ, Bool, true, false, cond, List, [], ◌∷◌, ◌++◌, map, length, Option, Some, None, refl, sym, ap, subst, ◌∙◌, Bor, arith}
 use Rattle.std.specs.FinMap as finite
 use Rattle.std.specs.FinMap.Entries.{find, put}
 use Rattle.std.specs.Map.{lookup, keys_of}
@@ -117,3 +117,8 @@ module _ {V X : Type 0} (f : V → X) where
 
   pub len_rising : (rows : List (List ℕ × V)) → IsRising rows → finite.len (rows_of f rows) ≡ length rows
   len_rising rows rising = finite.len-entries (rows_of f rows) ∙ ap length (entries_rising rows rising) ∙ length-map rows (λ e. (e.0, f e.1))
+
+-- one row rises
+pub one_rises : {V : Type 0} (row : List ℕ × V) (rows : List (List ℕ × V)) → rows ≡ row ∷ [] → IsRising rows
+unfolding IsStrictlySortedBy
+one_rises row rows e = subst IsRising (sym e) (tt, tt)

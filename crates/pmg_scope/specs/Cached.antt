@@ -9,6 +9,7 @@ use Rattle.pmg_value.specs.Names.{is_reserved}
 use Rattle.pmg_value.specs.declared.refusal.Refusal.{Refusal}
 use Rattle.pmg_value.specs.declared.refusal.Refusal.TheVariants as refusals
 use Rattle.pmg_scope.specs.declared.scope.Scope.{Scope}
+use Rattle.pmg_scope.specs.declared.scope.Scope.TheVariants as scopes
 use Rattle.pmg_scope.specs.declared.scope.Reach.{Reach}
 use Rattle.pmg_scope.specs.declared.scope.Reach.TheVariants as reach
 use Rattle.pmg_scope.specs.Scopes.{reaches}
@@ -76,6 +77,10 @@ with_put c scope key value = record {
   near = put_if (reaches scope reach.Near) c.near key value;
   far = put_if (reaches scope reach.Far) c.far key value;
 }
+
+-- what the next commit seals of a process that put this value alone, with PMIX_GLOBAL: for each other reach that value
+abbrev pub global_put : List ℕ → List ℕ → Unsealed
+global_put key value = unsealed_of (with_put no_puts scopes.Global key value)
 
 -- the cache once all of it is sealed
 abbrev pub marked : Cached → Cached

@@ -1,4 +1,7 @@
 ghost use Rattle.std.specs.Prelude.{◌≡◌, IfOk};
+ghost use Rattle.std.specs.FinMap as map;
+ghost use Rattle.pmg_value.specs.Spelling.{spelling};
+ghost use Rattle.pmg_scope.specs.Cached.{global_put};
 ghost use Rattle.pmg_scope.specs.Rows.{IsRising, table_of};
 
 use crate::table::Table;
@@ -28,6 +31,16 @@ impl Model for Batch {
 }
 
 impl Batch {
+    /// The batch of one put with PMIX_GLOBAL, by a process that has no other put to seal (PMIx Standard 5.0, PMIx_Put).
+    /// A key that begins with `pmix` is taken too.
+    pub fn of_put(alloc: Global, key: Key, value: Value) -> Result<Batch, AllocError>
+        ensures { IfOk result (λ b. b ≡ global_put key (spelling value)) }
+    {
+        let near = one_row(alloc, key.copy()?, value.copy()?)?;
+        let far = one_row(alloc, key, value)?;
+        Ok(Batch { near, far })
+    }
+
     /// The batch of what these tables hold.
     pub(crate) fn of_tables(alloc: Global, near: &Table, far: &Table) -> Result<Batch, AllocError>
         ensures near { IfOk result (λ b. b.near ≡ near.now) }
@@ -54,4 +67,14 @@ impl Batch {
     {
         &self.far
     }
+}
+
+/// The one row of this key.
+fn one_row(alloc: Global, key: Key, value: Value) -> Result<Vec<(Key, Value)>, AllocError>
+    ensures rising { IfOk result (λ rs. IsRising rs.items) }
+    ensures table { IfOk result (λ rs. table_of rs.items ≡ map.insert map.empty key (spelling value)) }
+{
+    let mut rows = Vec::with_capacity(alloc, 1)?;
+    rows.push((key, value))?;
+    Ok(rows)
 }

@@ -340,3 +340,19 @@ fn each_reach_has_bytes_of_its_own(rt: HostRuntime) -> Result<(), Refusal> {
     }
     Ok(())
 }
+
+#[test]
+fn a_batch_of_one_put_is_for_all_others(rt: HostRuntime) -> Result<(), Refusal> {
+    let alloc = rt.alloc();
+    let key = key_of(alloc, b"a")?;
+    let again = key_of(alloc, b"a")?;
+    let batch = match Batch::of_put(alloc, key, Value::U8(b'7')) {
+        Ok(batch) => batch,
+        Err(_) => Batch::of_put(alloc, again, Value::U8(b'7'))?,
+    };
+    let mut text = again!(Vec::with_capacity(alloc, 8).map_err(Refusal::from))?;
+    show_rows(&mut text, batch.near())?;
+    show_rows(&mut text, batch.far())?;
+    assert_eq!(rt; text.as_slice(), b" a7 a7".as_slice());
+    Ok(())
+}

@@ -1,6 +1,6 @@
 use Rattle.std.proofs.Common.{◌++◌, [], ◌∷◌, true, ap, ◌∙◌}
 use Rattle.pmg_value.specs.declared.value.Value.TheVariants as values
-use Rattle.pmg_commit.proofs.StampLemmas.{one_rises}
+use Rattle.pmg_scope.proofs.RowLemmas.{one_rises}
 use Rattle.pmg_commit.proofs.sealer.last_puts.Goals as goal
 
 pub returns-clause-rising : goal.returns-clause-rising
