@@ -49,7 +49,7 @@ module _ {X : Type 0} where
   others_sorted e es = t_second (below_all (slice_cmp nat_cmp) e.0 es) (is_sorted (slice_cmp nat_cmp) es)
 
   -- under a row's key its value is found, and what is found is a row
-  find_in_rows : (es : List (List ℕ × X)) (e : List ℕ × X) → T (is_sorted (slice_cmp nat_cmp) es) → In e es → find (slice_cmp nat_cmp) e.0 es ≡ Some e.1
+  pub find_in_rows : (es : List (List ℕ × X)) (e : List ℕ × X) → T (is_sorted (slice_cmp nat_cmp) es) → In e es → find (slice_cmp nat_cmp) e.0 es ≡ Some e.1
   find_in_rows [] e sorted i = absurd i
   find_in_rows (f ∷ fs) e sorted (inl same) =
       ap (λ (g : List ℕ × X). find (slice_cmp nat_cmp) g.0 (f ∷ fs)) same

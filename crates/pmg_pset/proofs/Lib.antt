@@ -1,0 +1,4 @@
+pub mod MemberLemmas
+pub mod OrderLemmas
+pub mod RuleLemmas
+pub mod SetLemmas

@@ -1,0 +1,107 @@
+-- Arrays of processes, and their bytes.
+use Rattle.std.proofs.Common.{◌≡◌, ℕ, suc, ◌+◌, ◌<◌, ◌≤◌, Bool, true, false, not, ◌&&◌, ◌||◌, ◌==◌, nat_lt, nat_le, List, [], ◌∷◌, map, length, Some, None, Result, Ok, Err, refl, sym, ap, ◌∙◌, arith}
+use Rattle.std.specs.Prelude.{if◌then◌else◌}
+use Rattle.std.specs.Str.{bytes_eq}
+use Rattle.std.proofs.lemmas.Bool.{false≢true, false_from_ne_true, and_parts}
+use Rattle.std.proofs.lemmas.List.{length-append}
+use Rattle.std.proofs.lemmas.Slice.Eq.{bytes_eq-Decides}
+use Rattle.pmg_value.specs.declared.process.Proc.{Proc}
+use Rattle.pmg_value.specs.declared.refusal.Refusal.{Refusal}
+use Rattle.pmg_value.specs.declared.refusal.Refusal.TheVariants as refusals
+use Rattle.pmg_value.specs.declared.value.Value.{Value}
+use Rattle.pmg_value.specs.declared.value.Value.TheVariants as values
+use Rattle.pmg_value.specs.Elements.{Elements, IsArray, bodies, array_body, are_of_kind, is_array}
+use Rattle.pmg_value.specs.Plain.{Plain, plain_tag, plain_body, is_plain_tag}
+use Rattle.pmg_value.specs.Spelling.{form, plain_of, spelling, are_plain, plains_of, elements, makes_array}
+use Rattle.pmg_pset.specs.Members.{proc_array, no_members, are_procs, live_of}
+use Rattle.pmg_pset.specs.Refusing.{are_too_many}
+
+-- ---- the array of some processes
+
+plain_procs : (ps : List Proc) → are_plain (map values.Proc ps) ≡ true
+plain_procs [] = refl
+plain_procs (p ∷ ps) = plain_procs ps
+
+plains_of-procs : (ps : List Proc) → plains_of (map values.Proc ps) ≡ map Plain.proc ps
+plains_of-procs [] = refl
+plains_of-procs (p ∷ ps) = ap (λ qs. Plain.proc p ∷ qs) (plains_of-procs ps)
+
+kind_procs : (ps : List Proc) → are_of_kind 16 (map Plain.proc ps) ≡ true
+kind_procs [] = refl
+kind_procs (p ∷ ps) = kind_procs ps
+
+elements-procs : (ps : List Proc) → elements 16 (map values.Proc ps) ≡ proc_array ps
+elements-procs ps = ap (λ (qs : List Plain). record { tag = 16; plains = qs }) (plains_of-procs ps)
+
+-- they make an array that is no value where it is too long
+within : (many : Bool) (n : ℕ) → many ≡ false → nat_le (1 + n) 1048576 ≡ not (many || nat_lt 1048576 (suc n))
+within many n few = rw few (grind arith)
+
+makes_procs : (ps : List Proc) → nat_lt 4096 (length ps) ≡ false → makes_array 16 (map values.Proc ps) ≡ not (are_too_many ps)
+makes_procs ps few =
+    (λ i. plain_procs ps i && is_array (elements-procs ps i))
+    ∙ ap (λ b. b && nat_le (1 + length (array_body (proc_array ps))) 1048576) (kind_procs ps)
+    ∙ within (nat_lt 4096 (length ps)) (length (array_body (proc_array ps))) few
+
+made_if : (much : Bool) (a b : Elements) (r : Result Elements Refusal) → r ≡ (if not much then Ok a else Err refusals.BadParam) → r ≡ Ok b → ◌≡◌ {A = Result Elements Refusal} (if much then Err refusals.TooMany else Ok a) (Ok b)
+made_if true a b r is made = absurd (not_made (sym is ∙ made))
+  where
+    not_made : ◌≡◌ {A = Result Elements Refusal} (Err refusals.BadParam) (Ok b) → ⊥
+    not_made h = absurd cc
+made_if false a b r is made = sym is ∙ made
+
+refused_if : (much : Bool) (a : Elements) (e : Refusal) (r : Result Elements Refusal) → r ≡ (if not much then Ok a else Err refusals.BadParam) → r ≡ Err e
+    → ◌≡◌ {A = Result Elements Refusal} (if much then Err refusals.TooMany else Ok a) (Err refusals.TooMany)
+refused_if true a e r is refused = refl
+refused_if false a e r is refused = absurd (not_refused (sym is ∙ refused))
+  where
+    not_refused : ◌≡◌ {A = Result Elements Refusal} (Ok a) (Err e) → ⊥
+    not_refused h = absurd cc
+
+-- what making the array answers
+asked : (ps : List Proc) (vs : List Value) (r : Result Elements Refusal) → nat_lt 4096 (length ps) ≡ false → vs ≡ map values.Proc ps
+    → r ≡ (if makes_array 16 vs then Ok (elements 16 vs) else Err refusals.BadParam) → r ≡ (if not (are_too_many ps) then Ok (proc_array ps) else Err refusals.BadParam)
+asked ps vs r few same is =
+    is ∙ (λ i. if makes_array 16 (same i) then Ok (elements 16 (same i)) else Err refusals.BadParam)
+    ∙ (λ i. if makes_procs ps few i then Ok (elements-procs ps i) else Err refusals.BadParam)
+
+few_enough : (n : ℕ) → n ≤ 4096 → nat_lt 4096 n ≡ false
+few_enough n h = grind arith
+
+pub made : (ps : List Proc) (vs : List Value) (b : Elements) (r : Result Elements Refusal) → length ps ≤ 4096 → vs ≡ map values.Proc ps
+    → r ≡ (if makes_array 16 vs then Ok (elements 16 vs) else Err refusals.BadParam) → r ≡ Ok b → ◌≡◌ {A = Result Elements Refusal} (if are_too_many ps then Err refusals.TooMany else Ok (proc_array ps)) (Ok b)
+made ps vs b r few same is = made_if (are_too_many ps) (proc_array ps) b r (asked ps vs r (few_enough (length ps) few) same is)
+
+pub refused : (ps : List Proc) (vs : List Value) (e : Refusal) (r : Result Elements Refusal) → length ps ≤ 4096 → vs ≡ map values.Proc ps
+    → r ≡ (if makes_array 16 vs then Ok (elements 16 vs) else Err refusals.BadParam) → r ≡ Err e
+    → ◌≡◌ {A = Result Elements Refusal} (if are_too_many ps then Err refusals.TooMany else Ok (proc_array ps)) (Err refusals.TooMany)
+refused ps vs e r few same is = refused_if (are_too_many ps) (proc_array ps) e r (asked ps vs r (few_enough (length ps) few) same is)
+
+-- ---- arrays with members, and without
+
+-- a process takes some bytes
+some_body : (p : Plain) → (plain_tag p == 16) ≡ true → 0 < length (plain_body p)
+some_body (Plain.proc p) h = omega arith
+some_body p h = absurd (false≢true h)
+
+tag_is : (a : Elements) → are_procs (spelling (values.Array a)) ≡ true → a.tag ≡ 16
+tag_is a h = grind (arith, h)
+
+longer : (a : Elements) (p : Plain) (ps : List Plain) → a.plains ≡ p ∷ ps → 0 < length (plain_body p) → 6 < length (spelling (values.Array a))
+longer a p ps e some =
+    let body = ap (λ (qs : List Plain). length (bodies qs)) e ∙ length-append (plain_body p) (bodies ps) in
+    omega (arith, body, some)
+
+pub has_members : (a : Elements) (items : List Value) → elements a.tag items ≡ a → IsArray a → (length items == 0) ≡ false → are_procs (spelling (values.Array a)) ≡ true
+    → Some (spelling (values.Array a)) ≡ live_of (spelling (values.Array a))
+has_members a [] same is some procs = absurd cc
+has_members a (v ∷ vs) same is some procs =
+    let p = plain_of (form v) in
+    let ps = plains_of vs in
+    let plains : a.plains ≡ p ∷ ps = ap (λ (b : Elements). b.plains) (sym same) in
+    let parts = and_parts (is_plain_tag a.tag && are_of_kind a.tag a.plains) (nat_le (1 + length (array_body a)) 1048576) is.is in
+    let kinds : are_of_kind 16 (p ∷ ps) ≡ true = (λ i. are_of_kind (sym (tag_is a procs) i) (sym plains i)) ∙ (and_parts (is_plain_tag a.tag) (are_of_kind a.tag a.plains) parts.0).1 in
+    let more = longer a p ps plains (some_body p (and_parts (plain_tag p == 16) (are_of_kind 16 ps) kinds).0) in
+    let differs : bytes_eq (spelling (values.Array a)) no_members ≡ false =
+    false_from_ne_true _ (λ h. let short = ap length ((bytes_eq-Decides (spelling (values.Array a)) no_members).0 h) in absurd (omega (arith, short, more))) in
+    sym (ap (λ b. if b then None else Some (spelling (values.Array a))) differs)

@@ -1,0 +1,39 @@
+-- The members of a process set, as a value.
+use Rattle.std.specs.Prelude.{ℕ, Bool, List, [], ◌∷◌, Option, Some, None, map, nat_eq, if◌then◌else◌}
+use Rattle.std.specs.FinMap as finite
+use Rattle.std.specs.List.{starts_with}
+use Rattle.std.specs.Str.{bytes_eq}
+use Rattle.pmg_value.specs.declared.process.Proc.{Proc}
+use Rattle.pmg_value.specs.declared.value.Value.TheVariants as values
+use Rattle.pmg_value.specs.Elements.{Elements}
+use Rattle.pmg_value.specs.Plain.{Plain}
+use Rattle.pmg_value.specs.Process.{proc_cmp}
+use Rattle.pmg_value.specs.Spelling.{spelling}
+
+-- the processes, as the keys of a map that has nothing at each of them
+abbrev pub marked : List Proc → List (Proc × Unit {0})
+marked list = map (λ p. (p, tt)) list
+
+-- The processes of a list, each once, in their order: the keys of the map that has each of them.
+unfoldable pub in_order : List Proc → List Proc
+in_order list = finite.keys (finite.from_entries {R = proc_cmp} (marked list))
+
+-- the array of these processes (PMIx Standard 5.0, pmix_data_array_t, PMIX_PROC)
+abbrev pub proc_array : List Proc → Elements
+proc_array procs = record { tag = 16; plains = map Plain.proc procs }
+
+-- its canonical bytes as a value
+abbrev pub proc_bytes : List Proc → List ℕ
+proc_bytes procs = spelling (values.Array (proc_array procs))
+
+-- what a deletion puts: the array of no process
+abbrev pub no_members : List ℕ
+no_members = proc_bytes []
+
+-- the bytes are those of an array of processes: its tag, and the tag of its items
+abbrev pub are_procs : List ℕ → Bool
+are_procs bytes = starts_with nat_eq bytes (19 ∷ 16 ∷ [])
+
+-- the bytes of an array that has members, and none of one that a deletion put
+abbrev pub live_of : List ℕ → Option (List ℕ)
+live_of bytes = if bytes_eq bytes no_members then None else Some bytes

@@ -1,0 +1,44 @@
+-- Where each call of the sets has a cause to be refused. The causes are looked for in the order of all calls.
+use Rattle.std.specs.Prelude.{ℕ, Bool, false, ◌||◌, ◌==◌, not, nat_lt, List, length}
+use Rattle.std.specs.List.{list_all}
+use Rattle.std.specs.Result.{is_err}
+use Rattle.pmg_value.specs.declared.process.Proc.{Proc}
+use Rattle.pmg_value.specs.declared.refusal.Refusal.{Refusal}
+use Rattle.pmg_value.specs.declared.refusal.Refusal.TheVariants as refusals
+use Rattle.pmg_value.specs.Names.{is_reserved}
+use Rattle.pmg_value.specs.Process.{is_client}
+use Rattle.pmg_scope.specs.Cached.{global_put}
+use Rattle.pmg_commit.specs.Sealed.{Sealed, seal_answer}
+use Rattle.pmg_pset.specs.Members.{in_order, proc_bytes, no_members}
+use Rattle.pmg_pset.specs.Sets.{is_live}
+
+-- no commit can seal the change: its number is the one that is kept for an end, or a limit of a sealer would be passed
+abbrev pub is_too_much : Sealed → List ℕ → List ℕ → Bool
+is_too_much z name bytes = is_err (seal_answer z (global_put name bytes))
+
+-- the processes, each once and in their order, are more than a set may have, or longer than a value may be
+abbrev pub are_too_many : List Proc → Bool
+are_too_many procs = nat_lt 4096 (length procs) || nat_lt 1048576 (length (proc_bytes procs))
+
+-- no set can have these members: there are none, or one is no process that a group may register
+abbrev pub are_unfit : List Proc → Bool
+are_unfit list = (length list == 0) || not (list_all is_client list)
+
+-- A definition: the name is none of the standard's, and there is some member, each a process that a group may register;
+-- there is no set of that name; and the members, and all sets together, stay within the limits.
+abbrev pub define_cause : Sealed → List ℕ → List Proc → Refusal → Bool
+define_cause z name list refusals.BadParam = is_reserved name || are_unfit list
+define_cause z name list refusals.Exists = is_live z name
+define_cause z name list refusals.TooMany = are_too_many (in_order list) || is_too_much z name (proc_bytes (in_order list))
+define_cause z name list _ = false
+
+-- a deletion: there is a set of that name, and a number for the commit
+abbrev pub delete_cause : Sealed → List ℕ → Refusal → Bool
+delete_cause z name refusals.NotFound = not (is_live z name)
+delete_cause z name refusals.TooMany = is_too_much z name no_members
+delete_cause z name _ = false
+
+-- a look at the members: there is a set of that name
+abbrev pub members_cause : Sealed → List ℕ → Refusal → Bool
+members_cause z name refusals.NotFound = not (is_live z name)
+members_cause z name _ = false

@@ -1,0 +1,82 @@
+//! The members of a process set, as a value.
+ghost use Rattle.std.specs.Prelude.{◌≡◌, ◌++◌, length, map, nat_lt, IfOk, IfSome, IsTrue, if◌then◌else◌};
+ghost use Rattle.std.specs.List.{list_all};
+ghost use Rattle.std.specs.Option.{option_map};
+ghost use Rattle.pmg_value.specs.Answers.{Gives};
+ghost use Rattle.pmg_value.specs.declared.refusal.Refusal.TheVariants as refusals;
+ghost use Rattle.pmg_value.specs.declared.value.Value.TheVariants as values;
+ghost use Rattle.pmg_value.specs.Process.{is_client};
+ghost use Rattle.pmg_value.specs.Spelling.{spelling};
+ghost use Rattle.pmg_commit.specs.Stamped.{stamp_of};
+ghost use Rattle.pmg_pset.specs.Members.{in_order, proc_array, are_procs, live_of};
+ghost use Rattle.pmg_pset.specs.Refusing.{are_too_many, are_unfit};
+
+use pmg_commit::SealedPut;
+use pmg_value::{Array, Proc, Refusal, Value};
+use std::alloc::{AllocError, Global};
+
+/// The most members of a process set.
+pub const MAX_MEMBERS: usize = 4_096;
+
+/// The tag of PMIX_PROC.
+const PROC_TAG: u8 = 16;
+
+/// Whether each is a process that a group may register.
+fn are_clients(list: &[Proc]) -> bool
+    ensures { result ≡ list_all is_client list.now }
+{
+    list.iter().all(|process| process.is_client())
+}
+
+/// Whether no set can have these members: there are none, or one is no process that a group may register.
+pub fn are_unfit(list: &[Proc]) -> bool
+    ensures { result ≡ are_unfit list.now }
+{
+    list.is_empty() || !are_clients(list)
+}
+
+/// The processes, each once, in their order.
+pub fn in_order(list: Vec<Proc>) -> Vec<Proc>
+    ensures { result.items ≡ in_order list.items }
+{
+    let mut procs = list;
+    procs.sort_unstable();
+    procs.dedup();
+    procs
+}
+
+/// The processes, as values.
+fn values_of(alloc: Global, procs: Vec<Proc>) -> Result<Vec<Value>, AllocError>
+    ensures { IfOk result (λ vs. vs.items ≡ map values.Proc procs.items) }
+{
+    let mut values = Vec::with_capacity(alloc, procs.len())?;
+    for process in procs {
+        values.push(Value::Proc(process))?;
+    }
+    Ok(values)
+}
+
+/// The array of the processes. Refused as TooMany where they are more than 4,096, or the array as a value would be
+/// longer than 1,048,576 canonical bytes; and as NoMemory.
+pub fn array_of(alloc: Global, procs: Vec<Proc>) -> Result<Array, Refusal>
+    ensures { Gives (λ a. a) result (if are_too_many procs.items then Err refusals.TooMany else Ok (proc_array procs.items)) }
+{
+    if procs.len() > MAX_MEMBERS {
+        return Err(Refusal::TooMany);
+    }
+    match Array::new(PROC_TAG, values_of(alloc, procs)?) {
+        Ok(array) => Ok(array),
+        Err(_) => Err(Refusal::TooMany),
+    }
+}
+
+/// The members of the set that was sealed last; none where that was a deletion.
+pub fn members_of(put: &SealedPut) -> Option<&Array>
+    requires { IsTrue (are_procs (stamp_of put.now).bytes) }
+    ensures { option_map (λ a. spelling (values.Array a.now)) result ≡ live_of (stamp_of put.now).bytes }
+{
+    match put.value() {
+        Value::Array(members) if !members.items().is_empty() => Some(members),
+        _ => None,
+    }
+}

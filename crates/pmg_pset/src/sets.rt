@@ -1,0 +1,162 @@
+//! The process sets of a group.
+ghost use Rattle.std.specs.Prelude.{◌≡◌, ◌≤◌, suc, Ok, IfOk, OnOk, OnErr, IsTrue, is_some};
+ghost use Rattle.std.specs.Option.{option_map};
+ghost use Rattle.std.specs.Result.{result_map_both};
+ghost use Rattle.pmg_value.specs.Answers.{Gives};
+ghost use Rattle.pmg_value.specs.CheckOrder.{first_of};
+ghost use Rattle.pmg_value.specs.declared.value.Value.TheVariants as values;
+ghost use Rattle.pmg_value.specs.Spelling.{spelling};
+ghost use Rattle.pmg_scope.specs.Cached.{global_put};
+ghost use Rattle.pmg_scope.specs.declared.scope.Reach.TheVariants as reach;
+ghost use Rattle.pmg_commit.specs.Sealed.{fresh, seal_answer, piece_answer};
+ghost use Rattle.pmg_pset.specs.Members.{in_order, proc_bytes, no_members, are_procs};
+ghost use Rattle.pmg_pset.specs.Refusing.{define_cause, delete_cause, members_cause};
+ghost use Rattle.pmg_pset.specs.Sets.{host, changed, is_live, live_at, live_names, members_at};
+
+use crate::members::{are_unfit, array_of, in_order, members_of};
+use pmg_commit::{Piece, Sealer};
+use pmg_scope::{Batch, Reach};
+use pmg_value::{Array, HOST_NAME, Key, Nspace, Proc, Rank, Refusal, Value};
+use std::alloc::{AllocError, Global};
+use std::marker::Model;
+
+/// The process sets of a group (PMIx Standard 5.0, process sets), which node 0 keeps. Each definition and each deletion
+/// is a commit of the process `pmix.host 0`: it puts the array of the members, of none where the set is deleted, under
+/// the set's name, with PMIX_GLOBAL. So other servers learn of the sets as they learn of what processes put.
+#[derive(Drop)]
+pub struct Sets {
+    alloc: Global,
+    sealer: Sealer,
+}
+
+impl Model for Sets {
+    ghost use Rattle.pmg_commit.specs.Sealed.{Sealed, coded_sealed};
+    ghost use Rattle.pmg_pset.specs.Sets.{AreSets};
+
+    ghost Value = { Sealed };
+
+    ghost coded = { coded_sealed };
+
+    ghost view = { λ a. a.sealer };
+
+    ghost invariant = { λ a. AreSets a.sealer };
+}
+
+impl Sets {
+    /// No sets. It keeps the allocator. Refused as NoMemory alone.
+    pub fn new(alloc: Global) -> Result<Sets, Refusal>
+        ensures { Gives (λ z. z) result (Ok (fresh host)) }
+    {
+        let nspace = Nspace::from_name(alloc, HOST_NAME)?;
+        let sealer = Sealer::new(alloc, &Proc::new(nspace, Rank::new(0)))?;
+        Ok(Sets { alloc, sealer })
+    }
+
+    /// Defines the set of these processes, whatever their order and however often each is named, and gives the number of
+    /// the host's commit that tells of it (PMIx Standard 5.0, process sets). Refused as BadParam where the name begins
+    /// with `pmix`, where no process is named, and where one is that no group may register, as one of rank
+    /// PMIX_RANK_WILDCARD; as Exists where there is a set of that name; as TooMany where more than 4,096 processes are
+    /// named, where their array would be longer than 1,048,576 canonical bytes, where the commit's number would be
+    /// 4294967295, and where the sets would pass the limits of a sealer; and as NoMemory. A refused definition changes
+    /// nothing.
+    pub fn define(&mut self, name: Key, members: Vec<Proc>) -> Result<u64, Refusal>
+        ensures answer { Gives (λ n. n) result (first_of (define_cause self.old name members.items) (suc self.old.level)) }
+        ensures ok { OnOk result (self.new ≡ changed self.old name (proc_bytes (in_order members.items))) }
+        ensures err { OnErr result (self.new ≡ self.old) }
+    {
+        if name.is_reserved() || are_unfit(&members) {
+            return Err(Refusal::BadParam);
+        }
+        if self.live(&name).is_some() {
+            return Err(Refusal::Exists);
+        }
+        let array = array_of(self.alloc, in_order(members))?;
+        self.change(name, array)
+    }
+
+    /// Deletes the set of that name, which may then be defined again, and gives the number of the host's commit that
+    /// tells of it. Refused as NotFound where there is no such set; as TooMany where the commit's number would be
+    /// 4294967295; and as NoMemory. Where it is refused the set stays.
+    pub fn delete(&mut self, name: &Key) -> Result<u64, Refusal>
+        ensures answer { Gives (λ n. n) result (first_of (delete_cause self.old name.now) (suc self.old.level)) }
+        ensures ok { OnOk result (self.new ≡ changed self.old name.now no_members) }
+        ensures err { OnErr result (self.new ≡ self.old) }
+    {
+        if self.live(name).is_none() {
+            return Err(Refusal::NotFound);
+        }
+        let none = array_of(self.alloc, Vec::new(self.alloc))?;
+        self.change(name.copy()?, none)
+    }
+
+    /// The members of the set of that name, as an array of processes (PMIx Standard 5.0, PMIX_QUERY_PSET_MEMBERSHIP).
+    /// Refused as NotFound where there is no such set. It takes no memory.
+    pub fn members(&self, name: &Key) -> Result<&Array, Refusal>
+        ensures { result_map_both (λ a. spelling (values.Array a.now)) (λ e. e) result ≡ first_of (members_cause self.now name.now) (members_at self.now name.now) }
+    {
+        match self.live(name) {
+            Some(members) => Ok(members),
+            None => Err(Refusal::NotFound),
+        }
+    }
+
+    /// The names of the sets, in the order of their bytes (PMIx Standard 5.0, PMIX_QUERY_PSET_NAMES).
+    pub fn names(&self) -> Result<Vec<Key>, AllocError>
+        ensures { IfOk result (λ names. names.items ≡ live_names self.now) }
+    {
+        let mut names = Vec::new(self.alloc);
+        for (name, put) in self.sealer.far_puts().iter() {
+            if members_of(put).is_some() {
+                names.push(name.copy()?)?;
+            }
+        }
+        Ok(names)
+    }
+
+    /// What other servers take to learn of the changes from+1 to the level: a contribution of `pmix.host 0`. Refused as
+    /// BadParam where there is no such change, and as NoMemory.
+    pub fn piece_from(&self, from: u64) -> Result<Piece, Refusal>
+        ensures { Gives (λ p. p) result (piece_answer self.now from reach.Far) }
+    {
+        self.sealer.piece_of(from, Reach::Far)
+    }
+
+    /// The number of the changes that were made.
+    pub fn level(&self) -> u64
+        ensures value { result ≡ self.now.level }
+        ensures bound { result ≤ 4294967295 }
+    {
+        self.sealer.level()
+    }
+
+    /// Other sets of the same meaning.
+    pub fn copy(&self) -> Result<Sets, AllocError>
+        ensures { IfOk result (λ z. z ≡ self.now) }
+    {
+        Ok(Sets {
+            alloc: self.alloc,
+            sealer: self.sealer.copy()?,
+        })
+    }
+
+    /// The members of the set of that name, if there is one.
+    fn live(&self, name: &Key) -> Option<&Array>
+        ensures { option_map (λ a. spelling (values.Array a.now)) result ≡ live_at self.now name.now }
+    {
+        match self.sealer.far_puts().get(name) {
+            Some(put) => members_of(put),
+            None => None,
+        }
+    }
+
+    /// Seals the array under the name, for all.
+    fn change(&mut self, name: Key, array: Array) -> Result<u64, Refusal>
+        requires { IsTrue (are_procs (spelling (values.Array array))) }
+        ensures answer { Gives (λ n. n) result (seal_answer self.old (global_put name (spelling (values.Array array)))) }
+        ensures ok { OnOk result (self.new ≡ changed self.old name (spelling (values.Array array))) }
+        ensures err { OnErr result (self.new ≡ self.old) }
+    {
+        let batch = Batch::of_put(self.alloc, name, Value::Array(array))?;
+        self.sealer.seal(&batch)
+    }
+}
