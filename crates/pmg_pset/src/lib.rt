@@ -8,3 +8,6 @@ mod sets;
 pub use laws::set_rules;
 pub use members::MAX_MEMBERS;
 pub use sets::Sets;
+
+#[cfg(test)]
+mod tests;
