@@ -1,6 +1,7 @@
 -- Arrays of processes, and their bytes.
-use Rattle.std.proofs.Common.{◌≡◌, ℕ, suc, ◌+◌, ◌<◌, ◌≤◌, Bool, true, false, not, ◌&&◌, ◌||◌, ◌==◌, nat_lt, nat_le, List, [], ◌∷◌, map, length, Some, None, Result, Ok, Err, refl, sym, ap, ◌∙◌, arith}
+use Rattle.std.proofs.Common.{◌≡◌, ℕ, suc, ◌+◌, ◌<◌, ◌≤◌, Bool, true, false, not, ◌&&◌, ◌||◌, ◌==◌, nat_eq, nat_lt, nat_le, List, [], ◌∷◌, map, length, Some, None, Result, Ok, Err, refl, sym, ap, ◌∙◌, arith}
 use Rattle.std.specs.Prelude.{if◌then◌else◌}
+use Rattle.std.specs.List.{starts_with}
 use Rattle.std.specs.Str.{bytes_eq}
 use Rattle.std.proofs.lemmas.Bool.{false≢true, false_from_ne_true, and_parts}
 use Rattle.std.proofs.lemmas.List.{length-append}
@@ -77,6 +78,16 @@ pub refused : (ps : List Proc) (vs : List Value) (e : Refusal) (r : Result Eleme
     → ◌≡◌ {A = Result Elements Refusal} (if are_too_many ps then Err refusals.TooMany else Ok (proc_array ps)) (Err refusals.TooMany)
 refused ps vs e r few same is = refused_if (are_too_many ps) (proc_array ps) e r (asked ps vs r (few_enough (length ps) few) same is)
 
+array_same : (a b : Elements) → ◌≡◌ {A = Result Elements Refusal} (Ok a) (Ok b) → a ≡ b
+array_same a b h = cc
+
+-- the array of no process is what a deletion puts
+pub none_is : (ps : List Proc) (b : Elements) → ps ≡ [] → ◌≡◌ {A = Result Elements Refusal} (if are_too_many ps then Err refusals.TooMany else Ok (proc_array ps)) (Ok b) → spelling (values.Array b) ≡ no_members
+none_is ps b none is =
+    let same : b ≡ proc_array [] =
+    sym (array_same (proc_array []) b (sym (λ i. if are_too_many (none i) then Err refusals.TooMany else Ok (proc_array (none i))) ∙ is)) in
+    ap (λ (a : Elements). spelling (values.Array a)) same
+
 -- ---- arrays with members, and without
 
 -- a process takes some bytes
@@ -84,8 +95,9 @@ some_body : (p : Plain) → (plain_tag p == 16) ≡ true → 0 < length (plain_b
 some_body (Plain.proc p) h = omega arith
 some_body p h = absurd (false≢true h)
 
-tag_is : (a : Elements) → are_procs (spelling (values.Array a)) ≡ true → a.tag ≡ 16
-tag_is a h = grind (arith, h)
+-- an array of processes is one of values of their kind
+pub tag_is : (a : Elements) → are_procs (spelling (values.Array a)) ≡ true → a.tag ≡ 16
+tag_is a h = let begins = (and_parts (starts_with nat_eq (spelling (values.Array a)) (19 ∷ 16 ∷ [])) (nat_le 6 (length (spelling (values.Array a)))) h).0 in grind (arith, begins)
 
 longer : (a : Elements) (p : Plain) (ps : List Plain) → a.plains ≡ p ∷ ps → 0 < length (plain_body p) → 6 < length (spelling (values.Array a))
 longer a p ps e some =

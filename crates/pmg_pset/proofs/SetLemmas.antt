@@ -1,23 +1,31 @@
 -- What is kept of the sets, from change to change.
-use Rattle.std.proofs.Common.{◌≡◌, inl, inr, ℕ, suc, Bool, true, false, cond, List, [], ◌∷◌, map, Some, is_some, Result, Ok, Err, OnOk, OnErr, refl, sym, ap, subst, ◌∙◌}
+use Rattle.std.proofs.Common.{◌≡◌, inl, inr, ℕ, suc, ◌≤◌, nat_lt, nat_le, not, length, arith, Bool, true, false, ◌&&◌, cond, List, [], ◌∷◌, map, Option, Some, None, is_some, Result, Ok, Err, OnOk, OnErr, refl, sym, ap, subst, ◌∙◌}
+use Rattle.std.specs.Prelude.{if◌then◌else◌}
 use Rattle.std.specs.FinMap as finite
 use Rattle.std.specs.FinMap.Entries.{find, put, by_order}
-use Rattle.std.specs.List.{filter, list_all}
+use Rattle.std.specs.List.{filter, list_all, sum_by}
+use Rattle.std.specs.Option.{option_map}
 use Rattle.std.specs.declared.cmp.Ordering.{Ordering}
 use Rattle.std.specs.declared.cmp.Ordering.TheVariants.{Less, Equal, Greater}
 use Rattle.std.specs.Ordering.{nat_cmp, eq_by_cmp}
 use Rattle.std.specs.Cmp.Lexicographic.{slice_cmp, nat_list_cmp_total}
-use Rattle.std.proofs.lemmas.Bool.{and_parts, and_from}
+use Rattle.std.proofs.lemmas.Bool.{false≢true, and_parts, and_from, leb-true, le-leb}
 use Rattle.pmg_value.specs.declared.process.Proc.{Proc}
 use Rattle.pmg_value.specs.declared.refusal.Refusal.{Refusal}
+use Rattle.pmg_value.specs.declared.refusal.Refusal.TheVariants as refusals
+use Rattle.pmg_value.specs.Answers.{Gives}
+use Rattle.pmg_value.specs.CheckOrder.{first_of}
 use Rattle.pmg_value.specs.Lists.{In}
-use Rattle.pmg_scope.specs.Rows.{IsRising, rows_of}
+use Rattle.pmg_scope.specs.Cached.{global_put}
+use Rattle.pmg_scope.specs.Rows.{IsRising, rows_of, counted_by}
 use Rattle.pmg_scope.proofs.RowLemmas.{shown, entries_rising, entries_of_nothing}
+use Rattle.pmg_scope.proofs.SumLemmas.{len_held, sum_put}
 use Rattle.pmg_commit.specs.declared.stamps.SealedPut.{SealedPut}
-use Rattle.pmg_commit.specs.Sealed.{Stamp, Stamps, Sealed, fresh, new_answer, stamp_all, stamped}
+use Rattle.pmg_commit.specs.Sealed.{Stamp, Stamps, Sealed, fresh, new_answer, stamp_all, stamped, are_within, stamp_size, stamps_size, seal_answer}
 use Rattle.pmg_commit.specs.Stamped.{stamp_of}
 use Rattle.pmg_commit.proofs.SealerLaws.{find_in_rows}
-use Rattle.pmg_pset.specs.Members.{are_procs, live_of}
+use Rattle.pmg_pset.specs.Members.{no_members, are_procs, live_of}
+use Rattle.pmg_pset.specs.Refusing.{is_full, delete_cause}
 use Rattle.pmg_pset.specs.Sets.{AreSets, are_sets, changed, host, live_in, is_live, live_names}
 
 abbrev StampRows : Type 0
@@ -50,22 +58,49 @@ one_more n k bytes m is all =
     ap are_sets (stamped_one n k bytes m) ∙ ap holds_procs (finite.entries-insert nat_list_cmp_total m k (record { number = n; bytes = bytes }))
     ∙ put_procs k (record { number = n; bytes = bytes }) (finite.entries m) is all
 
-changed_sets : (z : Sealed) (name bytes : List ℕ) → AreSets z → are_procs bytes ≡ true → AreSets (changed z name bytes)
-changed_sets z name bytes are is = record {
+-- ---- limits
+
+nothing_within : are_within finite.empty ≡ true
+nothing_within = λ i. nat_le (finite.len-empty (slice_cmp nat_cmp) Stamp i) 65535 && nat_le (sum_by stamp_size (entries_of_nothing i)) 16000000
+
+taken : (b : Bool) (n m : ℕ) → ◌≡◌ {A = Result ℕ Refusal} (if b then Ok n else Err refusals.TooMany) (Ok m) → b ≡ true
+taken true n m h = refl
+taken false n m h = cc
+
+-- what a commit took is within them
+within_after : (z : Sealed) (name bytes : List ℕ) (n : ℕ) → seal_answer z (global_put name bytes) ≡ Ok n → are_within (changed z name bytes).far ≡ true
+within_after z name bytes n h = (and_parts _ _ (taken _ (suc z.level) n h)).1
+
+-- and so is what puts no longer value in the place of another
+shorter_within : (m : Stamps) (k : List ℕ) (v w : Stamp) → Some w ≡ finite.get m k → length v.bytes ≤ length w.bytes → are_within m ≡ true → are_within (finite.insert m k v) ≡ true
+shorter_within m k v w there le h =
+    let parts = and_parts (nat_le (finite.len m) 65535) (nat_le (stamps_size m) 16000000) h in
+    let few = leb-true (finite.len m) 65535 parts.0 in
+    let short = leb-true (stamps_size m) 16000000 parts.1 in
+    let len = len_held m k v w there in
+    let old = ap (counted_by (λ (s : Stamp). length s.bytes) k) there in
+    let sum = sum_put (λ (s : Stamp). length s.bytes) m k v in
+    and_from _ _ (le-leb (finite.len (finite.insert m k v)) 65535 (omega (arith, few, len)))
+    (le-leb (stamps_size (finite.insert m k v)) 16000000 (omega (arith, short, sum, old, le)))
+
+changed_sets : (z : Sealed) (name bytes : List ℕ) → AreSets z → are_procs bytes ≡ true → are_within (changed z name bytes).far ≡ true → AreSets (changed z name bytes)
+changed_sets z name bytes are is within = record {
   host = are.host;
   going = are.going;
   alike = ap (stamped (suc z.level) (finite.insert finite.empty name bytes)) are.alike;
   sets = one_more (suc z.level) name bytes z.far is are.sets;
+  within = within;
 }
 
 -- a change, made or refused, leaves sets
-pub still_sets : (old new : Sealed) (name bytes : List ℕ) (r : Result ℕ Refusal) → AreSets old → are_procs bytes ≡ true → OnOk r (new ≡ changed old name bytes) → OnErr r (new ≡ old) → AreSets new
-still_sets old new name bytes (Ok n) are is ok err = subst AreSets (sym ok) (changed_sets old name bytes are is)
-still_sets old new name bytes (Err e) are is ok err = subst AreSets (sym err) are
+pub still_sets : (old new : Sealed) (name bytes : List ℕ) (r : Result ℕ Refusal) → AreSets old → are_procs bytes ≡ true → Gives (λ n. n) r (seal_answer old (global_put name bytes))
+    → OnOk r (new ≡ changed old name bytes) → OnErr r (new ≡ old) → AreSets new
+still_sets old new name bytes (Ok n) are is answer ok err = subst AreSets (sym ok) (changed_sets old name bytes are is (within_after old name bytes n answer))
+still_sets old new name bytes (Err e) are is answer ok err = subst AreSets (sym err) are
 
 -- a new sealer of the host's process has no sets
 fresh_sets : AreSets (fresh host)
-fresh_sets = record { host = refl; going = refl; alike = refl; sets = ap holds_procs entries_of_nothing }
+fresh_sets = record { host = refl; going = refl; alike = refl; sets = ap holds_procs entries_of_nothing; within = nothing_within }
 
 made_is : (a b : Sealed) → ◌≡◌ {A = Result Sealed Refusal} (Ok a) (Ok b) → a ≡ b
 made_is a b h = cc
@@ -88,6 +123,48 @@ find_procs (e ∷ es) k stamp all is =
 
 pub found_procs : (z : Sealed) (k : List ℕ) (stamp : Stamp) → AreSets z → Some stamp ≡ finite.get z.far k → are_procs stamp.bytes ≡ true
 found_procs z k stamp are is = find_procs (finite.entries z.far) k stamp are.sets (sym (is ∙ finite.get-entries z.far k))
+
+-- ---- deletions
+
+live_stamp : (o : Option Stamp) → is_some (live_in o) ≡ true → (w : Stamp) × (Some w ≡ o)
+live_stamp None h = absurd (false≢true h)
+live_stamp (Some w) h = (w, refl)
+
+all_hold : (b : Bool) → (((true && b) && true) && true) ≡ b
+all_hold true = refl
+all_hold false = refl
+
+below_last : (n : ℕ) → nat_lt n 4294967294 ≡ not (nat_le 4294967294 n)
+below_last n = grind arith
+
+turned : (b : Bool) (n : ℕ) → ◌≡◌ {A = Result ℕ Refusal} (if not b then Ok n else Err refusals.TooMany) (if b then Err refusals.TooMany else Ok n)
+turned true n = refl
+turned false n = refl
+
+-- a commit can seal a deletion, unless its number is the last
+deletes : (z : Sealed) (name : List ℕ) → AreSets z → is_live z name ≡ true → seal_answer z (global_put name no_members) ≡ (if is_full z then Err refusals.TooMany else Ok (suc z.level))
+deletes z name are live =
+    let found = live_stamp (finite.get z.far name) live in
+    let long = leb-true 6 (length found.0.bytes) (and_parts _ _ (found_procs z name found.0 are found.1)).1 in
+    let stamp : Stamp = record { number = suc z.level; bytes = no_members } in
+    let far : are_within (changed z name no_members).far ≡ true =
+    ap are_within (stamped_one (suc z.level) name no_members z.far) ∙ shorter_within z.far name stamp found.0 found.1 (omega (arith, long)) are.within in
+    let near : are_within (changed z name no_members).near ≡ true =
+    ap (λ m. are_within (stamped (suc z.level) (finite.insert finite.empty name no_members) m)) are.alike ∙ far in
+    (λ i. if not (are.going i) && nat_lt z.level 4294967294 && near i && far i then Ok (suc z.level) else Err refusals.TooMany)
+    ∙ (λ i. if (all_hold (nat_lt z.level 4294967294) ∙ below_last z.level) i then Ok (suc z.level) else Err refusals.TooMany)
+    ∙ turned (is_full z) (suc z.level)
+
+-- a set that was found is there
+pub found_live : {A : Type 0} (f : A → List ℕ) (o : Option A) (b : Option (List ℕ)) → option_map f o ≡ b → is_some o ≡ true → is_some b ≡ true
+found_live f None b same some = absurd (false≢true some)
+found_live f (Some x) b same some = ap is_some (sym same)
+
+pub deletion_gives : (z : Sealed) (name : List ℕ) (r : Result ℕ Refusal) → AreSets z → is_live z name ≡ true → Gives (λ n. n) r (seal_answer z (global_put name no_members))
+    → Gives (λ n. n) r (first_of (delete_cause z name) (suc z.level))
+deletion_gives z name r are live =
+    subst (Gives (λ n. n) r)
+    (deletes z name are live ∙ sym (λ i. if not (live i) then Err refusals.NotFound else if is_full z then Err refusals.TooMany else Ok (suc z.level)))
 
 -- ---- names
 

@@ -1,5 +1,5 @@
 -- The members of a process set, as a value.
-use Rattle.std.specs.Prelude.{ℕ, Bool, List, [], ◌∷◌, Option, Some, None, map, nat_eq, if◌then◌else◌}
+use Rattle.std.specs.Prelude.{ℕ, Bool, ◌&&◌, nat_le, length, List, [], ◌∷◌, Option, Some, None, map, nat_eq, if◌then◌else◌}
 use Rattle.std.specs.FinMap as finite
 use Rattle.std.specs.List.{starts_with}
 use Rattle.std.specs.Str.{bytes_eq}
@@ -30,9 +30,9 @@ proc_bytes procs = spelling (values.Array (proc_array procs))
 abbrev pub no_members : List ℕ
 no_members = proc_bytes []
 
--- the bytes are those of an array of processes: its tag, and the tag of its items
+-- the bytes can be those of an array of processes: its tag, the tag of its items, and four bytes of their number
 abbrev pub are_procs : List ℕ → Bool
-are_procs bytes = starts_with nat_eq bytes (19 ∷ 16 ∷ [])
+are_procs bytes = starts_with nat_eq bytes (19 ∷ 16 ∷ []) && nat_le 6 (length bytes)
 
 -- the bytes of an array that has members, and none of one that a deletion put
 abbrev pub live_of : List ℕ → Option (List ℕ)

@@ -1,5 +1,5 @@
 -- Where each call of the sets has a cause to be refused. The causes are looked for in the order of all calls.
-use Rattle.std.specs.Prelude.{ℕ, Bool, false, ◌||◌, ◌==◌, not, nat_lt, List, length}
+use Rattle.std.specs.Prelude.{ℕ, Bool, false, ◌||◌, ◌==◌, not, nat_lt, nat_le, List, length}
 use Rattle.std.specs.List.{list_all}
 use Rattle.std.specs.Result.{is_err}
 use Rattle.pmg_value.specs.declared.process.Proc.{Proc}
@@ -9,7 +9,7 @@ use Rattle.pmg_value.specs.Names.{is_reserved}
 use Rattle.pmg_value.specs.Process.{is_client}
 use Rattle.pmg_scope.specs.Cached.{global_put}
 use Rattle.pmg_commit.specs.Sealed.{Sealed, seal_answer}
-use Rattle.pmg_pset.specs.Members.{in_order, proc_bytes, no_members}
+use Rattle.pmg_pset.specs.Members.{in_order, proc_bytes}
 use Rattle.pmg_pset.specs.Sets.{is_live}
 
 -- no commit can seal the change: its number is the one that is kept for an end, or a limit of a sealer would be passed
@@ -32,10 +32,14 @@ define_cause z name list refusals.Exists = is_live z name
 define_cause z name list refusals.TooMany = are_too_many (in_order list) || is_too_much z name (proc_bytes (in_order list))
 define_cause z name list _ = false
 
+-- the next commit's number would be the one that is kept for an end
+abbrev pub is_full : Sealed → Bool
+is_full z = nat_le 4294967294 z.level
+
 -- a deletion: there is a set of that name, and a number for the commit
 abbrev pub delete_cause : Sealed → List ℕ → Refusal → Bool
 delete_cause z name refusals.NotFound = not (is_live z name)
-delete_cause z name refusals.TooMany = is_too_much z name no_members
+delete_cause z name refusals.TooMany = is_full z
 delete_cause z name _ = false
 
 -- a look at the members: there is a set of that name

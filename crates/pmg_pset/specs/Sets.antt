@@ -6,7 +6,7 @@ use Rattle.std.specs.Option.{unwrap_or}
 use Rattle.pmg_value.specs.declared.process.Proc.{Proc}
 use Rattle.pmg_value.specs.Process.{host_name}
 use Rattle.pmg_scope.specs.Cached.{global_put}
-use Rattle.pmg_commit.specs.Sealed.{Stamp, Stamps, Sealed, sealed_with}
+use Rattle.pmg_commit.specs.Sealed.{Stamp, Stamps, Sealed, sealed_with, are_within}
 use Rattle.pmg_pset.specs.Members.{are_procs, live_of}
 
 -- the process that puts the sets: `pmix.host 0`
@@ -17,13 +17,14 @@ host = record { nspace = host_name; rank = 0 }
 abbrev pub are_sets : Stamps → Bool
 are_sets m = list_all (λ e. are_procs e.1.bytes) (finite.entries m)
 
--- What is kept of the sets: they are what the host's process sealed, which does not end; all nodes see the same; and each
--- value is an array of processes.
+-- What is kept of the sets: they are what the host's process sealed, which does not end; all nodes see the same; each value is
+-- an array of processes; and together they are within the limits of a sealer.
 pub record AreSets (z : Sealed) : Type 0 where
   pub host : z.proc ≡ host
   pub going : z.ended ≡ false
   pub alike : z.near ≡ z.far
   pub sets : IsTrue (are_sets z.far)
+  pub within : IsTrue (are_within z.far)
 
 -- the bytes of the members' array, where what was put last has members
 abbrev pub live_in : Option Stamp → Option (List ℕ)

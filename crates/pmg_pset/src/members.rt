@@ -73,7 +73,8 @@ pub fn array_of(alloc: Global, procs: Vec<Proc>) -> Result<Array, Refusal>
 /// The members of the set that was sealed last; none where that was a deletion.
 pub fn members_of(put: &SealedPut) -> Option<&Array>
     requires { IsTrue (are_procs (stamp_of put.now).bytes) }
-    ensures { option_map (λ a. spelling (values.Array a.now)) result ≡ live_of (stamp_of put.now).bytes }
+    ensures value { option_map (λ a. spelling (values.Array a.now)) result ≡ live_of (stamp_of put.now).bytes }
+    ensures kind { IfSome result (λ a. a.now.tag ≡ 16) }
 {
     match put.value() {
         Value::Array(members) if !members.items().is_empty() => Some(members),

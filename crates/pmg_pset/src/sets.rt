@@ -1,5 +1,5 @@
 //! The process sets of a group.
-ghost use Rattle.std.specs.Prelude.{◌≡◌, ◌≤◌, suc, Ok, IfOk, OnOk, OnErr, IsTrue, is_some};
+ghost use Rattle.std.specs.Prelude.{◌≡◌, ◌≤◌, suc, Ok, IfOk, OnOk, OnErr, IfSome, IsTrue};
 ghost use Rattle.std.specs.Option.{option_map};
 ghost use Rattle.std.specs.Result.{result_map_both};
 ghost use Rattle.pmg_value.specs.Answers.{Gives};
@@ -92,7 +92,8 @@ impl Sets {
     /// The members of the set of that name, as an array of processes (PMIx Standard 5.0, PMIX_QUERY_PSET_MEMBERSHIP).
     /// Refused as NotFound where there is no such set. It takes no memory.
     pub fn members(&self, name: &Key) -> Result<&Array, Refusal>
-        ensures { result_map_both (λ a. spelling (values.Array a.now)) (λ e. e) result ≡ first_of (members_cause self.now name.now) (members_at self.now name.now) }
+        ensures value { result_map_both (λ a. spelling (values.Array a.now)) (λ e. e) result ≡ first_of (members_cause self.now name.now) (members_at self.now name.now) }
+        ensures kind { IfOk result (λ a. a.now.tag ≡ 16) }
     {
         match self.live(name) {
             Some(members) => Ok(members),
@@ -141,7 +142,8 @@ impl Sets {
 
     /// The members of the set of that name, if there is one.
     fn live(&self, name: &Key) -> Option<&Array>
-        ensures { option_map (λ a. spelling (values.Array a.now)) result ≡ live_at self.now name.now }
+        ensures value { option_map (λ a. spelling (values.Array a.now)) result ≡ live_at self.now name.now }
+        ensures kind { IfSome result (λ a. a.now.tag ≡ 16) }
     {
         match self.sealer.far_puts().get(name) {
             Some(put) => members_of(put),

@@ -13,15 +13,15 @@ members_of-requires c =
     found_procs z c.args.name.now (stamp_of c.in-Some.put.now) c.self.invariant
     (ap (option_map (λ v. stamp_of v.now)) (sym c.in-Some.is) ∙ read_rows stamp_of c.far_puts.result.now.entries z.far c.args.name.now c.get.result c.far_puts.ensures c.get.ensures.value)
 
-pub returns-in-Some : goal.returns-in-Some
-returns-in-Some c =
+pub returns-in-Some-clause-value : goal.returns-in-Some-clause-value
+returns-in-Some-clause-value c =
     let z = c.self.inside.sealer in
-    c.members_of.ensures
+    c.members_of.ensures.value
     ∙ ap live_in (ap (option_map (λ v. stamp_of v.now)) (sym c.in-Some.is) ∙ read_rows stamp_of c.far_puts.result.now.entries z.far c.args.name.now c.get.result c.far_puts.ensures c.get.ensures.value)
     ∙ ap (λ (s : Sealed). live_at s c.args.name.now) c.self.view_is
 
-pub returns-in-None : goal.returns-in-None
-returns-in-None c =
+pub returns-in-None-clause-value : goal.returns-in-None-clause-value
+returns-in-None-clause-value c =
     let z = c.self.inside.sealer in
     ap live_in (ap (option_map (λ v. stamp_of v.now)) (sym c.in-None.is) ∙ read_rows stamp_of c.far_puts.result.now.entries z.far c.args.name.now c.get.result c.far_puts.ensures c.get.ensures.value)
     ∙ ap (λ (s : Sealed). live_at s c.args.name.now) c.self.view_is
