@@ -10,6 +10,8 @@ mod dump;
 mod dump_tests;
 mod reporting;
 #[cfg(test)]
+mod set_tests;
+#[cfg(test)]
 mod tests;
 mod text;
 
