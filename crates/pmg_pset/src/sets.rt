@@ -11,7 +11,7 @@ ghost use Rattle.pmg_scope.specs.declared.scope.Reach.TheVariants as reach;
 ghost use Rattle.pmg_commit.specs.Sealed.{fresh, seal_answer, piece_answer};
 ghost use Rattle.pmg_pset.specs.Members.{in_order, proc_bytes, no_members, are_procs};
 ghost use Rattle.pmg_pset.specs.Refusing.{define_cause, delete_cause, members_cause};
-ghost use Rattle.pmg_pset.specs.Sets.{host, changed, is_live, live_at, live_names, members_at};
+ghost use Rattle.pmg_pset.specs.Sets.{host, changed, live_at, live_names, members_at};
 
 use crate::members::{are_unfit, array_of, in_order, members_of};
 use pmg_commit::{Piece, Sealer};
