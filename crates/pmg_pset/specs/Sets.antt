@@ -17,8 +17,8 @@ host = record { nspace = host_name; rank = 0 }
 abbrev pub are_sets : Stamps → Bool
 are_sets m = list_all (λ e. are_procs e.1.bytes) (finite.entries m)
 
--- What is kept of the sets: they are what the host's process sealed, which does not end; all nodes see the same; each value is
--- an array of processes; and together they are within the limits of a sealer.
+-- What is kept of the sets: they are what the host's process sealed, which does not end; all nodes see the same; each
+-- value is an array of processes; and together they are within the limits of a sealer.
 pub record AreSets (z : Sealed) : Type 0 where
   pub host : z.proc ≡ host
   pub going : z.ended ≡ false
