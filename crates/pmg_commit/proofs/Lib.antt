@@ -1,3 +1,4 @@
+pub mod CoreOrder
 pub mod HonestLaws
 pub mod Joining
 pub mod PieceFacts

@@ -13,3 +13,4 @@ pub mod Rules
 pub mod Sealed
 pub mod SealerRules
 pub mod Stamped
+pub mod Within

@@ -1,5 +1,6 @@
--- Joins: what it takes for a join of many to be free in order, grouping and repeats.
-use Rattle.std.specs.Prelude.{List, [], ◌∷◌}
+-- Joins: what it takes for a join of many to be free in order, grouping and repeats, and for a join to be a least
+-- upper bound.
+use Rattle.std.specs.Prelude.{List, [], ◌∷◌, ◌≡◌}
 use Rattle.pmg_value.specs.Operations.{IsAssociative, IsCommutative, IsIdempotent}
 
 -- the laws of a join
@@ -7,6 +8,16 @@ pub record JoinLaws {M : Type 0} (join : M → M → M) : Type 0 where
   pub assoc : IsAssociative join
   pub comm : IsCommutative join
   pub idem : IsIdempotent join
+
+-- The laws of an order and of a join in it: each is within itself, what is within something is within all that it is
+-- within, two that are within one another are one; and the join of two is the least that both are within.
+pub record JoinOrder {M : Type 0} (join : M → M → M) (Within : M → M → Type 0) : Type 0 where
+  pub reflexive : (a : M) → Within a a
+  pub transitive : (a b c : M) → Within a b → Within b c → Within a c
+  pub antisymmetric : (a b : M) → Within a b → Within b a → a ≡ b
+  pub left : (a b : M) → Within a (join a b)
+  pub right : (a b : M) → Within b (join a b)
+  pub least : (a b c : M) → Within a c → Within b c → Within (join a b) c
 
 -- many joined to the first, one after the other
 abbrev pub join_all : {M : Type 0} → (M → M → M) → M → List M → M

@@ -1,2 +1,5 @@
 pub mod Joins
 pub mod Laws
+pub mod Maps
+pub mod Numbers
+pub mod Pairs

@@ -1,22 +1,15 @@
-//! Joins: associative, commutative and idempotent, so that a join of many is free in order, in grouping
-//! and in repeats.
+//! Joins: associative, commutative and idempotent, and least upper bounds, so that a join of many is free in
+//! order, in grouping and in repeats.
 #![tactic(auto)]
 
-ghost use Rattle.pmg_join.specs.Joins.{JoinLaws};
-ghost use Rattle.pmg_join.specs.Laws.{IsFreeInOrder, IsFreeInGrouping, IsFreeInRepeats};
+mod join;
+mod laws;
+mod many;
+mod max;
+mod pair_join;
 
-/// What can be joined, by its meaning.
-pub trait Join {
-    ghost Meaning: { Type 0 };
-
-    ghost joined: { Meaning → Meaning → Meaning };
-
-    ghost laws: { JoinLaws joined };
-}
-
-/// A join of many gives the same in any order, in any grouping and with any repeats.
-pub fn join_of_many<J: Join>()
-    ensures any_order { IsFreeInOrder J.joined }
-    ensures any_grouping { IsFreeInGrouping J.joined }
-    ensures any_repeats { IsFreeInRepeats J.joined }
-{}
+pub use join::{Join, join_rules};
+pub use laws::join_of_many;
+pub use many::join_all;
+pub use max::MaxU64;
+pub use pair_join::PairJoin;

@@ -40,13 +40,27 @@ impl Model for Store {
 
 impl Join for Store {
     ghost use Rattle.pmg_commit.specs.Data.{Data, join_data};
-    ghost use Rattle.pmg_store.specs.Joining.{data_joined};
+    ghost use Rattle.pmg_store.specs.Joining.{DataWithin, data_joined, data_ordered};
 
     ghost Meaning = { Data };
 
+    ghost meaning = { λ s. s };
+
     ghost joined = { join_data };
 
+    ghost Within = { DataWithin };
+
     ghost laws = { data_joined };
+
+    ghost order = { data_ordered };
+
+    fn copy(&self) -> Result<Store, AllocError> {
+        Store::copy(self)
+    }
+
+    fn join(&mut self, other: Store) -> Result<(), AllocFailed<Store>> {
+        Store::join(self, other)
+    }
 }
 
 impl Store {

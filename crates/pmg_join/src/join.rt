@@ -1,0 +1,48 @@
+ghost use Rattle.std.specs.Prelude.{◌≡◌, OnOk, OnErr, IfOk, IfErr};
+ghost use Rattle.pmg_join.specs.Joins.{JoinLaws, JoinOrder};
+
+use std::alloc::{AllocError, AllocFailed};
+
+/// What can be joined. Its meaning is what contracts speak of; `Within` is an order of meanings, in which the
+/// join of two is the least that both are within.
+pub trait Join: Drop {
+    ghost Meaning: { Type 0 };
+
+    ghost meaning: { Self → Meaning };
+
+    ghost joined: { Meaning → Meaning → Meaning };
+
+    ghost Within: { Meaning → Meaning → Type 0 };
+
+    /// Another one of the same meaning.
+    fn copy(&self) -> Result<Self, AllocError>
+        ensures { IfOk result (λ copy. meaning copy ≡ meaning self.now) };
+
+    /// Joins the other one into this one. Where memory is wanting, this one keeps its meaning, and the other one is
+    /// handed back with its own.
+    fn join(&mut self, other: Self) -> Result<(), AllocFailed<Self>>
+        ensures ok { OnOk result (meaning self.new ≡ joined (meaning self.old) (meaning other)) }
+        ensures err { OnErr result (meaning self.new ≡ meaning self.old) }
+        ensures handed_back { IfErr result (λ e. meaning e.value ≡ meaning other) };
+
+    ghost laws: { JoinLaws joined };
+
+    ghost order: { JoinOrder joined Within };
+}
+
+/// A join is associative, commutative and idempotent, and in its order the least that both are within.
+pub fn join_rules<J: Join>()
+    ensures laws { JoinLaws J.joined }
+    ensures order { JoinOrder J.joined J.Within }
+{}
+
+/// The join of the two, both of which stay as they are.
+pub fn joined_copies<J: Join>(a: &J, b: &J) -> Result<J, AllocError>
+    ensures { IfOk result (λ both. J.meaning both ≡ J.joined (J.meaning a.now) (J.meaning b.now)) }
+{
+    let mut both = a.copy()?;
+    if let Err(_) = both.join(b.copy()?) {
+        return Err(AllocError);
+    }
+    Ok(both)
+}
