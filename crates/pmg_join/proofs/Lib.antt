@@ -1,2 +1,3 @@
 pub mod ManyJoined
+pub mod MapSteps
 pub mod MapsJoined

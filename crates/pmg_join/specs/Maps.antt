@@ -1,10 +1,11 @@
 -- Maps are joined key by key.
 use Rattle.std.proofs.Common.{◌≡◌, refl, ap}
-use Rattle.std.specs.Prelude.{⊤, Option, Some, None, if◌then◌else◌}
+use Rattle.std.specs.Prelude.{⊤, List, Option, Some, None, if◌then◌else◌}
 use Rattle.std.specs.Option.{option_map}
 use Rattle.std.specs.Ordering.{eq_by_cmp}
 use Rattle.std.specs.declared.cmp.Ordering.{Ordering}
-use Rattle.std.specs.BTreeMap.{BTreeMap, get}
+use Rattle.std.specs.Map.{lookup}
+use Rattle.std.specs.BTreeMap.{BTreeMap, is_at}
 use Rattle.pmg_value.specs.Maps.{join_options, join_to}
 use Rattle.pmg_join.specs.Joins.{JoinLaws, JoinOrder}
 
@@ -14,9 +15,13 @@ OptionWithin Within None b = ⊤
 OptionWithin Within (Some a) None = ⊥
 OptionWithin Within (Some a) (Some b) = Within a b
 
+-- what the entries have at a key, by its meaning
+abbrev pub meant_by : {K J M : Type 0} → (K → K → Ordering) → (J → M) → List (K × J) → K → Option M
+meant_by R meaning entries key = option_map meaning (lookup (is_at (R key)) entries)
+
 -- what a map has at a key, by its meaning
 abbrev pub meant : {K J M : Type 0} → (K → K → Ordering) → (J → M) → BTreeMap K J → K → Option M
-meant R meaning table key = option_map meaning (get R table key)
+meant R meaning table key = meant_by R meaning table.entries key
 
 -- two maps joined: at each key the values of both, joined
 abbrev pub join_at_keys : {K M : Type 0} → (M → M → M) → (K → Option M) → (K → Option M) → K → Option M

@@ -2,14 +2,18 @@
 //! order, in grouping and in repeats.
 #![tactic(auto)]
 
+mod element;
 mod join;
 mod laws;
 mod many;
+mod map_join;
 mod max;
 mod pair_join;
 
+pub use element::Element;
 pub use join::{Join, join_rules};
 pub use laws::join_of_many;
 pub use many::join_all;
+pub use map_join::MapJoin;
 pub use max::MaxU64;
 pub use pair_join::PairJoin;
