@@ -1,3 +1,5 @@
 pub mod ManyJoined
 pub mod MapSteps
 pub mod MapsJoined
+pub mod RangeLemmas
+pub mod SetSteps

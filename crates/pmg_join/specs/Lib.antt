@@ -3,3 +3,5 @@ pub mod Laws
 pub mod Maps
 pub mod Numbers
 pub mod Pairs
+pub mod Ranges
+pub mod Sets

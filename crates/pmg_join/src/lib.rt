@@ -3,17 +3,21 @@
 #![tactic(auto)]
 
 mod element;
+mod grow_set;
 mod join;
 mod laws;
 mod many;
 mod map_join;
 mod max;
 mod pair_join;
+mod range_set;
 
 pub use element::Element;
+pub use grow_set::GrowSet;
 pub use join::{Join, join_rules};
 pub use laws::join_of_many;
 pub use many::join_all;
 pub use map_join::MapJoin;
 pub use max::MaxU64;
 pub use pair_join::PairJoin;
+pub use range_set::{RangeSet, Span};
