@@ -21,3 +21,6 @@ pub use map_join::MapJoin;
 pub use max::MaxU64;
 pub use pair_join::PairJoin;
 pub use range_set::{RangeSet, Span};
+
+#[cfg(test)]
+mod tests;
