@@ -1,7 +1,7 @@
 //! What no clause says: that calls succeed, and what stores of some pieces hold.
 use crate::Store;
 use pmg_commit::{Piece, PieceEntry};
-use pmg_join::join_of_many;
+use pmg_join::{Join, join_all, join_of_many, join_rules};
 use pmg_value::{Key, Nspace, Proc, Rank, Refusal, Value};
 use std::alloc::Global;
 
@@ -104,7 +104,31 @@ fn the_greater_value_counts_at_equal_numbers(rt: HostRuntime) -> Result<(), Refu
     Ok(())
 }
 
+// The second joined to a copy of the first, twice.
+fn joined_twice<J: Join>(first: &J, second: &J) -> Result<J, Refusal> {
+    let mut all = first.copy()?;
+    all.join(second.copy()?).map_err(|_| Refusal::NoMemory)?;
+    all.join(second.copy()?).map_err(|_| Refusal::NoMemory)?;
+    Ok(all)
+}
+
+#[test]
+fn stores_are_joined_by_their_bound(rt: HostRuntime) -> Result<(), Refusal> {
+    let alloc = rt.alloc();
+    let mut early = Store::new(alloc);
+    early.absorb(&piece(alloc, 0, 2, 1, 1)?)?;
+    let mut late = Store::new(alloc);
+    late.absorb(&piece(alloc, 2, 3, 3, 9)?)?;
+    assert_eq!(rt; seen(alloc, &joined_twice(&early, &late)?)?, (3, Some(9)));
+    let mut others = Vec::new(alloc);
+    others.push(early.copy()?)?;
+    others.push(Store::new(alloc))?;
+    assert_eq!(rt; seen(alloc, &join_all(late, others)?)?, (3, Some(9)));
+    Ok(())
+}
+
 #[test]
 fn stores_are_joined_lawfully(_rt: HostRuntime) {
     join_of_many::<Store>();
+    join_rules::<Store>();
 }
