@@ -1,24 +1,51 @@
-//! What no clause says: that commits succeed, and what pieces of worked scripts hold.
+//! What no clause says: that each call gives its answer where there is memory, and gives it when it is called
+//! again after memory ran out; and what pieces of worked scripts hold.
 use crate::Sealer;
-use pmg_scope::{Cache, Reach, Scope};
+use pmg_scope::{Batch, Cache, Reach, Scope};
 use pmg_value::{Key, Nspace, Proc, Rank, Refusal, Value};
 use std::alloc::Global;
 
-fn sealer_of(alloc: Global, nspace: &[u8], rank: u32) -> Result<Sealer, Refusal> {
-    let proc = Proc::new(Nspace::read_any(alloc, nspace)?, Rank::new(rank));
-    Sealer::new(alloc, &proc)
+// The answer, asked for a second time where memory ran out.
+macro_rules! again {
+    ($call:expr) => {
+        match $call {
+            Err(Refusal::NoMemory) => $call,
+            answer => answer,
+        }
+    };
 }
 
-// The number of the next commit, asked for again where memory ran out; then the sealer was as before.
+fn sealer_of(alloc: Global, nspace: &[u8], rank: u32) -> Result<Sealer, Refusal> {
+    let name = again!(Nspace::read_any(alloc, nspace))?;
+    let proc = Proc::new(name, Rank::new(rank));
+    again!(Sealer::new(alloc, &proc))
+}
+
+fn batch_of(cache: &Cache) -> Result<Batch, Refusal> {
+    again!(cache.unsealed().map_err(Refusal::from))
+}
+
 fn commit(cache: &mut Cache, sealer: &mut Sealer) -> Result<u64, Refusal> {
-    let batch = cache.unsealed()?;
-    let before = sealer.level();
-    let number = match sealer.seal(&batch) {
-        Err(Refusal::NoMemory) if sealer.level() == before => sealer.seal(&batch)?,
-        answer => answer?,
-    };
+    let batch = batch_of(cache)?;
+    let number = again!(sealer.seal(&batch))?;
     cache.mark_sealed();
     Ok(number)
+}
+
+fn end(sealer: &mut Sealer) -> Result<u64, Refusal> {
+    again!(sealer.seal_end().map_err(Refusal::from))
+}
+
+fn copy_of(sealer: &Sealer) -> Result<Sealer, Refusal> {
+    again!(sealer.copy().map_err(Refusal::from))
+}
+
+fn key_of(alloc: Global, letter: u8) -> Result<Key, Refusal> {
+    again!(Key::read(alloc, &[letter]))
+}
+
+fn put(cache: &mut Cache, alloc: Global, scope: Scope, key: u8, digit: u8) -> Result<(), Refusal> {
+    again!(cache.put(scope, key_of(alloc, key)?, Value::U8(digit)))
 }
 
 // The scope of a step's first letter.
@@ -41,9 +68,9 @@ fn step(
     let [first, key, digit] = *letters;
     match first {
         b'c' => commit(cache, sealer),
-        b'e' => Ok(sealer.seal_end()?),
+        b'e' => end(sealer),
         _ => {
-            cache.put(scope_of(first), Key::read(alloc, &[key])?, Value::U8(digit))?;
+            put(cache, alloc, scope_of(first), key, digit)?;
             Ok(sealer.level())
         }
     }
@@ -67,13 +94,13 @@ fn digit_of(value: &Value) -> u8 {
     }
 }
 
+// No text of a piece is longer.
+const LONGEST_TEXT: usize = 16;
+
 // The entries of the piece from that commit on: of each its key, its commit's number and its digit.
 fn shown(alloc: Global, sealer: &Sealer, from: u64, reach: Reach) -> Result<Vec<u8>, Refusal> {
-    let piece = match sealer.piece_of(from, reach) {
-        Err(Refusal::NoMemory) => sealer.piece_of(from, reach)?,
-        answer => answer?,
-    };
-    let mut text = Vec::new(alloc);
+    let piece = again!(sealer.piece_of(from, reach))?;
+    let mut text = again!(Vec::with_capacity(alloc, LONGEST_TEXT).map_err(Refusal::from))?;
     for entry in piece.entries() {
         text.extend_from_slice(entry.key.as_bytes())?;
         text.push(if entry.number == 1 { b'1' } else { b'2' })?;
@@ -124,7 +151,7 @@ fn two_values_of_one_key_stand_side_by_side(rt: HostRuntime) -> Result<(), Refus
 fn a_put_behind_a_commit_is_of_the_next_one(rt: HostRuntime) -> Result<(), Refusal> {
     let alloc = rt.alloc();
     let steps = [b"ga1", b"gb2", b"c  ", b"ga3", b"c  ", b"c  "];
-    let sealer = played(alloc, &steps)?.copy()?;
+    let sealer = copy_of(&played(alloc, &steps)?)?;
     assert_eq!(rt; sealer.level(), 3);
     assert_eq!(rt;
         shown(alloc, &sealer, 0, Reach::Far)?.as_slice(),
