@@ -3,6 +3,7 @@ pub mod Dump
 pub mod Dumps
 pub mod Input
 pub mod Joining
+pub mod Merged
 pub mod Outcomes
 pub mod Pieces
 pub mod Tables

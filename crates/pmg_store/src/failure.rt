@@ -2,8 +2,9 @@
 ghost use Rattle.std.specs.Prelude.{◌≡◌};
 ghost use Rattle.pmg_value.specs.declared.refusal.Refusal.TheVariants.{NoMemory};
 ghost use Rattle.pmg_store.specs.declared.failure.Failure.TheVariants.{Refused};
+ghost use Rattle.pmg_store.specs.declared.failure.MergeFailure.TheVariants.{Failed};
 
-use pmg_value::Refusal;
+use pmg_value::{Fault, Refusal};
 use std::alloc::{AllocError, AllocFailed};
 use thiserror::Error;
 
@@ -42,5 +43,32 @@ impl<T: Drop> From<AllocFailed<T>> for Failure {
 
     fn from(_e: AllocFailed<T>) -> Failure {
         Failure::Refused(Refusal::NoMemory)
+    }
+}
+
+/// Why streams could not be merged.
+#[derive(Clone, Copy, Debug, PartialEq, Eq, Error)]
+pub enum MergeFailure {
+    /// A stream is faulty: its number, counted from 1, and its first fault.
+    #[error("refused 10 BadFrame: {1} in stream {0}")]
+    Faulty(usize, Fault),
+    /// The call was refused for another reason, or a reader or the writer failed.
+    #[error("{0}")]
+    Failed(Failure),
+}
+
+impl From<Failure> for MergeFailure {
+    ghost from_gives = { λ failure e. e ≡ Failed failure };
+
+    fn from(failure: Failure) -> MergeFailure {
+        MergeFailure::Failed(failure)
+    }
+}
+
+impl<T: Drop> From<AllocFailed<T>> for MergeFailure {
+    ghost from_gives = { λ _ e. e ≡ Failed (Refused NoMemory) };
+
+    fn from(_e: AllocFailed<T>) -> MergeFailure {
+        MergeFailure::Failed(Failure::Refused(Refusal::NoMemory))
     }
 }

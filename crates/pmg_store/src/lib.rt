@@ -6,13 +6,15 @@ mod dump;
 mod failure;
 mod input;
 mod laws;
+mod merge;
 mod store;
 mod stream;
 
 pub use board::Board;
-pub use failure::Failure;
+pub use failure::{Failure, MergeFailure};
 pub use input::{Counted, INPUT_LIMIT, MOST_READS, read_counted, read_input};
 pub use laws::{honest_stores, pieces_in_any_order};
+pub use merge::{MAX_STREAMS, merge_streams};
 pub use store::Store;
 pub use stream::{dump_stream, store_of_stream};
 
