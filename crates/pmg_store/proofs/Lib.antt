@@ -3,6 +3,7 @@ pub mod Covering
 pub mod DumpLemmas
 pub mod InputLemmas
 pub mod Ordered
+pub mod MergeLaws
 pub mod MergeLemmas
 pub mod OutcomeLemmas
 pub mod ReadTable

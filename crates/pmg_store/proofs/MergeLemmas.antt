@@ -187,7 +187,7 @@ dump_due : (told : Result (List Contribution) MergeFailure) (store : Data) → m
 dump_due (Ok cs) store is = let same : data_of cs ≡ store = cc in ap (λ d. Ok (dump d)) same
 dump_due (Err e) store is = cc
 
-few_due : (streams : List (List ℕ)) → length streams ≤ 64 → merge_of streams ≡ made_of (λ cs. dump (data_of cs)) (told_from 1 streams)
+pub few_due : (streams : List (List ℕ)) → length streams ≤ 64 → merge_of streams ≡ made_of (λ cs. dump (data_of cs)) (told_from 1 streams)
 unfolding merge_of
 few_due streams few = rw (le-ltb 64 (length streams) few) refl
 

@@ -14,13 +14,13 @@ use Rattle.pmg_store.proofs.OutcomeLemmas.{refused_first}
 use Rattle.pmg_store.specs.Told.{contributions, told_by_said, told_in, data_told}
 
 -- the start of a stream
-abbrev start : Place
+abbrev pub start : Place
 start = record { offset = 0; rest = [] }
 
 said_of_feed : (bytes : List ℕ) (fs : List Frame) (f : Option Fault) (new : Option Place) (fed : Feeds start bytes fs f new) → said_by bytes ≡ record { frames = fs; fault = f; end = fed.end }
 said_of_feed bytes fs f new fed = said_is _ (record { offset = 0; rest = bytes }) fs fed.end f (omega arith) fed.runs fed.stops
 
-told_of_feed : (bytes : List ℕ) (fs : List Frame) (f : Option Fault) (new : Option Place) (fed : Feeds start bytes fs f new) → told_in bytes ≡ told_by_said fs f fed.end.offset (length fed.end.rest)
+pub told_of_feed : (bytes : List ℕ) (fs : List Frame) (f : Option Fault) (new : Option Place) (fed : Feeds start bytes fs f new) → told_in bytes ≡ told_by_said fs f fed.end.offset (length fed.end.rest)
 unfolding told_in
 told_of_feed bytes fs f new fed = ap (λ (s : Said). told_by_said s.frames s.fault s.end.offset (length s.end.rest)) (said_of_feed bytes fs f new fed)
 

@@ -1,12 +1,14 @@
 -- Two servers that have taken the same pieces, in any order, in any grouping and with any repeats, hold the
 -- same data.
-use Rattle.std.specs.Prelude.{ℕ, ◌≡◌, List, ◌++◌, Ok}
+use Rattle.std.specs.Prelude.{ℕ, ◌≡◌, ◌≤◌, List, ◌++◌, length, Ok}
 use Rattle.pmg_value.specs.declared.process.Proc.{Proc}
-use Rattle.pmg_value.specs.Lists.{SameItems}
+use Rattle.pmg_value.specs.Lists.{SameItems, Each}
+use Rattle.pmg_wire.specs.Reading.{IsBytes}
 use Rattle.pmg_commit.specs.Knowledge.{Contribution, core}
 use Rattle.pmg_commit.specs.Data.{join_data, known, level_at, read_at}
 use Rattle.pmg_store.specs.Dump.{dump}
 use Rattle.pmg_store.specs.Dumps.{stream_dump}
+use Rattle.pmg_store.specs.Merged.{merge_of, one_after_the_other}
 use Rattle.pmg_store.specs.Pieces.{data_of, told_of}
 use Rattle.pmg_store.specs.Told.{told_in}
 
@@ -33,6 +35,14 @@ PrintsAlike = (xs ys : List Contribution) → SameItems xs ys → dump (data_of 
 -- Streams that tell the same contributions have the same dump.
 abbrev pub StreamsPrintAlike : Type 0
 StreamsPrintAlike = (a b : List ℕ) (xs ys : List Contribution) → told_in a ≡ Ok xs → told_in b ≡ Ok ys → SameItems xs ys → stream_dump a ≡ stream_dump b
+
+-- Streams that are merged print the same in whatever order they come, and however often each of them does.
+abbrev pub MergesAlike : Type 0
+MergesAlike = (xs ys : List (List ℕ)) (text : List ℕ) → SameItems xs ys → length ys ≤ 64 → merge_of xs ≡ Ok text → merge_of ys ≡ Ok text
+
+-- They print what they print as one stream, one after the other.
+abbrev pub MergesAsOne : Type 0
+MergesAsOne = (streams : List (List ℕ)) (text : List ℕ) → Each IsBytes streams → merge_of streams ≡ Ok text → stream_dump (one_after_the_other streams) ≡ Ok text
 
 -- What is held of each process is the core of the union of what the pieces tell of it.
 abbrev pub HoldsUnion : Type 0

@@ -1,5 +1,6 @@
 -- What several streams tell together.
 use Rattle.std.specs.Prelude.{◌≡◌, ℕ, suc, nat_lt, List, [], ◌∷◌, ◌++◌, length, ⊤, ◌⊎◌, MatchResult, Ok, Err, if◌then◌else◌}
+use Rattle.std.specs.List.{flat_map}
 use Rattle.std.specs.declared.option.Option.{Option}
 use Rattle.std.specs.declared.result.Result.{Result}
 use Rattle.std.specs.Io.KnownBytes.{Appends, Keeps}
@@ -51,6 +52,10 @@ told_from number (bytes ∷ others) = told_first number (told_by_input bytes) (t
 abbrev pub made_of : {Y : Type 0} → (List Contribution → Y) → Result (List Contribution) MergeFailure → Result Y MergeFailure
 made_of make (Ok cs) = Ok (make cs)
 made_of make (Err e) = Err e
+
+-- the streams as one
+abbrev pub one_after_the_other : List (List ℕ) → List ℕ
+one_after_the_other streams = flat_map (λ bytes. bytes) streams
 
 -- what a server holds that took what the streams tell
 abbrev pub merged : List (List ℕ) → Result Data MergeFailure

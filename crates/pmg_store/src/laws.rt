@@ -1,5 +1,5 @@
 ghost use Rattle.pmg_store.specs.HonestStores.{StoreReadsHonestly, EqualLevelsReadAlike};
-ghost use Rattle.pmg_store.specs.Convergence.{SameInAnyOrder, SameInAnyGrouping, ReadsAlike, PrintsAlike, StreamsPrintAlike, HoldsUnion};
+ghost use Rattle.pmg_store.specs.Convergence.{SameInAnyOrder, SameInAnyGrouping, ReadsAlike, PrintsAlike, StreamsPrintAlike, MergesAlike, MergesAsOne, HoldsUnion};
 
 /// Two servers that have taken the same pieces, in any order, in any grouping and with any repeats, hold and
 /// print the same data: of each process, the core of the union of what the pieces tell of it.
@@ -9,6 +9,8 @@ pub fn pieces_in_any_order()
     ensures reads_alike { ReadsAlike }
     ensures prints_alike { PrintsAlike }
     ensures streams_print_alike { StreamsPrintAlike }
+    ensures merges_alike { MergesAlike }
+    ensures merges_as_one { MergesAsOne }
     ensures union { HoldsUnion }
 {}
 
