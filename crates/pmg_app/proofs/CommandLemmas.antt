@@ -1,7 +1,10 @@
 -- What the words of the command line ask for.
-use Rattle.std.proofs.Common.{◌≡◌, ◌≢◌, ◌⊎◌, ◌∙◌, inl, inr, refl, sym, ap, subst, true, List, [], ◌∷◌, codes, Ok, Err}
-use Rattle.std.specs.Prelude.{IfOk, IfErr}
+use Rattle.std.proofs.Common.{◌≡◌, ◌≢◌, ◌⊎◌, ◌∙◌, inl, inr, refl, sym, ap, subst, true, false, ℕ, Option, Some, None, List, [], ◌∷◌, codes, Ok, Err}
+use Rattle.std.specs.Prelude.{IfOk, IfErr, if◌then◌else◌}
+use Rattle.std.specs.Str.{bytes_eq}
 use Rattle.std.specs.declared.result.Result.{Result}
+use Rattle.std.specs.Option.{option_map}
+use Rattle.clap.specs.Simple.{is_simple}
 use Rattle.clap.specs.Walk.{Text}
 use Rattle.clap.specs.Kinds.{IsAmong}
 use Rattle.clap.specs.Faults.{fault_of, is_simple_and_free}
@@ -9,13 +12,22 @@ use Rattle.clap.specs.declared.error.kind.ErrorKind.{ErrorKind}
 use Rattle.clap.specs.declared.error.kind.ErrorKind.TheVariants.{OutOfMemory, DisplayHelp, DisplayVersion, MissingSubcommand}
 use Rattle.clap.proofs.OnLiterals.{clap_on_literals}
 use Rattle.pmg_app.specs.declared.command.Chosen.{Chosen}
-use Rattle.pmg_app.specs.declared.command.Chosen.TheVariants.{Dump, Shown}
-use Rattle.pmg_app.specs.CommandLine.{program, shown_status, IsChosen}
+use Rattle.pmg_app.specs.declared.command.Chosen.TheVariants.{Dump, Merge, Shown}
+use Rattle.pmg_app.specs.CommandLine.{program, command_in, chosen_of, shown_status, IsChosen}
 
 -- the command line is one of which `clap` says when it takes the words
 pub is_simple_program : is_simple_and_free program ≡ true
 unfolding clap_on_literals
 is_simple_program = refl
+
+pub is_simple_line : is_simple program ≡ true
+unfolding clap_on_literals
+is_simple_line = refl
+
+-- a name that stands beside something else
+pub name_beside : {X Y Z : Type 0} (name : X → Y) (other : X → Z) (found : Option X) → option_map name found ≡ option_map (λ (p : Y × Z). p.0) (option_map (λ x. (name x, other x)) found)
+name_beside name other None = refl
+name_beside name other (Some x) = refl
 
 -- what was found amiss is shown, but for want of memory
 pub shown_is_chosen : {E : Type 0} (result : Result Chosen E) (words : List Text) (kind : ErrorKind) → IfOk result (λ chosen. chosen ≡ Shown (shown_status kind))
@@ -24,17 +36,38 @@ shown_is_chosen (Err e) words kind shown memory found = tt
 shown_is_chosen (Ok chosen) words kind shown memory (inl wanting) = absurd (memory wanting)
 shown_is_chosen (Ok chosen) words kind shown memory (inr among) = subst (IsChosen words) (sym shown) (kind, among, refl)
 
--- where nothing is amiss, the dump is asked for
-pub is_dump : {E : Type 0} (result : Result Chosen E) (words : List Text) → fault_of program words ≡ [] → IfOk result (IsChosen words) → IfOk result (λ chosen. chosen ≡ Dump)
-is_dump (Err e) words none chosen = tt
-is_dump (Ok Dump) words none chosen = refl
-is_dump (Ok (Shown status)) words none chosen = absurd (subst (IsAmong chosen.0) none chosen.1)
+-- the command that was found is what is asked for
+pub named_is_chosen : (chosen : Chosen) (words : List Text) → fault_of program words ≡ [] → chosen ≡ chosen_of (command_in words) → IsChosen words chosen
+named_is_chosen Dump words none is = (none, sym is)
+named_is_chosen Merge words none is = (none, sym is)
+named_is_chosen (Shown status) words none is = absurd (never_shown (command_in words) status is)
+  where
+    never_shown : (name : Option Text) (status : ℕ) → Shown status ≡ chosen_of name → ⊥
+    never_shown None status is = cc
+    never_shown (Some name) status is = elim (bytes_eq name (codes "merge")) as (λ b. Shown status ≡ (if b then Merge else Dump) → ⊥) [
+      | true ↦ λ is. cc
+      | false ↦ λ is. cc
+    ] is
+
+-- where nothing is amiss, the command that is named is asked for
+pub is_dump : {E : Type 0} (result : Result Chosen E) (words : List Text) → fault_of program words ≡ [] → chosen_of (command_in words) ≡ Dump → IfOk result (IsChosen words) → IfOk result (λ chosen. chosen ≡ Dump)
+is_dump (Err e) words none named chosen = tt
+is_dump (Ok Dump) words none named chosen = refl
+is_dump (Ok Merge) words none named chosen = sym chosen.1 ∙ named
+is_dump (Ok (Shown status)) words none named chosen = absurd (subst (IsAmong chosen.0) none chosen.1)
+
+pub is_merge : {E : Type 0} (result : Result Chosen E) (words : List Text) → fault_of program words ≡ [] → chosen_of (command_in words) ≡ Merge → IfOk result (IsChosen words) → IfOk result (λ chosen. chosen ≡ Merge)
+is_merge (Err e) words none named chosen = tt
+is_merge (Ok Dump) words none named chosen = sym chosen.1 ∙ named
+is_merge (Ok Merge) words none named chosen = refl
+is_merge (Ok (Shown status)) words none named chosen = absurd (subst (IsAmong chosen.0) none chosen.1)
 
 -- where one thing is found, it is shown
 pub is_shown : {E : Type 0} (result : Result Chosen E) (words : List Text) (kind : ErrorKind) → fault_of program words ≡ kind ∷ [] → IfOk result (IsChosen words)
     → IfOk result (λ chosen. chosen ≡ Shown (shown_status kind))
 is_shown (Err e) words kind one chosen = tt
-is_shown (Ok Dump) words kind one chosen = let both : [] ≡ kind ∷ [] = sym chosen ∙ one in cc
+is_shown (Ok Dump) words kind one chosen = let both : [] ≡ kind ∷ [] = sym chosen.0 ∙ one in cc
+is_shown (Ok Merge) words kind one chosen = let both : [] ≡ kind ∷ [] = sym chosen.0 ∙ one in cc
 is_shown (Ok (Shown status)) words kind one chosen = elim (subst (IsAmong chosen.0) one chosen.1) [
   | inl same ↦ ap Shown (chosen.2 ∙ ap shown_status same)
   | inr none ↦ absurd none
@@ -44,6 +77,18 @@ is_shown (Ok (Shown status)) words kind one chosen = elim (subst (IsAmong chosen
 pub of_dump : (name : Text) → fault_of program (name ∷ codes "dump" ∷ []) ≡ []
 unfolding clap_on_literals
 of_dump name = refl
+
+pub of_merge : (name : Text) → fault_of program (name ∷ codes "merge" ∷ []) ≡ []
+unfolding clap_on_literals
+of_merge name = refl
+
+pub dump_in : (name : Text) → chosen_of (command_in (name ∷ codes "dump" ∷ [])) ≡ Dump
+unfolding clap_on_literals
+dump_in name = refl
+
+pub merge_in : (name : Text) → chosen_of (command_in (name ∷ codes "merge" ∷ [])) ≡ Merge
+unfolding clap_on_literals
+merge_in name = refl
 
 pub of_help : (name : Text) → fault_of program (name ∷ codes "--help" ∷ []) ≡ DisplayHelp ∷ []
 unfolding clap_on_literals

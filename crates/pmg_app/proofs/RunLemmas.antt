@@ -12,9 +12,11 @@ use Rattle.pmg_value.specs.Written.{AppendsFront}
 use Rattle.pmg_value.proofs.WrittenLemmas.{appends_then, appends_kept, front_of_all}
 use Rattle.pmg_store.specs.declared.failure.Failure.{Failure}
 use Rattle.pmg_store.specs.declared.failure.Failure.TheVariants as failures
+use Rattle.pmg_store.specs.declared.failure.MergeFailure.{MergeFailure}
+use Rattle.pmg_store.specs.Merged.{StopsMerging, Merges}
 use Rattle.pmg_store.specs.Outcomes.{Stops, Dumps}
 use Rattle.pmg_wire.specs.Reading.{FailsReading}
-use Rattle.pmg_app.specs.Output.{Output, Prints, Runs, output_of, failure_output, failure_line}
+use Rattle.pmg_app.specs.Output.{Output, Prints, Runs, output_of, failure_output, failure_line, merge_output_of, merge_failure_output, merge_failure_line}
 
 -- nothing, and then a text
 kept_appends : (old mid new : Option (List ℕ)) (a : List ℕ) → Keeps old mid → Appends mid new a → Appends old new a
@@ -100,7 +102,34 @@ runs_stopped old mid new status (failures.Refused refusal) due (fails, kept) pri
 runs_stopped old mid new status failures.Read due kept prints = inr (inr (kept_prints old mid new status (failure_output failures.Read) kept prints))
 runs_stopped old mid new status failures.Write due stops prints = runs_unwritten old mid new status due stops (no_line mid new status prints)
 
+-- a failed merge was reported
+runs_merge_stopped : (old mid new : Option (List ℕ)) (status : ℕ) (failure : MergeFailure) (due : Result (List ℕ) MergeFailure) → StopsMerging old mid failure due →
+    Prints mid new status (merge_failure_output failure) → Runs old new status (merge_output_of due)
+unfolding merge_failure_line
+runs_merge_stopped old mid new status failure due (inl (inl (inl is), kept)) prints =
+    inr (inl (kept_prints old mid new status (failure_output (failures.Refused refusals.NoMemory)) kept (rw is at prints)))
+runs_merge_stopped old mid new status failure due (inl (inl (inr is), kept)) prints = inr (inr (kept_prints old mid new status (failure_output failures.Read) kept (rw is at prints)))
+runs_merge_stopped old mid new status failure due (inl (inr is, kept)) prints = rw is (inl (kept_prints old mid new status (merge_failure_output failure) kept prints))
+runs_merge_stopped old mid new status failure (Ok text) (inr (is, front)) prints =
+    let nothing = no_line mid new status (rw is at prints) in
+    inl (inr (nothing.0, front_then_nothing old mid new text front nothing.1))
+runs_merge_stopped old mid new status failure (Err e) (inr (is, front)) prints = absurd front
+
+runs_merged : (old new : Option (List ℕ)) (due : Result (List ℕ) MergeFailure) → Merges {T = Unit {0}} old new (Ok tt) due → Runs old new 0 (merge_output_of due)
+runs_merged old new (Ok text) merges = inl (inl (refl, merges))
+runs_merged old new (Err e) merges = absurd merges
+
 -- the same, at a reader whose bytes may be known
+pub known_runs_merged : (known old new : Option (List ℕ)) (due : List ℕ → Result (List ℕ) MergeFailure) →
+    IfSome known (λ text. Merges {T = Unit {0}} old new (Ok tt) (due text)) → IfSome known (λ text. Runs old new 0 (merge_output_of (due text)))
+known_runs_merged None old new due merges = tt
+known_runs_merged (Some text) old new due merges = runs_merged old new (due text) merges
+
+pub known_runs_merge_stopped : (known old mid new : Option (List ℕ)) (status : ℕ) (failure : MergeFailure) (due : List ℕ → Result (List ℕ) MergeFailure) →
+    IfSome known (λ text. StopsMerging old mid failure (due text)) → Prints mid new status (merge_failure_output failure) → IfSome known (λ text. Runs old new status (merge_output_of (due text)))
+known_runs_merge_stopped None old mid new status failure due stops prints = tt
+known_runs_merge_stopped (Some text) old mid new status failure due stops prints = runs_merge_stopped old mid new status failure (due text) stops prints
+
 pub known_runs_done : (known old new : Option (List ℕ)) (due : List ℕ → Result (List ℕ) Fault) →
     IfSome known (λ text. Dumps {T = Unit {0}} old new (Ok tt) (due text)) → IfSome known (λ text. Runs old new 0 (output_of (due text)))
 known_runs_done None old new due dumps = tt

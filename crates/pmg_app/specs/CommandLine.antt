@@ -1,19 +1,30 @@
 -- The words of the command line, and what they ask for.
-use Rattle.std.specs.Prelude.{◌≡◌, ◌⊎◌, ℕ, List, [], codes, true}
-use Rattle.clap.specs.Simple.{App, new_app, new_shape, with_subcommand, on_top}
+use Rattle.std.specs.Prelude.{◌≡◌, ◌⊎◌, ℕ, List, [], codes, true, Option, Some, None, if◌then◌else◌}
+use Rattle.std.specs.Option.{option_map}
+use Rattle.std.specs.Str.{bytes_eq}
+use Rattle.clap.specs.Simple.{App, new_app, new_shape, with_subcommand, on_top, subcommand_of}
 use Rattle.clap.specs.Walk.{Text}
 use Rattle.clap.specs.Kinds.{IsAmong}
 use Rattle.clap.specs.Faults.{fault_of}
 use Rattle.clap.specs.declared.error.kind.ErrorKind.{ErrorKind}
 use Rattle.clap.specs.declared.error.kind.ErrorKind.TheVariants.{DisplayHelp, DisplayVersion}
 use Rattle.pmg_app.specs.declared.command.Chosen.{Chosen}
-use Rattle.pmg_app.specs.declared.command.Chosen.TheVariants.{Dump, Shown}
+use Rattle.pmg_app.specs.declared.command.Chosen.TheVariants.{Dump, Merge, Shown}
 
--- The program as `clap` reads it: it has a version, and wants its one command, `dump`, which takes no words.
+-- The program as `clap` reads it: it has a version, and wants a command, `dump` or `merge`, which takes no words.
 abbrev pub program : App
 program =
-    with_subcommand (on_top (λ s. record s { has_version = true; subcommand_required = true }) (new_app (codes "pmixgroup")))
-    (new_shape (codes "dump"))
+    with_subcommand (with_subcommand (on_top (λ s. record s { has_version = true; subcommand_required = true }) (new_app (codes "pmixgroup")))
+    (new_shape (codes "dump"))) (new_shape (codes "merge"))
+
+-- the command that `clap` finds in the words, where it takes them
+abbrev pub command_in : List Text → Option Text
+command_in words = option_map (λ p. p.0) (subcommand_of program words)
+
+-- the command of a name: `merge`, else `dump`
+abbrev pub chosen_of : Option Text → Chosen
+chosen_of None = Dump
+chosen_of (Some name) = if bytes_eq name (codes "merge") then Merge else Dump
 
 -- the status of a line that asks for help or the version, and of one that is not understood
 abbrev pub shown_status : ErrorKind → ℕ
@@ -21,12 +32,14 @@ shown_status DisplayHelp = 0
 shown_status DisplayVersion = 0
 shown_status _ = 2
 
--- The words ask for that: for the dump, where `clap` finds nothing amiss in them; else for what it finds.
+-- The words ask for that: for their command, where `clap` finds nothing amiss in them; else for what it finds.
 abbrev pub IsChosen : List Text → Chosen → Type 0
-IsChosen words Dump = fault_of program words ≡ []
+IsChosen words Dump = (fault_of program words ≡ []) × (chosen_of (command_in words) ≡ Dump)
+IsChosen words Merge = (fault_of program words ≡ []) × (chosen_of (command_in words) ≡ Merge)
 IsChosen words (Shown status) = (kind : ErrorKind) × IsAmong kind (fault_of program words) × (status ≡ shown_status kind)
 
 -- the status of what was shown is 0 or 2
 abbrev pub HasStatus : Chosen → Type 0
 HasStatus Dump = Unit {0}
+HasStatus Merge = Unit {0}
 HasStatus (Shown status) = (status ≡ 0) ⊎ (status ≡ 2)

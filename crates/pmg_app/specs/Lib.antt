@@ -1,4 +1,5 @@
 pub mod CommandLine
 pub mod Dump
+pub mod Merge
 pub mod Output
 pub mod Text

@@ -1,5 +1,5 @@
 -- What a command prints, and the status that it ends with.
-use Rattle.std.specs.Prelude.{◌≡◌, ℕ, List, [], ◌++◌, ◌⊎◌, codes, Ok, Err}
+use Rattle.std.specs.Prelude.{◌≡◌, ℕ, List, [], ◌++◌, ◌⊎◌, codes, decimal, Ok, Err}
 use Rattle.std.specs.declared.option.Option.{Option}
 use Rattle.std.specs.declared.result.Result.{Result}
 use Rattle.std.specs.Io.KnownBytes.{Appends}
@@ -8,6 +8,8 @@ use Rattle.pmg_value.specs.declared.refusal.Refusal.TheVariants.{NoMemory, BadFr
 use Rattle.pmg_value.specs.RefusalText.{refusal_text}
 use Rattle.pmg_value.specs.Written.{AppendsFront}
 use Rattle.pmg_store.specs.declared.failure.Failure.{Failure}
+use Rattle.pmg_store.specs.declared.failure.MergeFailure.{MergeFailure}
+use Rattle.pmg_store.specs.declared.failure.MergeFailure.TheVariants.{Faulty, Failed}
 use Rattle.pmg_store.specs.declared.failure.Failure.TheVariants.{Refused, Read, Write}
 
 -- a status, and what is printed
@@ -50,3 +52,26 @@ Runs old new status due =
 abbrev pub output_of : Result (List ℕ) Fault → Output
 output_of (Ok text) = record { status = 0; printed = text }
 output_of (Err fault) = failure_output (Refused (BadFrame fault))
+
+-- the number of a stream, behind its fault
+unfoldable pub in_stream : ℕ → List ℕ
+in_stream stream = codes " in stream " ++ decimal stream ++ codes "\n"
+
+-- the line of a failed merge: a stream's fault is told with the stream's number
+unfoldable pub merge_failure_line : MergeFailure → List ℕ
+merge_failure_line (Faulty stream fault) = codes "refused " ++ refusal_text (BadFrame fault) ++ in_stream stream
+merge_failure_line (Failed failure) = failure_line failure
+
+-- the status of a failed merge
+abbrev pub merge_failure_status : MergeFailure → ℕ
+merge_failure_status (Faulty stream fault) = 1
+merge_failure_status (Failed failure) = failure_status failure
+
+-- what is printed at a failed merge
+abbrev pub merge_failure_output : MergeFailure → Output
+merge_failure_output failure = record { status = merge_failure_status failure; printed = merge_failure_line failure }
+
+-- a text is printed with status 0, a failure as such
+abbrev pub merge_output_of : Result (List ℕ) MergeFailure → Output
+merge_output_of (Ok text) = record { status = 0; printed = text }
+merge_output_of (Err failure) = merge_failure_output failure

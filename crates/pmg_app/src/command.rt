@@ -1,11 +1,11 @@
 //! The command line.
 ghost use Rattle.std.specs.Prelude.{◌≡◌, ◌≢◌, ℕ, List, [], ◌∷◌, codes, map, IfOk, IfErr};
 ghost use Rattle.std.specs.IoError.{error_kind};
-ghost use Rattle.clap.specs.Words.{app_of, fault_of, kind_of};
-ghost use Rattle.pmg_app.specs.CommandLine.{program, shown_status, IsChosen, HasStatus};
+ghost use Rattle.clap.specs.Words.{app_of, fault_of, kind_of, subcommand_name_of};
+ghost use Rattle.pmg_app.specs.CommandLine.{program, chosen_of, shown_status, IsChosen, HasStatus};
 
 use clap::error::ErrorKind as Kind;
-use clap::{Command, Error};
+use clap::{ArgMatches, Command, Error};
 use std::alloc::Global;
 use std::convert::AsStr;
 use std::io::ErrorKind;
@@ -17,6 +17,8 @@ use std::{env, io};
 pub enum Chosen {
     /// The command `dump`.
     Dump,
+    /// The command `merge`.
+    Merge,
     /// Nothing more: help, the version or a usage fault was printed. Holds the status to end with.
     Shown(u8),
 }
@@ -24,11 +26,21 @@ pub enum Chosen {
 /// The status of a command line that is not understood.
 pub const USAGE_FAULT: u8 = 2;
 
-const EXAMPLE: &str = "\
+const DUMP_EXAMPLE: &str = "\
 Example:
   $ echo 010100000027016a00000000000000000000000000000000000000010000000100016100000000000000010101 | pmixgroup dump
   proc j 0 level 1
     bool:true a";
+
+const MERGE_EXAMPLE: &str = "\
+A line -- ends a stream.
+
+Example:
+  $ pmixgroup merge < examples/two_servers
+  proc j 0 level 2
+    u8:2 a
+  proc j 1 level 1
+    u8:7 a";
 
 /// Reads the command line. Help and the version go to standard output, a usage fault to standard error.
 ///
@@ -44,6 +56,7 @@ pub fn read_command_line<R: Env + Print + Eprint + AllocGlobal>(rt: &R) -> io::R
 pub fn choose<R: Print + Eprint + AllocGlobal, S: AsStr>(rt: &R, words: &[S]) -> io::Result<Chosen>
     ensures chosen { IfOk result (IsChosen (map S.text words.now)) }
     ensures dump { (name : List ℕ) → map S.text words.now ≡ name ∷ codes "dump" ∷ [] → IfOk result (λ chosen. chosen ≡ Chosen.Dump) }
+    ensures merge { (name : List ℕ) → map S.text words.now ≡ name ∷ codes "merge" ∷ [] → IfOk result (λ chosen. chosen ≡ Chosen.Merge) }
     ensures help { (name : List ℕ) → map S.text words.now ≡ name ∷ codes "--help" ∷ [] → IfOk result (λ chosen. chosen ≡ Chosen.Shown 0) }
     ensures version { (name : List ℕ) → map S.text words.now ≡ name ∷ codes "--version" ∷ [] → IfOk result (λ chosen. chosen ≡ Chosen.Shown 0) }
     ensures nothing { (name : List ℕ) → map S.text words.now ≡ name ∷ [] → IfOk result (λ chosen. chosen ≡ Chosen.Shown 2) }
@@ -52,8 +65,18 @@ pub fn choose<R: Print + Eprint + AllocGlobal, S: AsStr>(rt: &R, words: &[S]) ->
 {
     let command = command_line(rt.alloc())?;
     match command.try_get_matches_from(words) {
-        Ok(_) => Ok(Chosen::Dump),
+        Ok(matches) => Ok(chosen_by(&matches)),
         Err(error) => show(rt, &error),
+    }
+}
+
+// The command that the words named.
+fn chosen_by(matches: &ArgMatches) -> Chosen
+    ensures { result ≡ chosen_of (subcommand_name_of matches.now) }
+{
+    match matches.subcommand_name() {
+        Some("merge") => Chosen::Merge,
+        _ => Chosen::Dump,
     }
 }
 
@@ -85,13 +108,19 @@ fn command_line<'a>(alloc: Global) -> io::Result<Command<'a>>
 {
     let dump = Command::new(alloc, "dump")
         .about("Prints the dump of the frames that standard input holds in hexadecimal")
-        .after_help(EXAMPLE);
+        .after_help(DUMP_EXAMPLE);
+    let merge = Command::new(alloc, "merge")
+        .about(
+            "Prints the dump of the join of several streams that standard input holds in hexadecimal",
+        )
+        .after_help(MERGE_EXAMPLE);
     let command = Command::new(alloc, "pmixgroup")
         .bin_name("pmixgroup")?
         .version("0.1.0")
         .about("The server side of PMIx: what a group of servers knows, as text")
-        .after_help(EXAMPLE)
+        .after_help(DUMP_EXAMPLE)
         .subcommand_required(true)
-        .subcommand(dump)?;
+        .subcommand(dump)?
+        .subcommand(merge)?;
     Ok(command)
 }

@@ -8,6 +8,7 @@ mod command;
 mod dump;
 #[cfg(test)]
 mod dump_tests;
+mod merge;
 mod reporting;
 #[cfg(test)]
 mod set_tests;
@@ -37,6 +38,7 @@ fn run(rt: &(impl Env + Input + Print + Eprint + AllocGlobal)) -> io::Result<u8>
 {
     match command::read_command_line(rt)? {
         Chosen::Dump => dump_standard_input(rt),
+        Chosen::Merge => merge_standard_input(rt),
         Chosen::Shown(status) => Ok(status),
     }
 }
@@ -47,6 +49,14 @@ fn dump_standard_input(rt: &(impl Input + Print + AllocGlobal)) -> io::Result<u8
     let mut reader = BufReader::new(rt.alloc(), rt.reader())?;
     let mut writer = BufWriter::new(rt.alloc(), io::writer(rt))?;
     Ok(dump::run_dump(rt.alloc(), &mut reader, &mut writer))
+}
+
+fn merge_standard_input(rt: &(impl Input + Print + AllocGlobal)) -> io::Result<u8>
+    ensures { IfOk result (λ status. status ≤ 3) }
+{
+    let mut reader = BufReader::new(rt.alloc(), rt.reader())?;
+    let mut writer = BufWriter::new(rt.alloc(), io::writer(rt))?;
+    Ok(merge::run_merge(rt.alloc(), &mut reader, &mut writer))
 }
 
 // What fails before a command starts is memory, an argument, or standard output.

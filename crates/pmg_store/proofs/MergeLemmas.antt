@@ -140,7 +140,7 @@ fault_due all number known left whole way streams is bytes at_hand f fails =
 
 due_failure : (number : ℕ) (failure : Failure) (first : Result Data Fault) (due : Result Data MergeFailure) → Fails failure first → ((f : Fault) → first ≡ Err f → due ≡ Err (merges.Faulty number f)) →
     FailsMerging (failure_in number failure) due
-due_failure number (failures.Refused refusals.NoMemory) first due fails fault = inl tt
+due_failure number (failures.Refused refusals.NoMemory) first due fails fault = inl (inl refl)
 due_failure number (failures.Refused (refusals.BadFrame f)) first due fails fault = inr (fault f fails)
 due_failure number (failures.Refused refusals.BadParam) first due fails fault = absurd fails
 due_failure number (failures.Refused refusals.NotFound) first due fails fault = absurd fails
@@ -156,7 +156,7 @@ due_failure number (failures.Refused refusals.Collision) first due fails fault =
 due_failure number (failures.Refused refusals.Stale) first due fails fault = absurd fails
 due_failure number (failures.Refused refusals.Unordered) first due fails fault = absurd fails
 due_failure number (failures.Refused refusals.Closed) first due fails fault = absurd fails
-due_failure number failures.Read first due fails fault = inl tt
+due_failure number failures.Read first due fails fault = inl (inr refl)
 due_failure number failures.Write first due fails fault = absurd fails
 
 pub on_failure : (all : Data) (number : ℕ) (known : Option (List ℕ)) (left whole : List (Option (List ℕ))) (failure : Failure) → IsOnTheWay all number (known ∷ left) whole →
@@ -205,7 +205,7 @@ merge_failed known e streams few (inr due) =
 
 -- the dump was not written whole
 stopped : (old new : Option (List ℕ)) (failure : Failure) (text : List ℕ) → Stops old new failure (Ok text) → StopsMerging old new (merges.Failed failure) (Ok text)
-stopped old new (failures.Refused refusals.NoMemory) text stops = inl (inl tt, stops.1)
+stopped old new (failures.Refused refusals.NoMemory) text stops = inl (inl (inl refl), stops.1)
 stopped old new (failures.Refused (refusals.BadFrame f)) text stops = let never = stops.0 in cc
 stopped old new (failures.Refused refusals.BadParam) text stops = absurd stops.0
 stopped old new (failures.Refused refusals.NotFound) text stops = absurd stops.0
@@ -221,7 +221,7 @@ stopped old new (failures.Refused refusals.Collision) text stops = absurd stops.
 stopped old new (failures.Refused refusals.Stale) text stops = absurd stops.0
 stopped old new (failures.Refused refusals.Unordered) text stops = absurd stops.0
 stopped old new (failures.Refused refusals.Closed) text stops = absurd stops.0
-stopped old new failures.Read text stops = inl (inl tt, stops)
+stopped old new failures.Read text stops = inl (inl (inr refl), stops)
 stopped old new failures.Write text stops = inr (refl, stops)
 
 pub merge_unwritten : (old new : Option (List ℕ)) (failure : Failure) (streams : List (List ℕ)) (store : Data) → length streams ≤ 64 → merged streams ≡ Ok store →

@@ -71,9 +71,7 @@ merge_of streams = if nat_lt 64 (length streams) then Err too_many else made_of 
 
 -- memory may always be wanting, and a reader may always fail
 abbrev pub CanAlwaysCome : MergeFailure → Type 0
-CanAlwaysCome (Failed (Refused NoMemory)) = ⊤
-CanAlwaysCome (Failed Read) = ⊤
-CanAlwaysCome failure = ⊥
+CanAlwaysCome failure = (failure ≡ Failed (Refused NoMemory)) ⊎ (failure ≡ Failed Read)
 
 -- the failure is the one that is due, or one that can always come
 abbrev pub FailsMerging : {Y : Type 0} → MergeFailure → Result Y MergeFailure → Type 0

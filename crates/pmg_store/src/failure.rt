@@ -65,6 +65,14 @@ impl From<Failure> for MergeFailure {
     }
 }
 
+impl From<AllocError> for MergeFailure {
+    ghost from_gives = { λ _ e. e ≡ Failed (Refused NoMemory) };
+
+    fn from(_e: AllocError) -> MergeFailure {
+        MergeFailure::Failed(Failure::Refused(Refusal::NoMemory))
+    }
+}
+
 impl<T: Drop> From<AllocFailed<T>> for MergeFailure {
     ghost from_gives = { λ _ e. e ≡ Failed (Refused NoMemory) };
 
