@@ -9,6 +9,8 @@ mod dump;
 #[cfg(test)]
 mod dump_tests;
 mod merge;
+#[cfg(test)]
+mod merge_tests;
 mod reporting;
 #[cfg(test)]
 mod set_tests;

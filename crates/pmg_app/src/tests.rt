@@ -2,6 +2,7 @@
 //! writers that fail leave.
 use crate::command::{Chosen, choose};
 use crate::dump::run_dump;
+use crate::merge::run_merge;
 use crate::text::decode_text;
 use pmg_value::Refusal;
 use std::alloc::Global;
@@ -103,6 +104,31 @@ fn a_fault_prints_its_line_alone(rt: HostRuntime) {
         let status = run_dump(rt.alloc(), &mut text.as_bytes(), &mut printed);
         assert_eq!(rt; printed.as_slice(), want.as_bytes(), "{text}");
         assert_eq!(rt; status, 1, "{text}");
+    }
+}
+
+#[test]
+fn failing_readers_and_writers_end_a_merge(rt: HostRuntime) {
+    let mut reader = FailingReader {
+        text: ONE_CONTRIBUTION,
+        reads: 0,
+        fails_at: 3,
+    };
+    let mut printed = Vec::new(rt.alloc());
+    assert_eq!(rt; run_merge(rt.alloc(), &mut reader, &mut printed), 1);
+    assert_eq!(rt; printed.as_slice(), b"read fault\n".as_slice());
+    for writes in 0..5 {
+        let mut writer = FailingWriter::new(rt.alloc(), writes, true);
+        let status = run_merge(rt.alloc(), &mut &*ONE_CONTRIBUTION, &mut writer);
+        assert!(rt;
+            b"proc j 0 level 1\n  bool:true a\n".starts_with(writer.held.as_slice()),
+            "at {writes}"
+        );
+        assert_eq!(rt;
+            status,
+            if writer.held.len() == 31 { 0 } else { 1 },
+            "at {writes}"
+        );
     }
 }
 

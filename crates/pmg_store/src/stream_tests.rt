@@ -1,8 +1,10 @@
 //! What no clause says: that streams are dumped, and what is left where a reader, a writer or memory fails.
-use crate::{Failure, Store, dump_stream, store_of_stream};
+use crate::{
+    Failure, MAX_STREAMS, MergeFailure, Store, dump_stream, merge_streams, store_of_stream,
+};
 use pmg_commit::{Piece, PieceEntry};
 use pmg_value::{Key, Nspace, Proc, Rank, Refusal, Value};
-use std::alloc::Global;
+use std::alloc::{AllocError, Global};
 use std::io;
 use std::io::{ErrorKind, Read, Write};
 
@@ -135,4 +137,79 @@ fn refused_memory_leaves_a_store_as_it_was(rt: HostRuntime) {
             assert_eq!(rt; failed.value.level(more.proc()), if taken { 2 } else { 1 });
         }
     }
+}
+
+// The readers of two streams, of which the second is behind the first.
+fn two_readers<'a>(
+    alloc: Global,
+    first: &'a [u8],
+    second: &'a [u8],
+) -> Result<Vec<&'a [u8]>, AllocError> {
+    let mut readers = Vec::with_capacity(alloc, 2)?;
+    readers.push(first)?;
+    readers.push(second)?;
+    Ok(readers)
+}
+
+// What a merge of the two streams writes, asked for again where memory ran out and nothing was written.
+fn merged(alloc: Global, first: &[u8], second: &[u8]) -> Result<Vec<u8>, MergeFailure> {
+    let mut held = Vec::new(alloc);
+    for _ in 0..4 {
+        let done = match two_readers(alloc, first, second) {
+            Ok(readers) => merge_streams(alloc, readers, &mut held),
+            Err(_) => Err(MergeFailure::Failed(Failure::Refused(Refusal::NoMemory))),
+        };
+        match done {
+            Err(MergeFailure::Failed(Failure::Refused(Refusal::NoMemory))) if held.is_empty() => {}
+            Err(MergeFailure::Failed(Failure::Write)) => held.clear(),
+            Ok(()) => return Ok(held),
+            Err(failure) => return Err(failure),
+        }
+    }
+    Ok(held)
+}
+
+#[test]
+fn streams_merge_in_either_order(rt: HostRuntime) -> Result<(), MergeFailure> {
+    assert_eq!(rt;
+        merged(rt.alloc(), ONE, b"")?.as_slice(),
+        ONE_DUMPED.as_slice()
+    );
+    assert_eq!(rt;
+        merged(rt.alloc(), b"", ONE)?.as_slice(),
+        ONE_DUMPED.as_slice()
+    );
+    assert_eq!(rt;
+        merged(rt.alloc(), ONE, ONE)?.as_slice(),
+        ONE_DUMPED.as_slice()
+    );
+    Ok(())
+}
+
+#[test]
+fn a_fault_is_told_with_its_stream(rt: HostRuntime) {
+    let cut = merged(rt.alloc(), ONE, &ONE[..44]);
+    assert!(rt; matches!(cut, Err(MergeFailure::Faulty(2, fault)) if fault.offset == 0));
+    let both = merged(rt.alloc(), &ONE[..44], b"\x03\x01\x00\x00\x00\x00");
+    assert!(rt; matches!(both, Err(MergeFailure::Faulty(1, fault)) if fault.offset == 0));
+}
+
+#[test]
+fn more_readers_than_streams_are_merged_are_not_read(rt: HostRuntime) -> Result<(), AllocError> {
+    let mut readers = Vec::new(rt.alloc());
+    for _ in 0..MAX_STREAMS + 1 {
+        readers.push(Slow {
+            left: ONE,
+            fails_at: 1,
+        })?;
+    }
+    let mut held = Vec::new(rt.alloc());
+    let answer = merge_streams(rt.alloc(), readers, &mut held);
+    assert!(rt;
+        matches!(
+            answer,
+            Err(MergeFailure::Failed(Failure::Refused(Refusal::TooMany)))
+        )
+    );
+    Ok(())
 }
