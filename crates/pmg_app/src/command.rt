@@ -36,11 +36,11 @@ const MERGE_EXAMPLE: &str = "\
 A line -- ends a stream.
 
 Example:
-  $ pmixgroup merge < examples/two_servers
+  $ pmixgroup merge < examples/two-servers.hex
   proc j 0 level 2
     u8:2 a
   proc j 1 level 1
-    u8:7 a";
+    u8:7 b";
 
 /// Reads the command line. Help and the version go to standard output, a usage fault to standard error.
 ///
