@@ -1,5 +1,5 @@
 -- What a client's cache holds.
-use Rattle.std.specs.Prelude.{◌≡◌, Bool, ◌&&◌, ◌||◌, not, ℕ, ◌+◌, nat_le, List, length, Result, Ok, Err, if◌then◌else◌, refl}
+use Rattle.std.specs.Prelude.{◌≡◌, Bool, false, ◌&&◌, ◌||◌, not, ℕ, ◌+◌, nat_le, List, length, if◌then◌else◌, refl}
 use Rattle.std.specs.Coded.{Coded, code_by, coded×, coded_list, coded_ℕ}
 use Rattle.std.specs.FinMap as map
 use Rattle.std.specs.List.{sum_by}
@@ -86,12 +86,11 @@ global_put key value = unsealed_of (with_put no_puts scopes.Global key value)
 abbrev pub marked : Cached → Cached
 marked c = record { own = c.own; near = map.empty; far = map.empty }
 
--- what a put answers: its key is none of the standard's, its scope is one, and the cache stays within its limits
-abbrev pub put_answer : Cached → Scope → List ℕ → List ℕ → Result (Unit {0}) Refusal
-put_answer c scope key value =
-    if not (reaches scope reach.Own) || is_reserved key then Err refusals.BadParam
-    else if is_cache (with_put c scope key value) then Ok tt
-    else Err refusals.TooMany
+-- where a put has a cause to be refused: its scope is none, or its key one of the standard's; the cache would pass a limit
+abbrev pub put_cause : Cached → Scope → List ℕ → List ℕ → Refusal → Bool
+put_cause c scope key value refusals.BadParam = not (reaches scope reach.Own) || is_reserved key
+put_cause c scope key value refusals.TooMany = not (is_cache (with_put c scope key value))
+put_cause c scope key value _ = false
 
 -- what the cache has for a reach
 abbrev pub kept : Cached → Reach → Table

@@ -2,8 +2,9 @@ ghost use Rattle.std.specs.Prelude.{◌≡◌, IfOk, OnOk, OnErr};
 ghost use Rattle.std.specs.FinMap as map;
 ghost use Rattle.std.specs.Option.{option_map};
 ghost use Rattle.pmg_value.specs.Answers.{Gives};
+ghost use Rattle.pmg_value.specs.CheckOrder.{first_of};
 ghost use Rattle.pmg_value.specs.Spelling.{spelling};
-ghost use Rattle.pmg_scope.specs.Cached.{no_puts, with_put, marked, unsealed_of, put_answer};
+ghost use Rattle.pmg_scope.specs.Cached.{no_puts, with_put, marked, unsealed_of, put_cause};
 
 use crate::batch::Batch;
 use crate::scope::{Reach, Scope, includes};
@@ -57,7 +58,7 @@ impl Cache {
     /// have, for one reach, more than 65535 keys, or more than 16000000 bytes of keys and values, ten bytes more
     /// counted for each; and as NoMemory. A refused put changes nothing.
     pub fn put(&mut self, scope: Scope, key: Key, value: Value) -> Result<(), Refusal>
-        ensures answer { Gives (λ _. tt) result (put_answer self.old scope key (spelling value)) }
+        ensures answer { Gives (λ u. u) result (first_of (put_cause self.old scope key (spelling value)) tt) }
         ensures ok { OnOk result (self.new ≡ with_put self.old scope key (spelling value)) }
         ensures err { OnErr result (self.new ≡ self.old) }
     {
