@@ -1,5 +1,5 @@
 -- Stores of honest pieces read honestly.
-use Rattle.std.proofs.Common.{◌≡◌, ℕ, Bool, true, false, cond, List, [], ◌∷◌, refl, sym, ap, ◌∙◌}
+use Rattle.std.proofs.Common.{◌≡◌, Bool, true, false, cond, List, [], ◌∷◌, refl, sym, ap, ◌∙◌}
 use Rattle.std.specs.List.{filter}
 use Rattle.pmg_value.specs.Lists.{Each}
 use Rattle.pmg_value.proofs.SetLemmas.{union_empty}

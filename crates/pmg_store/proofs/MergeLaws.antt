@@ -1,12 +1,12 @@
 -- Streams that are merged, in whatever order, print what they print as one stream.
-use Rattle.std.proofs.Common.{◌≡◌, ℕ, suc, nat_lt, nat_le, ◌+◌, ◌<◌, ◌≤◌, ◌==◌, Bool, true, false, arith, List, [], ◌∷◌, ◌++◌, length, Option, Some, None, Result, Ok, Err, inl, inr, refl, sym, ap, subst, ◌∙◌, append-nil, append_assoc, length-append}
+use Rattle.std.proofs.Common.{◌≡◌, ℕ, suc, nat_lt, nat_le, ◌≤◌, ◌==◌, Bool, true, false, arith, List, [], ◌∷◌, ◌++◌, length, Option, Some, None, Result, Ok, Err, inl, inr, refl, sym, ap, subst, ◌∙◌, append-nil}
 use Rattle.std.specs.List.{flat_map}
 use Rattle.std.specs.Prelude.{if◌then◌else◌}
 use Rattle.std.proofs.lemmas.Bool.{ltb-false, eqb-true}
 use Rattle.std.proofs.lemmas.Grind.{flat_map-append}
 use Rattle.pmg_value.specs.declared.refusal.Cause.TheVariants as causes
 use Rattle.pmg_value.specs.declared.refusal.Fault.{Fault}
-use Rattle.pmg_value.specs.Lists.{In, SameItems, Each}
+use Rattle.pmg_value.specs.Lists.{In, Each}
 use Rattle.pmg_value.proofs.ListLemmas.{in_append_left, in_append_right, in_parts}
 use Rattle.pmg_wire.specs.Reading.{Place, fault, IsBytes, Takes, ◌>>=◌}
 use Rattle.pmg_commit.specs.Knowledge.{Contribution}
@@ -15,14 +15,14 @@ use Rattle.pmg_frame.specs.declared.frame.Frame.TheVariants as frames
 use Rattle.pmg_frame.specs.Grammar.{AreFrames}
 use Rattle.pmg_frame.specs.Reading.{frame_at}
 use Rattle.pmg_frame.specs.Spelling.{frame_spelling}
-use Rattle.pmg_frame.specs.Streams.{Says, StopsAt, said_by, Said}
+use Rattle.pmg_frame.specs.Streams.{said_by}
 use Rattle.pmg_frame.proofs.Cuts.{is_said, is_found}
 use Rattle.pmg_store.specs.declared.failure.MergeFailure.{MergeFailure}
 use Rattle.pmg_store.specs.Convergence.{MergesAlike, MergesAsOne}
 use Rattle.pmg_store.specs.Dump.{dump}
-use Rattle.pmg_store.specs.Input.{input_of, too_much_input}
+use Rattle.pmg_store.specs.Input.{too_much_input}
 use Rattle.pmg_store.specs.declared.input.TheConstants.{INPUT_LIMIT}
-use Rattle.pmg_store.specs.Merged.{told_by_input, told_behind, told_first, told_from, made_of, merge_of, too_many, one_after_the_other}
+use Rattle.pmg_store.specs.Merged.{told_by_input, told_first, told_from, made_of, merge_of, too_many, one_after_the_other}
 use Rattle.pmg_store.specs.Pieces.{data_of}
 use Rattle.pmg_store.specs.Told.{contributions, told_by_said, told_in, data_told}
 use Rattle.pmg_store.proofs.Converging.{same_in_any_order}

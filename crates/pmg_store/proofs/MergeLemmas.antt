@@ -1,5 +1,5 @@
 -- Streams merged one after the other.
-use Rattle.std.proofs.Common.{◌≡◌, ℕ, suc, ◌+◌, arith, List, [], ◌∷◌, ◌++◌, map, Option, Some, None, Result, Ok, Err, length, ◌<◌, ◌≤◌, inl, inr, refl, sym, ap, subst, ◌∙◌}
+use Rattle.std.proofs.Common.{◌≡◌, ℕ, suc, ◌+◌, arith, List, [], ◌∷◌, map, Option, Some, None, Result, Ok, Err, length, ◌<◌, ◌≤◌, inl, inr, refl, sym, ap, subst, ◌∙◌}
 use Rattle.std.specs.Prelude.{IfSome}
 use Rattle.std.specs.FinMap as finite
 use Rattle.std.proofs.lemmas.Bool.{lt-ltb, le-ltb}
@@ -19,12 +19,12 @@ use Rattle.pmg_store.specs.declared.failure.Failure.TheVariants as failures
 use Rattle.pmg_store.specs.declared.failure.MergeFailure.{MergeFailure}
 use Rattle.pmg_store.specs.declared.failure.MergeFailure.TheVariants as merges
 use Rattle.pmg_store.specs.Joining.{data_joined}
-use Rattle.pmg_store.specs.Outcomes.{Gives, Fails, Stops, Dumps}
+use Rattle.pmg_store.specs.Outcomes.{Fails, Stops, Dumps}
 use Rattle.pmg_store.specs.Pieces.{data_of}
 use Rattle.pmg_store.specs.Dump.{dump}
 use Rattle.pmg_store.specs.Input.{input_of}
 use Rattle.pmg_store.specs.Told.{told_in, data_told}
-use Rattle.pmg_store.specs.Merged.{told_by_input, data_by_input, failure_in, told_behind, told_first, told_from, made_of, merged, merge_of, too_many, FailsMerging, GivesMerged, StopsMerging, Merges}
+use Rattle.pmg_store.specs.Merged.{told_by_input, data_by_input, failure_in, told_behind, told_first, told_from, made_of, merged, merge_of, too_many, FailsMerging, StopsMerging, Merges}
 use Rattle.pmg_store.proofs.Converging.{same_in_any_grouping}
 use Rattle.pmg_store.proofs.OutcomeLemmas.{refused_first, keeps_same}
 

@@ -1,5 +1,5 @@
 use Rattle.std.proofs.lemmas.Result.{err_from_is_err_and}
-use Rattle.pmg_store.proofs.MergeLemmas.{known_gives, known_fails, known_fails_first}
+use Rattle.pmg_store.proofs.MergeLemmas.{known_gives, known_fails}
 use Rattle.pmg_store.proofs.merge.store_of_reader.Goals as goal
 
 pub returns-in_err-store_of_stream : goal.returns-in_err-store_of_stream

@@ -1,5 +1,5 @@
-use Rattle.std.proofs.Common.{map, rules, refl, ap, arith, ◌≡◌, ◌∷◌, ◌+◌, ◌∙◌, length, [], List}
-use Rattle.std.specs.Vec.Iter.{into_iter_items, into_iter_len}
+use Rattle.std.proofs.Common.{map, rules, refl, ap, arith, ◌≡◌, ◌∷◌, ◌∙◌, length, [], List}
+use Rattle.std.specs.Vec.Iter.{into_iter_items}
 use Rattle.pmg_store.proofs.MergeLemmas.{on_start, on_step, on_failure, on_end}
 use Rattle.pmg_store.proofs.merge.store_of_streams.Goals as goal
 
