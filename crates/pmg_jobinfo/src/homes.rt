@@ -3,7 +3,7 @@ ghost use Rattle.std.specs.Prelude.{◌≡◌, ◌==◌, ◌≤◌, ◌++◌, le
 ghost use Rattle.std.specs.List.{join_by, list_any};
 ghost use Rattle.pmg_jobinfo.specs.Reserved.{count_at, count_hosts, ranks_at, peers_text};
 
-use pmg_value::{NodeId, Text, put_number};
+use pmg_value::{NodeId, Text, push_number};
 use std::alloc::{AllocError, Global};
 use std::marker::Model;
 
@@ -103,22 +103,12 @@ fn ranks_at(alloc: Global, homes: &[NodeId], node: NodeId) -> Result<Vec<u32>, A
     Ok(ranks)
 }
 
-/// The number in decimal, behind the text.
-fn push_number(text: &mut Vec<u8>, number: u32) -> Result<(), AllocError>
-    ensures { OnOk result (text.new.items ≡ text.old.items ++ decimal number) }
-{
-    match put_number(text, u64::from(number)) {
-        Ok(()) => Ok(()),
-        Err(_) => Err(AllocError),
-    }
-}
-
 /// A comma and the number in decimal, behind the text.
 fn push_next(text: &mut Vec<u8>, number: u32) -> Result<(), AllocError>
     ensures { OnOk result (text.new.items ≡ text.old.items ++ (codes "," ++ decimal number)) }
 {
     text.extend_from_slice(b",")?;
-    push_number(text, number)
+    push_number(text, u64::from(number))
 }
 
 /// The ranks in decimal, with commas between them.
@@ -129,7 +119,7 @@ fn joined(alloc: Global, ranks: &[u32]) -> Result<Vec<u8>, AllocError>
     let Some((first, others)) = ranks.split_first() else {
         return Ok(text);
     };
-    push_number(&mut text, *first)?;
+    push_number(&mut text, u64::from(*first))?;
     for rank in others {
         push_next(&mut text, *rank)?;
     }

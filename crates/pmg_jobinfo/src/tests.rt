@@ -64,11 +64,7 @@ fn answer(
 
 // The value's text.
 fn text_of(alloc: Global, value: &Value) -> Result<Vec<u8>, Refusal> {
-    let mut text = again!(Vec::with_capacity(alloc, 256).map_err(Refusal::from))?;
-    match value.write_text(&mut text) {
-        Ok(()) => Ok(text),
-        Err(_) => Err(Refusal::NoMemory),
-    }
+    again!(value.to_text(alloc).map_err(Refusal::from))
 }
 
 #[test]

@@ -57,11 +57,7 @@ fn delete(sets: &mut Sets, alloc: Global, name: &[u8]) -> Result<u64, Refusal> {
 
 // The text of the members.
 fn try_show(alloc: Global, members: &Array) -> Result<Vec<u8>, Refusal> {
-    let mut text = Vec::with_capacity(alloc, 128)?;
-    match Value::Array(members.copy()?).write_text(&mut text) {
-        Ok(()) => Ok(text),
-        Err(_) => Err(Refusal::NoMemory),
-    }
+    Ok(Value::Array(members.copy()?).to_text(alloc)?)
 }
 
 fn members(sets: &Sets, alloc: Global, name: &[u8]) -> Result<Vec<u8>, Refusal> {

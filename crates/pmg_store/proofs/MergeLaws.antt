@@ -17,8 +17,8 @@ use Rattle.pmg_frame.specs.Reading.{frame_at}
 use Rattle.pmg_frame.specs.Spelling.{frame_spelling}
 use Rattle.pmg_frame.specs.Streams.{said_by}
 use Rattle.pmg_frame.proofs.Cuts.{is_said, is_found}
-use Rattle.pmg_store.specs.declared.failure.MergeFailure.{MergeFailure}
 use Rattle.pmg_store.specs.Convergence.{MergesAlike, MergesAsOne}
+use Rattle.pmg_store.specs.declared.failure.Failure.{Failure}
 use Rattle.pmg_store.specs.Dump.{dump}
 use Rattle.pmg_store.specs.Input.{too_much_input}
 use Rattle.pmg_store.specs.declared.input.TheConstants.{INPUT_LIMIT}
@@ -36,7 +36,7 @@ told_apart : (number : ℕ) (bytes : List ℕ) (others : List (List ℕ)) (cs : 
     (one : List Contribution) × (rest : List Contribution) × (told_by_input bytes ≡ Ok one) × (told_from (suc number) others ≡ Ok rest) × (one ++ rest ≡ cs)
 told_apart number bytes others cs is = parts (told_by_input bytes) (told_from (suc number) others) is
   where
-    parts : (first : Result (List Contribution) Fault) (behind : Result (List Contribution) MergeFailure) → told_first number first behind ≡ Ok cs →
+    parts : (first : Result (List Contribution) Fault) (behind : Result (List Contribution) Failure) → told_first number first behind ≡ Ok cs →
         (one : List Contribution) × (rest : List Contribution) × (first ≡ Ok one) × (behind ≡ Ok rest) × (one ++ rest ≡ cs)
     parts (Ok one) (Ok rest) is = (one, rest, refl, refl, cc)
     parts (Ok one) (Err e) is = cc
@@ -87,7 +87,7 @@ contributions_of : (streams : List (List ℕ)) (text : List ℕ) → merge_of st
 unfolding merge_of
 contributions_of streams text is = parts (nat_lt 64 (length streams)) (told_from 1 streams) refl refl is
   where
-    parts : (many : Bool) (told : Result (List Contribution) MergeFailure) → nat_lt 64 (length streams) ≡ many → told_from 1 streams ≡ told →
+    parts : (many : Bool) (told : Result (List Contribution) Failure) → nat_lt 64 (length streams) ≡ many → told_from 1 streams ≡ told →
         (if many then Err too_many else made_of (λ cs. dump (data_of cs)) told) ≡ Ok text →
         (cs : List Contribution) × (length streams ≤ 64) × (told_from 1 streams ≡ Ok cs) × (dump (data_of cs) ≡ text)
     parts true told few at is = cc

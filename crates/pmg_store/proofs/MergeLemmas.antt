@@ -16,17 +16,15 @@ use Rattle.pmg_commit.specs.Knowledge.{Contribution}
 use Rattle.pmg_commit.specs.Data.{Data, join_data}
 use Rattle.pmg_store.specs.declared.failure.Failure.{Failure}
 use Rattle.pmg_store.specs.declared.failure.Failure.TheVariants as failures
-use Rattle.pmg_store.specs.declared.failure.MergeFailure.{MergeFailure}
-use Rattle.pmg_store.specs.declared.failure.MergeFailure.TheVariants as merges
 use Rattle.pmg_store.specs.Joining.{data_joined}
-use Rattle.pmg_store.specs.Outcomes.{Fails, Stops, Dumps}
+use Rattle.pmg_store.specs.Outcomes.{Fails, Stops, Dumps, or_failure}
 use Rattle.pmg_store.specs.Pieces.{data_of}
 use Rattle.pmg_store.specs.Dump.{dump}
 use Rattle.pmg_store.specs.Input.{input_of}
 use Rattle.pmg_store.specs.Told.{told_in, data_told}
-use Rattle.pmg_store.specs.Merged.{told_by_input, data_by_input, failure_in, told_behind, told_first, told_from, made_of, merged, merge_of, too_many, FailsMerging, StopsMerging, Merges}
+use Rattle.pmg_store.specs.Merged.{told_by_input, data_by_input, failure_in, told_behind, told_first, told_from, made_of, merged, merge_of, too_many}
 use Rattle.pmg_store.proofs.Converging.{same_in_any_grouping}
-use Rattle.pmg_store.proofs.OutcomeLemmas.{refused_first, keeps_same}
+use Rattle.pmg_store.proofs.OutcomeLemmas.{fails_first, keeps_same, ok_is, refused_reading}
 
 -- a stream is read whole, and then what it tells is taken
 pub read_then_told : (bytes : List ℕ) → (input_of bytes >>= data_told) ≡ data_by_input bytes
@@ -38,24 +36,27 @@ read_then_told bytes = then_told (input_of bytes)
     then_told (Err f) = refl
 
 -- the answer once the input is read
-pub known_gives : (known : Option (List ℕ)) (kept : List ℕ) (store : Data) → IfSome known (λ bytes. input_of bytes ≡ Ok kept) → data_told kept ≡ Ok store →
-    IfSome known (λ bytes. data_by_input bytes ≡ Ok store)
+pub known_gives : (known : Option (List ℕ)) (kept : List ℕ) (store : Data) → IfSome known (λ bytes. or_failure (input_of bytes) ≡ Ok kept) →
+    data_told kept ≡ Ok store → IfSome known (λ bytes. or_failure (data_by_input bytes) ≡ Ok store)
 known_gives None kept store read told = tt
-known_gives (Some bytes) kept store read told = sym (read_then_told bytes) ∙ ap (λ input. input >>= data_told) read ∙ told
+known_gives (Some bytes) kept store read told =
+    ap or_failure (sym (read_then_told bytes) ∙ ap (λ input. input >>= data_told) (ok_is (input_of bytes) kept read) ∙ told)
 
-pub known_fails : (known : Option (List ℕ)) (kept : List ℕ) (refusal : Refusal) → IfSome known (λ bytes. input_of bytes ≡ Ok kept) → FailsReading refusal (data_told kept) →
-    IfSome known (λ bytes. FailsReading refusal (data_by_input bytes))
+pub known_fails : (known : Option (List ℕ)) (kept : List ℕ) (refusal : Refusal) → IfSome known (λ bytes. or_failure (input_of bytes) ≡ Ok kept) →
+    FailsReading refusal (data_told kept) → IfSome known (λ bytes. Fails (failures.Refused refusal) (or_failure (data_by_input bytes)))
 known_fails None kept refusal read fails = tt
-known_fails (Some bytes) kept refusal read fails = subst (FailsReading refusal) (sym (sym (read_then_told bytes) ∙ ap (λ input. input >>= data_told) read)) fails
+known_fails (Some bytes) kept refusal read fails =
+    let same : data_by_input bytes ≡ data_told kept = sym (read_then_told bytes) ∙ ap (λ input. input >>= data_told) (ok_is (input_of bytes) kept read) in
+    rw same (refused_reading refusal (data_told kept) fails)
 
-pub known_fails_first : (known : Option (List ℕ)) (failure : Failure) → IfSome known (λ bytes. Fails failure (input_of bytes)) → IfSome known (λ bytes. Fails failure (data_by_input bytes))
+pub known_fails_first : (known : Option (List ℕ)) (failure : Failure) → IfSome known (λ bytes. Fails failure (or_failure (input_of bytes))) →
+    IfSome known (λ bytes. Fails failure (or_failure (data_by_input bytes)))
 known_fails_first None failure fails = tt
-known_fails_first (Some bytes) (failures.Refused refusal) fails = refused_first refusal (told_by_input bytes) (λ cs. Ok (data_of cs)) (refused_first refusal (input_of bytes) told_in fails)
-known_fails_first (Some bytes) failures.Read fails = tt
-known_fails_first (Some bytes) failures.Write fails = absurd fails
+known_fails_first (Some bytes) failure fails =
+    fails_first failure (told_by_input bytes) (λ cs. Ok (data_of cs)) (fails_first failure (input_of bytes) told_in fails)
 
 -- what a server holds that takes contributions behind what it held
-abbrev pub taken_with : Data → Result (List Contribution) MergeFailure → Result Data MergeFailure
+abbrev pub taken_with : Data → Result (List Contribution) Failure → Result Data Failure
 taken_with all told = made_of (λ cs. join_data all (data_of cs)) told
 
 none_joined : (known : Option Core) → join_options join_cores known None ≡ known
@@ -74,7 +75,7 @@ abbrev pub IsOnTheWay : Data → ℕ → List (Option (List ℕ)) → List (Opti
 IsOnTheWay all number left whole =
     (streams : List (List ℕ)) → whole ≡ map Some streams → (rest : List (List ℕ)) × (left ≡ map Some rest) × (taken_with all (told_from (suc number) rest) ≡ merged streams)
 
-taken_from_start : (told : Result (List Contribution) MergeFailure) → taken_with finite.empty told ≡ made_of data_of told
+taken_from_start : (told : Result (List Contribution) Failure) → taken_with finite.empty told ≡ made_of data_of told
 taken_from_start (Ok cs) = ap Ok (started cs)
 taken_from_start (Err e) = refl
 
@@ -97,7 +98,7 @@ told_fault bytes f is = in_it (told_by_input bytes) is
     in_it (Err g) is = cc
 
 -- one stream more
-taken_next : (all : Data) (cs : List Contribution) (others : Result (List Contribution) MergeFailure) →
+taken_next : (all : Data) (cs : List Contribution) (others : Result (List Contribution) Failure) →
     taken_with all (told_behind cs others) ≡ taken_with (join_data all (data_of cs)) others
 taken_next all cs (Ok ds) = ap Ok (ap (join_data all) (sym (same_in_any_grouping cs ds)) ∙ sym (data_joined.assoc all (data_of cs) (data_of ds)))
 taken_next all cs (Err e) = refl
@@ -111,23 +112,23 @@ one_more : (number : ℕ) → suc number ≡ number + 1
 one_more number = omega arith
 
 stepped : (all store : Data) (number : ℕ) (known : Option (List ℕ)) (left whole : List (Option (List ℕ))) → IsOnTheWay all number (known ∷ left) whole →
-    IfSome known (λ bytes. data_by_input bytes ≡ Ok store) → IsOnTheWay (join_data all store) (suc number) left whole
+    IfSome known (λ bytes. or_failure (data_by_input bytes) ≡ Ok store) → IsOnTheWay (join_data all store) (suc number) left whole
 stepped all store number known left whole way gives streams is =
     let at = way streams is in
     let first = first_is known left at.0 at.1 in
-    let told = told_by first.0 store (rw first.2 at gives) in
+    let told = told_by first.0 store (ok_is (data_by_input first.0) store (rw first.2 at gives)) in
     let others = told_from (suc (suc number)) first.1 in
     let behind : taken_with all (told_first (suc number) (told_by_input first.0) others) ≡ merged streams = rw first.4 at at.2 in
     let one : taken_with all (told_behind told.0 others) ≡ merged streams = rw told.1 at behind in
     (first.1, first.3, ap (λ d. taken_with (join_data all d) others) (sym told.2) ∙ sym (taken_next all told.0 others) ∙ one)
 
 pub on_step : (all store : Data) (number : ℕ) (known : Option (List ℕ)) (left whole : List (Option (List ℕ))) → IsOnTheWay all number (known ∷ left) whole →
-    IfSome known (λ bytes. data_by_input bytes ≡ Ok store) → IsOnTheWay (join_data all store) (number + 1) left whole
+    IfSome known (λ bytes. or_failure (data_by_input bytes) ≡ Ok store) → IsOnTheWay (join_data all store) (number + 1) left whole
 on_step all store number known left whole way gives =
     subst (λ (n : ℕ). IsOnTheWay (join_data all store) n left whole) (one_more number) (stepped all store number known left whole way gives)
 
 fault_due : (all : Data) (number : ℕ) (known : Option (List ℕ)) (left whole : List (Option (List ℕ))) → IsOnTheWay all number (known ∷ left) whole → (streams : List (List ℕ)) → whole ≡ map Some streams →
-    (bytes : List ℕ) → known ≡ Some bytes → (f : Fault) → data_by_input bytes ≡ Err f → merged streams ≡ Err (merges.Faulty (suc number) f)
+    (bytes : List ℕ) → known ≡ Some bytes → (f : Fault) → data_by_input bytes ≡ Err f → merged streams ≡ Err (failures.InStream (suc number) f)
 fault_due all number known left whole way streams is bytes at_hand f fails =
     let at = way streams is in
     let first = first_is known left at.0 at.1 in
@@ -138,33 +139,21 @@ fault_due all number known left whole way streams is bytes at_hand f fails =
     let one : taken_with all (told_first (suc number) (Err f) others) ≡ merged streams = rw told at behind in
     sym one
 
-due_failure : (number : ℕ) (failure : Failure) (first : Result Data Fault) (due : Result Data MergeFailure) → Fails failure first → ((f : Fault) → first ≡ Err f → due ≡ Err (merges.Faulty number f)) →
-    FailsMerging (failure_in number failure) due
-due_failure number (failures.Refused refusals.NoMemory) first due fails fault = inl (inl refl)
-due_failure number (failures.Refused (refusals.BadFrame f)) first due fails fault = inr (fault f fails)
-due_failure number (failures.Refused refusals.BadParam) first due fails fault = absurd fails
-due_failure number (failures.Refused refusals.NotFound) first due fails fault = absurd fails
-due_failure number (failures.Refused refusals.OutsideScope) first due fails fault = absurd fails
-due_failure number (failures.Refused refusals.UnknownNamespace) first due fails fault = absurd fails
-due_failure number (failures.Refused refusals.NotMine) first due fails fault = absurd fails
-due_failure number (failures.Refused refusals.Busy) first due fails fault = absurd fails
-due_failure number (failures.Refused refusals.Terminated) first due fails fault = absurd fails
-due_failure number (failures.Refused refusals.NotAParticipant) first due fails fault = absurd fails
-due_failure number (failures.Refused refusals.TooMany) first due fails fault = absurd fails
-due_failure number (failures.Refused refusals.Exists) first due fails fault = absurd fails
-due_failure number (failures.Refused refusals.Collision) first due fails fault = absurd fails
-due_failure number (failures.Refused refusals.Stale) first due fails fault = absurd fails
-due_failure number (failures.Refused refusals.Unordered) first due fails fault = absurd fails
-due_failure number (failures.Refused refusals.Closed) first due fails fault = absurd fails
-due_failure number failures.Read first due fails fault = inl (inr refl)
-due_failure number failures.Write first due fails fault = absurd fails
+due_failure : (number : ℕ) (failure : Failure) (first : Result Data Fault) (due : Result Data Failure) → Fails failure (or_failure first) →
+    ((f : Fault) → first ≡ Err f → due ≡ Err (failures.InStream number f)) → Fails (failure_in number failure) due
+due_failure number failure first due (inl (inl is)) fault = rw is (inl (inl refl))
+due_failure number failure first due (inl (inr is)) fault = rw is (inl (inr refl))
+due_failure number failure (Ok store) due (inr is) fault = cc
+due_failure number failure (Err f) due (inr is) fault =
+    let same : failure ≡ failures.Refused (refusals.BadFrame f) = cc in
+    rw same (inr (fault f refl))
 
 pub on_failure : (all : Data) (number : ℕ) (known : Option (List ℕ)) (left whole : List (Option (List ℕ))) (failure : Failure) → IsOnTheWay all number (known ∷ left) whole →
-    IfSome known (λ bytes. Fails failure (data_by_input bytes)) → (streams : List (List ℕ)) → whole ≡ map Some streams → FailsMerging (failure_in (number + 1) failure) (merged streams)
+    IfSome known (λ bytes. Fails failure (or_failure (data_by_input bytes))) → (streams : List (List ℕ)) → whole ≡ map Some streams → Fails (failure_in (number + 1) failure) (merged streams)
 on_failure all number known left whole failure way fails streams is =
     let at = way streams is in
     let first = first_is known left at.0 at.1 in
-    subst (λ (n : ℕ). FailsMerging (failure_in n failure) (merged streams)) (one_more number)
+    subst (λ (n : ℕ). Fails (failure_in n failure) (merged streams)) (one_more number)
     (due_failure (suc number) failure (data_by_input first.0) (merged streams) (rw first.2 at fails) (fault_due all number known left whole way streams is first.0 first.2))
 
 none_left : (rest : List (List ℕ)) → [] ≡ map {A = List ℕ} Some rest → rest ≡ []
@@ -183,7 +172,7 @@ pub many_due : (streams : List (List ℕ)) → 64 < length streams → merge_of 
 unfolding merge_of
 many_due streams many = rw (lt-ltb 64 (length streams) many) refl
 
-dump_due : (told : Result (List Contribution) MergeFailure) (store : Data) → made_of data_of told ≡ Ok store → made_of (λ cs. dump (data_of cs)) told ≡ Ok (dump store)
+dump_due : (told : Result (List Contribution) Failure) (store : Data) → made_of data_of told ≡ Ok store → made_of (λ cs. dump (data_of cs)) told ≡ Ok (dump store)
 dump_due (Ok cs) store is = let same : data_of cs ≡ store = cc in ap (λ d. Ok (dump d)) same
 dump_due (Err e) store is = cc
 
@@ -194,43 +183,19 @@ few_due streams few = rw (le-ltb 64 (length streams) few) refl
 merge_due : (streams : List (List ℕ)) (store : Data) → length streams ≤ 64 → merged streams ≡ Ok store → merge_of streams ≡ Ok (dump store)
 merge_due streams store few is = few_due streams few ∙ dump_due (told_from 1 streams) store is
 
-failure_due : {X Y : Type 0} (told : Result (List Contribution) MergeFailure) (make : List Contribution → X) (other : List Contribution → Y) (e : MergeFailure) → made_of make told ≡ Err e → made_of other told ≡ Err e
+failure_due : {X Y : Type 0} (told : Result (List Contribution) Failure) (make : List Contribution → X) (other : List Contribution → Y) (e : Failure) → made_of make told ≡ Err e → made_of other told ≡ Err e
 failure_due (Ok cs) make other e is = cc
 failure_due (Err f) make other e is = cc
 
-pub merge_failed : (known : Option (List ℕ)) (e : MergeFailure) (streams : List (List ℕ)) → length streams ≤ 64 → FailsMerging e (merged streams) → StopsMerging known known e (merge_of streams)
+pub merge_failed : (known : Option (List ℕ)) (e : Failure) (streams : List (List ℕ)) → length streams ≤ 64 → Fails e (merged streams) →
+    Stops known known e (merge_of streams)
 merge_failed known e streams few (inl always) = inl (inl always, keeps_same known)
 merge_failed known e streams few (inr due) =
     inl (inr (few_due streams few ∙ failure_due (told_from 1 streams) data_of (λ cs. dump (data_of cs)) e due), keeps_same known)
 
--- the dump was not written whole
-stopped : (old new : Option (List ℕ)) (failure : Failure) (text : List ℕ) → Stops old new failure (Ok text) → StopsMerging old new (merges.Failed failure) (Ok text)
-stopped old new (failures.Refused refusals.NoMemory) text stops = inl (inl (inl refl), stops.1)
-stopped old new (failures.Refused (refusals.BadFrame f)) text stops = let never = stops.0 in cc
-stopped old new (failures.Refused refusals.BadParam) text stops = absurd stops.0
-stopped old new (failures.Refused refusals.NotFound) text stops = absurd stops.0
-stopped old new (failures.Refused refusals.OutsideScope) text stops = absurd stops.0
-stopped old new (failures.Refused refusals.UnknownNamespace) text stops = absurd stops.0
-stopped old new (failures.Refused refusals.NotMine) text stops = absurd stops.0
-stopped old new (failures.Refused refusals.Busy) text stops = absurd stops.0
-stopped old new (failures.Refused refusals.Terminated) text stops = absurd stops.0
-stopped old new (failures.Refused refusals.NotAParticipant) text stops = absurd stops.0
-stopped old new (failures.Refused refusals.TooMany) text stops = absurd stops.0
-stopped old new (failures.Refused refusals.Exists) text stops = absurd stops.0
-stopped old new (failures.Refused refusals.Collision) text stops = absurd stops.0
-stopped old new (failures.Refused refusals.Stale) text stops = absurd stops.0
-stopped old new (failures.Refused refusals.Unordered) text stops = absurd stops.0
-stopped old new (failures.Refused refusals.Closed) text stops = absurd stops.0
-stopped old new failures.Read text stops = inl (inl (inr refl), stops)
-stopped old new failures.Write text stops = inr (refl, stops)
-
-pub merge_unwritten : (old new : Option (List ℕ)) (failure : Failure) (streams : List (List ℕ)) (store : Data) → length streams ≤ 64 → merged streams ≡ Ok store →
-    Stops old new failure (Ok (dump store)) → StopsMerging old new (merges.Failed failure) (merge_of streams)
-merge_unwritten old new failure streams store few is stops = rw (merge_due streams store few is) (stopped old new failure (dump store) stops)
-
-pub merge_written : (old new : Option (List ℕ)) (streams : List (List ℕ)) (store : Data) → length streams ≤ 64 → merged streams ≡ Ok store →
-    Dumps {T = Unit {0}} old new (Ok tt) (Ok (dump store)) → Merges {T = Unit {0}} old new (Ok tt) (merge_of streams)
-merge_written old new streams store few is dumps = rw (merge_due streams store few is) dumps
+pub merge_written : {T : Type 0} (old new : Option (List ℕ)) (result : Result T Failure) (streams : List (List ℕ)) (store : Data) → length streams ≤ 64 →
+    merged streams ≡ Ok store → Dumps old new result (Ok (dump store)) → Dumps old new result (merge_of streams)
+merge_written old new result streams store few is dumps = rw (merge_due streams store few is) dumps
 
 -- as many streams as readers
 pub known_alike : {X : Type 0} (give : X → Option (List ℕ)) (readers : List X) (streams : List (List ℕ)) → map give readers ≡ map Some streams → length streams ≡ length readers

@@ -6,6 +6,7 @@ pub mod Joining
 pub mod Merged
 pub mod Outcomes
 pub mod Pieces
+pub mod Readers
 pub mod Tables
 pub mod Told
 pub mod HonestStores

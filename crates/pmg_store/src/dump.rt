@@ -17,9 +17,8 @@ ghost use Rattle.std.specs.BTreeMap.{IsOrdered};
 ghost use Rattle.pmg_store.specs.Tables.{best_at, improves, lines_of};
 
 use crate::store::{entries_told, level_in};
-use itoa::Buffer;
 use pmg_commit::{Piece, PieceEntry};
-use pmg_value::{Key, Proc, Value};
+use pmg_value::{Key, Proc, Value, push_number};
 use std::alloc::{AllocError, Global};
 use std::collections::{BTreeMap, BTreeSet};
 
@@ -76,20 +75,11 @@ fn reads_in(
     Ok(reads)
 }
 
-fn push_number(text: &mut Vec<u8>, number: u64) -> Result<(), AllocError>
-    ensures { OnOk result (text.new.items ≡ text.old.items ++ decimal number) }
-{
-    let mut buffer = Buffer::new();
-    text.extend_from_slice(buffer.format(number).as_bytes())
-}
-
 fn push_value(text: &mut Vec<u8>, value: &Value) -> Result<(), AllocError>
     ensures { OnOk result (text.new.items ≡ text.old.items ++ value_text (spelling value.now)) }
 {
-    match value.write_text(text) {
-        Ok(()) => Ok(()),
-        Err(_) => Err(AllocError),
-    }
+    let written = value.to_text(*text.allocator())?;
+    text.extend_from_slice(&written)
 }
 
 fn push_key_line(text: &mut Vec<u8>, key: &Key, value: &Value) -> Result<(), AllocError>

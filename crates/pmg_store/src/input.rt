@@ -1,15 +1,16 @@
 //! Input read whole, up to a limit.
-ghost use Rattle.std.specs.Prelude.{◌≡◌, ◌<◌, ◌≤◌, ◌+◌, IfSome, length};
+ghost use Rattle.std.specs.Prelude.{◌≡◌, ◌≢◌, ◌<◌, ◌≤◌, ◌+◌, ◌⊎◌, IfErr, IfSome, IsNone, IsSome, OnErr, OnOk, is_some, length};
 ghost use Rattle.std.specs.Io.{ReadsAtMost};
 ghost use Rattle.std.specs.Io.KnownBytes.{ReadConsumes};
 ghost use Rattle.pmg_store.specs.Input.{input_of, too_much_input};
-ghost use Rattle.pmg_store.specs.Outcomes.{Gives};
+ghost use Rattle.pmg_store.specs.Outcomes.{Gives, or_failure};
 
 use crate::failure::Failure;
 use pmg_value::{Cause, Fault, Refusal};
 use std::alloc::Global;
 use std::io;
 use std::io::Read;
+use thiserror::Error;
 
 /// The most bytes of input that are read: 64 MiB.
 pub const INPUT_LIMIT: usize = 67_108_864;
@@ -19,31 +20,68 @@ pub const MOST_READS: usize = INPUT_LIMIT + 1;
 
 const CHUNK_LEN: usize = 65_536;
 
-/// A reader, and how often it was read.
+/// The reader failed: why, its `WatchedReader` knows.
+#[derive(Clone, Copy, Debug, PartialEq, Eq, Error)]
+#[error("read fault")]
+pub struct ReadFault;
+
+/// A reader that remembers whether it failed, and counts how often it was read.
 #[derive(Drop)]
-pub struct Counted<R> {
+pub struct WatchedReader<R> {
     reader: R,
     reads: usize,
+    failure: Option<io::Error>,
 }
 
-impl<R: Read> Counted<R> {
+impl<R: Read> WatchedReader<R> {
     /// A reader that was not read yet.
-    pub fn new(reader: R) -> Counted<R>
+    pub fn new(reader: R) -> WatchedReader<R>
         ensures reader { result.reader ≡ reader }
-        ensures fresh { result.reads ≡ 0 }
+        ensures reads { result.reads ≡ 0 }
+        ensures failure { IsNone result.failure }
     {
-        Counted { reader, reads: 0 }
+        WatchedReader {
+            reader,
+            reads: 0,
+            failure: None,
+        }
     }
 
-    // The one place that reads.
-    fn read(&mut self, chunk: &mut [u8]) -> io::Result<usize>
-        requires { self.old.reads < MOST_READS }
-        ensures counted { self.new.reads ≡ self.old.reads + 1 }
+    /// How often it was read.
+    pub fn reads(&self) -> usize
+        ensures { result ≡ self.now.reads }
+    {
+        self.reads
+    }
+
+    /// Whether the reader has failed.
+    pub fn has_failed(&self) -> bool
+        ensures { result ≡ is_some self.now.failure }
+    {
+        self.failure.is_some()
+    }
+
+    /// Why the reader failed, where it has.
+    pub fn failure(&self) -> Option<&io::Error> {
+        self.failure.as_ref()
+    }
+
+    /// Reads once. The one place that reads.
+    fn read(&mut self, chunk: &mut [u8]) -> Result<usize, ReadFault>
+        ensures counted { self.new.reads ≤ self.old.reads + 1 }
         ensures bound { ReadsAtMost result chunk.new }
         ensures bytes { ReadConsumes (R.remaining self.old.reader) (R.remaining self.new.reader) result chunk.new }
+        ensures failed { OnErr result (IsSome self.new.failure) }
+        ensures ok { OnOk result (self.new.failure ≡ self.old.failure) }
     {
-        self.reads += 1;
-        self.reader.read(chunk)
+        self.reads = self.reads.saturating_add(1);
+        match self.reader.read(chunk) {
+            Ok(count) => Ok(count),
+            Err(error) => {
+                self.failure = Some(error);
+                Err(ReadFault)
+            }
+        }
     }
 }
 
@@ -51,17 +89,13 @@ impl<R: Read> Counted<R> {
 ///
 /// More than `INPUT_LIMIT` bytes are refused as `BadFrame` with the cause Input at the limit. Any error of
 /// the reader is a read fault, an interrupted read too. The reader is read at most 67,108,865 times.
-pub fn read_input<R: Read>(alloc: Global, reader: &mut R) -> Result<Vec<u8>, Failure>
-    ensures { IfSome (R.remaining reader.old) (λ bytes. Gives (λ input. input.items) result (input_of bytes)) }
-{
-    read_counted(alloc, &mut Counted::new(reader))
-}
-
-/// What `read_input` does, with a reader that counts its reads.
-pub fn read_counted<R: Read>(alloc: Global, reader: &mut Counted<R>) -> Result<Vec<u8>, Failure>
-    requires { reader.old.reads ≡ 0 }
-    ensures few { reader.new.reads ≤ MOST_READS }
-    ensures input { IfSome (R.remaining reader.old.reader) (λ bytes. Gives (λ input. input.items) result (input_of bytes)) }
+pub fn read_input<R: Read>(alloc: Global, reader: &mut WatchedReader<R>) -> Result<Vec<u8>, Failure>
+    ensures input { IfSome (R.remaining reader.old.reader)
+        (λ bytes. Gives (λ input. input.items) result (or_failure (input_of bytes))) }
+    ensures read_fault { IfErr result (λ e. e ≡ Failure.Read → IsSome reader.new.failure) }
+    ensures no_write_fault { IfErr result (λ e. e ≢ Failure.Write) }
+    ensures failed { IsSome reader.new.failure → IsSome reader.old.failure ⊎ (result ≡ Err Failure.Read) }
+    ensures few { reader.new.reads ≤ reader.old.reads + MOST_READS }
 {
     let mut chunk = vec![in alloc; 0; CHUNK_LEN]?;
     read_by_chunks(alloc, reader, &mut chunk)
@@ -69,26 +103,27 @@ pub fn read_counted<R: Read>(alloc: Global, reader: &mut Counted<R>) -> Result<V
 
 fn read_by_chunks<R: Read>(
     alloc: Global,
-    reader: &mut Counted<R>,
+    reader: &mut WatchedReader<R>,
     chunk: &mut [u8],
 ) -> Result<Vec<u8>, Failure>
-    requires room { 0 < length chunk.old }
-    requires fresh { reader.old.reads ≡ 0 }
-    ensures few { reader.new.reads ≤ MOST_READS }
-    ensures input { IfSome (R.remaining reader.old.reader) (λ bytes. Gives (λ input. input.items) result (input_of bytes)) }
+    requires { 0 < length chunk.old }
+    ensures input { IfSome (R.remaining reader.old.reader)
+        (λ bytes. Gives (λ input. input.items) result (or_failure (input_of bytes))) }
+    ensures read_fault { IfErr result (λ e. e ≡ Failure.Read → IsSome reader.new.failure) }
+    ensures no_write_fault { IfErr result (λ e. e ≢ Failure.Write) }
+    ensures failed { IsSome reader.new.failure → IsSome reader.old.failure ⊎ (result ≡ Err Failure.Read) }
+    ensures few { reader.new.reads ≤ reader.old.reads + MOST_READS }
 {
     let mut input = Vec::new(alloc);
     for _ in 0..MOST_READS {
-        match reader.read(chunk) {
-            Ok(0) => return Ok(input),
-            Ok(count) => {
-                if count > INPUT_LIMIT - input.len() {
-                    return Err(too_long());
-                }
-                input.extend_from_slice(&chunk[..count])?;
-            }
-            Err(_) => return Err(Failure::Read),
+        let count = reader.read(chunk)?;
+        if count == 0 {
+            return Ok(input);
         }
+        if count > INPUT_LIMIT - input.len() {
+            return Err(too_long());
+        }
+        input.extend_from_slice(&chunk[..count])?;
     }
     unreachable!()
 }

@@ -11,8 +11,8 @@ mod store;
 mod stream;
 
 pub use board::Board;
-pub use failure::{Failure, MergeFailure};
-pub use input::{Counted, INPUT_LIMIT, MOST_READS, read_counted, read_input};
+pub use failure::Failure;
+pub use input::{INPUT_LIMIT, MOST_READS, ReadFault, WatchedReader, read_input};
 pub use laws::{honest_stores, pieces_in_any_order};
 pub use merge::{MAX_STREAMS, merge_streams};
 pub use store::Store;

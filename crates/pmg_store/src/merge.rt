@@ -1,47 +1,59 @@
 //! The dump of what several streams tell.
-ghost use Rattle.std.specs.Prelude.{◌≡◌, ◌<◌, ◌≤◌, ℕ, List, map, length, Some, Err, IfSome};
+ghost use Rattle.std.specs.Prelude.{◌≡◌, ◌≢◌, ◌<◌, ◌≤◌, ◌+◌, ℕ, List, map, length, Some, Err, IfErr, IfSome, IsSome};
 ghost use Rattle.std.specs.Io.KnownBytes.{Keeps};
-ghost use Rattle.pmg_store.specs.Merged.{GivesMerged, Merges, data_by_input, failure_in, merged, merge_of, too_many};
-ghost use Rattle.pmg_store.specs.Outcomes.{Gives};
+ghost use Rattle.pmg_store.specs.Merged.{data_by_input, failure_in, merged, merge_of, too_many};
+ghost use Rattle.pmg_store.specs.Outcomes.{Dumps, Gives, or_failure};
+ghost use Rattle.pmg_store.specs.Readers.{AnyFailed, ReadFewTimes};
 
-use crate::failure::{Failure, MergeFailure};
-use crate::input::read_input;
+use crate::failure::Failure;
+use crate::input::{MOST_READS, WatchedReader, read_input};
 use crate::store::Store;
 use crate::stream::store_of_stream;
-use pmg_value::Refusal;
+use pmg_value::{Refusal, WatchedWriter};
 use std::alloc::Global;
 use std::io::{Read, Write};
 
 /// The most streams that are merged.
 pub const MAX_STREAMS: usize = 64;
 
-// A store that took the contributions in the stream that the reader gives.
-fn store_of_reader<R: Read>(alloc: Global, reader: &mut R) -> Result<Store, Failure>
-    ensures { IfSome (R.remaining reader.old) (λ bytes. Gives (λ s. s) result (data_by_input bytes)) }
+/// A store that took the contributions in the stream that the reader gives.
+fn store_of_reader<R: Read>(alloc: Global, reader: &mut WatchedReader<R>) -> Result<Store, Failure>
+    ensures gives { IfSome (R.remaining reader.old.reader)
+        (λ bytes. Gives (λ s. s) result (or_failure (data_by_input bytes))) }
+    ensures read_fault { IfErr result (λ e. e ≡ Failure.Read → IsSome reader.new.failure) }
+    ensures no_write_fault { IfErr result (λ e. e ≢ Failure.Write) }
+    ensures few { reader.new.reads ≤ reader.old.reads + MOST_READS }
 {
     let input = read_input(alloc, reader)?;
     Ok(store_of_stream(alloc, &input)?)
 }
 
-// The failure at the stream of that number: a fault is told with the number.
-fn failure_in(stream: usize, failure: Failure) -> MergeFailure
+/// The failure at the stream of that number: a fault is told with the number.
+fn failure_in(stream: usize, failure: Failure) -> Failure
     ensures { result ≡ failure_in stream failure }
 {
     match failure {
-        Failure::Refused(Refusal::BadFrame(fault)) => MergeFailure::Faulty(stream, fault),
-        other => MergeFailure::Failed(other),
+        Failure::Refused(Refusal::BadFrame(fault)) => Failure::InStream(stream, fault),
+        other => other,
     }
 }
 
-// A store that took the contributions in the streams that the readers give, one stream after the other.
-fn store_of_streams<R: Read + Drop>(alloc: Global, readers: Vec<R>) -> Result<Store, MergeFailure>
-    ensures { (streams : List (List ℕ)) → map R.remaining readers.items ≡ map Some streams → GivesMerged result (merged streams) }
+/// A store that took the contributions in the streams that the readers give, one stream after the other.
+fn store_of_streams<R: Read>(
+    alloc: Global,
+    readers: &mut [WatchedReader<R>],
+) -> Result<Store, Failure>
+    ensures gives { (streams : List (List ℕ)) → map (λ r. R.remaining r.reader) readers.old ≡ map Some streams
+        → Gives (λ s. s) result (merged streams) }
+    ensures read_fault { IfErr result (λ e. e ≡ Failure.Read → AnyFailed readers.new) }
+    ensures no_write_fault { IfErr result (λ e. e ≢ Failure.Write) }
+    ensures few { ReadFewTimes readers.old readers.new }
 {
     let mut all = Store::new(alloc);
     let mut number = 0;
-    for mut reader in readers {
+    for reader in readers.iter_mut() {
         number += 1;
-        match store_of_reader(alloc, &mut reader) {
+        match store_of_reader(alloc, reader) {
             Ok(store) => all.join(store)?,
             Err(failure) => return Err(failure_in(number, failure)),
         }
@@ -55,19 +67,23 @@ fn store_of_streams<R: Read + Drop>(alloc: Global, readers: Vec<R>) -> Result<St
 ///
 /// More than 64 streams are refused as TooMany, and none is read. The first fault of the first stream that has one
 /// is told with the stream's number, counted from 1. Any error of a reader is a read fault. Nothing is written before
-/// all streams were read without a fault; where the writer fails, a front of the dump was written.
-pub fn merge_streams<R: Read + Drop, W: Write>(
+/// all streams were read without a fault; where the writer fails, a prefix of the dump was written. Each reader is
+/// read at most 67,108,865 times.
+pub fn merge_streams<R: Read, W: Write>(
     alloc: Global,
-    readers: Vec<R>,
-    writer: &mut W,
-) -> Result<(), MergeFailure>
-    ensures merges { (streams : List (List ℕ)) → map R.remaining readers.items ≡ map Some streams → Merges (W.contents writer.old) (W.contents writer.new) result (merge_of streams) }
-    ensures many { 64 < length readers.items → (result ≡ Err too_many) × Keeps (W.contents writer.old) (W.contents writer.new) }
+    readers: &mut [WatchedReader<R>],
+    writer: &mut WatchedWriter<W>,
+) -> Result<(), Failure>
+    ensures merges { (streams : List (List ℕ)) → map (λ r. R.remaining r.reader) readers.old ≡ map Some streams
+        → Dumps (W.contents writer.old.writer) (W.contents writer.new.writer) result (merge_of streams) }
+    ensures read_fault { IfErr result (λ e. e ≡ Failure.Read → AnyFailed readers.new) }
+    ensures write_fault { IfErr result (λ e. e ≡ Failure.Write → IsSome writer.new.failure) }
+    ensures few { ReadFewTimes readers.old readers.new }
+    ensures many { 64 < length readers.old → (result ≡ Err too_many) × (readers.new ≡ readers.old) × (writer.new ≡ writer.old) }
 {
     if readers.len() > MAX_STREAMS {
-        return Err(MergeFailure::Failed(Failure::Refused(Refusal::TooMany)));
+        return Err(Failure::Refused(Refusal::TooMany));
     }
     let store = store_of_streams(alloc, readers)?;
-    store.dump(writer)?;
-    Ok(())
+    store.dump(writer)
 }

@@ -1,4 +1,4 @@
-ghost use Rattle.std.specs.Prelude.{◌≡◌, ◌≤◌, ℕ, map, Some, None, OnOk, OnErr, IfOk, IfErr, IfSome};
+ghost use Rattle.std.specs.Prelude.{◌≡◌, ◌≢◌, ◌≤◌, ℕ, map, Some, None, OnOk, OnErr, IfOk, IfErr, IfSome, IsSome};
 ghost use Rattle.std.specs.FinMap as finite;
 ghost use Rattle.std.specs.Option.{option_map};
 ghost use Rattle.std.specs.List.{list_any, find, fold};
@@ -15,7 +15,7 @@ use crate::dump::dump_of_pieces;
 use crate::failure::Failure;
 use pmg_commit::{Piece, PieceEntry, best_of};
 use pmg_join::Join;
-use pmg_value::{Key, Proc, Value, put_text};
+use pmg_value::{Key, Proc, Value, WatchedWriter};
 use std::alloc::{AllocError, AllocFailed, Global};
 use std::io::Write;
 use std::marker::Model;
@@ -124,15 +124,15 @@ impl Store {
 
     /// Writes the dump: for each process of level 1 or more, by namespace and rank, a line with its level; then
     /// for each key that reads, by its bytes, a line with the value's text and the key. Refused as NoMemory with
-    /// nothing written; where the writer fails, a front of the dump was written.
-    pub fn dump<W: Write>(&self, writer: &mut W) -> Result<(), Failure>
-        ensures { Dumps (W.contents writer.old) (W.contents writer.new) result (Ok (dump self.now)) }
+    /// nothing written; where the writer fails, a prefix of the dump was written.
+    pub fn dump<W: Write>(&self, writer: &mut WatchedWriter<W>) -> Result<(), Failure>
+        ensures dumps { Dumps (W.contents writer.old.writer) (W.contents writer.new.writer) result (Ok (dump self.now)) }
+        ensures write_fault { IfErr result (λ e. e ≡ Failure.Write → IsSome writer.new.failure) }
+        ensures no_read_fault { IfErr result (λ e. e ≢ Failure.Read) }
     {
         let text = dump_of_pieces(*self.pieces.allocator(), &self.pieces)?;
-        match put_text(writer, &text) {
-            Ok(()) => Ok(()),
-            Err(_) => Err(Failure::Write),
-        }
+        writer.put_text(&text)?;
+        Ok(())
     }
 
     /// Another store of the same meaning.

@@ -1,20 +1,20 @@
 //! What a stream of frames tells, and its dump.
-ghost use Rattle.std.specs.Prelude.{◌≡◌, IfOk, IfSome};
+ghost use Rattle.std.specs.Prelude.{◌≡◌, ◌≤◌, ◌+◌, IfErr, IfOk, IfSome, IsSome};
 ghost use Rattle.pmg_wire.specs.Reading.{ReadsAll};
 ghost use Rattle.pmg_store.specs.Dumps.{dump_of};
-ghost use Rattle.pmg_store.specs.Outcomes.{Dumps};
+ghost use Rattle.pmg_store.specs.Outcomes.{Dumps, or_failure};
 ghost use Rattle.pmg_store.specs.Pieces.{data_of};
 ghost use Rattle.pmg_store.specs.Told.{contributions, data_told};
 
 use crate::failure::Failure;
-use crate::input::read_input;
+use crate::input::{MOST_READS, WatchedReader, read_input};
 use crate::store::Store;
 use pmg_frame::{Frame, Stream};
-use pmg_value::Refusal;
+use pmg_value::{Refusal, WatchedWriter};
 use std::alloc::{AllocError, Global};
 use std::io::{Read, Write};
 
-// A store that took the contributions in the frames. A frame that is no piece tells nothing.
+/// A store that took the contributions in the frames. A frame that is no piece tells nothing.
 fn store_of_frames(alloc: Global, frames: &[Frame]) -> Result<Store, AllocError>
     ensures { IfOk result (λ s. s ≡ data_of (contributions frames.now)) }
 {
@@ -52,13 +52,18 @@ pub fn store_of_stream(alloc: Global, bytes: &[u8]) -> Result<Store, Refusal>
 ///
 /// A stream with a fault is refused as BadFrame, with the first fault: Input past 67,108,864 bytes, else that
 /// of the frames, else Cut. Any error of the reader is a read fault. Nothing is written before the whole
-/// stream was read without a fault; where the writer fails, a front of the dump was written.
+/// stream was read without a fault; where the writer fails, a prefix of the dump was written. The reader is read at
+/// most 67,108,865 times.
 pub fn dump_stream<R: Read, W: Write>(
     alloc: Global,
-    reader: &mut R,
-    writer: &mut W,
+    reader: &mut WatchedReader<R>,
+    writer: &mut WatchedWriter<W>,
 ) -> Result<(), Failure>
-    ensures { IfSome (R.remaining reader.old) (λ bytes. Dumps (W.contents writer.old) (W.contents writer.new) result (dump_of bytes)) }
+    ensures dumps { IfSome (R.remaining reader.old.reader)
+        (λ bytes. Dumps (W.contents writer.old.writer) (W.contents writer.new.writer) result (or_failure (dump_of bytes))) }
+    ensures read_fault { IfErr result (λ e. e ≡ Failure.Read → IsSome reader.new.failure) }
+    ensures write_fault { IfErr result (λ e. e ≡ Failure.Write → IsSome writer.new.failure) }
+    ensures few { reader.new.reads ≤ reader.old.reads + MOST_READS }
 {
     let input = read_input(alloc, reader)?;
     let store = store_of_stream(alloc, &input)?;

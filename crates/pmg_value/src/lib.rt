@@ -21,7 +21,7 @@ pub use parts::Parts;
 pub use process::{HOST_NAME, MAX_NODE, MAX_RANK, NodeId, Proc, Rank};
 pub use refusal::{Cause, Fault, Refusal};
 pub use value::{MAX_VALUE_SIZE, Value};
-pub use written::{put_number, put_text};
+pub use written::{WatchedWriter, WriteFault, push_number};
 
 #[cfg(test)]
 mod names_tests;

@@ -1,6 +1,6 @@
 //! What no clause says of names, processes, values and refusals: that each call gives its answer where there
 //! is memory, and gives it when it is called again after memory ran out.
-use crate::{Cause, Fault, Key, NodeId, Nspace, Proc, Rank, Refusal, Value};
+use crate::{Cause, Fault, Key, NodeId, Nspace, Proc, Rank, Refusal, Value, WatchedWriter};
 use std::alloc::Global;
 use std::process::Abort;
 
@@ -178,9 +178,9 @@ fn check_value(rt: &impl Abort, value: &Value, spelling: [u8; 2], text: &[u8]) {
     assert_eq!(rt; value.parts().head.as_slice(), &spelling[1..]);
     assert_eq!(rt; value.size(), 2);
     let mut held = [0; 16];
-    let mut writer = &mut held[..];
+    let mut writer = WatchedWriter::new(&mut held[..]);
     let written = value.write_text(&mut writer);
-    let left = writer.len();
+    let left = writer.into_inner().len();
     assert!(rt; written.is_ok());
     assert!(rt; left <= 16);
     assert_eq!(rt; &held[..16 - left], text);

@@ -1,22 +1,22 @@
 //! The text of a refusal and of its fault.
-ghost use Rattle.std.specs.Prelude.{◌≡◌};
+ghost use Rattle.std.specs.Prelude.{OnErr, IsSome};
 ghost use Rattle.pmg_value.specs.RefusalText.{fault_text, detail_text, refusal_text};
 ghost use Rattle.pmg_value.specs.Written.{Writes};
 
 use super::refusal::{Fault, Refusal};
-use super::written::{put_number, put_text};
-use std::io;
+use super::written::{WatchedWriter, WriteFault};
 use std::io::Write;
 
 impl Fault {
     /// Writes the cause and the offset, as `Hex at 3`. Fails as `put_text` does.
     #[tactic(auto, using(crate::proofs::WrittenLemmas::written_in_parts), unfolding(crate::specs::RefusalText::fault_text))]
-    pub fn write_text<W: Write>(&self, writer: &mut W) -> io::Result<()>
-        ensures { Writes (W.contents writer.old) (W.contents writer.new) result (fault_text self.now) }
+    pub fn write_text<W: Write>(&self, writer: &mut WatchedWriter<W>) -> Result<(), WriteFault>
+        ensures text { Writes (W.contents writer.old.writer) (W.contents writer.new.writer) result (fault_text self.now) }
+        ensures failed { OnErr result (IsSome writer.new.failure) }
     {
-        put_text(writer, self.cause.name().as_bytes())?;
-        put_text(writer, b" at ")?;
-        put_number(writer, self.offset)
+        writer.put_text(self.cause.name().as_bytes())?;
+        writer.put_text(b" at ")?;
+        writer.put_number(self.offset)
     }
 }
 
@@ -24,23 +24,25 @@ impl Refusal {
     /// Writes the number and the name, as `9 TooMany`, and behind them the fault where there is one, as
     /// `10 BadFrame: Hex at 3`. Fails as `put_text` does.
     #[tactic(auto, using(crate::proofs::WrittenLemmas::written_in_parts), unfolding(crate::specs::RefusalText::refusal_text))]
-    pub fn write_text<W: Write>(&self, writer: &mut W) -> io::Result<()>
-        ensures { Writes (W.contents writer.old) (W.contents writer.new) result (refusal_text self.now) }
+    pub fn write_text<W: Write>(&self, writer: &mut WatchedWriter<W>) -> Result<(), WriteFault>
+        ensures text { Writes (W.contents writer.old.writer) (W.contents writer.new.writer) result (refusal_text self.now) }
+        ensures failed { OnErr result (IsSome writer.new.failure) }
     {
-        put_number(writer, self.number() as u64)?;
-        put_text(writer, b" ")?;
-        put_text(writer, self.name().as_bytes())?;
+        writer.put_number(self.number() as u64)?;
+        writer.put_text(b" ")?;
+        writer.put_text(self.name().as_bytes())?;
         self.write_detail(writer)
     }
 
-    // What stands behind the name: the fault, where there is one.
+    /// What stands behind the name: the fault, where there is one.
     #[tactic(auto, using(crate::proofs::WrittenLemmas::written_in_parts), unfolding(crate::specs::RefusalText::detail_text))]
-    fn write_detail<W: Write>(&self, writer: &mut W) -> io::Result<()>
-        ensures { Writes (W.contents writer.old) (W.contents writer.new) result (detail_text self.now) }
+    fn write_detail<W: Write>(&self, writer: &mut WatchedWriter<W>) -> Result<(), WriteFault>
+        ensures text { Writes (W.contents writer.old.writer) (W.contents writer.new.writer) result (detail_text self.now) }
+        ensures failed { OnErr result (IsSome writer.new.failure) }
     {
         match self {
             Refusal::BadFrame(fault) => {
-                put_text(writer, b": ")?;
+                writer.put_text(b": ")?;
                 fault.write_text(writer)
             }
             _ => Ok(()),

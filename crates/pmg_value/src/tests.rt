@@ -1,8 +1,9 @@
 //! What no clause says: that calls succeed, and what a writer holds that fails at its n-th write.
-use crate::{Cause, Fault, Refusal, put_number, put_text};
+use crate::{Cause, Fault, Refusal, WatchedWriter};
 use std::alloc::Global;
 use std::io;
 use std::io::{ErrorKind, Write};
+use std::test::Fail;
 
 // Takes at most four bytes a write, is interrupted at each third write, and fails from the n-th on.
 #[derive(Drop)]
@@ -48,7 +49,7 @@ const REFUSED: Refusal = Refusal::BadFrame(Fault {
 });
 
 #[test]
-fn refusals_print_number_name_and_fault(rt: HostRuntime) -> io::Result<()> {
+fn refusals_print_number_name_and_fault(rt: HostRuntime) -> Result<(), Fail> {
     let cases = [
         (Refusal::NoMemory, "0 NoMemory"),
         (Refusal::TooMany, "9 TooMany"),
@@ -63,37 +64,75 @@ fn refusals_print_number_name_and_fault(rt: HostRuntime) -> io::Result<()> {
         (Refusal::Closed, "15 Closed"),
     ];
     for (refusal, want) in cases {
-        let mut held = Vec::new(rt.alloc());
-        refusal.write_text(&mut held)?;
-        assert_eq!(rt; held.as_slice(), want.as_bytes());
+        let mut writer = WatchedWriter::new(Vec::new(rt.alloc()));
+        refusal.write_text(&mut writer)?;
+        assert_eq!(rt; writer.into_inner().as_slice(), want.as_bytes());
     }
     Ok(())
 }
 
 #[test]
-fn texts_and_numbers_are_written_whole(rt: HostRuntime) -> io::Result<()> {
-    let mut held = Vec::new(rt.alloc());
-    put_text(&mut held, b"level ")?;
-    put_number(&mut held, 4294967295)?;
-    put_text(&mut held, b"")?;
-    put_number(&mut held, 0)?;
+fn texts_and_numbers_are_written_whole(rt: HostRuntime) -> Result<(), Fail> {
+    let mut writer = WatchedWriter::new(Vec::new(rt.alloc()));
+    writer.put_text(b"level ")?;
+    writer.put_number(4294967295)?;
+    writer.put_text(b"")?;
+    writer.put_number(0)?;
+    writer.flush();
+    assert!(rt; !writer.has_failed());
+    let held = writer.into_inner();
     assert_eq!(rt; held.as_slice(), b"level 42949672950".as_slice());
     Ok(())
 }
 
 #[test]
-fn a_failing_writer_holds_a_front(rt: HostRuntime) -> io::Result<()> {
-    let mut whole = Vec::new(rt.alloc());
-    REFUSED.write_text(&mut whole)?;
+fn a_failing_writer_holds_a_prefix(rt: HostRuntime) -> Result<(), Fail> {
+    let whole = b"10 BadFrame: Input at 18446744073709551615";
     for writes in 0..20 {
-        let mut writer = Failing::new(rt.alloc(), writes);
+        let mut writer = WatchedWriter::new(Failing::new(rt.alloc(), writes));
         let result = REFUSED.write_text(&mut writer);
-        assert!(rt; whole.starts_with(writer.held.as_slice()), "at {writes}");
-        assert_eq!(rt;
-            result.is_ok(),
-            writer.held.len() == whole.len(),
-            "at {writes}"
-        );
+        assert_eq!(rt; result.is_err(), writer.has_failed(), "at {writes}");
+        assert_eq!(rt; writer.failure().is_some(), result.is_err(), "at {writes}");
+        let held = writer.into_inner().held;
+        assert!(rt; whole.starts_with(held.as_slice()), "at {writes}");
+        assert_eq!(rt; result.is_ok(), held.len() == whole.len(), "at {writes}");
     }
     Ok(())
+}
+
+// Fails at its second write alone.
+#[derive(Drop)]
+struct FailingOnce {
+    held: Vec<u8>,
+    turn: usize,
+}
+
+impl Write for FailingOnce {
+    fn write(&mut self, buf: &[u8]) -> io::Result<usize> {
+        self.turn = self.turn.wrapping_add(1);
+        if self.turn == 2 {
+            return Err(io::Error::from(ErrorKind::StorageFull));
+        }
+        self.held.extend_from_slice(buf)?;
+        Ok(buf.len())
+    }
+
+    fn flush(&mut self) -> io::Result<()> {
+        Ok(())
+    }
+}
+
+#[test]
+fn nothing_is_written_after_a_failure(rt: HostRuntime) {
+    let mut writer = WatchedWriter::new(FailingOnce {
+        held: Vec::new(rt.alloc()),
+        turn: 0,
+    });
+    assert!(rt; writer.put_text(b"a").is_ok());
+    assert!(rt; writer.put_text(b"b").is_err());
+    assert!(rt; writer.put_text(b"c").is_err());
+    writer.flush();
+    assert!(rt; writer.has_failed());
+    let held = writer.into_inner().held;
+    assert_eq!(rt; held.as_slice(), b"a".as_slice());
 }

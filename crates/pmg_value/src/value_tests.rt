@@ -1,8 +1,7 @@
 //! What no clause says: that arrays are made, copied and printed where there is memory.
-use crate::{MAX_VALUE_SIZE, Nspace, Proc, Rank, Refusal, Value};
+use crate::{MAX_VALUE_SIZE, Nspace, Proc, Rank, Refusal, Value, WatchedWriter, WriteFault};
 use std::alloc::{AllocError, Global};
 use std::cmp::Ordering;
-use std::io;
 
 // The array of these numbers, each of one byte.
 fn array_of(alloc: Global, numbers: &[u8]) -> Result<Value, Refusal> {
@@ -17,10 +16,10 @@ fn items_of(alloc: Global, numbers: &[u8]) -> Result<Vec<Value>, AllocError> {
     Ok(items)
 }
 
-fn text_of(alloc: Global, value: &Value) -> io::Result<Vec<u8>> {
-    let mut text = Vec::new(alloc);
-    value.write_text(&mut text)?;
-    Ok(text)
+fn text_of(alloc: Global, value: &Value) -> Result<Vec<u8>, WriteFault> {
+    let mut writer = WatchedWriter::new(Vec::new(alloc));
+    value.write_text(&mut writer)?;
+    Ok(writer.into_inner())
 }
 
 #[test]

@@ -1,58 +1,185 @@
 //! Texts written to any writer, with no memory of their own.
 //!
-//! Where a writer fails, what it took before is a front of the text: nothing out of order, nothing else.
-ghost use Rattle.std.specs.Prelude.{◌≡◌, ◌<◌, decimal};
+//! Where a writer fails, what it took before is a prefix of the text: nothing out of order, nothing else.
+ghost use Rattle.std.specs.Prelude.{◌≡◌, ◌<◌, ◌≤◌, ◌++◌, decimal, length, IfOk, OnOk, OnErr, IsSome, IsNone, IsTrue, is_some};
 ghost use Rattle.std.specs.Char.{digit_char};
 ghost use Rattle.std.specs.Fmt.{signed_decimal};
+ghost use Rattle.std.specs.Io.KnownBytes.{Keeps, WriteAppends};
 ghost use Rattle.pmg_value.specs.Written.{Writes};
 ghost use Rattle.pmg_value.specs.Hex.{hex_byte, hex_text};
 
 use itoa::Buffer;
+use std::alloc::AllocError;
 use std::io;
 use std::io::{ErrorKind, Write};
+use thiserror::Error;
 
-/// Writes all of `text`, and tries again where a write is interrupted.
-///
-/// Fails with the writer's error; with `WriteZero` where the writer takes nothing; with `TimedOut` after
-/// 2^64 - 1 writes. What it wrote by then is a front of `text`.
-pub fn put_text<W: Write>(writer: &mut W, text: &[u8]) -> io::Result<()>
-    ensures { Writes (W.contents writer.old) (W.contents writer.new) result text.now }
-{
-    let mut done = 0;
-    for _ in 0..u64::MAX {
-        if done == text.len() {
-            return Ok(());
+/// The writer failed: why, its `WatchedWriter` knows.
+#[derive(Clone, Copy, Debug, PartialEq, Eq, Error)]
+#[error("write fault")]
+pub struct WriteFault;
+
+/// A writer that remembers whether it failed, and whether all that it took was flushed. Once it has failed nothing
+/// more is written to it.
+#[derive(Drop)]
+pub struct WatchedWriter<W> {
+    writer: W,
+    failure: Option<io::Error>,
+    is_flushed: bool,
+}
+
+impl<W: Write> WatchedWriter<W> {
+    /// A writer that has not failed, and has taken nothing.
+    pub fn new(writer: W) -> WatchedWriter<W>
+        ensures writer { result.writer ≡ writer }
+        ensures failure { IsNone result.failure }
+        ensures flushed { IsTrue result.is_flushed }
+    {
+        WatchedWriter {
+            writer,
+            failure: None,
+            is_flushed: true,
         }
-        match writer.write(&text[done..]) {
-            Ok(0) => return Err(io::Error::from(ErrorKind::WriteZero)),
-            Ok(taken) => done += taken,
-            Err(e) => {
-                if e.kind() != ErrorKind::Interrupted {
-                    return Err(e);
+    }
+
+    /// Whether the writer has failed.
+    pub fn has_failed(&self) -> bool
+        ensures { result ≡ is_some self.now.failure }
+    {
+        self.failure.is_some()
+    }
+
+    /// Why the writer failed, where it has.
+    pub fn failure(&self) -> Option<&io::Error> {
+        self.failure.as_ref()
+    }
+
+    /// The writer, with what it holds.
+    pub fn into_inner(self) -> W
+        ensures { result ≡ self.writer }
+    {
+        self.writer
+    }
+
+    /// Remembers why the writer failed.
+    fn fail(&mut self, error: io::Error) -> WriteFault
+        ensures failure { IsSome self.new.failure }
+        ensures writer { self.new.writer ≡ self.old.writer }
+    {
+        self.failure = Some(error);
+        WriteFault
+    }
+
+    /// Writes once, and says how many bytes were taken: none where the write was interrupted. The one place that
+    /// writes.
+    fn write(&mut self, text: &[u8]) -> Result<usize, WriteFault>
+        ensures bound { IfOk result (λ taken. taken ≤ length text.now) }
+        ensures bytes { WriteAppends (W.contents self.old.writer) (W.contents self.new.writer) result text.now }
+        ensures failed { OnErr result (IsSome self.new.failure) }
+        ensures ok { OnOk result (self.new.failure ≡ self.old.failure) }
+    {
+        match self.writer.write(text) {
+            Ok(0) => Err(self.fail(io::Error::from(ErrorKind::WriteZero))),
+            Ok(taken) => Ok(taken),
+            Err(error) => {
+                if error.kind() == ErrorKind::Interrupted {
+                    return Ok(0);
                 }
+                Err(self.fail(error))
             }
         }
     }
-    Err(io::Error::from(ErrorKind::TimedOut))
+
+    /// Writes all of `text`, and tries again where a write is interrupted.
+    ///
+    /// Fails where the writer has failed before, and then writes nothing; with the writer's error; with `WriteZero`
+    /// where the writer takes nothing; with `TimedOut` after 2^64 - 1 writes. What it wrote by then is a prefix of
+    /// `text`.
+    pub fn put_text(&mut self, text: &[u8]) -> Result<(), WriteFault>
+        ensures text { Writes (W.contents self.old.writer) (W.contents self.new.writer) result text.now }
+        ensures failed { OnErr result (IsSome self.new.failure) }
+        ensures ok { OnOk result (IsNone self.new.failure) }
+        ensures kept { IsSome self.old.failure → IsSome self.new.failure }
+    {
+        if self.has_failed() {
+            return Err(WriteFault);
+        }
+        self.is_flushed = false;
+        let mut done = 0;
+        for _ in 0..u64::MAX {
+            if done == text.len() {
+                return Ok(());
+            }
+            done += self.write(&text[done..])?;
+        }
+        Err(self.fail(io::Error::from(ErrorKind::TimedOut)))
+    }
+
+    /// Flushes the writer, unless it has failed.
+    pub fn flush(&mut self)
+        ensures bytes { Keeps (W.contents self.old.writer) (W.contents self.new.writer) }
+        ensures flushed { IsNone self.new.failure → IsTrue self.new.is_flushed }
+        ensures kept { IsSome self.old.failure → IsSome self.new.failure }
+    {
+        if self.has_failed() {
+            return;
+        }
+        match self.writer.flush() {
+            Ok(()) => self.is_flushed = true,
+            Err(error) => {
+                let _ = self.fail(error);
+            }
+        }
+    }
+
+    /// Writes `number` in decimal, as `put_text` writes.
+    pub fn put_number(&mut self, number: u64) -> Result<(), WriteFault>
+        ensures text { Writes (W.contents self.old.writer) (W.contents self.new.writer) result (decimal number) }
+        ensures failed { OnErr result (IsSome self.new.failure) }
+    {
+        let mut buffer = Buffer::new();
+        self.put_text(buffer.format(number).as_bytes())
+    }
+
+    /// Writes `integer` in decimal, `-` before its digits where it is negative, as `put_text` writes.
+    pub fn put_signed(&mut self, integer: i64) -> Result<(), WriteFault>
+        ensures text { Writes (W.contents self.old.writer) (W.contents self.new.writer) result
+            (signed_decimal integer) }
+        ensures failed { OnErr result (IsSome self.new.failure) }
+    {
+        let mut buffer = Buffer::new();
+        self.put_text(buffer.format(integer).as_bytes())
+    }
+
+    /// Writes a byte in two lower hexadecimal digits, as `put_text` writes.
+    fn put_byte(&mut self, byte: u8) -> Result<(), WriteFault>
+        ensures text { Writes (W.contents self.old.writer) (W.contents self.new.writer) result (hex_byte byte) }
+        ensures failed { OnErr result (IsSome self.new.failure) }
+    {
+        self.put_text(&[hex_digit(byte / 16), hex_digit(byte % 16)])
+    }
+
+    /// Writes bytes in lower hexadecimal, two digits a byte, as `put_text` writes.
+    pub fn put_hex(&mut self, bytes: &[u8]) -> Result<(), WriteFault>
+        ensures text { Writes (W.contents self.old.writer) (W.contents self.new.writer) result (hex_text bytes.now) }
+        ensures failed { OnErr result (IsSome self.new.failure) }
+    {
+        for byte in bytes {
+            self.put_byte(*byte)?;
+        }
+        Ok(())
+    }
 }
 
-/// Writes `number` in decimal, as `put_text` writes.
-pub fn put_number<W: Write>(writer: &mut W, number: u64) -> io::Result<()>
-    ensures { Writes (W.contents writer.old) (W.contents writer.new) result (decimal number) }
+/// Puts `number` in decimal at the end of a text in memory.
+pub fn push_number(text: &mut Vec<u8>, number: u64) -> Result<(), AllocError>
+    ensures { OnOk result (text.new.items ≡ text.old.items ++ decimal number) }
 {
     let mut buffer = Buffer::new();
-    put_text(writer, buffer.format(number).as_bytes())
+    text.extend_from_slice(buffer.format(number).as_bytes())
 }
 
-/// Writes `integer` in decimal, `-` before its digits where it is negative, as `put_text` writes.
-pub fn put_signed<W: Write>(writer: &mut W, integer: i64) -> io::Result<()>
-    ensures { Writes (W.contents writer.old) (W.contents writer.new) result (signed_decimal integer) }
-{
-    let mut buffer = Buffer::new();
-    put_text(writer, buffer.format(integer).as_bytes())
-}
-
-// A lower hexadecimal digit.
+/// A lower hexadecimal digit.
 fn hex_digit(digit: u8) -> u8
     requires { digit < 16 }
     ensures { result ≡ digit_char digit }
@@ -62,21 +189,4 @@ fn hex_digit(digit: u8) -> u8
     } else {
         b'a' - 10 + digit
     }
-}
-
-// Writes a byte in two lower hexadecimal digits.
-fn put_byte<W: Write>(writer: &mut W, byte: u8) -> io::Result<()>
-    ensures { Writes (W.contents writer.old) (W.contents writer.new) result (hex_byte byte) }
-{
-    put_text(writer, &[hex_digit(byte / 16), hex_digit(byte % 16)])
-}
-
-/// Writes bytes in lower hexadecimal, two digits a byte, as `put_text` writes.
-pub fn put_hex<W: Write>(writer: &mut W, bytes: &[u8]) -> io::Result<()>
-    ensures { Writes (W.contents writer.old) (W.contents writer.new) result (hex_text bytes.now) }
-{
-    for byte in bytes {
-        put_byte(writer, *byte)?;
-    }
-    Ok(())
 }

@@ -10,10 +10,7 @@ fn stands(alloc: Global, bytes: &[u8], text: &str) -> Result<bool, Refusal> {
     let value = get_value(alloc, &mut at)?;
     let mut out = BytesMut::new(alloc);
     put_value(&mut out, &value)?;
-    let mut written = Vec::new(alloc);
-    if value.write_text(&mut written).is_err() {
-        return Err(Refusal::NoMemory);
-    }
+    let written = value.to_text(alloc)?;
     Ok(
         out.as_slice() == bytes
             && at.rest().is_empty()

@@ -14,10 +14,7 @@ fn stands(alloc: Global, row: &Row<'_>) -> Result<bool, Refusal> {
     put_value(&mut out, value)?;
     let mut at = Cursor::new(7, bytes);
     let again = get_value(alloc, &mut at)?;
-    let mut written = Vec::new(alloc);
-    if again.write_text(&mut written).is_err() {
-        return Err(Refusal::NoMemory);
-    }
+    let written = again.to_text(alloc)?;
     Ok(
         out.as_slice() == *bytes
             && at.rest().is_empty()

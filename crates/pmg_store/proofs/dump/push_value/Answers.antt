@@ -1,5 +1,7 @@
+use Rattle.std.proofs.Common.{arith, rules}
+use Rattle.std.proofs.lemmas.Grind.{common_steps}
 use Rattle.pmg_store.proofs.ReadTable.{value_text-spelling}
 use Rattle.pmg_store.proofs.dump.push_value.Goals as goal
 
-pub returns-in-Ok : goal.returns-in-Ok
-returns-in-Ok c = rw (value_text-spelling c.args.value.now c.in-Ok.ensures.is) c.in-Ok.ensures.text.1
+pub returns : goal.returns
+returns c = rw (value_text-spelling c.args.value.now c.in_ok-written.ensures.is, ← c.in_ok-written.ensures.text, ← c.deref.ensures.value) (search rules)

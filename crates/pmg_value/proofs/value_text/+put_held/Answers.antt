@@ -12,43 +12,43 @@ use Rattle.pmg_value.proofs.TextLemmas.{text_is, first_plain, item_at}
 use Rattle.pmg_value.proofs.value_text.+put_held.Goals as goal
 
 pub put_array-returns-in_err-put_text-clause-text : goal.put_array-returns-in_err-put_text-clause-text
-put_array-returns-in_err-put_text-clause-text g t c = first_part _ _ _ _ _ _ (c.kind_name.ensures ∙ ap kind_name c.tag.ensures) c.in_err-put_text.ensures.0 (search rules)
+put_array-returns-in_err-put_text-clause-text g t c = first_part _ _ _ _ _ _ (c.kind_name.ensures ∙ ap kind_name c.tag.ensures) c.in_err-put_text.ensures.text.0 (search rules)
 
 pub put_array-returns-in_err-put_text-2-clause-text : goal.put_array-returns-in_err-put_text-2-clause-text
 put_array-returns-in_err-put_text-2-clause-text g t c =
-    two_parts _ _ _ _ _ _ _ _ (c.kind_name.ensures ∙ ap kind_name c.tag.ensures) refl (first_part _ _ _ _ _ _ refl c.in_err-put_text-2.ensures.0 (search rules)) c.in_ok-put_text.ensures.1
+    two_parts _ _ _ _ _ _ _ _ (c.kind_name.ensures ∙ ap kind_name c.tag.ensures) refl (first_part _ _ _ _ _ _ refl c.in_err-put_text-2.ensures.text.0 (search rules)) c.in_ok-put_text.ensures.text.1
 
 pub put_array-returns-in_err-put_items-clause-text : goal.put_array-returns-in_err-put_items-clause-text
 put_array-returns-in_err-put_items-clause-text g t c =
     two_parts _ _ _ _ _ _ _ _ (c.kind_name.ensures ∙ ap kind_name c.tag.ensures) refl
-    (two_parts _ _ _ _ _ _ _ _ refl refl (first_part _ _ _ _ _ _ (ap (λ (e : Elements). join_by plain_text (codes ",") e.plains) c.items-items.ensures.items) c.in_err-put_items.ensures.0 (search rules)) c.in_ok-put_text-2.ensures.1) c.in_ok-put_text.ensures.1
+    (two_parts _ _ _ _ _ _ _ _ refl refl (first_part _ _ _ _ _ _ (ap (λ (e : Elements). join_by plain_text (codes ",") e.plains) c.items-items.ensures.items) c.in_err-put_items.ensures.text.0 (search rules)) c.in_ok-put_text-2.ensures.text.1) c.in_ok-put_text.ensures.text.1
 
 pub put_array-returns-clause-text : goal.put_array-returns-clause-text
 put_array-returns-clause-text g t c =
     two_parts _ _ _ _ _ _ _ _ (c.kind_name.ensures ∙ ap kind_name c.tag.ensures) refl
-    (two_parts _ _ _ _ _ _ _ _ refl refl (two_parts _ _ _ _ _ _ _ _ (ap (λ (e : Elements). join_by plain_text (codes ",") e.plains) c.items-items.ensures.items) refl c.put_text-3.ensures c.in_ok-put_items.ensures.1) c.in_ok-put_text-2.ensures.1) c.in_ok-put_text.ensures.1
+    (two_parts _ _ _ _ _ _ _ _ refl refl (two_parts _ _ _ _ _ _ _ _ (ap (λ (e : Elements). join_by plain_text (codes ",") e.plains) c.items-items.ensures.items) refl c.put_text-3.ensures.text c.in_ok-put_items.ensures.text.1) c.in_ok-put_text-2.ensures.text.1) c.in_ok-put_text.ensures.text.1
 
-pub put_items-returns-in_err-put_held : goal.put_items-returns-in_err-put_held
-put_items-returns-in_err-put_held g t c =
+pub put_items-returns-in_err-put_held-clause-text : goal.put_items-returns-in_err-put_held-clause-text
+put_items-returns-in_err-put_held-clause-text g t c =
     let plain = first_plain _ _ _ c.in-Some.ensures.cases.0 c.requires in
     rw (c.in-Some.ensures.cases.0) (first_part _ _ _ _ _ _ (text_is (form c.in-Some.first.now) plain) c.in_err-put_held.ensures.text.0 (search rules))
 
-pub put_items-returns : goal.put_items-returns
-put_items-returns g t c =
+pub put_items-returns-clause-text : goal.put_items-returns-clause-text
+put_items-returns-clause-text g t c =
     let plain = first_plain _ _ _ c.in-Some.ensures.cases.0 c.requires in
-    rw (c.in-Some.ensures.cases.0) (two_parts _ _ _ _ _ _ _ _ (text_is (form c.in-Some.first.now) plain) refl c.put_others.ensures c.in_ok-put_held.ensures.text.1)
+    rw (c.in-Some.ensures.cases.0) (two_parts _ _ _ _ _ _ _ _ (text_is (form c.in-Some.first.now) plain) refl c.put_others.ensures.text c.in_ok-put_held.ensures.text.1)
 
-pub put_next-returns-in_err-put_text : goal.put_next-returns-in_err-put_text
-put_next-returns-in_err-put_text g t c = first_part _ _ _ _ _ (plain_text (plain_of (form c.args.item.now))) refl c.in_err-put_text.ensures.0 (search rules)
+pub put_next-returns-in_err-put_text-clause-text : goal.put_next-returns-in_err-put_text-clause-text
+put_next-returns-in_err-put_text-clause-text g t c = first_part _ _ _ _ _ (plain_text (plain_of (form c.args.item.now))) refl c.in_err-put_text.ensures.text.0 (search rules)
 
-pub put_next-returns : goal.put_next-returns
-put_next-returns g t c = two_parts _ _ _ _ _ _ _ _ refl (text_is (form c.args.item.now) c.requires) c.put_held.ensures.text c.in_ok-put_text.ensures.1
+pub put_next-returns-clause-text : goal.put_next-returns-clause-text
+put_next-returns-clause-text g t c = two_parts _ _ _ _ _ _ _ _ refl (text_is (form c.args.item.now) c.requires) c.put_held.ensures.text c.in_ok-put_text.ensures.text.1
 
-pub put_others-returns-in_err-put_next : goal.put_others-returns-in_err-put_next
-put_others-returns-in_err-put_next g t c =
+pub put_others-returns-in_err-put_next-clause-text : goal.put_others-returns-in_err-put_next-clause-text
+put_others-returns-in_err-put_next-clause-text g t c =
     let lt : c.loop-item.item-index < length c.args.items.now = omega (arith, c.loop-item-test.true) in
     let item = item_at c.args.items.now c.loop-item.item-index c.item-item.result lt c.item-item.is in
-    let front = subst (AppendsFront _ _) (ap (λ (p : Plain). codes "," ++ plain_text p) item) c.in_err-put_next.ensures.0 in
+    let front = subst (AppendsFront _ _) (ap (λ (p : Plain). codes "," ++ plain_text p) item) c.in_err-put_next.ensures.text.0 in
     let within : c.loop-item.item-index < length (plains_of c.args.items.now) = omega (arith, lt, length-map c.args.items.now (λ v. plain_of (form v))) in
     (flat_front (λ p. codes "," ++ plain_text p) _ _ _ (plains_of c.args.items.now) c.loop-item.item-index (Plain.bool false) within front c.loop-item.invariant, search rules)
 
@@ -56,12 +56,12 @@ pub put_others-loop-item-preserved : goal.put_others-loop-item-preserved
 put_others-loop-item-preserved g t c =
     let lt : c.loop-item.item-index < length c.args.items.now = omega (arith, c.loop-item-test.true) in
     let item = item_at c.args.items.now c.loop-item.item-index c.item-item.result lt c.item-item.is in
-    let next = subst (Appends _ _) (ap (λ (p : Plain). codes "," ++ plain_text p) item) c.in_ok-put_next.ensures.1 in
+    let next = subst (Appends _ _) (ap (λ (p : Plain). codes "," ++ plain_text p) item) c.in_ok-put_next.ensures.text.1 in
     let within : c.loop-item.item-index < length (plains_of c.args.items.now) = omega (arith, lt, length-map c.args.items.now (λ v. plain_of (form v))) in
     flat_more (λ p. codes "," ++ plain_text p) _ _ _ (plains_of c.args.items.now) c.loop-item.item-index (Plain.bool false) within next c.loop-item.invariant
 
-pub put_others-returns : goal.put_others-returns
-put_others-returns g t c =
+pub put_others-returns-clause-text : goal.put_others-returns-clause-text
+put_others-returns-clause-text g t c =
     let past : length (plains_of c.args.items.now) ≤ c.loop-item.item-index = omega (arith, c.loop-item-test.false, length-map c.args.items.now (λ v. plain_of (form v))) in
     let all = flat_all (λ p. codes "," ++ plain_text p) _ _ (plains_of c.args.items.now) c.loop-item.item-index past c.loop-item.invariant in
     (front_of_all _ _ _ all, all)

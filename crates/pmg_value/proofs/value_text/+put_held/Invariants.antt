@@ -24,4 +24,4 @@ decreases-put_next g l = 1
 -- what was written so far are the texts of the first items
 abbrev pub invariant-put_others-loop-item : goal.invariant-put_others-loop-item
 invariant-put_others-loop-item g l =
-    Appends (g.W.Write.contents l.fn.writer) (g.W.Write.contents l.writer) (flat_map (λ p. codes "," ++ plain_text p) (take l.item-index (plains_of l.fn.items)))
+    Appends (g.W.Write.contents l.fn.writer.writer) (g.W.Write.contents l.writer.writer) (flat_map (λ p. codes "," ++ plain_text p) (take l.item-index (plains_of l.fn.items)))
