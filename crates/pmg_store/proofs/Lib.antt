@@ -6,6 +6,7 @@ pub mod Ordered
 pub mod MergeLaws
 pub mod MergeLemmas
 pub mod OutcomeLemmas
+pub mod ReaderLemmas
 pub mod ReadTable
 pub mod Telling
 pub mod ToldLemmas

@@ -30,7 +30,8 @@ fn store_of_reader<R: Read>(alloc: Global, reader: &mut WatchedReader<R>) -> Res
 
 /// The failure at the stream of that number: a fault is told with the number.
 fn failure_in(stream: usize, failure: Failure) -> Failure
-    ensures { result ≡ failure_in stream failure }
+    ensures value { result ≡ failure_in stream failure }
+    ensures read_fault { result ≡ Failure.Read → failure ≡ Failure.Read }
 {
     match failure {
         Failure::Refused(Refusal::BadFrame(fault)) => Failure::InStream(stream, fault),
