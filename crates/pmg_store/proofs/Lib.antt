@@ -1,6 +1,7 @@
 pub mod Converging
 pub mod Covering
 pub mod DumpLemmas
+pub mod EveryTaking
 pub mod InputLemmas
 pub mod Ordered
 pub mod MergeLaws

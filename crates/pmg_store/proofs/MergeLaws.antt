@@ -1,12 +1,12 @@
 -- Streams that are merged, in whatever order, print what they print as one stream.
 use Rattle.std.proofs.Common.{◌≡◌, ℕ, suc, nat_lt, nat_le, ◌≤◌, ◌==◌, Bool, true, false, arith, List, [], ◌∷◌, ◌++◌, length, Option, Some, None, Result, Ok, Err, inl, inr, refl, sym, ap, subst, ◌∙◌, append-nil}
 use Rattle.std.specs.List.{flat_map}
-use Rattle.std.specs.Prelude.{if◌then◌else◌}
+use Rattle.std.specs.Prelude.{if◌then◌else◌, OnOk}
 use Rattle.std.proofs.lemmas.Bool.{ltb-false, eqb-true}
 use Rattle.std.proofs.lemmas.Grind.{flat_map-append}
 use Rattle.pmg_value.specs.declared.refusal.Cause.TheVariants as causes
 use Rattle.pmg_value.specs.declared.refusal.Fault.{Fault}
-use Rattle.pmg_value.specs.Lists.{In, Each}
+use Rattle.pmg_value.specs.Lists.{In, Each, SameItems}
 use Rattle.pmg_value.proofs.ListLemmas.{in_append_left, in_append_right, in_parts}
 use Rattle.pmg_wire.specs.Reading.{Place, fault, IsBytes, Takes, ◌>>=◌}
 use Rattle.pmg_commit.specs.Knowledge.{Contribution}
@@ -23,6 +23,7 @@ use Rattle.pmg_store.specs.Dump.{dump}
 use Rattle.pmg_store.specs.Input.{too_much_input}
 use Rattle.pmg_store.specs.declared.input.TheConstants.{INPUT_LIMIT}
 use Rattle.pmg_store.specs.Merged.{told_by_input, told_first, told_from, made_of, merge_of, too_many, one_after_the_other}
+use Rattle.pmg_store.specs.Outcomes.{Dumps, WritesDue}
 use Rattle.pmg_store.specs.Pieces.{data_of}
 use Rattle.pmg_store.specs.Told.{contributions, told_by_said, told_in, data_told}
 use Rattle.pmg_store.proofs.Converging.{same_in_any_order}
@@ -100,6 +101,15 @@ merges_alike xs ys text same few is =
     let second = all_told 1 ys (λ bytes i. let one = told_one 1 xs first.0 first.2 bytes ((same bytes).1 i) in (one.0, one.1)) in
     let equal = same_in_any_order first.0 second.0 (λ c. (some_in xs ys first.0 second.0 (λ bytes. (same bytes).0) first.2 second.1 c, some_in ys xs second.0 first.0 (λ bytes. (same bytes).1) second.1 first.2 c)) in
     few_due ys few ∙ ap (made_of (λ cs. dump (data_of cs))) second.1 ∙ ap Ok (ap dump (sym equal) ∙ first.3)
+
+-- so a merge that wrote what is due for some streams wrote what is due for the same streams in another order
+pub written_alike : {T : Type 0} (old new : Option (List ℕ)) (result : Result T Failure) (xs ys : List (List ℕ)) → SameItems xs ys → length ys ≤ 64 →
+    Dumps old new result (merge_of xs) → OnOk result (WritesDue old new (merge_of ys))
+written_alike old new (Err e) xs ys same few dumps = tt
+written_alike old new (Ok done) xs ys same few dumps = by_due (merge_of xs) refl dumps where
+    by_due : (due : Result (List ℕ) Failure) → merge_of xs ≡ due → WritesDue old new due → WritesDue old new (merge_of ys)
+    by_due (Ok text) is wrote = rw (merges_alike xs ys text same few is) wrote
+    by_due (Err e) is wrote = absurd wrote
 
 -- ---- as one
 

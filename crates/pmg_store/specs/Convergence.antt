@@ -1,16 +1,43 @@
 -- Two servers that have taken the same pieces, in any order, in any grouping and with any repeats, hold the
 -- same data.
-use Rattle.std.specs.Prelude.{ℕ, ◌≡◌, ◌≤◌, List, ◌++◌, length, Ok}
+use Rattle.std.specs.Prelude.{ℕ, ◌≡◌, ◌≤◌, List, [], ◌∷◌, ◌++◌, length, Ok}
+use Rattle.std.specs.FinMap as finite
 use Rattle.pmg_value.specs.declared.process.Proc.{Proc}
 use Rattle.pmg_value.specs.Lists.{SameItems, Each}
 use Rattle.pmg_wire.specs.Reading.{IsBytes}
 use Rattle.pmg_commit.specs.Knowledge.{Contribution, core}
-use Rattle.pmg_commit.specs.Data.{join_data, known, level_at, read_at}
+use Rattle.pmg_commit.specs.Data.{Data, join_data, absorbed, known, level_at, read_at}
 use Rattle.pmg_store.specs.Dump.{dump}
 use Rattle.pmg_store.specs.Dumps.{stream_dump}
 use Rattle.pmg_store.specs.Merged.{merge_of, one_after_the_other}
 use Rattle.pmg_store.specs.Pieces.{data_of, told_of}
 use Rattle.pmg_store.specs.Told.{told_in}
+
+-- A way in which a store came to be: made, and then taking a piece, or another store with all that this one took.
+pub data Taking : Type 0 where
+  made : Taking
+  absorb : Taking → Contribution → Taking
+  join : Taking → Taking → Taking
+
+-- what the store holds, as the calls that make, absorb and join stores say
+abbrev pub held_by : Taking → Data
+held_by Taking.made = finite.empty
+held_by (Taking.absorb store piece) = absorbed (held_by store) piece
+held_by (Taking.join store other) = join_data (held_by store) (held_by other)
+
+-- the contributions that it took
+abbrev pub taken_by : Taking → List Contribution
+taken_by Taking.made = []
+taken_by (Taking.absorb store piece) = taken_by store ++ piece ∷ []
+taken_by (Taking.join store other) = taken_by store ++ taken_by other
+
+-- The convergence theorem (strong eventual consistency): two servers that took the same contributions, in any order, in
+-- any grouping and with any repeats, hold the same data and print the same dump; and of each process it is the core of
+-- the union of what its contributions tell.
+abbrev pub Converges : Type 0
+Converges =
+    (a b : Taking) → SameItems (taken_by a) (taken_by b)
+    → (held_by a ≡ held_by b) × (dump (held_by a) ≡ dump (held_by b)) × ((p : Proc) → known (held_by a) p ≡ core (told_of p (taken_by a)))
 
 -- in any order, and however often each of them came
 abbrev pub SameInAnyOrder : Type 0

@@ -31,7 +31,10 @@ abbrev pub Stops : Option (List ℕ) → Option (List ℕ) → Failure → Resul
 Stops old new failure due =
     (Fails failure due × Keeps old new) ⊎ ((failure ≡ Write) × MatchResult due (λ text. AppendsFront old new text) (λ _. ⊥))
 
+-- a text is due, and was written
+abbrev pub WritesDue : Option (List ℕ) → Option (List ℕ) → Result (List ℕ) Failure → Type 0
+WritesDue old new due = MatchResult due (λ text. Appends old new text) (λ _. ⊥)
+
 -- a call that succeeded wrote the text that is due
 abbrev pub Dumps : {T : Type 0} → Option (List ℕ) → Option (List ℕ) → Result T Failure → Result (List ℕ) Failure → Type 0
-Dumps old new result due =
-    MatchResult result (λ _. MatchResult due (λ text. Appends old new text) (λ _. ⊥)) (λ failure. Stops old new failure due)
+Dumps old new result due = MatchResult result (λ _. WritesDue old new due) (λ failure. Stops old new failure due)

@@ -1,9 +1,12 @@
 ghost use Rattle.pmg_store.specs.HonestStores.{StoreReadsHonestly, EqualLevelsReadAlike};
-ghost use Rattle.pmg_store.specs.Convergence.{SameInAnyOrder, SameInAnyGrouping, ReadsAlike, PrintsAlike, StreamsPrintAlike, MergesAlike, MergesAsOne, HoldsUnion};
+ghost use Rattle.pmg_store.specs.Convergence.{Converges, SameInAnyOrder, SameInAnyGrouping, ReadsAlike, PrintsAlike, StreamsPrintAlike, MergesAlike, MergesAsOne, HoldsUnion};
 
-/// Two servers that have taken the same pieces, in any order, in any grouping and with any repeats, hold and
-/// print the same data: of each process, the core of the union of what the pieces tell of it.
+/// The convergence theorem: two servers that have taken the same pieces, in any order, in any grouping and with any
+/// repeats, hold and print the same data: of each process, the core of the union of what the pieces tell of it. However
+/// a store came to be by `Store::new`, `absorb` and `join` (`converges`); and the same for lists of pieces and for
+/// streams.
 pub fn pieces_in_any_order()
+    ensures converges { Converges }
     ensures any_order { SameInAnyOrder }
     ensures any_grouping { SameInAnyGrouping }
     ensures reads_alike { ReadsAlike }

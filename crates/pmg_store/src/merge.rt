@@ -1,8 +1,8 @@
 //! The dump of what several streams tell.
-ghost use Rattle.std.specs.Prelude.{◌≡◌, ◌≢◌, ◌<◌, ◌≤◌, ◌+◌, ℕ, List, map, length, Some, Err, IfErr, IfSome, IsSome};
-ghost use Rattle.std.specs.Io.KnownBytes.{Keeps};
+ghost use Rattle.std.specs.Prelude.{◌≡◌, ◌≢◌, ◌<◌, ◌≤◌, ◌+◌, ℕ, List, map, length, Some, Err, IfErr, IfSome, IsSome, OnOk};
+ghost use Rattle.pmg_value.specs.Lists.{SameItems};
 ghost use Rattle.pmg_store.specs.Merged.{data_by_input, failure_in, merged, merge_of, too_many};
-ghost use Rattle.pmg_store.specs.Outcomes.{Dumps, Gives, or_failure};
+ghost use Rattle.pmg_store.specs.Outcomes.{Dumps, Gives, WritesDue, or_failure};
 ghost use Rattle.pmg_store.specs.Readers.{AnyFailed, ReadFewTimes};
 
 use crate::failure::Failure;
@@ -77,10 +77,14 @@ pub fn merge_streams<R: Read, W: Write>(
 ) -> Result<(), Failure>
     ensures merges { (streams : List (List ℕ)) → map (λ r. R.remaining r.reader) readers.old ≡ map Some streams
         → Dumps (W.contents writer.old.writer) (W.contents writer.new.writer) result (merge_of streams) }
+    ensures any_order { (streams others : List (List ℕ)) → map (λ r. R.remaining r.reader) readers.old ≡ map Some streams
+        → SameItems streams others → length others ≤ MAX_STREAMS
+        → OnOk result (WritesDue (W.contents writer.old.writer) (W.contents writer.new.writer) (merge_of others)) }
     ensures read_fault { IfErr result (λ e. e ≡ Failure.Read → AnyFailed readers.new) }
     ensures write_fault { IfErr result (λ e. e ≡ Failure.Write → IsSome writer.new.failure) }
     ensures few { ReadFewTimes readers.old readers.new }
-    ensures many { 64 < length readers.old → (result ≡ Err too_many) × (readers.new ≡ readers.old) × (writer.new ≡ writer.old) }
+    ensures many { MAX_STREAMS < length readers.old
+        → (result ≡ Err too_many) × (readers.new ≡ readers.old) × (writer.new ≡ writer.old) }
 {
     if readers.len() > MAX_STREAMS {
         return Err(Failure::Refused(Refusal::TooMany));
