@@ -107,9 +107,9 @@ pub written_alike : {T : Type 0} (old new : Option (List ℕ)) (result : Result 
     Dumps old new result (merge_of xs) → OnOk result (WritesDue old new (merge_of ys))
 written_alike old new (Err e) xs ys same few dumps = tt
 written_alike old new (Ok done) xs ys same few dumps = by_due (merge_of xs) refl dumps where
-    by_due : (due : Result (List ℕ) Failure) → merge_of xs ≡ due → WritesDue old new due → WritesDue old new (merge_of ys)
-    by_due (Ok text) is wrote = rw (merges_alike xs ys text same few is) wrote
-    by_due (Err e) is wrote = absurd wrote
+  by_due : (due : Result (List ℕ) Failure) → merge_of xs ≡ due → WritesDue old new due → WritesDue old new (merge_of ys)
+  by_due (Ok text) is wrote = rw (merges_alike xs ys text same few is) wrote
+  by_due (Err e) is wrote = absurd wrote
 
 -- ---- as one
 

@@ -1,8 +1,9 @@
 -- Streams merged one after the other.
-use Rattle.std.proofs.Common.{◌≡◌, ℕ, suc, ◌+◌, arith, List, [], ◌∷◌, map, Option, Some, None, Result, Ok, Err, length, ◌<◌, ◌≤◌, inl, inr, refl, sym, ap, subst, ◌∙◌}
+use Rattle.std.proofs.Common.{◌≡◌, ℕ, suc, ◌+◌, arith, List, [], ◌∷◌, map, drop, get_or, Option, Some, None, Result, Ok, Err, length, ◌<◌, ◌≤◌, inl, inr, refl, sym, ap, subst, ◌∙◌}
 use Rattle.std.specs.Prelude.{IfSome}
+use Rattle.std.proofs.Math.Seq.{drop-cons}
 use Rattle.std.specs.FinMap as finite
-use Rattle.std.proofs.lemmas.Bool.{lt-ltb, le-ltb}
+use Rattle.std.proofs.lemmas.Bool.{lt-ltb, le-ltb, le-leb, lt-leb}
 use Rattle.pmg_value.specs.declared.refusal.Fault.{Fault}
 use Rattle.pmg_value.specs.declared.refusal.Refusal.{Refusal}
 use Rattle.pmg_value.specs.declared.refusal.Refusal.TheVariants as refusals
@@ -20,7 +21,8 @@ use Rattle.pmg_store.specs.Joining.{data_joined}
 use Rattle.pmg_store.specs.Outcomes.{Fails, Stops, Dumps, or_failure}
 use Rattle.pmg_store.specs.Pieces.{data_of}
 use Rattle.pmg_store.specs.Dump.{dump}
-use Rattle.pmg_store.specs.Input.{input_of}
+use Rattle.pmg_store.specs.declared.input.TheConstants.{INPUT_LIMIT}
+use Rattle.pmg_store.specs.Input.{input_of, too_much_input}
 use Rattle.pmg_store.specs.Told.{told_in, data_told}
 use Rattle.pmg_store.specs.Merged.{told_by_input, data_by_input, failure_in, told_behind, told_first, told_from, made_of, merged, merge_of, too_many}
 use Rattle.pmg_store.proofs.Converging.{same_in_any_grouping}
@@ -203,3 +205,21 @@ known_alike give [] [] is = refl
 known_alike give [] (s ∷ ss) is = cc
 known_alike give (r ∷ rs) [] is = cc
 known_alike give (r ∷ rs) (s ∷ ss) is = let rest : map give rs ≡ map Some ss = cc in ap suc (known_alike give rs ss rest)
+
+-- ---- streams in memory
+
+pub some_of_each : {X : Type 0} (give : X → List ℕ) (xs : List X) → map (λ x. Some (give x)) xs ≡ map Some (map give xs)
+some_of_each give [] = refl
+some_of_each give (x ∷ xs) = ap (λ others. Some (give x) ∷ others) (some_of_each give xs)
+
+-- the first of those that are left
+pub next_of : {X Y : Type 0} (give : X → Y) (xs : List X) (i : ℕ) (x : X) → i < length xs → x ≡ get_or xs i x →
+    map give (drop i xs) ≡ give x ∷ map give (drop (i + 1) xs)
+next_of give xs i x within is = ap (map give) (drop-cons xs i x within ∙ ap (λ y. y ∷ drop (suc i) xs) (sym is) ∙ ap (λ n. x ∷ drop n xs) (one_more i))
+
+-- a stream that is not too long
+pub kept_whole : (bytes : List ℕ) → length bytes ≤ INPUT_LIMIT → input_of bytes ≡ Ok bytes
+kept_whole bytes within = rw (le-leb (length bytes) INPUT_LIMIT within) refl
+
+pub not_kept : (bytes : List ℕ) → INPUT_LIMIT < length bytes → input_of bytes ≡ Err too_much_input
+not_kept bytes over = rw (lt-leb (length bytes) INPUT_LIMIT over) refl

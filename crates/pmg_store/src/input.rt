@@ -128,7 +128,8 @@ fn read_by_chunks<R: Read>(
     unreachable!()
 }
 
-fn too_long() -> Failure
+/// The refusal of input over the limit.
+pub fn too_long() -> Failure
     ensures { result ≡ Failure.Refused (Refusal.BadFrame too_much_input) }
 {
     Failure::Refused(Refusal::BadFrame(Fault {

@@ -6,7 +6,7 @@ ghost use Rattle.pmg_store.specs.Outcomes.{Dumps, Gives, WritesDue, or_failure};
 ghost use Rattle.pmg_store.specs.Readers.{AnyFailed, ReadFewTimes};
 
 use crate::failure::Failure;
-use crate::input::{MOST_READS, WatchedReader, read_input};
+use crate::input::{INPUT_LIMIT, MOST_READS, WatchedReader, read_input, too_long};
 use crate::store::Store;
 use crate::stream::store_of_stream;
 use pmg_value::{Refusal, WatchedWriter};
@@ -60,6 +60,54 @@ fn store_of_streams<R: Read>(
         }
     }
     Ok(all)
+}
+
+/// A store that took the contributions in a stream in memory, which is no longer than an input may be.
+fn store_of_input(alloc: Global, input: &[u8]) -> Result<Store, Failure>
+    ensures gives { Gives (λ s. s) result (or_failure (data_by_input input.now)) }
+    ensures no_read_fault { IfErr result (λ e. e ≢ Failure.Read) }
+    ensures no_write_fault { IfErr result (λ e. e ≢ Failure.Write) }
+{
+    if input.len() > INPUT_LIMIT {
+        return Err(too_long());
+    }
+    Ok(store_of_stream(alloc, input)?)
+}
+
+/// A store that took the contributions in the streams, one stream after the other.
+fn store_of_inputs(alloc: Global, inputs: &[Vec<u8>]) -> Result<Store, Failure>
+    ensures gives { Gives (λ s. s) result (merged (map (λ input. input.items) inputs.now)) }
+    ensures no_read_fault { IfErr result (λ e. e ≢ Failure.Read) }
+    ensures no_write_fault { IfErr result (λ e. e ≢ Failure.Write) }
+{
+    let mut all = Store::new(alloc);
+    let mut number = 0;
+    for input in inputs {
+        number += 1;
+        match store_of_input(alloc, input) {
+            Ok(store) => all.join(store)?,
+            Err(failure) => return Err(failure_in(number, failure)),
+        }
+    }
+    Ok(all)
+}
+
+/// What `merge_streams` does, for streams that are in memory.
+pub fn merge_inputs<W: Write>(
+    alloc: Global,
+    inputs: &[Vec<u8>],
+    writer: &mut WatchedWriter<W>,
+) -> Result<(), Failure>
+    ensures merges { Dumps (W.contents writer.old.writer) (W.contents writer.new.writer) result
+        (merge_of (map (λ input. input.items) inputs.now)) }
+    ensures write_fault { IfErr result (λ e. e ≡ Failure.Write → IsSome writer.new.failure) }
+    ensures no_read_fault { IfErr result (λ e. e ≢ Failure.Read) }
+{
+    if inputs.len() > MAX_STREAMS {
+        return Err(Failure::Refused(Refusal::TooMany));
+    }
+    let store = store_of_inputs(alloc, inputs)?;
+    store.dump(writer)
 }
 
 /// Reads several streams of frames to their ends, and then writes the dump of the join of what their contributions

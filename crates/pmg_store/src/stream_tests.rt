@@ -1,9 +1,10 @@
 //! What no clause says: that streams are dumped, and what is left where a reader, a writer or memory fails.
 use crate::{
-    Failure, MAX_STREAMS, MergeFailure, Store, dump_stream, merge_streams, store_of_stream,
+    Board, Failure, MAX_STREAMS, Store, WatchedReader, dump_stream, merge_inputs, merge_streams,
+    store_of_stream,
 };
 use pmg_commit::{Piece, PieceEntry};
-use pmg_value::{Key, Nspace, Proc, Rank, Refusal, Value};
+use pmg_value::{Key, Nspace, Proc, Rank, Refusal, Value, WatchedWriter};
 use std::alloc::{AllocError, Global};
 use std::io;
 use std::io::{ErrorKind, Read, Write};
@@ -67,41 +68,46 @@ fn is_no_memory(failure: &Failure) -> bool {
 
 #[test]
 fn one_contribution_is_dumped(rt: HostRuntime) {
-    let mut held = Vec::new(rt.alloc());
-    match dump_stream(rt.alloc(), &mut ONE.as_slice(), &mut held) {
+    let mut reader = WatchedReader::new(ONE.as_slice());
+    let mut writer = WatchedWriter::new(Vec::new(rt.alloc()));
+    let result = dump_stream(rt.alloc(), &mut reader, &mut writer);
+    let has_failed = writer.has_failed();
+    let held = writer.into_inner();
+    match result {
         Ok(()) => assert_eq!(rt; held.as_slice(), ONE_DUMPED.as_slice()),
-        Err(failure) => {
-            assert!(rt; is_no_memory(&failure) || matches!(failure, Failure::Write));
-            assert!(rt; is_no_memory(&failure) == held.is_empty());
-        }
+        Err(Failure::Write) => assert!(rt; has_failed && ONE_DUMPED.starts_with(&held)),
+        Err(failure) => assert!(rt; is_no_memory(&failure) && held.is_empty()),
     }
 }
 
 #[test]
 fn a_failed_read_leaves_nothing_written(rt: HostRuntime) {
     for fails_at in 1..=46 {
-        let mut held = Vec::new(rt.alloc());
-        let mut reader = Slow {
+        let mut reader = WatchedReader::new(Slow {
             left: ONE.as_slice(),
             fails_at,
-        };
-        let result = dump_stream(rt.alloc(), &mut reader, &mut held);
+        });
+        let mut writer = WatchedWriter::new(Vec::new(rt.alloc()));
+        let result = dump_stream(rt.alloc(), &mut reader, &mut writer);
         assert!(rt; matches!(result, Err(Failure::Read)), "at {fails_at}");
-        assert!(rt; held.is_empty(), "at {fails_at}");
+        assert_eq!(rt; reader.reads(), fails_at);
+        assert!(rt; writer.into_inner().is_empty(), "at {fails_at}");
     }
 }
 
 #[test]
-fn a_failed_write_leaves_a_front(rt: HostRuntime) {
+fn a_failed_write_leaves_a_prefix(rt: HostRuntime) {
     for most in 0..ONE_DUMPED.len() {
-        let mut writer = Short {
+        let mut reader = WatchedReader::new(ONE.as_slice());
+        let mut writer = WatchedWriter::new(Short {
             held: Vec::new(rt.alloc()),
             most,
-        };
-        let result = dump_stream(rt.alloc(), &mut ONE.as_slice(), &mut writer);
+        });
+        let result = dump_stream(rt.alloc(), &mut reader, &mut writer);
         assert!(rt; matches!(result, Err(Failure::Write)), "at {most}");
-        assert!(rt; ONE_DUMPED.starts_with(&writer.held), "at {most}");
-        assert_eq!(rt; writer.held.len(), most);
+        let held = writer.into_inner().held;
+        assert!(rt; ONE_DUMPED.starts_with(&held), "at {most}");
+        assert_eq!(rt; held.len(), most);
     }
 }
 
@@ -139,77 +145,80 @@ fn refused_memory_leaves_a_store_as_it_was(rt: HostRuntime) {
     }
 }
 
-// The readers of two streams, of which the second is behind the first.
+#[test]
+fn a_board_takes_pieces_into_the_named_store(rt: HostRuntime) -> Result<(), Refusal> {
+    let alloc = rt.alloc();
+    let more = piece(alloc)?;
+    let first = Piece::new(more.proc().copy()?, 0, 1, Vec::new(alloc))?;
+    let mut board = Board::new(alloc);
+    board.absorb_near(&first)?;
+    board.absorb_far(&first)?;
+    board.absorb_far(&more)?;
+    let again = board.copy()?;
+    assert_eq!(rt; again.near().level(first.proc()), 1);
+    assert_eq!(rt; again.far().level(first.proc()), 2);
+    Ok(())
+}
+
+// The readers of two streams, of which the second comes after the first.
 fn two_readers<'a>(
     alloc: Global,
     first: &'a [u8],
     second: &'a [u8],
-) -> Result<Vec<&'a [u8]>, AllocError> {
+) -> Result<Vec<WatchedReader<&'a [u8]>>, AllocError> {
     let mut readers = Vec::with_capacity(alloc, 2)?;
-    readers.push(first)?;
-    readers.push(second)?;
+    readers.push(WatchedReader::new(first))?;
+    readers.push(WatchedReader::new(second))?;
     Ok(readers)
 }
 
-// What a merge of the two streams writes, asked for again where memory ran out and nothing was written.
-fn merged(alloc: Global, first: &[u8], second: &[u8]) -> Result<Vec<u8>, MergeFailure> {
-    let mut held = Vec::new(alloc);
-    for _ in 0..4 {
-        let done = match two_readers(alloc, first, second) {
-            Ok(readers) => merge_streams(alloc, readers, &mut held),
-            Err(_) => Err(MergeFailure::Failed(Failure::Refused(Refusal::NoMemory))),
-        };
-        match done {
-            Err(MergeFailure::Failed(Failure::Refused(Refusal::NoMemory))) if held.is_empty() => {}
-            Err(MergeFailure::Failed(Failure::Write)) => held.clear(),
-            Ok(()) => return Ok(held),
-            Err(failure) => return Err(failure),
-        }
-    }
-    Ok(held)
+fn two_inputs(alloc: Global, first: &[u8], second: &[u8]) -> Result<Vec<Vec<u8>>, AllocError> {
+    let mut inputs = Vec::with_capacity(alloc, 2)?;
+    inputs.push(Vec::from_slice(alloc, first)?)?;
+    inputs.push(Vec::from_slice(alloc, second)?)?;
+    Ok(inputs)
+}
+
+// What a merge of the two streams writes: as readers, and as inputs in memory.
+fn merged(alloc: Global, first: &[u8], second: &[u8]) -> Result<[Vec<u8>; 2], Failure> {
+    let mut readers = two_readers(alloc, first, second)?;
+    let mut writer = WatchedWriter::new(Vec::new(alloc));
+    merge_streams(alloc, &mut readers, &mut writer)?;
+    let mut other = WatchedWriter::new(Vec::new(alloc));
+    merge_inputs(alloc, &two_inputs(alloc, first, second)?, &mut other)?;
+    Ok([writer.into_inner(), other.into_inner()])
 }
 
 #[test]
-fn streams_merge_in_either_order(rt: HostRuntime) -> Result<(), MergeFailure> {
-    assert_eq!(rt;
-        merged(rt.alloc(), ONE, b"")?.as_slice(),
-        ONE_DUMPED.as_slice()
-    );
-    assert_eq!(rt;
-        merged(rt.alloc(), b"", ONE)?.as_slice(),
-        ONE_DUMPED.as_slice()
-    );
-    assert_eq!(rt;
-        merged(rt.alloc(), ONE, ONE)?.as_slice(),
-        ONE_DUMPED.as_slice()
-    );
+fn streams_merge_in_either_order(rt: HostRuntime) -> Result<(), Failure> {
+    for (first, second) in [(ONE.as_slice(), b"".as_slice()), (b"", ONE), (ONE, ONE)] {
+        let [read, held] = merged(rt.alloc(), first, second)?;
+        assert_eq!(rt; read.as_slice(), ONE_DUMPED.as_slice());
+        assert_eq!(rt; held.as_slice(), ONE_DUMPED.as_slice());
+    }
     Ok(())
 }
 
 #[test]
 fn a_fault_is_told_with_its_stream(rt: HostRuntime) {
     let cut = merged(rt.alloc(), ONE, &ONE[..44]);
-    assert!(rt; matches!(cut, Err(MergeFailure::Faulty(2, fault)) if fault.offset == 0));
+    assert!(rt; matches!(cut, Err(Failure::InStream(2, fault)) if fault.offset == 0));
     let both = merged(rt.alloc(), &ONE[..44], b"\x03\x01\x00\x00\x00\x00");
-    assert!(rt; matches!(both, Err(MergeFailure::Faulty(1, fault)) if fault.offset == 0));
+    assert!(rt; matches!(both, Err(Failure::InStream(1, fault)) if fault.offset == 0));
 }
 
 #[test]
 fn more_readers_than_streams_are_merged_are_not_read(rt: HostRuntime) -> Result<(), AllocError> {
     let mut readers = Vec::new(rt.alloc());
     for _ in 0..MAX_STREAMS + 1 {
-        readers.push(Slow {
+        readers.push(WatchedReader::new(Slow {
             left: ONE,
             fails_at: 1,
-        })?;
+        }))?;
     }
-    let mut held = Vec::new(rt.alloc());
-    let answer = merge_streams(rt.alloc(), readers, &mut held);
-    assert!(rt;
-        matches!(
-            answer,
-            Err(MergeFailure::Failed(Failure::Refused(Refusal::TooMany)))
-        )
-    );
+    let mut writer = WatchedWriter::new(Vec::new(rt.alloc()));
+    let answer = merge_streams(rt.alloc(), &mut readers, &mut writer);
+    assert!(rt; matches!(answer, Err(Failure::Refused(Refusal::TooMany))));
+    assert!(rt; readers.iter().all(|reader| reader.reads() == 0));
     Ok(())
 }
