@@ -12,13 +12,11 @@ use Rattle.pmg_value.specs.declared.refusal.Refusal.{Refusal}
 use Rattle.pmg_value.specs.declared.refusal.Refusal.TheVariants as refusals
 use Rattle.pmg_store.specs.declared.failure.Failure.{Failure}
 use Rattle.pmg_store.specs.declared.failure.Failure.TheVariants as failures
-use Rattle.pmg_store.specs.declared.failure.MergeFailure.{MergeFailure}
-use Rattle.pmg_store.specs.declared.failure.MergeFailure.TheVariants as merges
 use Rattle.pmg_store.specs.Input.{input_of}
-use Rattle.pmg_store.specs.Merged.{StopsMerging, Merges, merge_of, too_many}
-use Rattle.pmg_store.specs.Outcomes.{Fails}
-use Rattle.pmg_store.proofs.OutcomeLemmas.{keeps_same}
-use Rattle.pmg_app.specs.Merge.{is_separator, span, spans_from, spans_of, decoded_all, unless_fault, spans_merge, text_merge}
+use Rattle.pmg_store.specs.Merged.{merge_of, too_many}
+use Rattle.pmg_store.specs.Outcomes.{Dumps, Fails, Stops, or_failure}
+use Rattle.pmg_store.proofs.OutcomeLemmas.{keeps_same, ok_is, refused_reading}
+use Rattle.pmg_app.specs.Merge.{is_separator, span, spans_from, spans_of, decoded_all, unless_fault, spans_merge, merge_text}
 use Rattle.pmg_app.specs.Text.{decoded, is_stray, digits_of, unless_stray}
 
 -- how long lines are together
@@ -78,69 +76,58 @@ fault_within text f is = parts (length (digits_of text) % 2 == 1) (position is_s
     parts false (Some offset) at is = let same : offset ≡ f.offset = cc in let within = place_within (nat_lt (position_or_len is_stray text) (length text)) (position_or_len is_stray text) (length text) offset refl at in omega (arith, same, within)
     parts false None at is = absurd cc
 
--- readers over memory give what they lend
-pub all_given : {X : Type 0} (give : X → Option (List ℕ)) (lent : X → List ℕ) (readers : List X) → ((r : X) → give r ≡ Some (lent r)) → map give readers ≡ map Some (map lent readers)
-all_given give lent [] same = refl
-all_given give lent (r ∷ rs) same = λ i. same r i ∷ all_given give lent rs same i
-
 -- ---- what a merge of texts answers
 
-text_is : (text kept : List ℕ) → input_of text ≡ Ok kept → text_merge text ≡ spans_merge kept (spans_of kept)
-unfolding text_merge
-text_is text kept is = rw is refl
+text_is : (text kept : List ℕ) → or_failure (input_of text) ≡ Ok kept → merge_text text ≡ spans_merge kept (spans_of kept)
+unfolding merge_text
+text_is text kept is = rw (ok_is (input_of text) kept is) refl
 
--- a failure that one step of reading gave
-step_failed : {X : Type 0} (known : Option (List ℕ)) (failure : Failure) (first : Result X Fault) (due : Result (List ℕ) MergeFailure) → Fails failure first →
-    ((f : Fault) → first ≡ Err f → due ≡ Err (merges.Failed (failures.Refused (refusals.BadFrame f)))) → StopsMerging known known (merges.Failed failure) due
-step_failed known (failures.Refused refusals.NoMemory) first due fails same = inl (inl (inl refl), keeps_same known)
-step_failed known (failures.Refused (refusals.BadFrame f)) first due fails same = inl (inr (same f fails), keeps_same known)
-step_failed known (failures.Refused refusals.BadParam) first due fails same = absurd fails
-step_failed known (failures.Refused refusals.NotFound) first due fails same = absurd fails
-step_failed known (failures.Refused refusals.OutsideScope) first due fails same = absurd fails
-step_failed known (failures.Refused refusals.UnknownNamespace) first due fails same = absurd fails
-step_failed known (failures.Refused refusals.NotMine) first due fails same = absurd fails
-step_failed known (failures.Refused refusals.Busy) first due fails same = absurd fails
-step_failed known (failures.Refused refusals.Terminated) first due fails same = absurd fails
-step_failed known (failures.Refused refusals.NotAParticipant) first due fails same = absurd fails
-step_failed known (failures.Refused refusals.TooMany) first due fails same = absurd fails
-step_failed known (failures.Refused refusals.Exists) first due fails same = absurd fails
-step_failed known (failures.Refused refusals.Collision) first due fails same = absurd fails
-step_failed known (failures.Refused refusals.Stale) first due fails same = absurd fails
-step_failed known (failures.Refused refusals.Unordered) first due fails same = absurd fails
-step_failed known (failures.Refused refusals.Closed) first due fails same = absurd fails
-step_failed known failures.Read first due fails same = inl (inl (inr refl), keeps_same known)
-step_failed known failures.Write first due fails same = absurd fails
+unread : (text : List ℕ) (failure : Failure) → or_failure (input_of text) ≡ Err failure → merge_text text ≡ Err failure
+unfolding merge_text
+unread text failure is = first (input_of text) is
+  where
+    first : (input : Result (List ℕ) Fault) → or_failure input ≡ Err failure → unless_fault input (λ kept. spans_merge kept (spans_of kept)) ≡ Err failure
+    first (Ok kept) is = cc
+    first (Err f) is = is
 
-unread : (text : List ℕ) (f : Fault) → input_of text ≡ Err f → text_merge text ≡ Err (merges.Failed (failures.Refused (refusals.BadFrame f)))
-unfolding text_merge
-unread text f is = rw is refl
-
-pub read_failed : (given known : Option (List ℕ)) (failure : Failure) → IfSome given (λ text. Fails failure (input_of text)) → IfSome given (λ text. StopsMerging known known (merges.Failed failure) (text_merge text))
+pub read_failed : (given known : Option (List ℕ)) (failure : Failure) → IfSome given (λ text. Fails failure (or_failure (input_of text))) →
+    IfSome given (λ text. Stops known known failure (merge_text text))
 read_failed None known failure fails = tt
-read_failed (Some text) known failure fails = step_failed known failure (input_of text) (text_merge text) fails (unread text)
+read_failed (Some text) known failure (inl always) = inl (inl always, keeps_same known)
+read_failed (Some text) known failure (inr due) = inl (inr (unread text failure due), keeps_same known)
 
 many_spans : (kept : List ℕ) → 64 ≤ count_by is_separator (lines_of kept) → spans_merge kept (spans_of kept) ≡ Err too_many
 unfolding spans_merge
 many_spans kept many = let more = count_spans kept in rw (lt-ltb 64 (length (spans_of kept)) (omega (arith, more, many))) refl
 
-pub many_texts : (given known : Option (List ℕ)) (kept : List ℕ) → IfSome given (λ text. input_of text ≡ Ok kept) → 64 ≤ count_by is_separator (lines_of kept) →
-    IfSome given (λ text. StopsMerging known known too_many (text_merge text))
+pub many_texts : (given known : Option (List ℕ)) (kept : List ℕ) → IfSome given (λ text. or_failure (input_of text) ≡ Ok kept) →
+    64 ≤ count_by is_separator (lines_of kept) → IfSome given (λ text. Stops known known too_many (merge_text text))
 many_texts None known kept read many = tt
 many_texts (Some text) known kept read many = inl (inr (text_is text kept read ∙ many_spans kept many), keeps_same known)
 
-few_spans : (kept : List ℕ) → count_by is_separator (lines_of kept) < 64 → spans_merge kept (spans_of kept) ≡ unless_fault (decoded_all kept (spans_of kept)) merge_of
+few_spans : (kept : List ℕ) → count_by is_separator (lines_of kept) < 64 →
+    spans_merge kept (spans_of kept) ≡ unless_fault (decoded_all kept (spans_of kept)) merge_of
 unfolding spans_merge
 few_spans kept few = let more = count_spans kept in rw (le-ltb 64 (length (spans_of kept)) (omega (arith, more, few))) refl
 
-pub undecoded : (given known : Option (List ℕ)) (kept : List ℕ) (refusal : Refusal) → IfSome given (λ text. input_of text ≡ Ok kept) → count_by is_separator (lines_of kept) < 64 →
-    FailsReading refusal (decoded_all kept (spans_of kept)) → IfSome given (λ text. StopsMerging known known (merges.Failed (failures.Refused refusal)) (text_merge text))
+fault_first : {X : Type 0} (first : Result X Fault) (next : X → Result (List ℕ) Failure) (failure : Failure) → Fails failure (or_failure first) →
+    Fails failure (unless_fault first next)
+fault_first first next failure (inl always) = inl always
+fault_first (Ok x) next failure (inr due) = cc
+fault_first (Err f) next failure (inr due) = let same : failures.Refused (refusals.BadFrame f) ≡ failure = cc in inr (ap Err same)
+
+pub undecoded : (given known : Option (List ℕ)) (kept : List ℕ) (refusal : Refusal) → IfSome given (λ text. or_failure (input_of text) ≡ Ok kept) →
+    count_by is_separator (lines_of kept) < 64 → FailsReading refusal (decoded_all kept (spans_of kept)) →
+    IfSome given (λ text. Stops known known (failures.Refused refusal) (merge_text text))
 undecoded None known kept refusal read few fails = tt
 undecoded (Some text) known kept refusal read few fails =
-    step_failed known (failures.Refused refusal) (decoded_all kept (spans_of kept)) (text_merge text) fails
-    (λ f is. text_is text kept read ∙ few_spans kept few ∙ ap (λ first. unless_fault first merge_of) is)
+    let due = text_is text kept read ∙ few_spans kept few in
+    rw due (inl (fault_first (decoded_all kept (spans_of kept)) merge_of (failures.Refused refusal) (refused_reading refusal (decoded_all kept (spans_of kept)) fails), keeps_same known))
 
-pub merged_texts : (given old new : Option (List ℕ)) (result : Result (Unit {0}) MergeFailure) (kept : List ℕ) (streams : List (List ℕ)) → IfSome given (λ text. input_of text ≡ Ok kept) →
-    count_by is_separator (lines_of kept) < 64 → decoded_all kept (spans_of kept) ≡ Ok streams → Merges old new result (merge_of streams) → IfSome given (λ text. Merges old new result (text_merge text))
+pub merged_texts : (given old new : Option (List ℕ)) (result : Result (Unit {0}) Failure) (kept : List ℕ) (streams : List (List ℕ)) →
+    IfSome given (λ text. or_failure (input_of text) ≡ Ok kept) → count_by is_separator (lines_of kept) < 64 → decoded_all kept (spans_of kept) ≡ Ok streams →
+    Dumps old new result (merge_of streams) → IfSome given (λ text. Dumps old new result (merge_text text))
 merged_texts None old new result kept streams read few is merges = tt
 merged_texts (Some text) old new result kept streams read few is merges =
-    subst (Merges old new result) (sym (text_is text kept read ∙ few_spans kept few ∙ ap (λ first. unless_fault first merge_of) is)) merges
+    let due = text_is text kept read ∙ few_spans kept few ∙ ap (λ first. unless_fault first merge_of) is in
+    rw due merges

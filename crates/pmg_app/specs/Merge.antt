@@ -6,12 +6,11 @@ use Rattle.bstr.specs.Text.{lines_of}
 use Rattle.pmg_value.specs.declared.refusal.Fault.{Fault}
 use Rattle.pmg_value.specs.declared.refusal.Refusal.TheVariants.{BadFrame}
 use Rattle.pmg_wire.specs.Reading.{fault, ◌>>=◌}
+use Rattle.pmg_store.specs.declared.failure.Failure.{Failure}
 use Rattle.pmg_store.specs.declared.failure.Failure.TheVariants.{Refused}
-use Rattle.pmg_store.specs.declared.failure.MergeFailure.{MergeFailure}
-use Rattle.pmg_store.specs.declared.failure.MergeFailure.TheVariants.{Failed}
 use Rattle.pmg_store.specs.Input.{input_of}
 use Rattle.pmg_store.specs.Merged.{merge_of, too_many}
-use Rattle.pmg_app.specs.Output.{Output, merge_output_of}
+use Rattle.pmg_app.specs.Output.{Output, output_of}
 use Rattle.pmg_app.specs.Text.{decoded}
 
 -- a line `--`, with what ends it: LF, CR and LF, a CR at the end of the input, or nothing there
@@ -58,18 +57,18 @@ decoded_all text [] = Ok []
 decoded_all text (s ∷ ss) = decoded_at text s >>= λ bytes. decoded_all text ss >>= λ others. Ok (bytes ∷ others)
 
 -- what is due where there is no such fault
-abbrev pub unless_fault : {X Y : Type 0} → Result X Fault → (X → Result Y MergeFailure) → Result Y MergeFailure
+abbrev pub unless_fault : {X Y : Type 0} → Result X Fault → (X → Result Y Failure) → Result Y Failure
 unless_fault (Ok x) next = next x
-unless_fault (Err f) next = Err (Failed (Refused (BadFrame f)))
+unless_fault (Err f) next = Err (Refused (BadFrame f))
 
 -- the dump of the streams whose texts these are: of more than 64 none is decoded, and all are decoded before any is read
-unfoldable pub spans_merge : List ℕ → List Span → Result (List ℕ) MergeFailure
+unfoldable pub spans_merge : List ℕ → List Span → Result (List ℕ) Failure
 spans_merge text spans = if nat_lt 64 (length spans) then Err too_many else unless_fault (decoded_all text spans) merge_of
 
 -- the dump of the streams whose texts an input holds
-unfoldable pub text_merge : List ℕ → Result (List ℕ) MergeFailure
-text_merge text = unless_fault (input_of text) λ kept. spans_merge kept (spans_of kept)
+unfoldable pub merge_text : List ℕ → Result (List ℕ) Failure
+merge_text text = unless_fault (input_of text) λ kept. spans_merge kept (spans_of kept)
 
 -- what `merge` prints for a text
 abbrev pub merge_output : List ℕ → Output
-merge_output text = merge_output_of (text_merge text)
+merge_output text = output_of (merge_text text)

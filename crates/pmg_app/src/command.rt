@@ -4,6 +4,7 @@ ghost use Rattle.std.specs.IoError.{error_kind};
 ghost use Rattle.clap.specs.Words.{app_of, fault_of, kind_of, subcommand_name_of};
 ghost use Rattle.pmg_app.specs.CommandLine.{program, chosen_of, shown_status, IsChosen, HasStatus};
 
+use crate::status::USAGE_FAULT;
 use clap::error::ErrorKind as Kind;
 use clap::{ArgMatches, Command, Error};
 use std::alloc::Global;
@@ -22,9 +23,6 @@ pub enum Chosen {
     /// Nothing more: help, the version or a usage fault was printed. Holds the status to end with.
     Shown(u8),
 }
-
-/// The status of a command line that is not understood.
-pub const USAGE_FAULT: u8 = 2;
 
 const DUMP_EXAMPLE: &str = "\
 Example:
@@ -70,7 +68,7 @@ pub fn choose<R: Print + Eprint + AllocGlobal, S: AsStr>(rt: &R, words: &[S]) ->
     }
 }
 
-// The command that the words named.
+/// The command that the words named.
 fn chosen_by(matches: &ArgMatches) -> Chosen
     ensures { result ≡ chosen_of (subcommand_name_of matches.now) }
 {
@@ -80,7 +78,7 @@ fn chosen_by(matches: &ArgMatches) -> Chosen
     }
 }
 
-// Prints what the words were answered with, where that was not want of memory.
+/// Prints what the words were answered with, where that was not want of memory.
 fn show(rt: &(impl Print + Eprint), error: &Error) -> io::Result<Chosen>
     ensures shown { IfOk result (λ chosen. chosen ≡ Chosen.Shown (shown_status (kind_of error.now))) }
     ensures kind { IfOk result (λ _. kind_of error.now ≢ Kind.OutOfMemory) }

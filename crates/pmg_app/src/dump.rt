@@ -1,54 +1,50 @@
 //! The command `dump`.
-ghost use Rattle.std.specs.Prelude.{◌≡◌, ◌⊎◌, IfSome};
-ghost use Rattle.pmg_store.specs.Outcomes.{Dumps};
-ghost use Rattle.pmg_app.specs.Dump.{text_dump, dump_output};
-ghost use Rattle.pmg_app.specs.Output.{IsFailureStatus, Runs};
+ghost use Rattle.std.specs.Prelude.{◌≡◌, ◌≤◌, ◌+◌, IfErr, IfSome, IsNone, IsSome, IsTrue};
+ghost use Rattle.pmg_store.specs.Outcomes.{Dumps, or_failure};
+ghost use Rattle.pmg_app.specs.Dump.{dump_text, dump_output};
+ghost use Rattle.pmg_app.specs.Output.{IsStatus, Runs};
 
-use crate::reporting::report;
+use crate::reporting::conclude;
 use crate::text::decode_text;
-use pmg_store::{Failure, dump_stream, read_input};
+use pmg_store::{Failure, MOST_READS, WatchedReader, read_input, store_of_stream};
+use pmg_value::WatchedWriter;
 use std::alloc::Global;
 use std::io::{Read, Write};
 
-const WRITE_FAULT: u8 = 1;
-
-/// Reads hexadecimal text to its end, prints the dump of the frames that it spells, and answers the status.
+/// Reads hexadecimal text to its end, prints the dump of the frames that it encodes, and answers the status.
 ///
 /// Nothing is printed before the whole input was read without a fault. Status 1 for a refused input, a read
-/// fault and a write fault, 3 where memory was wanted and not given. A refusal and a read fault print a line;
-/// where the writer fails, nothing more is printed.
-pub fn run_dump<R: Read, W: Write>(alloc: Global, reader: &mut R, writer: &mut W) -> u8
-    ensures printed { IfSome (R.remaining reader.old) (λ text.
-        Runs (W.contents writer.old) (W.contents writer.new) result (dump_output text)) }
-    ensures status { (result ≡ 0) ⊎ IsFailureStatus result }
+/// fault and a write fault, 3 where an allocation failed. A refusal and a read fault print a line; where the writer
+/// fails, nothing more is printed.
+pub fn run_dump<R: Read, W: Write>(
+    alloc: Global,
+    reader: &mut WatchedReader<R>,
+    writer: &mut WatchedWriter<W>,
+) -> u8
+    ensures printed { IfSome (R.remaining reader.old.reader) (λ text.
+        Runs (W.contents writer.old.writer) (W.contents writer.new.writer) reader.new.failure writer.new.failure
+        result (dump_output text)) }
+    ensures flushed { IsNone writer.new.failure → IsTrue writer.new.is_flushed }
+    ensures few { reader.new.reads ≤ reader.old.reads + MOST_READS }
+    ensures status { IsStatus result }
 {
-    let status = print_dump(alloc, reader, writer);
-    match writer.flush() {
-        Ok(()) => status,
-        Err(_) => WRITE_FAULT,
-    }
-}
-
-fn print_dump<R: Read, W: Write>(alloc: Global, reader: &mut R, writer: &mut W) -> u8
-    ensures printed { IfSome (R.remaining reader.old) (λ text.
-        Runs (W.contents writer.old) (W.contents writer.new) result (dump_output text)) }
-    ensures status { (result ≡ 0) ⊎ IsFailureStatus result }
-{
-    match dump_text(alloc, reader, writer) {
-        Ok(()) => 0,
-        Err(failure) => report(writer, &failure),
-    }
+    let outcome = dump_text(alloc, reader, writer);
+    conclude(writer, outcome)
 }
 
 fn dump_text<R: Read, W: Write>(
     alloc: Global,
-    reader: &mut R,
-    writer: &mut W,
+    reader: &mut WatchedReader<R>,
+    writer: &mut WatchedWriter<W>,
 ) -> Result<(), Failure>
-    ensures { IfSome (R.remaining reader.old) (λ text.
-        Dumps (W.contents writer.old) (W.contents writer.new) result (text_dump text)) }
+    ensures dumps { IfSome (R.remaining reader.old.reader) (λ text.
+        Dumps (W.contents writer.old.writer) (W.contents writer.new.writer) result (or_failure (dump_text text))) }
+    ensures read_fault { IfErr result (λ e. e ≡ Failure.Read → IsSome reader.new.failure) }
+    ensures write_fault { IfErr result (λ e. e ≡ Failure.Write → IsSome writer.new.failure) }
+    ensures few { reader.new.reads ≤ reader.old.reads + MOST_READS }
 {
     let text = read_input(alloc, reader)?;
     let frames = decode_text(alloc, &text)?;
-    dump_stream(alloc, &mut frames.as_slice(), writer)
+    let store = store_of_stream(alloc, &frames)?;
+    store.dump(writer)
 }

@@ -1,8 +1,14 @@
 //! `pmixgroup`: what the servers of a PMIx group sent to one another, as text.
 #![tactic(auto)]
 
-ghost use Rattle.std.specs.Prelude.{◌≡◌, ◌≤◌, ◌↔◌, IfOk};
+ghost use Rattle.std.specs.Prelude.{◌≡◌, ◌≤◌, ◌+◌, ◌↔◌, ℕ, IfOk, IfSome, IsNone, IsTrue};
 ghost use Rattle.std.specs.IoError.{error_kind};
+ghost use Rattle.pmg_value.specs.declared.refusal.Refusal.TheVariants.{NoMemory};
+ghost use Rattle.pmg_store.specs.declared.failure.Failure.TheVariants.{Refused};
+ghost use Rattle.pmg_app.specs.CommandLine.{HasStatus};
+ghost use Rattle.pmg_app.specs.Dump.{dump_output};
+ghost use Rattle.pmg_app.specs.Merge.{merge_output};
+ghost use Rattle.pmg_app.specs.Output.{failure_output, Prints, Runs};
 
 mod command;
 mod dump;
@@ -14,65 +20,88 @@ mod merge_tests;
 mod reporting;
 #[cfg(test)]
 mod set_tests;
+mod status;
 #[cfg(test)]
 mod tests;
 mod text;
 
-use command::{Chosen, USAGE_FAULT};
-use pmg_store::Failure;
-use pmg_value::Refusal;
-use reporting::report;
+use command::Chosen;
+use pmg_store::{Failure, MOST_READS, WatchedReader};
+use pmg_value::{Refusal, WatchedWriter};
+use reporting::conclude;
+use status::{FAILED, USAGE_FAULT};
+use std::alloc::Global;
 use std::io;
-use std::io::{BufReader, BufWriter, ErrorKind};
+use std::io::{BufReader, BufWriter, ErrorKind, Read, Write};
 use std::process::ExitCode;
 use std::rt::Env;
 
 fn main(rt: HostRuntime) -> ExitCode {
     let status = match run(&rt) {
         Ok(status) => status,
-        Err(error) => end_with(&rt, &error),
+        Err(error) => end_with(&rt, &mut WatchedWriter::new(io::writer(&rt)), &error),
     };
     ExitCode::from(status)
 }
 
+/// Carries out what the command line asks for, from standard input to standard output. Why one of them failed is told
+/// on standard error.
 fn run(rt: &(impl Env + Input + Print + Eprint + AllocGlobal)) -> io::Result<u8>
     ensures { IfOk result (λ status. status ≤ 3) }
 {
-    match command::read_command_line(rt)? {
-        Chosen::Dump => dump_standard_input(rt),
-        Chosen::Merge => merge_standard_input(rt),
-        Chosen::Shown(status) => Ok(status),
+    let chosen = command::read_command_line(rt)?;
+    let mut reader = WatchedReader::new(BufReader::new(rt.alloc(), rt.reader())?);
+    let mut writer = WatchedWriter::new(BufWriter::new(rt.alloc(), io::writer(rt))?);
+    let status = carry_out(rt.alloc(), chosen, &mut reader, &mut writer);
+    if let Some(error) = reader.failure() {
+        let _ = eprintln!(rt; "pmixgroup: standard input: {error}");
+    }
+    if let Some(error) = writer.failure() {
+        let _ = eprintln!(rt; "pmixgroup: standard output: {error}");
+    }
+    Ok(status)
+}
+
+/// Carries out what was chosen, and answers the status.
+fn carry_out<R: Read, W: Write>(
+    alloc: Global,
+    chosen: Chosen,
+    reader: &mut WatchedReader<R>,
+    writer: &mut WatchedWriter<W>,
+) -> u8
+    ensures dump { chosen ≡ Chosen.Dump → IfSome (R.remaining reader.old.reader) (λ text.
+        Runs (W.contents writer.old.writer) (W.contents writer.new.writer) reader.new.failure writer.new.failure
+        result (dump_output text)) }
+    ensures merge { chosen ≡ Chosen.Merge → IfSome (R.remaining reader.old.reader) (λ text.
+        Runs (W.contents writer.old.writer) (W.contents writer.new.writer) reader.new.failure writer.new.failure
+        result (merge_output text)) }
+    ensures shown { (status : ℕ) → chosen ≡ Chosen.Shown status
+        → (result ≡ status) × (reader.new ≡ reader.old) × (writer.new ≡ writer.old) }
+    ensures flushed { IsTrue writer.old.is_flushed → IsNone writer.new.failure → IsTrue writer.new.is_flushed }
+    ensures few { reader.new.reads ≤ reader.old.reads + MOST_READS }
+    ensures status { HasStatus chosen → result ≤ 3 }
+{
+    match chosen {
+        Chosen::Dump => dump::run_dump(alloc, reader, writer),
+        Chosen::Merge => merge::run_merge(alloc, reader, writer),
+        Chosen::Shown(status) => status,
     }
 }
 
-fn dump_standard_input(rt: &(impl Input + Print + AllocGlobal)) -> io::Result<u8>
-    ensures { IfOk result (λ status. status ≤ 3) }
-{
-    let mut reader = BufReader::new(rt.alloc(), rt.reader())?;
-    let mut writer = BufWriter::new(rt.alloc(), io::writer(rt))?;
-    Ok(dump::run_dump(rt.alloc(), &mut reader, &mut writer))
-}
-
-fn merge_standard_input(rt: &(impl Input + Print + AllocGlobal)) -> io::Result<u8>
-    ensures { IfOk result (λ status. status ≤ 3) }
-{
-    let mut reader = BufReader::new(rt.alloc(), rt.reader())?;
-    let mut writer = BufWriter::new(rt.alloc(), io::writer(rt))?;
-    Ok(merge::run_merge(rt.alloc(), &mut reader, &mut writer))
-}
-
-// What fails before a command starts is memory, an argument, or standard output.
-fn end_with(rt: &(impl Print + Eprint), error: &io::Error) -> u8
+/// What fails before a command starts is an allocation, an argument that is no text, or standard output.
+fn end_with<W: Write>(rt: &impl Eprint, writer: &mut WatchedWriter<W>, error: &io::Error) -> u8
     ensures usage { (result ≡ 2) ↔ (error_kind error.now ≡ ErrorKind.InvalidData) }
-    ensures failed { 1 ≤ result }
+    ensures memory { error_kind error.now ≡ ErrorKind.OutOfMemory
+        → Prints (W.contents writer.old.writer) (W.contents writer.new.writer) writer.new.failure
+        result (failure_output (Refused NoMemory)) }
     ensures bound { result ≤ 3 }
 {
     match error.kind() {
-        ErrorKind::OutOfMemory => report(&mut io::writer(rt), &Failure::Refused(Refusal::NoMemory)),
+        ErrorKind::OutOfMemory => conclude(writer, Err(Failure::Refused(Refusal::NoMemory))),
         ErrorKind::InvalidData => {
             let _ = eprintln!(rt; "error: an argument is not UTF-8");
             USAGE_FAULT
         }
-        _ => report(&mut io::writer(rt), &Failure::Write),
+        _ => FAILED,
     }
 }

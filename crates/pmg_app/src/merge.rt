@@ -1,70 +1,61 @@
 //! The command `merge`.
-ghost use Rattle.std.specs.Prelude.{◌≡◌, ◌+◌, ◌≤◌, ◌<◌, ◌^◌, ◌⊎◌, map, length, count_by, IfOk, IfErr, IfSome};
+ghost use Rattle.std.specs.Prelude.{◌≡◌, ◌+◌, ◌≤◌, map, length, count_by, IfOk, IfErr, IfSome, IsNone, IsSome, IsTrue};
 ghost use Rattle.bstr.specs.Text.{lines_of};
 ghost use Rattle.pmg_wire.specs.Reading.{FailsReading};
-ghost use Rattle.pmg_store.specs.Merged.{Merges, merge_of};
-ghost use Rattle.pmg_app.specs.Merge.{is_separator, span, spans_of, decoded_at, decoded_all, text_merge, merge_output};
-ghost use Rattle.pmg_app.specs.Output.{IsFailureStatus, Runs};
+ghost use Rattle.pmg_store.specs.Outcomes.{Dumps};
+ghost use Rattle.pmg_app.specs.Merge.{is_separator, span, spans_of, decoded_at, decoded_all, merge_text, merge_output};
+ghost use Rattle.pmg_app.specs.Output.{IsStatus, Runs};
 
-use crate::reporting::report_merge;
+use crate::reporting::conclude;
 use crate::text::decode_text;
 use bstr::ByteSlice;
-use pmg_store::{Failure, MAX_STREAMS, MergeFailure, merge_streams, read_input};
-use pmg_value::{Fault, Refusal};
-use std::alloc::{AllocError, Global};
+use pmg_store::{Failure, MAX_STREAMS, MOST_READS, WatchedReader, merge_inputs, read_input};
+use pmg_value::{Fault, Refusal, WatchedWriter};
+use std::alloc::Global;
 use std::io::{Read, Write};
 
-const WRITE_FAULT: u8 = 1;
-
-/// Reads hexadecimal text to its end, prints the dump of the streams that it spells, and answers the status. A line
+/// Reads hexadecimal text to its end, prints the dump of the streams that it encodes, and answers the status. A line
 /// `--` ends a stream.
 ///
 /// Nothing is printed before the whole input was read without a fault. Status 1 for a refused input, a read fault and
-/// a write fault, 3 where memory was wanted and not given. A refusal and a read fault print a line, that of a stream's
-/// fault with the stream's number, counted from 1; where the writer fails, nothing more is printed.
-pub fn run_merge<R: Read, W: Write>(alloc: Global, reader: &mut R, writer: &mut W) -> u8
-    ensures printed { IfSome (R.remaining reader.old) (λ text.
-        Runs (W.contents writer.old) (W.contents writer.new) result (merge_output text)) }
-    ensures status { (result ≡ 0) ⊎ IsFailureStatus result }
+/// a write fault, 3 where an allocation failed. A refusal and a read fault print a line, that of a stream's fault with
+/// the stream's number, counted from 1; where the writer fails, nothing more is printed.
+pub fn run_merge<R: Read, W: Write>(
+    alloc: Global,
+    reader: &mut WatchedReader<R>,
+    writer: &mut WatchedWriter<W>,
+) -> u8
+    ensures printed { IfSome (R.remaining reader.old.reader) (λ text.
+        Runs (W.contents writer.old.writer) (W.contents writer.new.writer) reader.new.failure writer.new.failure
+        result (merge_output text)) }
+    ensures flushed { IsNone writer.new.failure → IsTrue writer.new.is_flushed }
+    ensures few { reader.new.reads ≤ reader.old.reads + MOST_READS }
+    ensures status { IsStatus result }
 {
-    let status = print_merge(alloc, reader, writer);
-    match writer.flush() {
-        Ok(()) => status,
-        Err(_) => WRITE_FAULT,
-    }
-}
-
-fn print_merge<R: Read, W: Write>(alloc: Global, reader: &mut R, writer: &mut W) -> u8
-    ensures printed { IfSome (R.remaining reader.old) (λ text.
-        Runs (W.contents writer.old) (W.contents writer.new) result (merge_output text)) }
-    ensures status { (result ≡ 0) ⊎ IsFailureStatus result }
-{
-    match merge_text(alloc, reader, writer) {
-        Ok(()) => 0,
-        Err(failure) => report_merge(writer, &failure),
-    }
+    let outcome = merge_text(alloc, reader, writer);
+    conclude(writer, outcome)
 }
 
 fn merge_text<R: Read, W: Write>(
     alloc: Global,
-    reader: &mut R,
-    writer: &mut W,
-) -> Result<(), MergeFailure>
-    ensures { IfSome (R.remaining reader.old) (λ text.
-        Merges (W.contents writer.old) (W.contents writer.new) result (text_merge text)) }
+    reader: &mut WatchedReader<R>,
+    writer: &mut WatchedWriter<W>,
+) -> Result<(), Failure>
+    ensures dumps { IfSome (R.remaining reader.old.reader) (λ text.
+        Dumps (W.contents writer.old.writer) (W.contents writer.new.writer) result (merge_text text)) }
+    ensures read_fault { IfErr result (λ e. e ≡ Failure.Read → IsSome reader.new.failure) }
+    ensures write_fault { IfErr result (λ e. e ≡ Failure.Write → IsSome writer.new.failure) }
+    ensures few { reader.new.reads ≤ reader.old.reads + MOST_READS }
 {
     let text = read_input(alloc, reader)?;
     if separators(&text) >= MAX_STREAMS {
-        return Err(MergeFailure::Failed(Failure::Refused(Refusal::TooMany)));
+        return Err(Failure::Refused(Refusal::TooMany));
     }
-    let streams = match decode_streams(alloc, &text) {
-        Ok(streams) => streams,
-        Err(refusal) => return Err(MergeFailure::Failed(Failure::Refused(refusal))),
-    };
-    merge_decoded(alloc, &streams, writer)
+    let streams = decode_streams(alloc, &text)?;
+    merge_inputs(alloc, &streams, writer)
 }
 
-// How many lines end a stream.
+/// How many lines end a stream.
 fn separators(text: &[u8]) -> usize
     ensures { result ≡ count_by is_separator (lines_of text.now) }
 {
@@ -73,14 +64,14 @@ fn separators(text: &[u8]) -> usize
         .count()
 }
 
-// Whether the line is `--`, whatever ends it.
+/// Whether the line is `--`, whatever ends it.
 fn is_separator(line: &[u8]) -> bool
     ensures { result ≡ is_separator line.now }
 {
     matches!(line, b"--\n" | b"--" | b"--\r\n" | b"--\r")
 }
 
-// The bytes of each stream. Refused as BadFrame at the first fault of the texts, and as NoMemory.
+/// The bytes of each stream. Refused as BadFrame at the first fault of the texts, and as NoMemory.
 fn decode_streams(alloc: Global, text: &[u8]) -> Result<Vec<Vec<u8>>, Refusal>
     ensures streams { IfOk result (λ streams. decoded_all text.now (spans_of text.now) ≡ Ok (map (λ s. s.items) streams.items)) }
     ensures fault { IfErr result (λ refusal. FailsReading refusal (decoded_all text.now (spans_of text.now))) }
@@ -100,7 +91,7 @@ fn decode_streams(alloc: Global, text: &[u8]) -> Result<Vec<Vec<u8>>, Refusal>
     Ok(streams)
 }
 
-// The bytes of the stream whose text stands there. The offset of a fault counts from the start of the whole input.
+/// The bytes of the stream whose text stands there. The offset of a fault counts from the start of the whole input.
 fn decode_stream(alloc: Global, text: &[u8], start: usize, end: usize) -> Result<Vec<u8>, Refusal>
     requires order { start ≤ end }
     requires within { end ≤ length text.now }
@@ -114,19 +105,4 @@ fn decode_stream(alloc: Global, text: &[u8], start: usize, end: usize) -> Result
         })),
         answer => answer,
     }
-}
-
-// Merges the streams, which are in memory.
-fn merge_decoded<W: Write>(
-    alloc: Global,
-    streams: &[Vec<u8>],
-    writer: &mut W,
-) -> Result<(), MergeFailure>
-    ensures { Merges (W.contents writer.old) (W.contents writer.new) result (merge_of (map (λ s. s.items) streams.now)) }
-{
-    let mut readers = Vec::with_capacity(alloc, streams.len())?;
-    for stream in streams {
-        readers.push(stream.as_slice())?;
-    }
-    merge_streams(alloc, readers, writer)
 }

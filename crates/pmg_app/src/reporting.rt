@@ -1,33 +1,43 @@
-//! The line that a failure prints, and the status that it ends with.
-ghost use Rattle.std.specs.Prelude.{◌≡◌};
-ghost use Rattle.pmg_value.specs.Written.{Writes};
-ghost use Rattle.pmg_app.specs.Output.{failure_status, failure_line, failure_output, in_stream, merge_failure_line, merge_failure_output, IsFailureStatus, Prints};
-ghost use Rattle.pmg_store.specs.declared.failure.MergeFailure.TheVariants.{Faulty};
+//! How a command ends: the line of its failure, the flush, and its status.
+ghost use Rattle.std.specs.Prelude.{◌≡◌, IsNone, IsSome, IsTrue, OnErr};
+ghost use Rattle.std.specs.Io.KnownBytes.{Appends};
+ghost use Rattle.pmg_value.specs.Written.{AppendsFront, Writes};
+ghost use Rattle.pmg_app.specs.Output.{failure_status, failure_line, refusal_line, stream_line, in_stream, outcome_output, IsStatus, Prints};
 
-use pmg_store::{Failure, MergeFailure};
-use pmg_value::{Fault, Refusal, put_number, put_text};
-use std::io;
+use crate::status::{DONE, FAILED, NO_MEMORY};
+use pmg_store::Failure;
+use pmg_value::{Fault, Refusal, WatchedWriter, WriteFault};
 use std::io::Write;
 
-const FAILED: u8 = 1;
-
-const NO_MEMORY: u8 = 3;
-
-/// Prints the failure's line and answers its status. Where the writer fails the status is 1.
-pub fn report<W: Write>(writer: &mut W, failure: &Failure) -> u8
-    ensures printed { Prints (W.contents writer.old) (W.contents writer.new) result (failure_output failure.now) }
-    ensures status { IsFailureStatus result }
+/// Ends a command: prints the line of its failure, if it has one, flushes the writer, and answers the status. Where the
+/// writer has failed the status is 1, and nothing more is printed.
+pub fn conclude<W: Write>(writer: &mut WatchedWriter<W>, outcome: Result<(), Failure>) -> u8
+    ensures printed { Prints (W.contents writer.old.writer) (W.contents writer.new.writer) writer.new.failure
+        result (outcome_output outcome) }
+    ensures kept { IsSome writer.old.failure → IsSome writer.new.failure }
+    ensures flushed { IsNone writer.new.failure → IsTrue writer.new.is_flushed }
+    ensures status { IsStatus result }
 {
-    match write_line(writer, failure) {
-        Ok(()) => status(failure),
-        Err(_) => FAILED,
-    }
+    let status = match outcome {
+        Ok(()) => DONE,
+        Err(failure) => report(writer, &failure),
+    };
+    writer.flush();
+    if writer.has_failed() { FAILED } else { status }
 }
 
-fn status(failure: &Failure) -> u8
+/// Prints the failure's line, unless the writer has failed, and answers the failure's status.
+fn report<W: Write>(writer: &mut WatchedWriter<W>, failure: &Failure) -> u8
+    ensures line { IsNone writer.new.failure
+        → Appends (W.contents writer.old.writer) (W.contents writer.new.writer) (failure_line failure.now) }
+    ensures prefix { AppendsFront (W.contents writer.old.writer) (W.contents writer.new.writer) (failure_line failure.now) }
+    ensures kept { IsSome writer.old.failure → IsSome writer.new.failure }
     ensures value { result ≡ failure_status failure.now }
-    ensures bound { IsFailureStatus result }
+    ensures status { IsStatus result }
 {
+    if !writer.has_failed() {
+        let _ = write_line(writer, failure);
+    }
     match failure {
         Failure::Refused(Refusal::NoMemory) => NO_MEMORY,
         _ => FAILED,
@@ -35,47 +45,51 @@ fn status(failure: &Failure) -> u8
 }
 
 #[tactic(auto, using(pmg_value::proofs::WrittenLemmas::written_in_parts), unfolding(crate::specs::Output::failure_line))]
-fn write_line<W: Write>(writer: &mut W, failure: &Failure) -> io::Result<()>
-    ensures { Writes (W.contents writer.old) (W.contents writer.new) result (failure_line failure.now) }
+fn write_line<W: Write>(writer: &mut WatchedWriter<W>, failure: &Failure) -> Result<(), WriteFault>
+    ensures text { Writes (W.contents writer.old.writer) (W.contents writer.new.writer) result (failure_line failure.now) }
+    ensures failed { OnErr result (IsSome writer.new.failure) }
 {
     match failure {
-        Failure::Refused(refusal) => {
-            put_text(writer, b"refused ")?;
-            refusal.write_text(writer)?;
-            put_text(writer, b"\n")
-        }
-        Failure::Read => put_text(writer, b"read fault\n"),
+        Failure::Refused(refusal) => write_refusal(writer, refusal),
+        Failure::InStream(stream, fault) => write_stream_line(writer, *stream, fault),
+        Failure::Read => writer.put_text(b"read fault\n"),
         Failure::Write => Ok(()),
     }
 }
 
-/// Prints the line of a failed merge and answers its status. Where the writer fails the status is 1.
-pub fn report_merge<W: Write>(writer: &mut W, failure: &MergeFailure) -> u8
-    ensures printed { Prints (W.contents writer.old) (W.contents writer.new) result (merge_failure_output failure.now) }
-    ensures status { IsFailureStatus result }
+#[tactic(auto, using(pmg_value::proofs::WrittenLemmas::written_in_parts), unfolding(crate::specs::Output::refusal_line))]
+fn write_refusal<W: Write>(
+    writer: &mut WatchedWriter<W>,
+    refusal: &Refusal,
+) -> Result<(), WriteFault>
+    ensures text { Writes (W.contents writer.old.writer) (W.contents writer.new.writer) result (refusal_line refusal.now) }
+    ensures failed { OnErr result (IsSome writer.new.failure) }
 {
-    match failure {
-        MergeFailure::Failed(failure) => report(writer, failure),
-        MergeFailure::Faulty(stream, fault) => match write_stream_line(writer, *stream, fault) {
-            Ok(()) | Err(_) => FAILED,
-        },
-    }
+    writer.put_text(b"refused ")?;
+    refusal.write_text(writer)?;
+    writer.put_text(b"\n")
 }
 
-#[tactic(auto, using(pmg_value::proofs::WrittenLemmas::written_in_parts), unfolding(crate::specs::Output::merge_failure_line))]
-fn write_stream_line<W: Write>(writer: &mut W, stream: usize, fault: &Fault) -> io::Result<()>
-    ensures { Writes (W.contents writer.old) (W.contents writer.new) result (merge_failure_line (Faulty stream fault.now)) }
+#[tactic(auto, using(pmg_value::proofs::WrittenLemmas::written_in_parts), unfolding(crate::specs::Output::stream_line))]
+fn write_stream_line<W: Write>(
+    writer: &mut WatchedWriter<W>,
+    stream: usize,
+    fault: &Fault,
+) -> Result<(), WriteFault>
+    ensures text { Writes (W.contents writer.old.writer) (W.contents writer.new.writer) result (stream_line stream fault.now) }
+    ensures failed { OnErr result (IsSome writer.new.failure) }
 {
-    put_text(writer, b"refused ")?;
+    writer.put_text(b"refused ")?;
     Refusal::BadFrame(*fault).write_text(writer)?;
     write_in_stream(writer, stream)
 }
 
 #[tactic(auto, using(pmg_value::proofs::WrittenLemmas::written_in_parts), unfolding(crate::specs::Output::in_stream))]
-fn write_in_stream<W: Write>(writer: &mut W, stream: usize) -> io::Result<()>
-    ensures { Writes (W.contents writer.old) (W.contents writer.new) result (in_stream stream) }
+fn write_in_stream<W: Write>(writer: &mut WatchedWriter<W>, stream: usize) -> Result<(), WriteFault>
+    ensures text { Writes (W.contents writer.old.writer) (W.contents writer.new.writer) result (in_stream stream) }
+    ensures failed { OnErr result (IsSome writer.new.failure) }
 {
-    put_text(writer, b" in stream ")?;
-    put_number(writer, stream as u64)?;
-    put_text(writer, b"\n")
+    writer.put_text(b" in stream ")?;
+    writer.put_number(stream as u64)?;
+    writer.put_text(b"\n")
 }

@@ -1,7 +1,12 @@
-use Rattle.pmg_app.specs.Dump.{dump_output}
-use Rattle.pmg_app.proofs.RunLemmas.{known_runs_failed}
+use Rattle.pmg_store.specs.Outcomes.{or_failure}
+use Rattle.pmg_app.specs.Dump.{dump_text}
+use Rattle.pmg_app.proofs.RunLemmas.{known_runs, told_of}
 use Rattle.pmg_app.proofs.dump.run_dump.Goals as goal
 
-pub returns-in-Err-clause-printed : goal.returns-in-Err-clause-printed
-returns-in-Err-clause-printed g c = known_runs_failed (g.R.Read.remaining c.args.reader.now) (g.W.Write.contents c.args.writer.now) (g.W.Write.contents c.print_dump-status.new.writer)
-    (g.W.Write.contents c.flush.new.self) c.print_dump-status.result dump_output c.flush.ensures.bytes c.print_dump-status.ensures.printed
+pub returns-clause-printed : goal.returns-clause-printed
+returns-clause-printed g c =
+    let told = told_of c.dump_text-outcome.new.reader.failure c.dump_text-outcome.new.writer.failure c.conclude.new.writer.failure c.dump_text-outcome.result
+    c.dump_text-outcome.ensures.read_fault c.dump_text-outcome.ensures.write_fault c.conclude.ensures.kept in
+    known_runs (g.R.Read.remaining c.args.reader.now.reader) (g.W.Write.contents c.args.writer.now.writer) (g.W.Write.contents c.dump_text-outcome.new.writer.writer)
+    (g.W.Write.contents c.conclude.new.writer.writer) c.dump_text-outcome.new.reader.failure c.conclude.new.writer.failure c.conclude.result c.dump_text-outcome.result
+    (λ text. or_failure (dump_text text)) c.dump_text-outcome.ensures.dumps told c.conclude.ensures.printed

@@ -1,7 +1,11 @@
-use Rattle.pmg_app.specs.Merge.{merge_output}
-use Rattle.pmg_app.proofs.RunLemmas.{known_runs_failed}
+use Rattle.pmg_app.specs.Merge.{merge_text}
+use Rattle.pmg_app.proofs.RunLemmas.{known_runs, told_of}
 use Rattle.pmg_app.proofs.merge.run_merge.Goals as goal
 
-pub returns-in-Err-clause-printed : goal.returns-in-Err-clause-printed
-returns-in-Err-clause-printed g c = known_runs_failed (g.R.Read.remaining c.args.reader.now) (g.W.Write.contents c.args.writer.now) (g.W.Write.contents c.print_merge-status.new.writer)
-    (g.W.Write.contents c.flush.new.self) c.print_merge-status.result merge_output c.flush.ensures.bytes c.print_merge-status.ensures.printed
+pub returns-clause-printed : goal.returns-clause-printed
+returns-clause-printed g c =
+    let told = told_of c.merge_text-outcome.new.reader.failure c.merge_text-outcome.new.writer.failure c.conclude.new.writer.failure c.merge_text-outcome.result
+    c.merge_text-outcome.ensures.read_fault c.merge_text-outcome.ensures.write_fault c.conclude.ensures.kept in
+    known_runs (g.R.Read.remaining c.args.reader.now.reader) (g.W.Write.contents c.args.writer.now.writer) (g.W.Write.contents c.merge_text-outcome.new.writer.writer)
+    (g.W.Write.contents c.conclude.new.writer.writer) c.merge_text-outcome.new.reader.failure c.conclude.new.writer.failure c.conclude.result c.merge_text-outcome.result
+    (merge_text) c.merge_text-outcome.ensures.dumps told c.conclude.ensures.printed

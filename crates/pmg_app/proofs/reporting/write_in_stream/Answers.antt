@@ -4,20 +4,24 @@ use Rattle.pmg_value.proofs.WrittenLemmas.{front_of_first, front_of_second, appe
 use Rattle.pmg_app.specs.Output.{in_stream}
 use Rattle.pmg_app.proofs.reporting.write_in_stream.Goals as goal
 
-pub returns-in_err-put_text : goal.returns-in_err-put_text
+pub returns-in_err-put_text-clause-text : goal.returns-in_err-put_text-clause-text
 unfolding in_stream
-returns-in_err-put_text g c = (front_of_first (codes "\n") (front_of_first (decimal c.args.stream) c.in_err-put_text.ensures.0), search rules)
+returns-in_err-put_text-clause-text g c =
+    (front_of_first (codes "\n") (front_of_first (decimal c.args.stream) c.in_err-put_text.ensures.text.0), search rules)
 
-pub returns-in_err-put_number : goal.returns-in_err-put_number
+pub returns-in_err-put_number-clause-text : goal.returns-in_err-put_number-clause-text
 unfolding in_stream
-returns-in_err-put_number g c = (front_of_first (codes "\n") (front_of_second (codes " in stream ") c.in_err-put_number.ensures.0 c.in_ok-put_text.ensures.1), search rules)
+returns-in_err-put_number-clause-text g c =
+    (front_of_first (codes "\n") (front_of_second (codes " in stream ") c.in_err-put_number.ensures.text.0 c.in_ok-put_text.ensures.text.1), search rules)
 
-pub returns : goal.returns
+pub returns-clause-text : goal.returns-clause-text
 unfolding in_stream
-returns g c =
-    let first = appends_then (g.W.Write.contents c.args.writer.now) (g.W.Write.contents c.put_text.new.writer) (g.W.Write.contents c.put_number.new.writer)
-    (codes " in stream ") (decimal c.args.stream) c.in_ok-put_number.ensures.1 c.in_ok-put_text.ensures.1 in (
-      front_of_second (codes " in stream " ++ decimal c.args.stream) c.put_text-2.ensures.0 first,
-      ok_then c.put_text-2.result (g.W.Write.contents c.args.writer.now) (g.W.Write.contents c.put_number.new.writer) (g.W.Write.contents c.put_text-2.new.writer)
-          (codes " in stream " ++ decimal c.args.stream) (codes "\n") c.put_text-2.ensures.1 first,
+returns-clause-text g c =
+    let old = g.W.Write.contents c.args.writer.now.writer in
+    let mid = g.W.Write.contents c.put_number.new.self.writer in
+    let first = appends_then old (g.W.Write.contents c.put_text.new.self.writer) mid (codes " in stream ") (decimal c.args.stream)
+    c.in_ok-put_number.ensures.text.1 c.in_ok-put_text.ensures.text.1 in (
+      front_of_second (codes " in stream " ++ decimal c.args.stream) c.put_text-2.ensures.text.0 first,
+      ok_then c.put_text-2.result old mid (g.W.Write.contents c.put_text-2.new.self.writer)
+          (codes " in stream " ++ decimal c.args.stream) (codes "\n") c.put_text-2.ensures.text.1 first,
     )
