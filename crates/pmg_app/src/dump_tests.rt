@@ -1,5 +1,6 @@
 //! What streams print, from their hexadecimal text: dumps and first faults.
-use crate::dump::run_dump;
+use crate::command::Chosen;
+use crate::tests::run_on;
 
 #[test]
 fn streams_print_their_dump_or_their_first_fault(rt: HostRuntime) {
@@ -68,12 +69,8 @@ fn streams_print_their_dump_or_their_first_fault(rt: HostRuntime) {
         ("010900000000", 1, "refused 10 BadFrame: Kind at 1\n"),
     ];
     for (text, status, want) in cases {
-        let mut printed = Vec::new(rt.alloc());
-        assert_eq!(rt;
-            run_dump(rt.alloc(), &mut text.as_bytes(), &mut printed),
-            status,
-            "{text}"
-        );
+        let (answer, printed) = run_on(rt.alloc(), Chosen::Dump, text.as_bytes());
+        assert_eq!(rt; answer, status, "{text}");
         assert_eq!(rt; printed.as_slice(), want.as_bytes(), "{text}");
     }
 }

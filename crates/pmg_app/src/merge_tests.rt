@@ -1,5 +1,6 @@
 //! What streams merged print, from their hexadecimal text: dumps and first faults, and what separates streams.
-use crate::merge::run_merge;
+use crate::command::Chosen;
+use crate::tests::run_on;
 use std::alloc::AllocError;
 
 #[test]
@@ -24,8 +25,7 @@ fn merged_streams_print_one_dump(rt: HostRuntime) {
         ("--\n--\n--", ""),
     ];
     for (text, want) in cases {
-        let mut printed = Vec::new(rt.alloc());
-        let status = run_merge(rt.alloc(), &mut text.as_bytes(), &mut printed);
+        let (status, printed) = run_on(rt.alloc(), Chosen::Merge, text.as_bytes());
         assert_eq!(rt; printed.as_slice(), want.as_bytes(), "{text}");
         assert_eq!(rt; status, 0, "{text}");
     }
@@ -48,8 +48,7 @@ fn the_first_fault_of_the_first_faulty_stream_is_told(rt: HostRuntime) {
         ("01\n ---\n--\n", "refused 10 BadFrame: Hex at 8\n"),
     ];
     for (text, want) in cases {
-        let mut printed = Vec::new(rt.alloc());
-        let status = run_merge(rt.alloc(), &mut text.as_bytes(), &mut printed);
+        let (status, printed) = run_on(rt.alloc(), Chosen::Merge, text.as_bytes());
         assert_eq!(rt; printed.as_slice(), want.as_bytes(), "{text}");
         assert_eq!(rt; status, 1, "{text}");
     }
@@ -61,16 +60,12 @@ fn sixty_four_streams_are_merged_and_no_more(rt: HostRuntime) -> Result<(), Allo
     for _ in 0..63 {
         text.extend_from_slice(b"--\n")?;
     }
-    let mut printed = Vec::new(rt.alloc());
-    assert_eq!(rt;
-        run_merge(rt.alloc(), &mut text.as_slice(), &mut printed),
-        0
-    );
+    let (status, printed) = run_on(rt.alloc(), Chosen::Merge, text.as_slice());
+    assert_eq!(rt; status, 0);
+    assert!(rt; printed.is_empty());
     text.extend_from_slice(b"--\n0g")?;
-    assert_eq!(rt;
-        run_merge(rt.alloc(), &mut text.as_slice(), &mut printed),
-        1
-    );
+    let (status, printed) = run_on(rt.alloc(), Chosen::Merge, text.as_slice());
+    assert_eq!(rt; status, 1);
     assert_eq!(rt; printed.as_slice(), b"refused 9 TooMany\n".as_slice());
     Ok(())
 }

@@ -1,7 +1,7 @@
 //! Process sets as another server learns of them: what node 0 seals, a store of another node takes.
 use pmg_pset::Sets;
 use pmg_store::Store;
-use pmg_value::{HOST_NAME, Key, Nspace, Proc, Rank, Refusal, Value};
+use pmg_value::{HOST_NAME, Key, Nspace, Proc, Rank, Refusal, Value, WatchedWriter};
 use std::alloc::Global;
 
 // The processes of these ranks of the namespace j.
@@ -34,32 +34,24 @@ fn learn(alloc: Global, sets: &Sets, store: &mut Store) -> Result<u64, Refusal> 
 
 // The text of the set as the store reads it, nothing where it reads none.
 fn read(alloc: Global, store: &Store) -> Result<Vec<u8>, Refusal> {
-    let mut text = Vec::new(alloc);
-    match store
-        .read(&host(alloc)?, &Key::read(alloc, b"fast")?)
-        .map(|value| value.write_text(&mut text))
-    {
-        Some(Err(_)) => Err(Refusal::NoMemory),
-        _ => Ok(text),
+    match store.read(&host(alloc)?, &Key::read(alloc, b"fast")?) {
+        Some(value) => Ok(value.to_text(alloc)?),
+        None => Ok(Vec::new(alloc)),
     }
 }
 
 fn dump(alloc: Global, store: &Store) -> Result<Vec<u8>, Refusal> {
-    let mut text = Vec::new(alloc);
-    match store.dump(&mut text) {
-        Ok(()) => Ok(text),
+    let mut writer = WatchedWriter::new(Vec::new(alloc));
+    match store.dump(&mut writer) {
+        Ok(()) => Ok(writer.into_inner()),
         Err(_) => Err(Refusal::NoMemory),
     }
 }
 
 // The members that the sets have, as a text.
 fn members(alloc: Global, sets: &Sets) -> Result<Vec<u8>, Refusal> {
-    let mut text = Vec::new(alloc);
     let members = sets.members(&Key::read(alloc, b"fast")?)?.copy()?;
-    match Value::Array(members).write_text(&mut text) {
-        Ok(()) => Ok(text),
-        Err(_) => Err(Refusal::NoMemory),
-    }
+    Ok(Value::Array(members).to_text(alloc)?)
 }
 
 #[test]

@@ -1,10 +1,10 @@
 //! What no clause says: that the word `dump` is taken, that input is read and printed, and what readers and
 //! writers that fail leave.
+use crate::carry_out;
 use crate::command::{Chosen, choose};
-use crate::dump::run_dump;
-use crate::merge::run_merge;
 use crate::text::decode_text;
-use pmg_value::Refusal;
+use pmg_store::WatchedReader;
+use pmg_value::{Refusal, WatchedWriter};
 use std::alloc::Global;
 use std::io;
 use std::io::{ErrorKind, Read, Write};
@@ -69,11 +69,68 @@ impl Write for FailingWriter {
     }
 }
 
+// The status that the command ends with, and what it prints, for this text on standard input.
+pub fn run_on(alloc: Global, chosen: Chosen, text: &[u8]) -> (u8, Vec<u8>) {
+    let mut reader = WatchedReader::new(text);
+    let mut writer = WatchedWriter::new(Vec::new(alloc));
+    let status = carry_out(alloc, chosen, &mut reader, &mut writer);
+    (status, writer.into_inner())
+}
+
+// The same with this writer: the status, and the writer.
+fn run_into(
+    alloc: Global,
+    chosen: Chosen,
+    text: &[u8],
+    writer: FailingWriter,
+) -> (u8, FailingWriter) {
+    let mut reader = WatchedReader::new(text);
+    let mut writer = WatchedWriter::new(writer);
+    let status = carry_out(alloc, chosen, &mut reader, &mut writer);
+    (status, writer.into_inner())
+}
+
+// The same with a reader that fails at the read of that number: the status, how often it was read, and what is printed.
+fn run_failing(alloc: Global, chosen: Chosen, fails_at: usize) -> (u8, usize, Vec<u8>) {
+    let mut reader = WatchedReader::new(FailingReader {
+        text: ONE_CONTRIBUTION,
+        reads: 0,
+        fails_at,
+    });
+    let mut writer = WatchedWriter::new(Vec::new(alloc));
+    let status = carry_out(alloc, chosen, &mut reader, &mut writer);
+    (status, reader.reads(), writer.into_inner())
+}
+
 #[test]
-fn the_word_dump_asks_for_the_dump(rt: HostRuntime) -> io::Result<()> {
-    let words = ["pmixgroup", "dump"];
-    assert_eq!(rt; choose(&rt, words.as_slice())?, Chosen::Dump);
+fn words_ask_for_commands_help_and_the_version(rt: HostRuntime) -> io::Result<()> {
+    let cases = [
+        ("dump", Chosen::Dump),
+        ("merge", Chosen::Merge),
+        ("help", Chosen::Shown(0)),
+        ("-h", Chosen::Shown(0)),
+        ("--help", Chosen::Shown(0)),
+        ("--version", Chosen::Shown(0)),
+        ("--nothing", Chosen::Shown(2)),
+        ("frames", Chosen::Shown(2)),
+    ];
+    for (word, want) in cases {
+        let words = ["pmixgroup", word];
+        assert_eq!(rt; choose(&rt, words.as_slice())?, want, "{word}");
+    }
+    assert_eq!(rt; choose(&rt, ["pmixgroup"].as_slice())?, Chosen::Shown(2));
+    assert_eq!(rt;
+        choose(&rt, ["pmixgroup", "dump", "x"].as_slice())?,
+        Chosen::Shown(2)
+    );
     Ok(())
+}
+
+#[test]
+fn what_was_shown_ends_with_its_status(rt: HostRuntime) {
+    let (status, printed) = run_on(rt.alloc(), Chosen::Shown(2), ONE_CONTRIBUTION);
+    assert_eq!(rt; status, 2);
+    assert!(rt; printed.is_empty());
 }
 
 #[test]
@@ -100,98 +157,71 @@ fn a_fault_prints_its_line_alone(rt: HostRuntime) {
         ("030100000000", "refused 10 BadFrame: Version at 0\n"),
     ];
     for (text, want) in cases {
-        let mut printed = Vec::new(rt.alloc());
-        let status = run_dump(rt.alloc(), &mut text.as_bytes(), &mut printed);
+        let (status, printed) = run_on(rt.alloc(), Chosen::Dump, text.as_bytes());
         assert_eq!(rt; printed.as_slice(), want.as_bytes(), "{text}");
         assert_eq!(rt; status, 1, "{text}");
     }
 }
 
 #[test]
-fn failing_readers_and_writers_end_a_merge(rt: HostRuntime) {
-    let mut reader = FailingReader {
-        text: ONE_CONTRIBUTION,
-        reads: 0,
-        fails_at: 3,
-    };
-    let mut printed = Vec::new(rt.alloc());
-    assert_eq!(rt; run_merge(rt.alloc(), &mut reader, &mut printed), 1);
-    assert_eq!(rt; printed.as_slice(), b"read fault\n".as_slice());
-    for writes in 0..5 {
-        let mut writer = FailingWriter::new(rt.alloc(), writes, true);
-        let status = run_merge(rt.alloc(), &mut &*ONE_CONTRIBUTION, &mut writer);
-        assert!(rt;
-            b"proc j 0 level 1\n  bool:true a\n".starts_with(writer.held.as_slice()),
-            "at {writes}"
-        );
-        assert_eq!(rt;
-            status,
-            if writer.held.len() == 31 { 0 } else { 1 },
-            "at {writes}"
-        );
+fn nothing_in_prints_nothing(rt: HostRuntime) {
+    for chosen in [Chosen::Dump, Chosen::Merge] {
+        let (status, printed) = run_on(rt.alloc(), chosen, b"");
+        assert_eq!(rt; status, 0);
+        assert!(rt; printed.is_empty());
     }
 }
 
 #[test]
-fn nothing_in_prints_nothing(rt: HostRuntime) {
-    let mut printed = Vec::new(rt.alloc());
-    assert_eq!(rt; run_dump(rt.alloc(), &mut b"".as_slice(), &mut printed), 0);
-    assert!(rt; printed.is_empty());
-}
-
-#[test]
 fn input_without_end_is_refused(rt: HostRuntime) {
-    let mut printed = Vec::new(rt.alloc());
+    let mut reader = WatchedReader::new(io::repeat(b' '));
+    let mut writer = WatchedWriter::new(Vec::new(rt.alloc()));
     assert_eq!(rt;
-        run_dump(rt.alloc(), &mut io::repeat(b' '), &mut printed),
+        carry_out(rt.alloc(), Chosen::Dump, &mut reader, &mut writer),
         1
     );
     assert_eq!(rt;
-        printed.as_slice(),
+        writer.into_inner().as_slice(),
         b"refused 10 BadFrame: Input at 67108864\n".as_slice()
     );
 }
 
 #[test]
 fn a_failing_reader_prints_read_fault_alone(rt: HostRuntime) {
-    for fails_at in 1..=10 {
-        let mut reader = FailingReader {
-            text: ONE_CONTRIBUTION,
-            reads: 0,
-            fails_at,
-        };
-        let mut printed = Vec::new(rt.alloc());
-        assert_eq!(rt;
-            run_dump(rt.alloc(), &mut reader, &mut printed),
-            1,
-            "at {fails_at}"
-        );
-        assert_eq!(rt;
-            printed.as_slice(),
-            b"read fault\n".as_slice(),
-            "at {fails_at}"
-        );
+    for chosen in [Chosen::Dump, Chosen::Merge] {
+        for fails_at in 1..=10 {
+            let (status, reads, printed) = run_failing(rt.alloc(), chosen, fails_at);
+            assert_eq!(rt; status, 1, "at {fails_at}");
+            assert_eq!(rt; reads, fails_at);
+            assert_eq!(rt;
+                printed.as_slice(),
+                b"read fault\n".as_slice(),
+                "at {fails_at}"
+            );
+        }
     }
 }
 
 #[test]
-fn a_failing_writer_holds_a_front_and_no_line(rt: HostRuntime) {
-    for text in [ONE_CONTRIBUTION, b"010".as_slice()] {
-        let mut whole = Vec::new(rt.alloc());
-        let status = run_dump(rt.alloc(), &mut &*text, &mut whole);
-        for writes in 0..10 {
-            let mut writer = FailingWriter::new(rt.alloc(), writes, true);
-            let failing = run_dump(rt.alloc(), &mut &*text, &mut writer);
-            assert!(rt; whole.starts_with(writer.held.as_slice()), "at {writes}");
-            let is_whole = writer.held.len() == whole.len();
-            assert_eq!(rt; failing, if is_whole { status } else { 1 }, "at {writes}");
+fn a_failing_writer_holds_a_prefix_and_no_line(rt: HostRuntime) {
+    for chosen in [Chosen::Dump, Chosen::Merge] {
+        for text in [ONE_CONTRIBUTION, b"010".as_slice()] {
+            let (status, whole) = run_on(rt.alloc(), chosen, text);
+            for writes in 0..10 {
+                let writer = FailingWriter::new(rt.alloc(), writes, true);
+                let (failing, writer) = run_into(rt.alloc(), chosen, text, writer);
+                assert!(rt; whole.starts_with(writer.held.as_slice()), "at {writes}");
+                let is_whole = writer.held.len() == whole.len();
+                assert_eq!(rt; failing, if is_whole { status } else { 1 }, "at {writes}");
+            }
         }
     }
 }
 
 #[test]
 fn output_that_cannot_be_flushed_is_a_write_fault(rt: HostRuntime) {
-    let mut writer = FailingWriter::new(rt.alloc(), 100, false);
-    assert_eq!(rt; run_dump(rt.alloc(), &mut b"".as_slice(), &mut writer), 1);
+    let writer = FailingWriter::new(rt.alloc(), 100, false);
+    let (status, writer) = run_into(rt.alloc(), Chosen::Dump, b"", writer);
+    assert_eq!(rt; status, 1);
     assert!(rt; writer.held.is_empty());
 }
