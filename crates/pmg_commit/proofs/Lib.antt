@@ -1,4 +1,5 @@
 pub mod CoreOrder
+pub mod GrowthLemmas
 pub mod HonestLaws
 pub mod Joining
 pub mod PieceFacts
