@@ -1,4 +1,4 @@
-ghost use Rattle.std.specs.Prelude.{◌≡◌, ◌≤◌, ℕ, List, [], ◌∷◌, ◌++◌, length, IfOk, OnOk, OnErr};
+ghost use Rattle.std.specs.Prelude.{◌≡◌, ◌≤◌, ℕ, List, [], ◌∷◌, ◌++◌, ◌&&◌, not, nat_lt, length, IfOk, OnOk, OnErr, IsTrue};
 ghost use Rattle.pmg_value.specs.Answers.{Gives};
 ghost use Rattle.pmg_value.specs.declared.refusal.Refusal.TheVariants as refusals;
 ghost use Rattle.pmg_value.specs.Process.{is_client, is_host};
@@ -9,6 +9,7 @@ ghost use Rattle.pmg_commit.specs.Sealed.{
   sealed_with,
   end_of,
   new_answer,
+  are_within,
   can_seal,
   commit_answer,
   seal_answer,
@@ -85,7 +86,7 @@ impl Sealer {
     pub fn with_commit(&self, batch: &Batch) -> Result<Sealer, Refusal>
         ensures { Gives (λ z. z) result (commit_answer self.now batch.now) }
     {
-        if self.ended || self.level >= MAX_COMMIT - 1 {
+        if !self.goes_on() {
             return Err(Refusal::TooMany);
         }
         if !self.near.can_take(batch.near()) || !self.far.can_take(batch.far()) {
@@ -117,17 +118,22 @@ impl Sealer {
         Ok(self.level())
     }
 
+    /// Whether the process can make a commit more: it has not ended, and there is a number left beside that of its end.
+    fn goes_on(&self) -> bool
+        ensures value { result ≡ (not self.now.ended && nat_lt self.now.level 4294967294) }
+        ensures within { IsTrue result → IsTrue (are_within self.now.near && are_within self.now.far) }
+    {
+        !self.ended && self.level < MAX_COMMIT - 1
+    }
+
     /// Whether the next commit can seal one put with PMIX_GLOBAL, of a value of that many canonical bytes under the key.
     /// It takes no memory.
     pub fn can_seal_put(&self, key: &Key, size: usize) -> bool
-        requires { size ≤ 1048577 }
+        requires { size ≤ 1048576 }
         ensures { (bytes : List ℕ) → length bytes ≡ size
             → result ≡ can_seal self.now (global_put key.now bytes) }
     {
-        if self.ended || self.level >= MAX_COMMIT - 1 {
-            return false;
-        }
-        self.near.can_take_one(key, size) && self.far.can_take_one(key, size)
+        self.goes_on() && self.near.can_take_one(key, size) && self.far.can_take_one(key, size)
     }
 
     /// The sealer once the process has ended, by its last commit, by which others learn of it: it seals the key

@@ -234,14 +234,18 @@ impl Stamps {
         if puts.len() > MAX_KEYS {
             return false;
         }
-        self.has_room(self.new_keys(puts), puts_size(puts), self.replaced_size(puts))
+        self.has_room(
+            self.new_keys(puts),
+            puts_size(puts),
+            self.replaced_size(puts),
+        )
     }
 
     /// Whether there would be no more keys and bytes than a sealer may have, once a commit seals a value of that many
     /// canonical bytes under the key, and nothing else. It takes no memory.
     pub fn can_take_one(&self, key: &Key, size: usize) -> bool
         requires within { IsTrue (are_within self.now) }
-        requires small { size ≤ 1048577 }
+        requires small { size ≤ 1048576 }
         ensures { (n : ℕ) (bytes : List ℕ) → length bytes ≡ size
             → result ≡ are_within (stamped n (finite.insert finite.empty key.now bytes) self.now) }
     {
