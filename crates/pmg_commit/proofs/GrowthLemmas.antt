@@ -5,7 +5,6 @@ use Rattle.std.specs.FinMap.Entries.{put}
 use Rattle.std.specs.List.{sum_by, AllByRecursion}
 use Rattle.std.specs.List.Sorted.{IsStrictlySortedBy}
 use Rattle.std.specs.Map.{keys_of}
-use Rattle.std.specs.declared.cmp.Ordering.{Ordering}
 use Rattle.std.specs.declared.cmp.Ordering.TheVariants.{Less}
 use Rattle.std.specs.Ordering.{nat_cmp, eq_by_cmp, is_eq}
 use Rattle.std.specs.Cmp.{eq_by_cmp_equiv}
@@ -19,7 +18,7 @@ use Rattle.pmg_scope.specs.Rows.{IsRising, counted_by, table_of}
 use Rattle.pmg_scope.proofs.RowLemmas.{shown, entries_of_nothing}
 use Rattle.pmg_scope.proofs.SumLemmas.{sum_put}
 use Rattle.pmg_commit.specs.Growth.{counted_at, new_keys, replaced_size, puts_size}
-use Rattle.pmg_commit.specs.Sealed.{Stamp, Stamps, stamp_all, stamped, stamp_size, stamps_size, are_within}
+use Rattle.pmg_commit.specs.Sealed.{Stamp, Stamps, stamp_all, stamped, stamps_size, are_within}
 use Rattle.pmg_commit.proofs.StampLemmas.{stamped-rising}
 
 abbrev Puts : Type 0

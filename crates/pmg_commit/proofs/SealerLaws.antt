@@ -42,13 +42,13 @@ module _ {X : Type 0} where
       ∙ not_there k fs (t_second (is_lt (slice_cmp nat_cmp k f.0)) (below_all (slice_cmp nat_cmp) k fs) below)
 
   -- so the first row's key is in no other
-  not_again : (e : List ℕ × X) (es : List (List ℕ × X)) → T (is_sorted (slice_cmp nat_cmp) (e ∷ es)) → (q : List ℕ) → eq_by_cmp (slice_cmp nat_cmp) q e.0 ≡ true
+  pub not_again : (e : List ℕ × X) (es : List (List ℕ × X)) → T (is_sorted (slice_cmp nat_cmp) (e ∷ es)) → (q : List ℕ) → eq_by_cmp (slice_cmp nat_cmp) q e.0 ≡ true
       → find (slice_cmp nat_cmp) q es ≡ None
   not_again e es sorted q same =
       ap (λ (k : List ℕ). find (slice_cmp nat_cmp) k es) (exact_bytes q e.0 ((Equal-is _).0 same))
       ∙ not_there e.0 es (t_first (below_all (slice_cmp nat_cmp) e.0 es) (is_sorted (slice_cmp nat_cmp) es) sorted)
 
-  others_sorted : (e : List ℕ × X) (es : List (List ℕ × X)) → T (is_sorted (slice_cmp nat_cmp) (e ∷ es)) → T (is_sorted (slice_cmp nat_cmp) es)
+  pub others_sorted : (e : List ℕ × X) (es : List (List ℕ × X)) → T (is_sorted (slice_cmp nat_cmp) (e ∷ es)) → T (is_sorted (slice_cmp nat_cmp) es)
   others_sorted e es = t_second (below_all (slice_cmp nat_cmp) e.0 es) (is_sorted (slice_cmp nat_cmp) es)
 
   -- under a row's key its value is found, and what is found is a row

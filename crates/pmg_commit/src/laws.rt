@@ -20,6 +20,7 @@ ghost use Rattle.pmg_commit.specs.Rules.{
 };
 ghost use Rattle.pmg_commit.specs.SealerRules.{
   BatchFits,
+  AnyBatchFits,
   NewSealerFits,
   SealFits,
   EndFits,
@@ -72,6 +73,7 @@ pub fn honest_rules()
 /// that fits has for the others; its pieces are honest; and a process and its script have one sealer.
 pub fn sealer_rules()
     ensures batch_fits { BatchFits }
+    ensures any_batch_fits { AnyBatchFits }
     ensures new_fits { NewSealerFits }
     ensures seal_fits { SealFits }
     ensures end_fits { EndFits }

@@ -1,7 +1,5 @@
 ghost use Rattle.std.specs.Prelude.{◌≡◌, ◌≤◌, ℕ, List, [], ◌∷◌, ◌++◌, ◌&&◌, not, nat_lt, length, IfOk, OnOk, OnErr, IsTrue};
 ghost use Rattle.pmg_value.specs.Answers.{Gives};
-ghost use Rattle.pmg_value.specs.declared.refusal.Refusal.TheVariants as refusals;
-ghost use Rattle.pmg_value.specs.Process.{is_client, is_host};
 ghost use Rattle.pmg_scope.specs.Rows.{IsRising, rows_of, table_of};
 ghost use Rattle.pmg_scope.specs.Cached.{global_put};
 ghost use Rattle.pmg_scope.specs.Scripts.{Call, Script};

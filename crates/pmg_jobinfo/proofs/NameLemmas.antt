@@ -1,6 +1,6 @@
 -- The names of nodes and namespaces are texts; names by reference.
 use Rattle.std.proofs.Common.{◌≡◌, ℕ, ◌≤◌, ◌<◌, Bool, true, false, cond, ◌&&◌, ◌||◌, List, [], ◌∷◌, map, length, get_or, IsTrue, refl, sym, ap, ◌∙◌, arith, zero, suc, Bor}
-use Rattle.std.specs.Prelude.{nat_lt, nat_le, nat_eq, ◌+◌, Some, None}
+use Rattle.std.specs.Prelude.{nat_lt, nat_le, nat_eq, Some, None}
 use Rattle.std.specs.List.{list_all, list_any, position_or_len}
 use Rattle.std.specs.Option.{is_none}
 use Rattle.std.specs.Set.{unique_keys, distinct_count}

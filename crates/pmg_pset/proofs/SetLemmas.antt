@@ -1,5 +1,5 @@
 -- What is kept of the sets, from change to change.
-use Rattle.std.proofs.Common.{◌≡◌, inl, inr, ℕ, suc, ◌≤◌, nat_lt, nat_le, not, length, arith, Bool, true, false, ◌&&◌, ◌||◌, cond, List, [], ◌∷◌, map, Option, Some, None, is_some, Result, Ok, Err, refl, sym, ap, subst, ◌∙◌}
+use Rattle.std.proofs.Common.{◌≡◌, inl, inr, ℕ, suc, ◌≤◌, nat_lt, nat_le, not, length, arith, Bool, true, false, ◌&&◌, cond, List, [], ◌∷◌, map, Option, Some, None, is_some, Result, Ok, Err, refl, sym, ap, subst, ◌∙◌}
 use Rattle.std.specs.Prelude.{if◌then◌else◌}
 use Rattle.std.specs.FinMap as finite
 use Rattle.std.specs.FinMap.Entries.{find, put, by_order}
@@ -26,7 +26,7 @@ use Rattle.pmg_commit.specs.Stamped.{stamp_of}
 use Rattle.pmg_commit.proofs.GrowthLemmas.{stamped_one}
 use Rattle.pmg_commit.proofs.SealerLaws.{find_in_rows}
 use Rattle.pmg_pset.specs.Members.{no_members, proc_bytes, are_procs, live_of}
-use Rattle.pmg_pset.specs.Refusing.{are_too_many, is_full, change_answer, delete_cause}
+use Rattle.pmg_pset.specs.Refusing.{is_full, change_answer, delete_cause}
 use Rattle.pmg_pset.specs.Sets.{AreSets, are_sets, changed, host, live_in, is_live, live_names}
 use Rattle.pmg_pset.proofs.MemberLemmas.{bytes_of_procs}
 

@@ -1,4 +1,4 @@
-use Rattle.std.proofs.Common.{arith, ◌∙◌}
+use Rattle.std.proofs.Common.{arith}
 use Rattle.pmg_pset.proofs.MemberLemmas.{none_counted, none_sized, some_sized}
 use Rattle.pmg_pset.proofs.members.array_size.Goals as goal
 

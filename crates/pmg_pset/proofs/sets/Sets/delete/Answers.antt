@@ -1,4 +1,4 @@
-use Rattle.std.proofs.Common.{◌≡◌, [], ◌∷◌, ◌++◌, sym, subst}
+use Rattle.std.proofs.Common.{[], ◌∷◌, ◌++◌, subst}
 use Rattle.pmg_commit.specs.Sealed.{Sealed}
 use Rattle.pmg_commit.specs.SealerRules.{FitsSealer}
 use Rattle.pmg_pset.specs.Changes.{deletion, script_of}

@@ -1,10 +1,10 @@
-use Rattle.std.proofs.Common.{◌≡◌, Ok, Result, subst, ap, sym, ◌∙◌}
+use Rattle.std.proofs.Common.{◌≡◌, Ok, Result, ap, sym, ◌∙◌}
 use Rattle.pmg_value.specs.Elements.{Elements}
 use Rattle.pmg_value.specs.Spelling.{spelling}
 use Rattle.pmg_value.specs.declared.refusal.Refusal.{Refusal}
 use Rattle.pmg_value.specs.declared.value.Value.TheVariants as values
-use Rattle.pmg_scope.specs.Cached.{Unsealed, global_put}
-use Rattle.pmg_commit.specs.Sealed.{Sealed, commit_answer}
+use Rattle.pmg_scope.specs.Cached.{global_put}
+use Rattle.pmg_commit.specs.Sealed.{commit_answer}
 use Rattle.pmg_pset.specs.Members.{proc_array, proc_bytes}
 use Rattle.pmg_pset.proofs.SetLemmas.{changed_are_sets}
 use Rattle.pmg_pset.proofs.sets.Sets.with_change.Goals as goal
