@@ -16,9 +16,9 @@ use Rattle.pmg_commit.specs.Levels.{level}
 use Rattle.pmg_commit.specs.LevelLaws.{level_is}
 use Rattle.pmg_commit.specs.Knowledge.{Contribution, knowledge_of, read}
 use Rattle.pmg_commit.specs.CoreLaws.{Has, has_union, union_has_left, union_has_right}
-use Rattle.pmg_commit.specs.Honest.{IsHonest, known_from, HonestReading, EqualLevelsReadAlike, HonestStays, HonestIsOne}
+use Rattle.pmg_commit.specs.Honest.{IsHonest, known_from, HonestReading, EqualLevelsReadAlike, HonestStays, HonestIsOne, LevelIsMade}
 use Rattle.pmg_commit.proofs.ReadLaws.{IsLatest, NoneReadable, read_latest, read_none}
-use Rattle.pmg_commit.proofs.Rules.{numbers_are_between}
+use Rattle.pmg_commit.proofs.Rules.{numbers_of_one}
 
 -- ---- what several contributions add up to
 
@@ -34,10 +34,6 @@ entry_of_one c e h = in_from_list entries_total exact_entries c.entries e h
 one_has_entry : (c : Contribution) (e : Entry) → In e c.entries → Has (knowledge_of c) e
 unfolding knowledge_of
 one_has_entry c e i = from_list_in entries_total exact_entries c.entries e i
-
-numbers_of_one : (c : Contribution) (n : ℕ) → set.contains (knowledge_of c).numbers n ≡ (nat_lt c.from n && nat_le n c.to)
-unfolding knowledge_of
-numbers_of_one c n = numbers_are_between c.from c.to n
 
 entry_from : (cs : List Contribution) (e : Entry) → Has (known_from cs) e → (c : Contribution) × In c cs × In e c.entries
 entry_from [] e h = absurd (false≢true (sym (set.contains-empty _ e) ∙ h))
@@ -175,3 +171,14 @@ honest_is_one s r c d a b from to e = (
       let told = (b.entries e).0 i in
       (a.entries e).1 (subst (λ (n : ℕ). IsSealed s r e.key n e.number e.bytes) (sym to) told.0, subst (λ (n : ℕ). n < e.number) (sym from) told.1),
 )
+
+pub level_is_made : LevelIsMade
+level_is_made s r cs honest =
+    let n : ℕ = level (known_from cs).numbers in
+    elim (cases_lt 0 n) [
+      | inl some ↦
+          let found = covered cs n ((level_is (known_from cs).numbers).0 n some (omega arith)) in
+          let made = (each_of (IsHonest s r) cs found.0 honest found.1).made in
+          omega (arith, found.3, made)
+      | inr none ↦ omega (arith, none)
+    ]

@@ -1,4 +1,6 @@
+pub mod BatchLaws
 pub mod CoreOrder
+pub mod GrowthLemmas
 pub mod HonestLaws
 pub mod Joining
 pub mod PieceFacts

@@ -1,16 +1,16 @@
 -- The rules of knowledge, in the words of their statements.
-use Rattle.std.proofs.Common.{ℕ, zero, suc, ◌≡◌, Bool, false, nat_lt, nat_le, ◌&&◌, ◌||◌, not, List, Option, inl, inr, None, Some, sym, ap, subst, ◌∙◌, arith}
+use Rattle.std.proofs.Common.{ℕ, zero, suc, ◌≡◌, ◌+◌, ◌<◌, Bool, false, nat_lt, nat_le, ◌&&◌, ◌||◌, not, List, Option, inl, inr, None, Some, sym, ap, subst, ◌∙◌, arith}
 use Rattle.std.specs.Ordering.{nat_cmp, eq_by_cmp}
 use Rattle.std.specs.FinSet as set
 use Rattle.std.proofs.lemmas.Cmp.{nat_cmp_total}
-use Rattle.std.proofs.lemmas.Bool.{false≢true, false_from_ne_true}
+use Rattle.std.proofs.lemmas.Bool.{false≢true, false_from_ne_true, and_from, or_right, cases_lt, lt-ltb, le-leb}
 use Rattle.std.proofs.lemmas.Bool.Decides.{nat_tests}
 use Rattle.pmg_commit.specs.EntryOrder.{is_later-Decides, is_readable-Decides, is_superseded-Decides}
 use Rattle.pmg_commit.specs.Levels.{level}
 use Rattle.pmg_commit.specs.LevelLaws.{level_is, level_unique}
-use Rattle.pmg_commit.specs.Knowledge.{numbers_to, numbers_between, read}
+use Rattle.pmg_commit.specs.Knowledge.{Contribution, numbers_to, numbers_between, knowledge_of, union, read}
 use Rattle.pmg_commit.specs.CoreLaws.{level-union, numbers-core, core_keeps}
-use Rattle.pmg_commit.specs.Rules.{NumbersBetween, LevelIsReach, LevelGrows, ReadIsLatest, ReadIsNone, CoreReadsAlike, CoreIsLeast, AlikeNow}
+use Rattle.pmg_commit.specs.Rules.{NumbersBetween, LevelIsReach, LevelGrows, LevelReaches, ReadIsLatest, ReadIsNone, CoreReadsAlike, CoreIsLeast, AlikeNow}
 use Rattle.pmg_commit.proofs.ReadLaws.{latest_of, read_latest, read_none, read-core}
 
 tie_up : (n m : ℕ) (rest : Bool) → rest ≡ (nat_lt 0 n && nat_le n m) → (eq_by_cmp nat_cmp n (suc m) || rest) ≡ (nat_lt 0 n && nat_le n (suc m))
@@ -34,11 +34,27 @@ numbers_are_between from to n =
     ∙ (λ i. contains-numbers_to to n i && not (contains-numbers_to from n i))
     ∙ apart from to n
 
+-- the numbers of one contribution
+pub numbers_of_one : (c : Contribution) (n : ℕ) → set.contains (knowledge_of c).numbers n ≡ (nat_lt c.from n && nat_le n c.to)
+unfolding knowledge_of
+numbers_of_one c n = numbers_are_between c.from c.to n
+
 pub level_is_reach : LevelIsReach
 level_is_reach numbers = (level_is numbers, level_unique numbers)
 
 pub level_grows : LevelGrows
 level_grows k l = level-union k l
+
+pub level_reaches : LevelReaches
+level_reaches k c h =
+    let m : ℕ = level (union k (knowledge_of c)).numbers in
+    elim (cases_lt m c.to) [
+      | inl past ↦
+          let above : c.from < m + 1 = omega (arith, h, level-union k (knowledge_of c)) in
+          let own = numbers_of_one c (m + 1) ∙ and_from (nat_lt c.from (m + 1)) (nat_le (m + 1) c.to) (lt-ltb c.from (m + 1) above) (le-leb (m + 1) c.to (omega (arith, past))) in
+          absurd (false≢true (sym (level_is (union k (knowledge_of c)).numbers).1 ∙ (set.contains-union nat_cmp_total k.numbers (knowledge_of c).numbers (m + 1) ∙ or_right _ _ own)))
+      | inr within ↦ within
+    ]
 
 pub read_is_latest : ReadIsLatest
 read_is_latest k key e h r last =

@@ -1,5 +1,6 @@
 -- A sealer and a script, call by call.
-use Rattle.std.proofs.Common.{◌≡◌, ◌⊎◌, ◌↔◌, inl, inr, ℕ, zero, suc, ◌+◌, ◌<◌, Bool, true, false, cond, ◌||◌, nat_lt, T, List, [], ◌∷◌, ◌++◌, filter, Option, Some, None, refl, sym, ap, subst, ◌∙◌, arith}
+use Rattle.std.proofs.Common.{◌≡◌, ◌⊎◌, ◌↔◌, inl, inr, ℕ, zero, suc, ◌+◌, ◌<◌, Bool, true, false, cond, ◌||◌, nat_lt, T, List, [], ◌∷◌, ◌++◌, filter, Option, Some, None, Result, Ok, Err, refl, sym, ap, subst, ◌∙◌, arith}
+use Rattle.std.specs.Prelude.{if◌then◌else◌}
 use Rattle.std.specs.FinMap as finite
 use Rattle.std.specs.FinMap.Entries.{find, below_all, is_sorted}
 use Rattle.std.specs.declared.cmp.Ordering.{Ordering}
@@ -7,25 +8,27 @@ use Rattle.std.specs.Ordering.{nat_cmp, is_lt, is_eq, eq_by_cmp}
 use Rattle.std.specs.Cmp.{Equal-is}
 use Rattle.std.specs.Cmp.Lexicographic.{slice_cmp, nat_list_cmp_total}
 use Rattle.std.proofs.Math.Nat.{eq-or-lt_of_le}
-use Rattle.std.proofs.lemmas.Bool.{or_right, ltb-true, lt-ltb}
+use Rattle.std.proofs.lemmas.Bool.{or_right, and_parts, not-true, ltb-true, lt-ltb}
 use Rattle.std.proofs.lemmas.Cmp.{tied_itself}
 use Rattle.std.proofs.lemmas.Map.Lookups.{exact_bytes}
 use Rattle.std.proofs.lemmas.Map.Text.{is_eq-slice_cmp}
 use Rattle.pmg_value.specs.Lists.{In}
+use Rattle.pmg_value.specs.declared.refusal.Refusal.{Refusal}
+use Rattle.pmg_value.specs.declared.refusal.Refusal.TheVariants as refusals
 use Rattle.pmg_value.proofs.ListLemmas.{in_map, in_map_from}
 use Rattle.pmg_scope.specs.declared.scope.Reach.{Reach}
 use Rattle.pmg_scope.specs.declared.scope.Reach.TheVariants as reach
 use Rattle.pmg_scope.specs.Scripts.{Call, Script, has_end, has_commit, ended, count_commits, commits, term_key, term_put, put_of, last_put}
 use Rattle.pmg_scope.specs.Sealing.{part, part_of, IsSealed}
-use Rattle.pmg_scope.specs.Cached.{Table}
+use Rattle.pmg_scope.specs.Cached.{Table, Unsealed}
 use Rattle.pmg_scope.proofs.RowLemmas.{same_rows}
 use Rattle.pmg_scope.proofs.SumLemmas.{t_first, t_second, is_less}
 use Rattle.pmg_scope.proofs.ScriptLaws.{by_end, has_commit_first, count_kept, open_commits, end_is_last}
 use Rattle.pmg_scope.proofs.SealingLaws.{none_earlier, sealed_once, sealed_among_fewer}
 use Rattle.pmg_scope.proofs.CacheLaws.{commit_seals_next}
 use Rattle.pmg_commit.specs.Entries.{Entry}
-use Rattle.pmg_commit.specs.Sealed.{Stamp, Stamps, Sealed, stamp_all, stamped, term_table, stamped_entry, newer_than, stamps_for, is_other}
-use Rattle.pmg_commit.specs.SealerRules.{FitsStamps, FitsSealer, BatchFits, NewSealerFits, SealFits, EndFits, PutSealsNothing, EnterSealsNothing, PiecesAreHonest, SealerIsOne}
+use Rattle.pmg_commit.specs.Sealed.{Stamp, Stamps, Sealed, stamp_all, stamped, sealed_with, ended_with, end_of, can_seal, commit_answer, term_table, stamped_entry, newer_than, stamps_for, is_other}
+use Rattle.pmg_commit.specs.SealerRules.{FitsBatch, FitsStamps, FitsSealer, BatchFits, NewSealerFits, SealFits, EndFits, PutSealsNothing, EnterSealsNothing, PiecesAreHonest, SealerIsOne}
 use Rattle.pmg_commit.proofs.HonestLaws.{not_none, some_is, sealed_still_last, sealed_before_last}
 
 -- ---- rows in the order of their keys have a key once
@@ -39,13 +42,13 @@ module _ {X : Type 0} where
       ∙ not_there k fs (t_second (is_lt (slice_cmp nat_cmp k f.0)) (below_all (slice_cmp nat_cmp) k fs) below)
 
   -- so the first row's key is in no other
-  not_again : (e : List ℕ × X) (es : List (List ℕ × X)) → T (is_sorted (slice_cmp nat_cmp) (e ∷ es)) → (q : List ℕ) → eq_by_cmp (slice_cmp nat_cmp) q e.0 ≡ true
+  pub not_again : (e : List ℕ × X) (es : List (List ℕ × X)) → T (is_sorted (slice_cmp nat_cmp) (e ∷ es)) → (q : List ℕ) → eq_by_cmp (slice_cmp nat_cmp) q e.0 ≡ true
       → find (slice_cmp nat_cmp) q es ≡ None
   not_again e es sorted q same =
       ap (λ (k : List ℕ). find (slice_cmp nat_cmp) k es) (exact_bytes q e.0 ((Equal-is _).0 same))
       ∙ not_there e.0 es (t_first (below_all (slice_cmp nat_cmp) e.0 es) (is_sorted (slice_cmp nat_cmp) es) sorted)
 
-  others_sorted : (e : List ℕ × X) (es : List (List ℕ × X)) → T (is_sorted (slice_cmp nat_cmp) (e ∷ es)) → T (is_sorted (slice_cmp nat_cmp) es)
+  pub others_sorted : (e : List ℕ × X) (es : List (List ℕ × X)) → T (is_sorted (slice_cmp nat_cmp) (e ∷ es)) → T (is_sorted (slice_cmp nat_cmp) es)
   others_sorted e es = t_second (below_all (slice_cmp nat_cmp) e.0 es) (is_sorted (slice_cmp nat_cmp) es)
 
   -- under a row's key its value is found, and what is found is a row
@@ -319,6 +322,32 @@ put_seals_nothing z s scope key value = nothing_sealed z s (Call.put scope key v
 
 pub enter_seals_nothing : EnterSealsNothing
 enter_seals_nothing z s f = nothing_sealed z s (Call.enter f ∷ []) refl refl
+
+taken : (b : Bool) (x w : Sealed) → ◌≡◌ {A = Result Sealed Refusal} (if b then Ok x else Err refusals.TooMany) (Ok w) → (b ≡ true) × (x ≡ w)
+taken true x w h = (refl, cc)
+taken false x w h = absurd cc
+
+-- a commit that was taken goes on with the script
+pub commit_goes_on : (z w : Sealed) (b : Unsealed) (s : Script) → commit_answer z b ≡ Ok w → FitsBatch b s → FitsSealer z s → FitsSealer w (s ++ Call.commit ∷ [])
+commit_goes_on z w b s is batch fits =
+    let made = taken (can_seal z b) (sealed_with z b) w is in
+    let going : z.ended ≡ false = not-true z.ended (and_parts _ _ (and_parts _ _ (and_parts _ _ made.0).0).0).0 in
+    subst (λ (x : Sealed). FitsSealer x (s ++ Call.commit ∷ [])) made.1 (seal_fits z b s (sym fits.ended ∙ going) batch fits)
+
+-- and so does an end, also where the process had ended
+pub end_goes_on : (z : Sealed) (s : Script) → FitsSealer z s → FitsSealer (end_of z) (s ++ Call.terminate ∷ [])
+end_goes_on z s fits = by_ended z.ended refl
+  where
+    by_ended : (b : Bool) → z.ended ≡ b → FitsSealer (cond b z (ended_with z)) (s ++ Call.terminate ∷ [])
+    by_ended true e =
+        let same : commits (s ++ Call.terminate ∷ []) ≡ commits s = end_is_last s (Call.terminate ∷ []) (sym fits.ended ∙ e) in
+        record {
+          ended = e ∙ sym (has_end_now s);
+          level = fits.level ∙ sym same;
+          near = stamps_stay z.near s (Call.terminate ∷ []) reach.Near same fits.near;
+          far = stamps_stay z.far s (Call.terminate ∷ []) reach.Far same fits.far;
+        }
+    by_ended false e = end_fits z s (sym fits.ended ∙ e) fits
 
 fits_for : (z : Sealed) (s : Script) (r : Reach) → FitsSealer z s → is_other r ≡ true → FitsStamps (stamps_for z r) s r
 fits_for z s reach.Own fits other = absurd cc

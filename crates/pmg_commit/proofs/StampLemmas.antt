@@ -1,6 +1,7 @@
 -- Stamps in memory.
-use Rattle.std.proofs.Common.{◌≡◌, ℕ, nat_lt, List, map, sym, ap, ◌∙◌}
+use Rattle.std.proofs.Common.{◌≡◌, ℕ, nat_lt, List, map, Option, Some, None, is_some, sym, ap, ◌∙◌}
 use Rattle.std.specs.List.{filter}
+use Rattle.std.specs.Option.{option_map}
 use Rattle.pmg_value.specs.Spelling.{spelling}
 use Rattle.pmg_value.specs.declared.value.Value.{Value}
 use Rattle.pmg_scope.specs.Rows.{IsRising, rows_of, table_of}
@@ -21,3 +22,8 @@ newer-rising from rows m rising same =
 pub stamped-rising : (n : ℕ) (puts : List (List ℕ × Value)) (m : Stamps) → IsRising puts → stamp_all n m (shown spelling puts) ≡ stamped n (table_of puts) m
 unfolding stamped
 stamped-rising n puts m rising = ap (stamp_all n m) (sym (entries_rising spelling puts rising))
+
+-- something is there where something is seen
+pub some_shown : {A B : Type 0} (f : A → B) (o : Option A) (b : Option B) → option_map f o ≡ b → is_some o ≡ is_some b
+some_shown f None b e = ap is_some e
+some_shown f (Some x) b e = ap is_some e

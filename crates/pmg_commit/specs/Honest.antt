@@ -40,3 +40,7 @@ abbrev pub HonestIsOne : Type 0
 HonestIsOne =
     (s : Script) (r : Reach) (c d : Contribution) → IsHonest s r c → IsHonest s r d → c.from ≡ d.from → c.to ≡ d.to
     → (e : Entry) → In e c.entries ↔ In e d.entries
+
+-- The level of honest knowledge is the number of a commit that was made, or 0; so the values at it stay.
+abbrev pub LevelIsMade : Type 0
+LevelIsMade = (s : Script) (r : Reach) (cs : List Contribution) → Each (IsHonest s r) cs → level (known_from cs).numbers ≤ commits s

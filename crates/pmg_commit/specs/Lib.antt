@@ -1,5 +1,6 @@
 pub mod Entries
 pub mod EntryOrder
+pub mod Growth
 pub mod Honest
 pub mod Levels
 pub mod LevelLaws

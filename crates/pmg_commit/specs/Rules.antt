@@ -21,6 +21,10 @@ LevelIsReach = (numbers : set.FinSet nat_cmp) → IsReach (set.contains numbers)
 abbrev pub LevelGrows : Type 0
 LevelGrows = (k l : Knowledge) → level k.numbers ≤ level (union k l).numbers
 
+-- a contribution that begins no later than the level raises it to its end
+abbrev pub LevelReaches : Type 0
+LevelReaches = (k : Knowledge) (c : Contribution) → c.from ≤ level k.numbers → c.to ≤ level (union k (knowledge_of c)).numbers
+
 -- a readable entry that no readable entry is later than is what is read
 abbrev pub ReadIsLatest : Type 0
 ReadIsLatest =

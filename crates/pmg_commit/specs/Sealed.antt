@@ -99,11 +99,18 @@ stamps_size m = sum_by stamp_size (finite.entries m)
 abbrev pub are_within : Stamps → Bool
 are_within m = nat_le (finite.len m) 65535 && nat_le (stamps_size m) 16000000
 
--- What a commit answers: its number. The number 4,294,967,295 is kept for the end, behind which there is no commit.
+-- The next commit can seal the batch: the process has not ended; the number is not 4,294,967,295, which is kept for the end; and
+-- for each reach the stamps stay within the limits.
+abbrev pub can_seal : Sealed → Unsealed → Bool
+can_seal z b = not z.ended && nat_lt z.level 4294967294 && are_within (sealed_with z b).near && are_within (sealed_with z b).far
+
+-- what a commit gives: the sealer once it is made
+abbrev pub commit_answer : Sealed → Unsealed → Result Sealed Refusal
+commit_answer z b = if can_seal z b then Ok (sealed_with z b) else Err refusals.TooMany
+
+-- and what it answers: its number
 abbrev pub seal_answer : Sealed → Unsealed → Result ℕ Refusal
-seal_answer z b =
-    if not z.ended && nat_lt z.level 4294967294 && are_within (sealed_with z b).near && are_within (sealed_with z b).far then Ok (suc z.level)
-    else Err refusals.TooMany
+seal_answer z b = if can_seal z b then Ok (suc z.level) else Err refusals.TooMany
 
 -- the stamps for a reach, none for the process's own
 abbrev pub stamps_for : Sealed → Reach → Stamps

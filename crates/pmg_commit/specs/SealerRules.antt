@@ -1,9 +1,10 @@
 -- How a sealer and a script go on together.
-use Rattle.std.specs.Prelude.{◌≡◌, ◌↔◌, ℕ, List, [], ◌∷◌, ◌++◌, Some, true, false}
+use Rattle.std.specs.Prelude.{◌≡◌, ◌↔◌, ℕ, List, [], ◌∷◌, ◌++◌, map, Some, None, true, false}
 use Rattle.std.specs.FinMap as finite
 use Rattle.pmg_value.specs.Signatures.{Signature}
 use Rattle.pmg_value.specs.declared.process.Proc.{Proc}
 use Rattle.pmg_scope.specs.declared.scope.Scope.{Scope}
+use Rattle.pmg_scope.specs.declared.scope.Scope.TheVariants as scopes
 use Rattle.pmg_scope.specs.declared.scope.Reach.{Reach}
 use Rattle.pmg_scope.specs.declared.scope.Reach.TheVariants as reach
 use Rattle.pmg_scope.specs.Scripts.{Call, Script, has_end, commits, last_put}
@@ -31,6 +32,18 @@ pub record FitsSealer (z : Sealed) (s : Script) : Type 0 where
 -- what a fitting cache has for the others is a fitting batch
 abbrev pub BatchFits : Type 0
 BatchFits = (c : Cached) (s : Script) → FitsCache c s → FitsBatch (unsealed_of c) s
+
+-- the puts of a batch: for each key one that the other processes on the node see, and one that those on other nodes see
+abbrev pub puts_of : Unsealed → Script
+puts_of b = map (λ e. Call.put scopes.Local e.0 e.1) (finite.entries b.near) ++ map (λ e. Call.put scopes.Remote e.0 e.1) (finite.entries b.far)
+
+-- a script without a put that no commit sealed
+abbrev pub IsAllSealed : Script → Type 0
+IsAllSealed s = (r : Reach) (key : List ℕ) → last_put r key (next_part s) ≡ None
+
+-- any batch fits a script that puts what it has, and nothing else since the last commit
+abbrev pub AnyBatchFits : Type 0
+AnyBatchFits = (b : Unsealed) (s : Script) → IsAllSealed s → FitsBatch b (s ++ puts_of b)
 
 -- a sealer without commits fits a script without calls
 abbrev pub NewSealerFits : Type 0

@@ -1,4 +1,4 @@
-ghost use Rattle.pmg_commit.specs.Honest.{HonestReading, EqualLevelsReadAlike, HonestStays, HonestIsOne};
+ghost use Rattle.pmg_commit.specs.Honest.{HonestReading, EqualLevelsReadAlike, HonestStays, HonestIsOne, LevelIsMade};
 ghost use Rattle.pmg_value.specs.Operations.{IsAssociative, IsCommutative, IsIdempotent};
 ghost use Rattle.pmg_commit.specs.Knowledge.{union};
 ghost use Rattle.pmg_commit.specs.Cores.{join_cores};
@@ -6,6 +6,7 @@ ghost use Rattle.pmg_commit.specs.Rules.{
   NumbersBetween,
   LevelIsReach,
   LevelGrows,
+  LevelReaches,
   ReadIsLatest,
   ReadIsNone,
   CoreReadsAlike,
@@ -19,6 +20,7 @@ ghost use Rattle.pmg_commit.specs.Rules.{
 };
 ghost use Rattle.pmg_commit.specs.SealerRules.{
   BatchFits,
+  AnyBatchFits,
   NewSealerFits,
   SealFits,
   EndFits,
@@ -34,6 +36,7 @@ pub fn knowledge_rules()
     ensures numbers_between { NumbersBetween }
     ensures level_is_reach { LevelIsReach }
     ensures level_grows { LevelGrows }
+    ensures level_reaches { LevelReaches }
     ensures read_is_latest { ReadIsLatest }
     ensures read_is_none { ReadIsNone }
     ensures core_reads_alike { CoreReadsAlike }
@@ -63,12 +66,14 @@ pub fn honest_rules()
     ensures equal_levels_read_alike { EqualLevelsReadAlike }
     ensures honest_stays { HonestStays }
     ensures honest_is_one { HonestIsOne }
+    ensures level_is_made { LevelIsMade }
 {}
 
 /// The rules of a sealer: it fits the script of its calls, commit by commit and through the end, by what a cache
 /// that fits has for the others; its pieces are honest; and a process and its script have one sealer.
 pub fn sealer_rules()
     ensures batch_fits { BatchFits }
+    ensures any_batch_fits { AnyBatchFits }
     ensures new_fits { NewSealerFits }
     ensures seal_fits { SealFits }
     ensures end_fits { EndFits }

@@ -1,9 +1,20 @@
-ghost use Rattle.std.specs.Prelude.{◌≡◌, ◌≤◌, suc, length, IfOk, OnOk, OnErr, IsTrue, if◌then◌else◌};
+ghost use Rattle.std.specs.Prelude.{◌≡◌, ◌≤◌, ℕ, List, [], ◌∷◌, ◌++◌, ◌&&◌, not, nat_lt, length, IfOk, OnOk, OnErr, IsTrue};
 ghost use Rattle.pmg_value.specs.Answers.{Gives};
-ghost use Rattle.pmg_value.specs.declared.refusal.Refusal.TheVariants as refusals;
-ghost use Rattle.pmg_value.specs.Process.{is_client, is_host};
 ghost use Rattle.pmg_scope.specs.Rows.{IsRising, rows_of, table_of};
-ghost use Rattle.pmg_commit.specs.Sealed.{sealed_with, end_of, new_answer, seal_answer, piece_answer, term_table};
+ghost use Rattle.pmg_scope.specs.Cached.{global_put};
+ghost use Rattle.pmg_scope.specs.Scripts.{Call, Script};
+ghost use Rattle.pmg_commit.specs.Sealed.{
+  sealed_with,
+  end_of,
+  new_answer,
+  are_within,
+  can_seal,
+  commit_answer,
+  seal_answer,
+  piece_answer,
+  term_table,
+};
+ghost use Rattle.pmg_commit.specs.SealerRules.{FitsBatch, FitsSealer};
 ghost use Rattle.pmg_commit.specs.Stamped.{CanBeSent, newer_answer, stamp_of};
 
 use crate::piece::{MAX_COMMIT, Piece, commits};
@@ -66,49 +77,98 @@ impl Sealer {
         self.level
     }
 
-    /// Makes the next commit, which seals the batch, and gives its number (PMIx Standard 5.0, PMIx_Commit). An empty
-    /// batch takes a number too. Refused as TooMany where the number would be 4294967295, which is kept for the end, or
-    /// behind the end; where for one reach there would be more than 65535 keys, or more than 16000000 bytes of keys and
-    /// values, ten more counted for each; and as NoMemory. A refused commit changes nothing.
+    /// The sealer once the next commit seals the batch (PMIx Standard 5.0, PMIx_Commit). Refused as TooMany where the
+    /// commit's number would be 4294967295, which is kept for the end, or behind the end; where for one reach there
+    /// would be more than 65535 keys, or more than 16000000 bytes of keys and values, ten more counted for each; and as
+    /// NoMemory.
+    pub fn with_commit(&self, batch: &Batch) -> Result<Sealer, Refusal>
+        ensures { Gives (λ z. z) result (commit_answer self.now batch.now) }
+    {
+        if !self.goes_on() {
+            return Err(Refusal::TooMany);
+        }
+        if !self.near.can_take(batch.near()) || !self.far.can_take(batch.far()) {
+            return Err(Refusal::TooMany);
+        }
+        let level = self.level + 1;
+        let near = self.near.stamped(self.alloc, level, batch.near())?;
+        let far = self.far.stamped(self.alloc, level, batch.far())?;
+        Ok(Sealer {
+            alloc: self.alloc,
+            proc: self.proc.copy()?,
+            level,
+            ended: false,
+            near,
+            far,
+        })
+    }
+
+    /// Makes the next commit, which seals the batch, and gives its number. An empty batch takes a number too. Refused as
+    /// `with_commit` is; a refused commit changes nothing.
     pub fn seal(&mut self, batch: &Batch) -> Result<u64, Refusal>
         ensures answer { Gives (λ n. n) result (seal_answer self.old batch.now) }
         ensures ok { OnOk result (self.new ≡ sealed_with self.old batch.now) }
         ensures err { OnErr result (self.new ≡ self.old) }
+        ensures script { OnOk result ((s : Script) → FitsBatch batch.now s → FitsSealer self.old s
+            → FitsSealer self.new (s ++ Call.commit ∷ [])) }
     {
-        if self.ended || self.level >= MAX_COMMIT - 1 {
-            return Err(Refusal::TooMany);
-        }
-        let number = self.level + 1;
-        let near = self.near.stamped(self.alloc, number, batch.near())?;
-        let far = self.far.stamped(self.alloc, number, batch.far())?;
-        if !near.are_within() || !far.are_within() {
-            return Err(Refusal::TooMany);
-        }
-        self.level = number;
-        self.near = near;
-        self.far = far;
-        Ok(number)
+        *self = self.with_commit(batch)?;
+        Ok(self.level())
     }
 
-    /// Makes the last commit, by which others learn that the process has ended: it seals the key `pmix.term`, true, for
-    /// all of them. Gives its number. A sealer that has ended stays as it is.
+    /// Whether the process can make a commit more: it has not ended, and there is a number left beside that of its end.
+    fn goes_on(&self) -> bool
+        ensures value { result ≡ (not self.now.ended && nat_lt self.now.level 4294967294) }
+        ensures within { IsTrue result → IsTrue (are_within self.now.near && are_within self.now.far) }
+    {
+        !self.ended && self.level < MAX_COMMIT - 1
+    }
+
+    /// Whether the next commit can seal one put with PMIX_GLOBAL, of a value of that many canonical bytes under the key.
+    /// It takes no memory.
+    pub fn can_seal_put(&self, key: &Key, size: usize) -> bool
+        requires { size ≤ 1048576 }
+        ensures { (bytes : List ℕ) → length bytes ≡ size
+            → result ≡ can_seal self.now (global_put key.now bytes) }
+    {
+        self.goes_on() && self.near.can_take_one(key, size) && self.far.can_take_one(key, size)
+    }
+
+    /// The sealer once the process has ended, by its last commit, by which others learn of it: it seals the key
+    /// `pmix.term`, true, for all of them. A sealer that has ended stays as it is.
+    pub fn with_end(&self) -> Result<Sealer, AllocError>
+        ensures { IfOk result (λ z. z ≡ end_of self.now) }
+    {
+        if self.ended {
+            return self.copy();
+        }
+        let level = self.level + 1;
+        let puts = last_puts(self.alloc)?;
+        let near = self.near.stamped(self.alloc, level, &puts)?;
+        let far = self.far.stamped(self.alloc, level, &puts)?;
+        Ok(Sealer {
+            alloc: self.alloc,
+            proc: self.proc.copy()?,
+            level,
+            ended: true,
+            near,
+            far,
+        })
+    }
+
+    /// Makes the last commit, as `with_end` tells, and gives its number. Where memory is wanting nothing changes; a
+    /// sealer that has ended takes none.
     pub fn seal_end(&mut self) -> Result<u64, AllocError>
         ensures number { IfOk result (λ n. n ≡ (end_of self.old).level) }
         ensures ok { OnOk result (self.new ≡ end_of self.old) }
         ensures err { OnErr result (self.new ≡ self.old) }
+        ensures script { OnOk result ((s : Script) → FitsSealer self.old s
+            → FitsSealer self.new (s ++ Call.terminate ∷ [])) }
     {
-        if self.ended {
-            return Ok(self.level);
+        if !self.ended {
+            *self = self.with_end()?;
         }
-        let last = self.level + 1;
-        let puts = last_puts(self.alloc)?;
-        let near = self.near.stamped(self.alloc, last, &puts)?;
-        let far = self.far.stamped(self.alloc, last, &puts)?;
-        self.level = last;
-        self.ended = true;
-        self.near = near;
-        self.far = far;
-        Ok(last)
+        Ok(self.level())
     }
 
     /// What the commits from+1 to the level sealed for that reach. Refused as BadParam where there is no such commit, or

@@ -1,8 +1,9 @@
-ghost use Rattle.std.specs.Prelude.{◌≡◌, ◌≤◌, ◌<◌, ◌^◌, map, IfOk, OnOk};
+ghost use Rattle.std.specs.Prelude.{◌≡◌, ◌+◌, ◌-◌, ◌*◌, ◌≤◌, ◌<◌, ◌&&◌, nat_le, ℕ, List, length, map, IfOk, OnOk, IsTrue};
 ghost use Rattle.std.specs.FinMap as finite;
 ghost use Rattle.pmg_value.specs.Spelling.{spelling};
 ghost use Rattle.pmg_scope.specs.Rows.{IsRising, rows_of, table_of};
 ghost use Rattle.pmg_commit.specs.Pieces.{entry_of};
+ghost use Rattle.pmg_commit.specs.Growth.{counted_at, new_keys, replaced_size, puts_size};
 ghost use Rattle.pmg_commit.specs.Sealed.{stamped, stamps_size, are_within, newer_than};
 ghost use Rattle.pmg_commit.specs.Stamped.{stamp_of};
 
@@ -166,11 +167,91 @@ impl Stamps {
         size
     }
 
-    /// Whether there are no more keys and bytes than a sealer may have.
-    pub fn are_within(&self) -> bool
-        ensures { result ≡ are_within self.now }
+    /// Whether something was sealed under the key.
+    fn has(&self, key: &Key) -> bool
+        ensures { result ≡ finite.contains_key self.now key.now }
     {
-        self.len() <= MAX_KEYS && self.size() <= MAX_CACHE_SIZE
+        self.rows.get(key).is_some()
+    }
+
+    /// What was sealed last under the key counts for, 0 where nothing was.
+    fn counted_at(&self, key: &Key) -> usize
+        ensures value { result ≡ counted_at self.now key.now }
+        ensures bound { result ≤ 1049097 }
+    {
+        match self.rows.get(key) {
+            Some(put) => row_size(key, &put.value),
+            None => 0,
+        }
+    }
+
+    /// How many of the puts have a key under which nothing was sealed.
+    fn new_keys(&self, puts: &[(Key, Value)]) -> usize
+        ensures value { result ≡ new_keys self.now puts.now }
+        ensures bound { result ≤ length puts.now }
+    {
+        let mut keys = 0;
+        for (key, _) in puts {
+            if !self.has(key) {
+                keys += 1;
+            }
+        }
+        keys
+    }
+
+    /// What was sealed last under the keys of the puts counts for.
+    fn replaced_size(&self, puts: &[(Key, Value)]) -> usize
+        requires { length puts.now ≤ 65535 }
+        ensures { result ≡ replaced_size self.now puts.now }
+    {
+        let mut size = 0;
+        for (key, _) in puts {
+            size += self.counted_at(key);
+        }
+        size
+    }
+
+    /// Whether there is room within the limits of a sealer for so many keys more, and for so many bytes, which replace
+    /// others.
+    fn has_room(&self, keys: usize, added: usize, replaced: usize) -> bool
+        requires within { IsTrue (are_within self.now) }
+        requires keys { keys ≤ 65535 }
+        requires added { added ≤ 1049097 * 65535 }
+        requires replaced { replaced ≤ stamps_size self.now + added }
+        ensures { result ≡ (nat_le (finite.len self.now + keys) 65535
+            && nat_le (stamps_size self.now + added - replaced) 16000000) }
+    {
+        self.len() + keys <= MAX_KEYS && self.size() + added - replaced <= MAX_CACHE_SIZE
+    }
+
+    /// Whether there would be no more keys and bytes than a sealer may have, once a commit seals these puts, whose keys
+    /// rise. It takes no memory.
+    pub fn can_take(&self, puts: &[(Key, Value)]) -> bool
+        requires rising { IsRising puts.now }
+        requires within { IsTrue (are_within self.now) }
+        ensures { (n : ℕ) → result ≡ are_within (stamped n (table_of puts.now) self.now) }
+    {
+        if puts.len() > MAX_KEYS {
+            return false;
+        }
+        self.has_room(
+            self.new_keys(puts),
+            puts_size(puts),
+            self.replaced_size(puts),
+        )
+    }
+
+    /// Whether there would be no more keys and bytes than a sealer may have, once a commit seals a value of that many
+    /// canonical bytes under the key, and nothing else. It takes no memory.
+    pub fn can_take_one(&self, key: &Key, size: usize) -> bool
+        requires within { IsTrue (are_within self.now) }
+        requires small { size ≤ 1048576 }
+        ensures { (n : ℕ) (bytes : List ℕ) → length bytes ≡ size
+            → result ≡ are_within (stamped n (finite.insert finite.empty key.now bytes) self.now) }
+    {
+        let keys = if self.has(key) { 0 } else { 1 };
+        let added = 10 + key.as_bytes().len() + size;
+        self.has_room(keys, added, self.counted_at(key))
     }
 
     /// What the commits above that number sealed, in the order of the keys.
@@ -189,4 +270,17 @@ impl Stamps {
         }
         Ok(entries)
     }
+}
+
+/// What the puts count for.
+fn puts_size(puts: &[(Key, Value)]) -> usize
+    requires { length puts.now ≤ 65535 }
+    ensures value { result ≡ puts_size puts.now }
+    ensures bound { result ≤ 1049097 * 65535 }
+{
+    let mut size = 0;
+    for (key, value) in puts {
+        size += row_size(key, value);
+    }
+    size
 }

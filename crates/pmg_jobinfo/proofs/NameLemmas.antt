@@ -1,13 +1,17 @@
 -- The names of nodes and namespaces are texts; names by reference.
 use Rattle.std.proofs.Common.{◌≡◌, ℕ, ◌≤◌, ◌<◌, Bool, true, false, cond, ◌&&◌, ◌||◌, List, [], ◌∷◌, map, length, get_or, IsTrue, refl, sym, ap, ◌∙◌, arith, zero, suc, Bor}
-use Rattle.std.specs.Prelude.{nat_lt, nat_le, Some, None}
+use Rattle.std.specs.Prelude.{nat_lt, nat_le, nat_eq, Some, None}
 use Rattle.std.specs.List.{list_all, list_any, position_or_len}
 use Rattle.std.specs.Option.{is_none}
 use Rattle.std.specs.Set.{unique_keys, distinct_count}
 use Rattle.std.proofs.lemmas.Bool.{and_parts, ne_eqb, leb-true, le-leb, le-ltb}
 use Rattle.std.proofs.lemmas.List.{length-map}
+use Rattle.std.proofs.lemmas.Map.Made.{distinct_count-le}
 use Rattle.pmg_value.specs.Blobs.{is_zero, is_text}
+use Rattle.std.specs.Ordering.{nat_cmp, eq_by_cmp}
+use Rattle.std.specs.Cmp.Lexicographic.{slice_cmp}
 use Rattle.pmg_value.specs.Names.{is_graphic, is_nspace}
+use Rattle.pmg_jobinfo.specs.Refusing.{are_distinct}
 
 no_zero_first : (b : ℕ) → IsTrue (is_graphic b) → is_zero b ≡ false
 no_zero_first b h = ne_eqb b 0 (λ e. let least = leb-true 33 b (and_parts (nat_le 33 b) (nat_le b 126) h).0 in omega (arith, least, e))
@@ -56,3 +60,26 @@ pub name_at : (names : List (Bor (List ℕ))) (i : ℕ) (d : Bor (List ℕ)) →
 name_at [] i d lt h = absurd (omega (arith, lt))
 name_at (n ∷ ns) zero d lt h = (and_parts (is_nspace n.now) (list_all is_nspace (map (λ m. m.now) ns)) h).0
 name_at (n ∷ ns) (suc i) d lt h = name_at ns i d (omega (arith, lt)) (and_parts (is_nspace n.now) (list_all is_nspace (map (λ m. m.now) ns)) h).1
+
+-- ---- names one by one
+
+abbrev same : List ℕ → List ℕ → Bool
+same x y = eq_by_cmp (slice_cmp nat_cmp) x y
+
+few_of_more : (n m : ℕ) → n ≤ m → nat_eq n (suc m) ≡ false
+few_of_more n m le = ne_eqb n (suc m) (λ e. omega (arith, le, e))
+
+one_more_each : (n m : ℕ) → nat_eq (suc n) (suc m) ≡ nat_eq n m
+one_more_each n m = grind arith
+
+-- names of which the first is among the others are not distinct
+pub first_again : (x : List ℕ) (xs : List (List ℕ)) → list_any (same x) xs ≡ true → are_distinct (x ∷ xs) ≡ false
+first_again x xs h =
+    ap (λ (b : Bool). nat_eq (length (cond b (unique_keys same xs) (x ∷ unique_keys same xs))) (suc (length xs))) h
+    ∙ few_of_more (length (unique_keys same xs)) (length xs) (distinct_count-le same xs)
+
+-- and where it is not, they are as distinct as the others
+pub first_apart : (x : List ℕ) (xs : List (List ℕ)) → list_any (same x) xs ≡ false → are_distinct (x ∷ xs) ≡ are_distinct xs
+first_apart x xs h =
+    ap (λ (b : Bool). nat_eq (length (cond b (unique_keys same xs) (x ∷ unique_keys same xs))) (suc (length xs))) h
+    ∙ one_more_each (length (unique_keys same xs)) (length xs)

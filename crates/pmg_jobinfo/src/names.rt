@@ -1,12 +1,13 @@
 //! The names of nodes.
 ghost use Rattle.std.specs.Prelude.{◌≡◌, map, IfOk, IsTrue};
-ghost use Rattle.std.specs.List.{list_all};
+ghost use Rattle.std.specs.List.{list_all, list_any};
 ghost use Rattle.std.specs.Ordering.{nat_cmp, eq_by_cmp};
 ghost use Rattle.std.specs.Cmp.Lexicographic.{slice_cmp};
 ghost use Rattle.std.specs.BTreeSet.{IsFromIterResult};
 ghost use Rattle.pmg_value.specs.Names.{is_nspace};
 ghost use Rattle.pmg_jobinfo.specs.Refusing.{are_distinct, are_names};
 
+use crate::registry::MAX_NODES;
 use pmg_value::{Text, is_nspace_name};
 use std::alloc::{AllocError, Global};
 use std::collections::BTreeSet;
@@ -30,19 +31,49 @@ fn set_of<'a>(alloc: Global, names: &[&'a [u8]]) -> Result<BTreeSet<&'a [u8]>, A
     names.iter().copied().collect(alloc)
 }
 
-/// Whether no two are equal.
-fn are_distinct(alloc: Global, names: &[&[u8]]) -> Result<bool, AllocError>
-    ensures { IfOk result (λ b. b ≡ are_distinct (map (λ n. n.now) names.now)) }
+/// Whether the name is one of the names.
+fn is_among(name: &[u8], names: &[&[u8]]) -> bool
+    ensures { result ≡ list_any (eq_by_cmp (slice_cmp nat_cmp) name.now) (map (λ n. n.now) names.now) }
 {
-    let different = set_of(alloc, names)?;
-    Ok(different.len() == names.len())
+    for other in names {
+        if name == *other {
+            return true;
+        }
+    }
+    false
+}
+
+/// Whether each is none of those behind it. It takes no memory.
+fn are_all_different(names: &[&[u8]]) -> bool
+    ensures { result ≡ are_distinct (map (λ n. n.now) names.now) }
+{
+    for (i, name) in names.iter().enumerate() {
+        if is_among(name, &names[i + 1..]) {
+            return false;
+        }
+    }
+    true
+}
+
+/// Whether no two are equal. Of more names than a group may have a set is made, so that it takes no time to speak of;
+/// where there is no memory for it, they are compared one by one.
+fn are_distinct(alloc: Global, names: &[&[u8]]) -> bool
+    ensures { result ≡ are_distinct (map (λ n. n.now) names.now) }
+{
+    if names.len() <= MAX_NODES {
+        return are_all_different(names);
+    }
+    match set_of(alloc, names) {
+        Ok(different) => different.len() == names.len(),
+        Err(_) => are_all_different(names),
+    }
 }
 
 /// Whether nodes may have these names: each is one, and no two are equal.
-pub fn are_node_names(alloc: Global, names: &[&[u8]]) -> Result<bool, AllocError>
-    ensures { IfOk result (λ b. b ≡ are_names (map (λ n. n.now) names.now)) }
+pub fn are_node_names(alloc: Global, names: &[&[u8]]) -> bool
+    ensures { result ≡ are_names (map (λ n. n.now) names.now) }
 {
-    Ok(are_graphic(names) && are_distinct(alloc, names)?)
+    are_graphic(names) && are_distinct(alloc, names)
 }
 
 /// The names, as texts.

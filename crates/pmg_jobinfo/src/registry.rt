@@ -55,7 +55,7 @@ impl Registry {
     pub fn new(alloc: Global, names: &[&[u8]]) -> Result<Registry, Refusal>
         ensures { Gives (λ r. r) result (first_of (new_cause (map (λ n. n.now) names.now)) (opened (map (λ n. n.now) names.now))) }
     {
-        if names.is_empty() || !are_node_names(alloc, names)? {
+        if names.is_empty() || !are_node_names(alloc, names) {
             return Err(Refusal::BadParam);
         }
         if names.len() > MAX_NODES {

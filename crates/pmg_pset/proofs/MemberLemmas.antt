@@ -1,10 +1,12 @@
 -- Arrays of processes, and their bytes.
-use Rattle.std.proofs.Common.{◌≡◌, ℕ, suc, ◌+◌, ◌<◌, ◌≤◌, Bool, true, false, not, ◌&&◌, ◌||◌, ◌==◌, nat_eq, nat_lt, nat_le, List, [], ◌∷◌, map, length, Some, None, Result, Ok, Err, refl, sym, ap, ◌∙◌, arith}
+use Rattle.std.proofs.Common.{◌≡◌, ℕ, suc, ◌+◌, ◌<◌, ◌≤◌, Bool, true, false, not, ◌&&◌, ◌||◌, ◌==◌, nat_eq, nat_lt, nat_le, List, [], ◌∷◌, map, length, Option, Some, None, Result, Ok, Err, refl, sym, ap, ◌∙◌, arith}
 use Rattle.std.specs.Prelude.{if◌then◌else◌}
-use Rattle.std.specs.List.{starts_with}
+use Rattle.std.specs.Int.{w32, to_be_bytes}
+use Rattle.std.specs.List.{starts_with, sum_by}
 use Rattle.std.specs.Str.{bytes_eq}
-use Rattle.std.proofs.lemmas.Bool.{false≢true, false_from_ne_true, and_parts}
+use Rattle.std.proofs.lemmas.Bool.{false≢true, false_from_ne_true, and_parts, or_parts, or_left, or_right, or_from, le-leb, le-ltb, lt-ltb}
 use Rattle.std.proofs.lemmas.List.{length-append}
+use Rattle.std.proofs.lemmas.List.Sums.{sum_by-cons}
 use Rattle.std.proofs.lemmas.Slice.Eq.{bytes_eq-Decides}
 use Rattle.pmg_value.specs.declared.process.Proc.{Proc}
 use Rattle.pmg_value.specs.declared.refusal.Refusal.{Refusal}
@@ -14,7 +16,7 @@ use Rattle.pmg_value.specs.declared.value.Value.TheVariants as values
 use Rattle.pmg_value.specs.Elements.{Elements, IsArray, bodies, array_body, are_of_kind, is_array}
 use Rattle.pmg_value.specs.Plain.{Plain, plain_tag, plain_body, is_plain_tag}
 use Rattle.pmg_value.specs.Spelling.{form, plain_of, spelling, are_plain, plains_of, elements, makes_array}
-use Rattle.pmg_pset.specs.Members.{proc_array, no_members, are_procs, live_of}
+use Rattle.pmg_pset.specs.Members.{proc_array, proc_bytes, proc_size, no_members, are_procs, live_of}
 use Rattle.pmg_pset.specs.Refusing.{are_too_many}
 
 -- ---- the array of some processes
@@ -44,21 +46,6 @@ makes_procs ps few =
     ∙ ap (λ b. b && nat_le (1 + length (array_body (proc_array ps))) 1048576) (kind_procs ps)
     ∙ within (nat_lt 4096 (length ps)) (length (array_body (proc_array ps))) few
 
-made_if : (much : Bool) (a b : Elements) (r : Result Elements Refusal) → r ≡ (if not much then Ok a else Err refusals.BadParam) → r ≡ Ok b → ◌≡◌ {A = Result Elements Refusal} (if much then Err refusals.TooMany else Ok a) (Ok b)
-made_if true a b r is made = absurd (not_made (sym is ∙ made))
-  where
-    not_made : ◌≡◌ {A = Result Elements Refusal} (Err refusals.BadParam) (Ok b) → ⊥
-    not_made h = absurd cc
-made_if false a b r is made = sym is ∙ made
-
-refused_if : (much : Bool) (a : Elements) (e : Refusal) (r : Result Elements Refusal) → r ≡ (if not much then Ok a else Err refusals.BadParam) → r ≡ Err e
-    → ◌≡◌ {A = Result Elements Refusal} (if much then Err refusals.TooMany else Ok a) (Err refusals.TooMany)
-refused_if true a e r is refused = refl
-refused_if false a e r is refused = absurd (not_refused (sym is ∙ refused))
-  where
-    not_refused : ◌≡◌ {A = Result Elements Refusal} (Ok a) (Err e) → ⊥
-    not_refused h = absurd cc
-
 -- what making the array answers
 asked : (ps : List Proc) (vs : List Value) (r : Result Elements Refusal) → nat_lt 4096 (length ps) ≡ false → vs ≡ map values.Proc ps
     → r ≡ (if makes_array 16 vs then Ok (elements 16 vs) else Err refusals.BadParam) → r ≡ (if not (are_too_many ps) then Ok (proc_array ps) else Err refusals.BadParam)
@@ -66,27 +53,52 @@ asked ps vs r few same is =
     is ∙ (λ i. if makes_array 16 (same i) then Ok (elements 16 (same i)) else Err refusals.BadParam)
     ∙ (λ i. if makes_procs ps few i then Ok (elements-procs ps i) else Err refusals.BadParam)
 
-few_enough : (n : ℕ) → n ≤ 4096 → nat_lt 4096 n ≡ false
-few_enough n h = grind arith
+-- processes that are not too many make their array
+pub made : (ps : List Proc) (vs : List Value) (r : Result Elements Refusal) → are_too_many ps ≡ false → vs ≡ map values.Proc ps
+    → r ≡ (if makes_array 16 vs then Ok (elements 16 vs) else Err refusals.BadParam) → r ≡ Ok (proc_array ps)
+made ps vs r few same is =
+    asked ps vs r (or_parts (nat_lt 4096 (length ps)) (nat_lt 1048576 (length (proc_bytes ps))) few).0 same is
+    ∙ ap (λ (b : Bool). if not b then Ok (proc_array ps) else Err refusals.BadParam) few
 
-pub made : (ps : List Proc) (vs : List Value) (b : Elements) (r : Result Elements Refusal) → length ps ≤ 4096 → vs ≡ map values.Proc ps
-    → r ≡ (if makes_array 16 vs then Ok (elements 16 vs) else Err refusals.BadParam) → r ≡ Ok b → ◌≡◌ {A = Result Elements Refusal} (if are_too_many ps then Err refusals.TooMany else Ok (proc_array ps)) (Ok b)
-made ps vs b r few same is = made_if (are_too_many ps) (proc_array ps) b r (asked ps vs r (few_enough (length ps) few) same is)
+proc_len : (p : Proc) → length (plain_body (Plain.proc p)) ≡ proc_size p
+proc_len p = let parts = length-append p.nspace (to_be_bytes w32 p.rank) in omega (arith, parts)
 
-pub refused : (ps : List Proc) (vs : List Value) (e : Refusal) (r : Result Elements Refusal) → length ps ≤ 4096 → vs ≡ map values.Proc ps
-    → r ≡ (if makes_array 16 vs then Ok (elements 16 vs) else Err refusals.BadParam) → r ≡ Err e
-    → ◌≡◌ {A = Result Elements Refusal} (if are_too_many ps then Err refusals.TooMany else Ok (proc_array ps)) (Err refusals.TooMany)
-refused ps vs e r few same is = refused_if (are_too_many ps) (proc_array ps) e r (asked ps vs r (few_enough (length ps) few) same is)
+-- the bytes of the processes in their array
+bodies_len : (ps : List Proc) → length (bodies (map Plain.proc ps)) ≡ sum_by proc_size ps
+bodies_len [] = refl
+bodies_len (p ∷ ps) =
+    let first = length-append (plain_body (Plain.proc p)) (bodies (map Plain.proc ps)) in
+    let own = proc_len p in
+    let others = bodies_len ps in
+    let sum = sum_by-cons proc_size p ps in
+    omega (arith, first, own, others, sum)
 
-array_same : (a b : Elements) → ◌≡◌ {A = Result Elements Refusal} (Ok a) (Ok b) → a ≡ b
-array_same a b h = cc
+pub bytes_len : (ps : List Proc) → length (proc_bytes ps) ≡ 6 + sum_by proc_size ps
+bytes_len ps = let bodies = bodies_len ps in omega (arith, bodies)
 
--- the array of no process is what a deletion puts
-pub none_is : (ps : List Proc) (b : Elements) → ps ≡ [] → ◌≡◌ {A = Result Elements Refusal} (if are_too_many ps then Err refusals.TooMany else Ok (proc_array ps)) (Ok b) → spelling (values.Array b) ≡ no_members
-none_is ps b none is =
-    let same : b ≡ proc_array [] =
-    sym (array_same (proc_array []) b (sym (λ i. if are_too_many (none i) then Err refusals.TooMany else Ok (proc_array (none i))) ∙ is)) in
-    ap (λ (a : Elements). spelling (values.Array a)) same
+-- their number, where they are not too many
+abbrev size_due : List Proc → Option ℕ
+size_due ps = if are_too_many ps then None else Some (length (proc_bytes ps))
+
+pub none_counted : (ps : List Proc) → 4096 < length ps → None ≡ size_due ps
+none_counted ps many =
+    sym (ap (λ (b : Bool). if b then None else Some (length (proc_bytes ps))) (or_left (nat_lt 4096 (length ps)) (nat_lt 1048576 (length (proc_bytes ps))) (lt-ltb 4096 (length ps) many)))
+
+pub none_sized : (ps : List Proc) → 1048576 < 6 + sum_by proc_size ps → None ≡ size_due ps
+none_sized ps long =
+    let size = bytes_len ps in
+    sym (ap (λ (b : Bool). if b then None else Some (length (proc_bytes ps)))
+    (or_right (nat_lt 4096 (length ps)) (nat_lt 1048576 (length (proc_bytes ps))) (lt-ltb 1048576 (length (proc_bytes ps)) (omega (arith, size, long)))))
+
+pub some_sized : (ps : List Proc) (n : ℕ) → length ps ≤ 4096 → n ≡ 6 + sum_by proc_size ps → n ≤ 1048576 → Some n ≡ size_due ps
+some_sized ps n few is short =
+    let size = bytes_len ps in
+    let fits = or_from (nat_lt 4096 (length ps)) (nat_lt 1048576 (length (proc_bytes ps))) (le-ltb 4096 (length ps) few) (le-ltb 1048576 (length (proc_bytes ps)) (omega (arith, size, is, short))) in
+    ap Some (is ∙ sym size) ∙ sym (ap (λ (b : Bool). if b then None else Some (length (proc_bytes ps))) fits)
+
+-- the bytes of an array of processes begin as such
+pub bytes_of_procs : (ps : List Proc) → are_procs (proc_bytes ps) ≡ true
+bytes_of_procs ps = let long = bytes_len ps in le-leb 6 (length (proc_bytes ps)) (omega (arith, long))
 
 -- ---- arrays with members, and without
 
@@ -99,7 +111,7 @@ some_body p h = absurd (false≢true h)
 pub tag_is : (a : Elements) → are_procs (spelling (values.Array a)) ≡ true → a.tag ≡ 16
 tag_is a h = let begins = (and_parts (starts_with nat_eq (spelling (values.Array a)) (19 ∷ 16 ∷ [])) (nat_le 6 (length (spelling (values.Array a)))) h).0 in grind (arith, begins)
 
-longer : (a : Elements) (p : Plain) (ps : List Plain) → a.plains ≡ p ∷ ps → 0 < length (plain_body p) → 6 < length (spelling (values.Array a))
+pub longer : (a : Elements) (p : Plain) (ps : List Plain) → a.plains ≡ p ∷ ps → 0 < length (plain_body p) → 6 < length (spelling (values.Array a))
 longer a p ps e some =
     let body = ap (λ (qs : List Plain). length (bodies qs)) e ∙ length-append (plain_body p) (bodies ps) in
     omega (arith, body, some)

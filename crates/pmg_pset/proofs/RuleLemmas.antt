@@ -1,13 +1,17 @@
 -- How the sets go on with the host's script, and who reads them.
-use Rattle.std.proofs.Common.{◌≡◌, inl, inr, ℕ, ◌+◌, true, false, cond, ◌&&◌, ◌||◌, nat_lt, nat_le, List, [], ◌∷◌, ◌++◌, Option, Some, None, refl, sym, ap, subst, ◌∙◌, arith}
+use Rattle.std.proofs.Common.{◌≡◌, inl, inr, ℕ, suc, ◌+◌, ◌<◌, Bool, true, false, cond, ◌&&◌, ◌||◌, nat_lt, nat_le, List, [], ◌∷◌, ◌++◌, length, map, Option, Some, None, refl, sym, ap, subst, ◌∙◌, arith}
 use Rattle.std.specs.FinMap as finite
 use Rattle.std.specs.FinSet as set
 use Rattle.std.specs.Option.{option_map}
+use Rattle.std.specs.Str.{bytes_eq}
 use Rattle.std.specs.Ordering.{nat_cmp}
 use Rattle.std.specs.Cmp.Lexicographic.{slice_cmp, nat_list_cmp_total}
 use Rattle.std.proofs.lemmas.Bool.{false≢true, false_from_ne_true, and_parts, and_from, or_cases, or_left, leb-true, lt-ltb, le-leb}
 use Rattle.std.proofs.lemmas.Cmp.{nat_cmp_total}
 use Rattle.std.proofs.lemmas.Map.Text.{is_eq-slice_cmp}
+use Rattle.std.proofs.lemmas.Slice.Eq.{bytes_eq-Decides}
+use Rattle.pmg_value.specs.declared.process.Proc.{Proc}
+use Rattle.pmg_value.specs.Plain.{Plain}
 use Rattle.pmg_scope.specs.Scopes.{reaches}
 use Rattle.pmg_scope.specs.declared.scope.Scope.TheVariants as scopes
 use Rattle.pmg_scope.specs.declared.scope.Reach.{Reach}
@@ -24,10 +28,12 @@ use Rattle.pmg_commit.proofs.Rules.{numbers_are_between}
 use Rattle.pmg_commit.specs.Sealed.{Stamp, Stamps, Sealed, piece_at}
 use Rattle.pmg_commit.specs.SealerRules.{FitsBatch, FitsStamps, FitsSealer}
 use Rattle.pmg_commit.proofs.HonestLaws.{honest_reading}
-use Rattle.pmg_commit.proofs.SealerLaws.{new_fits, seal_fits, put_seals_nothing, pieces_are_honest}
+use Rattle.pmg_commit.proofs.SealerLaws.{stamp_over, get-stamped, new_fits, seal_fits, put_seals_nothing, pieces_are_honest}
 use Rattle.pmg_pset.specs.Changes.{Change, script_of}
-use Rattle.pmg_pset.specs.Sets.{host, changed}
-use Rattle.pmg_pset.specs.Rules.{NewSetsFit, ChangeFits, ReadsAreSets, OnePieceIsEnough}
+use Rattle.pmg_pset.specs.Members.{proc_array, proc_bytes, no_members, live_of}
+use Rattle.pmg_pset.specs.Sets.{host, changed, live_in, live_at}
+use Rattle.pmg_pset.specs.Rules.{NewSetsFit, ChangeFits, ChangeIsSeen, DefinedIsLive, DeletedIsNot, ReadsAreSets, OnePieceIsEnough}
+use Rattle.pmg_pset.proofs.MemberLemmas.{longer}
 
 -- ---- one change more
 
@@ -68,6 +74,38 @@ change_fits z cs c fits =
     } in
     subst (FitsSealer (changed z c.name c.bytes)) (sym (script_more cs c))
     (seal_fits z (global_put c.name c.bytes) before (never_ends cs c) batch (put_seals_nothing z (script_of cs) scopes.Global c.name c.bytes fits))
+
+-- ---- what a change leaves
+
+over_one : (n : ℕ) (here : Bool) (bytes : List ℕ) (old : Option Stamp) → live_in (stamp_over n (cond here (Some bytes) None) old) ≡ cond here (live_of bytes) (live_in old)
+over_one n true bytes old = refl
+over_one n false bytes old = refl
+
+get_one : (name bytes key : List ℕ) → finite.get (finite.insert (finite.empty {R = slice_cmp nat_cmp}) name bytes) key ≡ cond (bytes_eq key name) (Some bytes) None
+get_one name bytes key =
+    finite.get-insert nat_list_cmp_total finite.empty name bytes key
+    ∙ (λ i. cond (is_eq-slice_cmp key name i) (Some bytes) (finite.get-empty {X = List ℕ} (slice_cmp nat_cmp) key i))
+
+pub change_is_seen : ChangeIsSeen
+change_is_seen z name bytes q =
+    ap live_in (get-stamped (suc z.level) (global_put name bytes).far z.far q)
+    ∙ ap (λ (o : Option (List ℕ)). live_in (stamp_over (suc z.level) o (finite.get z.far q))) (get_one name bytes q)
+    ∙ over_one (suc z.level) (bytes_eq q name) bytes (finite.get z.far q)
+
+-- the name of a change itself
+own_name : (z : Sealed) (name bytes : List ℕ) → live_at (changed z name bytes) name ≡ live_of bytes
+own_name z name bytes =
+    change_is_seen z name bytes name ∙ ap (λ (b : Bool). cond b (live_of bytes) (live_at z name)) ((bytes_eq-Decides name name).1 refl)
+
+pub defined_is_live : DefinedIsLive
+defined_is_live z name p ps =
+    let more : 6 < length (proc_bytes (p ∷ ps)) = longer (proc_array (p ∷ ps)) (Plain.proc p) (map Plain.proc ps) refl (omega arith) in
+    let differs : bytes_eq (proc_bytes (p ∷ ps)) no_members ≡ false =
+    false_from_ne_true _ (λ h. let short = ap length ((bytes_eq-Decides (proc_bytes (p ∷ ps)) no_members).0 h) in absurd (omega (arith, short, more))) in
+    own_name z name (proc_bytes (p ∷ ps)) ∙ ap (λ (b : Bool). cond b None (Some (proc_bytes (p ∷ ps)))) differs
+
+pub deleted_is_not : DeletedIsNot
+deleted_is_not z name = own_name z name no_members ∙ ap (λ (b : Bool). cond b None (Some no_members)) ((bytes_eq-Decides no_members no_members).1 refl)
 
 -- ---- reads
 

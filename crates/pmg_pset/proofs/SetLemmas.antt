@@ -1,5 +1,5 @@
 -- What is kept of the sets, from change to change.
-use Rattle.std.proofs.Common.{◌≡◌, inl, inr, ℕ, suc, ◌≤◌, nat_lt, nat_le, not, length, arith, Bool, true, false, ◌&&◌, cond, List, [], ◌∷◌, map, Option, Some, None, is_some, Result, Ok, Err, OnOk, OnErr, refl, sym, ap, subst, ◌∙◌}
+use Rattle.std.proofs.Common.{◌≡◌, inl, inr, ℕ, suc, ◌≤◌, nat_lt, nat_le, not, length, arith, Bool, true, false, ◌&&◌, cond, List, [], ◌∷◌, map, Option, Some, None, is_some, Result, Ok, Err, refl, sym, ap, subst, ◌∙◌}
 use Rattle.std.specs.Prelude.{if◌then◌else◌}
 use Rattle.std.specs.FinMap as finite
 use Rattle.std.specs.FinMap.Entries.{find, put, by_order}
@@ -13,20 +13,22 @@ use Rattle.std.proofs.lemmas.Bool.{false≢true, and_parts, and_from, leb-true, 
 use Rattle.pmg_value.specs.declared.process.Proc.{Proc}
 use Rattle.pmg_value.specs.declared.refusal.Refusal.{Refusal}
 use Rattle.pmg_value.specs.declared.refusal.Refusal.TheVariants as refusals
-use Rattle.pmg_value.specs.Answers.{Gives}
-use Rattle.pmg_value.specs.CheckOrder.{first_of}
+use Rattle.pmg_value.specs.Answers.{Fails}
+use Rattle.pmg_value.specs.CheckOrder.{check_order, first_in, first_of}
 use Rattle.pmg_value.specs.Lists.{In}
 use Rattle.pmg_scope.specs.Cached.{global_put}
 use Rattle.pmg_scope.specs.Rows.{IsRising, rows_of, counted_by}
 use Rattle.pmg_scope.proofs.RowLemmas.{shown, entries_rising, entries_of_nothing}
 use Rattle.pmg_scope.proofs.SumLemmas.{len_held, sum_put}
 use Rattle.pmg_commit.specs.declared.stamps.SealedPut.{SealedPut}
-use Rattle.pmg_commit.specs.Sealed.{Stamp, Stamps, Sealed, fresh, new_answer, stamp_all, stamped, are_within, stamp_size, stamps_size, seal_answer}
+use Rattle.pmg_commit.specs.Sealed.{Stamp, Stamps, Sealed, fresh, new_answer, stamped, are_within, stamp_size, stamps_size, can_seal, commit_answer}
 use Rattle.pmg_commit.specs.Stamped.{stamp_of}
+use Rattle.pmg_commit.proofs.GrowthLemmas.{stamped_one}
 use Rattle.pmg_commit.proofs.SealerLaws.{find_in_rows}
-use Rattle.pmg_pset.specs.Members.{no_members, are_procs, live_of}
-use Rattle.pmg_pset.specs.Refusing.{is_full, delete_cause}
+use Rattle.pmg_pset.specs.Members.{no_members, proc_bytes, are_procs, live_of}
+use Rattle.pmg_pset.specs.Refusing.{is_full, change_answer, delete_cause}
 use Rattle.pmg_pset.specs.Sets.{AreSets, are_sets, changed, host, live_in, is_live, live_names}
+use Rattle.pmg_pset.proofs.MemberLemmas.{bytes_of_procs}
 
 abbrev StampRows : Type 0
 StampRows = List (List ℕ × Stamp)
@@ -47,12 +49,6 @@ put_procs : (k : List ℕ) (v : Stamp) (es : StampRows) → are_procs v.bytes �
 put_procs k v [] is all = and_from _ _ is refl
 put_procs k v (e ∷ es) is all = put_beside k v e es (slice_cmp nat_cmp k e.0) is all (put_procs k v es is (and_parts _ _ all).1)
 
--- a commit of one put
-stamped_one : (n : ℕ) (k bytes : List ℕ) (m : Stamps) → stamped n (finite.insert finite.empty k bytes) m ≡ finite.insert m k (record { number = n; bytes = bytes })
-unfolding stamped
-stamped_one n k bytes m =
-    ap (stamp_all n m) (finite.entries-insert nat_list_cmp_total finite.empty k bytes ∙ ap (put (slice_cmp nat_cmp) k bytes) entries_of_nothing)
-
 one_more : (n : ℕ) (k bytes : List ℕ) (m : Stamps) → are_procs bytes ≡ true → are_sets m ≡ true → are_sets (stamped n (finite.insert finite.empty k bytes) m) ≡ true
 one_more n k bytes m is all =
     ap are_sets (stamped_one n k bytes m) ∙ ap holds_procs (finite.entries-insert nat_list_cmp_total m k (record { number = n; bytes = bytes }))
@@ -63,13 +59,9 @@ one_more n k bytes m is all =
 nothing_within : are_within finite.empty ≡ true
 nothing_within = λ i. nat_le (finite.len-empty (slice_cmp nat_cmp) Stamp i) 65535 && nat_le (sum_by stamp_size (entries_of_nothing i)) 16000000
 
-taken : (b : Bool) (n m : ℕ) → ◌≡◌ {A = Result ℕ Refusal} (if b then Ok n else Err refusals.TooMany) (Ok m) → b ≡ true
-taken true n m h = refl
-taken false n m h = cc
-
 -- what a commit took is within them
-within_after : (z : Sealed) (name bytes : List ℕ) (n : ℕ) → seal_answer z (global_put name bytes) ≡ Ok n → are_within (changed z name bytes).far ≡ true
-within_after z name bytes n h = (and_parts _ _ (taken _ (suc z.level) n h)).1
+within_after : (z : Sealed) (name bytes : List ℕ) → can_seal z (global_put name bytes) ≡ true → are_within (changed z name bytes).far ≡ true
+within_after z name bytes h = (and_parts _ _ h).1
 
 -- and so is what puts no longer value in the place of another
 shorter_within : (m : Stamps) (k : List ℕ) (v w : Stamp) → Some w ≡ finite.get m k → length v.bytes ≤ length w.bytes → are_within m ≡ true → are_within (finite.insert m k v) ≡ true
@@ -92,11 +84,16 @@ changed_sets z name bytes are is within = record {
   within = within;
 }
 
--- a change, made or refused, leaves sets
-pub still_sets : (old new : Sealed) (name bytes : List ℕ) (r : Result ℕ Refusal) → AreSets old → are_procs bytes ≡ true → Gives (λ n. n) r (seal_answer old (global_put name bytes))
-    → OnOk r (new ≡ changed old name bytes) → OnErr r (new ≡ old) → AreSets new
-still_sets old new name bytes (Ok n) are is answer ok err = subst AreSets (sym ok) (changed_sets old name bytes are is (within_after old name bytes n answer))
-still_sets old new name bytes (Err e) are is answer ok err = subst AreSets (sym err) are
+taken : (b : Bool) (x w : Sealed) → ◌≡◌ {A = Result Sealed Refusal} (if b then Ok x else Err refusals.TooMany) (Ok w) → (b ≡ true) × (x ≡ w)
+taken true x w h = (refl, cc)
+taken false x w h = absurd cc
+
+-- a change that a commit took leaves sets
+pub changed_are_sets : (z w : Sealed) (name : List ℕ) (procs : List Proc) → AreSets z → commit_answer z (global_put name (proc_bytes procs)) ≡ Ok w → AreSets w
+changed_are_sets z w name procs are is =
+    let bytes = proc_bytes procs in
+    let made = taken (can_seal z (global_put name bytes)) (changed z name bytes) w is in
+    subst AreSets made.1 (changed_sets z name bytes are (bytes_of_procs procs) (within_after z name bytes made.0))
 
 -- a new sealer of the host's process has no sets
 fresh_sets : AreSets (fresh host)
@@ -137,34 +134,69 @@ all_hold false = refl
 below_last : (n : ℕ) → nat_lt n 4294967294 ≡ not (nat_le 4294967294 n)
 below_last n = grind arith
 
-turned : (b : Bool) (n : ℕ) → ◌≡◌ {A = Result ℕ Refusal} (if not b then Ok n else Err refusals.TooMany) (if b then Err refusals.TooMany else Ok n)
-turned true n = refl
-turned false n = refl
-
 -- a commit can seal a deletion, unless its number is the last
-deletes : (z : Sealed) (name : List ℕ) → AreSets z → is_live z name ≡ true → seal_answer z (global_put name no_members) ≡ (if is_full z then Err refusals.TooMany else Ok (suc z.level))
+deletes : (z : Sealed) (name : List ℕ) → AreSets z → is_live z name ≡ true → can_seal z (global_put name no_members) ≡ not (is_full z)
 deletes z name are live =
     let found = live_stamp (finite.get z.far name) live in
-    let long = leb-true 6 (length found.0.bytes) (and_parts _ _ (found_procs z name found.0 are found.1)).1 in
+    let long : 6 ≤ length found.0.bytes = leb-true 6 (length found.0.bytes) (and_parts _ _ (found_procs z name found.0 are found.1)).1 in
     let stamp : Stamp = record { number = suc z.level; bytes = no_members } in
     let far : are_within (changed z name no_members).far ≡ true =
     ap are_within (stamped_one (suc z.level) name no_members z.far) ∙ shorter_within z.far name stamp found.0 found.1 (omega (arith, long)) are.within in
     let near : are_within (changed z name no_members).near ≡ true =
     ap (λ m. are_within (stamped (suc z.level) (finite.insert finite.empty name no_members) m)) are.alike ∙ far in
-    (λ i. if not (are.going i) && nat_lt z.level 4294967294 && near i && far i then Ok (suc z.level) else Err refusals.TooMany)
-    ∙ (λ i. if (all_hold (nat_lt z.level 4294967294) ∙ below_last z.level) i then Ok (suc z.level) else Err refusals.TooMany)
-    ∙ turned (is_full z) (suc z.level)
+    (λ i. not (are.going i) && nat_lt z.level 4294967294 && near i && far i) ∙ all_hold (nat_lt z.level 4294967294) ∙ below_last z.level
 
 -- a set that was found is there
 pub found_live : {A : Type 0} (f : A → List ℕ) (o : Option A) (b : Option (List ℕ)) → option_map f o ≡ b → is_some o ≡ true → is_some b ≡ true
 found_live f None b same some = absurd (false≢true some)
 found_live f (Some x) b same some = ap is_some (sym same)
 
-pub deletion_gives : (z : Sealed) (name : List ℕ) (r : Result ℕ Refusal) → AreSets z → is_live z name ≡ true → Gives (λ n. n) r (seal_answer z (global_put name no_members))
-    → Gives (λ n. n) r (first_of (delete_cause z name) (suc z.level))
-deletion_gives z name r are live =
-    subst (Gives (λ n. n) r)
-    (deletes z name are live ∙ sym (λ i. if not (live i) then Err refusals.NotFound else if is_full z then Err refusals.TooMany else Ok (suc z.level)))
+turned : (full : Bool) (w : Sealed) → ◌≡◌ {A = Result Sealed Refusal} (if not (not full) then Err refusals.TooMany else Ok w) (if full then Err refusals.TooMany else Ok w)
+turned true w = refl
+turned false w = refl
+
+-- what is due to a deletion
+pub deletion_due : (z : Sealed) (name : List ℕ) (procs : List Proc) → AreSets z → is_live z name ≡ true → procs ≡ []
+    → change_answer z name procs ≡ first_of (delete_cause z name) (changed z name no_members)
+deletion_due z name procs are live none =
+    ap (change_answer z name) none
+    ∙ ap (λ (can : Bool). if not can then Err refusals.TooMany else Ok (changed z name no_members)) (deletes z name are live)
+    ∙ turned (is_full z) (changed z name no_members)
+    ∙ sym (λ i. if not (live i) then Err refusals.NotFound else if is_full z then Err refusals.TooMany else Ok (changed z name no_members))
+
+-- ---- answers, of the sets that a change makes and of its number
+
+fails_ok : {A B : Type 0} (e : Refusal) (a : A) (b : B) → Fails e (Ok a) → Fails e (Ok b)
+fails_ok refusals.NoMemory a b h = tt
+fails_ok e a b h = absurd cc
+
+fails_err : (A B : Type 0) (e d : Refusal) → Fails {Y = A} e (Err d) → Fails {Y = B} e (Err d)
+fails_err A B refusals.NoMemory d h = h
+fails_err A B e d h = cc
+
+-- where the sets are not due for a cause, nor is the number
+refused_in : {A B : Type 0} (es : List Refusal) (cause : Refusal → Bool) (a : A) (b : B) (e : Refusal) → Fails e (first_in es cause a) → Fails e (first_in es cause b)
+refused_in {A} {B} [] cause a b e h = fails_ok e a b h
+refused_in {A} {B} (d ∷ es) cause a b e h =
+    elim (cause d) as (λ (c : Bool). Fails e (if c then Err d else first_in es cause a) → Fails e (if c then Err d else first_in es cause b)) [
+      | true ↦ λ t. fails_err A B e d t
+      | false ↦ λ t. refused_in es cause a b e t
+    ] h
+
+pub refused_alike : {A B : Type 0} (cause : Refusal → Bool) (a : A) (b : B) (e : Refusal) → Fails e (first_of cause a) → Fails e (first_of cause b)
+refused_alike cause a b e h = refused_in check_order cause a b e h
+
+-- and where they are, so is the number
+made_in : {A B : Type 0} (es : List Refusal) (cause : Refusal → Bool) (a x : A) (b : B) → first_in es cause a ≡ Ok x → (a ≡ x) × (first_in es cause b ≡ Ok b)
+made_in [] cause a x b h = (cc, refl)
+made_in (d ∷ es) cause a x b h =
+    elim (cause d) as (λ (c : Bool). (if c then Err d else first_in es cause a) ≡ Ok x → (a ≡ x) × ((if c then Err d else first_in es cause b) ≡ Ok b)) [
+      | true ↦ λ t. absurd cc
+      | false ↦ λ t. made_in es cause a x b t
+    ] h
+
+pub made_alike : {A B : Type 0} (cause : Refusal → Bool) (a x : A) (b : B) → first_of cause a ≡ Ok x → (a ≡ x) × (first_of cause b ≡ Ok b)
+made_alike cause a x b h = made_in check_order cause a x b h
 
 -- ---- names
 

@@ -1,5 +1,5 @@
 -- The members of a process set, as a value.
-use Rattle.std.specs.Prelude.{ℕ, Bool, ◌&&◌, nat_le, length, List, [], ◌∷◌, Option, Some, None, map, nat_eq, if◌then◌else◌}
+use Rattle.std.specs.Prelude.{ℕ, ◌+◌, Bool, ◌&&◌, nat_le, length, List, [], ◌∷◌, Option, Some, None, map, nat_eq, if◌then◌else◌}
 use Rattle.std.specs.FinMap as finite
 use Rattle.std.specs.List.{starts_with}
 use Rattle.std.specs.Str.{bytes_eq}
@@ -21,6 +21,10 @@ in_order list = finite.keys (finite.from_entries {R = proc_cmp} (marked list))
 -- the array of these processes (PMIx Standard 5.0, pmix_data_array_t, PMIX_PROC)
 abbrev pub proc_array : List Proc → Elements
 proc_array procs = record { tag = 16; plains = map Plain.proc procs }
+
+-- the bytes of a process in its array: one of length, the namespace, and four of rank
+abbrev pub proc_size : Proc → ℕ
+proc_size p = length p.nspace + 5
 
 -- its canonical bytes as a value
 abbrev pub proc_bytes : List Proc → List ℕ

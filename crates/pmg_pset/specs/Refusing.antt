@@ -1,24 +1,28 @@
 -- Where each call of the sets has a cause to be refused. The causes are looked for in the order of all calls.
-use Rattle.std.specs.Prelude.{ℕ, Bool, false, ◌||◌, ◌==◌, not, nat_lt, nat_le, List, length}
+use Rattle.std.specs.Prelude.{ℕ, Bool, false, ◌||◌, ◌==◌, not, nat_lt, nat_le, List, length, Result, Ok, Err, if◌then◌else◌}
 use Rattle.std.specs.List.{list_all}
-use Rattle.std.specs.Result.{is_err}
 use Rattle.pmg_value.specs.declared.process.Proc.{Proc}
 use Rattle.pmg_value.specs.declared.refusal.Refusal.{Refusal}
 use Rattle.pmg_value.specs.declared.refusal.Refusal.TheVariants as refusals
 use Rattle.pmg_value.specs.Names.{is_reserved}
 use Rattle.pmg_value.specs.Process.{is_client}
 use Rattle.pmg_scope.specs.Cached.{global_put}
-use Rattle.pmg_commit.specs.Sealed.{Sealed, seal_answer}
+use Rattle.pmg_commit.specs.Sealed.{Sealed, can_seal}
 use Rattle.pmg_pset.specs.Members.{in_order, proc_bytes}
-use Rattle.pmg_pset.specs.Sets.{is_live}
+use Rattle.pmg_pset.specs.Sets.{is_live, changed}
 
 -- no commit can seal the change: its number is the one that is kept for an end, or a limit of a sealer would be passed
 abbrev pub is_too_much : Sealed → List ℕ → List ℕ → Bool
-is_too_much z name bytes = is_err (seal_answer z (global_put name bytes))
+is_too_much z name bytes = not (can_seal z (global_put name bytes))
 
 -- the processes, each once and in their order, are more than a set may have, or longer than a value may be
 abbrev pub are_too_many : List Proc → Bool
 are_too_many procs = nat_lt 4096 (length procs) || nat_lt 1048576 (length (proc_bytes procs))
+
+-- what a change gives: the sets with the processes under the name; of none where the set is deleted
+abbrev pub change_answer : Sealed → List ℕ → List Proc → Result Sealed Refusal
+change_answer z name procs =
+    if are_too_many procs || is_too_much z name (proc_bytes procs) then Err refusals.TooMany else Ok (changed z name (proc_bytes procs))
 
 -- no set can have these members: there are none, or one is no process that a group may register
 abbrev pub are_unfit : List Proc → Bool

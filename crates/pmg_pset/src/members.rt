@@ -1,18 +1,31 @@
 //! The members of a process set, as a value.
-ghost use Rattle.std.specs.Prelude.{◌≡◌, Some, map, IfOk, IfSome, IsTrue, if◌then◌else◌};
-ghost use Rattle.std.specs.List.{list_all};
+ghost use Rattle.std.specs.Prelude.{
+  ◌≡◌,
+  ◌*◌,
+  ◌≤◌,
+  false,
+  Some,
+  None,
+  Ok,
+  length,
+  map,
+  IfOk,
+  IfSome,
+  IsTrue,
+  if◌then◌else◌,
+};
+ghost use Rattle.std.specs.List.{list_all, sum_by};
 ghost use Rattle.std.specs.Option.{option_map};
 ghost use Rattle.pmg_value.specs.Answers.{Gives};
-ghost use Rattle.pmg_value.specs.declared.refusal.Refusal.TheVariants as refusals;
 ghost use Rattle.pmg_value.specs.declared.value.Value.TheVariants as values;
 ghost use Rattle.pmg_value.specs.Process.{is_client};
 ghost use Rattle.pmg_value.specs.Spelling.{spelling};
 ghost use Rattle.pmg_commit.specs.Stamped.{stamp_of};
-ghost use Rattle.pmg_pset.specs.Members.{in_order, proc_array, are_procs, live_of};
+ghost use Rattle.pmg_pset.specs.Members.{in_order, proc_array, proc_bytes, proc_size, are_procs, live_of};
 ghost use Rattle.pmg_pset.specs.Refusing.{are_too_many, are_unfit};
 
 use pmg_commit::SealedPut;
-use pmg_value::{Array, Proc, Refusal, Value};
+use pmg_value::{Array, MAX_VALUE_SIZE, Proc, Refusal, Value};
 use std::alloc::{AllocError, Global};
 
 /// The most members of a process set.
@@ -56,18 +69,40 @@ fn values_of(alloc: Global, procs: Vec<Proc>) -> Result<Vec<Value>, AllocError>
     Ok(values)
 }
 
-/// The array of the processes. Refused as TooMany where they are more than 4,096, or the array as a value would be
-/// longer than 1,048,576 canonical bytes; and as NoMemory.
-pub fn array_of(alloc: Global, procs: Vec<Proc>) -> Result<Array, Refusal>
-    ensures { Gives (λ a. a) result (if are_too_many procs.items then Err refusals.TooMany else Ok (proc_array procs.items)) }
+/// How many canonical bytes the array of the processes has as a value. None where they are more than a set may have, or
+/// the array would be longer than a value may be.
+pub fn array_size(procs: &[Proc]) -> Option<usize>
+    ensures { result ≡ (if are_too_many procs.now then None else Some (length (proc_bytes procs.now))) }
 {
     if procs.len() > MAX_MEMBERS {
-        return Err(Refusal::TooMany);
+        return None;
     }
-    match Array::new(PROC_TAG, values_of(alloc, procs)?) {
-        Ok(array) => Ok(array),
-        Err(_) => Err(Refusal::TooMany),
+    let size = 6 + bodies_size(procs);
+    if size > MAX_VALUE_SIZE {
+        return None;
     }
+    Some(size)
+}
+
+/// How many bytes the processes have in their array: of each one of length, the namespace, and four of rank.
+fn bodies_size(procs: &[Proc]) -> usize
+    requires { length procs.now ≤ 4096 }
+    ensures value { result ≡ sum_by proc_size procs.now }
+    ensures bound { result ≤ 260 * 4096 }
+{
+    let mut size = 0;
+    for process in procs {
+        size += process.nspace.as_bytes().len() + 5;
+    }
+    size
+}
+
+/// The array of the processes, which are not too many. Refused as NoMemory alone.
+pub fn array_of(alloc: Global, procs: Vec<Proc>) -> Result<Array, Refusal>
+    requires { are_too_many procs.items ≡ false }
+    ensures { Gives (λ a. a) result (Ok (proc_array procs.items)) }
+{
+    Array::new(PROC_TAG, values_of(alloc, procs)?)
 }
 
 /// The members of the set that was sealed last; none where that was a deletion.

@@ -1,19 +1,20 @@
 //! The process sets of a group.
-ghost use Rattle.std.specs.Prelude.{◌≡◌, ◌≤◌, suc, Ok, IfOk, OnOk, OnErr, IfSome, IsTrue};
+ghost use Rattle.std.specs.Prelude.{◌≡◌, ◌≤◌, suc, List, [], ◌∷◌, ◌++◌, Ok, IfOk, OnOk, OnErr, IfSome};
 ghost use Rattle.std.specs.Option.{option_map};
 ghost use Rattle.std.specs.Result.{result_map_both};
 ghost use Rattle.pmg_value.specs.Answers.{Gives};
 ghost use Rattle.pmg_value.specs.CheckOrder.{first_of};
 ghost use Rattle.pmg_value.specs.declared.value.Value.TheVariants as values;
 ghost use Rattle.pmg_value.specs.Spelling.{spelling};
-ghost use Rattle.pmg_scope.specs.Cached.{global_put};
 ghost use Rattle.pmg_scope.specs.declared.scope.Reach.TheVariants as reach;
-ghost use Rattle.pmg_commit.specs.Sealed.{fresh, seal_answer, piece_answer};
-ghost use Rattle.pmg_pset.specs.Members.{in_order, proc_bytes, no_members, are_procs};
-ghost use Rattle.pmg_pset.specs.Refusing.{define_cause, delete_cause, members_cause};
+ghost use Rattle.pmg_commit.specs.Sealed.{fresh, piece_answer};
+ghost use Rattle.pmg_commit.specs.SealerRules.{FitsSealer};
+ghost use Rattle.pmg_pset.specs.Changes.{Change, definition, deletion, script_of};
+ghost use Rattle.pmg_pset.specs.Members.{in_order, proc_bytes, no_members};
+ghost use Rattle.pmg_pset.specs.Refusing.{define_cause, delete_cause, members_cause, change_answer};
 ghost use Rattle.pmg_pset.specs.Sets.{host, changed, live_at, live_names, members_at};
 
-use crate::members::{are_unfit, array_of, in_order, members_of};
+use crate::members::{are_unfit, array_of, array_size, in_order, members_of};
 use pmg_commit::{Piece, Sealer};
 use pmg_scope::{Batch, Reach};
 use pmg_value::{Array, HOST_NAME, Key, Nspace, Proc, Rank, Refusal, Value};
@@ -52,41 +53,60 @@ impl Sets {
         Ok(Sets { alloc, sealer })
     }
 
-    /// Defines the set of these processes, whatever their order and however often each is named, and gives the number of
-    /// the host's commit that tells of it (PMIx Standard 5.0, process sets). Refused as BadParam where the name begins
-    /// with `pmix`, where no process is named, and where one is that no group may register, as one of rank
-    /// PMIX_RANK_WILDCARD; as Exists where there is a set of that name; as TooMany where more than 4,096 processes are
-    /// named, where their array would be longer than 1,048,576 canonical bytes, where the commit's number would be
-    /// 4294967295, and where the sets would pass the limits of a sealer; and as NoMemory. A refused definition changes
-    /// nothing.
-    pub fn define(&mut self, name: Key, members: Vec<Proc>) -> Result<u64, Refusal>
-        ensures answer { Gives (λ n. n) result (first_of (define_cause self.old name members.items) (suc self.old.level)) }
-        ensures ok { OnOk result (self.new ≡ changed self.old name (proc_bytes (in_order members.items))) }
-        ensures err { OnErr result (self.new ≡ self.old) }
+    /// The sets once the set of these processes is defined, whatever their order and however often each is named (PMIx
+    /// Standard 5.0, process sets). Refused as BadParam where the name begins with `pmix`, where no process is named, and
+    /// where one is that no group may register, as one of rank PMIX_RANK_WILDCARD; as Exists where there is a set of that
+    /// name; as TooMany where more than 4,096 processes are named, where their array would be longer than 1,048,576
+    /// canonical bytes, where the number of the host's commit would be 4294967295, and where the sets would pass the
+    /// limits of a sealer; and as NoMemory.
+    pub fn with_set(&self, name: &Key, members: Vec<Proc>) -> Result<Sets, Refusal>
+        ensures { Gives (λ z. z) result (first_of (define_cause self.now name.now members.items)
+            (changed self.now name.now (proc_bytes (in_order members.items)))) }
     {
         if name.is_reserved() || are_unfit(&members) {
             return Err(Refusal::BadParam);
         }
-        if self.live(&name).is_some() {
+        if self.live(name).is_some() {
             return Err(Refusal::Exists);
         }
-        let array = array_of(self.alloc, in_order(members))?;
-        self.change(name, array)
+        self.with_change(name, in_order(members))
     }
 
-    /// Deletes the set of that name, which may then be defined again, and gives the number of the host's commit that
-    /// tells of it. Refused as NotFound where there is no such set; as TooMany where the commit's number would be
-    /// 4294967295; and as NoMemory. Where it is refused the set stays.
-    pub fn delete(&mut self, name: &Key) -> Result<u64, Refusal>
-        ensures answer { Gives (λ n. n) result (first_of (delete_cause self.old name.now) (suc self.old.level)) }
-        ensures ok { OnOk result (self.new ≡ changed self.old name.now no_members) }
+    /// Defines the set of these processes, and gives the number of the host's commit that tells of it. Refused as
+    /// `with_set` is; a refused definition changes nothing.
+    pub fn define(&mut self, name: Key, members: Vec<Proc>) -> Result<u64, Refusal>
+        ensures answer { Gives (λ n. n) result (first_of (define_cause self.old name members.items) (suc self.old.level)) }
+        ensures ok { OnOk result (self.new ≡ changed self.old name (proc_bytes (in_order members.items))) }
         ensures err { OnErr result (self.new ≡ self.old) }
+        ensures script { OnOk result ((cs : List Change) → FitsSealer self.old (script_of cs)
+            → FitsSealer self.new (script_of (cs ++ definition name members.items ∷ []))) }
+    {
+        *self = self.with_set(&name, members)?;
+        Ok(self.level())
+    }
+
+    /// The sets once the set of that name is deleted, which may then be defined again. Refused as NotFound where there is
+    /// no such set; as TooMany where the number of the host's commit would be 4294967295; and as NoMemory.
+    pub fn without_set(&self, name: &Key) -> Result<Sets, Refusal>
+        ensures { Gives (λ z. z) result (first_of (delete_cause self.now name.now) (changed self.now name.now no_members)) }
     {
         if self.live(name).is_none() {
             return Err(Refusal::NotFound);
         }
-        let none = array_of(self.alloc, Vec::new(self.alloc))?;
-        self.change(name.copy()?, none)
+        self.with_change(name, Vec::new(self.alloc))
+    }
+
+    /// Deletes the set of that name, and gives the number of the host's commit that tells of it. Refused as `without_set`
+    /// is; where it is refused the set stays.
+    pub fn delete(&mut self, name: &Key) -> Result<u64, Refusal>
+        ensures answer { Gives (λ n. n) result (first_of (delete_cause self.old name.now) (suc self.old.level)) }
+        ensures ok { OnOk result (self.new ≡ changed self.old name.now no_members) }
+        ensures err { OnErr result (self.new ≡ self.old) }
+        ensures script { OnOk result ((cs : List Change) → FitsSealer self.old (script_of cs)
+            → FitsSealer self.new (script_of (cs ++ deletion name.now ∷ []))) }
+    {
+        *self = self.without_set(name)?;
+        Ok(self.level())
     }
 
     /// The members of the set of that name, as an array of processes (PMIx Standard 5.0, PMIX_QUERY_PSET_MEMBERSHIP).
@@ -151,14 +171,22 @@ impl Sets {
         }
     }
 
-    /// Seals the array under the name, for all.
-    fn change(&mut self, name: Key, array: Array) -> Result<u64, Refusal>
-        requires { IsTrue (are_procs (spelling (values.Array array))) }
-        ensures answer { Gives (λ n. n) result (seal_answer self.old (global_put name (spelling (values.Array array)))) }
-        ensures ok { OnOk result (self.new ≡ changed self.old name (spelling (values.Array array))) }
-        ensures err { OnErr result (self.new ≡ self.old) }
+    /// The sets once the array of these processes is sealed under the name, for all.
+    fn with_change(&self, name: &Key, procs: Vec<Proc>) -> Result<Sets, Refusal>
+        ensures { Gives (λ z. z) result (change_answer self.now name.now procs.items) }
     {
-        let batch = Batch::of_put(self.alloc, name, Value::Array(array))?;
-        self.sealer.seal(&batch)
+        let Some(size) = array_size(&procs) else {
+            return Err(Refusal::TooMany);
+        };
+        if !self.sealer.can_seal_put(name, size) {
+            return Err(Refusal::TooMany);
+        }
+        let array = array_of(self.alloc, procs)?;
+        let batch = Batch::of_put(self.alloc, name.copy()?, Value::Array(array))?;
+        let sealer = self.sealer.with_commit(&batch)?;
+        Ok(Sets {
+            alloc: self.alloc,
+            sealer,
+        })
     }
 }

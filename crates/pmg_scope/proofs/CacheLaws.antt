@@ -14,7 +14,7 @@ use Rattle.pmg_scope.specs.Scopes.{reaches}
 use Rattle.pmg_scope.specs.Scripts.{Call, Script, has_end, sealed, count_commits, commits, later_of, put_of, last_put}
 use Rattle.pmg_scope.specs.Sealing.{part, part_of, next_part}
 use Rattle.pmg_scope.specs.Cached.{Table, put_if}
-use Rattle.pmg_scope.specs.CacheRules.{NewFits, PutFits, CommitFits, EnterFits, CacheIsOne, CommitSealsNext}
+use Rattle.pmg_scope.specs.CacheRules.{NewFits, PutFits, CommitFits, EnterFits, EndFits, CacheIsOne, CommitSealsNext}
 use Rattle.pmg_scope.proofs.ScriptLaws.{open_commits}
 use Rattle.pmg_scope.proofs.SealingLaws.{none_earlier, later_assoc}
 
@@ -152,6 +152,15 @@ pub enter_fits : EnterFits
 enter_fits c s f fits reach.Own q = fits reach.Own q ∙ sym (last_put_push reach.Own q s (Call.enter f))
 enter_fits c s f fits reach.Near q = enter_unsealed reach.Near c.near s f q (fits reach.Near q)
 enter_fits c s f fits reach.Far q = enter_unsealed reach.Far c.far s f q (fits reach.Far q)
+
+end_unsealed : (r : Reach) (m : Table) (s : Script) (q : List ℕ) → map.get m q ≡ last_put r q (next_part s) → map.get m q ≡ last_put r q (next_part (s ++ Call.terminate ∷ []))
+unfolding is_commit
+end_unsealed r m s q e = e ∙ sym (ap (last_put r q) (next_push s Call.terminate refl) ∙ last_put_push r q (next_part s) Call.terminate)
+
+pub end_fits : EndFits
+end_fits c s fits reach.Own q = fits reach.Own q ∙ sym (last_put_push reach.Own q s Call.terminate)
+end_fits c s fits reach.Near q = end_unsealed reach.Near c.near s q (fits reach.Near q)
+end_fits c s fits reach.Far q = end_unsealed reach.Far c.far s q (fits reach.Far q)
 
 pub cache_is_one : CacheIsOne
 cache_is_one c d s a b =

@@ -23,6 +23,10 @@ CommitFits = (c : Cached) (s : Script) → FitsCache c s → FitsCache (marked c
 abbrev pub EnterFits : Type 0
 EnterFits = (c : Cached) (s : Script) (f : Signature) → FitsCache c s → FitsCache c (s ++ Call.enter f ∷ [])
 
+-- nor does the end of the process: what it had put itself it still reads, and what no commit sealed stays so
+abbrev pub EndFits : Type 0
+EndFits = (c : Cached) (s : Script) → FitsCache c s → FitsCache c (s ++ Call.terminate ∷ [])
+
 -- a script has one cache
 abbrev pub CacheIsOne : Type 0
 CacheIsOne = (c d : Cached) (s : Script) → FitsCache c s → FitsCache d s → c ≡ d

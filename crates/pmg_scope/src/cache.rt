@@ -1,10 +1,11 @@
-ghost use Rattle.std.specs.Prelude.{◌≡◌, IfOk, OnOk, OnErr};
+ghost use Rattle.std.specs.Prelude.{◌≡◌, [], ◌∷◌, ◌++◌, IfOk, OnOk, OnErr};
 ghost use Rattle.std.specs.FinMap as map;
 ghost use Rattle.std.specs.Option.{option_map};
 ghost use Rattle.pmg_value.specs.Answers.{Gives};
 ghost use Rattle.pmg_value.specs.CheckOrder.{first_of};
 ghost use Rattle.pmg_value.specs.Spelling.{spelling};
-ghost use Rattle.pmg_scope.specs.Cached.{no_puts, with_put, marked, unsealed_of, put_cause};
+ghost use Rattle.pmg_scope.specs.Cached.{FitsCache, no_puts, with_put, marked, unsealed_of, put_cause};
+ghost use Rattle.pmg_scope.specs.Scripts.{Call, Script};
 
 use crate::batch::Batch;
 use crate::scope::{Reach, Scope, includes};
@@ -61,6 +62,8 @@ impl Cache {
         ensures answer { Gives (λ u. u) result (first_of (put_cause self.old scope key (spelling value)) tt) }
         ensures ok { OnOk result (self.new ≡ with_put self.old scope key (spelling value)) }
         ensures err { OnErr result (self.new ≡ self.old) }
+        ensures script { OnOk result ((s : Script) → FitsCache self.old s
+            → FitsCache self.new (s ++ Call.put scope key (spelling value) ∷ [])) }
     {
         if !includes(scope, Reach::Own) || key.is_reserved() {
             return Err(Refusal::BadParam);
@@ -89,7 +92,8 @@ impl Cache {
 
     /// Marks all puts as sealed by a commit.
     pub fn mark_sealed(&mut self)
-        ensures { self.new ≡ marked self.old }
+        ensures marked { self.new ≡ marked self.old }
+        ensures script { (s : Script) → FitsCache self.old s → FitsCache self.new (s ++ Call.commit ∷ []) }
     {
         self.tables.near.clear();
         self.tables.far.clear();

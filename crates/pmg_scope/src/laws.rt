@@ -1,4 +1,4 @@
-ghost use Rattle.pmg_scope.specs.CacheRules.{NewFits, PutFits, CommitFits, EnterFits, CacheIsOne, CommitSealsNext};
+ghost use Rattle.pmg_scope.specs.CacheRules.{NewFits, PutFits, CommitFits, EnterFits, EndFits, CacheIsOne, CommitSealsNext};
 ghost use Rattle.pmg_scope.specs.Examples.{EachScope, TwoValues, PutAgain, LostPut};
 ghost use Rattle.pmg_scope.specs.Rules.{CommitsNeverFall, PastValuesStay, PastSealsStay, EndIsLast, SealedIsValue, NoneIsNoValue};
 
@@ -29,6 +29,7 @@ pub fn cache_rules()
     ensures put_fits { PutFits }
     ensures commit_fits { CommitFits }
     ensures enter_fits { EnterFits }
+    ensures end_fits { EndFits }
     ensures cache_is_one { CacheIsOne }
     ensures commit_seals_next { CommitSealsNext }
 {}

@@ -1,6 +1,6 @@
 use Rattle.pmg_commit.specs.CoreLaws.{core-core}
 use Rattle.pmg_commit.proofs.Joining.{core_of_union, alike_after}
-use Rattle.pmg_commit.proofs.Rules.{numbers_are_between, level_is_reach, level_grows, read_is_latest, read_is_none, core_reads_alike, core_is_least, alike_now}
+use Rattle.pmg_commit.proofs.Rules.{numbers_are_between, level_is_reach, level_grows, level_reaches, read_is_latest, read_is_none, core_reads_alike, core_is_least, alike_now}
 use Rattle.pmg_commit.proofs.laws.knowledge_rules.Goals as goal
 
 pub returns : goal.returns
@@ -8,6 +8,7 @@ returns c = record {
   numbers_between = numbers_are_between;
   level_is_reach = level_is_reach;
   level_grows = level_grows;
+  level_reaches = level_reaches;
   read_is_latest = read_is_latest;
   read_is_none = read_is_none;
   core_reads_alike = core_reads_alike;

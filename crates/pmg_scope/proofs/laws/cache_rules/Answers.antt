@@ -1,4 +1,4 @@
-use Rattle.pmg_scope.proofs.CacheLaws.{new_fits, put_fits, commit_fits, enter_fits, cache_is_one, commit_seals_next}
+use Rattle.pmg_scope.proofs.CacheLaws.{new_fits, put_fits, commit_fits, enter_fits, end_fits, cache_is_one, commit_seals_next}
 use Rattle.pmg_scope.proofs.laws.cache_rules.Goals as goal
 
 pub returns : goal.returns
@@ -7,6 +7,7 @@ returns c = record {
   put_fits = put_fits;
   commit_fits = commit_fits;
   enter_fits = enter_fits;
+  end_fits = end_fits;
   cache_is_one = cache_is_one;
   commit_seals_next = commit_seals_next;
 }
