@@ -10,3 +10,5 @@ pub mod FenceLaws
 pub mod Lasts
 pub mod HeaderLaws
 pub mod HeaderTests
+pub mod EncodedLemmas
+pub mod FenceOrderLemmas

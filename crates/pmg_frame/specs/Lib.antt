@@ -1,3 +1,4 @@
+pub mod FenceOrder
 pub mod FenceReading
 pub mod Fences
 pub mod Frames

@@ -1,5 +1,7 @@
-ghost use Rattle.std.specs.Prelude.{◌≡◌, IfOk};
-ghost use Rattle.pmg_frame.specs.Spelling.{frame_spelling};
+ghost use Rattle.std.specs.Prelude.{◌≡◌, ◌≤◌, length, IfOk, OnOk};
+ghost use Rattle.pmg_frame.specs.Frames.{ReadsBack};
+ghost use Rattle.pmg_frame.specs.Grammar.{IsFrame};
+ghost use Rattle.pmg_frame.specs.Spelling.{body_spelling, frame_spelling};
 
 use crate::asks::{DirectAsk, FenceAsk, RangeAsk};
 use crate::header::Header;
@@ -32,9 +34,13 @@ pub enum Frame {
 }
 
 impl Frame {
-    /// The frame's one spelling: its head and its body.
+    /// The frame's one spelling: its head and its body. What is encoded keeps the rules of its kind and fits
+    /// into a frame, so it is read back as the same frame.
     pub fn encode(&self, alloc: Global) -> Result<BytesMut, AllocError>
-        ensures { IfOk result (λ out. out.items ≡ frame_spelling self.now) }
+        ensures bytes { IfOk result (λ out. out.items ≡ frame_spelling self.now) }
+        ensures valid { OnOk result (IsFrame self.now) }
+        ensures small { OnOk result (length (body_spelling self.now) ≤ 16777216) }
+        ensures read_back { IfOk result (λ out. ReadsBack self.now out.items) }
     {
         match self {
             Frame::Piece(piece) => encode_piece(alloc, piece),
@@ -43,5 +49,18 @@ impl Frame {
             Frame::RangeAsk(ask) => encode_range_ask(alloc, ask),
             Frame::DirectAsk(ask) => encode_direct_ask(alloc, ask),
         }
+    }
+
+    /// Another frame of the same meaning.
+    pub fn copy(&self) -> Result<Frame, AllocError>
+        ensures { IfOk result (λ f. f ≡ self.now) }
+    {
+        Ok(match self {
+            Frame::Piece(piece) => Frame::Piece(piece.copy()?),
+            Frame::Header(header) => Frame::Header(header.copy()?),
+            Frame::FenceAsk(ask) => Frame::FenceAsk(ask.copy()?),
+            Frame::RangeAsk(ask) => Frame::RangeAsk(ask.copy()?),
+            Frame::DirectAsk(ask) => Frame::DirectAsk(ask.copy()?),
+        })
     }
 }

@@ -145,6 +145,21 @@ fn each_kind_is_read_and_spelled_again(rt: HostRuntime) -> Result<(), Refusal> {
     Ok(())
 }
 
+#[test]
+fn a_copy_of_each_kind_is_spelled_as_the_frame(rt: HostRuntime) -> Result<(), Refusal> {
+    let alloc = rt.alloc();
+    let kinds: [&[u8]; 4] = [&HEADER, &FENCE_ASK, &RANGE_ASK, &DIRECT_ASK];
+    for bytes in kinds {
+        let fed = found_in(alloc, bytes)?;
+        assert_eq!(rt; fed.frames.len(), 1);
+        for frame in &fed.frames {
+            let copy = again!(frame.copy().map_err(Refusal::from))?;
+            assert_eq!(rt; spelled(alloc, &copy)?.as_slice(), bytes);
+        }
+    }
+    Ok(())
+}
+
 // Requires that the frame is spelled so.
 fn assert_spelled(
     rt: &impl Abort,

@@ -18,7 +18,7 @@ pub use asks::{DirectAsk, FenceAsk, RangeAsk};
 pub use fence_name::{FenceName, MAX_INSTANCE};
 pub use frame::{Frame, HEAD_SIZE, MAX_BODY_SIZE};
 pub use header::Header;
-pub use laws::{frame_rules, stream_rules};
+pub use laws::{fence_order, frame_rules, stream_rules};
 pub use local::{Local, State};
 pub use reading::get_frame;
 pub use signature::{MAX_PARTICIPANTS, Signature};
