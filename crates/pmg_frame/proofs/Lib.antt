@@ -12,3 +12,4 @@ pub mod HeaderLaws
 pub mod HeaderTests
 pub mod EncodedLemmas
 pub mod FenceOrderLemmas
+pub mod SameLemmas

@@ -1,10 +1,13 @@
-ghost use Rattle.std.specs.Prelude.{◌≡◌, ◌≤◌, length, IfOk, OnOk};
+ghost use Rattle.std.specs.Prelude.{◌≡◌, ◌≤◌, ◌↔◌, length, IsTrue, IfOk, OnOk};
 ghost use Rattle.pmg_frame.specs.Frames.{ReadsBack};
 ghost use Rattle.pmg_frame.specs.Grammar.{IsFrame};
 ghost use Rattle.pmg_frame.specs.Spelling.{body_spelling, frame_spelling};
 
 use crate::asks::{DirectAsk, FenceAsk, RangeAsk};
 use crate::header::Header;
+use crate::same::{
+    is_same_direct_ask, is_same_fence_ask, is_same_header, is_same_piece, is_same_range_ask,
+};
 use crate::writing::{
     encode_direct_ask, encode_fence_ask, encode_header, encode_piece, encode_range_ask,
 };
@@ -62,5 +65,33 @@ impl Frame {
             Frame::RangeAsk(ask) => Frame::RangeAsk(ask.copy()?),
             Frame::DirectAsk(ask) => Frame::DirectAsk(ask.copy()?),
         })
+    }
+
+    /// Whether the frames are one: they are of one kind and say the same.
+    pub fn is_same(&self, other: &Frame) -> bool
+        ensures { IsTrue result ↔ (self.now ≡ other.now) }
+    {
+        match self {
+            Frame::Piece(piece) => match other {
+                Frame::Piece(other) => is_same_piece(piece, other),
+                _ => false,
+            },
+            Frame::Header(header) => match other {
+                Frame::Header(other) => is_same_header(header, other),
+                _ => false,
+            },
+            Frame::FenceAsk(ask) => match other {
+                Frame::FenceAsk(other) => is_same_fence_ask(ask, other),
+                _ => false,
+            },
+            Frame::RangeAsk(ask) => match other {
+                Frame::RangeAsk(other) => is_same_range_ask(ask, other),
+                _ => false,
+            },
+            Frame::DirectAsk(ask) => match other {
+                Frame::DirectAsk(other) => is_same_direct_ask(ask, other),
+                _ => false,
+            },
+        }
     }
 }

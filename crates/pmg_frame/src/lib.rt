@@ -10,6 +10,7 @@ mod laws;
 mod local;
 mod piece_reading;
 mod reading;
+mod same;
 mod signature;
 mod stream;
 mod writing;
