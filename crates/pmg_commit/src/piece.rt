@@ -230,6 +230,7 @@ impl Piece {
     pub fn size(&self) -> usize
         ensures value { result ≡ body_size self.now.proc self.now.entries }
         ensures bound { result ≤ 16777216 }
+        ensures piece { IsTrue (is_piece self.now) }
     {
         self.proc.nspace.as_bytes().len() + 25 + entries_size(&self.entries)
     }

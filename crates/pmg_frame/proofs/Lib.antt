@@ -10,3 +10,6 @@ pub mod FenceLaws
 pub mod Lasts
 pub mod HeaderLaws
 pub mod HeaderTests
+pub mod EncodedLemmas
+pub mod FenceOrderLemmas
+pub mod SameLemmas

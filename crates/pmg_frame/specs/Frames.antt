@@ -1,7 +1,7 @@
 -- What reading one frame answers.
-use Rattle.std.specs.Prelude.{◌≡◌, Option, Some, None, Result, Ok, Err}
+use Rattle.std.specs.Prelude.{◌≡◌, ℕ, List, Option, Some, None, Result, Ok, Err}
 use Rattle.pmg_value.specs.declared.refusal.Refusal.{Refusal}
-use Rattle.pmg_wire.specs.Reading.{Place, FailsReading}
+use Rattle.pmg_wire.specs.Reading.{Place, Takes, FailsReading}
 use Rattle.pmg_frame.specs.declared.frame.Frame.{Frame}
 use Rattle.pmg_frame.specs.Reading.{frame_at}
 
@@ -11,3 +11,8 @@ abbrev pub ReadsFrame : Result (Option Frame) Refusal → Place → Place → Ty
 ReadsFrame (Ok (Some frame)) old new = frame_at old ≡ Ok (Some (frame, new))
 ReadsFrame (Ok None) old new = (frame_at old ≡ Ok None) × (new ≡ old)
 ReadsFrame (Err e) old new = FailsReading e (frame_at old) × (new ≡ old)
+
+-- Wherever these bytes stand, whatever is behind them, the next frame that is read is this one, and reading goes on
+-- behind them.
+abbrev pub ReadsBack : Frame → List ℕ → Type 0
+ReadsBack frame bytes = (at after : Place) → Takes at bytes after → frame_at at ≡ Ok (Some (frame, after))

@@ -1,8 +1,10 @@
+pub mod FenceOrder
 pub mod FenceReading
 pub mod Fences
 pub mod Frames
 pub mod Grammar
 pub mod Reading
+pub mod Sameness
 pub mod Spelling
 pub mod Streams
 pub use Rattle.pmg_commit.specs.Entries

@@ -71,8 +71,7 @@ impl Model for DirectAsk {
 fn can_be_asked(proc: &Proc, level: u64) -> bool
     ensures { result ≡ is_ask (commit_ask 0 proc.now level) }
 {
-    let commits = proc.is_client() || proc.is_host();
-    commits && level <= MAX_COMMIT
+    proc.can_commit() && level <= MAX_COMMIT
 }
 
 impl FenceAsk {

@@ -1,10 +1,16 @@
 ghost use Rattle.std.specs.Prelude.{◌≡◌, IsTrue, IfOk, Ok, Err, if◌then◌else◌};
 ghost use Rattle.pmg_frame.specs.Fences.{is_instance};
 ghost use Rattle.pmg_value.specs.declared.refusal.Refusal.TheVariants as refusals;
+ghost use Rattle.std.specs.Cmp.{partial_order_from_agreeing_total, partial_equiv_from_equiv};
+ghost use Rattle.std.specs.Ordering.{as_partial_cmp, eq_by_cmp};
+ghost use Rattle.std.proofs.Common.{refl};
+ghost use Rattle.std.proofs.lemmas.Cmp.{eq_by_cmp_equiv};
+ghost use Rattle.pmg_frame.specs.FenceOrder.{name_cmp, name_total};
 
 use crate::signature::Signature;
 use pmg_value::Refusal;
 use std::alloc::AllocError;
+use std::cmp::Ordering;
 use std::marker::Model;
 
 /// The greatest number of an instance.
@@ -72,4 +78,44 @@ impl FenceName {
             instance: self.instance,
         })
     }
+}
+
+/// By the signature, then by the instance.
+impl Ord for FenceName {
+    ghost cmp = { name_cmp };
+
+    ghost total = { name_total };
+
+    ghost matches_partial_cmp = { λ _ _. refl };
+
+    ghost matches_eq = { λ _ _. refl };
+
+    fn cmp(&self, other: &FenceName) -> Ordering {
+        let signatures = self.signature.cmp(&other.signature);
+        signatures.then(self.instance.cmp(&other.instance))
+    }
+}
+
+impl PartialOrd for FenceName {
+    ghost partial_cmp = { as_partial_cmp name_cmp };
+
+    ghost laws = { partial_order_from_agreeing_total name_cmp name_total (λ _ _. refl) (λ _ _. refl) };
+
+    fn partial_cmp(&self, other: &FenceName) -> Option<Ordering> {
+        Some(self.cmp(other))
+    }
+}
+
+impl PartialEq for FenceName {
+    ghost eq = { eq_by_cmp name_cmp };
+
+    ghost laws = { partial_equiv_from_equiv (eq_by_cmp_equiv name_total) };
+
+    fn eq(&self, other: &FenceName) -> bool {
+        self.cmp(other).is_eq()
+    }
+}
+
+impl Eq for FenceName {
+    ghost laws = { eq_by_cmp_equiv name_total };
 }

@@ -36,7 +36,7 @@ fn get_participant(
     let start = at.offset();
     let process = get_proc(alloc, Admits::Clients, at)?;
     if !is_greater(before, &process) {
-        return Err(Cursor::refuse(start, Cause::Order));
+        return Err(Refusal::bad_frame(start, Cause::Order));
     }
     Ok(process)
 }
@@ -61,12 +61,12 @@ fn get_name_fields(alloc: Global, at: &mut Cursor<'_>) -> Result<(bool, u64, Vec
     let instance_at = at.offset();
     let instance = at.get_u64()?;
     if instance == 0 || instance > MAX_INSTANCE {
-        return Err(Cursor::refuse(instance_at, Cause::Number));
+        return Err(Refusal::bad_frame(instance_at, Cause::Number));
     }
     let count_at = at.offset();
     let count = at.get_u32()?;
     if count == 0 || count as usize > MAX_PARTICIPANTS {
-        return Err(Cursor::refuse(count_at, Cause::Count));
+        return Err(Refusal::bad_frame(count_at, Cause::Count));
     }
     let participants = get_participants(alloc, count, at)?;
     Ok((collect, instance, participants))
@@ -90,7 +90,7 @@ fn get_node(at: &mut Cursor<'_>) -> Result<NodeId, Refusal>
     let start = at.offset();
     let index = at.get_u32()?;
     if index > MAX_NODE {
-        return Err(Cursor::refuse(start, Cause::Node));
+        return Err(Refusal::bad_frame(start, Cause::Node));
     }
     NodeId::new(index)
 }
@@ -102,7 +102,7 @@ fn get_level(at: &mut Cursor<'_>) -> Result<u64, Refusal>
     let start = at.offset();
     let level = at.get_u64()?;
     if level > MAX_COMMIT {
-        return Err(Cursor::refuse(start, Cause::Level));
+        return Err(Refusal::bad_frame(start, Cause::Level));
     }
     Ok(level)
 }
@@ -129,10 +129,10 @@ fn get_local(
     let start = at.offset();
     let proc = get_proc(alloc, Admits::Clients, at)?;
     if !is_behind(before, &proc) {
-        return Err(Cursor::refuse(start, Cause::Order));
+        return Err(Refusal::bad_frame(start, Cause::Order));
     }
     if !name.signature().contains(&proc) {
-        return Err(Cursor::refuse(start, Cause::Member));
+        return Err(Refusal::bad_frame(start, Cause::Member));
     }
     let gone = get_flag(at)?;
     let level = get_level(at)?;
@@ -169,7 +169,7 @@ fn get_header_fields(
     let count_at = at.offset();
     let count = at.get_u32()?;
     if count == 0 || count as usize > name.signature().participants().len() {
-        return Err(Cursor::refuse(count_at, Cause::Count));
+        return Err(Refusal::bad_frame(count_at, Cause::Count));
     }
     let locals = get_locals(alloc, &name, count, at)?;
     Ok((node, name, locals))

@@ -1,8 +1,13 @@
-ghost use Rattle.std.specs.Prelude.{◌≡◌, IfOk};
-ghost use Rattle.pmg_frame.specs.Spelling.{frame_spelling};
+ghost use Rattle.std.specs.Prelude.{◌≡◌, ◌≤◌, ◌↔◌, length, IsTrue, IfOk, OnOk};
+ghost use Rattle.pmg_frame.specs.Frames.{ReadsBack};
+ghost use Rattle.pmg_frame.specs.Grammar.{IsFrame};
+ghost use Rattle.pmg_frame.specs.Spelling.{body_spelling, frame_spelling};
 
 use crate::asks::{DirectAsk, FenceAsk, RangeAsk};
 use crate::header::Header;
+use crate::same::{
+    is_same_direct_ask, is_same_fence_ask, is_same_header, is_same_piece, is_same_range_ask,
+};
 use crate::writing::{
     encode_direct_ask, encode_fence_ask, encode_header, encode_piece, encode_range_ask,
 };
@@ -32,9 +37,13 @@ pub enum Frame {
 }
 
 impl Frame {
-    /// The frame's one spelling: its head and its body.
+    /// The frame's one spelling: its head and its body. What is encoded keeps the rules of its kind and fits
+    /// into a frame, so it is read back as the same frame.
     pub fn encode(&self, alloc: Global) -> Result<BytesMut, AllocError>
-        ensures { IfOk result (λ out. out.items ≡ frame_spelling self.now) }
+        ensures bytes { IfOk result (λ out. out.items ≡ frame_spelling self.now) }
+        ensures valid { OnOk result (IsFrame self.now) }
+        ensures small { OnOk result (length (body_spelling self.now) ≤ 16777216) }
+        ensures read_back { IfOk result (λ out. ReadsBack self.now out.items) }
     {
         match self {
             Frame::Piece(piece) => encode_piece(alloc, piece),
@@ -42,6 +51,47 @@ impl Frame {
             Frame::FenceAsk(ask) => encode_fence_ask(alloc, ask),
             Frame::RangeAsk(ask) => encode_range_ask(alloc, ask),
             Frame::DirectAsk(ask) => encode_direct_ask(alloc, ask),
+        }
+    }
+
+    /// Another frame of the same meaning.
+    pub fn copy(&self) -> Result<Frame, AllocError>
+        ensures { IfOk result (λ f. f ≡ self.now) }
+    {
+        Ok(match self {
+            Frame::Piece(piece) => Frame::Piece(piece.copy()?),
+            Frame::Header(header) => Frame::Header(header.copy()?),
+            Frame::FenceAsk(ask) => Frame::FenceAsk(ask.copy()?),
+            Frame::RangeAsk(ask) => Frame::RangeAsk(ask.copy()?),
+            Frame::DirectAsk(ask) => Frame::DirectAsk(ask.copy()?),
+        })
+    }
+
+    /// Whether the frames are one: they are of one kind and say the same.
+    pub fn is_same(&self, other: &Frame) -> bool
+        ensures { IsTrue result ↔ (self.now ≡ other.now) }
+    {
+        match self {
+            Frame::Piece(piece) => match other {
+                Frame::Piece(other) => is_same_piece(piece, other),
+                _ => false,
+            },
+            Frame::Header(header) => match other {
+                Frame::Header(other) => is_same_header(header, other),
+                _ => false,
+            },
+            Frame::FenceAsk(ask) => match other {
+                Frame::FenceAsk(other) => is_same_fence_ask(ask, other),
+                _ => false,
+            },
+            Frame::RangeAsk(ask) => match other {
+                Frame::RangeAsk(other) => is_same_range_ask(ask, other),
+                _ => false,
+            },
+            Frame::DirectAsk(ask) => match other {
+                Frame::DirectAsk(other) => is_same_direct_ask(ask, other),
+                _ => false,
+            },
         }
     }
 }

@@ -145,6 +145,83 @@ fn each_kind_is_read_and_spelled_again(rt: HostRuntime) -> Result<(), Refusal> {
     Ok(())
 }
 
+#[test]
+fn a_copy_of_each_kind_is_spelled_as_the_frame(rt: HostRuntime) -> Result<(), Refusal> {
+    let alloc = rt.alloc();
+    let kinds: [&[u8]; 4] = [&HEADER, &FENCE_ASK, &RANGE_ASK, &DIRECT_ASK];
+    for bytes in kinds {
+        let fed = found_in(alloc, bytes)?;
+        assert_eq!(rt; fed.frames.len(), 1);
+        for frame in &fed.frames {
+            let copy = again!(frame.copy().map_err(Refusal::from))?;
+            assert_eq!(rt; spelled(alloc, &copy)?.as_slice(), bytes);
+            assert!(rt; copy.is_same(frame));
+        }
+    }
+    Ok(())
+}
+
+#[test]
+fn frames_of_other_bytes_are_others(rt: HostRuntime) -> Result<(), Refusal> {
+    let alloc = rt.alloc();
+    let later = ask_with(&RANGE_ASK, 23, 3);
+    let kinds: [&[u8]; 6] = [
+        &HEADER,
+        &FENCE_ASK,
+        &RANGE_ASK,
+        &DIRECT_ASK,
+        &HOST_ASK,
+        &later,
+    ];
+    for (i, bytes) in kinds.iter().enumerate() {
+        for (k, others) in kinds.iter().enumerate() {
+            let fed = found_in(alloc, bytes)?;
+            let other = found_in(alloc, others)?;
+            for frame in &fed.frames {
+                for other in &other.frames {
+                    assert_eq!(rt; frame.is_same(other), i == k, "{i} and {k}");
+                }
+            }
+        }
+    }
+    Ok(())
+}
+
+// The name of the fence of these ranks of j.
+fn name_of(
+    alloc: Global,
+    ranks: &[u32],
+    collect: bool,
+    instance: u64,
+) -> Result<FenceName, Refusal> {
+    let mut list = Vec::new(alloc);
+    for rank in ranks {
+        list.push(process(alloc, *rank)?)?;
+    }
+    FenceName::new(Signature::new(list, collect)?, instance)
+}
+
+#[test]
+fn fences_rise_by_participants_collecting_and_instance(rt: HostRuntime) -> Result<(), Refusal> {
+    let rising: [(&[u32], bool, u64); 6] = [
+        (&[0], false, 9),
+        (&[0], true, 1),
+        (&[0], true, 2),
+        (&[1, 0], false, 1),
+        (&[2, 0], false, 1),
+        (&[1], false, 1),
+    ];
+    for (i, own) in rising.iter().enumerate() {
+        for (k, others) in rising.iter().enumerate() {
+            let first = name_of(rt.alloc(), own.0, own.1, own.2)?;
+            let second = name_of(rt.alloc(), others.0, others.1, others.2)?;
+            assert_eq!(rt; first.cmp(&second), i.cmp(&k), "{i} and {k}");
+            assert_eq!(rt; first == second, i == k, "{i} and {k}");
+        }
+    }
+    Ok(())
+}
+
 // Requires that the frame is spelled so.
 fn assert_spelled(
     rt: &impl Abort,

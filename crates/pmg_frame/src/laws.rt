@@ -1,3 +1,4 @@
+ghost use Rattle.pmg_frame.specs.FenceOrder.{AreSignaturesExact, AreNamesExact};
 ghost use Rattle.pmg_frame.specs.Grammar.{IsFound, IsOnly, IsOneSpelling, ArePieces, AreHeaders, AreFitting};
 ghost use Rattle.pmg_frame.specs.Streams.{Joins, StaysClosed, IsDetermined, AreSpelled, AreFound, IsSaid};
 
@@ -22,4 +23,10 @@ pub fn stream_rules()
     ensures spelled { AreSpelled }
     ensures found { AreFound }
     ensures said { IsSaid }
+{}
+
+/// The orders of signatures and of fences' names tell each from each: what compares as equal is one.
+pub fn fence_order()
+    ensures signatures { AreSignaturesExact }
+    ensures names { AreNamesExact }
 {}

@@ -12,7 +12,7 @@ pub enum State {
 
 /// What a header tells of one of its node's own participants: how it stands to the fence, and its level at the
 /// entry, or at its termination.
-#[derive(Debug, Drop)]
+#[derive(Debug, Drop, PartialEq, Eq)]
 pub struct Local {
     pub proc: Proc,
     pub state: State,

@@ -33,12 +33,12 @@ fn get_entry(
     let key_at = at.offset();
     let key = get_key(alloc, at)?;
     if !is_key_after(before, &key) {
-        return Err(Cursor::refuse(key_at, Cause::Order));
+        return Err(Refusal::bad_frame(key_at, Cause::Order));
     }
     let number_at = at.offset();
     let number = at.get_u64()?;
     if number <= from || to < number {
-        return Err(Cursor::refuse(number_at, Cause::Number));
+        return Err(Refusal::bad_frame(number_at, Cause::Number));
     }
     let value = get_value(alloc, at)?;
     Ok(PieceEntry { key, number, value })
@@ -74,12 +74,12 @@ fn get_piece_fields(
     let from = at.get_u64()?;
     let to = at.get_u64()?;
     if to <= from || MAX_COMMIT < to {
-        return Err(Cursor::refuse(range_at, Cause::Range));
+        return Err(Refusal::bad_frame(range_at, Cause::Range));
     }
     let count_at = at.offset();
     let count = at.get_u32()?;
     if count as usize > MAX_ENTRIES {
-        return Err(Cursor::refuse(count_at, Cause::Count));
+        return Err(Refusal::bad_frame(count_at, Cause::Count));
     }
     let entries = get_entries(alloc, from, to, count, at)?;
     Ok((process, from, to, entries))

@@ -35,7 +35,7 @@ fn get_body(alloc: Global, kind: u8, at: &mut Cursor<'_>) -> Result<Frame, Refus
 {
     let frame = get_fields(alloc, kind, at)?;
     if !at.rest().is_empty() {
-        return Err(Cursor::refuse(at.offset(), Cause::Long));
+        return Err(Refusal::bad_frame(at.offset(), Cause::Long));
     }
     Ok(frame)
 }
@@ -47,17 +47,17 @@ fn get_head(at: &mut Cursor<'_>) -> Result<(u8, u32), Refusal>
 {
     let version_at = at.offset();
     if at.get_u8()? != 1 {
-        return Err(Cursor::refuse(version_at, Cause::Version));
+        return Err(Refusal::bad_frame(version_at, Cause::Version));
     }
     let kind_at = at.offset();
     let kind = at.get_u8()?;
     if kind == 0 || kind > MAX_KIND {
-        return Err(Cursor::refuse(kind_at, Cause::Kind));
+        return Err(Refusal::bad_frame(kind_at, Cause::Kind));
     }
     let len_at = at.offset();
     let len = at.get_u32()?;
     if len > MAX_BODY_SIZE {
-        return Err(Cursor::refuse(len_at, Cause::Length));
+        return Err(Refusal::bad_frame(len_at, Cause::Length));
     }
     Ok((kind, len))
 }

@@ -3,9 +3,15 @@ ghost use Rattle.std.specs.FinSet as set;
 ghost use Rattle.std.specs.List.{list_all};
 ghost use Rattle.pmg_value.specs.Process.{is_client};
 ghost use Rattle.pmg_frame.specs.Fences.{AreParticipants, in_order, signature, asked_signature};
+ghost use Rattle.std.specs.Cmp.{partial_order_from_agreeing_total, partial_equiv_from_equiv};
+ghost use Rattle.std.specs.Ordering.{as_partial_cmp, eq_by_cmp};
+ghost use Rattle.std.proofs.Common.{refl};
+ghost use Rattle.std.proofs.lemmas.Cmp.{eq_by_cmp_equiv};
+ghost use Rattle.pmg_frame.specs.FenceOrder.{signature_cmp, signature_total};
 
 use pmg_value::{Proc, Refusal};
 use std::alloc::AllocError;
+use std::cmp::Ordering;
 use std::marker::Model;
 
 /// The most participants of a fence.
@@ -111,6 +117,46 @@ impl Signature {
             collect: self.collect,
         })
     }
+}
+
+/// By the participants in their order, then by whether data is collected.
+impl Ord for Signature {
+    ghost cmp = { signature_cmp };
+
+    ghost total = { signature_total };
+
+    ghost matches_partial_cmp = { λ _ _. refl };
+
+    ghost matches_eq = { λ _ _. refl };
+
+    fn cmp(&self, other: &Signature) -> Ordering {
+        let participants = self.participants().cmp(other.participants());
+        participants.then(self.collect.cmp(&other.collect))
+    }
+}
+
+impl PartialOrd for Signature {
+    ghost partial_cmp = { as_partial_cmp signature_cmp };
+
+    ghost laws = { partial_order_from_agreeing_total signature_cmp signature_total (λ _ _. refl) (λ _ _. refl) };
+
+    fn partial_cmp(&self, other: &Signature) -> Option<Ordering> {
+        Some(self.cmp(other))
+    }
+}
+
+impl PartialEq for Signature {
+    ghost eq = { eq_by_cmp signature_cmp };
+
+    ghost laws = { partial_equiv_from_equiv (eq_by_cmp_equiv signature_total) };
+
+    fn eq(&self, other: &Signature) -> bool {
+        self.cmp(other).is_eq()
+    }
+}
+
+impl Eq for Signature {
+    ghost laws = { eq_by_cmp_equiv signature_total };
 }
 
 /// Other handles of the same processes, with the same allocator.

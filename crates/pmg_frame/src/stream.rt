@@ -135,7 +135,7 @@ impl Stream {
             return Err(Refusal::Closed);
         }
         if !self.held.is_empty() {
-            return Err(Cursor::refuse(self.offset, Cause::Cut));
+            return Err(Refusal::bad_frame(self.offset, Cause::Cut));
         }
         Ok(())
     }

@@ -96,6 +96,8 @@ fn a_frame_is_read_and_spelled_again(rt: HostRuntime) -> Result<(), Refusal> {
     assert_eq!(rt; fed.fault, None);
     assert_spelled(&rt, alloc, &fed.frames, &[&PIECE])?;
     for frame in &fed.frames {
+        let copy = again!(frame.copy().map_err(Refusal::from))?;
+        assert_eq!(rt; spelled(alloc, &copy)?.as_slice(), PIECE.as_slice());
         let Frame::Piece(piece) = frame else {
             return Err(Refusal::NotFound);
         };

@@ -1,11 +1,13 @@
 //! Frames as bytes: each kind has one spelling.
-ghost use Rattle.std.specs.Prelude.{◌≡◌, ◌++◌, ◌+◌, ◌*◌, ◌<◌, ◌≤◌, ◌^◌, IfOk, OnOk, map, length};
+ghost use Rattle.std.specs.Prelude.{◌≡◌, ◌++◌, ◌+◌, ◌*◌, ◌<◌, ◌≤◌, ◌^◌, IfOk, OnOk, IsTrue, map, length};
 ghost use Rattle.std.specs.Int.{w32, to_be_bytes};
-ghost use Rattle.std.specs.List.{flat_map};
+ghost use Rattle.std.specs.List.{flat_map, list_all};
+ghost use Rattle.pmg_value.specs.Names.{is_nspace};
 ghost use Rattle.pmg_wire.specs.Spelling.{proc_spelling};
 ghost use Rattle.pmg_commit.specs.Pieces.{entry_of};
 ghost use Rattle.pmg_frame.specs.declared.frame.Frame.TheVariants as frames;
 ghost use Rattle.pmg_frame.specs.Fences.{is_gone, commit_ask};
+ghost use Rattle.pmg_frame.specs.Grammar.{IsEntry, AreEntries, IsName, IsHeader, IsFenceAsk, IsFrame};
 ghost use Rattle.pmg_frame.specs.Spelling.{entry_spelling, piece_body, head_spelling, frame_spelling, flag_spelling, procs_spelling, name_spelling, local_spelling, header_body, fence_ask_body, commit_ask_body};
 
 use crate::asks::{DirectAsk, FenceAsk, RangeAsk};
@@ -27,7 +29,9 @@ fn put_head(out: &mut BytesMut, kind: u8, len: u32) -> Result<(), AllocError>
 }
 
 pub fn encode_piece(alloc: Global, piece: &Piece) -> Result<BytesMut, AllocError>
-    ensures { IfOk result (λ out. out.items ≡ frame_spelling (frames.Piece piece.now)) }
+    ensures bytes { IfOk result (λ out. out.items ≡ frame_spelling (frames.Piece piece.now)) }
+    ensures valid { OnOk result (IsFrame (frames.Piece piece.now)) }
+    ensures small { OnOk result (length (piece_body piece.now) ≤ 16777216) }
 {
     let size = piece.size();
     let mut out = BytesMut::with_capacity(alloc, HEAD_SIZE + size)?;
@@ -37,7 +41,9 @@ pub fn encode_piece(alloc: Global, piece: &Piece) -> Result<BytesMut, AllocError
 }
 
 fn put_piece(out: &mut BytesMut, piece: &Piece) -> Result<(), AllocError>
-    ensures { OnOk result (out.new.items ≡ out.old.items ++ piece_body piece.now) }
+    ensures bytes { OnOk result (out.new.items ≡ out.old.items ++ piece_body piece.now) }
+    ensures name { OnOk result (IsTrue (is_nspace piece.now.proc.nspace)) }
+    ensures entries { OnOk result (AreEntries piece.now.entries) }
 {
     put_proc(out, piece.proc())?;
     out.extend_from_slice(&piece.from().to_be_bytes())?;
@@ -47,7 +53,8 @@ fn put_piece(out: &mut BytesMut, piece: &Piece) -> Result<(), AllocError>
 }
 
 fn put_entries(out: &mut BytesMut, entries: &[PieceEntry]) -> Result<(), AllocError>
-    ensures { OnOk result (out.new.items ≡ out.old.items ++ flat_map entry_spelling (map entry_of entries.now)) }
+    ensures bytes { OnOk result (out.new.items ≡ out.old.items ++ flat_map entry_spelling (map entry_of entries.now)) }
+    ensures entries { OnOk result (AreEntries (map entry_of entries.now)) }
 {
     for entry in entries {
         put_entry(out, entry)?;
@@ -56,7 +63,8 @@ fn put_entries(out: &mut BytesMut, entries: &[PieceEntry]) -> Result<(), AllocEr
 }
 
 fn put_entry(out: &mut BytesMut, entry: &PieceEntry) -> Result<(), AllocError>
-    ensures { OnOk result (out.new.items ≡ out.old.items ++ entry_spelling (entry_of entry.now)) }
+    ensures bytes { OnOk result (out.new.items ≡ out.old.items ++ entry_spelling (entry_of entry.now)) }
+    ensures entry { OnOk result (IsEntry (entry_of entry.now)) }
 {
     put_key(out, &entry.key)?;
     out.extend_from_slice(&entry.number.to_be_bytes())?;
@@ -113,13 +121,15 @@ fn put_flag(out: &mut BytesMut, flag: bool) -> Result<(), AllocError>
 }
 
 fn put_node(out: &mut BytesMut, node: NodeId) -> Result<(), AllocError>
-    ensures { OnOk result (out.new.items ≡ out.old.items ++ to_be_bytes w32 node) }
+    ensures bytes { OnOk result (out.new.items ≡ out.old.items ++ to_be_bytes w32 node) }
+    ensures bound { node ≤ 63 }
 {
     out.extend_from_slice(&node.index().to_be_bytes())
 }
 
 fn put_procs(out: &mut BytesMut, procs: &[Proc]) -> Result<(), AllocError>
-    ensures { OnOk result (out.new.items ≡ out.old.items ++ flat_map proc_spelling procs.now) }
+    ensures bytes { OnOk result (out.new.items ≡ out.old.items ++ flat_map proc_spelling procs.now) }
+    ensures names { OnOk result (IsTrue (list_all (λ p. is_nspace p.nspace) procs.now)) }
 {
     for process in procs {
         put_proc(out, process)?;
@@ -128,7 +138,8 @@ fn put_procs(out: &mut BytesMut, procs: &[Proc]) -> Result<(), AllocError>
 }
 
 fn put_name(out: &mut BytesMut, name: &FenceName) -> Result<(), AllocError>
-    ensures { OnOk result (out.new.items ≡ out.old.items ++ name_spelling name.now) }
+    ensures bytes { OnOk result (out.new.items ≡ out.old.items ++ name_spelling name.now) }
+    ensures valid { OnOk result (IsName name.now) }
 {
     let participants = name.signature().participants();
     put_flag(out, name.signature().collect())?;
@@ -164,7 +175,8 @@ fn put_locals(out: &mut BytesMut, locals: &[Local]) -> Result<(), AllocError>
 }
 
 fn put_header(out: &mut BytesMut, header: &Header) -> Result<(), AllocError>
-    ensures { OnOk result (out.new.items ≡ out.old.items ++ header_body header.now) }
+    ensures bytes { OnOk result (out.new.items ≡ out.old.items ++ header_body header.now) }
+    ensures valid { OnOk result (IsHeader header.now) }
 {
     let locals = header.locals();
     put_node(out, header.node())?;
@@ -174,7 +186,8 @@ fn put_header(out: &mut BytesMut, header: &Header) -> Result<(), AllocError>
 }
 
 pub fn encode_header(alloc: Global, header: &Header) -> Result<BytesMut, AllocError>
-    ensures { IfOk result (λ out. out.items ≡ frame_spelling (frames.Header header.now)) }
+    ensures bytes { IfOk result (λ out. out.items ≡ frame_spelling (frames.Header header.now)) }
+    ensures valid { OnOk result (IsFrame (frames.Header header.now)) }
 {
     let size = name_size(header.name()) + locals_size(header.locals()) + 8;
     let mut out = BytesMut::with_capacity(alloc, HEAD_SIZE + size)?;
@@ -184,14 +197,16 @@ pub fn encode_header(alloc: Global, header: &Header) -> Result<BytesMut, AllocEr
 }
 
 fn put_fence_ask(out: &mut BytesMut, ask: &FenceAsk) -> Result<(), AllocError>
-    ensures { OnOk result (out.new.items ≡ out.old.items ++ fence_ask_body ask.now) }
+    ensures bytes { OnOk result (out.new.items ≡ out.old.items ++ fence_ask_body ask.now) }
+    ensures valid { OnOk result (IsFenceAsk ask.now) }
 {
     put_node(out, ask.node())?;
     put_name(out, ask.name())
 }
 
 pub fn encode_fence_ask(alloc: Global, ask: &FenceAsk) -> Result<BytesMut, AllocError>
-    ensures { IfOk result (λ out. out.items ≡ frame_spelling (frames.FenceAsk ask.now)) }
+    ensures bytes { IfOk result (λ out. out.items ≡ frame_spelling (frames.FenceAsk ask.now)) }
+    ensures valid { OnOk result (IsFrame (frames.FenceAsk ask.now)) }
 {
     let size = name_size(ask.name()) + 4;
     let mut out = BytesMut::with_capacity(alloc, HEAD_SIZE + size)?;
@@ -206,7 +221,9 @@ fn put_commit_ask(
     proc: &Proc,
     level: u64,
 ) -> Result<(), AllocError>
-    ensures { OnOk result (out.new.items ≡ out.old.items ++ commit_ask_body (commit_ask node proc.now level)) }
+    ensures bytes { OnOk result (out.new.items ≡ out.old.items ++ commit_ask_body (commit_ask node proc.now level)) }
+    ensures node { OnOk result (node ≤ 63) }
+    ensures name { OnOk result (IsTrue (is_nspace proc.now.nspace)) }
 {
     put_node(out, node)?;
     put_proc(out, proc)?;
@@ -214,7 +231,8 @@ fn put_commit_ask(
 }
 
 pub fn encode_range_ask(alloc: Global, ask: &RangeAsk) -> Result<BytesMut, AllocError>
-    ensures { IfOk result (λ out. out.items ≡ frame_spelling (frames.RangeAsk ask.now)) }
+    ensures bytes { IfOk result (λ out. out.items ≡ frame_spelling (frames.RangeAsk ask.now)) }
+    ensures valid { OnOk result (IsFrame (frames.RangeAsk ask.now)) }
 {
     let size = proc_size(ask.proc()) + 12;
     let mut out = BytesMut::with_capacity(alloc, HEAD_SIZE + size)?;
@@ -224,7 +242,8 @@ pub fn encode_range_ask(alloc: Global, ask: &RangeAsk) -> Result<BytesMut, Alloc
 }
 
 pub fn encode_direct_ask(alloc: Global, ask: &DirectAsk) -> Result<BytesMut, AllocError>
-    ensures { IfOk result (λ out. out.items ≡ frame_spelling (frames.DirectAsk ask.now)) }
+    ensures bytes { IfOk result (λ out. out.items ≡ frame_spelling (frames.DirectAsk ask.now)) }
+    ensures valid { OnOk result (IsFrame (frames.DirectAsk ask.now)) }
 {
     let size = proc_size(ask.proc()) + 12;
     let mut out = BytesMut::with_capacity(alloc, HEAD_SIZE + size)?;

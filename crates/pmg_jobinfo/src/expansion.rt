@@ -42,12 +42,12 @@ impl Registry {
     fn is_bad(&self, proc: &Proc) -> bool
         ensures { result ≡ is_bad self.now proc.now }
     {
-        let rank = proc.rank.number();
-        if rank == Rank::UNDEF {
+        let rank = proc.rank;
+        if rank.is_undef() {
             return true;
         }
         match self.homes(&proc.nspace) {
-            Some(homes) => rank != Rank::WILDCARD && rank as usize >= homes.len(),
+            Some(homes) => !rank.is_wildcard() && rank.number() as usize >= homes.len(),
             None => false,
         }
     }
@@ -91,7 +91,7 @@ impl Registry {
     fn add_meant(&self, all: &mut BTreeSet<Proc>, proc: &Proc) -> Result<(), AllocError>
         ensures { OnOk result ((q : Proc) → contains proc_cmp all.new q ≡ (list_any (eq_by_cmp proc_cmp q) (meant self.now proc.now) || contains proc_cmp all.old q)) }
     {
-        if proc.rank.number() == Rank::WILDCARD {
+        if proc.rank.is_wildcard() {
             add_members(all, &proc.nspace, self.count(&proc.nspace))
         } else {
             add(all, proc.copy()?)

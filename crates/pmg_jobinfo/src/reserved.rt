@@ -10,7 +10,7 @@ ghost use Rattle.pmg_jobinfo.specs.Reserved.{key_name, key_of, count_at, is_gene
 
 use crate::homes::{count_at, count_hosts, peers_at};
 use crate::registry::Registry;
-use pmg_value::{Key, NodeId, Proc, Rank, Refusal, Text, Value};
+use pmg_value::{Key, NodeId, Proc, Refusal, Text, Value};
 
 /// A key that a server answers by itself (PMIx Standard 5.0, reserved keys).
 #[derive(Clone, Copy, Debug, PartialEq, Eq)]
@@ -84,8 +84,7 @@ impl ReservedKey {
 fn is_general(proc: &Proc) -> bool
     ensures { result ≡ is_general proc.now }
 {
-    let rank = proc.rank.number();
-    rank == Rank::WILDCARD || rank == Rank::UNDEF
+    proc.rank.is_wildcard() || proc.rank.is_undef()
 }
 
 impl Registry {

@@ -5,6 +5,12 @@ use pmg_value::{Key, NodeId, Nspace, Proc, Rank, Refusal, Value};
 use std::alloc::Global;
 use std::process::Abort;
 
+// The number of PMIX_RANK_WILDCARD.
+const WILDCARD: u32 = 4294967294;
+
+// The number of PMIX_RANK_UNDEF.
+const UNDEF: u32 = 4294967295;
+
 // The answer, asked for a second time where memory ran out.
 macro_rules! again {
     ($call:expr) => {
@@ -72,21 +78,21 @@ fn reserved_keys_are_answered(rt: HostRuntime) -> Result<(), Refusal> {
     let alloc = rt.alloc();
     let registry = three_processes(alloc)?;
     let cases: [(u32, &[u8], &[u8]); 17] = [
-        (Rank::WILDCARD, b"pmix.job.size", b"u32:3"),
-        (Rank::WILDCARD, b"pmix.num.nodes", b"u32:2"),
-        (Rank::WILDCARD, b"pmix.jobid", b"string:6a"),
-        (Rank::WILDCARD, b"pmix.local.size", b"u32:2"),
+        (WILDCARD, b"pmix.job.size", b"u32:3"),
+        (WILDCARD, b"pmix.num.nodes", b"u32:2"),
+        (WILDCARD, b"pmix.jobid", b"string:6a"),
+        (WILDCARD, b"pmix.local.size", b"u32:2"),
         (1, b"pmix.local.size", b"u32:1"),
-        (Rank::WILDCARD, b"pmix.lpeers", b"string:302c32"),
+        (WILDCARD, b"pmix.lpeers", b"string:302c32"),
         (1, b"pmix.lpeers", b"string:31"),
         (2, b"pmix.lrank", b"u16:1"),
         (1, b"pmix.lrank", b"u16:0"),
         (1, b"pmix.nodeid", b"u32:1"),
-        (Rank::WILDCARD, b"pmix.nodeid", b"u32:0"),
+        (WILDCARD, b"pmix.nodeid", b"u32:0"),
         (1, b"pmix.hname", b"string:6e31"),
-        (Rank::UNDEF, b"pmix.hname", b"string:6e30"),
+        (UNDEF, b"pmix.hname", b"string:6e30"),
         (0, b"pmix.rank", b"rank:0"),
-        (Rank::UNDEF, b"pmix.job.size", b"u32:3"),
+        (UNDEF, b"pmix.job.size", b"u32:3"),
         (2, b"pmix.job.size", b"u32:3"),
         (1, b"pmix.jobid", b"string:6a"),
     ];
@@ -102,8 +108,8 @@ fn reserved_keys_are_refused(rt: HostRuntime) -> Result<(), Refusal> {
     let alloc = rt.alloc();
     let registry = three_processes(alloc)?;
     let cases: [(&[u8], u32, &[u8], Refusal); 9] = [
-        (b"j", Rank::WILDCARD, b"pmix.lrank", Refusal::NotFound),
-        (b"j", Rank::UNDEF, b"pmix.rank", Refusal::NotFound),
+        (b"j", WILDCARD, b"pmix.lrank", Refusal::NotFound),
+        (b"j", UNDEF, b"pmix.rank", Refusal::NotFound),
         (b"j", 0, b"pmix.nrank", Refusal::NotFound),
         (b"j", 0, b"pmix.job.siz", Refusal::NotFound),
         (b"j", 0, b"a", Refusal::NotFound),
@@ -134,7 +140,7 @@ fn a_node_without_processes_has_no_peers(rt: HostRuntime) -> Result<(), Refusal>
         (b"pmix.num.nodes", b"u32:1"),
     ];
     for (key, want) in cases {
-        let text = answer(alloc, &registry, b"k", Rank::WILDCARD, key)?;
+        let text = answer(alloc, &registry, b"k", WILDCARD, key)?;
         assert_eq!(rt; text.as_slice(), want);
     }
     Ok(())
@@ -230,7 +236,7 @@ fn check_homes(rt: &impl Abort, alloc: Global, registry: &Registry) -> Result<()
         (b"j", 1, Ok(1)),
         (b"j", 2, Ok(0)),
         (b"j", 3, Err(Refusal::BadParam)),
-        (b"j", Rank::WILDCARD, Err(Refusal::BadParam)),
+        (b"j", WILDCARD, Err(Refusal::BadParam)),
         (b"k", 0, Err(Refusal::UnknownNamespace)),
         (b"pmix.host", 0, Ok(0)),
         (b"pmix.host", 1, Err(Refusal::UnknownNamespace)),
@@ -274,8 +280,8 @@ fn lists_are_expanded(rt: HostRuntime) -> Result<(), Refusal> {
     let cases: [(&[u32], &[u32]); 5] = [
         (&[], &[]),
         (&[2, 0, 2], &[0, 2]),
-        (&[Rank::WILDCARD], &[0, 1, 2]),
-        (&[1, Rank::WILDCARD, 1, Rank::WILDCARD], &[0, 1, 2]),
+        (&[WILDCARD], &[0, 1, 2]),
+        (&[1, WILDCARD, 1, WILDCARD], &[0, 1, 2]),
         (&[1], &[1]),
     ];
     for (ranks, want) in cases {
@@ -304,10 +310,10 @@ fn lists_are_refused(rt: HostRuntime) -> Result<(), Refusal> {
     let registry = three_processes(alloc)?;
     let cases: [(&[u8], u32, Option<Refusal>); 7] = [
         (b"j", 2, None),
-        (b"j", Rank::WILDCARD, None),
+        (b"j", WILDCARD, None),
         (b"j", 3, Some(Refusal::BadParam)),
-        (b"j", Rank::UNDEF, Some(Refusal::BadParam)),
-        (b"k", Rank::UNDEF, Some(Refusal::BadParam)),
+        (b"j", UNDEF, Some(Refusal::BadParam)),
+        (b"k", UNDEF, Some(Refusal::BadParam)),
         (b"k", 0, Some(Refusal::UnknownNamespace)),
         (b"pmix.host", 0, Some(Refusal::UnknownNamespace)),
     ];
@@ -339,7 +345,7 @@ fn namespaces_and_ranks_are_limited(rt: HostRuntime) -> Result<(), Refusal> {
     assert_eq!(rt; registry.home(&last).map(NodeId::index), Ok(1));
     let text = answer(alloc, &registry, b"p", 4095, b"pmix.lrank")?;
     assert_eq!(rt; text.as_slice(), b"u16:4095".as_slice());
-    let all = process(alloc, b"c", Rank::WILDCARD)?;
+    let all = process(alloc, b"c", WILDCARD)?;
     let mut list = again!(Vec::with_capacity(alloc, 1).map_err(Refusal::from))?;
     list.push(all)?;
     assert_eq!(rt; again!(registry.expand(&list))?.len(), 4096);

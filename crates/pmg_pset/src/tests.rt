@@ -5,6 +5,12 @@ use pmg_value::{Array, Key, Nspace, Proc, Rank, Refusal, Value};
 use std::alloc::Global;
 use std::process::Abort;
 
+// The number of PMIX_RANK_WILDCARD.
+const WILDCARD: u32 = 4294967294;
+
+// The number of PMIX_RANK_UNDEF.
+const UNDEF: u32 = 4294967295;
+
 // The answer, asked for a second time where memory ran out.
 macro_rules! again {
     ($call:expr) => {
@@ -159,8 +165,8 @@ fn bad_definitions_are_refused(rt: HostRuntime) -> Result<(), Refusal> {
     let bad = Err(Refusal::BadParam);
     assert_eq!(rt; define(&mut sets, alloc, b"a", &[]), bad);
     assert_eq!(rt; define(&mut sets, alloc, b"pmix.a", &[0]), bad);
-    assert_eq!(rt; define(&mut sets, alloc, b"b", &[0, Rank::WILDCARD]), bad);
-    assert_eq!(rt; define(&mut sets, alloc, b"b", &[Rank::UNDEF]), bad);
+    assert_eq!(rt; define(&mut sets, alloc, b"b", &[0, WILDCARD]), bad);
+    assert_eq!(rt; define(&mut sets, alloc, b"b", &[UNDEF]), bad);
     assert_eq!(rt; define(&mut sets, alloc, b"b", &[4096]), bad);
     assert_eq!(rt; define_of(&mut sets, alloc, b"b", b"pmix.host", &[0]), bad);
     assert_eq!(rt; sets.level(), 1);

@@ -8,6 +8,7 @@ pub mod Maps
 pub mod Names
 pub mod Nesting
 pub mod Operations
+pub mod Orders
 pub mod Parts
 pub mod Plain
 pub mod Process

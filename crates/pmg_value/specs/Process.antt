@@ -1,5 +1,5 @@
 -- Processes in definitions, and their order.
-use Rattle.std.specs.Prelude.{ℕ, Bool, ◌&&◌, ◌==◌, not, nat_le, List, codes, refl}
+use Rattle.std.specs.Prelude.{ℕ, Bool, ◌&&◌, ◌||◌, ◌==◌, not, nat_le, List, codes, refl}
 use Rattle.std.specs.Ordering.{nat_cmp, ordering_then}
 use Rattle.std.specs.Cmp.Lexicographic.{slice_cmp}
 use Rattle.std.specs.declared.cmp.Ordering.{Ordering}
@@ -7,6 +7,14 @@ use Rattle.std.specs.Coded.{Coded, code_by, coded×, coded_list, coded_ℕ}
 use Rattle.pmg_value.specs.declared.process.Proc.{Proc}
 use Rattle.std.specs.Str.{bytes_eq}
 use Rattle.pmg_value.specs.Names.{is_reserved}
+
+-- no rank is named (PMIx Standard 5.0, pmix_rank_t: PMIX_RANK_UNDEF)
+abbrev pub is_undef : ℕ → Bool
+is_undef rank = rank == 4294967295
+
+-- all ranks of the namespace are meant (PMIx Standard 5.0, pmix_rank_t: PMIX_RANK_WILDCARD)
+abbrev pub is_wildcard : ℕ → Bool
+is_wildcard rank = rank == 4294967294
 
 -- by the bytes of the namespace, then by rank (PMIx Standard 5.0, data types: pmix_proc_t)
 abbrev pub proc_cmp : Proc → Proc → Ordering
@@ -29,3 +37,7 @@ host_name = codes "pmix.host"
 -- The process `pmix.host 0`: what it puts are the process sets.
 abbrev pub is_host : Proc → Bool
 is_host p = bytes_eq p.nspace host_name && (p.rank == 0)
+
+-- A process that commits: one that a group may register, or the one that stands for the group's host.
+abbrev pub can_commit : Proc → Bool
+can_commit p = is_client p || is_host p

@@ -147,6 +147,7 @@ fn processes_are_clients_the_host_or_neither(rt: HostRuntime) -> Result<(), Refu
         assert_eq!(rt; process.rank.number(), rank);
         assert_eq!(rt; process.is_client(), is_client);
         assert_eq!(rt; process.is_host(), is_host);
+        assert_eq!(rt; process.can_commit(), is_client || is_host);
         assert_eq!(rt; again!(process.copy().map_err(Refusal::from))?, process);
     }
     Ok(())
@@ -163,6 +164,24 @@ fn processes_are_ordered_by_name_then_rank(rt: HostRuntime) -> Result<(), Refusa
         }
     }
     Ok(())
+}
+
+#[test]
+fn two_ranks_are_no_processes(rt: HostRuntime) {
+    let cases = [
+        (0, false, false),
+        (4095, false, false),
+        (4294967293, false, false),
+        (4294967294, true, false),
+        (4294967295, false, true),
+    ];
+    for (number, is_wildcard, is_undef) in cases {
+        let rank = Rank::new(number);
+        assert_eq!(rt; rank.is_wildcard(), is_wildcard, "at {number}");
+        assert_eq!(rt; rank.is_undef(), is_undef, "at {number}");
+    }
+    assert_eq!(rt; Rank::WILDCARD.number(), 4294967294);
+    assert_eq!(rt; Rank::UNDEF.number(), 4294967295);
 }
 
 #[test]

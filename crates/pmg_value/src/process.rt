@@ -1,5 +1,5 @@
 ghost use Rattle.std.specs.Prelude.{◌≡◌, ◌≤◌, nat_le, if◌then◌else◌, IfOk};
-ghost use Rattle.pmg_value.specs.Process.{is_client, is_host};
+ghost use Rattle.pmg_value.specs.Process.{is_undef, is_wildcard, is_client, is_host, can_commit};
 ghost use Rattle.pmg_value.specs.declared.refusal.Refusal.TheVariants as refusals;
 
 use crate::names::Nspace;
@@ -34,10 +34,14 @@ impl Model for Rank {
 
 impl Rank {
     /// No rank is named (PMIX_RANK_UNDEF).
-    pub const UNDEF: u32 = 4294967295;
+    pub const UNDEF: Rank = Rank {
+        number: 4_294_967_295,
+    };
 
     /// All ranks of the namespace (PMIX_RANK_WILDCARD).
-    pub const WILDCARD: u32 = 4294967294;
+    pub const WILDCARD: Rank = Rank {
+        number: 4_294_967_294,
+    };
 
     /// The rank of this number.
     pub fn new(number: u32) -> Rank
@@ -51,6 +55,20 @@ impl Rank {
         ensures { result ≡ self }
     {
         self.number
+    }
+
+    /// Whether no rank is named: whether it is PMIX_RANK_UNDEF.
+    pub fn is_undef(self) -> bool
+        ensures { result ≡ is_undef self }
+    {
+        self == Rank::UNDEF
+    }
+
+    /// Whether all ranks of the namespace are meant: whether it is PMIX_RANK_WILDCARD.
+    pub fn is_wildcard(self) -> bool
+        ensures { result ≡ is_wildcard self }
+    {
+        self == Rank::WILDCARD
     }
 }
 
@@ -84,6 +102,13 @@ impl Proc {
         ensures { result ≡ is_host self.now }
     {
         self.nspace.as_bytes() == HOST_NAME && self.rank.number() == 0
+    }
+
+    /// Whether the process commits: a group may register it, or it stands for the group's host.
+    pub fn can_commit(&self) -> bool
+        ensures { result ≡ can_commit self.now }
+    {
+        self.is_client() || self.is_host()
     }
 
     /// Another handle of the same process.

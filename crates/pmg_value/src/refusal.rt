@@ -1,5 +1,5 @@
 ghost use Rattle.std.specs.Prelude.{◌≡◌};
-ghost use Rattle.pmg_value.specs.declared.refusal.Refusal.TheVariants.{NoMemory};
+ghost use Rattle.pmg_value.specs.declared.refusal.Refusal.TheVariants.{NoMemory, BadFrame};
 ghost use Rattle.pmg_value.specs.Refusals.{number_of, name_of, cause_name};
 
 use std::alloc::{AllocError, AllocFailed};
@@ -7,52 +7,30 @@ use thiserror::Error;
 
 /// What is wrong with bytes that are read: the first fault, from the left.
 #[derive(Clone, Copy, Debug, PartialEq, Eq, Error)]
+#[error("{}", self.name())]
 pub enum Cause {
-    #[error("Version")]
     Version,
-    #[error("Kind")]
     Kind,
-    #[error("Length")]
     Length,
-    #[error("Short")]
     Short,
-    #[error("Long")]
     Long,
-    #[error("Name")]
     Name,
-    #[error("Rank")]
     Rank,
-    #[error("Range")]
     Range,
-    #[error("Count")]
     Count,
-    #[error("Key")]
     Key,
-    #[error("Order")]
     Order,
-    #[error("Member")]
     Member,
-    #[error("Number")]
     Number,
-    #[error("Level")]
     Level,
-    #[error("Node")]
     Node,
-    #[error("Tag")]
     Tag,
-    #[error("Bool")]
     Bool,
-    #[error("Text")]
     Text,
-    #[error("Size")]
     Size,
-    #[error("Cut")]
     Cut,
-    #[error("Hex")]
     Hex,
-    #[error("Script")]
     Script,
-    #[error("Input")]
     Input,
 }
 
@@ -67,58 +45,51 @@ pub struct Fault {
 /// Why a call was refused. A refused call leaves what it was called on as it was. Each refusal has a
 /// number, which is this project's own (the standard's statuses are not claimed).
 #[derive(Clone, Copy, Debug, PartialEq, Eq, Error)]
+#[error("{} {}", self.number(), self.name())]
 pub enum Refusal {
     /// Memory was wanted and not given.
-    #[error("0 NoMemory")]
     NoMemory,
     /// An argument is outside its rules.
-    #[error("1 BadParam")]
     BadParam,
     /// Nothing is there under that name.
-    #[error("2 NotFound")]
     NotFound,
     /// The value is there, but its scope does not reach the asker.
-    #[error("3 OutsideScope")]
     OutsideScope,
     /// No namespace of that name is registered.
-    #[error("4 UnknownNamespace")]
     UnknownNamespace,
     /// The process is not of this node.
-    #[error("5 NotMine")]
     NotMine,
     /// The process is in a fence that it has not left, or in a get that it has not taken.
-    #[error("6 Busy")]
     Busy,
     /// The process has terminated.
-    #[error("7 Terminated")]
     Terminated,
     /// The process is no participant of the fence that it would enter.
-    #[error("8 NotAParticipant")]
     NotAParticipant,
     /// A limit would be passed.
-    #[error("9 TooMany")]
     TooMany,
     /// The bytes are no frame: the first fault.
-    #[error("10 BadFrame: {0}")]
+    #[error("{number} {name}: {fault}", number = self.number(), name = self.name(), fault = .0)]
     BadFrame(Fault),
     /// The name is taken.
-    #[error("11 Exists")]
     Exists,
     /// Two accounts of the same events differ.
-    #[error("12 Collision")]
     Collision,
     /// A reply on replay is another than the one that was recorded.
-    #[error("13 Stale")]
     Stale,
     /// No order puts each delivery behind its sending.
-    #[error("14 Unordered")]
     Unordered,
     /// The object is closed, and stays so.
-    #[error("15 Closed")]
     Closed,
 }
 
 impl Refusal {
+    /// The refusal of bytes with that fault at that offset.
+    pub fn bad_frame(offset: u64, cause: Cause) -> Refusal
+        ensures { result ≡ BadFrame (record { offset = offset; cause = cause }) }
+    {
+        Refusal::BadFrame(Fault { offset, cause })
+    }
+
     /// The refusal's number, 0 to 15.
     pub fn number(&self) -> u8
         ensures { result ≡ number_of self.now }

@@ -49,24 +49,72 @@ const REFUSED: Refusal = Refusal::BadFrame(Fault {
 });
 
 #[test]
-fn refusals_print_number_name_and_fault(rt: HostRuntime) -> Result<(), Fail> {
+fn refusals_print_and_display_number_name_and_fault(rt: HostRuntime) -> Result<(), Fail> {
     let cases = [
         (Refusal::NoMemory, "0 NoMemory"),
+        (Refusal::BadParam, "1 BadParam"),
+        (Refusal::NotFound, "2 NotFound"),
+        (Refusal::OutsideScope, "3 OutsideScope"),
+        (Refusal::UnknownNamespace, "4 UnknownNamespace"),
+        (Refusal::NotMine, "5 NotMine"),
+        (Refusal::Busy, "6 Busy"),
+        (Refusal::Terminated, "7 Terminated"),
+        (Refusal::NotAParticipant, "8 NotAParticipant"),
         (Refusal::TooMany, "9 TooMany"),
-        (
-            Refusal::BadFrame(Fault {
-                offset: 0,
-                cause: Cause::Hex,
-            }),
-            "10 BadFrame: Hex at 0",
-        ),
+        (Refusal::bad_frame(0, Cause::Hex), "10 BadFrame: Hex at 0"),
         (REFUSED, "10 BadFrame: Input at 18446744073709551615"),
+        (Refusal::Exists, "11 Exists"),
+        (Refusal::Collision, "12 Collision"),
+        (Refusal::Stale, "13 Stale"),
+        (Refusal::Unordered, "14 Unordered"),
         (Refusal::Closed, "15 Closed"),
     ];
     for (refusal, want) in cases {
         let mut writer = WatchedWriter::new(Vec::new(rt.alloc()));
         refusal.write_text(&mut writer)?;
         assert_eq!(rt; writer.into_inner().as_slice(), want.as_bytes());
+        let displayed = format!(in rt.alloc(); "{refusal}")?;
+        assert_eq!(rt; displayed.as_str(), want);
+    }
+    Ok(())
+}
+
+#[test]
+fn causes_and_faults_print_and_display_their_names(rt: HostRuntime) -> Result<(), Fail> {
+    let cases = [
+        (Cause::Version, "Version", "Version at 7"),
+        (Cause::Kind, "Kind", "Kind at 7"),
+        (Cause::Length, "Length", "Length at 7"),
+        (Cause::Short, "Short", "Short at 7"),
+        (Cause::Long, "Long", "Long at 7"),
+        (Cause::Name, "Name", "Name at 7"),
+        (Cause::Rank, "Rank", "Rank at 7"),
+        (Cause::Range, "Range", "Range at 7"),
+        (Cause::Count, "Count", "Count at 7"),
+        (Cause::Key, "Key", "Key at 7"),
+        (Cause::Order, "Order", "Order at 7"),
+        (Cause::Member, "Member", "Member at 7"),
+        (Cause::Number, "Number", "Number at 7"),
+        (Cause::Level, "Level", "Level at 7"),
+        (Cause::Node, "Node", "Node at 7"),
+        (Cause::Tag, "Tag", "Tag at 7"),
+        (Cause::Bool, "Bool", "Bool at 7"),
+        (Cause::Text, "Text", "Text at 7"),
+        (Cause::Size, "Size", "Size at 7"),
+        (Cause::Cut, "Cut", "Cut at 7"),
+        (Cause::Hex, "Hex", "Hex at 7"),
+        (Cause::Script, "Script", "Script at 7"),
+        (Cause::Input, "Input", "Input at 7"),
+    ];
+    for (cause, name, want) in cases {
+        let fault = Fault { offset: 7, cause };
+        let mut writer = WatchedWriter::new(Vec::new(rt.alloc()));
+        fault.write_text(&mut writer)?;
+        assert_eq!(rt; writer.into_inner().as_slice(), want.as_bytes());
+        let displayed = format!(in rt.alloc(); "{cause}")?;
+        assert_eq!(rt; displayed.as_str(), name);
+        let displayed = format!(in rt.alloc(); "{fault}")?;
+        assert_eq!(rt; displayed.as_str(), want);
     }
     Ok(())
 }

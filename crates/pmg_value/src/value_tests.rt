@@ -1,5 +1,8 @@
 //! What no clause says: that arrays are made, copied and printed where there is memory.
-use crate::{MAX_VALUE_SIZE, Nspace, Proc, Rank, Refusal, Value, WatchedWriter, WriteFault};
+use crate::{
+    Array, MAX_VALUE_SIZE, Nspace, Octets, Proc, Rank, Refusal, Text, Value, WatchedWriter,
+    WriteFault,
+};
 use std::alloc::{AllocError, Global};
 use std::cmp::Ordering;
 
@@ -145,5 +148,23 @@ fn values_are_made_and_copied(rt: HostRuntime) -> Result<(), Refusal> {
     let array = again!(array_of(rt.alloc(), b"\x01\x02"))?;
     let copy = again!(array.copy().map_err(Refusal::from))?;
     assert_eq!(rt; copy.cmp(&array), Ordering::Equal);
+    Ok(())
+}
+
+#[test]
+fn strings_and_byte_objects_are_made_and_copied(rt: HostRuntime) -> Result<(), Refusal> {
+    for bytes in [b"".as_slice(), b"endpoint"] {
+        let read = again!(Text::read(rt.alloc(), bytes))?;
+        let made = again!(Text::from_text(rt.alloc(), bytes).map_err(Refusal::from))?;
+        let copy = again!(made.copy().map_err(Refusal::from))?;
+        assert_eq!(rt; (read.as_bytes(), copy.as_bytes()), (bytes, bytes));
+        let read = again!(Octets::read(rt.alloc(), bytes))?;
+        let made = again!(Octets::from_bytes(rt.alloc(), bytes).map_err(Refusal::from))?;
+        let copy = again!(made.copy().map_err(Refusal::from))?;
+        assert_eq!(rt; (read.as_bytes(), copy.as_bytes()), (bytes, bytes));
+    }
+    let array = Array::new(9, items_of(rt.alloc(), b"\x01\x02")?)?;
+    let copy = again!(array.copy().map_err(Refusal::from))?;
+    assert_eq!(rt; (copy.tag(), copy.items().len(), copy.size()), (9, 2, 8));
     Ok(())
 }

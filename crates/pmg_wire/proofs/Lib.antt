@@ -8,3 +8,4 @@ pub mod Passing
 pub mod Windows
 pub mod Building
 pub mod Writing
+pub mod WholeLaws

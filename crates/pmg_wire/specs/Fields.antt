@@ -1,5 +1,5 @@
 -- How keys, processes and values are read.
-use Rattle.std.specs.Prelude.{ℕ, ◌+◌, ◌-◌, ◌==◌, Bool, ◌&&◌, ◌||◌, not, nat_lt, nat_le, List, Option, Some, None, Result, Ok, Err, if◌then◌else◌}
+use Rattle.std.specs.Prelude.{ℕ, ◌+◌, ◌-◌, ◌==◌, Bool, ◌&&◌, ◌||◌, not, nat_lt, nat_le, List, length, Option, Some, None, Result, Ok, Err, if◌then◌else◌}
 use Rattle.std.specs.Int.{w8, w16, w32, w64, cast_signed}
 use Rattle.std.specs.Str.{bytes_eq}
 use Rattle.pmg_value.specs.declared.refusal.Cause.TheVariants as causes
@@ -137,3 +137,10 @@ value_at at = do
   body ← body_at tag.0 tag.1
   _ ← check (nat_le (body.1.offset - at.offset) 1048576) (fault at.offset causes.Size)
   Ok (value_of body.0, body.1)
+
+-- bytes that are one value, and nothing behind it
+unfoldable pub whole_value : List ℕ → Result Value Fault
+whole_value bytes = do
+  value ← value_at (record { offset = 0; rest = bytes })
+  _ ← check (length value.1.rest == 0) (fault value.1.offset causes.Long)
+  Ok value.0

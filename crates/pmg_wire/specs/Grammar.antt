@@ -25,6 +25,11 @@ pub record SpellsValue (at : Place) (v : Value) (after : Place) : Type 0 where
   pub takes : Takes at (spelling v) after
   pub is : IsValue v
 
+-- these bytes are that value, spelled
+pub record IsWholeValue (bytes : List ℕ) (v : Value) : Type 0 where
+  pub text : bytes ≡ spelling v
+  pub is : IsValue v
+
 -- what is read as a value is spelled so
 abbrev pub IsFound : Type 0
 IsFound = (at : Place) (v : Value) (after : Place) → IsBytes at.rest → value_at at ≡ Ok (v, after) → SpellsValue at v after

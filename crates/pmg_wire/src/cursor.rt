@@ -1,9 +1,8 @@
 ghost use Rattle.std.specs.Prelude.{◌≡◌, ◌+◌, ◌<◌, ◌≤◌, ◌^◌, length, IfOk, OnErr};
 ghost use Rattle.std.specs.Int.{w16, w32, w64};
-ghost use Rattle.pmg_wire.specs.Reading.{Place, IsBytes, Reads, fault, past, front, bytes_at, byte_at, number_at};
-ghost use Rattle.pmg_value.specs.declared.refusal.Refusal.TheVariants as refusals;
+ghost use Rattle.pmg_wire.specs.Reading.{Place, IsBytes, Reads, past, front, bytes_at, byte_at, number_at};
 
-use pmg_value::{Cause, Fault, Refusal};
+use pmg_value::{Cause, Refusal};
 use std::marker::Model;
 
 /// A place in bytes that are read from left to right: the offset in the whole, and the bytes left.
@@ -31,6 +30,13 @@ impl<'a> Cursor<'a> {
         ensures { result ≡ record { offset = offset; rest = bytes.now } }
     {
         Cursor { offset, bytes }
+    }
+
+    /// Reading of these bytes from their start, at offset 0.
+    pub fn of(bytes: &'a [u8]) -> Cursor<'a>
+        ensures { result ≡ record { offset = 0; rest = bytes.now } }
+    {
+        Cursor::new(0, bytes)
     }
 
     /// The offset of the next byte.
@@ -80,13 +86,6 @@ impl<'a> Cursor<'a> {
         self.bytes = &self.bytes[count..];
     }
 
-    /// The refusal of what stands at an offset.
-    pub fn refuse(offset: u64, cause: Cause) -> Refusal
-        ensures { result ≡ refusals.BadFrame (fault offset cause) }
-    {
-        Refusal::BadFrame(Fault { offset, cause })
-    }
-
     /// The next bytes, so many of them. Refused as Short at their place where fewer are left.
     #[tactic(auto, unfolding(crate::specs::Reading::bytes_at))]
     pub fn take(&mut self, count: usize) -> Result<&'a [u8], Refusal>
@@ -95,7 +94,7 @@ impl<'a> Cursor<'a> {
         ensures err { OnErr result (self.new ≡ self.old) }
     {
         if self.bytes.len() < count {
-            return Err(Cursor::refuse(self.offset, Cause::Short));
+            return Err(Refusal::bad_frame(self.offset, Cause::Short));
         }
         let (front, rest) = self.bytes.split_at(count);
         self.offset += count as u64;

@@ -26,7 +26,7 @@ impl Admits {
     {
         match self {
             Admits::Clients => process.is_client(),
-            Admits::ClientsAndHost => process.is_client() || process.is_host(),
+            Admits::ClientsAndHost => process.can_commit(),
         }
     }
 
@@ -49,7 +49,7 @@ pub fn get_flag(at: &mut Cursor<'_>) -> Result<bool, Refusal>
     let start = at.offset();
     let byte = at.get_u8()?;
     if byte > 1 {
-        return Err(Cursor::refuse(start, Cause::Bool));
+        return Err(Refusal::bad_frame(start, Cause::Bool));
     }
     Ok(byte == 1)
 }
@@ -61,11 +61,11 @@ fn key_of(alloc: Global, at: &mut Cursor<'_>) -> Result<Key, Refusal>
     let start = at.offset();
     let len = at.get_u16()? as usize;
     if len == 0 || len > MAX_KEY_LEN {
-        return Err(Cursor::refuse(start, Cause::Key));
+        return Err(Refusal::bad_frame(start, Cause::Key));
     }
     let text = at.take(len)?;
     if !is_key_text(text) {
-        return Err(Cursor::refuse(start, Cause::Key));
+        return Err(Refusal::bad_frame(start, Cause::Key));
     }
     Ok(Key::from_text(alloc, text)?)
 }
@@ -91,16 +91,16 @@ fn proc_of(alloc: Global, admits: Admits, at: &mut Cursor<'_>) -> Result<Proc, R
     let start = at.offset();
     let len = at.get_u8()? as usize;
     if len == 0 {
-        return Err(Cursor::refuse(start, Cause::Name));
+        return Err(Refusal::bad_frame(start, Cause::Name));
     }
     let name = at.take(len)?;
     if !admits.admits_name(name) {
-        return Err(Cursor::refuse(start, Cause::Name));
+        return Err(Refusal::bad_frame(start, Cause::Name));
     }
     let rank_at = at.offset();
     let rank = at.get_u32()?;
     if !admits_rank(name, rank) {
-        return Err(Cursor::refuse(rank_at, Cause::Rank));
+        return Err(Refusal::bad_frame(rank_at, Cause::Rank));
     }
     Ok(Proc::new(Nspace::from_name(alloc, name)?, Rank::new(rank)))
 }

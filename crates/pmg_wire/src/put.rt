@@ -1,6 +1,7 @@
-ghost use Rattle.std.specs.Prelude.{◌≡◌, ◌≤◌, ◌+◌, ◌++◌, length, IsTrue, OnOk, OnErr};
+ghost use Rattle.std.specs.Prelude.{◌≡◌, ◌<◌, ◌≤◌, ◌+◌, ◌^◌, ◌++◌, length, IsTrue, OnOk, OnErr};
 ghost use Rattle.pmg_wire.specs.Spelling.{key_spelling, proc_spelling, front_of};
 ghost use Rattle.pmg_value.specs.Elements.{bodies};
+ghost use Rattle.pmg_value.specs.Names.{is_nspace, is_key};
 ghost use Rattle.pmg_value.specs.Spelling.{spelling, are_plain, plains_of, IsValue};
 
 use bytes::BytesMut;
@@ -10,6 +11,7 @@ use std::alloc::AllocError;
 /// Writes a key's spelling at the end of a buffer: two bytes of length, and the key.
 pub fn put_key(out: &mut BytesMut, key: &Key) -> Result<(), AllocError>
     ensures ok { OnOk result (out.new.items ≡ out.old.items ++ key_spelling key.now) }
+    ensures key { IsTrue (is_key key.now) }
     ensures err { OnErr result (out.new.items ≡ out.old.items) }
 {
     let text = key.as_bytes();
@@ -23,13 +25,16 @@ pub fn put_key(out: &mut BytesMut, key: &Key) -> Result<(), AllocError>
 /// of rank.
 pub fn put_proc(out: &mut BytesMut, process: &Proc) -> Result<(), AllocError>
     ensures ok { OnOk result (out.new.items ≡ out.old.items ++ proc_spelling process.now) }
+    ensures name { IsTrue (is_nspace process.now.nspace) }
+    ensures rank { process.now.rank < 2 ^ 32 }
     ensures err { OnErr result (out.new.items ≡ out.old.items) }
 {
     let name = process.nspace.as_bytes();
+    let rank = process.rank.number();
     out.reserve(5 + name.len())?;
     out.extend_reserved(&[name.len() as u8]);
     out.extend_reserved(name);
-    out.extend_reserved(&process.rank.number().to_be_bytes());
+    out.extend_reserved(&rank.to_be_bytes());
     Ok(())
 }
 

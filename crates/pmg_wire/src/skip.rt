@@ -64,7 +64,7 @@ fn skip_array(at: &mut Cursor<'_>) -> Result<(), Refusal>
     let start = at.offset();
     let tag = at.get_u8()?;
     if tag == 0 || tag >= ARRAY_TAG {
-        return Err(Cursor::refuse(start, Cause::Tag));
+        return Err(Refusal::bad_frame(start, Cause::Tag));
     }
     let count = at.get_u32()?;
     skip_elements(tag, count, at)

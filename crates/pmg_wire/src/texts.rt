@@ -16,7 +16,7 @@ pub fn get_text<'a>(at: &mut Cursor<'a>) -> Result<&'a [u8], Refusal>
     let start = at.offset();
     let text = at.take(len)?;
     if let Some(i) = first_zero(text) {
-        return Err(Cursor::refuse(start + i as u64, Cause::Text));
+        return Err(Refusal::bad_frame(start + i as u64, Cause::Text));
     }
     Ok(text)
 }
@@ -39,11 +39,11 @@ pub fn get_any_proc<'a>(at: &mut Cursor<'a>) -> Result<(&'a [u8], u32), Refusal>
     let start = at.offset();
     let len = at.get_u8()? as usize;
     if len == 0 {
-        return Err(Cursor::refuse(start, Cause::Name));
+        return Err(Refusal::bad_frame(start, Cause::Name));
     }
     let name = at.take(len)?;
     if !is_nspace_name(name) {
-        return Err(Cursor::refuse(start, Cause::Name));
+        return Err(Refusal::bad_frame(start, Cause::Name));
     }
     let rank = at.get_u32()?;
     Ok((name, rank))

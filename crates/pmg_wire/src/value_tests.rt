@@ -1,5 +1,5 @@
 //! What no clause says: that calls succeed, and the bytes and the text of each kind of value, both ways.
-use crate::{Cursor, get_value, put_value};
+use crate::{Cursor, get_value, put_value, value_from_bytes};
 use bytes::BytesMut;
 use pmg_value::{Cause, Fault, MAX_BLOB_LEN, MAX_VALUE_SIZE, Nspace, Proc, Rank, Refusal, Value};
 use std::alloc::Global;
@@ -80,12 +80,12 @@ fn great_numbers(rt: HostRuntime) -> Result<(), Refusal> {
         ),
         (Value::Rank(Rank::new(0)), b"\x0f\0\0\0\0", "rank:0"),
         (
-            Value::Rank(Rank::new(Rank::WILDCARD)),
+            Value::Rank(Rank::WILDCARD),
             b"\x0f\xff\xff\xff\xfe",
             "rank:4294967294",
         ),
         (
-            Value::Rank(Rank::new(Rank::UNDEF)),
+            Value::Rank(Rank::UNDEF),
             b"\x0f\xff\xff\xff\xff",
             "rank:4294967295",
         ),
@@ -208,7 +208,7 @@ fn processes(rt: HostRuntime) -> Result<(), Refusal> {
         ),
         (
             b"!",
-            Rank::UNDEF,
+            4294967295,
             b"\x10\x01!\xff\xff\xff\xff",
             "proc:21/4294967295",
         ),
@@ -293,6 +293,27 @@ fn the_first_fault_of_a_value(rt: HostRuntime) -> Result<(), Refusal> {
     for (bytes, offset, cause) in rows {
         let want = Refusal::BadFrame(Fault { offset, cause });
         assert_eq!(rt; refused(rt.alloc(), bytes), want);
+    }
+    Ok(())
+}
+
+#[test]
+fn a_value_alone_is_read_from_its_bytes(rt: HostRuntime) -> Result<(), Refusal> {
+    let alloc = rt.alloc();
+    let value = value_from_bytes(alloc, b"\x09\xff")?;
+    assert!(rt; matches!(value, Value::U8(255)));
+    let value = value_from_bytes(alloc, b"\x03\0\0\0\x02ab")?;
+    assert!(rt; matches!(&value, Value::Str(text) if text.as_bytes() == b"ab".as_slice()));
+    let rows: [(&[u8], u64, Cause); 5] = [
+        (b"", 0, Cause::Short),
+        (b"\x01\x02", 1, Cause::Bool),
+        (b"\x09\xff\0", 2, Cause::Long),
+        (b"\x13\x02\0\0\0\x01\xa9\xa9", 7, Cause::Long),
+        (b"\x03\0\0\0\x03ab", 5, Cause::Short),
+    ];
+    for (bytes, offset, cause) in rows {
+        let want = Refusal::BadFrame(Fault { offset, cause });
+        assert_eq!(rt; value_from_bytes(alloc, bytes).err(), Some(want));
     }
     Ok(())
 }

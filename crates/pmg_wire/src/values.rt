@@ -2,10 +2,10 @@
 //! and takes no memory; the second builds the value from its bytes, all of which are there.
 ghost use Rattle.std.specs.Prelude.{◌≡◌, ◌≤◌, None, length, IfOk, IsTrue, OnErr};
 ghost use Rattle.pmg_value.specs.Spelling.{Form, form, are_plain, plains_of};
-ghost use Rattle.pmg_wire.specs.Grammar.{SpellsValue};
+ghost use Rattle.pmg_wire.specs.Grammar.{SpellsValue, IsWholeValue};
 ghost use Rattle.pmg_wire.specs.Many.{many};
-ghost use Rattle.pmg_wire.specs.Reading.{Place, Reads};
-ghost use Rattle.pmg_wire.specs.Fields.{made, text_at, blob_at, any_proc_at, plain_at, array_at, body_at, value_at};
+ghost use Rattle.pmg_wire.specs.Reading.{Place, Reads, ReadsAll};
+ghost use Rattle.pmg_wire.specs.Fields.{made, text_at, blob_at, any_proc_at, plain_at, array_at, body_at, value_at, whole_value};
 
 use crate::cursor::Cursor;
 use crate::fields::get_flag;
@@ -102,7 +102,7 @@ fn array_of(alloc: Global, at: &mut Cursor<'_>) -> Result<Value, Refusal>
     let start = at.offset();
     let tag = at.get_u8()?;
     if tag == 0 || tag >= ARRAY_TAG {
-        return Err(Cursor::refuse(start, Cause::Tag));
+        return Err(Refusal::bad_frame(start, Cause::Tag));
     }
     let count = at.get_u32()?;
     let items = elements_of(alloc, tag, count, at)?;
@@ -130,12 +130,12 @@ fn value_of(alloc: Global, at: &mut Cursor<'_>) -> Result<Value, Refusal>
     let start = at.offset();
     let tag = at.get_u8()?;
     if tag == 0 || tag > ARRAY_TAG {
-        return Err(Cursor::refuse(start, Cause::Tag));
+        return Err(Refusal::bad_frame(start, Cause::Tag));
     }
     let mut behind = at.fork();
     skip_body(tag, &mut behind)?;
     if behind.offset() - start > MAX_VALUE_SIZE as u64 {
-        return Err(Cursor::refuse(start, Cause::Size));
+        return Err(Refusal::bad_frame(start, Cause::Size));
     }
     let len = (behind.offset() - at.offset()) as usize;
     let value = body_of(alloc, tag, &mut at.window(len))?;
@@ -154,5 +154,21 @@ pub fn get_value(alloc: Global, at: &mut Cursor<'_>) -> Result<Value, Refusal>
     let mut ahead = at.fork();
     let value = value_of(alloc, &mut ahead)?;
     *at = ahead;
+    Ok(value)
+}
+
+/// Reads bytes that are one value and nothing behind it. Refused as BadFrame at the first fault, counted from
+/// the first byte: those of `get_value`, and Long where bytes are left behind the value; and as NoMemory.
+#[tactic(auto, unfolding(crate::specs::Fields::whole_value))]
+pub fn value_from_bytes(alloc: Global, bytes: &[u8]) -> Result<Value, Refusal>
+    ensures found { IfOk result (λ v. IsWholeValue bytes.now v) }
+    ensures only { (v : Value) → IsWholeValue bytes.now v → ReadsAll (λ v. v) result (Ok v) }
+    ensures first_fault { ReadsAll (λ v. v) result (whole_value bytes.now) }
+{
+    let mut at = Cursor::of(bytes);
+    let value = get_value(alloc, &mut at)?;
+    if !at.rest().is_empty() {
+        return Err(Refusal::bad_frame(at.offset(), Cause::Long));
+    }
     Ok(value)
 }

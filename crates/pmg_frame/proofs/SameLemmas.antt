@@ -1,0 +1,104 @@
+-- The tests of sameness decide whether what two frames say is one.
+use Rattle.std.proofs.Common.{◌≡◌, ℕ, true, ◌==◌, ◌&&◌, nat_eq, List, refl, sym, ap, ◌∙◌}
+use Rattle.std.specs.Bool.{Decides}
+use Rattle.std.specs.Cmp.{IsTotalOrder}
+use Rattle.std.specs.Cmp.Lexicographic.{slice_cmp, nat_list_cmp_total, pointwise, pointwise_decides, bytes_decides}
+use Rattle.std.specs.Ordering.{nat_cmp, is_eq, eq_by_cmp}
+use Rattle.std.specs.declared.cmp.Ordering.{Ordering}
+use Rattle.std.specs.declared.cmp.Ordering.TheVariants.{Less, Equal, Greater}
+use Rattle.std.proofs.lemmas.Bool.Decides.{Decides-eqb, Decides-and, Decides-like}
+use Rattle.std.proofs.lemmas.Cmp.{tied_itself}
+use Rattle.std.proofs.lemmas.Map.Lookups.{exact_bytes}
+use Rattle.pmg_value.specs.Signatures.{FenceName}
+use Rattle.pmg_value.specs.declared.process.Proc.{Proc}
+use Rattle.pmg_commit.specs.Entries.{Entry}
+use Rattle.pmg_commit.specs.Knowledge.{Contribution}
+use Rattle.pmg_frame.specs.FenceOrder.{name_cmp, name_total}
+use Rattle.pmg_frame.specs.Fences.{Header, FenceAsk}
+use Rattle.pmg_frame.specs.Sameness.{is_same_proc, is_same_entry, is_same_piece, is_same_header, is_same_fence_ask}
+use Rattle.pmg_frame.specs.contracts.local.LocalPartialEq.TheImpl as local_tests
+use Rattle.pmg_frame.specs.contracts.local.StatePartialEq.TheImpl as state_tests
+use Rattle.pmg_frame.specs.declared.local.Local.{Local}
+use Rattle.pmg_frame.specs.declared.local.State.{State}
+use Rattle.pmg_frame.specs.declared.local.State.TheVariants as states
+use Rattle.pmg_frame.proofs.FenceOrderLemmas.{names_exact}
+
+is_equal : (r : Ordering) → is_eq r ≡ true → r ≡ Equal
+is_equal Less h = absurd cc
+is_equal Equal h = refl
+is_equal Greater h = absurd cc
+
+-- an order that is exact tells whether two things are one
+by_cmp : {K : Type 0} (R : K → K → Ordering) → IsTotalOrder R → ((x y : K) → R x y ≡ Equal → x ≡ y) → (x y : K) → Decides (eq_by_cmp R x y) (x ≡ y)
+by_cmp R o exact x y = (
+  λ h. exact x y (is_equal (R x y) h),
+  λ e. ap (λ z. is_eq (R x z)) (sym e) ∙ ap is_eq (tied_itself o x),
+)
+
+pub same_procs : (p q : Proc) → Decides (is_same_proc p q) (p ≡ q)
+same_procs p q =
+    let forth : (p.nspace ≡ q.nspace) × (p.rank ≡ q.rank) → p ≡ q = λ h.
+    ap (λ (n : List ℕ). record { nspace = n; rank = p.rank }) h.0 ∙ ap (λ (r : ℕ). record { nspace = q.nspace; rank = r }) h.1 in
+    Decides-like _ forth (λ e. (ap (λ (x : Proc). x.nspace) e, ap (λ (x : Proc). x.rank) e))
+    (Decides-and (pointwise nat_eq p.nspace q.nspace) (nat_eq p.rank q.rank) (bytes_decides p.nspace q.nspace) (Decides-eqb p.rank q.rank))
+
+pub same_entries : (e f : Entry) → Decides (is_same_entry e f) (e ≡ f)
+same_entries e f =
+    let forth : (e.key ≡ f.key) × ((e.number ≡ f.number) × (e.bytes ≡ f.bytes)) → e ≡ f = λ h.
+    ap (λ (k : List ℕ). record { key = k; number = e.number; bytes = e.bytes }) h.0
+    ∙ ap (λ (n : ℕ). record { key = f.key; number = n; bytes = e.bytes }) h.1.0
+    ∙ ap (λ (b : List ℕ). record { key = f.key; number = f.number; bytes = b }) h.1.1 in
+    Decides-like _ forth (λ x. (ap (λ (z : Entry). z.key) x, (ap (λ (z : Entry). z.number) x, ap (λ (z : Entry). z.bytes) x)))
+    (Decides-and (pointwise nat_eq e.key f.key) (e.number == f.number && is_eq (slice_cmp nat_cmp e.bytes f.bytes)) (bytes_decides e.key f.key)
+    (Decides-and (e.number == f.number) (is_eq (slice_cmp nat_cmp e.bytes f.bytes)) (Decides-eqb e.number f.number)
+    (by_cmp (slice_cmp nat_cmp) nat_list_cmp_total exact_bytes e.bytes f.bytes)))
+
+pub same_pieces : (c d : Contribution) → Decides (is_same_piece c d) (c ≡ d)
+same_pieces c d =
+    let entries = pointwise is_same_entry c.entries d.entries in
+    let forth : (c.proc ≡ d.proc) × ((c.from ≡ d.from) × ((c.to ≡ d.to) × (c.entries ≡ d.entries))) → c ≡ d = λ h.
+    ap (λ (p : Proc). record { proc = p; from = c.from; to = c.to; entries = c.entries }) h.0
+    ∙ ap (λ (n : ℕ). record { proc = d.proc; from = n; to = c.to; entries = c.entries }) h.1.0
+    ∙ ap (λ (n : ℕ). record { proc = d.proc; from = d.from; to = n; entries = c.entries }) h.1.1.0
+    ∙ ap (λ (es : List Entry). record { proc = d.proc; from = d.from; to = d.to; entries = es }) h.1.1.1 in
+    Decides-like _ forth (λ x. (ap (λ (z : Contribution). z.proc) x, (ap (λ (z : Contribution). z.from) x, (ap (λ (z : Contribution). z.to) x, ap (λ (z : Contribution). z.entries) x))))
+    (Decides-and (is_same_proc c.proc d.proc) (c.from == d.from && (c.to == d.to && entries)) (same_procs c.proc d.proc)
+    (Decides-and (c.from == d.from) (c.to == d.to && entries) (Decides-eqb c.from d.from)
+    (Decides-and (c.to == d.to) entries (Decides-eqb c.to d.to) (pointwise_decides same_entries c.entries d.entries))))
+
+same_names : (f g : FenceName) → Decides (eq_by_cmp name_cmp f g) (f ≡ g)
+same_names = by_cmp name_cmp name_total names_exact
+
+same_states : (s t : State) → Decides (state_tests.ghosts.eq s t) (s ≡ t)
+same_states states.Entered states.Entered = (λ _. refl, λ _. refl)
+same_states states.Gone states.Gone = (λ _. refl, λ _. refl)
+same_states states.Entered states.Gone = (λ h. absurd cc, λ h. absurd cc)
+same_states states.Gone states.Entered = (λ h. absurd cc, λ h. absurd cc)
+
+same_locals : (l m : Local) → Decides (local_tests.ghosts.eq l m) (l ≡ m)
+same_locals l m =
+    let forth : (l.proc ≡ m.proc) × ((l.state ≡ m.state) × (l.level ≡ m.level)) → l ≡ m = λ h.
+    ap (λ (p : Proc). record { proc = p; state = l.state; level = l.level }) h.0
+    ∙ ap (λ (s : State). record { proc = m.proc; state = s; level = l.level }) h.1.0
+    ∙ ap (λ (n : ℕ). record { proc = m.proc; state = m.state; level = n }) h.1.1 in
+    Decides-like _ forth (λ x. (ap (λ (z : Local). z.proc) x, (ap (λ (z : Local). z.state) x, ap (λ (z : Local). z.level) x)))
+    (Decides-and (is_same_proc l.proc m.proc) (state_tests.ghosts.eq l.state m.state && nat_eq l.level m.level) (same_procs l.proc m.proc)
+    (Decides-and (state_tests.ghosts.eq l.state m.state) (nat_eq l.level m.level) (same_states l.state m.state) (Decides-eqb l.level m.level)))
+
+pub same_headers : (h k : Header) → Decides (is_same_header h k) (h ≡ k)
+same_headers h k =
+    let locals = pointwise local_tests.ghosts.eq h.locals k.locals in
+    let forth : (h.node ≡ k.node) × ((h.name ≡ k.name) × (h.locals ≡ k.locals)) → h ≡ k = λ x.
+    ap (λ (n : ℕ). record { node = n; name = h.name; locals = h.locals }) x.0
+    ∙ ap (λ (n : FenceName). record { node = k.node; name = n; locals = h.locals }) x.1.0
+    ∙ ap (λ (ls : List Local). record { node = k.node; name = k.name; locals = ls }) x.1.1 in
+    Decides-like _ forth (λ x. (ap (λ (z : Header). z.node) x, (ap (λ (z : Header). z.name) x, ap (λ (z : Header). z.locals) x)))
+    (Decides-and (h.node == k.node) (eq_by_cmp name_cmp h.name k.name && locals) (Decides-eqb h.node k.node)
+    (Decides-and (eq_by_cmp name_cmp h.name k.name) locals (same_names h.name k.name) (pointwise_decides same_locals h.locals k.locals)))
+
+pub same_fence_asks : (a b : FenceAsk) → Decides (is_same_fence_ask a b) (a ≡ b)
+same_fence_asks a b =
+    let forth : (a.node ≡ b.node) × (a.name ≡ b.name) → a ≡ b = λ h.
+    ap (λ (n : ℕ). record { node = n; name = a.name }) h.0 ∙ ap (λ (n : FenceName). record { node = b.node; name = n }) h.1 in
+    Decides-like _ forth (λ x. (ap (λ (z : FenceAsk). z.node) x, ap (λ (z : FenceAsk). z.name) x))
+    (Decides-and (a.node == b.node) (eq_by_cmp name_cmp a.name b.name) (Decides-eqb a.node b.node) (same_names a.name b.name))

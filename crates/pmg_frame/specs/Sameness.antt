@@ -1,0 +1,34 @@
+-- Whether what two frames say is one, field by field.
+use Rattle.std.specs.Prelude.{Bool, ◌&&◌, ◌==◌, nat_eq}
+use Rattle.std.specs.Cmp.Lexicographic.{slice_cmp, pointwise}
+use Rattle.std.specs.Ordering.{nat_cmp, is_eq, eq_by_cmp}
+use Rattle.pmg_value.specs.declared.process.Proc.{Proc}
+use Rattle.pmg_commit.specs.Entries.{Entry}
+use Rattle.pmg_commit.specs.Knowledge.{Contribution}
+use Rattle.pmg_frame.specs.FenceOrder.{name_cmp}
+use Rattle.pmg_frame.specs.Fences.{Header, FenceAsk, CommitAsk}
+use Rattle.pmg_frame.specs.contracts.local.LocalPartialEq.TheImpl as local_tests
+
+-- the processes are one
+abbrev pub is_same_proc : Proc → Proc → Bool
+is_same_proc p q = pointwise nat_eq p.nspace q.nspace && nat_eq p.rank q.rank
+
+-- the entries are one
+abbrev pub is_same_entry : Entry → Entry → Bool
+is_same_entry e f = pointwise nat_eq e.key f.key && (e.number == f.number && is_eq (slice_cmp nat_cmp e.bytes f.bytes))
+
+-- the contributions are one
+abbrev pub is_same_piece : Contribution → Contribution → Bool
+is_same_piece c d = is_same_proc c.proc d.proc && (c.from == d.from && (c.to == d.to && pointwise is_same_entry c.entries d.entries))
+
+-- the headers are one
+abbrev pub is_same_header : Header → Header → Bool
+is_same_header h k = h.node == k.node && (eq_by_cmp name_cmp h.name k.name && pointwise local_tests.ghosts.eq h.locals k.locals)
+
+-- the fence asks are one
+abbrev pub is_same_fence_ask : FenceAsk → FenceAsk → Bool
+is_same_fence_ask a b = a.node == b.node && eq_by_cmp name_cmp a.name b.name
+
+-- the asks for commits are one
+abbrev pub is_same_commit_ask : CommitAsk → CommitAsk → Bool
+is_same_commit_ask a b = a.node == b.node && (is_same_proc a.proc b.proc && (a.level == b.level))
