@@ -34,7 +34,7 @@ const MERGE_EXAMPLE: &str = "\
 A line -- ends a stream.
 
 Example:
-  $ pmixgroup merge < examples/two-servers.hex
+  $ pmixgroup merge < examples/merge/two-servers.hex
   proc j 0 level 2
     u8:2 a
   proc j 1 level 1
