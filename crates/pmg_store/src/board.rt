@@ -1,6 +1,7 @@
 ghost use Rattle.std.specs.Prelude.{◌≡◌, IfOk, OnOk, OnErr};
 ghost use Rattle.std.specs.FinMap as finite;
-ghost use Rattle.pmg_commit.specs.Data.{absorbed};
+ghost use Rattle.pmg_commit.specs.Data.{absorbed, join_data};
+ghost use Rattle.pmg_store.specs.Pieces.{data_of};
 
 use crate::store::Store;
 use pmg_commit::Piece;
@@ -56,6 +57,22 @@ impl Board {
         ensures err { OnErr result (self.new.far ≡ self.old.far) }
     {
         self.far.absorb(piece)
+    }
+
+    /// Takes the pieces into the near store and those into the far store, all of them or none.
+    pub fn absorb_all(&mut self, near: &[Piece], far: &[Piece]) -> Result<(), AllocError>
+        ensures near_ok { OnOk result (self.new.near ≡ join_data self.old.near (data_of near.now)) }
+        ensures far_ok { OnOk result (self.new.far ≡ join_data self.old.far (data_of far.now)) }
+        ensures near_err { OnErr result (self.new.near ≡ self.old.near) }
+        ensures far_err { OnErr result (self.new.far ≡ self.old.far) }
+    {
+        let near_more = self.near.of_pieces(near)?;
+        let far_more = self.far.of_pieces(far)?;
+        let mut all = self.near.copy()?;
+        all.join(near_more)?;
+        self.far.join(far_more)?;
+        self.near = all;
+        Ok(())
     }
 
     /// Another board of the same meaning.

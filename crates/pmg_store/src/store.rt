@@ -9,7 +9,7 @@ ghost use Rattle.pmg_commit.specs.Pieces.{entry_of};
 ghost use Rattle.pmg_commit.specs.Data.{join_data, absorbed, level_at, read_at, taken_at};
 ghost use Rattle.pmg_store.specs.Dump.{dump};
 ghost use Rattle.pmg_store.specs.Outcomes.{Dumps};
-ghost use Rattle.pmg_store.specs.Pieces.{is_of, covers, told_entries, entries_of, told_of};
+ghost use Rattle.pmg_store.specs.Pieces.{data_of, is_of, covers, told_entries, entries_of, told_of};
 
 use crate::dump::dump_of_pieces;
 use crate::failure::Failure;
@@ -81,6 +81,17 @@ impl Store {
         let copy = piece.copy()?;
         self.pieces.push(copy)?;
         Ok(())
+    }
+
+    /// A store of these pieces alone, with the allocator of this one.
+    pub fn of_pieces(&self, pieces: &[Piece]) -> Result<Store, AllocError>
+        ensures { IfOk result (λ s. s ≡ data_of pieces.now) }
+    {
+        let mut store = Store::new(*self.pieces.allocator());
+        for piece in pieces {
+            store.absorb(piece)?;
+        }
+        Ok(store)
     }
 
     /// Takes all that the other store has taken. Where memory is wanting, it is handed back.

@@ -157,6 +157,9 @@ fn a_board_takes_pieces_into_the_named_store(rt: HostRuntime) -> Result<(), Refu
     let again = board.copy()?;
     assert_eq!(rt; again.near().level(first.proc()), 1);
     assert_eq!(rt; again.far().level(first.proc()), 2);
+    board.absorb_all(&[more], &[])?;
+    assert_eq!(rt; board.near().level(first.proc()), 2);
+    assert_eq!(rt; board.far().level(first.proc()), 2);
     Ok(())
 }
 
