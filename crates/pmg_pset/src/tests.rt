@@ -103,20 +103,6 @@ fn a_set_is_defined_and_deleted(rt: HostRuntime) -> Result<(), Refusal> {
 }
 
 #[test]
-fn a_change_is_made_beside_the_sets(rt: HostRuntime) -> Result<(), Refusal> {
-    let alloc = rt.alloc();
-    let sets = again!(Sets::new(alloc))?;
-    let name = key_of(alloc, b"fast")?;
-    let with = again!(sets.with_set(&name, procs_of(alloc, b"j", &[0])?))?;
-    let without = again!(with.without_set(&name))?;
-    assert_eq!(rt; names(&sets, alloc)?.as_slice(), b"".as_slice());
-    assert_eq!(rt; names(&with, alloc)?.as_slice(), b" fast".as_slice());
-    assert_eq!(rt; names(&without, alloc)?.as_slice(), b"".as_slice());
-    assert_eq!(rt; (sets.level(), with.level(), without.level()), (0, 1, 2));
-    Ok(())
-}
-
-#[test]
 fn a_deleted_name_is_defined_again(rt: HostRuntime) -> Result<(), Refusal> {
     let alloc = rt.alloc();
     let mut sets = again!(Sets::new(alloc))?;
