@@ -1,5 +1,5 @@
 -- However a store came to be, it holds the data of what it took.
-use Rattle.std.proofs.Common.{List, ◌∷◌, [], ◌++◌, ◌≡◌, refl, sym, ap, ◌∙◌}
+use Rattle.std.proofs.Common.{◌≡◌, refl, sym, ap, ◌∙◌}
 use Rattle.pmg_commit.specs.Data.{join_data, absorbed, known}
 use Rattle.pmg_store.specs.Convergence.{Taking, Converges, held_by, taken_by}
 use Rattle.pmg_store.specs.Dump.{dump}

@@ -1,5 +1,5 @@
 -- What became of several readers.
-use Rattle.std.specs.Prelude.{ℕ, ◌+◌, ◌≤◌, ◌⊎◌, List, [], ◌∷◌, IsSome}
+use Rattle.std.specs.Prelude.{◌+◌, ◌≤◌, ◌⊎◌, List, [], ◌∷◌, IsSome}
 use Rattle.pmg_store.specs.declared.input.WatchedReader.{WatchedReader}
 use Rattle.pmg_store.specs.declared.input.TheConstants.{MOST_READS}
 

@@ -1,5 +1,5 @@
 -- Bytes that are one value, and nothing behind it.
-use Rattle.std.proofs.Common.{◌≡◌, ℕ, false, ◌==◌, List, [], ◌++◌, length, Ok, Err, refl, zero-add, sym, ap, ◌∙◌, subst}
+use Rattle.std.proofs.Common.{◌≡◌, ℕ, false, ◌==◌, List, [], length, Ok, Err, refl, zero-add, sym, ◌∙◌}
 use Rattle.std.proofs.lemmas.List.{append-nil}
 use Rattle.pmg_value.specs.Spelling.{spelling}
 use Rattle.pmg_value.specs.declared.refusal.Cause.TheVariants as causes

@@ -1,5 +1,4 @@
-use Rattle.std.proofs.Common.{arith, rules}
-use Rattle.std.proofs.lemmas.Grind.{common_steps}
+use Rattle.std.proofs.Common.{rules}
 use Rattle.pmg_store.proofs.ReadTable.{value_text-spelling}
 use Rattle.pmg_store.proofs.dump.push_value.Goals as goal
 

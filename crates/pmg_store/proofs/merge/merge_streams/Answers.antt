@@ -1,4 +1,4 @@
-use Rattle.std.proofs.Common.{◌≡◌, ◌<◌, ◌≤◌, length, map, Option, List, ℕ, Some, arith, inl, inr}
+use Rattle.std.proofs.Common.{arith, inl, inr}
 use Rattle.std.proofs.lemmas.Result.{err_from_is_err_and}
 use Rattle.pmg_store.proofs.MergeLaws.{written_alike}
 use Rattle.pmg_store.proofs.MergeLemmas.{many_due, merge_failed, merge_written, known_alike}

@@ -1,6 +1,6 @@
-use Rattle.std.proofs.Common.{◌≡◌, ◌≤◌, ◌<◌, ◌+◌, List, [], map, drop, length, get_or, refl, sym, ap, subst, arith, rules, ◌∙◌, Some}
+use Rattle.std.proofs.Common.{◌≡◌, ◌≤◌, List, [], map, drop, length, refl, arith, Some}
 use Rattle.std.proofs.lemmas.Grind.{common_steps}
-use Rattle.pmg_store.proofs.MergeLemmas.{IsOnTheWay, on_start, on_step, on_failure, on_end, some_of_each, next_of}
+use Rattle.pmg_store.proofs.MergeLemmas.{on_start, on_step, on_failure, on_end, some_of_each, next_of}
 use Rattle.pmg_store.proofs.merge.store_of_inputs.Goals as goal
 
 pub loop-input-init : goal.loop-input-init

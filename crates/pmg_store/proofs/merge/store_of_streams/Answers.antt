@@ -1,8 +1,7 @@
-use Rattle.std.proofs.Common.{◌≡◌, ◌≤◌, ◌<◌, ◌+◌, List, [], map, drop, length, get_or, refl, sym, ap, subst, arith, rules, ◌∙◌}
+use Rattle.std.proofs.Common.{◌≡◌, ◌≤◌, ◌<◌, List, [], map, drop, length, refl, arith}
 use Rattle.std.proofs.lemmas.Grind.{common_steps}
-use Rattle.pmg_store.specs.declared.input.TheConstants.{MOST_READS}
 use Rattle.pmg_store.specs.declared.input.WatchedReader.{WatchedReader}
-use Rattle.pmg_store.proofs.MergeLemmas.{IsOnTheWay, on_start, on_step, on_failure, on_end}
+use Rattle.pmg_store.proofs.MergeLemmas.{on_start, on_step, on_failure, on_end}
 use Rattle.pmg_store.proofs.ReaderLemmas.{failed_at, few_start, few_at, next_reader, same_reader, same_others}
 use Rattle.pmg_store.proofs.merge.store_of_streams.Goals as goal
 
