@@ -11,4 +11,5 @@ pub mod ReaderLemmas
 pub mod ReadTable
 pub mod Telling
 pub mod ToldLemmas
+pub mod HonestDataLaws
 pub mod HonestPieces

@@ -36,11 +36,11 @@ known-core d p = in_it (finite.get d p)
     in_it None = core-nothing
     in_it (Some c) = c.is_core
 
-known-empty : (p : Proc) → known finite.empty p ≡ nothing
+pub known-empty : (p : Proc) → known finite.empty p ≡ nothing
 unfolding known
 known-empty p = ap knowledge_in (finite.get-empty proc_cmp p)
 
-known_by : (c : Contribution) (p : Proc) → known (of_contribution c) p ≡ core (told_by p c)
+pub known_by : (c : Contribution) (p : Proc) → known (of_contribution c) p ≡ core (told_by p c)
 known_by c p = known_of_one c p ∙ chosen (is_of p c)
   where
     chosen : (b : Bool) → (if b then core (knowledge_of c) else nothing) ≡ core (if b then knowledge_of c else nothing)

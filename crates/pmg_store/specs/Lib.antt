@@ -9,4 +9,5 @@ pub mod Pieces
 pub mod Readers
 pub mod Tables
 pub mod Told
+pub mod HonestData
 pub mod HonestStores

@@ -1,3 +1,4 @@
+ghost use Rattle.pmg_store.specs.HonestData.{EmptyIsHonest, AbsorbedIsHonest, JoinedIsHonest, LongerIsHonest, HonestDataReads, HonestLevelIsMade, LevelsRise};
 ghost use Rattle.pmg_store.specs.HonestStores.{StoreReadsHonestly, EqualLevelsReadAlike};
 ghost use Rattle.pmg_store.specs.Convergence.{Converges, SameInAnyOrder, SameInAnyGrouping, ReadsAlike, PrintsAlike, StreamsPrintAlike, MergesAlike, MergesAsOne, HoldsUnion};
 
@@ -22,4 +23,17 @@ pub fn pieces_in_any_order()
 pub fn honest_stores()
     ensures store_reads_honestly { StoreReadsHonestly }
     ensures equal_levels_read_alike { EqualLevelsReadAlike }
+{}
+
+/// Data that is honest for a process, since what it knows of it is what the process's own commits sealed, stays so
+/// whatever it takes that is honest and whatever the process calls later; it is read honestly at a level that is one of
+/// the process's commits. Levels never fall.
+pub fn honest_data()
+    ensures empty { EmptyIsHonest }
+    ensures absorbed { AbsorbedIsHonest }
+    ensures joined { JoinedIsHonest }
+    ensures longer { LongerIsHonest }
+    ensures reads { HonestDataReads }
+    ensures level_is_made { HonestLevelIsMade }
+    ensures levels_rise { LevelsRise }
 {}
