@@ -30,6 +30,14 @@ Example:
   proc j 0 level 1
     bool:true a";
 
+const PROGRAM_HELP: &str = "\
+Exit status: 0 done, 1 refused input or a read or write fault, 2 usage, 3 no memory.
+
+Example:
+  $ echo 010100000027016a00000000000000000000000000000000000000010000000100016100000000000000010101 | pmixgroup dump
+  proc j 0 level 1
+    bool:true a";
+
 const MERGE_EXAMPLE: &str = "\
 A line -- ends a stream.
 
@@ -105,18 +113,18 @@ fn command_line<'a>(alloc: Global) -> io::Result<Command<'a>>
     ensures err { IfErr result (λ e. error_kind e ≡ ErrorKind.OutOfMemory) }
 {
     let dump = Command::new(alloc, "dump")
-        .about("Prints the dump of the frames that standard input holds in hexadecimal")
+        .about("Decodes hex-encoded frames from standard input and prints what they tell")
         .after_help(DUMP_EXAMPLE);
     let merge = Command::new(alloc, "merge")
         .about(
-            "Prints the dump of the join of several streams that standard input holds in hexadecimal",
+            "Merges several streams of hex-encoded frames, separated by lines --, and prints their dump",
         )
         .after_help(MERGE_EXAMPLE);
     let command = Command::new(alloc, "pmixgroup")
         .bin_name("pmixgroup")?
         .version("0.1.0")
         .about("The server side of PMIx: what a group of servers knows, as text")
-        .after_help(DUMP_EXAMPLE)
+        .after_help(PROGRAM_HELP)
         .subcommand_required(true)
         .subcommand(dump)?
         .subcommand(merge)?;

@@ -77,7 +77,8 @@ fn carry_out<R: Read, W: Write>(
         result (merge_output text)) }
     ensures shown { (status : ℕ) → chosen ≡ Chosen.Shown status
         → (result ≡ status) × (reader.new ≡ reader.old) × (writer.new ≡ writer.old) }
-    ensures flushed { IsTrue writer.old.is_flushed → IsNone writer.new.failure → IsTrue writer.new.is_flushed }
+    ensures flushed { IsTrue writer.old.is_flushed → IsNone writer.new.failure
+        → IsTrue writer.new.is_flushed }
     ensures few { reader.new.reads ≤ reader.old.reads + MOST_READS }
     ensures status { HasStatus chosen → result ≤ 3 }
 {

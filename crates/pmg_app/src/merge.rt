@@ -73,8 +73,10 @@ fn is_separator(line: &[u8]) -> bool
 
 /// The bytes of each stream. Refused as BadFrame at the first fault of the texts, and as NoMemory.
 fn decode_streams(alloc: Global, text: &[u8]) -> Result<Vec<Vec<u8>>, Refusal>
-    ensures streams { IfOk result (λ streams. decoded_all text.now (spans_of text.now) ≡ Ok (map (λ s. s.items) streams.items)) }
-    ensures fault { IfErr result (λ refusal. FailsReading refusal (decoded_all text.now (spans_of text.now))) }
+    ensures streams { IfOk result (λ streams. decoded_all text.now (spans_of text.now)
+        ≡ Ok (map (λ s. s.items) streams.items)) }
+    ensures fault { IfErr result
+        (λ refusal. FailsReading refusal (decoded_all text.now (spans_of text.now))) }
 {
     let mut streams = Vec::new(alloc);
     let mut start = 0;
@@ -96,7 +98,8 @@ fn decode_stream(alloc: Global, text: &[u8], start: usize, end: usize) -> Result
     requires order { start ≤ end }
     requires within { end ≤ length text.now }
     ensures bytes { IfOk result (λ bytes. decoded_at text.now (span start end) ≡ Ok bytes.items) }
-    ensures fault { IfErr result (λ refusal. FailsReading refusal (decoded_at text.now (span start end))) }
+    ensures fault { IfErr result
+        (λ refusal. FailsReading refusal (decoded_at text.now (span start end))) }
 {
     match decode_text(alloc, &text[start..end]) {
         Err(Refusal::BadFrame(fault)) => Err(Refusal::BadFrame(Fault {

@@ -46,7 +46,8 @@ fn report<W: Write>(writer: &mut WatchedWriter<W>, failure: &Failure) -> u8
 
 #[tactic(auto, using(pmg_value::proofs::WrittenLemmas::written_in_parts), unfolding(crate::specs::Output::failure_line))]
 fn write_line<W: Write>(writer: &mut WatchedWriter<W>, failure: &Failure) -> Result<(), WriteFault>
-    ensures text { Writes (W.contents writer.old.writer) (W.contents writer.new.writer) result (failure_line failure.now) }
+    ensures text { Writes (W.contents writer.old.writer) (W.contents writer.new.writer)
+        result (failure_line failure.now) }
     ensures failed { OnErr result (IsSome writer.new.failure) }
 {
     match failure {
@@ -62,7 +63,8 @@ fn write_refusal<W: Write>(
     writer: &mut WatchedWriter<W>,
     refusal: &Refusal,
 ) -> Result<(), WriteFault>
-    ensures text { Writes (W.contents writer.old.writer) (W.contents writer.new.writer) result (refusal_line refusal.now) }
+    ensures text { Writes (W.contents writer.old.writer) (W.contents writer.new.writer)
+        result (refusal_line refusal.now) }
     ensures failed { OnErr result (IsSome writer.new.failure) }
 {
     writer.put_text(b"refused ")?;
@@ -76,7 +78,8 @@ fn write_stream_line<W: Write>(
     stream: usize,
     fault: &Fault,
 ) -> Result<(), WriteFault>
-    ensures text { Writes (W.contents writer.old.writer) (W.contents writer.new.writer) result (stream_line stream fault.now) }
+    ensures text { Writes (W.contents writer.old.writer) (W.contents writer.new.writer)
+        result (stream_line stream fault.now) }
     ensures failed { OnErr result (IsSome writer.new.failure) }
 {
     writer.put_text(b"refused ")?;
@@ -86,7 +89,8 @@ fn write_stream_line<W: Write>(
 
 #[tactic(auto, using(pmg_value::proofs::WrittenLemmas::written_in_parts), unfolding(crate::specs::Output::in_stream))]
 fn write_in_stream<W: Write>(writer: &mut WatchedWriter<W>, stream: usize) -> Result<(), WriteFault>
-    ensures text { Writes (W.contents writer.old.writer) (W.contents writer.new.writer) result (in_stream stream) }
+    ensures text { Writes (W.contents writer.old.writer) (W.contents writer.new.writer)
+        result (in_stream stream) }
     ensures failed { OnErr result (IsSome writer.new.failure) }
 {
     writer.put_text(b" in stream ")?;

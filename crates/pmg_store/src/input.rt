@@ -70,7 +70,8 @@ impl<R: Read> WatchedReader<R> {
     fn read(&mut self, chunk: &mut [u8]) -> Result<usize, ReadFault>
         ensures counted { self.new.reads ≤ self.old.reads + 1 }
         ensures bound { ReadsAtMost result chunk.new }
-        ensures bytes { ReadConsumes (R.remaining self.old.reader) (R.remaining self.new.reader) result chunk.new }
+        ensures bytes { ReadConsumes (R.remaining self.old.reader) (R.remaining self.new.reader)
+            result chunk.new }
         ensures failed { OnErr result (IsSome self.new.failure) }
         ensures ok { OnOk result (self.new.failure ≡ self.old.failure) }
     {
@@ -94,7 +95,8 @@ pub fn read_input<R: Read>(alloc: Global, reader: &mut WatchedReader<R>) -> Resu
         (λ bytes. Gives (λ input. input.items) result (or_failure (input_of bytes))) }
     ensures read_fault { IfErr result (λ e. e ≡ Failure.Read → IsSome reader.new.failure) }
     ensures no_write_fault { IfErr result (λ e. e ≢ Failure.Write) }
-    ensures failed { IsSome reader.new.failure → IsSome reader.old.failure ⊎ (result ≡ Err Failure.Read) }
+    ensures failed { IsSome reader.new.failure → IsSome reader.old.failure ⊎ (result
+        ≡ Err Failure.Read) }
     ensures few { reader.new.reads ≤ reader.old.reads + MOST_READS }
 {
     let mut chunk = vec![in alloc; 0; CHUNK_LEN]?;
@@ -111,7 +113,8 @@ fn read_by_chunks<R: Read>(
         (λ bytes. Gives (λ input. input.items) result (or_failure (input_of bytes))) }
     ensures read_fault { IfErr result (λ e. e ≡ Failure.Read → IsSome reader.new.failure) }
     ensures no_write_fault { IfErr result (λ e. e ≢ Failure.Write) }
-    ensures failed { IsSome reader.new.failure → IsSome reader.old.failure ⊎ (result ≡ Err Failure.Read) }
+    ensures failed { IsSome reader.new.failure → IsSome reader.old.failure ⊎ (result
+        ≡ Err Failure.Read) }
     ensures few { reader.new.reads ≤ reader.old.reads + MOST_READS }
 {
     let mut input = Vec::new(alloc);

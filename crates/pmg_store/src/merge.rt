@@ -44,7 +44,8 @@ fn store_of_streams<R: Read>(
     alloc: Global,
     readers: &mut [WatchedReader<R>],
 ) -> Result<Store, Failure>
-    ensures gives { (streams : List (List ℕ)) → map (λ r. R.remaining r.reader) readers.old ≡ map Some streams
+    ensures gives { (streams : List (List ℕ)) → map
+        (λ r. R.remaining r.reader) readers.old ≡ map Some streams
         → Gives (λ s. s) result (merged streams) }
     ensures read_fault { IfErr result (λ e. e ≡ Failure.Read → AnyFailed readers.new) }
     ensures no_write_fault { IfErr result (λ e. e ≢ Failure.Write) }
@@ -123,9 +124,12 @@ pub fn merge_streams<R: Read, W: Write>(
     readers: &mut [WatchedReader<R>],
     writer: &mut WatchedWriter<W>,
 ) -> Result<(), Failure>
-    ensures merges { (streams : List (List ℕ)) → map (λ r. R.remaining r.reader) readers.old ≡ map Some streams
-        → Dumps (W.contents writer.old.writer) (W.contents writer.new.writer) result (merge_of streams) }
-    ensures any_order { (streams others : List (List ℕ)) → map (λ r. R.remaining r.reader) readers.old ≡ map Some streams
+    ensures merges { (streams : List (List ℕ)) → map
+        (λ r. R.remaining r.reader) readers.old ≡ map Some streams
+        → Dumps (W.contents writer.old.writer) (W.contents writer.new.writer)
+        result (merge_of streams) }
+    ensures any_order { (streams others : List (List ℕ)) → map
+        (λ r. R.remaining r.reader) readers.old ≡ map Some streams
         → SameItems streams others → length others ≤ MAX_STREAMS
         → OnOk result (WritesDue (W.contents writer.old.writer) (W.contents writer.new.writer) (merge_of others)) }
     ensures read_fault { IfErr result (λ e. e ≡ Failure.Read → AnyFailed readers.new) }

@@ -137,7 +137,8 @@ impl Store {
     /// for each key that reads, by its bytes, a line with the value's text and the key. Refused as NoMemory with
     /// nothing written; where the writer fails, a prefix of the dump was written.
     pub fn dump<W: Write>(&self, writer: &mut WatchedWriter<W>) -> Result<(), Failure>
-        ensures dumps { Dumps (W.contents writer.old.writer) (W.contents writer.new.writer) result (Ok (dump self.now)) }
+        ensures dumps { Dumps (W.contents writer.old.writer) (W.contents writer.new.writer)
+            result (Ok (dump self.now)) }
         ensures write_fault { IfErr result (λ e. e ≡ Failure.Write → IsSome writer.new.failure) }
         ensures no_read_fault { IfErr result (λ e. e ≢ Failure.Read) }
     {
@@ -231,7 +232,8 @@ pub fn entries_told<'a>(piece: &'a Piece, proc: &Proc) -> &'a [PieceEntry]
 
 /// The entry that is read under the key at that level: of those of the process that can be read, the latest.
 fn best_in<'a>(pieces: &'a [Piece], proc: &Proc, level: u64, key: &Key) -> Option<&'a PieceEntry>
-    ensures { option_map (λ e. entry_of e.now) result ≡ fold (best_of_two level key.now) None (entries_of proc.now pieces.now) }
+    ensures { option_map (λ e. entry_of e.now)
+        result ≡ fold (best_of_two level key.now) None (entries_of proc.now pieces.now) }
 {
     let mut best = None;
     for piece in pieces {

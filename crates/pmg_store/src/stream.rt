@@ -60,7 +60,8 @@ pub fn dump_stream<R: Read, W: Write>(
     writer: &mut WatchedWriter<W>,
 ) -> Result<(), Failure>
     ensures dumps { IfSome (R.remaining reader.old.reader)
-        (λ bytes. Dumps (W.contents writer.old.writer) (W.contents writer.new.writer) result (or_failure (dump_of bytes))) }
+        (λ bytes. Dumps (W.contents writer.old.writer) (W.contents writer.new.writer)
+        result (or_failure (dump_of bytes))) }
     ensures read_fault { IfErr result (λ e. e ≡ Failure.Read → IsSome reader.new.failure) }
     ensures write_fault { IfErr result (λ e. e ≡ Failure.Write → IsSome writer.new.failure) }
     ensures few { reader.new.reads ≤ reader.old.reads + MOST_READS }

@@ -11,7 +11,8 @@ impl Fault {
     /// Writes the cause and the offset, as `Hex at 3`. Fails as `put_text` does.
     #[tactic(auto, using(crate::proofs::WrittenLemmas::written_in_parts), unfolding(crate::specs::RefusalText::fault_text))]
     pub fn write_text<W: Write>(&self, writer: &mut WatchedWriter<W>) -> Result<(), WriteFault>
-        ensures text { Writes (W.contents writer.old.writer) (W.contents writer.new.writer) result (fault_text self.now) }
+        ensures text { Writes (W.contents writer.old.writer) (W.contents writer.new.writer)
+            result (fault_text self.now) }
         ensures failed { OnErr result (IsSome writer.new.failure) }
     {
         writer.put_text(self.cause.name().as_bytes())?;
@@ -25,7 +26,8 @@ impl Refusal {
     /// `10 BadFrame: Hex at 3`. Fails as `put_text` does.
     #[tactic(auto, using(crate::proofs::WrittenLemmas::written_in_parts), unfolding(crate::specs::RefusalText::refusal_text))]
     pub fn write_text<W: Write>(&self, writer: &mut WatchedWriter<W>) -> Result<(), WriteFault>
-        ensures text { Writes (W.contents writer.old.writer) (W.contents writer.new.writer) result (refusal_text self.now) }
+        ensures text { Writes (W.contents writer.old.writer) (W.contents writer.new.writer)
+            result (refusal_text self.now) }
         ensures failed { OnErr result (IsSome writer.new.failure) }
     {
         writer.put_number(self.number() as u64)?;
@@ -37,7 +39,8 @@ impl Refusal {
     /// What stands behind the name: the fault, where there is one.
     #[tactic(auto, using(crate::proofs::WrittenLemmas::written_in_parts), unfolding(crate::specs::RefusalText::detail_text))]
     fn write_detail<W: Write>(&self, writer: &mut WatchedWriter<W>) -> Result<(), WriteFault>
-        ensures text { Writes (W.contents writer.old.writer) (W.contents writer.new.writer) result (detail_text self.now) }
+        ensures text { Writes (W.contents writer.old.writer) (W.contents writer.new.writer)
+            result (detail_text self.now) }
         ensures failed { OnErr result (IsSome writer.new.failure) }
     {
         match self {

@@ -19,7 +19,8 @@ use std::io::Write;
 impl Value {
     /// Writes the value's text: the kind's name, a colon, and what the value holds. Fails as `put_text` does.
     pub fn write_text<W: Write>(&self, writer: &mut WatchedWriter<W>) -> Result<(), WriteFault>
-        ensures text { Writes (W.contents writer.old.writer) (W.contents writer.new.writer) result (text_of self.now) }
+        ensures text { Writes (W.contents writer.old.writer) (W.contents writer.new.writer)
+            result (text_of self.now) }
         ensures failed { OnErr result (IsSome writer.new.failure) }
         ensures is { OnOk result (IsValue self.now) }
     {
@@ -72,7 +73,8 @@ fn kind_name(tag: u8) -> &'static [u8]
 #[cycle(put_held)]
 #[tactic(auto, using(crate::proofs::WrittenLemmas::written_in_parts))]
 fn put_held<W: Write>(writer: &mut WatchedWriter<W>, value: &Value) -> Result<(), WriteFault>
-    ensures text { Writes (W.contents writer.old.writer) (W.contents writer.new.writer) result (form_text (form value.now)) }
+    ensures text { Writes (W.contents writer.old.writer) (W.contents writer.new.writer)
+        result (form_text (form value.now)) }
     ensures failed { OnErr result (IsSome writer.new.failure) }
     ensures is { IsValue value.now }
 {
@@ -118,7 +120,8 @@ fn put_process<W: Write>(writer: &mut WatchedWriter<W>, process: &Proc) -> Resul
 /// An array: the name of its items' kind, and what they hold in brackets.
 #[cycle(put_held)]
 fn put_array<W: Write>(writer: &mut WatchedWriter<W>, array: &Array) -> Result<(), WriteFault>
-    ensures text { Writes (W.contents writer.old.writer) (W.contents writer.new.writer) result (array_text array.now) }
+    ensures text { Writes (W.contents writer.old.writer) (W.contents writer.new.writer)
+        result (array_text array.now) }
     ensures failed { OnErr result (IsSome writer.new.failure) }
     ensures is { IsArray array.now }
 {
@@ -133,7 +136,8 @@ fn put_array<W: Write>(writer: &mut WatchedWriter<W>, array: &Array) -> Result<(
 #[cycle(put_held)]
 fn put_items<W: Write>(writer: &mut WatchedWriter<W>, items: &[Value]) -> Result<(), WriteFault>
     requires { IsTrue (are_plain items.now) }
-    ensures text { Writes (W.contents writer.old.writer) (W.contents writer.new.writer) result (join_by plain_text (codes ",") (plains_of items.now)) }
+    ensures text { Writes (W.contents writer.old.writer) (W.contents writer.new.writer)
+        result (join_by plain_text (codes ",") (plains_of items.now)) }
     ensures failed { OnErr result (IsSome writer.new.failure) }
 {
     let Some((first, others)) = items.split_first() else {
@@ -147,7 +151,8 @@ fn put_items<W: Write>(writer: &mut WatchedWriter<W>, items: &[Value]) -> Result
 #[cycle(put_held)]
 fn put_others<W: Write>(writer: &mut WatchedWriter<W>, items: &[Value]) -> Result<(), WriteFault>
     requires { IsTrue (are_plain items.now) }
-    ensures text { Writes (W.contents writer.old.writer) (W.contents writer.new.writer) result (flat_map (λ p. codes "," ++ plain_text p) (plains_of items.now)) }
+    ensures text { Writes (W.contents writer.old.writer) (W.contents writer.new.writer)
+        result (flat_map (λ p. codes "," ++ plain_text p) (plains_of items.now)) }
     ensures failed { OnErr result (IsSome writer.new.failure) }
 {
     for item in items {
@@ -160,7 +165,8 @@ fn put_others<W: Write>(writer: &mut WatchedWriter<W>, items: &[Value]) -> Resul
 #[cycle(put_held)]
 fn put_next<W: Write>(writer: &mut WatchedWriter<W>, item: &Value) -> Result<(), WriteFault>
     requires { IsTrue (is_plain_form (form item.now)) }
-    ensures text { Writes (W.contents writer.old.writer) (W.contents writer.new.writer) result (codes "," ++ plain_text (plain_of (form item.now))) }
+    ensures text { Writes (W.contents writer.old.writer) (W.contents writer.new.writer)
+        result (codes "," ++ plain_text (plain_of (form item.now))) }
     ensures failed { OnErr result (IsSome writer.new.failure) }
 {
     writer.put_text(b",")?;

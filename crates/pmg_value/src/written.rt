@@ -74,7 +74,8 @@ impl<W: Write> WatchedWriter<W> {
     /// writes.
     fn write(&mut self, text: &[u8]) -> Result<usize, WriteFault>
         ensures bound { IfOk result (λ taken. taken ≤ length text.now) }
-        ensures bytes { WriteAppends (W.contents self.old.writer) (W.contents self.new.writer) result text.now }
+        ensures bytes { WriteAppends (W.contents self.old.writer) (W.contents self.new.writer)
+            result text.now }
         ensures failed { OnErr result (IsSome self.new.failure) }
         ensures ok { OnOk result (self.new.failure ≡ self.old.failure) }
     {
@@ -96,7 +97,8 @@ impl<W: Write> WatchedWriter<W> {
     /// where the writer takes nothing; with `TimedOut` after 2^64 - 1 writes. What it wrote by then is a prefix of
     /// `text`.
     pub fn put_text(&mut self, text: &[u8]) -> Result<(), WriteFault>
-        ensures text { Writes (W.contents self.old.writer) (W.contents self.new.writer) result text.now }
+        ensures text { Writes (W.contents self.old.writer) (W.contents self.new.writer)
+            result text.now }
         ensures failed { OnErr result (IsSome self.new.failure) }
         ensures ok { OnOk result (IsNone self.new.failure) }
         ensures kept { IsSome self.old.failure → IsSome self.new.failure }
@@ -134,7 +136,8 @@ impl<W: Write> WatchedWriter<W> {
 
     /// Writes `number` in decimal, as `put_text` writes.
     pub fn put_number(&mut self, number: u64) -> Result<(), WriteFault>
-        ensures text { Writes (W.contents self.old.writer) (W.contents self.new.writer) result (decimal number) }
+        ensures text { Writes (W.contents self.old.writer) (W.contents self.new.writer)
+            result (decimal number) }
         ensures failed { OnErr result (IsSome self.new.failure) }
     {
         let mut buffer = Buffer::new();
@@ -153,7 +156,8 @@ impl<W: Write> WatchedWriter<W> {
 
     /// Writes a byte in two lower hexadecimal digits, as `put_text` writes.
     fn put_byte(&mut self, byte: u8) -> Result<(), WriteFault>
-        ensures text { Writes (W.contents self.old.writer) (W.contents self.new.writer) result (hex_byte byte) }
+        ensures text { Writes (W.contents self.old.writer) (W.contents self.new.writer)
+            result (hex_byte byte) }
         ensures failed { OnErr result (IsSome self.new.failure) }
     {
         self.put_text(&[hex_digit(byte / 16), hex_digit(byte % 16)])
@@ -161,7 +165,8 @@ impl<W: Write> WatchedWriter<W> {
 
     /// Writes bytes in lower hexadecimal, two digits a byte, as `put_text` writes.
     pub fn put_hex(&mut self, bytes: &[u8]) -> Result<(), WriteFault>
-        ensures text { Writes (W.contents self.old.writer) (W.contents self.new.writer) result (hex_text bytes.now) }
+        ensures text { Writes (W.contents self.old.writer) (W.contents self.new.writer)
+            result (hex_text bytes.now) }
         ensures failed { OnErr result (IsSome self.new.failure) }
     {
         for byte in bytes {
