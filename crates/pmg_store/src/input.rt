@@ -1,5 +1,6 @@
 //! Input read whole, up to a limit.
 ghost use Rattle.std.specs.Prelude.{◌≡◌, ◌≢◌, ◌<◌, ◌≤◌, ◌+◌, ◌⊎◌, IfErr, IfSome, IsNone, IsSome, OnErr, OnOk, is_some, length};
+ghost use Rattle.std.specs.Option.{option_copied};
 ghost use Rattle.std.specs.Io.{ReadsAtMost};
 ghost use Rattle.std.specs.Io.KnownBytes.{ReadConsumes};
 ghost use Rattle.pmg_store.specs.Input.{input_of, too_much_input};
@@ -62,7 +63,9 @@ impl<R: Read> WatchedReader<R> {
     }
 
     /// Why the reader failed, where it has.
-    pub fn failure(&self) -> Option<&io::Error> {
+    pub fn failure(&self) -> Option<&io::Error>
+        ensures { option_copied result ≡ self.now.failure }
+    {
         self.failure.as_ref()
     }
 

@@ -4,6 +4,7 @@
 ghost use Rattle.std.specs.Prelude.{◌≡◌, ◌<◌, ◌≤◌, ◌++◌, decimal, length, IfOk, OnOk, OnErr, IsSome, IsNone, IsTrue, is_some};
 ghost use Rattle.std.specs.Char.{digit_char};
 ghost use Rattle.std.specs.Fmt.{signed_decimal};
+ghost use Rattle.std.specs.Option.{option_copied};
 ghost use Rattle.std.specs.Io.KnownBytes.{Keeps, WriteAppends};
 ghost use Rattle.pmg_value.specs.Written.{Writes};
 ghost use Rattle.pmg_value.specs.Hex.{hex_byte, hex_text};
@@ -50,7 +51,9 @@ impl<W: Write> WatchedWriter<W> {
     }
 
     /// Why the writer failed, where it has.
-    pub fn failure(&self) -> Option<&io::Error> {
+    pub fn failure(&self) -> Option<&io::Error>
+        ensures { option_copied result ≡ self.now.failure }
+    {
         self.failure.as_ref()
     }
 
