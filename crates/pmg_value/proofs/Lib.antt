@@ -6,6 +6,7 @@ pub mod ListLemmas
 pub mod MapLemmas
 pub mod OrderLemmas
 pub mod ProcessOrder
+pub mod RowLemmas
 pub mod SetLemmas
 pub mod TextLemmas
 pub mod WrittenLemmas

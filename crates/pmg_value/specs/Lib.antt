@@ -14,6 +14,7 @@ pub mod Plain
 pub mod Process
 pub mod RefusalText
 pub mod Refusals
+pub mod Rows
 pub mod Signatures
 pub mod Spelling
 pub mod Text

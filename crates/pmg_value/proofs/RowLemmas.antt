@@ -1,0 +1,145 @@
+-- Rows of keys and values in memory, and what stands under a key.
+use Rattle.std.proofs.Common.{◌≡◌, ℕ, Bool, true, false, cond, List, [], ◌∷◌, ◌++◌, map, length, Option, Some, None, refl, sym, ap, subst, ◌∙◌, Bor, arith}
+use Rattle.std.specs.FinMap as finite
+use Rattle.std.specs.FinMap.{IsAntisymmetric}
+use Rattle.std.specs.FinMap.Entries.{find, put}
+use Rattle.std.specs.Map.{lookup, keys_of}
+use Rattle.std.specs.BTreeMap.{is_at}
+use Rattle.std.specs.Option.{option_map, option_copied}
+use Rattle.std.specs.List.{AllByRecursion}
+use Rattle.std.specs.List.Sorted.{IsStrictlySortedBy}
+use Rattle.std.specs.declared.cmp.Ordering.{Ordering}
+use Rattle.std.specs.declared.cmp.Ordering.TheVariants.{Less}
+use Rattle.std.specs.Ordering.{eq_by_cmp, match_ordering}
+use Rattle.std.specs.Cmp.{IsTotalOrder, Equal-is, eq_by_cmp_equiv}
+use Rattle.std.proofs.lemmas.List.{length-map}
+use Rattle.pmg_value.specs.Rows.{AreRising, rows_of}
+
+-- what stands under a key in the rows
+abbrev pub at_key : {K V : Type 0} → (K → K → Ordering) → K → List (K × V) → Option V
+at_key R q rows = lookup (is_at (R q)) rows
+
+no_items : {A : Type 0} (xs : List A) → length xs ≡ 0 → xs ≡ []
+no_items [] e = refl
+no_items (x ∷ xs) e = absurd (omega (arith, e))
+
+pub entries_of_nothing : {K X : Type 0} (R : K → K → Ordering) → finite.entries (finite.empty {X = X} {R = R}) ≡ []
+entries_of_nothing {X = X} R = no_items _ (sym (finite.len-entries finite.empty) ∙ finite.len-empty R X)
+
+-- one row rises
+pub one_rises : {K V : Type 0} (R : K → K → Ordering) (row : K × V) (rows : List (K × V)) → rows ≡ row ∷ [] → AreRising R rows
+unfolding IsStrictlySortedBy
+one_rises R row rows e = subst (AreRising R) (sym e) (tt, tt)
+
+-- the query's test, asked the other way round
+turned : {K : Type 0} {R : K → K → Ordering} (o : IsTotalOrder R) (k q : K) → is_at (R k) q ≡ eq_by_cmp R q k
+turned o k q = (eq_by_cmp_equiv o).symm k q
+
+module _ {K X : Type 0} {R : K → K → Ordering} (o : IsTotalOrder R) where
+  -- to insert what is there changes nothing
+  pub insert_same : IsAntisymmetric R → (m : finite.FinMap R X) (k : K) (x : X) → finite.get m k ≡ Some x → finite.insert m k x ≡ m
+  insert_same exact m k x there = finite.same_map o exact (finite.insert m k x) m (λ q.
+      finite.get-insert o m k x q
+      ∙ elim (eq_by_cmp R q k) as (λ b. eq_by_cmp R q k ≡ b → cond b (Some x) (finite.get m q) ≡ finite.get m q) [
+        | true ↦ λ t. sym there ∙ ap (finite.get m) (sym (exact q k ((Equal-is _).0 t)))
+        | false ↦ λ t. refl
+      ] refl)
+
+  -- to remove what was not there before it was inserted undoes the insertion
+  pub remove_inserted : IsAntisymmetric R → (m : finite.FinMap R X) (k : K) (x : X) → finite.get m k ≡ None → finite.remove (finite.insert m k x) k ≡ m
+  remove_inserted exact m k x none = finite.same_map o exact (finite.remove (finite.insert m k x) k) m (λ q.
+      finite.get-remove o (finite.insert m k x) k q
+      ∙ elim (eq_by_cmp R q k) as (λ b. eq_by_cmp R q k ≡ b → cond b None (finite.get (finite.insert m k x) q) ≡ finite.get m q) [
+        | true ↦ λ t. sym none ∙ ap (finite.get m) (sym (exact q k ((Equal-is _).0 t)))
+        | false ↦ λ t. finite.get-insert o m k x q ∙ ap (λ b. cond b (Some x) (finite.get m q)) t
+      ] refl)
+
+module _ {K V X : Type 0} {R : K → K → Ordering} (o : IsTotalOrder R) (exact : IsAntisymmetric R) (f : V → X) where
+  -- rows, with their values as they are seen
+  abbrev pub shown : List (K × V) → List (K × X)
+  shown rows = map (λ e. (e.0, f e.1)) rows
+
+  find-shown : (rows : List (K × V)) (q : K) → find R q (shown rows) ≡ option_map f (at_key R q rows)
+  find-shown [] q = refl
+  find-shown (e ∷ rows) q =
+      elim (eq_by_cmp R q e.0) as (λ b. cond b (Some (f e.1)) (find R q (shown rows)) ≡ option_map f (cond b (Some e.1) (at_key R q rows))) [
+        | true ↦ refl
+        | false ↦ find-shown rows q
+      ]
+
+  pub get-rows_of : (rows : List (K × V)) (q : K) → finite.get (rows_of {R = R} f rows) q ≡ option_map f (at_key R q rows)
+  get-rows_of rows q = finite.get-from_entries o (shown rows) q ∙ find-shown rows q
+
+  -- rows that answer alike are one map
+  pub same_rows : (old new : List (K × V)) → ((q : K) → at_key R q old ≡ at_key R q new) → rows_of {R = R} f old ≡ rows_of f new
+  same_rows old new same = finite.same_map o exact _ _ (λ q. get-rows_of old q ∙ ap (option_map f) (same q) ∙ sym (get-rows_of new q))
+
+  shown_cond : (b : Bool) (x y : Option V) → option_map f (cond b x y) ≡ cond b (option_map f x) (option_map f y)
+  shown_cond true x y = refl
+  shown_cond false x y = refl
+
+  -- rows that have the value under the key, and else what they had
+  pub rows_with : (old new : List (K × V)) (k : K) (v : V)
+      → ((q : K) → at_key R q new ≡ cond (is_at (R k) q) (Some v) (at_key R q old))
+      → rows_of {R = R} f new ≡ finite.insert (rows_of f old) k (f v)
+  rows_with old new k v updates =
+      finite.same_map o exact (rows_of f new) (finite.insert (rows_of f old) k (f v)) (λ q.
+      get-rows_of new q
+      ∙ ap (option_map f) (updates q)
+      ∙ shown_cond (is_at (R k) q) (Some v) (at_key R q old)
+      ∙ (λ i. cond (turned o k q i) (Some (f v)) (sym (get-rows_of old q) i))
+      ∙ sym (finite.get-insert o (rows_of f old) k (f v) q))
+
+  -- rows that have nothing under the key, and else what they had
+  pub rows_without : (old new : List (K × V)) (k : K)
+      → ((q : K) → at_key R q new ≡ cond (is_at (R k) q) None (at_key R q old))
+      → rows_of {R = R} f new ≡ finite.remove (rows_of f old) k
+  rows_without old new k updates =
+      finite.same_map o exact (rows_of f new) (finite.remove (rows_of f old) k) (λ q.
+      get-rows_of new q
+      ∙ ap (option_map f) (updates q)
+      ∙ shown_cond (is_at (R k) q) None (at_key R q old)
+      ∙ (λ i. cond (turned o k q i) None (sym (get-rows_of old q) i))
+      ∙ sym (finite.get-remove o (rows_of f old) k q))
+
+  -- the value under a key, read where a query finds it
+  read_there : (found : Option (Bor V)) (x : Option V) → option_copied found ≡ x → option_map (λ v. f v.now) found ≡ option_map f x
+  read_there None x e = ap (option_map f) e
+  read_there (Some v) x e = ap (option_map f) e
+
+  pub read_rows : (rows : List (K × V)) (m : finite.FinMap R X) (k : K) (found : Option (Bor V)) → rows_of f rows ≡ m → option_copied found ≡ at_key R k rows → option_map (λ v. f v.now) found ≡ finite.get m k
+  read_rows rows m k found same e = read_there found (at_key R k rows) e ∙ sym (get-rows_of rows k) ∙ ap (λ (t : finite.FinMap R X). finite.get t k) same
+
+  -- ---- rows that are put one by one
+
+  -- the map with each of the rows put, the first of them last
+  abbrev pub put_all : List (K × V) → finite.FinMap R X → finite.FinMap R X
+  put_all [] m = m
+  put_all (e ∷ rows) m = finite.insert (put_all rows m) e.0 (f e.1)
+
+  pub put_all-push : (rows : List (K × V)) (k : K) (v : V) (m : finite.FinMap R X) → put_all (rows ++ (k, v) ∷ []) m ≡ put_all rows (finite.insert m k (f v))
+  put_all-push [] k v m = refl
+  put_all-push (e ∷ rows) k v m = ap (λ (t : finite.FinMap R X). finite.insert t e.0 (f e.1)) (put_all-push rows k v m)
+
+  pub put_all-empty : (rows : List (K × V)) → put_all rows finite.empty ≡ rows_of f rows
+  put_all-empty [] = refl
+  put_all-empty (e ∷ rows) = ap (λ (t : finite.FinMap R X). finite.insert t e.0 (f e.1)) (put_all-empty rows)
+
+  -- ---- rows that rise
+
+  put_first : (e : K × V) (rows : List (K × V)) → AllByRecursion (λ y. R e.0 y ≡ Less) (keys_of rows)
+      → put R e.0 (f e.1) (shown rows) ≡ (e.0, f e.1) ∷ shown rows
+  put_first e [] all = refl
+  put_first e (g ∷ rows) all =
+      ap (λ (c : Ordering). match_ordering c ((e.0, f e.1) ∷ shown (g ∷ rows)) ((g.0, f e.1) ∷ shown rows) ((g.0, f g.1) ∷ put R e.0 (f e.1) (shown rows))) all.0
+
+  pub entries_rising : (rows : List (K × V)) → AreRising R rows → finite.entries (rows_of {R = R} f rows) ≡ shown rows
+  unfolding IsStrictlySortedBy
+  entries_rising [] rising = entries_of_nothing R
+  entries_rising (e ∷ rows) rising =
+      finite.entries-insert o (rows_of f rows) e.0 (f e.1)
+      ∙ ap (put R e.0 (f e.1)) (entries_rising rows rising.1)
+      ∙ put_first e rows rising.0
+
+  pub len_rising : (rows : List (K × V)) → AreRising R rows → finite.len (rows_of {R = R} f rows) ≡ length rows
+  len_rising rows rising = finite.len-entries (rows_of f rows) ∙ ap length (entries_rising rows rising) ∙ length-map rows (λ e. (e.0, f e.1))
