@@ -15,7 +15,7 @@ use Rattle.pmg_value.specs.Spelling.{spelling}
 use Rattle.pmg_value.specs.declared.value.Value.{Value}
 use Rattle.pmg_scope.specs.Cached.{row_size}
 use Rattle.pmg_scope.specs.Rows.{IsRising, counted_by, table_of}
-use Rattle.pmg_scope.proofs.RowLemmas.{shown, entries_of_nothing}
+use Rattle.pmg_value.proofs.RowLemmas.{shown, entries_of_nothing}
 use Rattle.pmg_scope.proofs.SumLemmas.{sum_put}
 use Rattle.pmg_commit.specs.Growth.{counted_at, new_keys, replaced_size, puts_size}
 use Rattle.pmg_commit.specs.Sealed.{Stamp, Stamps, stamp_all, stamped, stamps_size, are_within}
@@ -124,7 +124,7 @@ too_many_puts n m puts rising many =
 pub stamped_one : (n : ℕ) (k bytes : List ℕ) (m : Stamps) → stamped n (finite.insert finite.empty k bytes) m ≡ finite.insert m k (record { number = n; bytes = bytes })
 unfolding stamped
 stamped_one n k bytes m =
-    ap (stamp_all n m) (finite.entries-insert nat_list_cmp_total finite.empty k bytes ∙ ap (put (slice_cmp nat_cmp) k bytes) entries_of_nothing)
+    ap (stamp_all n m) (finite.entries-insert nat_list_cmp_total finite.empty k bytes ∙ ap (put (slice_cmp nat_cmp) k bytes) (entries_of_nothing (slice_cmp nat_cmp)))
 
 pub one_replaced : (m : Stamps) (k : List ℕ) → counted_at m k ≤ stamps_size m + (10 + length k)
 one_replaced m k = let sum = sum_put (λ (s : Stamp). length s.bytes) m k (record { number = 0; bytes = [] }) in omega (arith, sum)

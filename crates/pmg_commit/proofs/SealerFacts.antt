@@ -18,7 +18,7 @@ use Rattle.pmg_value.specs.declared.refusal.Refusal.TheVariants as refusals
 use Rattle.pmg_value.specs.declared.process.Proc.{Proc}
 use Rattle.pmg_scope.specs.Cached.{Table, Unsealed}
 use Rattle.pmg_scope.specs.Scripts.{term_key}
-use Rattle.pmg_scope.proofs.RowLemmas.{entries_of_nothing}
+use Rattle.pmg_value.proofs.RowLemmas.{entries_of_nothing}
 use Rattle.pmg_scope.proofs.SumLemmas.{sum_put}
 use Rattle.pmg_commit.specs.Knowledge.{Contribution}
 use Rattle.pmg_commit.specs.Pieces.{entry_size, body_size, is_small, is_numbered, is_key_rising, is_piece}
@@ -37,7 +37,7 @@ nothing_len : finite.len (finite.empty {X = Stamp} {R = slice_cmp nat_cmp}) ≡ 
 nothing_len = finite.len-empty (slice_cmp nat_cmp) Stamp
 
 nothing_size : stamps_size finite.empty ≡ 0
-nothing_size = ap (sum_by stamp_size) entries_of_nothing
+nothing_size = ap (sum_by stamp_size) (entries_of_nothing (slice_cmp nat_cmp))
 
 nothing_within : are_within finite.empty ≡ true
 nothing_within = λ i. nat_le (nothing_len i) 65535 && nat_le (nothing_size i) 16000000
@@ -46,7 +46,7 @@ nothing_small : are_small finite.empty ≡ true
 nothing_small = λ i. nat_le (nothing_len i) 65536 && nat_le (nothing_size i) 16000021
 
 nothing_of : (n : ℕ) → are_of n finite.empty ≡ true
-nothing_of n = ap (list_all (λ e. nat_lt 0 e.1.number && nat_le e.1.number n)) entries_of_nothing
+nothing_of n = ap (list_all (λ e. nat_lt 0 e.1.number && nat_le e.1.number n)) (entries_of_nothing (slice_cmp nat_cmp))
 
 within_small : (m : Stamps) → are_within m ≡ true → are_small m ≡ true
 within_small m h =
@@ -60,7 +60,7 @@ within_small m h =
 stamped_term : (n : ℕ) (m : Stamps) → stamped n term_table m ≡ finite.insert m term_key (record { number = n; bytes = 1 ∷ 1 ∷ [] })
 unfolding stamped
 stamped_term n m =
-    ap (stamp_all n m) (finite.entries-insert nat_list_cmp_total finite.empty term_key (1 ∷ 1 ∷ []) ∙ ap (put (slice_cmp nat_cmp) term_key (1 ∷ 1 ∷ [])) entries_of_nothing)
+    ap (stamp_all n m) (finite.entries-insert nat_list_cmp_total finite.empty term_key (1 ∷ 1 ∷ []) ∙ ap (put (slice_cmp nat_cmp) term_key (1 ∷ 1 ∷ [])) (entries_of_nothing (slice_cmp nat_cmp)))
 
 one_more_at_most : (b : Bool) (n m : ℕ) → m ≡ cond b n (n + 1) → m ≤ n + 1
 one_more_at_most true n m e = omega (arith, e)

@@ -21,7 +21,7 @@ use Rattle.pmg_scope.specs.declared.scope.Reach.TheVariants as reach
 use Rattle.pmg_scope.specs.Scripts.{Call, Script, has_end, has_commit, ended, count_commits, commits, term_key, term_put, put_of, last_put}
 use Rattle.pmg_scope.specs.Sealing.{part, part_of, IsSealed}
 use Rattle.pmg_scope.specs.Cached.{Table, Unsealed}
-use Rattle.pmg_scope.proofs.RowLemmas.{same_rows}
+
 use Rattle.pmg_scope.proofs.SumLemmas.{t_first, t_second, is_less}
 use Rattle.pmg_scope.proofs.ScriptLaws.{by_end, has_commit_first, count_kept, open_commits, end_is_last}
 use Rattle.pmg_scope.proofs.SealingLaws.{none_earlier, sealed_once, sealed_among_fewer}
@@ -373,7 +373,7 @@ same_stamp None (Some y) there back = back y refl
 same_stamp None None there back = refl
 
 stamps_are_one : (m n : Stamps) (s : Script) (r : Reach) → FitsStamps m s r → FitsStamps n s r → m ≡ n
-stamps_are_one m n s r a b = same_rows m n (λ q. same_stamp (finite.get m q) (finite.get n q) (λ x is. (b q x).1 ((a q x).0 is)) (λ x is. (a q x).1 ((b q x).0 is)))
+stamps_are_one m n s r a b = finite.same_map nat_list_cmp_total exact_bytes m n (λ q. same_stamp (finite.get m q) (finite.get n q) (λ x is. (b q x).1 ((a q x).0 is)) (λ x is. (a q x).1 ((b q x).0 is)))
 
 pub sealer_is_one : SealerIsOne
 sealer_is_one z w s a b proc =

@@ -1,6 +1,7 @@
 ghost use Rattle.std.specs.Prelude.{◌≡◌, ◌≤◌, ℕ, List, [], ◌∷◌, ◌++◌, ◌&&◌, not, nat_lt, length, IfOk, OnOk, OnErr, IsTrue};
 ghost use Rattle.pmg_value.specs.Answers.{Gives};
-ghost use Rattle.pmg_scope.specs.Rows.{IsRising, rows_of, table_of};
+ghost use Rattle.pmg_value.specs.Rows.{rows_of};
+ghost use Rattle.pmg_scope.specs.Rows.{IsRising, table_of};
 ghost use Rattle.pmg_scope.specs.Cached.{global_put};
 ghost use Rattle.pmg_scope.specs.Scripts.{Call, Script};
 ghost use Rattle.pmg_commit.specs.Sealed.{

@@ -1,7 +1,8 @@
 ghost use Rattle.std.specs.Prelude.{◌≡◌, ◌+◌, ◌-◌, ◌*◌, ◌≤◌, ◌<◌, ◌&&◌, nat_le, ℕ, List, length, map, IfOk, OnOk, IsTrue};
 ghost use Rattle.std.specs.FinMap as finite;
 ghost use Rattle.pmg_value.specs.Spelling.{spelling};
-ghost use Rattle.pmg_scope.specs.Rows.{IsRising, rows_of, table_of};
+ghost use Rattle.pmg_value.specs.Rows.{rows_of};
+ghost use Rattle.pmg_scope.specs.Rows.{IsRising, table_of};
 ghost use Rattle.pmg_commit.specs.Pieces.{entry_of};
 ghost use Rattle.pmg_commit.specs.Growth.{counted_at, new_keys, replaced_size, puts_size};
 ghost use Rattle.pmg_commit.specs.Sealed.{stamped, stamps_size, are_within, newer_than};
@@ -9,7 +10,7 @@ ghost use Rattle.pmg_commit.specs.Stamped.{stamp_of};
 
 use crate::piece::PieceEntry;
 use pmg_scope::{MAX_CACHE_SIZE, MAX_KEYS, row_size};
-use pmg_value::{Key, Value};
+use pmg_value::{Copied, Key, Value, copy_rows};
 use std::alloc::{AllocError, Global};
 use std::collections::BTreeMap;
 use std::marker::Model;
@@ -35,11 +36,10 @@ impl SealedPut {
     {
         &self.value
     }
+}
 
-    /// Another one of the same meaning.
-    fn copy(&self) -> Result<SealedPut, AllocError>
-        ensures { IfOk result (λ p. p ≡ self.now) }
-    {
+impl Copied for SealedPut {
+    fn copy(&self) -> Result<SealedPut, AllocError> {
         Ok(SealedPut {
             number: self.number,
             value: self.value.copy()?,
@@ -60,7 +60,7 @@ impl Model for Stamps {
 
     ghost coded = { coded_stamps };
 
-    ghost use Rattle.pmg_scope.specs.Rows.{rows_of};
+    ghost use Rattle.pmg_value.specs.Rows.{rows_of};
     ghost use Rattle.pmg_commit.specs.Stamped.{stamp_of};
 
     ghost view = { λ a. rows_of stamp_of a.rows.entries };
@@ -98,33 +98,13 @@ impl Stamps {
         Ok(())
     }
 
-    /// The keys and what was sealed under them, in order, copied.
-    fn rows(&self, alloc: Global) -> Result<Vec<(Key, SealedPut)>, AllocError>
-        ensures { IfOk result (λ rs. rows_of stamp_of rs.items ≡ self.now) }
-    {
-        let mut rows = Vec::with_capacity(alloc, self.rows.len())?;
-        for (key, put) in self.rows.iter() {
-            rows.push((key.copy()?, put.copy()?))?;
-        }
-        Ok(rows)
-    }
-
-    /// The stamps of these keys.
-    fn of_rows(alloc: Global, mut rows: Vec<(Key, SealedPut)>) -> Result<Stamps, AllocError>
-        ensures { IfOk result (λ s. s ≡ rows_of stamp_of rows.items) }
-    {
-        let mut stamps = Stamps::new(alloc);
-        while let Some((key, put)) = rows.pop() {
-            stamps.add(key, put)?;
-        }
-        Ok(stamps)
-    }
-
     /// Other stamps of the same meaning.
     pub fn copy(&self, alloc: Global) -> Result<Stamps, AllocError>
         ensures { IfOk result (λ s. s ≡ self.now) }
     {
-        Stamps::of_rows(alloc, self.rows(alloc)?)
+        Ok(Stamps {
+            rows: copy_rows(alloc, &self.rows)?,
+        })
     }
 
     /// The stamps once the commit of that number seals these puts, whose keys rise.

@@ -6,6 +6,7 @@ use Rattle.std.specs.Ordering.{nat_cmp}
 use Rattle.std.specs.Cmp.Lexicographic.{slice_cmp}
 use Rattle.std.specs.Coded.{Coded, code_by, coded×, coded_list, coded_ℕ}
 use Rattle.std.specs.FinMap as map
+use Rattle.pmg_value.specs.Rows.{map_of}
 use Rattle.pmg_value.specs.declared.process.Proc.{Proc}
 use Rattle.pmg_value.specs.Names.{is_reserved}
 
@@ -27,7 +28,7 @@ coded_jobs =
 
 -- the jobs that a table of namespaces holds
 abbrev pub jobs_of : List (List ℕ) → List (List ℕ × List ℕ) → Jobs
-jobs_of names table = record { nodes = names; spaces = map.from_entries table }
+jobs_of names table = record { nodes = names; spaces = map_of table }
 
 -- the group with these nodes, and no namespace yet
 abbrev pub opened : List (List ℕ) → Jobs

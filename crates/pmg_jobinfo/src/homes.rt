@@ -3,7 +3,7 @@ ghost use Rattle.std.specs.Prelude.{◌≡◌, ◌==◌, ◌≤◌, ◌++◌, le
 ghost use Rattle.std.specs.List.{join_by, list_any};
 ghost use Rattle.pmg_jobinfo.specs.Reserved.{count_at, count_hosts, ranks_at, peers_text};
 
-use pmg_value::{NodeId, Text, push_number};
+use pmg_value::{Copied, NodeId, Text, push_number};
 use std::alloc::{AllocError, Global};
 use std::marker::Model;
 
@@ -37,11 +37,10 @@ impl Homes {
     {
         self.nodes.as_slice()
     }
+}
 
-    /// The same homes, with the same allocator.
-    pub fn copy(&self) -> Result<Homes, AllocError>
-        ensures { IfOk result (λ h. h ≡ self.now) }
-    {
+impl Copied for Homes {
+    fn copy(&self) -> Result<Homes, AllocError> {
         Homes::new(*self.nodes.allocator(), &self.nodes)
     }
 }

@@ -12,7 +12,7 @@ ghost use Rattle.pmg_jobinfo.specs.Refusing.{new_cause, register_cause, size_cau
 
 use crate::homes::Homes;
 use crate::names::{are_node_names, copy_texts, texts_of};
-use pmg_value::{NodeId, Nspace, Proc, Refusal, Text};
+use pmg_value::{NodeId, Nspace, Proc, Refusal, Text, copy_rows};
 use std::alloc::{AllocError, Global};
 use std::collections::BTreeMap;
 use std::marker::Model;
@@ -192,21 +192,7 @@ impl Registry {
     {
         Ok(Registry {
             nodes: copy_texts(&self.nodes)?,
-            spaces: copy_spaces(*self.nodes.allocator(), &self.spaces)?,
+            spaces: copy_rows(*self.nodes.allocator(), &self.spaces)?,
         })
     }
-}
-
-/// A table of the same namespaces and homes.
-fn copy_spaces(
-    alloc: Global,
-    spaces: &BTreeMap<Nspace, Homes>,
-) -> Result<BTreeMap<Nspace, Homes>, AllocError>
-    ensures { IfOk result (λ copies. finite.from_entries {R = slice_cmp nat_cmp} copies.entries ≡ finite.from_entries spaces.now.entries) }
-{
-    let mut copies = BTreeMap::new(alloc);
-    for (name, homes) in spaces.iter() {
-        copies.insert(name.copy()?, homes.copy()?)?;
-    }
-    Ok(copies)
 }

@@ -17,8 +17,9 @@ use Rattle.pmg_value.specs.Answers.{Fails}
 use Rattle.pmg_value.specs.CheckOrder.{check_order, first_in, first_of}
 use Rattle.pmg_value.specs.Lists.{In}
 use Rattle.pmg_scope.specs.Cached.{global_put}
-use Rattle.pmg_scope.specs.Rows.{IsRising, rows_of, counted_by}
-use Rattle.pmg_scope.proofs.RowLemmas.{shown, entries_rising, entries_of_nothing}
+use Rattle.pmg_value.specs.Rows.{rows_of}
+use Rattle.pmg_scope.specs.Rows.{IsRising, counted_by}
+use Rattle.pmg_value.proofs.RowLemmas.{shown, entries_rising, entries_of_nothing}
 use Rattle.pmg_scope.proofs.SumLemmas.{len_held, sum_put}
 use Rattle.pmg_commit.specs.declared.stamps.SealedPut.{SealedPut}
 use Rattle.pmg_commit.specs.Sealed.{Stamp, Stamps, Sealed, fresh, new_answer, stamped, are_within, stamp_size, stamps_size, can_seal, commit_answer}
@@ -57,7 +58,7 @@ one_more n k bytes m is all =
 -- ---- limits
 
 nothing_within : are_within finite.empty ≡ true
-nothing_within = λ i. nat_le (finite.len-empty (slice_cmp nat_cmp) Stamp i) 65535 && nat_le (sum_by stamp_size (entries_of_nothing i)) 16000000
+nothing_within = λ i. nat_le (finite.len-empty (slice_cmp nat_cmp) Stamp i) 65535 && nat_le (sum_by stamp_size ((entries_of_nothing (slice_cmp nat_cmp)) i)) 16000000
 
 -- what a commit took is within them
 within_after : (z : Sealed) (name bytes : List ℕ) → can_seal z (global_put name bytes) ≡ true → are_within (changed z name bytes).far ≡ true
@@ -97,7 +98,7 @@ changed_are_sets z w name procs are is =
 
 -- a new sealer of the host's process has no sets
 fresh_sets : AreSets (fresh host)
-fresh_sets = record { host = refl; going = refl; alike = refl; sets = ap holds_procs entries_of_nothing; within = nothing_within }
+fresh_sets = record { host = refl; going = refl; alike = refl; sets = ap holds_procs (entries_of_nothing (slice_cmp nat_cmp)); within = nothing_within }
 
 made_is : (a b : Sealed) → ◌≡◌ {A = Result Sealed Refusal} (Ok a) (Ok b) → a ≡ b
 made_is a b h = cc
@@ -222,10 +223,10 @@ filter_keys (e ∷ es) test alike =
 
 pub live_rows-rising : (rows : List (List ℕ × SealedPut)) (z : Sealed) → IsRising rows → rows_of stamp_of rows ≡ z.far → live_rows rows ≡ live_names z
 live_rows-rising rows z rising same =
-    let entries : shown stamp_of rows ≡ finite.entries z.far = sym (entries_rising stamp_of rows rising) ∙ ap finite.entries same in
+    let entries : shown stamp_of rows ≡ finite.entries z.far = sym (entries_rising nat_list_cmp_total stamp_of rows rising) ∙ ap finite.entries same in
     ap (λ es. map (λ e. e.0) (filter (λ e. is_some (live_of e.1.bytes)) es)) entries
     ∙ sym (filter_keys (finite.entries z.far) (is_live z) (λ e i. ap (λ o. is_some (live_in o)) (finite.get-entries z.far e.0 ∙ find_in_rows (finite.entries z.far) e (finite.entries_sorted z.far) i)))
 
 pub rows_procs-rising : (rows : List (List ℕ × SealedPut)) (z : Sealed) → AreSets z → IsRising rows → rows_of stamp_of rows ≡ z.far → rows_procs rows ≡ true
 rows_procs-rising rows z are rising same =
-    ap holds_procs (sym (entries_rising stamp_of rows rising) ∙ ap finite.entries same) ∙ are.sets
+    ap holds_procs (sym (entries_rising nat_list_cmp_total stamp_of rows rising) ∙ ap finite.entries same) ∙ are.sets

@@ -3,5 +3,4 @@ pub mod ScriptLaws
 pub mod SealingLaws
 pub mod TableLemmas
 pub mod SizeLemmas
-pub mod RowLemmas
 pub mod SumLemmas

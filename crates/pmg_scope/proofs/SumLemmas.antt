@@ -10,7 +10,7 @@ use Rattle.std.specs.Cmp.Lexicographic.{slice_cmp, nat_list_cmp_total}
 use Rattle.std.proofs.lemmas.List.Sums.{sum_by-cons}
 use Rattle.std.proofs.lemmas.Map.Lookups.{exact_bytes}
 use Rattle.pmg_scope.specs.Rows.{KeyMap, size_by, counted_by}
-use Rattle.pmg_scope.proofs.RowLemmas.{entries_of_nothing}
+use Rattle.pmg_value.proofs.RowLemmas.{entries_of_nothing}
 
 pub t_first : (a b : Bool) → T (a && b) → T a
 t_first true b h = tt
@@ -69,7 +69,7 @@ module _ {X : Type 0} (h : X → ℕ) where
       ∙ size_put k v (finite.entries m) (finite.entries_sorted m)
 
   pub sum_of_nothing : sum_by (size_by h) (finite.entries (finite.empty {X = X} {R = slice_cmp nat_cmp})) ≡ 0
-  sum_of_nothing = ap (sum_by (size_by h)) entries_of_nothing
+  sum_of_nothing = ap (sum_by (size_by h)) (entries_of_nothing (slice_cmp nat_cmp))
 
 -- ---- how many entries
 

@@ -1,11 +1,10 @@
 -- Tables as they are kept.
-use Rattle.std.specs.Prelude.{◌≡◌, ℕ, ◌+◌, List, length, map, Option, Some, None, if◌then◌else◌}
+use Rattle.std.specs.Prelude.{◌≡◌, ℕ, ◌+◌, List, length, Option, Some, None, if◌then◌else◌}
 use Rattle.std.specs.FinMap as finite
-use Rattle.std.specs.List.Sorted.{IsStrictlySortedBy}
-use Rattle.std.specs.Map.{keys_of}
 use Rattle.std.specs.Ordering.{nat_cmp}
 use Rattle.std.specs.Cmp.Lexicographic.{slice_cmp}
 use Rattle.pmg_value.specs.declared.value.Value.{Value}
+use Rattle.pmg_value.specs.Rows.{AreRising, rows_of}
 use Rattle.pmg_value.specs.Spelling.{spelling}
 use Rattle.pmg_scope.specs.declared.table.Before.{Before}
 use Rattle.pmg_scope.specs.declared.table.Before.TheVariants as before
@@ -17,17 +16,13 @@ use Rattle.pmg_scope.specs.Cached.{Table, Cached, table_size}
 abbrev pub KeyMap : Type 0 → Type 0
 KeyMap X = finite.FinMap (slice_cmp nat_cmp) X
 
--- rows of keys and values as a map, where f says what a value means
-abbrev pub rows_of : {V X : Type 0} → (V → X) → List (List ℕ × V) → KeyMap X
-rows_of f rows = finite.from_entries (map (λ e. (e.0, f e.1)) rows)
-
 -- rows of keys and values as a table
 abbrev pub table_of : List (List ℕ × Value) → Table
 table_of rows = rows_of spelling rows
 
 -- the keys rise
 abbrev pub IsRising : {V : Type 0} → List (List ℕ × V) → Type 0
-IsRising rows = IsStrictlySortedBy (slice_cmp nat_cmp) (keys_of rows)
+IsRising = AreRising (slice_cmp nat_cmp)
 
 -- what was under a key
 abbrev pub before_of : Option Value → Before

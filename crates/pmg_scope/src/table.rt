@@ -5,7 +5,7 @@ ghost use Rattle.pmg_value.specs.Spelling.{spelling};
 ghost use Rattle.pmg_scope.specs.Cached.{put_if};
 ghost use Rattle.pmg_scope.specs.Rows.{IsRising, before_of, changed_at, restored, table_of};
 
-use pmg_value::{Key, Value};
+use pmg_value::{Key, Value, copy_rows};
 use std::alloc::{AllocError, Global};
 use std::collections::BTreeMap;
 use std::marker::Model;
@@ -91,14 +91,6 @@ impl Table {
         Ok(self.rows.insert(key, value)?)
     }
 
-    /// Puts the value under the key.
-    fn add(&mut self, key: Key, value: Value) -> Result<(), AllocError>
-        ensures { OnOk result (self.new ≡ map.insert self.old key (spelling value)) }
-    {
-        let _ = self.set(key, value)?;
-        Ok(())
-    }
-
     /// Takes a put of the key back, as the put told.
     pub fn take_back(&mut self, key: &Key, before: Before)
         ensures { self.new ≡ restored self.old key.now before }
@@ -150,22 +142,13 @@ impl Table {
         Ok(rows)
     }
 
-    /// The table of these keys and values.
-    fn of_rows(alloc: Global, mut rows: Vec<(Key, Value)>) -> Result<Table, AllocError>
-        ensures { IfOk result (λ t. t ≡ table_of rows.items) }
-    {
-        let mut table = Table::new(alloc);
-        while let Some((key, value)) = rows.pop() {
-            table.add(key, value)?;
-        }
-        Ok(table)
-    }
-
     /// Another table of the same meaning.
     pub fn copy(&self, alloc: Global) -> Result<Table, AllocError>
         ensures { IfOk result (λ t. t ≡ self.now) }
     {
-        Table::of_rows(alloc, self.rows(alloc)?)
+        Ok(Table {
+            rows: copy_rows(alloc, &self.rows)?,
+        })
     }
 
     /// Takes all values out.

@@ -1,7 +1,6 @@
 -- Honest data stays honest, and is read honestly.
 use Rattle.std.proofs.Common.{◌≡◌, ◌≤◌, ℕ, Bool, true, false, List, [], ◌∷◌, ◌++◌, refl, sym, ap, subst, ◌∙◌}
 use Rattle.std.specs.Prelude.{if◌then◌else◌}
-use Rattle.std.specs.FinMap as finite
 use Rattle.pmg_value.specs.Lists.{Each}
 use Rattle.pmg_value.specs.declared.process.Proc.{Proc}
 use Rattle.pmg_scope.specs.declared.scope.Reach.{Reach}

@@ -1,9 +1,11 @@
 -- Rows of keys and values in memory, and what stands under a key.
-use Rattle.std.proofs.Common.{◌≡◌, ℕ, Bool, true, false, cond, List, [], ◌∷◌, ◌++◌, map, length, Option, Some, None, refl, sym, ap, subst, ◌∙◌, Bor, arith}
+use Rattle.std.proofs.Common.{◌≡◌, Bool, true, false, cond, List, [], ◌∷◌, ◌++◌, map, length, Option, Some, None, refl, sym, ap, subst, ◌∙◌, Bor, arith}
 use Rattle.std.specs.FinMap as finite
 use Rattle.std.specs.FinMap.{IsAntisymmetric}
 use Rattle.std.specs.FinMap.Entries.{find, put}
-use Rattle.std.specs.Map.{lookup, keys_of}
+use Rattle.std.specs.Map.{lookup, keys_of, update_all}
+use Rattle.std.proofs.lemmas.Map.Keys.{IsDistinct-from_sorted}
+use Rattle.std.proofs.lemmas.Map.Made.{update_all_none}
 use Rattle.std.specs.BTreeMap.{is_at}
 use Rattle.std.specs.Option.{option_map, option_copied}
 use Rattle.std.specs.List.{AllByRecursion}
@@ -13,7 +15,7 @@ use Rattle.std.specs.declared.cmp.Ordering.TheVariants.{Less}
 use Rattle.std.specs.Ordering.{eq_by_cmp, match_ordering}
 use Rattle.std.specs.Cmp.{IsTotalOrder, Equal-is, eq_by_cmp_equiv}
 use Rattle.std.proofs.lemmas.List.{length-map}
-use Rattle.pmg_value.specs.Rows.{AreRising, rows_of}
+use Rattle.pmg_value.specs.Rows.{AreRising, map_of, rows_of}
 
 -- what stands under a key in the rows
 abbrev pub at_key : {K V : Type 0} → (K → K → Ordering) → K → List (K × V) → Option V
@@ -54,64 +56,11 @@ module _ {K X : Type 0} {R : K → K → Ordering} (o : IsTotalOrder R) where
         | false ↦ λ t. finite.get-insert o m k x q ∙ ap (λ b. cond b (Some x) (finite.get m q)) t
       ] refl)
 
-module _ {K V X : Type 0} {R : K → K → Ordering} (o : IsTotalOrder R) (exact : IsAntisymmetric R) (f : V → X) where
-  -- rows, with their values as they are seen
-  abbrev pub shown : List (K × V) → List (K × X)
-  shown rows = map (λ e. (e.0, f e.1)) rows
+-- rows, with their values as they are seen
+abbrev pub shown : {K V X : Type 0} → (V → X) → List (K × V) → List (K × X)
+shown f rows = map (λ e. (e.0, f e.1)) rows
 
-  find-shown : (rows : List (K × V)) (q : K) → find R q (shown rows) ≡ option_map f (at_key R q rows)
-  find-shown [] q = refl
-  find-shown (e ∷ rows) q =
-      elim (eq_by_cmp R q e.0) as (λ b. cond b (Some (f e.1)) (find R q (shown rows)) ≡ option_map f (cond b (Some e.1) (at_key R q rows))) [
-        | true ↦ refl
-        | false ↦ find-shown rows q
-      ]
-
-  pub get-rows_of : (rows : List (K × V)) (q : K) → finite.get (rows_of {R = R} f rows) q ≡ option_map f (at_key R q rows)
-  get-rows_of rows q = finite.get-from_entries o (shown rows) q ∙ find-shown rows q
-
-  -- rows that answer alike are one map
-  pub same_rows : (old new : List (K × V)) → ((q : K) → at_key R q old ≡ at_key R q new) → rows_of {R = R} f old ≡ rows_of f new
-  same_rows old new same = finite.same_map o exact _ _ (λ q. get-rows_of old q ∙ ap (option_map f) (same q) ∙ sym (get-rows_of new q))
-
-  shown_cond : (b : Bool) (x y : Option V) → option_map f (cond b x y) ≡ cond b (option_map f x) (option_map f y)
-  shown_cond true x y = refl
-  shown_cond false x y = refl
-
-  -- rows that have the value under the key, and else what they had
-  pub rows_with : (old new : List (K × V)) (k : K) (v : V)
-      → ((q : K) → at_key R q new ≡ cond (is_at (R k) q) (Some v) (at_key R q old))
-      → rows_of {R = R} f new ≡ finite.insert (rows_of f old) k (f v)
-  rows_with old new k v updates =
-      finite.same_map o exact (rows_of f new) (finite.insert (rows_of f old) k (f v)) (λ q.
-      get-rows_of new q
-      ∙ ap (option_map f) (updates q)
-      ∙ shown_cond (is_at (R k) q) (Some v) (at_key R q old)
-      ∙ (λ i. cond (turned o k q i) (Some (f v)) (sym (get-rows_of old q) i))
-      ∙ sym (finite.get-insert o (rows_of f old) k (f v) q))
-
-  -- rows that have nothing under the key, and else what they had
-  pub rows_without : (old new : List (K × V)) (k : K)
-      → ((q : K) → at_key R q new ≡ cond (is_at (R k) q) None (at_key R q old))
-      → rows_of {R = R} f new ≡ finite.remove (rows_of f old) k
-  rows_without old new k updates =
-      finite.same_map o exact (rows_of f new) (finite.remove (rows_of f old) k) (λ q.
-      get-rows_of new q
-      ∙ ap (option_map f) (updates q)
-      ∙ shown_cond (is_at (R k) q) None (at_key R q old)
-      ∙ (λ i. cond (turned o k q i) None (sym (get-rows_of old q) i))
-      ∙ sym (finite.get-remove o (rows_of f old) k q))
-
-  -- the value under a key, read where a query finds it
-  read_there : (found : Option (Bor V)) (x : Option V) → option_copied found ≡ x → option_map (λ v. f v.now) found ≡ option_map f x
-  read_there None x e = ap (option_map f) e
-  read_there (Some v) x e = ap (option_map f) e
-
-  pub read_rows : (rows : List (K × V)) (m : finite.FinMap R X) (k : K) (found : Option (Bor V)) → rows_of f rows ≡ m → option_copied found ≡ at_key R k rows → option_map (λ v. f v.now) found ≡ finite.get m k
-  read_rows rows m k found same e = read_there found (at_key R k rows) e ∙ sym (get-rows_of rows k) ∙ ap (λ (t : finite.FinMap R X). finite.get t k) same
-
-  -- ---- rows that are put one by one
-
+module _ {K V X : Type 0} {R : K → K → Ordering} (f : V → X) where
   -- the map with each of the rows put, the first of them last
   abbrev pub put_all : List (K × V) → finite.FinMap R X → finite.FinMap R X
   put_all [] m = m
@@ -125,21 +74,110 @@ module _ {K V X : Type 0} {R : K → K → Ordering} (o : IsTotalOrder R) (exact
   put_all-empty [] = refl
   put_all-empty (e ∷ rows) = ap (λ (t : finite.FinMap R X). finite.insert t e.0 (f e.1)) (put_all-empty rows)
 
-  -- ---- rows that rise
+module _ {K V X : Type 0} (R : K → K → Ordering) (f : V → X) where
+  find-shown : (rows : List (K × V)) (q : K) → find R q (shown f rows) ≡ option_map f (at_key R q rows)
+  find-shown [] q = refl
+  find-shown (e ∷ rows) q =
+      elim (eq_by_cmp R q e.0) as (λ b. cond b (Some (f e.1)) (find R q (shown f rows)) ≡ option_map f (cond b (Some e.1) (at_key R q rows))) [
+        | true ↦ refl
+        | false ↦ find-shown rows q
+      ]
 
   put_first : (e : K × V) (rows : List (K × V)) → AllByRecursion (λ y. R e.0 y ≡ Less) (keys_of rows)
-      → put R e.0 (f e.1) (shown rows) ≡ (e.0, f e.1) ∷ shown rows
+      → put R e.0 (f e.1) (shown f rows) ≡ (e.0, f e.1) ∷ shown f rows
   put_first e [] all = refl
   put_first e (g ∷ rows) all =
-      ap (λ (c : Ordering). match_ordering c ((e.0, f e.1) ∷ shown (g ∷ rows)) ((g.0, f e.1) ∷ shown rows) ((g.0, f g.1) ∷ put R e.0 (f e.1) (shown rows))) all.0
+      ap (λ (c : Ordering). match_ordering c ((e.0, f e.1) ∷ shown f (g ∷ rows)) ((g.0, f e.1) ∷ shown f rows) ((g.0, f g.1) ∷ put R e.0 (f e.1) (shown f rows))) all.0
 
-  pub entries_rising : (rows : List (K × V)) → AreRising R rows → finite.entries (rows_of {R = R} f rows) ≡ shown rows
+-- the value under a key, read where a query finds it
+read_there : {V X : Type 0} (f : V → X) (found : Option (Bor V)) (x : Option V) → option_copied found ≡ x → option_map (λ v. f v.now) found ≡ option_map f x
+read_there f None x e = ap (option_map f) e
+read_there f (Some v) x e = ap (option_map f) e
+
+same_option : {V : Type 0} (o : Option V) → option_map (λ v. v) o ≡ o
+same_option None = refl
+same_option (Some v) = refl
+
+same_list : {K V : Type 0} (rows : List (K × V)) → shown (λ (v : V). v) rows ≡ rows
+same_list [] = refl
+same_list (e ∷ rows) = ap (λ (t : List _). e ∷ t) (same_list rows)
+
+map_cond : {V X : Type 0} (f : V → X) (b : Bool) (x y : Option V) → option_map f (cond b x y) ≡ cond b (option_map f x) (option_map f y)
+map_cond f true x y = refl
+map_cond f false x y = refl
+
+module _ {K V X : Type 0} {R : K → K → Ordering} (o : IsTotalOrder R) (f : V → X) where
+  pub get-rows_of : (rows : List (K × V)) (q : K) → finite.get (rows_of {R = R} f rows) q ≡ option_map f (at_key R q rows)
+  get-rows_of rows q = finite.get-from_entries o (shown f rows) q ∙ find-shown R f rows q
+
+  pub read_rows : (rows : List (K × V)) (m : finite.FinMap R X) (k : K) (found : Option (Bor V)) → rows_of f rows ≡ m → option_copied found ≡ at_key R k rows → option_map (λ v. f v.now) found ≡ finite.get m k
+  read_rows rows m k found same e = read_there f found (at_key R k rows) e ∙ sym (get-rows_of rows k) ∙ ap (λ (t : finite.FinMap R X). finite.get t k) same
+
+  -- rows that rise stand in the map as they are
+  pub entries_rising : (rows : List (K × V)) → AreRising R rows → finite.entries (rows_of {R = R} f rows) ≡ shown f rows
   unfolding IsStrictlySortedBy
   entries_rising [] rising = entries_of_nothing R
   entries_rising (e ∷ rows) rising =
       finite.entries-insert o (rows_of f rows) e.0 (f e.1)
       ∙ ap (put R e.0 (f e.1)) (entries_rising rows rising.1)
-      ∙ put_first e rows rising.0
+      ∙ put_first R f e rows rising.0
 
   pub len_rising : (rows : List (K × V)) → AreRising R rows → finite.len (rows_of {R = R} f rows) ≡ length rows
   len_rising rows rising = finite.len-entries (rows_of f rows) ∙ ap length (entries_rising rows rising) ∙ length-map rows (λ e. (e.0, f e.1))
+
+module _ {K V X : Type 0} {R : K → K → Ordering} (o : IsTotalOrder R) (exact : IsAntisymmetric R) (f : V → X) where
+  -- rows that answer alike are one map
+  pub same_rows : (old new : List (K × V)) → ((q : K) → at_key R q old ≡ at_key R q new) → rows_of {R = R} f old ≡ rows_of f new
+  same_rows old new same = finite.same_map o exact _ _ (λ q. get-rows_of o f old q ∙ ap (option_map f) (same q) ∙ sym (get-rows_of o f new q))
+
+  -- rows that have the value under the key, and else what they had
+  pub rows_with : (old new : List (K × V)) (k : K) (v : V)
+      → ((q : K) → at_key R q new ≡ cond (is_at (R k) q) (Some v) (at_key R q old))
+      → rows_of {R = R} f new ≡ finite.insert (rows_of f old) k (f v)
+  rows_with old new k v updates =
+      finite.same_map o exact (rows_of f new) (finite.insert (rows_of f old) k (f v)) (λ q.
+      get-rows_of o f new q
+      ∙ ap (option_map f) (updates q)
+      ∙ map_cond f (is_at (R k) q) (Some v) (at_key R q old)
+      ∙ (λ i. cond (turned o k q i) (Some (f v)) (sym (get-rows_of o f old q) i))
+      ∙ sym (finite.get-insert o (rows_of f old) k (f v) q))
+
+  -- rows that have nothing under the key, and else what they had
+  pub rows_without : (old new : List (K × V)) (k : K)
+      → ((q : K) → at_key R q new ≡ cond (is_at (R k) q) None (at_key R q old))
+      → rows_of {R = R} f new ≡ finite.remove (rows_of f old) k
+  rows_without old new k updates =
+      finite.same_map o exact (rows_of f new) (finite.remove (rows_of f old) k) (λ q.
+      get-rows_of o f new q
+      ∙ ap (option_map f) (updates q)
+      ∙ map_cond f (is_at (R k) q) None (at_key R q old)
+      ∙ (λ i. cond (turned o k q i) None (sym (get-rows_of o f old q) i))
+      ∙ sym (finite.get-remove o (rows_of f old) k q))
+
+module _ {K V : Type 0} {R : K → K → Ordering} (o : IsTotalOrder R) where
+  pub get-map_of : (rows : List (K × V)) (q : K) → finite.get (map_of {R = R} rows) q ≡ at_key R q rows
+  get-map_of rows q = get-rows_of o (λ v. v) rows q ∙ same_option (at_key R q rows)
+
+  pub entries-map_of : (rows : List (K × V)) → AreRising R rows → finite.entries (map_of {R = R} rows) ≡ rows
+  entries-map_of rows rising = entries_rising o (λ v. v) rows rising ∙ same_list rows
+
+-- ---- rows that are copied one by one
+
+-- what the copies have at the key, once what is left of the rows is put too
+abbrev pub with_rest : {K V : Type 0} → (K → K → Ordering) → List (K × V) → List (K × V) → K → Option V
+with_rest R copies rest q = update_all (eq_by_cmp R) (λ k. at_key R k copies) rest q
+
+pub one_copied : {K V : Type 0} (R : K → K → Ordering) (old new rest left : List (K × V)) (k : K) (v : V) (there : Option V) (key : K) (value : V) → left ≡ (k, v) ∷ rest → key ≡ k → value ≡ v
+    → ((q : K) → at_key R q new ≡ cond (is_at (R key) q) (Some value) (at_key R q old))
+    → (q : K) → with_rest R old left q ≡ there → with_rest R new rest q ≡ there
+one_copied {K = K} {V = V} R old new rest left k v there key value next same_key same_value put q so_far =
+    ap (λ (f : K → Option V). update_all (eq_by_cmp R) f rest q) (λ i p. put p i)
+    ∙ (λ i. with_rest R old ((same_key i, same_value i) ∷ rest) q)
+    ∙ ap (λ (t : List (K × V)). with_rest R old t q) (sym next)
+    ∙ so_far
+
+module _ {K V : Type 0} {R : K → K → Ordering} (o : IsTotalOrder R) where
+  pub none_copied : (copies rows : List (K × V)) → copies ≡ [] → AreRising R rows → (q : K) → with_rest R copies rows q ≡ at_key R q rows
+  none_copied copies rows none sorted q =
+      ap (λ (t : List (K × V)). with_rest R t rows q) none
+      ∙ update_all_none (eq_by_cmp_equiv o) (eq_by_cmp R) (λ x y. refl) rows q (IsDistinct-from_sorted R (keys_of rows) sorted)

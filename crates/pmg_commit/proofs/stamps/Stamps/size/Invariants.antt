@@ -1,6 +1,6 @@
 use Rattle.std.proofs.Common.{◌≡◌, ◌≤◌, ◌+◌, ◌*◌, length}
 use Rattle.std.specs.List.{sum_by}
-use Rattle.pmg_scope.proofs.RowLemmas.{shown}
+use Rattle.pmg_value.proofs.RowLemmas.{shown}
 use Rattle.pmg_commit.specs.Sealed.{stamp_size, stamps_size}
 use Rattle.pmg_commit.specs.Stamped.{stamp_of}
 use Rattle.pmg_commit.proofs.stamps.Stamps.size.Given as goal

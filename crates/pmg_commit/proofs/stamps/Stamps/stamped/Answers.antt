@@ -1,6 +1,6 @@
 use Rattle.std.proofs.Common.{ap, ◌∙◌}
 use Rattle.pmg_value.specs.Spelling.{spelling}
-use Rattle.pmg_scope.proofs.RowLemmas.{shown}
+use Rattle.pmg_value.proofs.RowLemmas.{shown}
 use Rattle.pmg_commit.specs.Sealed.{stamp_all}
 use Rattle.pmg_commit.proofs.StampLemmas.{stamped-rising}
 use Rattle.pmg_commit.proofs.stamps.Stamps.stamped.Goals as goal

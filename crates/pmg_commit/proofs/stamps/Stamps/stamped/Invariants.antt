@@ -1,7 +1,7 @@
 use Rattle.std.proofs.Common.{◌≡◌, drop}
 use Rattle.pmg_value.specs.Spelling.{spelling}
 use Rattle.pmg_scope.specs.Rows.{table_of}
-use Rattle.pmg_scope.proofs.RowLemmas.{shown}
+use Rattle.pmg_value.proofs.RowLemmas.{shown}
 use Rattle.pmg_commit.specs.Sealed.{stamp_all, stamped}
 use Rattle.pmg_commit.proofs.stamps.Stamps.stamped.Given as goal
 

@@ -1,5 +1,7 @@
 use Rattle.std.proofs.Common.{ap, ◌∙◌}
-use Rattle.pmg_scope.proofs.RowLemmas.{at_key}
+use Rattle.std.specs.Cmp.Lexicographic.{slice_cmp}
+use Rattle.std.specs.Ordering.{nat_cmp}
+use Rattle.pmg_value.proofs.RowLemmas.{at_key}
 use Rattle.pmg_scope.proofs.TableLemmas.{changed_there, changed_nowhere, found_is, some_found}
 use Rattle.pmg_scope.specs.Rows.{table_of, changed_at}
 use Rattle.pmg_scope.proofs.table.Table.change.Goals as goal
@@ -10,7 +12,7 @@ returns c =
     let old = c.self.inside.rows.entries in
     elim c.match-get_mut.branch [
       | in-Some w ↦
-          let there = found_is c.get_mut.result w.in-Some.kept (at_key c.args.key.now old) w.in-Some.is c.get_mut.ensures.value in
+          let there = found_is c.get_mut.result w.in-Some.kept (at_key (slice_cmp nat_cmp) c.args.key.now old) w.in-Some.is c.get_mut.ensures.value in
           let updates = ((c.get_mut.follows.holds w.swap.new.x).3 (some_found there)).0 in
           ap (λ a. table_of a.rows.entries) w.self-inside-is
           ∙ changed_there old (c.get_mut.follows.lender w.swap.new.x).entries c.args.self.now c.args.key.now w.swap.new.x w.in-Some.kept.now c.self.view_is there updates

@@ -1,6 +1,7 @@
+use Rattle.std.specs.Cmp.Lexicographic.{nat_list_cmp_total}
 use Rattle.pmg_value.specs.Spelling.{spelling}
-use Rattle.pmg_scope.proofs.RowLemmas.{read_rows}
+use Rattle.pmg_value.proofs.RowLemmas.{read_rows}
 use Rattle.pmg_scope.proofs.table.Table.get.Goals as goal
 
 pub returns : goal.returns
-returns c = read_rows spelling c.self.inside.rows.entries c.args.self.now c.args.key.now c.get.result c.self.view_is c.get.ensures.value
+returns c = read_rows nat_list_cmp_total spelling c.self.inside.rows.entries c.args.self.now c.args.key.now c.get.result c.self.view_is c.get.ensures.value

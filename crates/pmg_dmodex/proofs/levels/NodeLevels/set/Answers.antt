@@ -1,0 +1,12 @@
+use Rattle.std.proofs.Common.{ℕ, ap, ◌∙◌}
+use Rattle.std.specs.FinMap as finite
+use Rattle.std.specs.FinMap.{nat_cmp-IsAntisymmetric}
+use Rattle.std.specs.Cmp.{nat_cmp_total}
+use Rattle.pmg_value.proofs.RowLemmas.{rows_with}
+use Rattle.pmg_dmodex.specs.Levels.{NodeLevels}
+use Rattle.pmg_dmodex.proofs.levels.NodeLevels.set.Goals as goal
+
+pub returns-clause-ok : goal.returns-clause-ok
+returns-clause-ok c =
+    rows_with nat_cmp_total nat_cmp-IsAntisymmetric (λ (level : ℕ). level) c.self.inside.rows.entries c.insert.new.self.entries c.args.node c.args.level c.in_ok-insert.ensures.updates.0
+    ∙ ap (λ (m : NodeLevels). finite.insert m c.args.node c.args.level) c.self.view_is

@@ -1,0 +1,56 @@
+-- Requests for commits of processes: those that were sent, and those of other nodes that wait.
+use Rattle.std.specs.Prelude.{ℕ, Bool, false, List, Option, Some, None, nat_le, nat_lt, refl, if◌then◌else◌}
+use Rattle.std.specs.FinMap as finite
+use Rattle.std.specs.Coded.{Coded, code_by, coded×, coded_ℕ}
+use Rattle.pmg_value.specs.declared.process.Proc.{Proc}
+use Rattle.pmg_value.specs.Process.{proc_cmp, coded_proc}
+use Rattle.pmg_dmodex.specs.Levels.{Levels, coded_levels, levels_of, level_at, with_level, below, without_below}
+
+-- The level that was named last when a process's home was asked for its commits; and the nodes that wait for a process's
+-- commits, each with the level that it knows.
+pub record Requests : Type 0 where
+  pub asked : finite.FinMap proc_cmp ℕ
+  pub held : Levels
+
+-- requests as a pair
+abbrev pub coded_requests : Coded Requests
+coded_requests =
+    code_by (finite.FinMap proc_cmp ℕ × Levels) (coded× (finite.code coded_proc coded_ℕ) coded_levels) (λ r. (r.asked, r.held))
+    (λ p. record { asked = p.0; held = p.1 }) (λ _. refl)
+
+abbrev pub no_requests : Requests
+no_requests = record { asked = finite.empty; held = finite.empty }
+
+-- the lesser, where there is one already
+abbrev pub least : Option ℕ → ℕ → ℕ
+least None n = n
+least (Some m) n = if nat_le m n then m else n
+
+-- the greater, where there is one already
+abbrev pub greatest : Option ℕ → ℕ → ℕ
+greatest None n = n
+greatest (Some m) n = if nat_le n m then m else n
+
+-- the process's home was asked at the level: the greatest counts
+abbrev pub asking : Requests → Proc → ℕ → Requests
+asking r p level = record { asked = finite.insert r.asked p (greatest (finite.get r.asked p) level); held = r.held }
+
+-- the node waits for commits of the process past the level: the least counts
+abbrev pub holding : Requests → ℕ → Proc → ℕ → Requests
+holding r node p level = record { asked = r.asked; held = with_level r.held p node (least (level_at r.held p node) level) }
+
+-- the nodes that wait for a commit that the level has, with the levels that they know, by node
+abbrev pub due : Requests → Proc → ℕ → List (ℕ × ℕ)
+due r p level = below level (levels_of r.held p)
+
+-- there is a number, and it is below that one
+abbrev pub is_below : Option ℕ → ℕ → Bool
+is_below None n = false
+is_below (Some m) n = nat_lt m n
+
+-- the process has come to the level: what waited for that no longer does
+abbrev pub settled : Requests → Proc → ℕ → Requests
+settled r p level = record {
+  asked = if is_below (finite.get r.asked p) level then finite.remove r.asked p else r.asked;
+  held = without_below r.held p level;
+}

@@ -1,0 +1,175 @@
+//! Levels by node, and by process and node.
+ghost use Rattle.std.specs.Prelude.{◌≡◌, IfOk, OnOk, OnErr};
+ghost use Rattle.std.specs.FinMap as finite;
+ghost use Rattle.std.specs.Option.{option_map};
+ghost use Rattle.pmg_dmodex.specs.Levels.{below, level_at, levels_of, not_below, with_level, without_below};
+
+use pmg_value::{Copied, NodeId, Proc, copy_rows};
+use std::alloc::{AllocError, Global};
+use std::collections::BTreeMap;
+use std::marker::Model;
+
+/// A level for each of some nodes.
+#[derive(Debug, Drop)]
+pub struct NodeLevels {
+    alloc: Global,
+    rows: BTreeMap<NodeId, u64>,
+}
+
+impl Model for NodeLevels {
+    ghost use Rattle.pmg_value.specs.Rows.{map_of};
+    ghost use Rattle.pmg_dmodex.specs.Levels.{NodeLevels, coded_node_levels};
+
+    ghost Value = { NodeLevels };
+
+    ghost coded = { coded_node_levels };
+
+    ghost view = { λ a. map_of a.rows.entries };
+}
+
+impl NodeLevels {
+    /// No levels. It keeps the allocator.
+    fn new(alloc: Global) -> NodeLevels
+        ensures { result ≡ finite.empty }
+    {
+        NodeLevels {
+            alloc,
+            rows: BTreeMap::new(alloc),
+        }
+    }
+
+    /// The node's level.
+    fn get(&self, node: NodeId) -> Option<u64>
+        ensures { result ≡ finite.get self.now node }
+    {
+        self.rows.get(&node).copied()
+    }
+
+    /// Sets the node's level.
+    fn set(&mut self, node: NodeId, level: u64) -> Result<(), AllocError>
+        ensures ok { OnOk result (self.new ≡ finite.insert self.old node level) }
+        ensures err { OnErr result (self.new ≡ self.old) }
+    {
+        self.rows.insert(node, level)?;
+        Ok(())
+    }
+
+    /// The nodes whose level is below that one, with their levels, by node.
+    fn below(&self, level: u64) -> Result<Vec<(NodeId, u64)>, AllocError>
+        ensures { IfOk result (λ pairs. pairs.items ≡ below level self.now) }
+    {
+        let mut pairs = Vec::new(self.alloc);
+        for (node, held) in self.rows.iter() {
+            if *held < level {
+                pairs.push((*node, *held))?;
+            }
+        }
+        Ok(pairs)
+    }
+
+    /// Lets the levels below that one go.
+    fn drop_below(&mut self, level: u64)
+        ensures { self.new ≡ not_below level self.old }
+    {
+        self.rows.retain(|_, held| *held >= level);
+    }
+}
+
+impl Copied for NodeLevels {
+    fn copy(&self) -> Result<NodeLevels, AllocError> {
+        Ok(NodeLevels {
+            alloc: self.alloc,
+            rows: copy_rows(self.alloc, &self.rows)?,
+        })
+    }
+}
+
+/// A level for each of some processes and nodes.
+#[derive(Debug, Drop)]
+pub struct Levels {
+    alloc: Global,
+    rows: BTreeMap<Proc, NodeLevels>,
+}
+
+impl Model for Levels {
+    ghost use Rattle.pmg_value.specs.Rows.{map_of};
+    ghost use Rattle.pmg_dmodex.specs.Levels.{Levels, coded_levels};
+
+    ghost Value = { Levels };
+
+    ghost coded = { coded_levels };
+
+    ghost view = { λ a. map_of a.rows.entries };
+}
+
+impl Levels {
+    /// No levels. It keeps the allocator.
+    pub fn new(alloc: Global) -> Levels
+        ensures { result ≡ finite.empty }
+    {
+        Levels {
+            alloc,
+            rows: BTreeMap::new(alloc),
+        }
+    }
+
+    /// The process's levels by node, where it has any.
+    fn of(&self, proc: &Proc) -> Option<&NodeLevels>
+        ensures { option_map (λ levels. levels.now) result ≡ finite.get self.now proc.now }
+    {
+        self.rows.get(proc)
+    }
+
+    /// The process's level at the node.
+    pub fn get(&self, proc: &Proc, node: NodeId) -> Option<u64>
+        ensures { result ≡ level_at self.now proc.now node }
+    {
+        match self.of(proc) {
+            Some(levels) => levels.get(node),
+            None => None,
+        }
+    }
+
+    /// Sets the process's level at the node. Where an allocation fails, nothing changes.
+    pub fn set(&mut self, proc: &Proc, node: NodeId, level: u64) -> Result<(), AllocError>
+        ensures ok { OnOk result (self.new ≡ with_level self.old proc.now node level) }
+        ensures err { OnErr result (self.new ≡ self.old) }
+    {
+        if let Some(levels) = self.rows.get_mut(proc) {
+            return levels.set(node, level);
+        }
+        let mut levels = NodeLevels::new(self.alloc);
+        levels.set(node, level)?;
+        self.rows.insert(proc.copy()?, levels)?;
+        Ok(())
+    }
+
+    /// The nodes at which the process's level is below that one, with their levels, by node.
+    pub fn below(&self, proc: &Proc, level: u64) -> Result<Vec<(NodeId, u64)>, AllocError>
+        ensures { IfOk result (λ pairs. pairs.items ≡ below level (levels_of self.now proc.now)) }
+    {
+        match self.of(proc) {
+            Some(levels) => levels.below(level),
+            None => Ok(Vec::new(self.alloc)),
+        }
+    }
+
+    /// Lets the process's levels below that one go.
+    pub fn drop_below(&mut self, proc: &Proc, level: u64)
+        ensures { self.new ≡ without_below self.old proc.now level }
+    {
+        if let Some(levels) = self.rows.get_mut(proc) {
+            levels.drop_below(level);
+        }
+    }
+
+    /// Others of the same meaning, with the same allocator.
+    pub fn copy(&self) -> Result<Levels, AllocError>
+        ensures { IfOk result (λ copy. copy ≡ self.now) }
+    {
+        Ok(Levels {
+            alloc: self.alloc,
+            rows: copy_rows(self.alloc, &self.rows)?,
+        })
+    }
+}

@@ -1,0 +1,169 @@
+//! Requests that wait.
+ghost use Rattle.std.specs.Prelude.{◌≡◌, IfOk, OnOk, OnErr};
+ghost use Rattle.std.specs.FinMap as finite;
+ghost use Rattle.pmg_dmodex.specs.Requests.{asking, due, greatest, holding, is_below, least, no_requests, settled};
+
+use crate::levels::Levels;
+use pmg_value::{NodeId, Proc, copy_rows};
+use std::alloc::{AllocError, Global};
+use std::collections::BTreeMap;
+use std::marker::Model;
+
+/// The level at which each process's home was asked for its commits.
+#[derive(Debug, Drop)]
+struct Asked {
+    rows: BTreeMap<Proc, u64>,
+}
+
+impl Model for Asked {
+    ghost use Rattle.std.specs.Prelude.{ℕ};
+    ghost use Rattle.std.specs.FinMap as finite;
+    ghost use Rattle.std.specs.Coded.{coded_ℕ};
+    ghost use Rattle.pmg_value.specs.Process.{proc_cmp, coded_proc};
+    ghost use Rattle.pmg_value.specs.Rows.{map_of};
+
+    ghost Value = { finite.FinMap proc_cmp ℕ };
+
+    ghost coded = { finite.code coded_proc coded_ℕ };
+
+    ghost view = { λ a. map_of a.rows.entries };
+}
+
+impl Asked {
+    /// Nobody was asked.
+    fn new(alloc: Global) -> Asked
+        ensures { result ≡ finite.empty }
+    {
+        Asked {
+            rows: BTreeMap::new(alloc),
+        }
+    }
+
+    /// The level at which the process's home was asked.
+    fn get(&self, proc: &Proc) -> Option<u64>
+        ensures { result ≡ finite.get self.now proc.now }
+    {
+        self.rows.get(proc).copied()
+    }
+
+    /// Sets the level at which the process's home was asked.
+    fn set(&mut self, proc: Proc, level: u64) -> Result<(), AllocError>
+        ensures ok { OnOk result (self.new ≡ finite.insert self.old proc level) }
+        ensures err { OnErr result (self.new ≡ self.old) }
+    {
+        self.rows.insert(proc, level)?;
+        Ok(())
+    }
+
+    /// Lets the process's level go.
+    fn remove(&mut self, proc: &Proc)
+        ensures { self.new ≡ finite.remove self.old proc.now }
+    {
+        self.rows.remove(proc);
+    }
+
+    /// Another one of the same meaning.
+    fn copy(&self, alloc: Global) -> Result<Asked, AllocError>
+        ensures { IfOk result (λ copy. copy ≡ self.now) }
+    {
+        Ok(Asked {
+            rows: copy_rows(alloc, &self.rows)?,
+        })
+    }
+}
+
+/// The requests of a node for commits of processes: those that it sent to their homes, and those of other nodes that
+/// wait until a process of this node has commits past the level that they know.
+#[derive(Debug, Drop)]
+pub struct Pending {
+    alloc: Global,
+    asked: Asked,
+    held: Levels,
+}
+
+impl Model for Pending {
+    ghost use Rattle.pmg_dmodex.specs.Requests.{Requests, coded_requests};
+
+    ghost Value = { Requests };
+
+    ghost coded = { coded_requests };
+
+    ghost view = { λ a. record { asked = a.asked; held = a.held } };
+}
+
+impl Pending {
+    /// No requests. It keeps the allocator.
+    pub fn new(alloc: Global) -> Pending
+        ensures { result ≡ no_requests }
+    {
+        Pending {
+            alloc,
+            asked: Asked::new(alloc),
+            held: Levels::new(alloc),
+        }
+    }
+
+    /// Records that the process's home was asked for its commits past the level. Where an allocation fails, nothing
+    /// changes.
+    pub fn ask(&mut self, proc: &Proc, level: u64) -> Result<(), AllocError>
+        ensures ok { OnOk result (self.new ≡ asking self.old proc.now level) }
+        ensures err { OnErr result (self.new ≡ self.old) }
+    {
+        let level = match self.asked.get(proc) {
+            Some(before) => before.max(level),
+            None => level,
+        };
+        self.asked.set(proc.copy()?, level)
+    }
+
+    /// The greatest level at which the process's home was asked, and not answered yet.
+    pub fn asked(&self, proc: &Proc) -> Option<u64>
+        ensures { result ≡ finite.get self.now.asked proc.now }
+    {
+        self.asked.get(proc)
+    }
+
+    /// Keeps that the node waits for commits of the process past the level. Of two levels of one node the least
+    /// counts. Where an allocation fails, nothing changes.
+    pub fn hold(&mut self, node: NodeId, proc: &Proc, level: u64) -> Result<(), AllocError>
+        ensures ok { OnOk result (self.new ≡ holding self.old node proc.now level) }
+        ensures err { OnErr result (self.new ≡ self.old) }
+    {
+        let level = match self.held.get(proc, node) {
+            Some(before) => before.min(level),
+            None => level,
+        };
+        self.held.set(proc, node, level)
+    }
+
+    /// The nodes that wait for a commit that the process has at the level, with the levels that they know, by node.
+    pub fn due(&self, proc: &Proc, level: u64) -> Result<Vec<(NodeId, u64)>, AllocError>
+        ensures { IfOk result (λ pairs. pairs.items ≡ due self.now proc.now level) }
+    {
+        self.held.below(proc, level)
+    }
+
+    /// The process has come to the level: the nodes that are due at it wait no longer, and what was asked for below
+    /// it is answered.
+    pub fn settle(&mut self, proc: &Proc, level: u64)
+        ensures { self.new ≡ settled self.old proc.now level }
+    {
+        self.held.drop_below(proc, level);
+        if let Some(asked) = self.asked.get(proc) {
+            if asked < level {
+                self.asked.remove(proc);
+            }
+        }
+    }
+
+    /// Others of the same meaning, with the same allocator.
+    pub fn copy(&self) -> Result<Pending, AllocError>
+        ensures { IfOk result (λ copy. copy ≡ self.now) }
+    {
+        Ok(Pending {
+            alloc: self.alloc,
+            asked: self.asked.copy(self.alloc)?,
+            held: self.held.copy()?,
+        })
+    }
+}
