@@ -1,5 +1,5 @@
 //! The registered namespaces and the homes of their processes.
-ghost use Rattle.std.specs.Prelude.{◌≡◌, ◌<◌, ◌≤◌, [], map, length, slice_index_or, Some, IfOk, OnOk, OnErr, IfSome};
+ghost use Rattle.std.specs.Prelude.{◌≡◌, ◌==◌, ◌<◌, ◌≤◌, [], map, length, slice_index_or, Some, IfOk, OnOk, OnErr, IfSome};
 ghost use Rattle.std.specs.List.{list_all};
 ghost use Rattle.std.specs.Ordering.{nat_cmp};
 ghost use Rattle.std.specs.Cmp.Lexicographic.{slice_cmp};
@@ -183,6 +183,18 @@ impl Registry {
         match homes.get(proc.rank.number() as usize) {
             Some(home) => Ok(*home),
             None => Err(Refusal::BadParam),
+        }
+    }
+
+    /// Whether the process is at home at the node. One that is none of its namespace, or of one that is not registered,
+    /// counts as at home at node 0, where the group's host is.
+    pub fn is_home(&self, node: NodeId, proc: &Proc) -> bool
+        ensures { result ≡ (home_of self.now proc.now == node) }
+    {
+        let rank = proc.rank.number() as usize;
+        match self.homes(&proc.nspace) {
+            Some(homes) if rank < homes.len() => homes[rank] == node,
+            _ => node.index() == 0,
         }
     }
 

@@ -1,15 +1,11 @@
-ghost use Rattle.std.specs.Prelude.{◌≡◌, IfOk};
+//! What sets can have and maps be keyed by.
+ghost use Rattle.std.specs.Prelude.{◌≡◌};
 ghost use Rattle.std.specs.declared.cmp.Ordering.TheVariants.{Equal};
 
-use pmg_value::{Key, Proc};
-use std::alloc::AllocError;
+use pmg_value::{Copied, Key, NodeId, Nspace, Proc};
 
 /// What a set can have and a map be keyed by: it can be copied, and two that compare alike are one.
-pub trait Element: Ord + Drop {
-    /// Another one of the same value.
-    fn copy(&self) -> Result<Self, AllocError>
-        ensures { IfOk result (λ copy. copy ≡ self.now) };
-
+pub trait Element: Ord + Copied {
     ghost exact: { (x y : Self) → Self.cmp x y ≡ Equal → x ≡ y };
 }
 
@@ -17,28 +13,28 @@ impl Element for u64 {
     ghost use Rattle.std.proofs.lemmas.Map.Lookups.{exact_unsigned};
 
     ghost exact = { exact_unsigned };
+}
 
-    fn copy(&self) -> Result<u64, AllocError> {
-        Ok(*self)
-    }
+impl Element for NodeId {
+    ghost use Rattle.std.proofs.lemmas.Map.Lookups.{exact_unsigned};
+
+    ghost exact = { exact_unsigned };
 }
 
 impl Element for Key {
     ghost use Rattle.std.proofs.lemmas.Map.Lookups.{exact_bytes};
 
     ghost exact = { exact_bytes };
+}
 
-    fn copy(&self) -> Result<Key, AllocError> {
-        Key::copy(self)
-    }
+impl Element for Nspace {
+    ghost use Rattle.std.proofs.lemmas.Map.Lookups.{exact_bytes};
+
+    ghost exact = { exact_bytes };
 }
 
 impl Element for Proc {
     ghost use Rattle.pmg_value.proofs.ProcessOrder.{exact_procs};
 
     ghost exact = { exact_procs };
-
-    fn copy(&self) -> Result<Proc, AllocError> {
-        Proc::copy(self)
-    }
 }

@@ -18,8 +18,8 @@ returns c =
           let updates = ((c.get_mut.follows.holds w.drop_below.new.self).3 (some_found there)).0 in
           ap (λ a. map_of a.rows.entries) w.self-inside-is
           ∙ dropped_there c.args.self.now p c.args.level w.in-Some.levels.now w.drop_below.new.self (map_of (c.get_mut.follows.lender w.drop_below.new.self).entries)
-            (kept_is old c.args.self.now p c.self.view_is _ there) w.drop_below.ensures
-            (put_there old c.args.self.now p c.self.view_is (c.get_mut.follows.lender w.drop_below.new.self).entries w.drop_below.new.self updates)
+          (kept_is old c.args.self.now p c.self.view_is _ there) w.drop_below.ensures
+          (put_there old c.args.self.now p c.self.view_is (c.get_mut.follows.lender w.drop_below.new.self).entries w.drop_below.new.self updates)
       | in_default w ↦
           ap (λ a. map_of a.rows.entries) w.self-inside-is
           ∙ ap (λ a. map_of a.entries) c.get_mut.follows.holds-at-none
