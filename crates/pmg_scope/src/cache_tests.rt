@@ -273,7 +273,7 @@ fn a_cache_has_65535_keys(rt: HostRuntime) -> Result<(), Refusal> {
     }
     for scope in [Scope::Internal, Scope::Local, Scope::Remote, Scope::Global] {
         let answer = put_small(&mut cache, alloc, scope, b"more");
-        assert_eq!(rt; answer, Err(Refusal::TooMany), "{scope:?}");
+        assert!(rt; answer == Err(Refusal::TooMany));
     }
     put_small(&mut cache, alloc, Scope::Global, &key_at(0))?;
     put_small(&mut cache, alloc, Scope::Local, &key_at(65_534))?;
@@ -302,7 +302,7 @@ fn a_cache_has_16000000_bytes(rt: HostRuntime) -> Result<(), Refusal> {
     fill(&mut cache, alloc, Scope::Global)?;
     for scope in [Scope::Internal, Scope::Local, Scope::Remote, Scope::Global] {
         let answer = put_small(&mut cache, alloc, scope, b"q");
-        assert_eq!(rt; answer, Err(Refusal::TooMany), "{scope:?}");
+        assert!(rt; answer == Err(Refusal::TooMany));
     }
     let one_more = string_of(alloc, LAST + 1)?;
     let answer = put_like(&mut cache, alloc, Scope::Global, b"p", &one_more);
@@ -331,7 +331,7 @@ fn each_reach_has_bytes_of_its_own(rt: HostRuntime) -> Result<(), Refusal> {
         }
         for full in [scope, Scope::Global] {
             let answer = put_small(&mut cache, alloc, full, b"q");
-            assert_eq!(rt; answer, Err(Refusal::TooMany), "{full:?}");
+            assert!(rt; answer == Err(Refusal::TooMany));
         }
         put_small(&mut cache, alloc, other, b"q")?;
         put_small(&mut cache, alloc, Scope::Internal, b"r")?;
