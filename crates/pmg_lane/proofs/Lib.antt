@@ -1,0 +1,4 @@
+pub mod Settling
+pub mod Promoting
+pub mod Knowing
+pub mod Tracking

@@ -1,0 +1,3 @@
+pub mod Entries
+pub mod Lanes
+pub mod Places
