@@ -34,17 +34,17 @@ use Rattle.pmg_lane.specs.declared.track.Track.{Track}
 use Rattle.pmg_lane.proofs.Settling.{exact_late, key_read, key_late, some_is}
 
 -- ---- entries in a list
-in_append : {A : Type 0} (x : A) (xs ys : List A) → In x (xs ++ ys) → In x xs ⊎ In x ys
+pub in_append : {A : Type 0} (x : A) (xs ys : List A) → In x (xs ++ ys) → In x xs ⊎ In x ys
 in_append x [] ys i = inr i
 in_append x (y ∷ xs) ys (inl e) = inl (inl e)
 in_append x (y ∷ xs) ys (inr i) = elim (in_append x xs ys i) [ inl a ↦ inl (inr a) | inr b ↦ inr b ]
 
-append_left : {A : Type 0} (x : A) (xs ys : List A) → In x xs → In x (xs ++ ys)
+pub append_left : {A : Type 0} (x : A) (xs ys : List A) → In x xs → In x (xs ++ ys)
 append_left x [] ys i = absurd i
 append_left x (y ∷ xs) ys (inl e) = inl e
 append_left x (y ∷ xs) ys (inr i) = inr (append_left x xs ys i)
 
-append_right : {A : Type 0} (x : A) (xs ys : List A) → In x ys → In x (xs ++ ys)
+pub append_right : {A : Type 0} (x : A) (xs ys : List A) → In x ys → In x (xs ++ ys)
 append_right x [] ys i = i
 append_right x (y ∷ xs) ys i = inr (append_right x xs ys i)
 
@@ -68,7 +68,7 @@ options_in f [] x k i e = absurd i
 options_in f (q ∷ ks) x k (inl same) e = append_left x (option_to_list (f q)) _ (in_option x (f q) (ap f (sym same) ∙ e))
 options_in f (q ∷ ks) x k (inr i) e = append_right x (option_to_list (f q)) _ (options_in f ks x k i e)
 
-key_there : {K X : Type 0} {R : K → K → Ordering} (exact : CmpEqualImpliesEq R) (es : List (K × X)) (key : K) → IsSome (lookup (is_at (R key)) es) → In key (keys_of es)
+pub key_there : {K X : Type 0} {R : K → K → Ordering} (exact : CmpEqualImpliesEq R) (es : List (K × X)) (key : K) → IsSome (lookup (is_at (R key)) es) → In key (keys_of es)
 key_there exact [] key h = absurd (false≢true h)
 key_there {K} {X} {R} exact (e ∷ es) key h =
     elim (is_at (R key) e.0) as (λ t. is_at (R key) e.0 ≡ t → In key (keys_of (e ∷ es))) [

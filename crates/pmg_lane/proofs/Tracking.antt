@@ -11,7 +11,7 @@ use Rattle.std.specs.BTreeMap.{BTreeMap}
 use Rattle.pmg_value.specs.Lists.{In}
 use Rattle.pmg_value.proofs.SetLemmas.{in_from_list, from_list_in, same_bool, same_members}
 use Rattle.pmg_join.specs.Ranges.{set_of, is_between, Covers, LieIn, AreApart, Between, Spans}
-use Rattle.pmg_join.proofs.RangeLemmas.{set_of-Decides, covers_kept, same_cover, not_covered, no_cover, cover_added, spans_cover}
+use Rattle.pmg_join.proofs.RangeLemmas.{set_of-Decides, covers_kept, same_cover, not_covered, no_cover, cover_added, cover_joined, spans_cover}
 use Rattle.pmg_commit.specs.Entries.{Entry}
 use Rattle.pmg_commit.specs.EntryOrder.{entries_total, exact_entries, Superseded, Readable, Later, later_itself}
 use Rattle.pmg_commit.specs.Levels.{level}
@@ -156,27 +156,17 @@ told_numbers : (from to : ℕ) (es : List Entry) → (told from to es).numbers �
 unfolding told
 told_numbers from to es = refl
 
--- the track u after the track t has taken a range and its entries
-module _ (t u : Track) (middle : Entries) (from to : ℕ) (es : List Entry)
-  (kept : LieIn t.taken.ends u.taken.ends) (added : Spans u.taken.ends from to)
-  (no_more : (n : ℕ) → Covers u.taken.ends n → Covers t.taken.ends n ⊎ Between from to n)
+-- the track u after the track t has taken more knowledge, whose entries are a list
+module _ (t u : Track) (middle : Entries) (more : Knowledge) (es : List Entry)
+  (numbers : (known_by u).numbers ≡ set.union (known_by t).numbers more.numbers)
+  (listed : (e : Entry) → In e es → Has more e) (all : (e : Entry) → Has more e → In e es)
   (promoted : Settles (level (set_of u.taken.ends)) t.entries NoneLeft middle NoneLeft)
   (put : Settles (level (set_of u.taken.ends)) middle (λ e. In e es) u.entries NoneLeft) where
-  taken_numbers : (known_by u).numbers ≡ (union (known_by t) (told from to es)).numbers
-  taken_numbers =
-      numbers_is u
-      ∙ set.same_set nat_cmp_total nat_cmp-IsAntisymmetric (set_of u.taken.ends) (set.union (set_of t.taken.ends) (numbers_between from to)) (λ n.
-      cover_added t.taken.ends u.taken.ends from to no_more
-      (λ k h. elim h [ inl a ↦ covers_kept t.taken.ends u.taken.ends kept k a | inr b ↦ spans_cover u.taken.ends from to k added b ]) n
-      ∙ ap (λ b. set.contains (set_of t.taken.ends) n || b) (sym (numbers_are_between from to n))
-      ∙ sym (set.contains-union nat_cmp_total (set_of t.taken.ends) (numbers_between from to) n))
-      ∙ sym (λ i. set.union (numbers_is t i) (told_numbers from to es i))
-
-  taken_fewer : (e : Entry) → Has (known_by u) e → Has (union (known_by t) (told from to es)) e
-  taken_fewer e h = elim (put.fewer e (has_holds u e h)) [
-    | inr i ↦ union_has_right (known_by t) (told from to es) e (told_has from to es e i)
+  fewer : (e : Entry) → Has (known_by u) e → Has (union (known_by t) more) e
+  fewer e h = elim (put.fewer e (has_holds u e h)) [
+    | inr i ↦ union_has_right (known_by t) more e (listed e i)
     | inl m ↦ elim (promoted.fewer e m) [
-      | inl o ↦ union_has_left (known_by t) (told from to es) e (holds_has t e o)
+      | inl o ↦ union_has_left (known_by t) more e (holds_has t e o)
       | inr n ↦ absurd n
     ]
   ]
@@ -186,18 +176,47 @@ module _ (t u : Track) (middle : Entries) (from to : ℕ) (es : List Entry)
   at_last e (inl a) = accounts_more (level (set_of u.taken.ends)) middle u.entries (λ e. In e es) put e a
   at_last e (inr i) = elim (put.enough e (inr i)) [ inl a ↦ a | inr n ↦ absurd n ]
 
-  taken_enough : (e : Entry) → Has (union (known_by t) (told from to es)) e → Accounts (level (set_of u.taken.ends)) u.entries e
-  taken_enough e h = elim (has_union (known_by t) (told from to es) e h) [
+  enough : (e : Entry) → Has (union (known_by t) more) e → Accounts (level (set_of u.taken.ends)) u.entries e
+  enough e h = elim (has_union (known_by t) more e h) [
     | inl a ↦ elim (promoted.enough e (inl (has_holds t e a))) [ inl m ↦ at_last e (inl m) | inr n ↦ absurd n ]
-    | inr b ↦ at_last e (inr (has_told from to es e b))
+    | inr b ↦ at_last e (inr (all e b))
   ]
 
+  pub more_core : core (known_by u) ≡ core (union (known_by t) more)
+  more_core =
+      core_settled (known_by u) (union (known_by t) more) numbers fewer (λ e h. elim (enough e h) [
+        | inl i ↦ inl (holds_has u e i)
+        | inr sup ↦ inr (sup.0, holds_has u sup.0 sup.1, subst (λ n. Superseded n e sup.0) (ap level (sym (numbers_is u) ∙ numbers)) sup.2)
+      ])
+
+module _ (t u : Track) (middle : Entries) (from to : ℕ) (es : List Entry)
+  (kept : LieIn t.taken.ends u.taken.ends) (added : Spans u.taken.ends from to)
+  (no_more : (n : ℕ) → Covers u.taken.ends n → Covers t.taken.ends n ⊎ Between from to n)
+  (promoted : Settles (level (set_of u.taken.ends)) t.entries NoneLeft middle NoneLeft)
+  (put : Settles (level (set_of u.taken.ends)) middle (λ e. In e es) u.entries NoneLeft) where
   pub taken_core : core (known_by u) ≡ core (union (known_by t) (told from to es))
   taken_core =
-      core_settled (known_by u) (union (known_by t) (told from to es)) taken_numbers taken_fewer (λ e h. elim (taken_enough e h) [
-        | inl i ↦ inl (holds_has u e i)
-        | inr sup ↦ inr (sup.0, holds_has u sup.0 sup.1, subst (λ n. Superseded n e sup.0) (ap level (sym (numbers_is u) ∙ taken_numbers)) sup.2)
-      ])
+      more_core t u middle (told from to es) es
+      (numbers_is u
+      ∙ set.same_set nat_cmp_total nat_cmp-IsAntisymmetric (set_of u.taken.ends) (set.union (set_of t.taken.ends) (numbers_between from to)) (λ n.
+      cover_added t.taken.ends u.taken.ends from to no_more
+      (λ k h. elim h [ inl a ↦ covers_kept t.taken.ends u.taken.ends kept k a | inr b ↦ spans_cover u.taken.ends from to k added b ]) n
+      ∙ ap (λ b. set.contains (set_of t.taken.ends) n || b) (sym (numbers_are_between from to n))
+      ∙ sym (set.contains-union nat_cmp_total (set_of t.taken.ends) (numbers_between from to) n))
+      ∙ sym (λ i. set.union (numbers_is t i) (told_numbers from to es i)))
+      (told_has from to es) (has_told from to es) promoted put
+
+module _ (t o u : Track) (middle : Entries) (es : List Entry)
+  (listed : (e : Entry) → In e es → Holds o.entries e) (all : (e : Entry) → Holds o.entries e → In e es)
+  (kept : LieIn t.taken.ends u.taken.ends) (added : (n : ℕ) → Covers o.taken.ends n → Covers u.taken.ends n)
+  (no_more : (n : ℕ) → Covers u.taken.ends n → Covers t.taken.ends n ⊎ Covers o.taken.ends n)
+  (promoted : Settles (level (set_of u.taken.ends)) t.entries NoneLeft middle NoneLeft)
+  (put : Settles (level (set_of u.taken.ends)) middle (λ e. In e es) u.entries NoneLeft) where
+  pub joined_core : core (known_by u) ≡ core (union (known_by t) (known_by o))
+  joined_core =
+      more_core t u middle (known_by o) es
+      (numbers_is u ∙ cover_joined t.taken.ends o.taken.ends u.taken.ends no_more kept added ∙ sym (λ i. set.union (numbers_is t i) (numbers_is o i)))
+      (λ e i. holds_has o e (listed e i)) (λ e h. all e (has_holds o e h)) promoted put
 
 -- room up to the number that will be reached is room up to the level
 pub places_up : (a : Entries) (m n number : ℕ) (key : List ℕ) → m ≤ n → HasPlaces a m number key → HasPlaces a n number key

@@ -3,7 +3,7 @@ use Rattle.std.specs.Prelude.{◌≡◌, ◌≤◌, ℕ, List, if◌then◌else�
 use Rattle.std.specs.FinSet as set
 use Rattle.std.specs.Ordering.{nat_cmp}
 use Rattle.pmg_value.specs.Lists.{In}
-use Rattle.pmg_join.specs.Ranges.{set_of, AreApart, Covers, Spans}
+use Rattle.pmg_join.specs.Ranges.{set_of, AreApart, Covers, Spans, HaveRoom}
 use Rattle.pmg_commit.specs.Entries.{Entry}
 use Rattle.pmg_commit.specs.Levels.{level}
 use Rattle.pmg_commit.specs.Knowledge.{Knowledge, core, numbers_between}
@@ -41,3 +41,8 @@ reach_with t from to = if nat_le from (level_of t) then to else level_of t
 pub record HasRoom (t : Track) (from : ℕ) (to : ℕ) (entries : List PieceEntry) : Type 0 where
   pub range : Spans t.taken.ends from from
   pub places : (e : PieceEntry) → In e entries → HasPlaces t.entries (reach_with t from to) e.number e.key
+
+-- there is room for the commits of another track and these entries
+pub record HaveRooms (t : Track) (other : Track) (entries : List PieceEntry) : Type 0 where
+  pub ranges : HaveRoom other.taken.ends t.taken.ends
+  pub places : (e : PieceEntry) → In e entries → HasPlaces t.entries (level_of t) e.number e.key

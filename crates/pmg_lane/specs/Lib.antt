@@ -1,3 +1,4 @@
 pub mod Entries
+pub mod Joining
 pub mod Lanes
 pub mod Places

@@ -1,10 +1,10 @@
 //! The entries of one process that are not superseded.
-ghost use Rattle.std.specs.Prelude.{◌≡◌, ◌<◌, ◌≤◌, ℕ, List, map, cond, OnOk, OnErr, IfOk, IfSome, IfNone, Some, None};
+ghost use Rattle.std.specs.Prelude.{◌≡◌, ◌<◌, ◌≤◌, ◌++◌, ℕ, List, map, cond, OnOk, OnErr, IfOk, IfSome, IfNone, Some, None};
 ghost use Rattle.pmg_value.specs.Spelling.{spelling};
-ghost use Rattle.pmg_lane.specs.Entries.{read_at, late_at, late_cmp, read_entry, late_entry, beats, exceeds, HoldAlike, PlacesStay, HasPlaces, ReadsWithin, IsRoomy, LateFrom, LatePast, Settles, NoneLeft};
+ghost use Rattle.pmg_lane.specs.Entries.{read_at, late_at, late_cmp, read_entry, late_entry, beats, exceeds, made_of, AreAll, HoldAlike, PlacesStay, HasPlaces, ReadsWithin, IsRoomy, LateFrom, LatePast, Settles, NoneLeft};
 ghost use Rattle.pmg_lane.specs.Places.{placed, there_at, HasPlace};
 ghost use Rattle.std.specs.Option.{option_map};
-ghost use Rattle.std.specs.BTreeMap.{get, is_at, btree_map_len};
+ghost use Rattle.std.specs.BTreeMap.{get, is_at, btree_map_len, IsOrdered};
 ghost use Rattle.pmg_value.specs.Lists.{In};
 ghost use Rattle.pmg_commit.specs.Pieces.{entry_of};
 ghost use Rattle.std.specs.Ordering.{nat_cmp};
@@ -214,6 +214,56 @@ impl Entries {
             }
         }
     }
+
+    /// Copies of the entries.
+    pub fn copies(&self, alloc: Global) -> Result<Vec<PieceEntry>, AllocError>
+        ensures { IfOk result (λ all. AreAll self.now (map entry_of all.items)) }
+    {
+        let mut all = Vec::new(alloc);
+        push_reads(&mut all, &self.reads)?;
+        push_late(&mut all, &self.late)?;
+        Ok(all)
+    }
+}
+
+/// Appends copies of the entries that are read.
+fn push_reads(
+    all: &mut Vec<PieceEntry>,
+    reads: &BTreeMap<Key, Option<Stamp>, Global>,
+) -> Result<(), AllocError>
+    ensures all { OnOk result (map entry_of all.new.items ≡ map entry_of all.old.items ++ made_of read_entry reads.now.entries) }
+    ensures ordered { IsOrdered (slice_cmp nat_cmp) reads.now }
+{
+    for (key, place) in reads.iter() {
+        if let Some(there) = place {
+            all.push(PieceEntry {
+                key: key.copy()?,
+                number: there.number,
+                value: there.value.copy()?,
+            })?;
+        }
+    }
+    Ok(())
+}
+
+/// Appends copies of the late entries.
+fn push_late(
+    all: &mut Vec<PieceEntry>,
+    late: &BTreeMap<(u64, Key), Option<Value>, Global>,
+) -> Result<(), AllocError>
+    ensures all { OnOk result (map entry_of all.new.items ≡ map entry_of all.old.items ++ made_of late_entry late.now.entries) }
+    ensures ordered { IsOrdered late_cmp late.now }
+{
+    for (place, there) in late.iter() {
+        if let Some(value) = there {
+            all.push(PieceEntry {
+                key: place.1.copy()?,
+                number: place.0,
+                value: value.copy()?,
+            })?;
+        }
+    }
+    Ok(())
 }
 
 /// Whether an entry of that number and value is later than the one in the place, if there is one.

@@ -4,7 +4,8 @@ ghost use Rattle.std.specs.Option.{option_map};
 ghost use Rattle.pmg_value.specs.Spelling.{spelling};
 ghost use Rattle.pmg_commit.specs.Pieces.{entry_of};
 ghost use Rattle.pmg_commit.specs.Knowledge.{nothing, union, core, read};
-ghost use Rattle.pmg_lane.specs.Lanes.{known_by, level_of, told, reach_with, IsTrack, HasRoom};
+ghost use Rattle.pmg_lane.specs.Entries.{AreAll};
+ghost use Rattle.pmg_lane.specs.Lanes.{known_by, level_of, told, reach_with, IsTrack, HasRoom, HaveRooms};
 
 use crate::entries::Entries;
 use pmg_commit::PieceEntry;
@@ -87,6 +88,41 @@ impl Track {
             ≡ core (union (known_by self.old) (told from to (map entry_of entries.items))) }
     {
         self.taken.fill_room(from, to);
+        let level = self.taken.level();
+        self.entries.promote(level);
+        self.entries.put_all(level, entries);
+    }
+
+    /// Copies of the entries.
+    pub fn copies(&self, alloc: Global) -> Result<Vec<PieceEntry>, AllocError>
+        ensures { IfOk result (λ all. AreAll self.now.entries (map entry_of all.items)) }
+    {
+        self.entries.copies(alloc)
+    }
+
+    /// Makes room for all that the other track has, of which these are the entries.
+    pub fn make_rooms(&mut self, other: &Track, entries: &[PieceEntry]) -> Result<(), AllocError>
+        requires { IsTrack self.old }
+        ensures kept { IsTrack self.new }
+        ensures same { known_by self.new ≡ known_by self.old }
+        ensures room { OnOk result (HaveRooms self.new other.now entries.now) }
+    {
+        let level = self.level();
+        self.entries.make_places(level, entries)?;
+        self.taken.make_rooms(&other.taken)?;
+        Ok(())
+    }
+
+    /// Takes all that the other track has, of which these are the entries, and for which there is room.
+    pub fn take_all(&mut self, other: &Track, entries: Vec<PieceEntry>)
+        requires kept { IsTrack self.old }
+        requires other { IsTrack other.now }
+        requires all { AreAll other.now.entries (map entry_of entries.items) }
+        requires room { HaveRooms self.old other.now entries.items }
+        ensures kept { IsTrack self.new }
+        ensures taken { core (known_by self.new) ≡ core (union (known_by self.old) (known_by other.now)) }
+    {
+        self.taken.fill_rooms(&other.taken);
         let level = self.taken.level();
         self.entries.promote(level);
         self.entries.put_all(level, entries);
