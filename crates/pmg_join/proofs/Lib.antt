@@ -2,4 +2,5 @@ pub mod ManyJoined
 pub mod MapSteps
 pub mod MapsJoined
 pub mod RangeLemmas
+pub mod RangeSteps
 pub mod SetSteps

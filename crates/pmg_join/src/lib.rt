@@ -11,6 +11,7 @@ mod map_join;
 mod max;
 mod pair_join;
 mod range_set;
+mod ranges;
 
 pub use element::Element;
 pub use grow_set::GrowSet;
@@ -20,7 +21,8 @@ pub use many::join_all;
 pub use map_join::MapJoin;
 pub use max::MaxU64;
 pub use pair_join::PairJoin;
-pub use range_set::{RangeSet, Span};
+pub use range_set::RangeSet;
+pub use ranges::{Ranges, Span};
 
 #[cfg(test)]
 mod tests;

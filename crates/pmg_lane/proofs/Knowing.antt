@@ -1,0 +1,136 @@
+-- What is known by what is kept.
+use Rattle.std.proofs.Common.{arith, ℕ, suc, ◌+◌, List, [], ◌∷◌, ◌++◌, map, length, ◌≡◌, ◌<◌, ◌≤◌, ◌⊎◌, inl, inr, Bool, true, false, ◌||◌, cond, refl, sym, ap, ◌∙◌, subst}
+use Rattle.std.specs.Prelude.{Option, Some, None, IfSome, IsSome, nat_le, nat_lt, ◌&&◌}
+use Rattle.std.specs.Option.{option_map, option_to_list}
+use Rattle.std.specs.List.{flat_map}
+use Rattle.std.specs.FinSet as set
+use Rattle.std.specs.FinMap.{nat_cmp-IsAntisymmetric}
+use Rattle.std.specs.Cmp.{Equal-is}
+use Rattle.std.specs.Cmp.Lexicographic.{slice_cmp}
+use Rattle.std.specs.Ordering.{nat_cmp}
+use Rattle.std.specs.declared.cmp.Ordering.{Ordering}
+use Rattle.std.specs.BTreeMap.{BTreeMap, get, keys, is_at}
+use Rattle.std.specs.Map.{lookup, keys_of}
+use Rattle.std.proofs.lemmas.Cmp.{nat_cmp_total}
+use Rattle.std.proofs.lemmas.Bool.{false≢true, cases_lt, or_cases, or_left, or_right, false_from_ne_true}
+use Rattle.std.proofs.lemmas.Map.Lookups.{CmpEqualImpliesEq, exact_bytes}
+use Rattle.pmg_value.specs.Lists.{In}
+use Rattle.pmg_value.proofs.SetLemmas.{in_from_list, from_list_in, same_bool, same_members}
+use Rattle.pmg_join.specs.Ranges.{set_of, Covers, LieIn, AreApart, Between}
+use Rattle.pmg_join.proofs.RangeLemmas.{set_of-Decides, is_between-Decides, covers_kept, same_cover, not_covered}
+use Rattle.pmg_commit.specs.Entries.{Entry, is_readable, is_later}
+use Rattle.pmg_commit.specs.EntryOrder.{entries_total, exact_entries, Superseded, Later, Readable, superseded_more, superseded_itself, later_itself}
+use Rattle.pmg_commit.specs.Levels.{level, IsReach}
+use Rattle.pmg_commit.specs.LevelLaws.{level_unique, level_is, level_more}
+use Rattle.pmg_commit.specs.Knowledge.{Knowledge, nothing, union, core, read, numbers_between}
+use Rattle.pmg_commit.specs.CoreLaws.{Has, Kept, same_kept, same_knowledge, core_keeps, kept_in_core, numbers-core, contains-union}
+use Rattle.pmg_commit.proofs.Rules.{numbers_are_between, read_is_latest, read_is_none}
+use Rattle.pmg_commit.proofs.ReadLaws.{IsLatest, NoneReadable, read_latest, read_none}
+use Rattle.pmg_lane.specs.Places.{placed, there_at, HasPlace}
+use Rattle.pmg_lane.specs.Entries.{late_cmp, read_at, late_at, read_entry, late_entry, Holds, HoldAlike, ReadsWithin, LatePast, Accounts, Settles, NoneLeft, entries_list}
+use Rattle.pmg_lane.specs.Lanes.{known_by, level_of, told}
+use Rattle.pmg_lane.specs.declared.entries.Entries.{Entries}
+use Rattle.pmg_lane.specs.declared.track.Track.{Track}
+use Rattle.pmg_lane.proofs.Settling.{exact_late, key_read, key_late, some_is}
+
+-- ---- entries in a list
+pub in_append : {A : Type 0} (x : A) (xs ys : List A) → In x (xs ++ ys) → In x xs ⊎ In x ys
+in_append x [] ys i = inr i
+in_append x (y ∷ xs) ys (inl e) = inl (inl e)
+in_append x (y ∷ xs) ys (inr i) = elim (in_append x xs ys i) [ inl a ↦ inl (inr a) | inr b ↦ inr b ]
+
+pub append_left : {A : Type 0} (x : A) (xs ys : List A) → In x xs → In x (xs ++ ys)
+append_left x [] ys i = absurd i
+append_left x (y ∷ xs) ys (inl e) = inl e
+append_left x (y ∷ xs) ys (inr i) = inr (append_left x xs ys i)
+
+pub append_right : {A : Type 0} (x : A) (xs ys : List A) → In x ys → In x (xs ++ ys)
+append_right x [] ys i = i
+append_right x (y ∷ xs) ys i = inr (append_right x xs ys i)
+
+of_option : {A : Type 0} (x : A) (o : Option A) → In x (option_to_list o) → o ≡ Some x
+of_option x None i = absurd i
+of_option x (Some y) (inl e) = ap Some (sym e)
+of_option x (Some y) (inr i) = absurd i
+
+in_option : {A : Type 0} (x : A) (o : Option A) → o ≡ Some x → In x (option_to_list o)
+in_option x o e = subst (λ o. In x (option_to_list o)) (sym e) (inl refl)
+
+in_options : {K A : Type 0} (f : K → Option A) (ks : List K) (x : A) → In x (flat_map (λ k. option_to_list (f k)) ks) → (k : K) × (f k ≡ Some x)
+in_options f [] x i = absurd i
+in_options f (k ∷ ks) x i = elim (in_append x (option_to_list (f k)) (flat_map (λ k. option_to_list (f k)) ks) i) [
+  | inl a ↦ (k, of_option x (f k) a)
+  | inr b ↦ in_options f ks x b
+]
+
+options_in : {K A : Type 0} (f : K → Option A) (ks : List K) (x : A) (k : K) → In k ks → f k ≡ Some x → In x (flat_map (λ k. option_to_list (f k)) ks)
+options_in f [] x k i e = absurd i
+options_in f (q ∷ ks) x k (inl same) e = append_left x (option_to_list (f q)) _ (in_option x (f q) (ap f (sym same) ∙ e))
+options_in f (q ∷ ks) x k (inr i) e = append_right x (option_to_list (f q)) _ (options_in f ks x k i e)
+
+pub key_there : {K X : Type 0} {R : K → K → Ordering} (exact : CmpEqualImpliesEq R) (es : List (K × X)) (key : K) → IsSome (lookup (is_at (R key)) es) → In key (keys_of es)
+key_there exact [] key h = absurd (false≢true h)
+key_there {K} {X} {R} exact (e ∷ es) key h =
+    elim (is_at (R key) e.0) as (λ t. is_at (R key) e.0 ≡ t → In key (keys_of (e ∷ es))) [
+      | true ↦ λ t. inl (exact key e.0 ((Equal-is _).0 t))
+      | false ↦ λ t. inr (key_there exact es key (subst IsSome (ap (λ b. cond b (Some e.1) (lookup (is_at (R key)) es)) t) h))
+    ] refl
+
+has_place : {X V : Type 0} (f : V → X) (o : Option (Option V)) (x : X) → option_map f (placed o) ≡ Some x → IsSome o
+has_place f None x h = absurd (let bad = h in cc)
+has_place f (Some p) x h = refl
+
+pub in_entries : (a : Entries) (e : Entry) → In e (entries_list a) → Holds a e
+in_entries a e i = elim (in_append e (flat_map (λ key. option_to_list (read_at a key)) (keys a.reads)) _ i) [
+  | inl r ↦ let at = in_options (read_at a) (keys a.reads) e r in inl (ap (read_at a) (sym (key_read a at.0 e at.1)) ∙ at.1)
+  | inr l ↦ let at = in_options (late_at a) (keys a.late) e l in inr (ap (late_at a) (sym (key_late a at.0 e at.1)) ∙ at.1)
+]
+
+pub entries_in : (a : Entries) (e : Entry) → Holds a e → In e (entries_list a)
+entries_in a e (inl h) =
+    append_left e (flat_map (λ key. option_to_list (read_at a key)) (keys a.reads)) _
+    (options_in (read_at a) (keys a.reads) e e.key (key_there exact_bytes a.reads.entries e.key (has_place (read_entry e.key) (get (slice_cmp nat_cmp) a.reads e.key) e h)) h)
+entries_in a e (inr h) =
+    append_right e (flat_map (λ key. option_to_list (read_at a key)) (keys a.reads)) _
+    (options_in (late_at a) (keys a.late) e (e.number, e.key) (key_there exact_late a.late.entries (e.number, e.key) (has_place (late_entry (e.number, e.key)) (get late_cmp a.late (e.number, e.key)) e h)) h)
+
+pub has_holds : (t : Track) (e : Entry) → Has (known_by t) e → Holds t.entries e
+unfolding known_by
+has_holds t e h = in_entries t.entries e (in_from_list entries_total exact_entries (entries_list t.entries) e h)
+
+pub holds_has : (t : Track) (e : Entry) → Holds t.entries e → Has (known_by t) e
+unfolding known_by
+holds_has t e h = from_list_in entries_total exact_entries (entries_list t.entries) e (entries_in t.entries e h)
+
+pub level_known : (t : Track) → level (known_by t).numbers ≡ level_of t
+unfolding known_by level_of
+level_known t = refl
+
+-- ---- the core
+-- no entry of those that are read up to the level and late past it is superseded
+pub none_superseded :
+    (a : Entries) (level : ℕ) → ReadsWithin level a → LatePast level a → (e f : Entry) → Holds a e → Holds a f → Superseded level e f → ⊥
+none_superseded a level within past e f (inl r) (inl s) sup =
+    superseded_itself level e (subst (Superseded level e) (some_is (sym s ∙ ap (read_at a) (sym sup.0.0) ∙ r)) sup)
+none_superseded a level within past e f (inl r) (inr s) sup =
+    let up : e.number ≤ level = subst (λ o. IfSome o (λ e. e.number ≤ level)) r (within e.key) in
+    let over : level < f.number = subst (λ o. IfSome o (λ _. level < f.number)) s (past (f.number, f.key)) in
+    elim sup.1 [ inl le ↦ omega (arith, le, over) | inr eq ↦ omega (arith, eq, up, over) ]
+none_superseded a level within past e f (inr r) (inl s) sup =
+    let over : level < e.number = subst (λ o. IfSome o (λ _. level < e.number)) r (past (e.number, e.key)) in
+    let up : f.number ≤ level = subst (λ o. IfSome o (λ e. e.number ≤ level)) s (within f.key) in
+    elim sup.0.1 [ inl less ↦ omega (arith, less, up, over) | inr eq ↦ omega (arith, eq.0, up, over) ]
+none_superseded a level within past e f (inr r) (inr s) sup =
+    let over : level < f.number = subst (λ o. IfSome o (λ _. level < f.number)) s (past (f.number, f.key)) in
+    elim sup.1 [
+      | inl le ↦ omega (arith, le, over)
+      | inr eq ↦ superseded_itself level e (subst (Superseded level e) (some_is (sym s ∙ ap (late_at a) (λ i. (sym eq i, sym sup.0.0 i)) ∙ r)) sup)
+    ]
+
+pub is_core_of : (t : Track) → ReadsWithin (level_of t) t.entries → LatePast (level_of t) t.entries → core (known_by t) ≡ known_by t
+is_core_of t within past =
+    same_knowledge (core (known_by t)) (known_by t) (numbers-core (known_by t))
+    (same_members entries_total exact_entries (core (known_by t)).entries (known_by t).entries
+    (λ e h. (core_keeps (known_by t) e h).0)
+    (λ e h. kept_in_core (known_by t) e (h, λ f has sup.
+    none_superseded t.entries (level_of t) within past e f (has_holds t e h) (has_holds t f has) (subst (λ n. Superseded n e f) (level_known t) sup))))

@@ -1,0 +1,6 @@
+pub mod Settling
+pub mod Promoting
+pub mod Knowing
+pub mod Tracking
+pub mod Listing
+pub mod LaneCores

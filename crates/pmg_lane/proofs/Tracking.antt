@@ -1,0 +1,273 @@
+-- What a track knows before and after it takes more.
+use Rattle.std.proofs.Common.{arith, ℕ, suc, ◌+◌, List, map, ◌≡◌, ◌<◌, ◌≤◌, ◌⊎◌, inl, inr, Bool, true, false, ◌||◌, cond, refl, sym, ap, ◌∙◌, subst}
+use Rattle.std.specs.Prelude.{Option, Some, None, IfSome, nat_le, nat_lt, ◌&&◌}
+use Rattle.std.specs.Option.{option_map}
+use Rattle.std.specs.FinSet as set
+use Rattle.std.specs.FinMap.{nat_cmp-IsAntisymmetric}
+use Rattle.std.specs.Ordering.{nat_cmp}
+use Rattle.std.proofs.lemmas.Cmp.{nat_cmp_total}
+use Rattle.std.proofs.lemmas.Bool.{false≢true, cases_lt, or_cases, or_left, or_right, leb-true}
+use Rattle.std.specs.BTreeMap.{BTreeMap}
+use Rattle.pmg_value.specs.Lists.{In}
+use Rattle.pmg_value.proofs.SetLemmas.{in_from_list, from_list_in, same_bool, same_members}
+use Rattle.pmg_join.specs.Ranges.{set_of, is_between, Covers, LieIn, AreApart, Between, Spans}
+use Rattle.pmg_join.proofs.RangeLemmas.{set_of-Decides, covers_kept, same_cover, not_covered, no_cover, cover_added, cover_joined, spans_cover}
+use Rattle.pmg_commit.specs.Entries.{Entry}
+use Rattle.pmg_commit.specs.EntryOrder.{entries_total, exact_entries, Superseded, Readable, Later, later_itself}
+use Rattle.pmg_commit.specs.Levels.{level}
+use Rattle.pmg_commit.specs.LevelLaws.{level_unique, level_is, level_more}
+use Rattle.pmg_commit.specs.Knowledge.{Knowledge, nothing, union, core, read, numbers_between}
+use Rattle.pmg_commit.specs.CoreLaws.{Has, Kept, same_kept, same_knowledge, has_union, union_has_left, union_has_right}
+use Rattle.pmg_commit.proofs.Rules.{numbers_are_between}
+use Rattle.pmg_commit.proofs.ReadLaws.{read_latest, read_none}
+use Rattle.pmg_commit.specs.declared.piece.PieceEntry.{PieceEntry}
+use Rattle.pmg_lane.specs.Entries.{read_at, late_at, Holds, HoldAlike, HasPlaces, ReadsWithin, LatePast, LateFrom, IsRoomy, Accounts, Settles, NoneLeft}
+use Rattle.pmg_lane.specs.Lanes.{known_by, level_of, told, IsTrack, reach_with}
+use Rattle.pmg_lane.specs.declared.entries.Entries.{Entries}
+use Rattle.pmg_lane.specs.declared.track.Track.{Track}
+use Rattle.pmg_lane.proofs.Settling.{accounts_more, key_read, some_is}
+use Rattle.pmg_lane.proofs.Knowing.{has_holds, holds_has, level_known, is_core_of}
+
+-- ---- levels
+pub level_reached :
+    (ends : BTreeMap ℕ ℕ) (n : ℕ) → ((i : ℕ) → 0 < i → i ≤ n → Covers ends i) → (Covers ends (suc n) → ⊥) → n ≡ level (set_of ends)
+level_reached ends n reached no_more =
+    let next : n + 1 ≡ suc n = omega arith in
+    level_unique (set_of ends) n (λ i a b. (set_of-Decides ends i).1 (reached i a b), ap (set.contains (set_of ends)) next ∙ not_covered ends (suc n) no_more)
+
+pub level_covered : (ends : BTreeMap ℕ ℕ) (i : ℕ) → 0 < i → i ≤ level (set_of ends) → Covers ends i
+level_covered ends i a b = (set_of-Decides ends i).0 ((level_is (set_of ends)).0 i a b)
+
+pub level_up : (m n : BTreeMap ℕ ℕ) → LieIn m n → level (set_of m) ≤ level (set_of n)
+level_up m n kept = level_more (set_of m) (set_of n) (λ i h. (set_of-Decides n i).1 (covers_kept m n kept i ((set_of-Decides m i).0 h)))
+
+-- a range that begins at the level or before it raises it to its end
+pub level_raised : (m n : BTreeMap ℕ ℕ) (from to : ℕ) → LieIn m n → Spans n from to → from ≤ level (set_of m) → to ≤ level (set_of n)
+level_raised m n from to kept added low = elim (cases_lt (level (set_of n)) to) [
+  | inr le ↦ le
+  | inl short ↦
+      let next : ℕ = level (set_of n) + 1 in
+      let there : Covers n next = elim (cases_lt from next) [
+        | inl past ↦ spans_cover n from to next added (past, omega (arith, short))
+        | inr before ↦ covers_kept m n kept next (level_covered m next (omega arith) (omega (arith, before, low)))
+      ] in
+      absurd (false≢true (sym (level_is (set_of n)).1 ∙ (set_of-Decides n next).1 there))
+]
+
+pub level_bound : (ends : BTreeMap ℕ ℕ) (most : ℕ) → ((n : ℕ) → Covers ends n → n ≤ most) → level (set_of ends) ≤ most
+level_bound ends most bound = elim (cases_lt 0 (level (set_of ends))) [
+  | inl some ↦ bound (level (set_of ends)) (level_covered ends (level (set_of ends)) some (omega arith))
+  | inr none ↦ omega (arith, none)
+]
+
+-- ---- the same knowledge
+pub within_up : (m n : ℕ) (a : Entries) → m ≤ n → ReadsWithin m a → ReadsWithin n a
+within_up m n a le within key = go (read_at a key) (within key)
+  where
+    go : (o : Option Entry) → IfSome o (λ e. e.number ≤ m) → IfSome o (λ e. e.number ≤ n)
+    go None h = tt
+    go (Some e) h = omega (arith, h, le)
+
+pub make_track :
+    (t : Track) → AreApart t.taken.ends → ReadsWithin (level (set_of t.taken.ends)) t.entries → LatePast (level (set_of t.taken.ends)) t.entries → IsRoomy t.entries
+    → ((n : ℕ) → Covers t.taken.ends n → n ≤ 4294967295) → IsTrack t
+unfolding level_of
+make_track t apart within past roomy bound = record { apart = apart; within = within; past = past; roomy = roomy; bound = bound; is_core = is_core_of t within past }
+
+pub level_is_of : (t : Track) → level_of t ≡ level (set_of t.taken.ends)
+unfolding level_of
+level_is_of t = refl
+
+numbers_is : (t : Track) → (known_by t).numbers ≡ set_of t.taken.ends
+unfolding known_by
+numbers_is t = refl
+
+module _ (t u : Track) (kept : LieIn t.taken.ends u.taken.ends) (no_more : (n : ℕ) → Covers u.taken.ends n → Covers t.taken.ends n) (alike : HoldAlike t.entries u.entries) where
+  same_set : set_of u.taken.ends ≡ set_of t.taken.ends
+  same_set = same_cover u.taken.ends t.taken.ends no_more (covers_kept t.taken.ends u.taken.ends kept)
+
+  pub roomy_known : known_by u ≡ known_by t
+  roomy_known =
+      same_knowledge (known_by u) (known_by t) (numbers_is u ∙ same_set ∙ sym (numbers_is t))
+      (same_members entries_total exact_entries (known_by u).entries (known_by t).entries (λ e h. holds_has t e (back e (has_holds u e h))) (λ e h. holds_has u e (there e (has_holds t e h))))
+    where
+      back : (e : Entry) → Holds u.entries e → Holds t.entries e
+      back e (inl h) = inl (sym (alike.0 e.key) ∙ h)
+      back e (inr h) = inr (sym (alike.1 (e.number, e.key)) ∙ h)
+
+      there : (e : Entry) → Holds t.entries e → Holds u.entries e
+      there e (inl h) = inl (alike.0 e.key ∙ h)
+      there e (inr h) = inr (alike.1 (e.number, e.key) ∙ h)
+
+  pub roomy_level : level_of u ≡ level_of t
+  roomy_level = level_is_of u ∙ ap level same_set ∙ sym (level_is_of t)
+
+  pub roomy_track : AreApart u.taken.ends → IsRoomy u.entries → IsTrack t → IsTrack u
+  roomy_track apart roomy is =
+      let same : level_of t ≡ level (set_of u.taken.ends) = level_is_of t ∙ ap level (sym same_set) in
+      make_track u apart
+      (λ key. subst (λ o. IfSome o (λ e. e.number ≤ level (set_of u.taken.ends))) (sym (alike.0 key)) (subst (λ n. IfSome (read_at t.entries key) (λ e. e.number ≤ n)) same (is.within key)))
+      (λ place. subst (λ o. IfSome o (λ _. level (set_of u.taken.ends) < place.0)) (sym (alike.1 place)) (subst (λ n. IfSome (late_at t.entries place) (λ _. n < place.0)) same (is.past place)))
+      roomy (λ n h. is.bound n (no_more n h))
+
+-- ---- nothing
+pub none_known :
+    (t : Track) → ((n : ℕ) → Covers t.taken.ends n → ⊥) → ((key : List ℕ) → read_at t.entries key ≡ None) → ((place : ℕ × List ℕ) → late_at t.entries place ≡ None)
+    → known_by t ≡ nothing
+none_known t none reads late =
+    same_knowledge (known_by t) nothing (numbers_is t ∙ no_cover t.taken.ends none)
+    (same_members entries_total exact_entries (known_by t).entries set.empty
+    (λ e h. absurd (gone e (has_holds t e h)))
+    (λ e h. absurd (false≢true (sym (set.contains-empty _ e) ∙ h))))
+  where
+    gone : (e : Entry) → Holds t.entries e → ⊥
+    gone e (inl h) = absurd (let bad : None ≡ Some e = sym (reads e.key) ∙ h in cc)
+    gone e (inr h) = absurd (let bad : None ≡ Some e = sym (late (e.number, e.key)) ∙ h in cc)
+
+pub none_track :
+    (t : Track) → AreApart t.taken.ends → ((n : ℕ) → Covers t.taken.ends n → ⊥) → ((key : List ℕ) → read_at t.entries key ≡ None) → ((place : ℕ × List ℕ) → late_at t.entries place ≡ None)
+    → IsRoomy t.entries → IsTrack t
+none_track t apart none reads late roomy =
+    make_track t apart
+    (λ key. subst (λ o. IfSome o (λ e. e.number ≤ level (set_of t.taken.ends))) (sym (reads key)) tt)
+    (λ place. subst (λ o. IfSome o (λ _. level (set_of t.taken.ends) < place.0)) (sym (late place)) tt)
+    roomy (λ n h. absurd (none n h))
+
+-- ---- more
+-- what invents nothing and accounts for all has the same core
+pub core_settled :
+    (k l : Knowledge) → k.numbers ≡ l.numbers → ((e : Entry) → Has k e → Has l e)
+    → ((e : Entry) → Has l e → Has k e ⊎ ((f : Entry) × Has k f × Superseded (level l.numbers) e f)) → core k ≡ core l
+core_settled k l numbers fewer enough =
+    same_kept k l numbers fewer (λ e kept. elim (enough e kept.0) [
+      | inl h ↦ h
+      | inr sup ↦ absurd (kept.1 sup.0 (fewer sup.0 sup.1) sup.2)
+    ])
+
+has_told : (from to : ℕ) (es : List Entry) (e : Entry) → Has (told from to es) e → In e es
+unfolding told
+has_told from to es e h = in_from_list entries_total exact_entries es e h
+
+told_has : (from to : ℕ) (es : List Entry) (e : Entry) → In e es → Has (told from to es) e
+unfolding told
+told_has from to es e i = from_list_in entries_total exact_entries es e i
+
+told_numbers : (from to : ℕ) (es : List Entry) → (told from to es).numbers ≡ numbers_between from to
+unfolding told
+told_numbers from to es = refl
+
+-- the track u after the track t has taken more knowledge, whose entries are a list
+module _ (t u : Track) (middle : Entries) (more : Knowledge) (es : List Entry)
+  (numbers : (known_by u).numbers ≡ set.union (known_by t).numbers more.numbers)
+  (listed : (e : Entry) → In e es → Has more e) (all : (e : Entry) → Has more e → In e es)
+  (promoted : Settles (level (set_of u.taken.ends)) t.entries NoneLeft middle NoneLeft)
+  (put : Settles (level (set_of u.taken.ends)) middle (λ e. In e es) u.entries NoneLeft) where
+  fewer : (e : Entry) → Has (known_by u) e → Has (union (known_by t) more) e
+  fewer e h = elim (put.fewer e (has_holds u e h)) [
+    | inr i ↦ union_has_right (known_by t) more e (listed e i)
+    | inl m ↦ elim (promoted.fewer e m) [
+      | inl o ↦ union_has_left (known_by t) more e (holds_has t e o)
+      | inr n ↦ absurd n
+    ]
+  ]
+
+  -- what accounts for an entry when late entries were promoted does so at last
+  at_last : (e : Entry) → Accounts (level (set_of u.taken.ends)) middle e ⊎ In e es → Accounts (level (set_of u.taken.ends)) u.entries e
+  at_last e (inl a) = accounts_more (level (set_of u.taken.ends)) middle u.entries (λ e. In e es) put e a
+  at_last e (inr i) = elim (put.enough e (inr i)) [ inl a ↦ a | inr n ↦ absurd n ]
+
+  enough : (e : Entry) → Has (union (known_by t) more) e → Accounts (level (set_of u.taken.ends)) u.entries e
+  enough e h = elim (has_union (known_by t) more e h) [
+    | inl a ↦ elim (promoted.enough e (inl (has_holds t e a))) [ inl m ↦ at_last e (inl m) | inr n ↦ absurd n ]
+    | inr b ↦ at_last e (inr (all e b))
+  ]
+
+  pub more_core : core (known_by u) ≡ core (union (known_by t) more)
+  more_core =
+      core_settled (known_by u) (union (known_by t) more) numbers fewer (λ e h. elim (enough e h) [
+        | inl i ↦ inl (holds_has u e i)
+        | inr sup ↦ inr (sup.0, holds_has u sup.0 sup.1, subst (λ n. Superseded n e sup.0) (ap level (sym (numbers_is u) ∙ numbers)) sup.2)
+      ])
+
+module _ (t u : Track) (middle : Entries) (from to : ℕ) (es : List Entry)
+  (kept : LieIn t.taken.ends u.taken.ends) (added : Spans u.taken.ends from to)
+  (no_more : (n : ℕ) → Covers u.taken.ends n → Covers t.taken.ends n ⊎ Between from to n)
+  (promoted : Settles (level (set_of u.taken.ends)) t.entries NoneLeft middle NoneLeft)
+  (put : Settles (level (set_of u.taken.ends)) middle (λ e. In e es) u.entries NoneLeft) where
+  pub taken_core : core (known_by u) ≡ core (union (known_by t) (told from to es))
+  taken_core =
+      more_core t u middle (told from to es) es
+      (numbers_is u
+      ∙ set.same_set nat_cmp_total nat_cmp-IsAntisymmetric (set_of u.taken.ends) (set.union (set_of t.taken.ends) (numbers_between from to)) (λ n.
+      cover_added t.taken.ends u.taken.ends from to no_more
+      (λ k h. elim h [ inl a ↦ covers_kept t.taken.ends u.taken.ends kept k a | inr b ↦ spans_cover u.taken.ends from to k added b ]) n
+      ∙ ap (λ b. set.contains (set_of t.taken.ends) n || b) (sym (numbers_are_between from to n))
+      ∙ sym (set.contains-union nat_cmp_total (set_of t.taken.ends) (numbers_between from to) n))
+      ∙ sym (λ i. set.union (numbers_is t i) (told_numbers from to es i)))
+      (told_has from to es) (has_told from to es) promoted put
+
+module _ (t o u : Track) (middle : Entries) (es : List Entry)
+  (listed : (e : Entry) → In e es → Holds o.entries e) (all : (e : Entry) → Holds o.entries e → In e es)
+  (kept : LieIn t.taken.ends u.taken.ends) (added : (n : ℕ) → Covers o.taken.ends n → Covers u.taken.ends n)
+  (no_more : (n : ℕ) → Covers u.taken.ends n → Covers t.taken.ends n ⊎ Covers o.taken.ends n)
+  (promoted : Settles (level (set_of u.taken.ends)) t.entries NoneLeft middle NoneLeft)
+  (put : Settles (level (set_of u.taken.ends)) middle (λ e. In e es) u.entries NoneLeft) where
+  pub joined_core : core (known_by u) ≡ core (union (known_by t) (known_by o))
+  joined_core =
+      more_core t u middle (known_by o) es
+      (numbers_is u ∙ cover_joined t.taken.ends o.taken.ends u.taken.ends no_more kept added ∙ sym (λ i. set.union (numbers_is t i) (numbers_is o i)))
+      (λ e i. holds_has o e (listed e i)) (λ e h. all e (has_holds o e h)) promoted put
+
+-- room up to the number that will be reached is room up to the level
+pub places_up : (a : Entries) (m n number : ℕ) (key : List ℕ) → m ≤ n → HasPlaces a m number key → HasPlaces a n number key
+places_up a m n number key le has = (has.0, λ past. has.1 (omega (arith, le, past)))
+
+pub reach_up : (t : Track) (ends : BTreeMap ℕ ℕ) (from to : ℕ) → LieIn t.taken.ends ends → Spans ends from to → reach_with t from to ≤ level (set_of ends)
+reach_up t ends from to kept added =
+    elim (nat_le from (level_of t)) as (λ b. nat_le from (level_of t) ≡ b → cond b to (level_of t) ≤ level (set_of ends)) [
+      | true ↦ λ h. level_raised t.taken.ends ends from to kept added (subst (λ n. from ≤ n) (level_is_of t) (leb-true from (level_of t) h))
+      | false ↦ λ h. subst (λ n. n ≤ level (set_of ends)) (sym (level_is_of t)) (level_up t.taken.ends ends kept)
+    ] refl
+
+pub past_from : (level : ℕ) (a b : Entries) → LatePast level a → LateFrom level a b → LatePast level b
+past_from level a b past from place = elim (from place) [
+  | inl same ↦ subst (λ o. IfSome o (λ _. level < place.0)) (sym same) (past place)
+  | inr over ↦ any (late_at b place) over
+]
+  where
+    any : (o : Option Entry) → level < place.0 → IfSome o (λ _. level < place.0)
+    any None over = tt
+    any (Some e) over = over
+
+-- ---- what is read
+pub read_known : (t : Track) → IsTrack t → (key : List ℕ) → read (known_by t) key ≡ option_map (λ e. e.bytes) (read_at t.entries key)
+read_known t is key = go (read_at t.entries key) refl
+  where
+    level_here : level (known_by t).numbers ≡ level_of t
+    level_here = level_known t
+
+    up : (e : Entry) → read_at t.entries key ≡ Some e → e.number ≤ level (known_by t).numbers
+    up e at = subst (λ n. e.number ≤ n) (sym level_here) (subst (λ o. IfSome o (λ e. e.number ≤ level_of t)) at (is.within key))
+
+    -- what can be read under the key is what is there
+    readable : (f : Entry) → Has (known_by t) f → Readable (level (known_by t).numbers) key f → read_at t.entries key ≡ Some f
+    readable f h r = elim (has_holds t f h) [
+      | inl at ↦ ap (read_at t.entries) r.0 ∙ at
+      | inr late ↦
+          let over : level_of t < f.number = subst (λ o. IfSome o (λ _. level_of t < f.number)) late (is.past (f.number, f.key)) in
+          absurd (omega (arith, r.1, level_here, over))
+    ]
+
+    go : (o : Option Entry) → read_at t.entries key ≡ o → read (known_by t) key ≡ option_map (λ e. e.bytes) (read_at t.entries key)
+    go None at = read_none (known_by t) key (λ f h r. let bad : None ≡ Some f = sym at ∙ readable f h r in absurd cc) ∙ sym (ap (option_map (λ e. e.bytes)) at)
+    go (Some e) at =
+        let same = key_read t.entries key e at in
+        read_latest (known_by t) key e (record {
+          has = holds_has t e (inl (ap (read_at t.entries) (sym same) ∙ at));
+          readable = (same, up e at);
+          last = λ f h r l. later_itself e (subst (Later e) (some_is (sym (readable f h r) ∙ at)) l);
+        })
+        ∙ sym (ap (option_map (λ e. e.bytes)) at)
+
+pub same_reach : (t u : Track) (from to : ℕ) → level_of u ≡ level_of t → reach_with t from to ≡ reach_with u from to
+same_reach t u from to same = ap (λ n. cond (nat_le from n) to n) (sym same)

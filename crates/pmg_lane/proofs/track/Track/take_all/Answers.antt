@@ -1,0 +1,50 @@
+use Rattle.std.proofs.Common.{ℕ, ◌≡◌, ◌≤◌, inl, inr, sym, subst, map, ◌∙◌, arith}
+use Rattle.pmg_join.specs.Ranges.{set_of}
+use Rattle.pmg_join.proofs.RangeSteps.{lie_in_itself}
+use Rattle.pmg_commit.specs.Levels.{level}
+use Rattle.pmg_commit.specs.Pieces.{entry_of}
+use Rattle.pmg_value.specs.Lists.{In}
+use Rattle.pmg_lane.specs.Entries.{ReadsWithin, LatePast, HasPlaces, Settles, NoneLeft}
+use Rattle.pmg_lane.specs.Lanes.{IsTrack, level_of}
+use Rattle.pmg_lane.specs.declared.track.Track.{Track}
+use Rattle.pmg_lane.proofs.Tracking.{level_reached, level_up, level_is_of, within_up, places_up, make_track, past_from, joined_core}
+use Rattle.pmg_lane.proofs.track.Track.take_all.Goals as goal
+
+pub promote-requires-clause-within : goal.promote-requires-clause-within
+promote-requires-clause-within c =
+    let t = c.args.self.now in
+    let ends = c.fill_rooms.new.self.ends in
+    let is = level_reached ends c.level-level.result c.level-level.ensures.reached c.level-level.ensures.no_more in
+    within_up (level (set_of t.taken.ends)) c.level-level.result t.entries (subst (λ n. level (set_of t.taken.ends) ≤ n) (sym is) (level_up t.taken.ends ends c.fill_rooms.ensures.kept))
+    (subst (λ n. ReadsWithin n t.entries) (level_is_of t) c.requires.kept.within)
+
+pub put_all-requires-clause-places : goal.put_all-requires-clause-places
+put_all-requires-clause-places c e i =
+    let t = c.args.self.now in
+    let ends = c.fill_rooms.new.self.ends in
+    let is = level_reached ends c.level-level.result c.level-level.ensures.reached c.level-level.ensures.no_more in
+    let up : level_of t ≤ c.level-level.result = subst (λ n. level_of t ≤ n) (sym is) (subst (λ n. n ≤ level (set_of ends)) (sym (level_is_of t)) (level_up t.taken.ends ends c.fill_rooms.ensures.kept)) in
+    c.promote.ensures.stay e.number e.key (places_up t.entries (level_of t) c.level-level.result e.number e.key up (c.requires.room.places e i))
+
+pub returns-clause-kept : goal.returns-clause-kept
+returns-clause-kept c =
+    let u : Track = record { taken = c.fill_rooms.new.self; entries = c.put_all.new.self } in
+    let is = level_reached c.fill_rooms.new.self.ends c.level-level.result c.level-level.ensures.reached c.level-level.ensures.no_more in
+    let filled = c.fill_rooms.ensures in
+    let past = past_from c.level-level.result c.promote.new.self c.put_all.new.self c.promote.ensures.past c.put_all.ensures.late in
+    make_track u filled.apart
+    (subst (λ n. ReadsWithin n c.put_all.new.self) is c.put_all.ensures.within)
+    (subst (λ n. LatePast n c.put_all.new.self) is past)
+    c.put_all.ensures.roomy
+    (λ n h. elim (filled.no_more n h) [ inl a ↦ c.requires.kept.bound n a | inr b ↦ c.requires.other.bound n b ])
+
+pub returns-clause-taken : goal.returns-clause-taken
+returns-clause-taken c =
+    let t = c.args.self.now in
+    let o = c.args.other.now in
+    let u : Track = record { taken = c.fill_rooms.new.self; entries = c.put_all.new.self } in
+    let is = level_reached c.fill_rooms.new.self.ends c.level-level.result c.level-level.ensures.reached c.level-level.ensures.no_more in
+    let filled = c.fill_rooms.ensures in
+    joined_core t o u c.promote.new.self (map entry_of c.args.entries.items) (λ e i. (c.requires.all e).0 i) (λ e h. (c.requires.all e).1 h) filled.kept filled.added filled.no_more
+    (subst (λ n. Settles n t.entries NoneLeft c.promote.new.self NoneLeft) is c.promote.ensures.settles)
+    (subst (λ n. Settles n c.promote.new.self (λ e. In e (map entry_of c.args.entries.items)) c.put_all.new.self NoneLeft) is c.put_all.ensures.settles)

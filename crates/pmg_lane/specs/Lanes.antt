@@ -1,0 +1,48 @@
+-- What a lane knows: the numbers of its ranges, and its entries.
+use Rattle.std.specs.Prelude.{◌≡◌, ◌≤◌, ℕ, List, if◌then◌else◌, nat_le}
+use Rattle.std.specs.FinSet as set
+use Rattle.std.specs.Ordering.{nat_cmp}
+use Rattle.pmg_value.specs.Lists.{In}
+use Rattle.pmg_join.specs.Ranges.{set_of, AreApart, Covers, Spans, HaveRoom}
+use Rattle.pmg_commit.specs.Entries.{Entry}
+use Rattle.pmg_commit.specs.Levels.{level}
+use Rattle.pmg_commit.specs.Knowledge.{Knowledge, core, numbers_between}
+use Rattle.pmg_commit.specs.declared.piece.PieceEntry.{PieceEntry}
+use Rattle.pmg_lane.specs.Entries.{entries_list, ReadsWithin, LatePast, IsRoomy, HasPlaces}
+use Rattle.pmg_lane.specs.declared.track.Track.{Track}
+
+-- what a track knows of its process
+unfoldable pub known_by : Track → Knowledge
+known_by t = record { numbers = set_of t.taken.ends; entries = set.from_list (entries_list t.entries) }
+
+-- the level of a track
+unfoldable pub level_of : Track → ℕ
+level_of t = level (set_of t.taken.ends)
+
+-- what is known from the commits from+1 to to, of which these are the entries
+unfoldable pub told : ℕ → ℕ → List Entry → Knowledge
+told from to entries = record { numbers = numbers_between from to; entries = set.from_list entries }
+
+-- A track is kept well: its ranges are apart, what is read is up to the level and what is late past it, there is a place
+-- to read each late entry from, no number is past the greatest of a commit, and no entry is superseded.
+pub record IsTrack (t : Track) : Type 0 where
+  pub apart : AreApart t.taken.ends
+  pub within : ReadsWithin (level_of t) t.entries
+  pub past : LatePast (level_of t) t.entries
+  pub roomy : IsRoomy t.entries
+  pub bound : (n : ℕ) → Covers t.taken.ends n → n ≤ 4294967295
+  pub is_core : core (known_by t) ≡ known_by t
+
+-- up to where entries are read once the commits from+1 to to are taken too
+abbrev pub reach_with : Track → ℕ → ℕ → ℕ
+reach_with t from to = if nat_le from (level_of t) then to else level_of t
+
+-- there is room for the commits from+1 to to and their entries
+pub record HasRoom (t : Track) (from : ℕ) (to : ℕ) (entries : List PieceEntry) : Type 0 where
+  pub range : Spans t.taken.ends from from
+  pub places : (e : PieceEntry) → In e entries → HasPlaces t.entries (reach_with t from to) e.number e.key
+
+-- there is room for the commits of another track and these entries
+pub record HaveRooms (t : Track) (other : Track) (entries : List PieceEntry) : Type 0 where
+  pub ranges : HaveRoom other.taken.ends t.taken.ends
+  pub places : (e : PieceEntry) → In e entries → HasPlaces t.entries (level_of t) e.number e.key

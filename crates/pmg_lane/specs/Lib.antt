@@ -1,0 +1,4 @@
+pub mod Entries
+pub mod Joining
+pub mod Lanes
+pub mod Places

@@ -1,0 +1,290 @@
+//! The entries of one process that are not superseded.
+ghost use Rattle.std.specs.Prelude.{◌≡◌, ◌<◌, ◌≤◌, ◌++◌, ℕ, List, map, cond, OnOk, OnErr, IfOk, IfSome, IfNone, Some, None};
+ghost use Rattle.pmg_value.specs.Spelling.{spelling};
+ghost use Rattle.pmg_lane.specs.Entries.{read_at, late_at, late_cmp, read_entry, late_entry, beats, exceeds, made_of, AreAll, HoldAlike, PlacesStay, HasPlaces, ReadsWithin, IsRoomy, LateFrom, LatePast, Settles, NoneLeft};
+ghost use Rattle.pmg_lane.specs.Places.{placed, there_at, HasPlace};
+ghost use Rattle.std.specs.Option.{option_map};
+ghost use Rattle.std.specs.BTreeMap.{get, is_at, btree_map_len, IsOrdered};
+ghost use Rattle.pmg_value.specs.Lists.{In};
+ghost use Rattle.pmg_commit.specs.Pieces.{entry_of};
+ghost use Rattle.std.specs.Ordering.{nat_cmp};
+ghost use Rattle.std.specs.Cmp.Lexicographic.{slice_cmp};
+
+use crate::places::{make_place, put_in_place};
+use pmg_commit::PieceEntry;
+use pmg_value::{Key, Value};
+use std::alloc::{AllocError, Global};
+use std::collections::BTreeMap;
+
+/// What a commit left under a key: the number of the commit, and the value.
+#[derive(Debug, Drop)]
+pub struct Stamp {
+    pub number: u64,
+    pub value: Value,
+}
+
+/// The entries that are not superseded: what is read under each key, and the entries past the level by number and
+/// key. A place may be empty, and then it is room.
+#[derive(Debug, Drop)]
+pub struct Entries {
+    reads: BTreeMap<Key, Option<Stamp>, Global>,
+    late: BTreeMap<(u64, Key), Option<Value>, Global>,
+}
+
+impl Entries {
+    /// No entries. They keep the allocator.
+    pub fn new(alloc: Global) -> Entries
+        ensures none { (key : List ℕ) → read_at result key ≡ None }
+        ensures none_late { (place : ℕ × List ℕ) → late_at result place ≡ None }
+        ensures roomy { IsRoomy result }
+    {
+        Entries {
+            reads: BTreeMap::new(alloc),
+            late: BTreeMap::new(alloc),
+        }
+    }
+
+    /// The value of the entry that is read under the key.
+    pub fn read(&self, key: &Key) -> Option<&Value>
+        ensures { option_map (λ v. spelling v.now) result ≡ option_map (λ e. e.bytes) (read_at self.now key.now) }
+    {
+        match self.reads.get(key) {
+            Some(Some(there)) => Some(&there.value),
+            _ => None,
+        }
+    }
+
+    /// Makes a place where an entry of the key will be read.
+    fn make_read_place(&mut self, key: &Key) -> Result<(), AllocError>
+        requires { IsRoomy self.old }
+        ensures same { HoldAlike self.old self.new }
+        ensures place { OnOk result (HasPlace (slice_cmp nat_cmp) self.new.reads key.now) }
+        ensures stay { PlacesStay self.old self.new }
+        ensures roomy { IsRoomy self.new }
+    {
+        let key = key.copy()?;
+        make_place(&mut self.reads, key)
+    }
+
+    /// Makes a late place for an entry of that number and key, which has a place where it will be read.
+    fn make_late_place(&mut self, number: u64, key: &Key) -> Result<(), AllocError>
+        requires roomy { IsRoomy self.old }
+        requires place { HasPlace (slice_cmp nat_cmp) self.old.reads key.now }
+        ensures same { HoldAlike self.old self.new }
+        ensures place { OnOk result (HasPlace late_cmp self.new.late (number, key.now)) }
+        ensures stay { PlacesStay self.old self.new }
+        ensures roomy { IsRoomy self.new }
+    {
+        let key = key.copy()?;
+        make_place(&mut self.late, (number, key))
+    }
+
+    /// Makes a place for an entry of that number and key: where it will be read and, past the number that will be
+    /// reached, a late one.
+    pub fn make_place(&mut self, reach: u64, number: u64, key: &Key) -> Result<(), AllocError>
+        requires { IsRoomy self.old }
+        ensures same { HoldAlike self.old self.new }
+        ensures place { OnOk result (HasPlaces self.new reach number key.now) }
+        ensures stay { PlacesStay self.old self.new }
+        ensures roomy { IsRoomy self.new }
+    {
+        self.make_read_place(key)?;
+        if number > reach {
+            self.make_late_place(number, key)?;
+        }
+        Ok(())
+    }
+
+    /// Puts the entry under its key, where it will be read, unless a later one is there.
+    fn put_read(&mut self, level: u64, key: Key, number: u64, value: Value)
+        requires place { HasPlace (slice_cmp nat_cmp) self.old.reads key }
+        requires reached { number ≤ level }
+        requires within { ReadsWithin level self.old }
+        requires roomy { IsRoomy self.old }
+        ensures settles { let entry = read_entry key (record { number = number; value = value }) in
+            Settles level self.old (λ e. e ≡ entry) self.new NoneLeft }
+        ensures within { ReadsWithin level self.new }
+        ensures late { self.new.late ≡ self.old.late }
+        ensures stay { PlacesStay self.old self.new }
+        ensures roomy { IsRoomy self.new }
+    {
+        if is_newer(self.reads.get(&key), number, &value) {
+            put_in_place(&mut self.reads, &key, Stamp { number, value });
+        }
+    }
+
+    /// Puts the entry, which is past the level, in its late place, unless a greater one is there.
+    fn put_late(&mut self, level: u64, key: Key, number: u64, value: Value)
+        requires place { HasPlace late_cmp self.old.late (number, key) }
+        requires past { level < number }
+        requires roomy { IsRoomy self.old }
+        ensures settles { let entry = late_entry (number, key) value in
+            Settles level self.old (λ e. e ≡ entry) self.new NoneLeft }
+        ensures reads { self.new.reads ≡ self.old.reads }
+        ensures late { LateFrom level self.old self.new }
+        ensures stay { PlacesStay self.old self.new }
+        ensures roomy { IsRoomy self.new }
+    {
+        let place = (number, key);
+        if is_greater(self.late.get(&place), &value) {
+            put_in_place(&mut self.late, &place, value);
+        }
+    }
+
+    /// Puts the entry where it belongs at that level, unless one is there that supersedes it.
+    pub fn put(&mut self, level: u64, key: Key, number: u64, value: Value)
+        requires places { HasPlaces self.old level number key }
+        requires within { ReadsWithin level self.old }
+        requires roomy { IsRoomy self.old }
+        ensures settles { let entry = late_entry (number, key) value in
+            Settles level self.old (λ e. e ≡ entry) self.new NoneLeft }
+        ensures within { ReadsWithin level self.new }
+        ensures late { LateFrom level self.old self.new }
+        ensures stay { PlacesStay self.old self.new }
+        ensures roomy { IsRoomy self.new }
+    {
+        if number <= level {
+            self.put_read(level, key, number, value);
+        } else {
+            self.put_late(level, key, number, value);
+        }
+    }
+
+    /// Makes places for the entries.
+    pub fn make_places(&mut self, reach: u64, entries: &[PieceEntry]) -> Result<(), AllocError>
+        requires { IsRoomy self.old }
+        ensures same { HoldAlike self.old self.new }
+        ensures places { OnOk result ((e : PieceEntry) → In e entries.now → HasPlaces self.new reach e.number e.key) }
+        ensures stay { PlacesStay self.old self.new }
+        ensures roomy { IsRoomy self.new }
+    {
+        for entry in entries {
+            self.make_place(reach, entry.number, &entry.key)?;
+        }
+        Ok(())
+    }
+
+    /// Puts the entries where they belong at that level, but those that are superseded.
+    pub fn put_all(&mut self, level: u64, entries: Vec<PieceEntry>)
+        requires places { (e : PieceEntry) → In e entries.items → HasPlaces self.old level e.number e.key }
+        requires within { ReadsWithin level self.old }
+        requires roomy { IsRoomy self.old }
+        ensures settles { Settles level self.old (λ e. In e (map entry_of entries.items)) self.new NoneLeft }
+        ensures within { ReadsWithin level self.new }
+        ensures late { LateFrom level self.old self.new }
+        ensures roomy { IsRoomy self.new }
+    {
+        for entry in entries {
+            let PieceEntry { key, number, value } = entry;
+            self.put(level, key, number, value);
+        }
+    }
+
+    /// Takes the first late place, where its number is no greater than the level.
+    fn pop_reached(&mut self, level: u64) -> Option<((u64, Key), Option<Value>)>
+        ensures there { IfSome result (λ p. there_at late_cmp self.old.late p.0 ≡ p.1) }
+        ensures reached { IfSome result (λ p. p.0.0 ≤ level) }
+        ensures place { IfSome result (λ p. HasPlace late_cmp self.old.late p.0) }
+        ensures taken { IfSome result (λ p. (q : ℕ × List ℕ) → get late_cmp self.new.late q
+            ≡ cond (is_at (late_cmp p.0) q) None (get late_cmp self.old.late q)) }
+        ensures fewer { IfSome result (λ _. btree_map_len self.new.late < btree_map_len self.old.late) }
+        ensures reads { self.new.reads ≡ self.old.reads }
+        ensures none { IfNone result (self.new.late ≡ self.old.late) }
+        ensures past { IfNone result ((q : ℕ × List ℕ) → HasPlace late_cmp self.new.late q → level < q.0) }
+    {
+        match self.late.first_key_value() {
+            Some((place, _)) if place.0 <= level => self.late.pop_first(),
+            _ => None,
+        }
+    }
+
+    /// Puts the late entries whose numbers are no greater than the level where they are read.
+    pub fn promote(&mut self, level: u64)
+        requires within { ReadsWithin level self.old }
+        requires roomy { IsRoomy self.old }
+        ensures settles { Settles level self.old NoneLeft self.new NoneLeft }
+        ensures within { ReadsWithin level self.new }
+        ensures past { LatePast level self.new }
+        ensures stay { (n : ℕ) (key : List ℕ) → HasPlaces self.old level n key → HasPlaces self.new level n key }
+        ensures roomy { IsRoomy self.new }
+    {
+        while let Some((place, value)) = self.pop_reached(level) {
+            if let Some(value) = value {
+                self.put_read(level, place.1, place.0, value);
+            }
+        }
+    }
+
+    /// Copies of the entries.
+    pub fn copies(&self, alloc: Global) -> Result<Vec<PieceEntry>, AllocError>
+        ensures { IfOk result (λ all. AreAll self.now (map entry_of all.items)) }
+    {
+        let mut all = Vec::new(alloc);
+        push_reads(&mut all, &self.reads)?;
+        push_late(&mut all, &self.late)?;
+        Ok(all)
+    }
+}
+
+/// Appends copies of the entries that are read.
+fn push_reads(
+    all: &mut Vec<PieceEntry>,
+    reads: &BTreeMap<Key, Option<Stamp>, Global>,
+) -> Result<(), AllocError>
+    ensures all { OnOk result (map entry_of all.new.items ≡ map entry_of all.old.items ++ made_of read_entry reads.now.entries) }
+    ensures ordered { IsOrdered (slice_cmp nat_cmp) reads.now }
+{
+    for (key, place) in reads.iter() {
+        if let Some(there) = place {
+            all.push(PieceEntry {
+                key: key.copy()?,
+                number: there.number,
+                value: there.value.copy()?,
+            })?;
+        }
+    }
+    Ok(())
+}
+
+/// Appends copies of the late entries.
+fn push_late(
+    all: &mut Vec<PieceEntry>,
+    late: &BTreeMap<(u64, Key), Option<Value>, Global>,
+) -> Result<(), AllocError>
+    ensures all { OnOk result (map entry_of all.new.items ≡ map entry_of all.old.items ++ made_of late_entry late.now.entries) }
+    ensures ordered { IsOrdered late_cmp late.now }
+{
+    for (place, there) in late.iter() {
+        if let Some(value) = there {
+            all.push(PieceEntry {
+                key: place.1.copy()?,
+                number: place.0,
+                value: value.copy()?,
+            })?;
+        }
+    }
+    Ok(())
+}
+
+/// Whether an entry of that number and value is later than the one in the place, if there is one.
+fn is_newer(place: Option<&Option<Stamp>>, number: u64, value: &Value) -> bool
+    ensures { (key : List ℕ) → let there = option_map (read_entry key) (placed (option_map (λ p. p.now) place.entry)) in
+        result ≡ beats there (record { key = key; number = number; bytes = spelling value.now }) }
+{
+    match place {
+        Some(Some(there)) => {
+            there.number < number || (there.number == number && there.value.cmp(value).is_lt())
+        }
+        _ => true,
+    }
+}
+
+/// Whether the value is greater than the one in the place, if there is one.
+fn is_greater(place: Option<&Option<Value>>, value: &Value) -> bool
+    ensures { result ≡ exceeds (option_map spelling (placed (option_map (λ p. p.now) place.entry))) (spelling value.now) }
+{
+    match place {
+        Some(Some(there)) => there.cmp(value).is_lt(),
+        _ => true,
+    }
+}
