@@ -45,8 +45,4 @@ impl Element for (u64, Key) {
     ghost use Rattle.std.proofs.lemmas.Map.Lookups.{exact_bytes, exact_pairs, exact_unsigned};
 
     ghost exact = { exact_pairs nat_cmp (slice_cmp nat_cmp) exact_unsigned exact_bytes };
-
-    fn copy(&self) -> Result<(u64, Key), AllocError> {
-        Ok((self.0, self.1.copy()?))
-    }
 }

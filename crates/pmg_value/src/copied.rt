@@ -51,6 +51,12 @@ impl Copied for Value {
     }
 }
 
+impl<A: Copied, B: Copied> Copied for (A, B) {
+    fn copy(&self) -> Result<(A, B), AllocError> {
+        Ok((self.0.copy()?, self.1.copy()?))
+    }
+}
+
 /// A tree of the same keys and values.
 pub fn copy_rows<K: Ord + Copied, V: Copied>(
     alloc: Global,
