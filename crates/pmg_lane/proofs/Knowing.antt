@@ -1,34 +1,26 @@
 -- What is known by what is kept.
-use Rattle.std.proofs.Common.{arith, ℕ, suc, ◌+◌, List, [], ◌∷◌, ◌++◌, map, length, ◌≡◌, ◌<◌, ◌≤◌, ◌⊎◌, inl, inr, Bool, true, false, ◌||◌, cond, refl, sym, ap, ◌∙◌, subst}
-use Rattle.std.specs.Prelude.{Option, Some, None, IfSome, IsSome, nat_le, nat_lt, ◌&&◌}
+use Rattle.std.proofs.Common.{arith, ℕ, List, [], ◌∷◌, ◌++◌, ◌≡◌, ◌<◌, ◌≤◌, ◌⊎◌, inl, inr, true, false, cond, refl, sym, ap, ◌∙◌, subst}
+use Rattle.std.specs.Prelude.{Option, Some, None, IfSome, IsSome}
 use Rattle.std.specs.Option.{option_map, option_to_list}
 use Rattle.std.specs.List.{flat_map}
-use Rattle.std.specs.FinSet as set
-use Rattle.std.specs.FinMap.{nat_cmp-IsAntisymmetric}
 use Rattle.std.specs.Cmp.{Equal-is}
 use Rattle.std.specs.Cmp.Lexicographic.{slice_cmp}
 use Rattle.std.specs.Ordering.{nat_cmp}
 use Rattle.std.specs.declared.cmp.Ordering.{Ordering}
-use Rattle.std.specs.BTreeMap.{BTreeMap, get, keys, is_at}
+use Rattle.std.specs.BTreeMap.{get, keys, is_at}
 use Rattle.std.specs.Map.{lookup, keys_of}
-use Rattle.std.proofs.lemmas.Cmp.{nat_cmp_total}
-use Rattle.std.proofs.lemmas.Bool.{false≢true, cases_lt, or_cases, or_left, or_right, false_from_ne_true}
+use Rattle.std.proofs.lemmas.Bool.{false≢true}
 use Rattle.std.proofs.lemmas.Map.Lookups.{CmpEqualImpliesEq, exact_bytes}
 use Rattle.pmg_value.specs.Lists.{In}
-use Rattle.pmg_value.proofs.SetLemmas.{in_from_list, from_list_in, same_bool, same_members}
-use Rattle.pmg_join.specs.Ranges.{set_of, Covers, LieIn, AreApart, Between}
-use Rattle.pmg_join.proofs.RangeLemmas.{set_of-Decides, is_between-Decides, covers_kept, same_cover, not_covered}
-use Rattle.pmg_commit.specs.Entries.{Entry, is_readable, is_later}
-use Rattle.pmg_commit.specs.EntryOrder.{entries_total, exact_entries, Superseded, Later, Readable, superseded_more, superseded_itself, later_itself}
-use Rattle.pmg_commit.specs.Levels.{level, IsReach}
-use Rattle.pmg_commit.specs.LevelLaws.{level_unique, level_is, level_more}
-use Rattle.pmg_commit.specs.Knowledge.{Knowledge, nothing, union, core, read, numbers_between}
-use Rattle.pmg_commit.specs.CoreLaws.{Has, Kept, same_kept, same_knowledge, core_keeps, kept_in_core, numbers-core, contains-union}
-use Rattle.pmg_commit.proofs.Rules.{numbers_are_between, read_is_latest, read_is_none}
-use Rattle.pmg_commit.proofs.ReadLaws.{IsLatest, NoneReadable, read_latest, read_none}
-use Rattle.pmg_lane.specs.Places.{placed, there_at, HasPlace}
-use Rattle.pmg_lane.specs.Entries.{late_cmp, read_at, late_at, read_entry, late_entry, Holds, HoldAlike, ReadsWithin, LatePast, Accounts, Settles, NoneLeft, entries_list}
-use Rattle.pmg_lane.specs.Lanes.{known_by, level_of, told}
+use Rattle.pmg_value.proofs.SetLemmas.{in_from_list, from_list_in, same_members}
+use Rattle.pmg_commit.specs.Entries.{Entry}
+use Rattle.pmg_commit.specs.EntryOrder.{entries_total, exact_entries, Superseded, superseded_itself}
+use Rattle.pmg_commit.specs.Levels.{level}
+use Rattle.pmg_commit.specs.Knowledge.{core}
+use Rattle.pmg_commit.specs.CoreLaws.{Has, same_knowledge, core_keeps, kept_in_core, numbers-core}
+use Rattle.pmg_lane.specs.Places.{placed}
+use Rattle.pmg_lane.specs.Entries.{late_cmp, read_at, late_at, read_entry, late_entry, Holds, ReadsWithin, LatePast, entries_list}
+use Rattle.pmg_lane.specs.Lanes.{known_by, level_of}
 use Rattle.pmg_lane.specs.declared.entries.Entries.{Entries}
 use Rattle.pmg_lane.specs.declared.track.Track.{Track}
 use Rattle.pmg_lane.proofs.Settling.{exact_late, key_read, key_late, some_is}
@@ -132,5 +124,8 @@ is_core_of t within past =
     same_knowledge (core (known_by t)) (known_by t) (numbers-core (known_by t))
     (same_members entries_total exact_entries (core (known_by t)).entries (known_by t).entries
     (λ e h. (core_keeps (known_by t) e h).0)
-    (λ e h. kept_in_core (known_by t) e (h, λ f has sup.
-    none_superseded t.entries (level_of t) within past e f (has_holds t e h) (has_holds t f has) (subst (λ n. Superseded n e f) (level_known t) sup))))
+    (λ e h. kept_in_core (known_by t) e (
+      h,
+      λ f has sup.
+          none_superseded t.entries (level_of t) within past e f (has_holds t e h) (has_holds t f has) (subst (λ n. Superseded n e f) (level_known t) sup),
+    )))

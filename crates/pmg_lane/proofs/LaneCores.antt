@@ -1,5 +1,6 @@
 -- The cores of lanes.
 use Rattle.std.proofs.Common.{ℕ, List, ◌≡◌, refl, sym, ap, ◌∙◌}
+use Rattle.std.specs.FinSet as set
 use Rattle.pmg_commit.specs.Entries.{Entry}
 use Rattle.pmg_commit.specs.Levels.{level}
 use Rattle.pmg_commit.specs.Knowledge.{Contribution, Knowledge, nothing, union, core, knowledge_of}
@@ -25,3 +26,6 @@ pub nothing_joined : (a : Core) → join_cores (core_of nothing) a ≡ a
 nothing_joined a =
     same_core (join_cores (core_of nothing) a) a
     (ap (λ k. core (union k a.knowledge)) core-nothing ∙ ap core (union_nothing a.knowledge) ∙ a.is_core)
+
+pub taken_in : (t : Track) (n : ℕ) → set.contains (known_by t).numbers n ≡ set.contains (core (known_by t)).numbers n
+taken_in t n = ap (λ s. set.contains s n) (sym (numbers-core (known_by t)))

@@ -7,13 +7,13 @@ use Rattle.std.specs.Cmp.Lexicographic.{slice_cmp}
 use Rattle.std.specs.Ordering.{nat_cmp, is_gt, ordering_then}
 use Rattle.std.specs.declared.cmp.Ordering.{Ordering}
 use Rattle.std.specs.declared.cmp.Ordering.TheVariants.{Less, Equal, Greater}
-use Rattle.std.specs.BTreeMap.{BTreeMap, get, is_at}
+use Rattle.std.specs.BTreeMap.{get, is_at}
 use Rattle.std.specs.Map.{lookup}
 use Rattle.std.proofs.lemmas.Bool.{false≢true}
 use Rattle.pmg_value.specs.declared.value.Value.{Value}
 use Rattle.pmg_commit.specs.Entries.{Entry}
 use Rattle.pmg_lane.specs.Places.{placed, there_at, HasPlace}
-use Rattle.pmg_lane.specs.Entries.{late_cmp, late_entry, read_at, late_at, Holds, HasPlaces, ReadsWithin, LatePast, IsRoomy, Accounts, Settles, NoneLeft}
+use Rattle.pmg_lane.specs.Entries.{late_cmp, late_entry, read_at, late_at, Holds, HasPlaces, ReadsWithin, LatePast, IsRoomy, Settles, NoneLeft}
 use Rattle.pmg_lane.specs.declared.entries.Entries.{Entries}
 use Rattle.pmg_lane.proofs.Settling.{exact_late, some_is, accounts_more}
 
@@ -30,7 +30,7 @@ no_places test [] none h = absurd (false≢true h)
 no_places test (e ∷ es) none h = none (omega arith)
 
 module _ (a b : Entries) (level : ℕ) (place : ℕ × List ℕ) (reached : place.0 ≤ level)
-  (taken : (q : ℕ × List ℕ) → get late_cmp b.late q ≡ cond (is_at (late_cmp place) q) None (get late_cmp a.late q)) (reads : b.reads ≡ a.reads) where
+    (taken : (q : ℕ × List ℕ) → get late_cmp b.late q ≡ cond (is_at (late_cmp place) q) None (get late_cmp a.late q)) (reads : b.reads ≡ a.reads) where
   others : (q : ℕ × List ℕ) → (place ≡ q) × (get late_cmp b.late q ≡ None) ⊎ (get late_cmp b.late q ≡ get late_cmp a.late q)
   others q =
       elim (is_at (late_cmp place) q) as (λ t. is_at (late_cmp place) q ≡ t → (place ≡ q) × (get late_cmp b.late q ≡ None) ⊎ (get late_cmp b.late q ≡ get late_cmp a.late q)) [
@@ -66,10 +66,13 @@ module _ (a b : Entries) (level : ℕ) (place : ℕ × List ℕ) (reached : plac
   ]
 
   pub popped_places : (n : ℕ) (key : List ℕ) → HasPlaces a level n key → HasPlaces b level n key
-  popped_places n key has = (subst (λ t. HasPlace (slice_cmp nat_cmp) t key) (sym reads) has.0, λ past. elim (others (n, key)) [
-    | inl gone ↦ absurd (let same : place.0 ≡ n = λ i. (gone.0 i).0 in omega (arith, reached, same, past))
-    | inr same ↦ subst IsSome (sym same) (has.1 past)
-  ])
+  popped_places n key has = (
+    subst (λ t. HasPlace (slice_cmp nat_cmp) t key) (sym reads) has.0,
+    λ past. elim (others (n, key)) [
+      | inl gone ↦ absurd (let same : place.0 ≡ n = λ i. (gone.0 i).0 in omega (arith, reached, same, past))
+      | inr same ↦ subst IsSome (sym same) (has.1 past)
+    ],
+  )
 
   few : (e : Entry) → Holds b e → Holds a e
   few e (inl h) = inl (sym (same_read e.key) ∙ h)

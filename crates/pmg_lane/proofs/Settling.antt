@@ -1,5 +1,5 @@
 -- One entry put into its place.
-use Rattle.std.proofs.Common.{arith, ℕ, List, [], ◌∷◌, map, ◌≡◌, ◌<◌, ◌≤◌, ◌⊎◌, inl, inr, Bool, true, false, cond, refl, sym, ap, ◌∙◌, subst}
+use Rattle.std.proofs.Common.{arith, ℕ, List, [], ◌∷◌, map, ◌≡◌, ◌<◌, ◌≤◌, ◌⊎◌, inl, inr, true, false, cond, refl, sym, ap, ◌∙◌, subst}
 use Rattle.std.specs.Prelude.{Option, Some, None, IfSome}
 use Rattle.std.specs.Option.{option_map}
 use Rattle.std.specs.Cmp.{Equal-is, IsTotalOrder}
@@ -15,7 +15,7 @@ use Rattle.pmg_value.specs.Lists.{In}
 use Rattle.pmg_value.specs.Spelling.{spelling}
 use Rattle.pmg_value.specs.declared.value.Value.{Value}
 use Rattle.pmg_commit.specs.Entries.{Entry, is_later}
-use Rattle.pmg_commit.specs.EntryOrder.{Below, Later, Superseded, is_later-Decides, below_cases, superseded_trans}
+use Rattle.pmg_commit.specs.EntryOrder.{Below, Later, is_later-Decides, below_cases, superseded_trans}
 use Rattle.pmg_lane.specs.Places.{there_at, HasPlace}
 use Rattle.pmg_lane.specs.Entries.{late_cmp, read_entry, late_entry, read_at, late_at, Holds, ReadsWithin, Accounts, Settles, NoneLeft, beats, exceeds, LateFrom, HoldAlike, IsRoomy}
 use Rattle.pmg_lane.specs.declared.entries.Entries.{Entries}
@@ -57,7 +57,7 @@ not_later e f same t =
 
 -- what was put under a key, in a table of what is under each
 module _ {K V : Type 0} {R : K → K → Ordering} (o : IsTotalOrder R) (exact : CmpEqualImpliesEq R) (make : K → V → Entry) (m n : K → Option V) (key : K) (v : V)
-  (put : (q : K) → n q ≡ cond (is_at (R key) q) (Some v) (m q)) where
+    (put : (q : K) → n q ≡ cond (is_at (R key) q) (Some v) (m q)) where
   pub put_here : option_map (make key) (n key) ≡ Some (make key v)
   put_here = ap (option_map (make key)) (put key ∙ ap (λ b. cond b (Some v) (m key)) (ap is_eq (tied_itself o key)))
 
@@ -79,8 +79,8 @@ module _ {K V : Type 0} {R : K → K → Ordering} (o : IsTotalOrder R) (exact :
 
 -- ---- an entry that is read
 module _ (a b : Entries) (level : ℕ) (key : List ℕ) (s : Stamp)
-  (put : (q : List ℕ) → there_at (slice_cmp nat_cmp) b.reads q ≡ cond (is_at (slice_cmp nat_cmp key) q) (Some s) (there_at (slice_cmp nat_cmp) a.reads q))
-  (late : b.late ≡ a.late) (reached : s.number ≤ level) where
+    (put : (q : List ℕ) → there_at (slice_cmp nat_cmp) b.reads q ≡ cond (is_at (slice_cmp nat_cmp key) q) (Some s) (there_at (slice_cmp nat_cmp) a.reads q))
+    (late : b.late ≡ a.late) (reached : s.number ≤ level) where
   stamp_here : read_at b key ≡ Some (read_entry key s)
   stamp_here = put_here nat_list_cmp_total exact_bytes read_entry (there_at (slice_cmp nat_cmp) a.reads) (there_at (slice_cmp nat_cmp) b.reads) key s put
 
@@ -160,8 +160,8 @@ read_kept a level key s within older = record { fewer = λ e h. inl h; enough = 
 
 -- ---- a late entry
 module _ (a b : Entries) (level : ℕ) (place : ℕ × List ℕ) (v : Value)
-  (put : (q : ℕ × List ℕ) → there_at late_cmp b.late q ≡ cond (is_at (late_cmp place) q) (Some v) (there_at late_cmp a.late q))
-  (reads : b.reads ≡ a.reads) where
+    (put : (q : ℕ × List ℕ) → there_at late_cmp b.late q ≡ cond (is_at (late_cmp place) q) (Some v) (there_at late_cmp a.late q))
+    (reads : b.reads ≡ a.reads) where
   value_here : late_at b place ≡ Some (late_entry place v)
   value_here = put_here late_total exact_late late_entry (there_at late_cmp a.late) (there_at late_cmp b.late) place v put
 

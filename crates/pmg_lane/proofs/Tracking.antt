@@ -1,26 +1,24 @@
 -- What a track knows before and after it takes more.
-use Rattle.std.proofs.Common.{arith, ℕ, suc, ◌+◌, List, map, ◌≡◌, ◌<◌, ◌≤◌, ◌⊎◌, inl, inr, Bool, true, false, ◌||◌, cond, refl, sym, ap, ◌∙◌, subst}
-use Rattle.std.specs.Prelude.{Option, Some, None, IfSome, nat_le, nat_lt, ◌&&◌}
+use Rattle.std.proofs.Common.{arith, ℕ, suc, ◌+◌, List, ◌≡◌, ◌<◌, ◌≤◌, ◌⊎◌, inl, inr, true, false, ◌||◌, cond, refl, sym, ap, ◌∙◌, subst}
+use Rattle.std.specs.Prelude.{Option, Some, None, IfSome, nat_le}
 use Rattle.std.specs.Option.{option_map}
 use Rattle.std.specs.FinSet as set
 use Rattle.std.specs.FinMap.{nat_cmp-IsAntisymmetric}
-use Rattle.std.specs.Ordering.{nat_cmp}
 use Rattle.std.proofs.lemmas.Cmp.{nat_cmp_total}
-use Rattle.std.proofs.lemmas.Bool.{false≢true, cases_lt, or_cases, or_left, or_right, leb-true}
+use Rattle.std.proofs.lemmas.Bool.{false≢true, cases_lt, leb-true}
 use Rattle.std.specs.BTreeMap.{BTreeMap}
 use Rattle.pmg_value.specs.Lists.{In}
-use Rattle.pmg_value.proofs.SetLemmas.{in_from_list, from_list_in, same_bool, same_members}
-use Rattle.pmg_join.specs.Ranges.{set_of, is_between, Covers, LieIn, AreApart, Between, Spans}
+use Rattle.pmg_value.proofs.SetLemmas.{in_from_list, from_list_in, same_members}
+use Rattle.pmg_join.specs.Ranges.{set_of, Covers, LieIn, AreApart, Between, Spans}
 use Rattle.pmg_join.proofs.RangeLemmas.{set_of-Decides, covers_kept, same_cover, not_covered, no_cover, cover_added, cover_joined, spans_cover}
 use Rattle.pmg_commit.specs.Entries.{Entry}
 use Rattle.pmg_commit.specs.EntryOrder.{entries_total, exact_entries, Superseded, Readable, Later, later_itself}
 use Rattle.pmg_commit.specs.Levels.{level}
 use Rattle.pmg_commit.specs.LevelLaws.{level_unique, level_is, level_more}
 use Rattle.pmg_commit.specs.Knowledge.{Knowledge, nothing, union, core, read, numbers_between}
-use Rattle.pmg_commit.specs.CoreLaws.{Has, Kept, same_kept, same_knowledge, has_union, union_has_left, union_has_right}
+use Rattle.pmg_commit.specs.CoreLaws.{Has, same_kept, same_knowledge, has_union, union_has_left, union_has_right}
 use Rattle.pmg_commit.proofs.Rules.{numbers_are_between}
 use Rattle.pmg_commit.proofs.ReadLaws.{read_latest, read_none}
-use Rattle.pmg_commit.specs.declared.piece.PieceEntry.{PieceEntry}
 use Rattle.pmg_lane.specs.Entries.{read_at, late_at, Holds, HoldAlike, HasPlaces, ReadsWithin, LatePast, LateFrom, IsRoomy, Accounts, Settles, NoneLeft}
 use Rattle.pmg_lane.specs.Lanes.{known_by, level_of, told, IsTrack, reach_with}
 use Rattle.pmg_lane.specs.declared.entries.Entries.{Entries}
@@ -78,7 +76,7 @@ pub level_is_of : (t : Track) → level_of t ≡ level (set_of t.taken.ends)
 unfolding level_of
 level_is_of t = refl
 
-numbers_is : (t : Track) → (known_by t).numbers ≡ set_of t.taken.ends
+pub numbers_is : (t : Track) → (known_by t).numbers ≡ set_of t.taken.ends
 unfolding known_by
 numbers_is t = refl
 
@@ -158,10 +156,10 @@ told_numbers from to es = refl
 
 -- the track u after the track t has taken more knowledge, whose entries are a list
 module _ (t u : Track) (middle : Entries) (more : Knowledge) (es : List Entry)
-  (numbers : (known_by u).numbers ≡ set.union (known_by t).numbers more.numbers)
-  (listed : (e : Entry) → In e es → Has more e) (all : (e : Entry) → Has more e → In e es)
-  (promoted : Settles (level (set_of u.taken.ends)) t.entries NoneLeft middle NoneLeft)
-  (put : Settles (level (set_of u.taken.ends)) middle (λ e. In e es) u.entries NoneLeft) where
+    (numbers : (known_by u).numbers ≡ set.union (known_by t).numbers more.numbers)
+    (listed : (e : Entry) → In e es → Has more e) (all : (e : Entry) → Has more e → In e es)
+    (promoted : Settles (level (set_of u.taken.ends)) t.entries NoneLeft middle NoneLeft)
+    (put : Settles (level (set_of u.taken.ends)) middle (λ e. In e es) u.entries NoneLeft) where
   fewer : (e : Entry) → Has (known_by u) e → Has (union (known_by t) more) e
   fewer e h = elim (put.fewer e (has_holds u e h)) [
     | inr i ↦ union_has_right (known_by t) more e (listed e i)
@@ -190,10 +188,10 @@ module _ (t u : Track) (middle : Entries) (more : Knowledge) (es : List Entry)
       ])
 
 module _ (t u : Track) (middle : Entries) (from to : ℕ) (es : List Entry)
-  (kept : LieIn t.taken.ends u.taken.ends) (added : Spans u.taken.ends from to)
-  (no_more : (n : ℕ) → Covers u.taken.ends n → Covers t.taken.ends n ⊎ Between from to n)
-  (promoted : Settles (level (set_of u.taken.ends)) t.entries NoneLeft middle NoneLeft)
-  (put : Settles (level (set_of u.taken.ends)) middle (λ e. In e es) u.entries NoneLeft) where
+    (kept : LieIn t.taken.ends u.taken.ends) (added : Spans u.taken.ends from to)
+    (no_more : (n : ℕ) → Covers u.taken.ends n → Covers t.taken.ends n ⊎ Between from to n)
+    (promoted : Settles (level (set_of u.taken.ends)) t.entries NoneLeft middle NoneLeft)
+    (put : Settles (level (set_of u.taken.ends)) middle (λ e. In e es) u.entries NoneLeft) where
   pub taken_core : core (known_by u) ≡ core (union (known_by t) (told from to es))
   taken_core =
       more_core t u middle (told from to es) es
@@ -207,11 +205,11 @@ module _ (t u : Track) (middle : Entries) (from to : ℕ) (es : List Entry)
       (told_has from to es) (has_told from to es) promoted put
 
 module _ (t o u : Track) (middle : Entries) (es : List Entry)
-  (listed : (e : Entry) → In e es → Holds o.entries e) (all : (e : Entry) → Holds o.entries e → In e es)
-  (kept : LieIn t.taken.ends u.taken.ends) (added : (n : ℕ) → Covers o.taken.ends n → Covers u.taken.ends n)
-  (no_more : (n : ℕ) → Covers u.taken.ends n → Covers t.taken.ends n ⊎ Covers o.taken.ends n)
-  (promoted : Settles (level (set_of u.taken.ends)) t.entries NoneLeft middle NoneLeft)
-  (put : Settles (level (set_of u.taken.ends)) middle (λ e. In e es) u.entries NoneLeft) where
+    (listed : (e : Entry) → In e es → Holds o.entries e) (all : (e : Entry) → Holds o.entries e → In e es)
+    (kept : LieIn t.taken.ends u.taken.ends) (added : (n : ℕ) → Covers o.taken.ends n → Covers u.taken.ends n)
+    (no_more : (n : ℕ) → Covers u.taken.ends n → Covers t.taken.ends n ⊎ Covers o.taken.ends n)
+    (promoted : Settles (level (set_of u.taken.ends)) t.entries NoneLeft middle NoneLeft)
+    (put : Settles (level (set_of u.taken.ends)) middle (λ e. In e es) u.entries NoneLeft) where
   pub joined_core : core (known_by u) ≡ core (union (known_by t) (known_by o))
   joined_core =
       more_core t u middle (known_by o) es

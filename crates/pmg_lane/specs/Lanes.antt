@@ -1,7 +1,6 @@
 -- What a lane knows: the numbers of its ranges, and its entries.
 use Rattle.std.specs.Prelude.{◌≡◌, ◌≤◌, ℕ, List, if◌then◌else◌, nat_le}
 use Rattle.std.specs.FinSet as set
-use Rattle.std.specs.Ordering.{nat_cmp}
 use Rattle.pmg_value.specs.Lists.{In}
 use Rattle.pmg_join.specs.Ranges.{set_of, AreApart, Covers, Spans, HaveRoom}
 use Rattle.pmg_commit.specs.Entries.{Entry}

@@ -1,5 +1,5 @@
 -- Places in a tree: one may be empty, and then it is only room.
-use Rattle.std.specs.Prelude.{◌≡◌, List, Option, Some, None, IsSome}
+use Rattle.std.specs.Prelude.{Option, Some, None, IsSome}
 use Rattle.std.specs.declared.cmp.Ordering.{Ordering}
 use Rattle.std.specs.BTreeMap.{BTreeMap, get}
 

@@ -1,4 +1,5 @@
 ghost use Rattle.std.specs.Prelude.{◌≡◌, ◌≤◌, ◌<◌, map, nat_lt, Some, None, OnOk, OnErr, IfOk, IfErr, if◌then◌else◌};
+ghost use Rattle.std.specs.FinSet as set;
 ghost use Rattle.std.specs.Option.{option_map};
 ghost use Rattle.pmg_value.specs.Spelling.{spelling};
 ghost use Rattle.pmg_commit.specs.Levels.{level};
@@ -87,6 +88,13 @@ impl Lane {
         ensures bound { result ≤ 4294967295 }
     {
         self.track.level()
+    }
+
+    /// Whether the commit of that number was taken.
+    pub fn taken(&self, n: u64) -> bool
+        ensures { result ≡ set.contains self.now.knowledge.numbers n }
+    {
+        self.track.taken(n)
     }
 
     /// The value under the key: of the entries up to the level, that of the greatest commit, and at equal numbers the

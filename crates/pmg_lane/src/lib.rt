@@ -6,7 +6,8 @@ mod lane;
 mod places;
 mod track;
 
-pub use entries::{Entries, Stamp};
 pub use lane::Lane;
-pub use places::{make_place, put_in_place};
 pub use track::Track;
+
+#[cfg(test)]
+mod tests;

@@ -1,5 +1,6 @@
 //! What is known of one process, in parts that can be given room before they take more.
 ghost use Rattle.std.specs.Prelude.{◌≡◌, ◌<◌, ◌≤◌, ℕ, List, map, OnOk, OnErr, IfOk};
+ghost use Rattle.std.specs.FinSet as set;
 ghost use Rattle.std.specs.Option.{option_map};
 ghost use Rattle.pmg_value.specs.Spelling.{spelling};
 ghost use Rattle.pmg_commit.specs.Pieces.{entry_of};
@@ -40,6 +41,14 @@ impl Track {
         ensures bound { result ≤ 4294967295 }
     {
         self.taken.level()
+    }
+
+    /// Whether the commit of that number was taken.
+    pub fn taken(&self, n: u64) -> bool
+        requires { IsTrack self.now }
+        ensures { result ≡ set.contains (known_by self.now).numbers n }
+    {
+        self.taken.contains(n)
     }
 
     /// What is read under the key.

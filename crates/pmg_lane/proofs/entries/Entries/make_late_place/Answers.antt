@@ -2,7 +2,6 @@ use Rattle.std.proofs.Common.{refl, subst, sym}
 use Rattle.std.specs.Ordering.{nat_cmp}
 use Rattle.std.specs.Cmp.Lexicographic.{slice_cmp}
 use Rattle.pmg_lane.specs.Places.{HasPlace}
-use Rattle.pmg_lane.specs.declared.entries.Entries.{Entries}
 use Rattle.pmg_lane.proofs.Settling.{alike_late, roomy_late}
 use Rattle.pmg_lane.proofs.entries.Entries.make_late_place.Goals as goal
 

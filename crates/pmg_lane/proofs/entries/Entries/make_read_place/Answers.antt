@@ -1,5 +1,4 @@
 use Rattle.std.proofs.Common.{refl}
-use Rattle.pmg_lane.specs.declared.entries.Entries.{Entries}
 use Rattle.pmg_lane.proofs.Settling.{alike_reads, roomy_reads}
 use Rattle.pmg_lane.proofs.entries.Entries.make_read_place.Goals as goal
 

@@ -1,5 +1,5 @@
-use Rattle.std.proofs.Common.{sym, ap, ◌∙◌, subst}
-use Rattle.pmg_lane.proofs.Promoting.{popped_within, popped_roomy, popped_places, popped_none, popped_some, settles_trans, past_places}
+use Rattle.std.proofs.Common.{◌∙◌}
+use Rattle.pmg_lane.proofs.Promoting.{popped_within, popped_roomy, popped_places, popped_none, popped_some, settles_trans}
 use Rattle.pmg_lane.proofs.entries.Entries.promote.Goals as goal
 
 pub loop-place-preserved-in-Some-value : goal.loop-place-preserved-in-Some-value
@@ -10,7 +10,7 @@ loop-place-preserved-in-Some-value c =
     let p = c.in-Some.ensures in
     let inv = c.loop-place.invariant in (
       settles_trans c.args.level c.args.self.now a d inv.0
-      (popped_some a b c.args.level c.in-Some.place p.reached p.taken p.reads c.in-Some-value.value d (p.there ∙ c.in-Some-value.is) c.put_read.ensures.settles),
+          (popped_some a b c.args.level c.in-Some.place p.reached p.taken p.reads c.in-Some-value.value d (p.there ∙ c.in-Some-value.is) c.put_read.ensures.settles),
       c.put_read.ensures.within,
       c.put_read.ensures.roomy,
       λ n key h.
@@ -25,7 +25,7 @@ loop-place-preserved-in_default-value c =
     let p = c.in-Some.ensures in
     let inv = c.loop-place.invariant in (
       settles_trans c.args.level c.args.self.now a b inv.0
-      (popped_none a b c.args.level c.in-Some.place p.reached p.taken p.reads (p.there ∙ c.in_default-value.is)),
+          (popped_none a b c.args.level c.in-Some.place p.reached p.taken p.reads (p.there ∙ c.in_default-value.is)),
       popped_within a b c.args.level c.in-Some.place p.reached p.taken p.reads inv.1,
       popped_roomy a b c.args.level c.in-Some.place p.reached p.taken p.reads inv.2,
       λ n key h. popped_places a b c.args.level c.in-Some.place p.reached p.taken p.reads n key (inv.3 n key h),
@@ -38,7 +38,7 @@ loop-place-preserved c =
     let p = c.in-Some.ensures in
     let inv = c.loop-place.invariant in (
       settles_trans c.args.level c.args.self.now a b inv.0
-      (popped_none a b c.args.level c.in-Some.place p.reached p.taken p.reads (p.there ∙ c.in_default-value.is)),
+          (popped_none a b c.args.level c.in-Some.place p.reached p.taken p.reads (p.there ∙ c.in_default-value.is)),
       popped_within a b c.args.level c.in-Some.place p.reached p.taken p.reads inv.1,
       popped_roomy a b c.args.level c.in-Some.place p.reached p.taken p.reads inv.2,
       λ n key h. popped_places a b c.args.level c.in-Some.place p.reached p.taken p.reads n key (inv.3 n key h),

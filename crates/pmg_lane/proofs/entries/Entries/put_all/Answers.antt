@@ -1,4 +1,4 @@
-use Rattle.std.proofs.Common.{map, inl, inr}
+use Rattle.std.proofs.Common.{map}
 use Rattle.std.specs.Vec.Iter.{into_iter_items}
 use Rattle.pmg_value.specs.Lists.{In}
 use Rattle.pmg_commit.specs.Pieces.{entry_of}
@@ -15,8 +15,8 @@ loop-entry-preserved c =
     let entry = c.in-Some.entry in
     let step = c.in-Some.ensures.steps.0 in (
       settles_next level c.args.self.now a b (entry_of entry) _ _ (λ e. In e (map entry_of (into_iter_items c.next.new.self))) inv.0 put.settles
-      (in_map entry_of c.args.entries.items entry (inv.5 entry (in_first entry _ _ step)))
-      (λ e i. map_step entry_of entry _ _ e step i),
+          (in_map entry_of c.args.entries.items entry (inv.5 entry (in_first entry _ _ step)))
+          (λ e i. map_step entry_of entry _ _ e step i),
       put.within,
       late_trans level c.args.self.now a b inv.2 put.late,
       put.roomy,

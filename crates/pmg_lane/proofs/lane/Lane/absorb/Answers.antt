@@ -1,4 +1,4 @@
-use Rattle.std.proofs.Common.{map, sym, ap, ◌∙◌}
+use Rattle.std.proofs.Common.{map, ap, ◌∙◌}
 use Rattle.pmg_commit.specs.Pieces.{entry_of}
 use Rattle.pmg_commit.specs.Knowledge.{union, core, knowledge_of}
 use Rattle.pmg_commit.specs.Cores.{core_of, join_cores}

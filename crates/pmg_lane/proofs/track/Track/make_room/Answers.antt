@@ -1,8 +1,6 @@
-use Rattle.std.proofs.Common.{refl, sym, subst, ap}
+use Rattle.std.proofs.Common.{refl, subst}
 use Rattle.pmg_join.proofs.RangeSteps.{lie_in_itself}
-use Rattle.pmg_join.proofs.RangeLemmas.{on_err}
 use Rattle.pmg_lane.specs.Entries.{HasPlaces}
-use Rattle.pmg_lane.specs.Lanes.{reach_with, IsTrack, HasRoom}
 use Rattle.pmg_lane.specs.declared.track.Track.{Track}
 use Rattle.pmg_lane.proofs.Tracking.{roomy_track, roomy_known, roomy_level, same_reach}
 use Rattle.pmg_lane.proofs.track.Track.make_room.Goals as goal

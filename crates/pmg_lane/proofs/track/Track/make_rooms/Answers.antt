@@ -1,10 +1,8 @@
-use Rattle.std.proofs.Common.{refl, sym, subst, ap}
+use Rattle.std.proofs.Common.{refl, sym, subst}
 use Rattle.pmg_join.proofs.RangeSteps.{lie_in_itself}
-use Rattle.pmg_join.proofs.RangeLemmas.{on_err}
 use Rattle.pmg_lane.specs.Entries.{HasPlaces}
-use Rattle.pmg_lane.specs.Lanes.{reach_with, IsTrack, HaveRooms}
 use Rattle.pmg_lane.specs.declared.track.Track.{Track}
-use Rattle.pmg_lane.proofs.Tracking.{roomy_track, roomy_known, roomy_level, same_reach}
+use Rattle.pmg_lane.proofs.Tracking.{roomy_track, roomy_known, roomy_level}
 use Rattle.pmg_lane.proofs.track.Track.make_rooms.Goals as goal
 
 pub returns-in_err-make_places-clause-kept : goal.returns-in_err-make_places-clause-kept

@@ -1,10 +1,10 @@
-use Rattle.std.proofs.Common.{ℕ, ◌≡◌, ◌≤◌, inl, inr, sym, subst, map, arith}
+use Rattle.std.proofs.Common.{ℕ, ◌≤◌, inl, inr, sym, subst, map, arith}
 use Rattle.pmg_join.specs.Ranges.{set_of}
 use Rattle.pmg_commit.specs.Levels.{level}
 use Rattle.pmg_commit.specs.Pieces.{entry_of}
 use Rattle.pmg_value.specs.Lists.{In}
-use Rattle.pmg_lane.specs.Entries.{ReadsWithin, LatePast, HasPlaces, Settles, NoneLeft}
-use Rattle.pmg_lane.specs.Lanes.{IsTrack, reach_with}
+use Rattle.pmg_lane.specs.Entries.{ReadsWithin, LatePast, Settles, NoneLeft}
+use Rattle.pmg_lane.specs.Lanes.{reach_with}
 use Rattle.pmg_lane.specs.declared.track.Track.{Track}
 use Rattle.pmg_lane.proofs.Tracking.{level_reached, level_up, level_is_of, within_up, places_up, reach_up, make_track, past_from, taken_core}
 use Rattle.pmg_lane.proofs.track.Track.take.Goals as goal

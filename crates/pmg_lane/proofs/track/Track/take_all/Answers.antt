@@ -1,11 +1,10 @@
-use Rattle.std.proofs.Common.{ℕ, ◌≡◌, ◌≤◌, inl, inr, sym, subst, map, ◌∙◌, arith}
+use Rattle.std.proofs.Common.{◌≤◌, inl, inr, sym, subst, map}
 use Rattle.pmg_join.specs.Ranges.{set_of}
-use Rattle.pmg_join.proofs.RangeSteps.{lie_in_itself}
 use Rattle.pmg_commit.specs.Levels.{level}
 use Rattle.pmg_commit.specs.Pieces.{entry_of}
 use Rattle.pmg_value.specs.Lists.{In}
-use Rattle.pmg_lane.specs.Entries.{ReadsWithin, LatePast, HasPlaces, Settles, NoneLeft}
-use Rattle.pmg_lane.specs.Lanes.{IsTrack, level_of}
+use Rattle.pmg_lane.specs.Entries.{ReadsWithin, LatePast, Settles, NoneLeft}
+use Rattle.pmg_lane.specs.Lanes.{level_of}
 use Rattle.pmg_lane.specs.declared.track.Track.{Track}
 use Rattle.pmg_lane.proofs.Tracking.{level_reached, level_up, level_is_of, within_up, places_up, make_track, past_from, joined_core}
 use Rattle.pmg_lane.proofs.track.Track.take_all.Goals as goal
