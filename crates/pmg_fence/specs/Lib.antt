@@ -1,0 +1,5 @@
+pub mod Entering
+pub mod Tables
+pub mod Codes
+pub mod Changes
+pub mod Rules
