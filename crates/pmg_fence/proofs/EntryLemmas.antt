@@ -4,14 +4,13 @@ use Rattle.std.specs.Option.{option_map}
 use Rattle.std.specs.Ordering.{is_eq}
 use Rattle.std.proofs.lemmas.Bool.Decides.{nat_tests}
 use Rattle.std.proofs.lemmas.Cmp.{tied_itself}
-use Rattle.pmg_value.specs.Signatures.{Signature, FenceName}
+use Rattle.pmg_value.specs.Signatures.{Signature}
 use Rattle.pmg_value.specs.declared.process.Proc.{Proc}
 use Rattle.pmg_value.proofs.ProcessOrder.{procs_total}
 use Rattle.pmg_scope.specs.declared.scope.Scope.{Scope}
 use Rattle.pmg_scope.specs.Scripts.{Call, Script, has_end, count_commits, commits}
-use Rattle.pmg_scope.proofs.ScriptLaws.{by_end, end_is_last, open_commits}
+use Rattle.pmg_scope.proofs.ScriptLaws.{by_end, end_is_last}
 use Rattle.pmg_frame.specs.FenceOrder.{signature_total}
-use Rattle.pmg_fence.specs.declared.entry.Entry.{Entry}
 use Rattle.pmg_fence.specs.Entering.{same_proc, same_signature, enters, level_before, level_at_end, entry_by, entry}
 use Rattle.pmg_fence.specs.Rules.{EntryStays}
 
@@ -103,22 +102,23 @@ level_entered (Call.enter i ∷ cs) g e =
     ]
 level_entered (Call.terminate ∷ cs) g e = absurd cc
 
+is_zero : (n : ℕ) → (n == 0) ≡ true → n ≡ 0
+is_zero n z = grind (arith, nat_tests)
+
+first_only : (b : Bool) (k : ℕ) → (b ≡ true → suc k ≡ suc 0 → ⊥) → ◌≡◌ {A = Option ℕ} (cond b (cond (k == 0) (Some 0) None) None) None
+first_only false k apart = refl
+first_only true k apart = by_zero (k == 0) refl
+  where
+    by_zero : (c : Bool) → (k == 0) ≡ c → ◌≡◌ {A = Option ℕ} (cond c (Some 0) None) None
+    by_zero true z = absurd (apart refl (ap suc (is_zero k z)))
+    by_zero false z = refl
+
 -- and all others are as they were
 pub level_other : (s : Script) (h g : Signature) (k : ℕ) → has_end s ≡ false → (same_signature g h ≡ true → k ≡ suc (enters s g) → ⊥)
     → level_before (s ++ Call.enter h ∷ []) g k ≡ level_before s g k
 unfolding level_before
 level_other [] h g zero e apart = refl
-level_other [] h g (suc k) e apart =
-    elim (same_signature g h) as (λ b. same_signature g h ≡ b → cond b (cond (k == 0) (Some 0) None) None ≡ None) [
-      | true ↦ λ t. elim (k == 0) as (λ c. (k == 0) ≡ c → cond c (Some 0) None ≡ None) [
-        | true ↦ λ z. absurd (apart t (ap suc (is_zero k z)))
-        | false ↦ λ z. refl
-      ] refl
-      | false ↦ λ t. refl
-    ] refl
-  where
-    is_zero : (n : ℕ) → (n == 0) ≡ true → n ≡ 0
-    is_zero n z = grind (arith, nat_tests)
+level_other [] h g (suc k) e apart = first_only (same_signature g h) k apart
 level_other (Call.put scope key value ∷ cs) h g k e apart = level_other cs h g k e apart
 level_other (Call.commit ∷ cs) h g k e apart = ap (option_map suc) (level_other cs h g k e apart)
 level_other (Call.enter i ∷ cs) h g zero e apart = refl

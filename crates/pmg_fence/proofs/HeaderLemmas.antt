@@ -1,21 +1,17 @@
 -- Headers: the lines of their node's participants.
-use Rattle.std.proofs.Common.{◌≡◌, ℕ, Bool, true, false, ◌==◌, ◌&&◌, cond, List, [], ◌∷◌, Option, Some, None, is_some, map, ◌⊎◌, inl, inr, refl, sym, ap, ◌∙◌, subst}
-use Rattle.std.specs.List.{filter, find, list_all}
+use Rattle.std.proofs.Common.{◌≡◌, Bool, true, false, cond, List, [], ◌∷◌, Option, Some, None, inl, inr, refl, sym, ap, ◌∙◌}
+use Rattle.std.specs.List.{filter, find}
 use Rattle.std.specs.Option.{option_map}
 use Rattle.std.specs.Cmp.{Equal-is}
 use Rattle.std.proofs.lemmas.Bool.{false≢true}
 use Rattle.pmg_value.specs.Lists.{In}
-use Rattle.pmg_value.specs.Signatures.{FenceName}
 use Rattle.pmg_value.specs.declared.process.Proc.{Proc}
 use Rattle.pmg_value.proofs.ProcessOrder.{exact_procs}
-use Rattle.pmg_frame.specs.Fences.{participants_of}
 use Rattle.pmg_frame.specs.declared.local.Local.{Local}
-use Rattle.pmg_jobinfo.specs.Jobs.{Jobs, home_of}
 use Rattle.pmg_fence.specs.declared.entry.Entry.{Entry}
-use Rattle.pmg_fence.specs.Entering.{same_proc, entry, locals_of, local_of, with_line, lines, told, header_of}
+use Rattle.pmg_fence.specs.Entering.{same_proc, local_of, with_line, lines, told}
 use Rattle.pmg_fence.specs.Tables.{entry_in}
-use Rattle.pmg_fence.specs.Rules.{Grows, HeaderStays}
-use Rattle.pmg_fence.proofs.EntryLemmas.{proc_itself, entry_stays}
+use Rattle.pmg_fence.proofs.EntryLemmas.{proc_itself}
 
 -- two processes are one or are told apart
 pub by_proc : (p q : Proc) {P : Type 0} → (p ≡ q → P) → (same_proc p q ≡ false → P) → P
@@ -88,11 +84,11 @@ in_filter p [] x i h = absurd i
 in_filter p (y ∷ ys) x (inl e) h = rw (ap p (sym e) ∙ h) (inl e)
 in_filter p (y ∷ ys) x (inr i) h = elim (p y) as (λ b. In x (cond b (y ∷ filter p ys) (filter p ys))) [ true ↦ inr (in_filter p ys x i h) | false ↦ in_filter p ys x i h ]
 
+kept_in : {A : Type 0} (p : A → Bool) (y : A) (ys zs : List A) (x : A) (b : Bool) → p y ≡ b → (In x zs → In x ys × (p x ≡ true)) → In x (cond b (y ∷ zs) zs) → In x (y ∷ ys) × (p x ≡ true)
+kept_in p y ys zs x true e rest (inl j) = (inl j, ap p j ∙ e)
+kept_in p y ys zs x true e rest (inr j) = let found = rest j in (inr found.0, found.1)
+kept_in p y ys zs x false e rest j = let found = rest j in (inr found.0, found.1)
+
 pub filter_in : {A : Type 0} (p : A → Bool) (xs : List A) (x : A) → In x (filter p xs) → In x xs × (p x ≡ true)
 filter_in p [] x i = absurd i
-filter_in p (y ∷ ys) x i = by_test (p y) refl i
-  where
-    by_test : (b : Bool) → p y ≡ b → In x (cond b (y ∷ filter p ys) (filter p ys)) → In x (y ∷ ys) × (p x ≡ true)
-    by_test true e (inl j) = (inl j, ap p j ∙ e)
-    by_test true e (inr j) = let rest = filter_in p ys x j in (inr rest.0, rest.1)
-    by_test false e j = let rest = filter_in p ys x j in (inr rest.0, rest.1)
+filter_in p (y ∷ ys) x i = kept_in p y ys (filter p ys) x (p y) refl (filter_in p ys x) i

@@ -9,7 +9,7 @@ use Rattle.pmg_value.specs.declared.refusal.Refusal.TheVariants as refusals
 use Rattle.pmg_frame.specs.Fences.{Header, header}
 use Rattle.pmg_frame.specs.declared.local.Local.{Local}
 use Rattle.pmg_jobinfo.specs.Jobs.{Jobs}
-use Rattle.pmg_fence.specs.Tables.{Numbers, Fence, Series, Fences, fence_of, series_at, has_name, fence_at, count_of, own_header, names_of}
+use Rattle.pmg_fence.specs.Tables.{Numbers, Fence, Fences, fence_of, series_at, has_name, fence_at, count_of, own_header, names_of}
 use Rattle.pmg_fence.specs.Codes.{Known}
 
 -- Each change of a fence: this is known of it now, and these are the counts of its signature.

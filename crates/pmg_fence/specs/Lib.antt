@@ -3,3 +3,4 @@ pub mod Tables
 pub mod Codes
 pub mod Changes
 pub mod Rules
+pub mod Kept

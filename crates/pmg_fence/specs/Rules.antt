@@ -1,5 +1,5 @@
 -- How what a node keeps of fences goes on with the calls of its own processes, and with what other nodes tell.
-use Rattle.std.specs.Prelude.{◌≡◌, ◌≤◌, ℕ, suc, Bool, true, false, List, [], ◌∷◌, ◌++◌, Option, Some, None, if◌then◌else◌}
+use Rattle.std.specs.Prelude.{◌≡◌, ◌≤◌, ℕ, true, false, List, [], ◌∷◌, ◌++◌, Some, if◌then◌else◌}
 use Rattle.std.specs.FinMap as finite
 use Rattle.std.specs.List.{filter}
 use Rattle.pmg_value.specs.Lists.{In}
@@ -11,9 +11,9 @@ use Rattle.pmg_frame.specs.Fences.{Header, participants_of}
 use Rattle.pmg_frame.specs.declared.local.Local.{Local}
 use Rattle.pmg_jobinfo.specs.Jobs.{Jobs, home_of}
 use Rattle.pmg_fence.specs.declared.entry.Entry.{Entry}
-use Rattle.pmg_fence.specs.Entering.{same_proc, entered, enters, level_before, level_at_end, entry, header_of}
+use Rattle.pmg_fence.specs.Entering.{same_proc, enters, level_before, level_at_end, entry, header_of}
 use Rattle.pmg_fence.specs.Tables.{Fences, no_fences, fence_at, count_of, own_header, header_at, told_of, is_ready, says_gone, gone_by}
-use Rattle.pmg_fence.specs.Changes.{learned, next_name, entered_by, ended_by, with_header}
+use Rattle.pmg_fence.specs.Changes.{learned, entered_by, ended_by, with_header}
 
 -- What is kept of an own process's fences fits its script: how often it entered those of each signature, at which levels,
 -- and the level at which it ended.

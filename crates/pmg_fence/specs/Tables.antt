@@ -1,5 +1,5 @@
 -- What a node keeps of fences, and what it says of them.
-use Rattle.std.specs.Prelude.{ℕ, suc, Bool, true, false, ◌==◌, ◌||◌, not, nat_le, List, [], ◌∷◌, ◌++◌, map, Option, Some, None, is_some, if◌then◌else◌}
+use Rattle.std.specs.Prelude.{ℕ, Bool, false, ◌==◌, ◌||◌, not, nat_le, List, map, Option, Some, None, if◌then◌else◌}
 use Rattle.std.specs.FinMap as finite
 use Rattle.std.specs.List.{filter, find, flat_map, list_all}
 use Rattle.std.specs.Option.{option_map, unwrap_or}
@@ -8,7 +8,7 @@ use Rattle.pmg_value.specs.Process.{proc_cmp}
 use Rattle.pmg_value.specs.Signatures.{Signature, FenceName}
 use Rattle.pmg_value.specs.declared.process.Proc.{Proc}
 use Rattle.pmg_frame.specs.FenceOrder.{signature_cmp}
-use Rattle.pmg_frame.specs.Fences.{Header, participants_of, is_gone}
+use Rattle.pmg_frame.specs.Fences.{participants_of, is_gone}
 use Rattle.pmg_frame.specs.declared.local.Local.{Local}
 use Rattle.pmg_jobinfo.specs.Jobs.{Jobs, home_of}
 use Rattle.pmg_fence.specs.declared.entry.Entry.{Entry}
