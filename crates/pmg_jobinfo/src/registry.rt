@@ -102,7 +102,7 @@ impl Registry {
     }
 
     /// The allocator that the registry keeps.
-    pub(crate) fn allocator(&self) -> Global {
+    pub fn allocator(&self) -> Global {
         *self.nodes.allocator()
     }
 

@@ -1,0 +1,11 @@
+pub mod EntryLemmas
+pub mod HeaderLemmas
+pub mod TableLemmas
+pub mod Trees
+pub mod NumberLemmas
+pub mod RowFacts
+pub mod SeriesLemmas
+pub mod LineLemmas
+pub mod TellLemmas
+pub mod NewsLemmas
+pub mod ReadLemmas

@@ -1,0 +1,136 @@
+-- Lines that are made one by one.
+use Rattle.std.proofs.Common.{◌≡◌, ℕ, zero, suc, ◌+◌, ◌<◌, ◌≤◌, ◌==◌, Bor, arith, Bool, true, false, cond, List, [], ◌∷◌, ◌++◌, length, get_or, drop, Option, Some, None, is_some, refl, sym, ap, ◌∙◌, add-one, drop-cons, append_assoc}
+use Rattle.std.specs.List.{filter}
+use Rattle.std.specs.Option.{option_map}
+use Rattle.pmg_jobinfo.specs.Jobs.{home_of}
+use Rattle.pmg_fence.specs.Codes.{Known}
+use Rattle.pmg_fence.specs.Tables.{Fence}
+use Rattle.pmg_fence.specs.Kept.{instead, entry_with, known_fence}
+use Rattle.pmg_value.specs.declared.process.Proc.{Proc}
+use Rattle.pmg_frame.specs.declared.local.Local.{Local}
+use Rattle.pmg_fence.specs.declared.entry.Entry.{Entry}
+use Rattle.pmg_fence.specs.Entering.{local_of, with_line, lines, told}
+
+pub drop-all : {A : Type 0} (i : ℕ) (xs : List A) → length xs ≤ i → drop i xs ≡ []
+drop-all zero [] h = refl
+drop-all zero (x ∷ xs) h = absurd (omega (arith, h))
+drop-all (suc i) [] h = refl
+drop-all (suc i) (x ∷ xs) h = drop-all i xs (omega (arith, h))
+
+pub append_empty : {A : Type 0} (xs : List A) → xs ++ [] ≡ xs
+append_empty [] = refl
+append_empty (x ∷ xs) = ap (λ ys. x ∷ ys) (append_empty xs)
+
+-- these lines, and then the others
+abbrev pub before : List Local → Option (List Local) → Option (List Local)
+before ls None = None
+before ls (Some others) = Some (ls ++ others)
+
+pub before_none : (o : Option (List Local)) → o ≡ before [] o
+before_none None = refl
+before_none (Some ls) = refl
+
+with_line_none : (p : Proc) (o : Option (List Local)) → with_line p None o ≡ None
+with_line_none p o = refl
+
+-- one more line
+before_more : (ls : List Local) (p : Proc) (e : Entry) (o : Option (List Local)) → before ls (with_line p (Some e) o) ≡ before (ls ++ local_of p e ∷ []) o
+before_more ls p e None = refl
+before_more ls p e (Some others) = ap Some (sym (append_assoc ls (local_of p e ∷ []) others))
+
+module _ (s : Proc → Option Entry) (own : Proc → Bool) where
+  -- the lines that are left to make
+  abbrev pub rest : List Proc → Option (List Local)
+  rest ps = lines s (filter own ps)
+
+  pub rest_at : (ps : List Proc) (i : ℕ) (p : Proc) → i < length ps → p ≡ get_or ps i p → (b : Bool) → own p ≡ b
+      → rest (drop i ps) ≡ cond b (with_line p (s p) (rest (drop (i + 1) ps))) (rest (drop (i + 1) ps))
+  rest_at ps i p h is b e =
+      ap rest (drop-cons ps i p h ∙ ap (λ x. x ∷ drop (suc i) ps) (sym is) ∙ ap (λ k. p ∷ drop k ps) (sym (add-one i)))
+      ∙ by_own b e
+    where
+      by_own : (b : Bool) → own p ≡ b → lines s (cond (own p) (p ∷ filter own (drop (i + 1) ps)) (filter own (drop (i + 1) ps))) ≡ cond b (with_line p (s p) (rest (drop (i + 1) ps))) (rest (drop (i + 1) ps))
+      by_own true t = ap (λ c. lines s (cond c (p ∷ filter own (drop (i + 1) ps)) (filter own (drop (i + 1) ps)))) t
+      by_own false t = ap (λ c. lines s (cond c (p ∷ filter own (drop (i + 1) ps)) (filter own (drop (i + 1) ps)))) t
+
+-- of nobody nothing is told, and of others the lines
+pub told_lines : (s : Proc → Option Entry) (ps : List Proc) (ls : List Local) → lines s ps ≡ Some ls → length ls ≡ 0 → told s ps ≡ None
+told_lines s [] ls h e = refl
+told_lines s (p ∷ ps) ls h e = none_left (s p) (lines s ps) ls h e
+  where
+    none_left : (o : Option Entry) (x : Option (List Local)) (ls : List Local) → with_line p o x ≡ Some ls → length ls ≡ 0 → with_line p o x ≡ None
+    none_left None x ls h e = refl
+    none_left (Some f) None ls h e = refl
+    none_left (Some f) (Some xs) [] h e = cc
+    none_left (Some f) (Some xs) (l ∷ ls) h e = cc
+
+told_none : (s : Proc → Option Entry) (ps : List Proc) → lines s ps ≡ None → told s ps ≡ None
+told_none s [] h = refl
+told_none s (p ∷ ps) h = h
+
+-- how each process stands, as a table tells that looks at the fence, and the own processes
+abbrev pub stands_with : Known → Option (Bor Fence) → Option (Bor Local) → Proc → Option Entry
+stands_with k fence line = instead (option_map (λ l. l.now) line) (entry_with (known_fence (option_map (λ f. f.now) fence)) k.fences.ends)
+
+abbrev pub own_at : Known → Proc → Bool
+own_at k p = home_of k.jobs p == k.node
+
+module _ (s : Proc → Option Entry) (own : Proc → Bool) (ps : List Proc) (ls : List Local) (i : ℕ) (p : Proc) where
+  pub skipped : rest s own ps ≡ before ls (rest s own (drop i ps)) → i < length ps → p ≡ get_or ps i p → own p ≡ false
+      → rest s own ps ≡ before ls (rest s own (drop (i + 1) ps))
+  skipped so_far h is e = so_far ∙ ap (before ls) (rest_at s own ps i p h is false e)
+
+  pub added : (new : List Local) (e : Entry) → rest s own ps ≡ before ls (rest s own (drop i ps)) → i < length ps → p ≡ get_or ps i p → own p ≡ true → s p ≡ Some e
+      → new ≡ ls ++ local_of p e ∷ [] → rest s own ps ≡ before new (rest s own (drop (i + 1) ps))
+  added new e so_far h is mine there pushed =
+      so_far ∙ ap (before ls) (rest_at s own ps i p h is true mine)
+      ∙ ap (λ o. before ls (with_line p o (rest s own (drop (i + 1) ps)))) there
+      ∙ before_more ls p e (rest s own (drop (i + 1) ps))
+      ∙ ap (λ xs. before xs (rest s own (drop (i + 1) ps))) (sym pushed)
+
+  pub stopped : rest s own ps ≡ before ls (rest s own (drop i ps)) → i < length ps → p ≡ get_or ps i p → own p ≡ true → s p ≡ None
+      → None ≡ told s (filter own ps)
+  stopped so_far h is mine none =
+      sym (told_none s (filter own ps) (so_far ∙ ap (before ls) (rest_at s own ps i p h is true mine ∙ ap (λ o. with_line p o (rest s own (drop (i + 1) ps))) none)))
+
+told_some : (s : Proc → Option Entry) (ps : List Proc) (ls : List Local) → lines s ps ≡ Some ls → (length ls ≡ 0 → ⊥) → told s ps ≡ Some ls
+told_some s [] ls h some = absurd (some (sym (ap length_of h)))
+  where
+    length_of : Option (List Local) → ℕ
+    length_of None = 0
+    length_of (Some xs) = length xs
+told_some s (p ∷ ps) ls h some = h
+
+all_made : (s : Proc → Option Entry) (own : Proc → Bool) (ps : List Proc) (ls : List Local) (i : ℕ) → rest s own ps ≡ before ls (rest s own (drop i ps)) → length ps ≤ i → rest s own ps ≡ Some ls
+all_made s own ps ls i so_far h = so_far ∙ ap (λ xs. before ls (rest s own xs)) (drop-all i ps h) ∙ ap Some (append_empty ls)
+
+pub nobody_told : (s : Proc → Option Entry) (own : Proc → Bool) (ps : List Proc) (ls : List Local) (i : ℕ) → rest s own ps ≡ before ls (rest s own (drop i ps)) → length ps ≤ i → length ls ≡ 0 → None ≡ told s (filter own ps)
+nobody_told s own ps ls i so_far h none = sym (told_lines s (filter own ps) ls (all_made s own ps ls i so_far h) none)
+
+pub all_told : (s : Proc → Option Entry) (own : Proc → Bool) (ps : List Proc) (ls : List Local) (i : ℕ) → rest s own ps ≡ before ls (rest s own (drop i ps)) → length ps ≤ i → (length ls ≡ 0 → ⊥) → Some ls ≡ told s (filter own ps)
+all_told s own ps ls i so_far h some = sym (told_some s (filter own ps) ls (all_made s own ps ls i so_far h) some)
+
+-- ---- whether there are all lines
+
+is_some_line : (p : Proc) (e : Entry) (o : Option (List Local)) → is_some (with_line p (Some e) o) ≡ is_some o
+is_some_line p e None = refl
+is_some_line p e (Some ls) = refl
+
+module _ (s : Proc → Option Entry) (own : Proc → Bool) (ps : List Proc) (i : ℕ) (p : Proc) where
+  pub whole_skipped : is_some (rest s own ps) ≡ is_some (rest s own (drop i ps)) → i < length ps → p ≡ get_or ps i p → own p ≡ false
+      → is_some (rest s own ps) ≡ is_some (rest s own (drop (i + 1) ps))
+  whole_skipped so_far h is e = so_far ∙ ap is_some (rest_at s own ps i p h is false e)
+
+  pub whole_more : (e : Entry) → is_some (rest s own ps) ≡ is_some (rest s own (drop i ps)) → i < length ps → p ≡ get_or ps i p → own p ≡ true → s p ≡ Some e
+      → is_some (rest s own ps) ≡ is_some (rest s own (drop (i + 1) ps))
+  whole_more e so_far h is mine there =
+      so_far ∙ ap is_some (rest_at s own ps i p h is true mine ∙ ap (λ o. with_line p o (rest s own (drop (i + 1) ps))) there)
+      ∙ is_some_line p e (rest s own (drop (i + 1) ps))
+
+  pub whole_stopped : is_some (rest s own ps) ≡ is_some (rest s own (drop i ps)) → i < length ps → p ≡ get_or ps i p → own p ≡ true → s p ≡ None
+      → false ≡ is_some (rest s own ps)
+  whole_stopped so_far h is mine none =
+      sym (so_far ∙ ap is_some (rest_at s own ps i p h is true mine ∙ ap (λ o. with_line p o (rest s own (drop (i + 1) ps))) none))
+
+pub whole_made : (s : Proc → Option Entry) (own : Proc → Bool) (ps : List Proc) (i : ℕ) → is_some (rest s own ps) ≡ is_some (rest s own (drop i ps)) → length ps ≤ i → true ≡ is_some (rest s own ps)
+whole_made s own ps i so_far h = sym (so_far ∙ ap (λ xs. is_some (rest s own xs)) (drop-all i ps h))

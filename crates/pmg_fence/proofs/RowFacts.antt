@@ -1,0 +1,81 @@
+-- Headers of one fence in memory, and fences of one signature.
+use Rattle.std.proofs.Common.{◌≡◌, ℕ, suc, ◌+◌, ◌<◌, Bool, true, false, cond, List, ◌∷◌, length, get_or, drop, Option, Some, None, is_some, refl, sym, ap, ◌∙◌, Bor, add-one, drop-cons}
+use Rattle.std.specs.FinMap as finite
+use Rattle.std.specs.List.{find}
+use Rattle.std.specs.FinMap.{nat_cmp-IsAntisymmetric}
+use Rattle.std.specs.Option.{option_map, option_copied}
+use Rattle.std.specs.Ordering.{nat_cmp}
+use Rattle.std.specs.Cmp.{nat_cmp_total}
+use Rattle.pmg_value.specs.Rows.{rows_of}
+use Rattle.pmg_value.proofs.RowLemmas.{at_key, insert_same}
+use Rattle.pmg_value.specs.Signatures.{Signature}
+use Rattle.pmg_frame.specs.FenceOrder.{signature_cmp, signature_total}
+use Rattle.pmg_frame.proofs.FenceOrderLemmas.{signatures_exact}
+use Rattle.pmg_frame.specs.Fences.{Header}
+use Rattle.pmg_frame.specs.declared.local.Local.{Local}
+use Rattle.pmg_value.specs.declared.process.Proc.{Proc}
+use Rattle.pmg_fence.specs.Codes.{Headers, Instances, AllSeries}
+use Rattle.pmg_fence.specs.Tables.{Fence, Series, entry_in}
+use Rattle.pmg_fence.specs.Entering.{same_proc}
+use Rattle.pmg_fence.specs.Changes.{first_of}
+use Rattle.pmg_fence.proofs.Trees.{read, get_at, same_option}
+
+is_some_map : {A B : Type 0} (f : A → B) (o : Option A) → is_some (option_map f o) ≡ is_some o
+is_some_map f None = refl
+is_some_map f (Some x) = refl
+
+-- whether a header is there
+pub is_there : (rows : List (ℕ × Header)) (m : Headers) (k : ℕ) (found : Option (Bor Header)) (b : Bool) → rows_of (λ h. h.locals) rows ≡ m
+    → option_copied found ≡ at_key nat_cmp k rows → is_some found ≡ b → is_some (finite.get m k) ≡ b
+is_there rows m k found b same e is =
+    ap is_some (sym (read nat_cmp_total nat_cmp-IsAntisymmetric (λ (h : Header). h.locals) rows m k found same e))
+    ∙ is_some_map (λ (h : Bor Header). h.now.locals) found ∙ is
+
+kept_by : (m : Headers) (k : ℕ) (ls : List Local) (o : Option (List Local)) → finite.get m k ≡ o → is_some o ≡ true → m ≡ finite.insert m k (first_of o ls)
+kept_by m k ls (Some first) e h = sym (insert_same nat_cmp_total nat_cmp-IsAntisymmetric m k first e)
+kept_by m k ls None e h = absurd cc
+
+-- a header is there already
+pub first_stays : (m : Headers) (k node : ℕ) (ls : List Local) → k ≡ node → is_some (finite.get m k) ≡ true → m ≡ finite.insert m node (first_of (finite.get m node) ls)
+first_stays m k node ls same h = kept_by m k ls (finite.get m k) refl h ∙ ap (λ n. finite.insert m n (first_of (finite.get m n) ls)) same
+
+new_by : (o : Option (List Local)) (ls : List Local) → is_some o ≡ false → ls ≡ first_of o ls
+new_by None ls h = refl
+new_by (Some x) ls h = absurd cc
+
+-- and is new
+pub first_comes : (m n : Headers) (k node : ℕ) (ls : List Local) → k ≡ node → is_some (finite.get m k) ≡ false → n ≡ finite.insert m k ls → n ≡ finite.insert m node (first_of (finite.get m node) ls)
+first_comes m n k node ls same h e = e ∙ ap (finite.insert m k) (new_by (finite.get m k) ls h) ∙ ap (λ j. finite.insert m j (first_of (finite.get m j) ls)) same
+
+-- ---- lines of a header
+
+-- the next line is the process's
+pub line_here : (q : Proc) (ls : List Local) (i : ℕ) (l : Local) → i < length ls → l ≡ get_or ls i l → same_proc q l.proc ≡ true
+    → entry_in q (Some (drop i ls)) ≡ Some (record { state = l.state; level = l.level })
+line_here q ls i l h is e =
+    ap (λ xs. entry_in q (Some xs)) (drop-cons ls i l h ∙ ap (λ x. x ∷ drop (suc i) ls) (sym is))
+    ∙ ap (λ b. option_map (λ (x : Local). record { state = x.state; level = x.level }) (cond b (Some l) (find (λ x. same_proc q x.proc) (drop (suc i) ls)))) e
+
+-- or another's
+pub line_later : (q : Proc) (ls : List Local) (i : ℕ) (l : Local) → i < length ls → l ≡ get_or ls i l → same_proc q l.proc ≡ false
+    → entry_in q (Some (drop i ls)) ≡ entry_in q (Some (drop (i + 1) ls))
+line_later q ls i l h is e =
+    ap (λ xs. entry_in q (Some xs)) (drop-cons ls i l h ∙ ap (λ x. x ∷ drop (suc i) ls) (sym is))
+    ∙ ap (λ b. option_map (λ (x : Local). record { state = x.state; level = x.level }) (cond b (Some l) (find (λ x. same_proc q x.proc) (drop (suc i) ls)))) e
+    ∙ ap (λ k. entry_in q (Some (drop k ls))) (sym (add-one i))
+
+-- ---- fences of one signature
+
+pub fence_is : (rows : List (ℕ × Fence)) (m : Instances) (k : ℕ) (x : Fence) → rows_of (λ f. f) rows ≡ m → at_key nat_cmp k rows ≡ Some x → finite.get m k ≡ Some x
+fence_is rows m k x same e = get_at nat_cmp_total nat_cmp-IsAntisymmetric (λ f. f) rows m k same ∙ same_option (at_key nat_cmp k rows) ∙ e
+
+pub fence_is_none : (rows : List (ℕ × Fence)) (m : Instances) (k : ℕ) → rows_of (λ f. f) rows ≡ m → None ≡ at_key nat_cmp k rows → finite.get m k ≡ None
+fence_is_none rows m k same e = get_at nat_cmp_total nat_cmp-IsAntisymmetric (λ f. f) rows m k same ∙ same_option (at_key nat_cmp k rows) ∙ sym e
+
+-- ---- fences of all signatures
+
+pub series_is : (rows : List (Signature × Series)) (m : AllSeries) (g : Signature) (x : Series) → rows_of (λ s. s) rows ≡ m → at_key signature_cmp g rows ≡ Some x → finite.get m g ≡ Some x
+series_is rows m g x same e = get_at signature_total signatures_exact (λ s. s) rows m g same ∙ same_option (at_key signature_cmp g rows) ∙ e
+
+pub series_is_none : (rows : List (Signature × Series)) (m : AllSeries) (g : Signature) → rows_of (λ s. s) rows ≡ m → None ≡ at_key signature_cmp g rows → finite.get m g ≡ None
+series_is_none rows m g same e = get_at signature_total signatures_exact (λ s. s) rows m g same ∙ same_option (at_key signature_cmp g rows) ∙ sym e

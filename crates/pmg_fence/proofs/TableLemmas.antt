@@ -1,0 +1,89 @@
+-- What a change of a fence leaves.
+use Rattle.std.proofs.Common.{◌≡◌, ℕ, Bool, true, false, ◌&&◌, cond, Option, Some, is_some, refl, sym, ap, ◌∙◌}
+use Rattle.std.specs.FinMap as finite
+use Rattle.std.specs.FinMap.{nat_cmp-IsAntisymmetric}
+use Rattle.std.specs.Option.{unwrap_or}
+use Rattle.std.specs.Ordering.{nat_cmp, eq_by_cmp}
+use Rattle.std.specs.Cmp.{Equal-is, nat_cmp_total}
+use Rattle.pmg_value.specs.Signatures.{Signature, FenceName}
+use Rattle.pmg_value.specs.declared.process.Proc.{Proc}
+use Rattle.pmg_frame.specs.FenceOrder.{signature_total}
+use Rattle.pmg_frame.proofs.FenceOrderLemmas.{signatures_exact}
+use Rattle.pmg_fence.specs.Entering.{same_signature}
+use Rattle.pmg_fence.specs.Tables.{Numbers, Fence, Series, Fences, no_fence, no_series, series_at, has_name, fence_at, count_of}
+use Rattle.pmg_fence.specs.Changes.{placed}
+
+-- the test of two instances
+abbrev pub same_instance : ℕ → ℕ → Bool
+same_instance = eq_by_cmp nat_cmp
+
+-- the test of two names
+abbrev pub same_name : FenceName → FenceName → Bool
+same_name x f = same_signature x.signature f.signature && same_instance x.instance f.instance
+
+pub signature_exact : (g h : Signature) → same_signature g h ≡ true → g ≡ h
+signature_exact g h e = signatures_exact g h ((Equal-is _).0 e)
+
+both_true : (a b : Bool) → (a && b) ≡ true → (a ≡ true) × (b ≡ true)
+both_true true b e = (refl, e)
+both_true false b e = absurd cc
+
+pub name_exact : (x f : FenceName) → same_name x f ≡ true → x ≡ f
+name_exact x f e =
+    let parts = both_true (same_signature x.signature f.signature) (same_instance x.instance f.instance) e in
+    let same = signature_exact x.signature f.signature parts.0 in
+    let number : x.instance ≡ f.instance = nat_cmp-IsAntisymmetric x.instance f.instance ((Equal-is _).0 parts.1) in
+    λ i. record { signature = same i; instance = number i }
+
+unwrap_cond : {A : Type 0} (b : Bool) (x : A) (o : Option A) (d : A) → unwrap_or (cond b (Some x) o) d ≡ cond b x (unwrap_or o d)
+unwrap_cond true x o d = refl
+unwrap_cond false x o d = refl
+
+module _ (t : Fences) (f : FenceName) (fence : Fence) (counts : Numbers) where
+  -- what is known of the fence's signature then
+  abbrev pub series_placed : Series
+  series_placed = record { counts = counts; fences = finite.insert (series_at t f.signature).fences f.instance fence }
+
+  pub series-placed : (g : Signature) → series_at (placed t f fence counts) g ≡ cond (same_signature g f.signature) series_placed (series_at t g)
+  unfolding placed series_at
+  series-placed g =
+      ap (λ o. unwrap_or o no_series) (finite.get-insert signature_total t.series f.signature series_placed g)
+      ∙ unwrap_cond (same_signature g f.signature) series_placed (finite.get t.series g) no_series
+
+  get_placed : (x : FenceName) (b : Bool) → same_signature x.signature f.signature ≡ b
+      → finite.get (cond b series_placed (series_at t x.signature)).fences x.instance
+      ≡ cond (b && same_instance x.instance f.instance) (Some fence) (finite.get (series_at t x.signature).fences x.instance)
+  get_placed x false e = refl
+  get_placed x true e =
+      finite.get-insert nat_cmp_total (series_at t f.signature).fences f.instance fence x.instance
+      ∙ ap (λ g. cond (same_instance x.instance f.instance) (Some fence) (finite.get (series_at t g).fences x.instance)) (sym (signature_exact x.signature f.signature e))
+
+  pub fences-placed : (x : FenceName) → finite.get (series_at (placed t f fence counts) x.signature).fences x.instance
+      ≡ cond (same_name x f) (Some fence) (finite.get (series_at t x.signature).fences x.instance)
+  fences-placed x = ap (λ (s : Series). finite.get s.fences x.instance) (series-placed x.signature) ∙ get_placed x (same_signature x.signature f.signature) refl
+
+  pub fence-placed : (x : FenceName) → fence_at (placed t f fence counts) x ≡ cond (same_name x f) fence (fence_at t x)
+  unfolding fence_at
+  fence-placed x =
+      ap (λ o. unwrap_or o no_fence) (fences-placed x)
+      ∙ unwrap_cond (same_name x f) fence (finite.get (series_at t x.signature).fences x.instance) no_fence
+
+  pub name-placed : (x : FenceName) → has_name (placed t f fence counts) x ≡ cond (same_name x f) true (has_name t x)
+  unfolding has_name
+  name-placed x = ap is_some (fences-placed x) ∙ is_some_cond (same_name x f) (finite.get (series_at t x.signature).fences x.instance)
+    where
+      is_some_cond : (b : Bool) (o : Option Fence) → is_some (cond b (Some fence) o) ≡ cond b true (is_some o)
+      is_some_cond true o = refl
+      is_some_cond false o = refl
+
+  pub count-placed : (g : Signature) (p : Proc) → count_of (placed t f fence counts) g p ≡ cond (same_signature g f.signature) (unwrap_or (finite.get counts p) 0) (count_of t g p)
+  unfolding count_of
+  count-placed g p = ap (λ (s : Series). unwrap_or (finite.get s.counts p) 0) (series-placed g) ∙ by_test (same_signature g f.signature)
+    where
+      by_test : (b : Bool) → unwrap_or (finite.get (cond b series_placed (series_at t g)).counts p) 0 ≡ cond b (unwrap_or (finite.get counts p) 0) (unwrap_or (finite.get (series_at t g).counts p) 0)
+      by_test true = refl
+      by_test false = refl
+
+  pub ends-placed : (placed t f fence counts).ends ≡ t.ends
+  unfolding placed
+  ends-placed = refl

@@ -1,0 +1,61 @@
+-- Small trees in memory, as finite maps.
+use Rattle.std.proofs.Common.{◌≡◌, Bool, true, false, cond, List, Option, Some, None, is_some, IsSome, refl, sym, ap, ◌∙◌, Bor, MutBor}
+use Rattle.std.specs.FinMap as finite
+use Rattle.std.specs.FinMap.{IsAntisymmetric}
+use Rattle.std.specs.BTreeMap.{is_at}
+use Rattle.std.specs.Option.{option_map, option_copied, option_copied_mut}
+use Rattle.std.specs.Cmp.{IsTotalOrder, Equal-is, eq_by_cmp_equiv}
+use Rattle.std.specs.Ordering.{eq_by_cmp}
+use Rattle.std.specs.declared.cmp.Ordering.{Ordering}
+use Rattle.pmg_value.specs.Rows.{rows_of}
+use Rattle.pmg_value.proofs.RowLemmas.{at_key, rows_with, rows_without, read_rows, get-rows_of}
+
+pub found_is : {V : Type 0} (o : Option (MutBor V)) (kept : MutBor V) (x : Option V) → o ≡ Some kept → option_copied_mut o ≡ x → x ≡ Some kept.now
+found_is o kept x some e = sym e ∙ ap option_copied_mut some
+
+pub some_found : {A : Type 0} {x : Option A} {a : A} → x ≡ Some a → IsSome x
+some_found e = ap is_some e
+
+module _ {K V X : Type 0} {R : K → K → Ordering} (o : IsTotalOrder R) (exact : IsAntisymmetric R) (f : V → X) where
+  pub put_in : (old new : List (K × V)) (m : finite.FinMap R X) (k : K) (v : V) → rows_of f old ≡ m
+      → ((q : K) → at_key R q new ≡ cond (is_at (R k) q) (Some v) (at_key R q old)) → rows_of f new ≡ finite.insert m k (f v)
+  put_in old new m k v same updates = rows_with o exact f old new k v updates ∙ ap (λ (t : finite.FinMap R X). finite.insert t k (f v)) same
+
+  pub taken_out : (old new : List (K × V)) (m : finite.FinMap R X) (k : K) → rows_of f old ≡ m
+      → ((q : K) → at_key R q new ≡ cond (is_at (R k) q) None (at_key R q old)) → rows_of f new ≡ finite.remove m k
+  taken_out old new m k same updates = rows_without o exact f old new k updates ∙ ap (λ (t : finite.FinMap R X). finite.remove t k) same
+
+  -- what a look-up gives
+  pub read : (rows : List (K × V)) (m : finite.FinMap R X) (k : K) (found : Option (Bor V)) → rows_of f rows ≡ m → option_copied found ≡ at_key R k rows → option_map (λ v. f v.now) found ≡ finite.get m k
+  read = read_rows o exact f
+
+  pub get_at : (rows : List (K × V)) (m : finite.FinMap R X) (k : K) → rows_of f rows ≡ m → finite.get m k ≡ option_map f (at_key R k rows)
+  get_at rows m k same = sym (ap (λ (t : finite.FinMap R X). finite.get t k) same) ∙ get-rows_of o exact f rows k
+
+-- a value that is read as it is
+pub copied_there : {V : Type 0} (found : Option (Bor V)) → option_map (λ v. v.now) found ≡ option_copied found
+copied_there None = refl
+copied_there (Some v) = refl
+
+pub same_option : {V : Type 0} (o : Option V) → option_map (λ v. v) o ≡ o
+same_option None = refl
+same_option (Some v) = refl
+
+-- ---- a value, given back
+
+itself : {K : Type 0} {R : K → K → Ordering} → IsTotalOrder R → (k : K) → eq_by_cmp R k k ≡ true
+itself o k = (eq_by_cmp_equiv o).refl k
+
+module _ {K X : Type 0} {R : K → K → Ordering} (o : IsTotalOrder R) (exact : IsAntisymmetric R) where
+  pub get_put : (m : finite.FinMap R X) (k : K) (x : X) → finite.get (finite.insert m k x) k ≡ Some x
+  get_put m k x = finite.get-insert o m k x k ∙ ap (λ b. cond b (Some x) (finite.get m k)) (itself o k)
+
+  shadowed : (b : Bool) (x v : X) (y : Option X) → (b ≡ true → Some x ≡ y) → cond b (Some x) (cond b (Some v) y) ≡ y
+  shadowed true x v y same = same refl
+  shadowed false x v y same = refl
+
+  pub put_again : (m : finite.FinMap R X) (k : K) (v w : X) → finite.get m k ≡ Some w → finite.insert (finite.insert m k v) k w ≡ m
+  put_again m k v w e = finite.same_map o exact (finite.insert (finite.insert m k v) k w) m (λ q.
+      finite.get-insert o (finite.insert m k v) k w q
+      ∙ ap (cond (eq_by_cmp R q k) (Some w)) (finite.get-insert o m k v q)
+      ∙ shadowed (eq_by_cmp R q k) w v (finite.get m q) (λ t. sym e ∙ ap (finite.get m) (sym (exact q k ((Equal-is _).0 t)))))

@@ -1,0 +1,87 @@
+-- How what a node keeps of fences changes.
+use Rattle.std.specs.Prelude.{ℕ, suc, nat_le, List, [], ◌∷◌, ◌++◌, Option, Some, None, Result, Ok, Err, if◌then◌else◌}
+use Rattle.std.specs.FinMap as finite
+use Rattle.std.specs.List.{flat_map}
+use Rattle.pmg_value.specs.Signatures.{Signature, FenceName}
+use Rattle.pmg_value.specs.declared.process.Proc.{Proc}
+use Rattle.pmg_value.specs.declared.refusal.Refusal.{Refusal}
+use Rattle.pmg_value.specs.declared.refusal.Refusal.TheVariants as refusals
+use Rattle.pmg_frame.specs.Fences.{Header, header}
+use Rattle.pmg_frame.specs.declared.local.Local.{Local}
+use Rattle.pmg_jobinfo.specs.Jobs.{Jobs}
+use Rattle.pmg_fence.specs.Tables.{Numbers, Fence, Fences, fence_of, series_at, has_name, fence_at, count_of, own_header, names_of}
+use Rattle.pmg_fence.specs.Codes.{Known}
+
+-- Each change of a fence: this is known of it now, and these are the counts of its signature.
+unfoldable pub placed : Fences → FenceName → Fence → Numbers → Fences
+placed t f fence counts = record {
+  series = finite.insert t.series f.signature (record { counts = counts; fences = finite.insert (series_at t f.signature).fences f.instance fence });
+  ends = t.ends;
+}
+
+abbrev pub with_fence : Fences → FenceName → Fence → Fences
+with_fence t f fence = placed t f fence (series_at t f.signature).counts
+
+-- a name is learned
+abbrev pub learned : Fences → FenceName → Fences
+learned t f = with_fence t f (fence_at t f)
+
+-- the name of the fence of the signature that the process enters next
+abbrev pub next_name : Fences → Signature → Proc → FenceName
+next_name t g p = fence_of g (suc (count_of t g p))
+
+-- what is known of the fence, once the process has entered at the level
+abbrev pub fence_entered : Fence → Proc → ℕ → Fence
+fence_entered fence p level = record { levels = finite.insert fence.levels p level; headers = fence.headers }
+
+-- a process enters at its level
+abbrev pub entered_by : Fences → Signature → Proc → ℕ → Fences
+entered_by t g p level =
+    placed t (next_name t g p) (fence_entered (fence_at t (next_name t g p)) p level) (finite.insert (series_at t g).counts p (suc (count_of t g p)))
+
+-- a process ends at its level
+abbrev pub ended_by : Fences → Proc → ℕ → Fences
+ended_by t p level = record { series = t.series; ends = finite.insert t.ends p level }
+
+abbrev pub first_of : Option (List Local) → List Local → List Local
+first_of None locals = locals
+first_of (Some first) locals = first
+
+-- what is known of the fence, once the node's header has come: the first of each node is kept
+abbrev pub fence_told : Fence → ℕ → List Local → Fence
+fence_told fence node locals = record { levels = fence.levels; headers = finite.insert fence.headers node (first_of (finite.get fence.headers node) locals) }
+
+-- a header comes, and with it the fence's name
+abbrev pub with_header : Fences → Header → Fences
+with_header t h = with_fence t h.name (fence_told (fence_at t h.name) h.node h.locals)
+
+-- ---- own headers
+
+-- the own header of a fence whose name the node has, once it exists
+unfoldable pub present : Jobs → ℕ → Fences → FenceName → Option (List Local)
+present jobs node t f = if has_name t f then own_header jobs node t f else None
+
+abbrev pub newly : ℕ → FenceName → Option (List Local) → Option (List Local) → List Header
+newly node f (Some before) now = []
+newly node f None None = []
+newly node f None (Some locals) = header node f locals ∷ []
+
+-- the own header of the fence, where it has come to exist
+unfoldable pub news : Jobs → ℕ → Fences → Fences → FenceName → List Header
+news jobs node old new f = newly node f (present jobs node old f) (present jobs node new f)
+
+-- what the table holds once one fence has changed: its own header waits where it has come to exist
+abbrev pub changed_at : Known → FenceName → Fences → Known
+changed_at k f t = record { jobs = k.jobs; node = k.node; fences = t; waiting = k.waiting ++ news k.jobs k.node k.fences t f }
+
+-- and once any of them may have changed: so does that of each
+abbrev pub changed : Known → Fences → Known
+changed k t = record { jobs = k.jobs; node = k.node; fences = t; waiting = k.waiting ++ flat_map (news k.jobs k.node k.fences t) (names_of k.fences) }
+
+-- without the header that waits in front
+abbrev pub taken : Known → List Header → Known
+taken k rest = record { jobs = k.jobs; node = k.node; fences = k.fences; waiting = rest }
+
+-- The number of the process's next entry, which is the instance that it enters; past the last there is none.
+abbrev pub enter_answer : Fences → Signature → Proc → Result ℕ Refusal
+enter_answer t g p = if nat_le 4294967295 (count_of t g p) then Err refusals.TooMany else Ok (suc (count_of t g p))

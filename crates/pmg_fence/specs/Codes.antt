@@ -1,0 +1,57 @@
+-- What a table holds, as a model's value.
+use Rattle.std.specs.Prelude.{ℕ, List, refl}
+use Rattle.std.specs.Coded.{Coded, code_by, coded×, coded_ℕ, coded_list}
+use Rattle.std.specs.FinMap as finite
+use Rattle.std.specs.Ordering.{nat_cmp}
+use Rattle.pmg_value.specs.Process.{coded_proc}
+use Rattle.pmg_frame.specs.FenceOrder.{signature_cmp}
+use Rattle.pmg_frame.specs.Fences.{Header, coded_local, coded_signature, coded_header}
+use Rattle.pmg_frame.specs.declared.local.Local.{Local}
+use Rattle.pmg_jobinfo.specs.Jobs.{Jobs, coded_jobs}
+use Rattle.pmg_fence.specs.Tables.{Numbers, Fence, Series, Fences}
+
+abbrev pub coded_numbers : Coded Numbers
+coded_numbers = finite.code coded_proc coded_ℕ
+
+-- the headers of other nodes, by node
+abbrev pub Headers : Type 0
+Headers = finite.FinMap nat_cmp (List Local)
+
+abbrev pub coded_headers : Coded Headers
+coded_headers = finite.code coded_ℕ (coded_list coded_local)
+
+abbrev pub coded_fence : Coded Fence
+coded_fence = code_by (Numbers × Headers) (coded× coded_numbers coded_headers) (λ f. (f.levels, f.headers)) (λ p. record { levels = p.0; headers = p.1 }) (λ _. refl)
+
+-- the fences of one signature, by instance
+abbrev pub Instances : Type 0
+Instances = finite.FinMap nat_cmp Fence
+
+abbrev pub coded_instances : Coded Instances
+coded_instances = finite.code coded_ℕ coded_fence
+
+abbrev pub coded_series : Coded Series
+coded_series = code_by (Numbers × Instances) (coded× coded_numbers coded_instances) (λ s. (s.counts, s.fences)) (λ p. record { counts = p.0; fences = p.1 }) (λ _. refl)
+
+-- all fences, by signature
+abbrev pub AllSeries : Type 0
+AllSeries = finite.FinMap signature_cmp Series
+
+abbrev pub coded_all_series : Coded AllSeries
+coded_all_series = finite.code coded_signature coded_series
+
+abbrev pub coded_fences : Coded Fences
+coded_fences = code_by (AllSeries × Numbers) (coded× coded_all_series coded_numbers) (λ t. (t.series, t.ends)) (λ p. record { series = p.0; ends = p.1 }) (λ _. refl)
+
+-- What a table holds: the jobs of the group and its own node; the fences; and the own headers that have come to exist and were
+-- not taken yet, the one that came first in front.
+pub record Known : Type 0 where
+  pub jobs : Jobs
+  pub node : ℕ
+  pub fences : Fences
+  pub waiting : List Header
+
+abbrev pub coded_known : Coded Known
+coded_known =
+    code_by (Jobs × (ℕ × (Fences × List Header))) (coded× coded_jobs (coded× coded_ℕ (coded× coded_fences (coded_list coded_header))))
+    (λ k. (k.jobs, (k.node, (k.fences, k.waiting)))) (λ p. record { jobs = p.0; node = p.1.0; fences = p.1.1.0; waiting = p.1.1.1 }) (λ _. refl)

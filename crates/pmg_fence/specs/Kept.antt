@@ -1,0 +1,80 @@
+-- What the small tables of a fence table keep.
+use Rattle.std.specs.Prelude.{ℕ, Bool, ◌==◌, List, ◌++◌, Option, Some, None, if◌then◌else◌}
+use Rattle.std.specs.List.{filter}
+use Rattle.std.specs.FinMap as finite
+use Rattle.std.specs.Option.{unwrap_or}
+use Rattle.pmg_value.specs.Signatures.{Signature, FenceName}
+use Rattle.pmg_value.specs.declared.process.Proc.{Proc}
+use Rattle.pmg_frame.specs.Fences.{Header, in_order}
+use Rattle.pmg_frame.specs.declared.local.Local.{Local}
+use Rattle.pmg_fence.specs.declared.change.Change.{Change}
+use Rattle.pmg_fence.specs.declared.change.Change.TheVariants as changes
+use Rattle.pmg_fence.specs.declared.entry.Entry.{Entry}
+use Rattle.pmg_fence.specs.Entering.{same_proc, entry_by, locals_of, told}
+use Rattle.pmg_fence.specs.Tables.{Numbers, Fence, Series, Fences, no_fence, no_series, series_at, fence_at, entry_at, entry_in}
+use Rattle.pmg_fence.specs.Codes.{Instances, AllSeries, Known}
+use Rattle.pmg_fence.specs.Changes.{placed, fence_entered, fence_told, present, newly}
+use Rattle.pmg_jobinfo.specs.Jobs.{Jobs, home_of}
+
+-- the numbers, with what the process had before
+abbrev pub restored : Numbers → Proc → Option ℕ → Numbers
+restored m p None = finite.remove m p
+restored m p (Some n) = if finite.contains_key m p then finite.insert m p n else m
+
+abbrev pub fence_changed : Fence → Change → Fence
+fence_changed fence changes.Learned = fence
+fence_changed fence (changes.Entered p level) = fence_entered fence p level
+fence_changed fence (changes.Told h) = fence_told fence h.node h.locals
+
+-- an entry is the process's k-th
+abbrev pub counts_changed : Numbers → ℕ → Change → Numbers
+counts_changed counts k changes.Learned = counts
+counts_changed counts k (changes.Entered p level) = finite.insert counts p k
+counts_changed counts k (changes.Told h) = counts
+
+abbrev pub fence_in : Instances → ℕ → Fence
+fence_in fences k = unwrap_or (finite.get fences k) no_fence
+
+unfoldable pub series_changed : Series → ℕ → Change → Series
+series_changed s k change = record { counts = counts_changed s.counts k change; fences = finite.insert s.fences k (fence_changed (fence_in s.fences k) change) }
+
+abbrev pub series_in : AllSeries → Signature → Series
+series_in all g = unwrap_or (finite.get all g) no_series
+
+-- the table once the fence has changed
+abbrev pub placed_by : Fences → FenceName → Change → Fences
+placed_by t f change = placed t f (fence_changed (fence_at t f) change) (counts_changed (series_at t f.signature).counts f.instance change)
+
+-- how a process stands to a fence, where that of one process has come to be what is told of it
+abbrev pub instead : Option Local → (Proc → Option Entry) → Proc → Option Entry
+instead None stands q = stands q
+instead (Some l) stands q = if same_proc q l.proc then Some (record { state = l.state; level = l.level }) else stands q
+
+-- how an own process stands to a fence of which this is known
+abbrev pub entry_with : Fence → Numbers → Proc → Option Entry
+entry_with fence ends p = entry_by (finite.get fence.levels p) (finite.get ends p)
+
+-- what is known of a fence that may not be there
+abbrev pub known_fence : Option Fence → Fence
+known_fence fence = unwrap_or fence no_fence
+
+-- the own participants of a fence of the signature
+abbrev pub own_of : Known → Signature → List Proc
+own_of k g = filter (λ p. home_of k.jobs p == k.node) (in_order g.participants)
+
+-- the own header that comes to exist once the process stands to the fence so
+abbrev pub told_with : Known → FenceName → Option Local → List Header
+told_with k f l = newly k.node f (present k.jobs k.node k.fences f) (told (instead l (entry_at k.fences f)) (locals_of k.jobs f k.node))
+
+-- the table, once the fence has changed and one process stands to it so
+abbrev pub changed_with : Known → FenceName → Change → Option Local → Known
+changed_with k f change l = record { jobs = k.jobs; node = k.node; fences = placed_by k.fences f change; waiting = k.waiting ++ told_with k f l }
+
+abbrev pub known_of : Jobs → ℕ → AllSeries → Numbers → List Header → Known
+known_of jobs node series ends waiting = record { jobs = jobs; node = node; fences = record { series = series; ends = ends }; waiting = waiting }
+
+-- how a participant stands to a fence of which this is known: an own one where there is something to tell of all of them,
+-- another one as its home's header tells
+abbrev pub told_by : Known → Fence → Bool → Proc → Option Entry
+told_by k fence whole q =
+    if home_of k.jobs q == k.node then (if whole then entry_with fence k.fences.ends q else None) else entry_in q (finite.get fence.headers (home_of k.jobs q))

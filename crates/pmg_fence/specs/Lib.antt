@@ -1,0 +1,6 @@
+pub mod Entering
+pub mod Tables
+pub mod Codes
+pub mod Changes
+pub mod Rules
+pub mod Kept

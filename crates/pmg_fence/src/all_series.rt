@@ -1,0 +1,74 @@
+ghost use Rattle.std.specs.Prelude.{◌≡◌, OnOk, OnErr};
+ghost use Rattle.std.specs.FinMap as finite;
+ghost use Rattle.std.specs.Option.{option_map};
+ghost use Rattle.pmg_fence.specs.Kept.{series_in, series_changed};
+
+use crate::change::Change;
+use crate::series::Series;
+use pmg_frame::Signature;
+use std::alloc::{AllocError, Global};
+use std::collections::BTreeMap;
+use std::marker::Model;
+
+/// The fences of a table, by their signature.
+#[derive(Debug, Drop)]
+pub struct AllSeries {
+    alloc: Global,
+    rows: BTreeMap<Signature, Series>,
+}
+
+impl Model for AllSeries {
+    ghost use Rattle.pmg_fence.specs.Codes as codes;
+
+    ghost Value = { codes.AllSeries };
+
+    ghost coded = { codes.coded_all_series };
+
+    ghost use Rattle.pmg_value.specs.Rows.{rows_of};
+
+    ghost view = { λ a. rows_of (λ s. s) a.rows.entries };
+}
+
+impl AllSeries {
+    /// No fences. It keeps the allocator.
+    pub fn new(alloc: Global) -> AllSeries
+        ensures { result ≡ finite.empty }
+    {
+        AllSeries {
+            alloc,
+            rows: BTreeMap::new(alloc),
+        }
+    }
+
+    /// The allocator that the table keeps.
+    pub fn allocator(&self) -> Global {
+        self.alloc
+    }
+
+    /// The fences of the signature.
+    pub fn get(&self, signature: &Signature) -> Option<&Series>
+        ensures { option_map (λ s. s.now) result ≡ finite.get self.now signature.now }
+    {
+        self.rows.get(signature)
+    }
+
+    /// Keeps what becomes known of the instance of the signature.
+    pub fn change(
+        &mut self,
+        signature: &Signature,
+        instance: u64,
+        change: Change,
+    ) -> Result<(), AllocError>
+        ensures ok { OnOk result (self.new ≡ finite.insert self.old signature.now (series_changed (series_in self.old signature.now) instance change)) }
+        ensures err { OnErr result (self.new ≡ self.old) }
+    {
+        if let Some(series) = self.rows.get_mut(signature) {
+            series.change(instance, change)?;
+            return Ok(());
+        }
+        let mut series = Series::new(self.alloc);
+        series.change(instance, change)?;
+        self.rows.insert(signature.copy()?, series)?;
+        Ok(())
+    }
+}

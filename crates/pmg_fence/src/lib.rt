@@ -1,0 +1,14 @@
+//! Fences of a node: who entered, what other nodes told, and when a fence is ready.
+#![tactic(auto)]
+
+mod all_series;
+mod change;
+mod entry;
+mod fence;
+mod headers;
+mod numbers;
+mod series;
+mod table;
+
+pub use entry::Entry;
+pub use table::Table;

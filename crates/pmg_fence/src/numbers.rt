@@ -1,0 +1,71 @@
+ghost use Rattle.std.specs.Prelude.{◌≡◌, IfOk, OnOk, OnErr};
+ghost use Rattle.std.specs.FinMap as finite;
+ghost use Rattle.pmg_fence.specs.Kept.{restored};
+
+use pmg_value::Proc;
+use std::alloc::{AllocError, Global};
+use std::collections::BTreeMap;
+use std::marker::Model;
+
+/// A number for each of some processes.
+#[derive(Debug, Drop)]
+pub struct Numbers {
+    rows: BTreeMap<Proc, u64>,
+}
+
+impl Model for Numbers {
+    ghost use Rattle.pmg_fence.specs.Tables as tables;
+
+    ghost Value = { tables.Numbers };
+
+    ghost use Rattle.pmg_fence.specs.Codes.{coded_numbers};
+
+    ghost coded = { coded_numbers };
+
+    ghost use Rattle.pmg_value.specs.Rows.{rows_of};
+
+    ghost view = { λ a. rows_of (λ n. n) a.rows.entries };
+}
+
+impl Numbers {
+    /// No numbers.
+    pub fn new(alloc: Global) -> Numbers
+        ensures { result ≡ finite.empty }
+    {
+        Numbers {
+            rows: BTreeMap::new(alloc),
+        }
+    }
+
+    /// The process's number.
+    pub fn get(&self, proc: &Proc) -> Option<u64>
+        ensures { result ≡ finite.get self.now proc.now }
+    {
+        self.rows.get(proc).copied()
+    }
+
+    /// Gives the process a number, and tells the one that it had.
+    pub fn insert(&mut self, proc: Proc, number: u64) -> Result<Option<u64>, AllocError>
+        ensures ok { OnOk result (self.new ≡ finite.insert self.old proc number) }
+        ensures before { IfOk result (λ b. b ≡ finite.get self.old proc) }
+        ensures err { OnErr result (self.new ≡ self.old) }
+    {
+        Ok(self.rows.insert(proc, number)?)
+    }
+
+    /// Gives the process the number back that it had before.
+    pub fn restore(&mut self, proc: &Proc, before: Option<u64>)
+        ensures { self.new ≡ restored self.old proc.now before }
+    {
+        match before {
+            None => {
+                let _ = self.rows.remove(proc);
+            }
+            Some(number) => {
+                if let Some(kept) = self.rows.get_mut(proc) {
+                    *kept = number;
+                }
+            }
+        }
+    }
+}

@@ -1,0 +1,140 @@
+ghost use Rattle.std.specs.Prelude.{◌≡◌, OnOk, OnErr};
+ghost use Rattle.std.specs.FinMap as finite;
+ghost use Rattle.std.specs.Option.{option_map, unwrap_or};
+ghost use Rattle.pmg_fence.specs.Tables.{no_series};
+ghost use Rattle.pmg_fence.specs.Kept.{fence_in, fence_changed, series_changed};
+ghost use Rattle.pmg_fence.specs.declared.change.Change.TheVariants as changes;
+
+use crate::change::Change;
+use crate::fence::Fence;
+use crate::numbers::Numbers;
+use pmg_value::Proc;
+use std::alloc::{AllocError, Global};
+use std::collections::BTreeMap;
+use std::marker::Model;
+
+/// Fences of one signature, by their instance.
+#[derive(Debug, Drop)]
+pub struct Instances {
+    alloc: Global,
+    rows: BTreeMap<u64, Fence>,
+}
+
+impl Model for Instances {
+    ghost use Rattle.pmg_fence.specs.Codes as codes;
+
+    ghost Value = { codes.Instances };
+
+    ghost coded = { codes.coded_instances };
+
+    ghost use Rattle.pmg_value.specs.Rows.{rows_of};
+
+    ghost view = { λ a. rows_of (λ f. f) a.rows.entries };
+}
+
+impl Instances {
+    /// No fences.
+    pub fn new(alloc: Global) -> Instances
+        ensures { result ≡ finite.empty }
+    {
+        Instances {
+            alloc,
+            rows: BTreeMap::new(alloc),
+        }
+    }
+
+    /// What is known of the instance.
+    pub fn get(&self, instance: u64) -> Option<&Fence>
+        ensures { option_map (λ f. f.now) result ≡ finite.get self.now instance }
+    {
+        self.rows.get(&instance)
+    }
+
+    /// Keeps what becomes known of the instance.
+    pub fn change(&mut self, instance: u64, change: Change) -> Result<(), AllocError>
+        ensures ok { OnOk result (self.new ≡ finite.insert self.old instance (fence_changed (fence_in self.old instance) change)) }
+        ensures err { OnErr result (self.new ≡ self.old) }
+    {
+        if let Some(fence) = self.rows.get_mut(&instance) {
+            fence.change(change)?;
+            return Ok(());
+        }
+        let mut fence = Fence::new(self.alloc);
+        fence.change(change)?;
+        self.rows.insert(instance, fence)?;
+        Ok(())
+    }
+}
+
+/// The fences of one signature: how often each own process entered them, and what is known of each.
+#[derive(Debug, Drop)]
+pub struct Series {
+    counts: Numbers,
+    fences: Instances,
+}
+
+impl Model for Series {
+    ghost use Rattle.pmg_fence.specs.Tables as tables;
+
+    ghost Value = { tables.Series };
+
+    ghost use Rattle.pmg_fence.specs.Codes.{coded_series};
+
+    ghost coded = { coded_series };
+
+    ghost view = { λ a. record { counts = a.counts; fences = a.fences } };
+}
+
+impl Series {
+    /// No fences of the signature, and no entries.
+    pub fn new(alloc: Global) -> Series
+        ensures { result ≡ no_series }
+    {
+        Series {
+            counts: Numbers::new(alloc),
+            fences: Instances::new(alloc),
+        }
+    }
+
+    /// How often the process entered fences of the signature.
+    pub fn count(&self, proc: &Proc) -> u64
+        ensures { result ≡ unwrap_or (finite.get self.now.counts proc.now) 0 }
+    {
+        self.counts.get(proc).unwrap_or(0)
+    }
+
+    /// What is known of the instance.
+    pub fn fence(&self, instance: u64) -> Option<&Fence>
+        ensures { option_map (λ f. f.now) result ≡ finite.get self.now.fences instance }
+    {
+        self.fences.get(instance)
+    }
+
+    /// Keeps what becomes known of the instance. An entry is the process's entry of that number.
+    #[tactic(auto, unfolding(crate::specs::Kept::series_changed))]
+    pub fn change(&mut self, instance: u64, change: Change) -> Result<(), AllocError>
+        ensures ok { OnOk result (self.new ≡ series_changed self.old instance change) }
+        ensures err { OnErr result (self.new ≡ self.old) }
+    {
+        match change {
+            Change::Entered(proc, level) => self.enter(instance, proc, level),
+            Change::Learned => self.fences.change(instance, Change::Learned),
+            Change::Told(header) => self.fences.change(instance, Change::Told(header)),
+        }
+    }
+
+    /// Keeps the process's entry into the instance, which is its entry of that number.
+    fn enter(&mut self, instance: u64, proc: Proc, level: u64) -> Result<(), AllocError>
+        ensures ok { OnOk result (self.new ≡ series_changed self.old instance (changes.Entered proc level)) }
+        ensures err { OnErr result (self.new ≡ self.old) }
+    {
+        let counted = proc.copy()?;
+        let entered = proc.copy()?;
+        let before = self.counts.insert(counted, instance)?;
+        if let Err(AllocError) = self.fences.change(instance, Change::Entered(entered, level)) {
+            self.counts.restore(&proc, before);
+            return Err(AllocError);
+        }
+        Ok(())
+    }
+}

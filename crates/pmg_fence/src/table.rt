@@ -1,0 +1,415 @@
+ghost use Rattle.std.specs.Prelude.{◌≡◌, ◌≤◌, ◌==◌, ◌++◌, ◌∷◌, [], Some, None, length, IsTrue, IfOk, OnOk, OnErr, is_some};
+ghost use Rattle.std.specs.FinMap as finite;
+ghost use Rattle.std.specs.Fn.{FnReturnsAt};
+ghost use Rattle.std.specs.Prelude.{ℕ};
+ghost use Rattle.pmg_value.specs.declared.process.Proc.{Proc};
+ghost use Rattle.std.specs.Option.{option_map, option_to_list};
+ghost use Rattle.pmg_value.specs.Answers.{Gives};
+ghost use Rattle.pmg_frame.specs.Fences.{header};
+ghost use Rattle.pmg_jobinfo.specs.Jobs.{home_of};
+ghost use Rattle.pmg_fence.specs.Entering.{told, lines};
+ghost use Rattle.pmg_fence.specs.Tables.{no_fences, fence_of, series_at, has_name, count_of, entry_at, entry_in, says_gone, gone_by, is_ready};
+ghost use Rattle.pmg_fence.specs.Changes.{learned, next_name, entered_by, with_header, changed_at, present, enter_answer, taken};
+ghost use Rattle.pmg_fence.specs.Kept.{instead, entry_with, known_fence, own_of, told_with, changed_with, told_by};
+
+use crate::all_series::AllSeries;
+use crate::change::Change;
+use crate::entry::Entry;
+use crate::fence::Fence;
+use crate::numbers::Numbers;
+use pmg_frame::{FenceName, Header, Local, MAX_INSTANCE, Signature, State};
+use pmg_jobinfo::Registry;
+use pmg_value::{NodeId, Proc, Refusal};
+use std::alloc::AllocError;
+use std::collections::VecDeque;
+use std::marker::Model;
+
+/// What one node knows of fences: which of its own processes entered them and at which level, which ended, and what the
+/// headers of other nodes tell (PMIx Standard 5.0, PMIx_Fence). Fences are told apart by their signature, that is by their
+/// participants and by whether data is collected; each participant's k-th entry meets the k-th of each other.
+#[derive(Debug, Drop)]
+pub struct Table {
+    node: NodeId,
+    registry: Registry,
+    series: AllSeries,
+    ends: Numbers,
+    waiting: VecDeque<Header>,
+}
+
+impl Model for Table {
+    ghost use Rattle.pmg_fence.specs.Codes as codes;
+
+    ghost Value = { codes.Known };
+
+    ghost coded = { codes.coded_known };
+
+    ghost use Rattle.pmg_fence.specs.Kept.{known_of};
+
+    ghost view = { λ a. known_of a.registry a.node a.series a.ends a.waiting.items };
+}
+
+/// The index of the process's home: 0 for a process that is not registered.
+fn home_of(registry: &Registry, proc: &Proc) -> u32
+    ensures { result ≡ home_of registry.now proc.now }
+{
+    match registry.homes(&proc.nspace) {
+        Some(homes) => match homes.get(proc.rank.number() as usize) {
+            Some(home) => home.index(),
+            None => 0,
+        },
+        None => 0,
+    }
+}
+
+/// The level at which the process entered the fence, if it did.
+fn level_in(fence: Option<&Fence>, proc: &Proc) -> Option<u64>
+    ensures { result ≡ finite.get (known_fence (option_map (λ f. f.now) fence.entry)).levels proc.now }
+{
+    match fence {
+        Some(fence) => fence.level(proc),
+        None => None,
+    }
+}
+
+/// How the process stands to the fence, as the header of the node of that index tells.
+fn told_in(fence: Option<&Fence>, home: u32, proc: &Proc) -> Option<Entry>
+    ensures { result ≡ entry_in proc.now (finite.get (known_fence (option_map (λ f. f.now) fence.entry)).headers home) }
+{
+    match fence {
+        Some(fence) => fence.told(home, proc),
+        None => None,
+    }
+}
+
+impl Table {
+    /// A table of no fences, for the node of that index, with its group's registry. It keeps the registry's allocator.
+    pub fn new(node: NodeId, registry: Registry) -> Table
+        ensures jobs { result.jobs ≡ registry }
+        ensures node { result.node ≡ node }
+        ensures fences { result.fences ≡ no_fences }
+        ensures waiting { result.waiting ≡ [] }
+    {
+        let alloc = registry.allocator();
+        Table {
+            node,
+            registry,
+            series: AllSeries::new(alloc),
+            ends: Numbers::new(alloc),
+            waiting: VecDeque::new(alloc),
+        }
+    }
+
+    /// The registry of the group.
+    pub fn registry(&self) -> &Registry
+        ensures { result.now ≡ self.now.jobs }
+    {
+        &self.registry
+    }
+
+    /// Whether the process is at home at the node.
+    fn is_own(&self, proc: &Proc) -> bool
+        ensures { result ≡ (home_of self.now.jobs proc.now == self.now.node) }
+    {
+        home_of(&self.registry, proc) == self.node.index()
+    }
+
+    /// How often the process entered fences of the signature.
+    fn count(&self, signature: &Signature, proc: &Proc) -> u64
+        ensures { result ≡ count_of self.now.fences signature.now proc.now }
+    {
+        match self.series.get(signature) {
+            Some(series) => series.count(proc),
+            None => 0,
+        }
+    }
+
+    /// What is known of the fence.
+    fn fence(&self, signature: &Signature, instance: u64) -> Option<&Fence>
+        ensures { option_map (λ f. f.now) result ≡ finite.get (series_at self.now.fences signature.now).fences instance }
+    {
+        match self.series.get(signature) {
+            Some(series) => series.fence(instance),
+            None => None,
+        }
+    }
+
+    /// How the own process stands to the fence.
+    fn entry(&self, fence: Option<&Fence>, proc: &Proc) -> Option<Entry>
+        ensures { result ≡ entry_with (known_fence (option_map (λ f. f.now) fence.entry)) self.now.fences.ends proc.now }
+    {
+        let level = level_in(fence, proc);
+        if let Some(level) = level {
+            return Some(Entry {
+                state: State::Entered,
+                level,
+            });
+        }
+        match self.ends.get(proc) {
+            Some(level) => Some(Entry {
+                state: State::Gone,
+                level,
+            }),
+            None => None,
+        }
+    }
+
+    /// The same, where something else has come to be told of a process.
+    fn entry_now(&self, fence: Option<&Fence>, line: Option<&Local>, proc: &Proc) -> Option<Entry>
+        ensures { result ≡ instead (option_map (λ l. l.now) line.entry)
+            (entry_with (known_fence (option_map (λ f. f.now) fence.entry)) self.now.fences.ends) proc.now }
+    {
+        match line {
+            Some(line) if proc.cmp(&line.proc).is_eq() => Some(Entry {
+                state: line.state,
+                level: line.level,
+            }),
+            _ => self.entry(fence, proc),
+        }
+    }
+
+    /// What there is to tell of the own participants, once there is something to tell of each.
+    fn lines(
+        &self,
+        signature: &Signature,
+        fence: Option<&Fence>,
+        line: Option<&Local>,
+    ) -> Result<Option<Vec<Local>>, AllocError>
+        ensures { IfOk result (λ o. option_map (λ ls. ls.items) o ≡ told (instead (option_map (λ l. l.now) line.entry)
+            (entry_with (known_fence (option_map (λ f. f.now) fence.entry)) self.now.fences.ends)) (own_of self.now signature.now)) }
+    {
+        let mut lines = Vec::new(self.series.allocator());
+        for proc in signature.participants() {
+            if !self.is_own(proc) {
+                continue;
+            }
+            let Some(entry) = self.entry_now(fence, line, proc) else {
+                return Ok(None);
+            };
+            lines.push(entry.local(proc)?)?;
+        }
+        if lines.is_empty() {
+            return Ok(None);
+        }
+        Ok(Some(lines))
+    }
+
+    /// The own header of the fence, once it exists.
+    fn header_with(
+        &self,
+        signature: &Signature,
+        instance: u64,
+        line: Option<&Local>,
+    ) -> Result<Option<Header>, AllocError>
+        ensures { IfOk result (λ o. o ≡ option_map (header self.now.node (fence_of signature.now instance))
+            (told (instead (option_map (λ l. l.now) line.entry) (entry_at self.now.fences (fence_of signature.now instance)))
+            (own_of self.now signature.now))) }
+    {
+        let fence = self.fence(signature, instance);
+        let Some(lines) = self.lines(signature, fence, line)? else {
+            return Ok(None);
+        };
+        let Ok(name) = FenceName::new(signature.copy()?, instance) else {
+            return Err(AllocError);
+        };
+        match Header::new(self.node, name, lines) {
+            Ok(header) => Ok(Some(header)),
+            Err(_) => Err(AllocError),
+        }
+    }
+
+    /// Whether the own header exists of a fence whose name the node has.
+    fn is_present(&self, signature: &Signature, instance: u64) -> Result<bool, AllocError>
+        ensures { IfOk result (λ b. b ≡ is_some (present self.now.jobs self.now.node self.now.fences (fence_of signature.now instance))) }
+    {
+        let Some(fence) = self.fence(signature, instance) else {
+            return Ok(false);
+        };
+        Ok(self.lines(signature, Some(fence), None)?.is_some())
+    }
+
+    /// The own header that comes to exist once the process of the line stands to the fence so.
+    fn news(
+        &self,
+        signature: &Signature,
+        instance: u64,
+        line: Option<&Local>,
+    ) -> Result<VecDeque<Header>, AllocError>
+        ensures { IfOk result (λ q. q.items ≡ told_with self.now (fence_of signature.now instance) (option_map (λ l. l.now) line.entry)) }
+    {
+        let mut news = VecDeque::new(self.series.allocator());
+        if self.is_present(signature, instance)? {
+            return Ok(news);
+        }
+        match self.header_with(signature, instance, line)? {
+            Some(header) => {
+                news.push_back(header)?;
+                Ok(news)
+            }
+            None => Ok(news),
+        }
+    }
+
+    /// Keeps what becomes known of the fence, by which the process of the line stands to it so.
+    fn change(
+        &mut self,
+        signature: &Signature,
+        instance: u64,
+        line: Option<&Local>,
+        change: Change,
+    ) -> Result<(), AllocError>
+        ensures ok { OnOk result (self.new ≡ changed_with self.old (fence_of signature.now instance) change (option_map (λ l. l.now) line.entry)) }
+        ensures err { OnErr result (self.new ≡ self.old) }
+    {
+        let mut news = self.news(signature, instance, line)?;
+        let start = self.waiting.len();
+        self.waiting.append(&mut news)?;
+        if let Err(AllocError) = self.series.change(signature, instance, change) {
+            self.waiting.truncate(start);
+            return Err(AllocError);
+        }
+        Ok(())
+    }
+
+    /// The process enters its next fence of the signature, after so many commits: the number of the entry, which is the
+    /// instance, is given. Where this completes the node's header, that waits to be taken. Refused as TooMany past 4294967295
+    /// entries, and as NoMemory.
+    pub fn enter(
+        &mut self,
+        signature: &Signature,
+        proc: &Proc,
+        level: u64,
+    ) -> Result<u64, Refusal>
+        requires { level ≤ 4294967295 }
+        ensures answer { Gives (λ n. n) result (enter_answer self.old.fences signature.now proc.now) }
+        ensures ok { OnOk result (self.new ≡ changed_at self.old (next_name self.old.fences signature.now proc.now)
+            (entered_by self.old.fences signature.now proc.now level)) }
+        ensures err { OnErr result (self.new ≡ self.old) }
+    {
+        let count = self.count(signature, proc);
+        if count >= MAX_INSTANCE {
+            return Err(Refusal::TooMany);
+        }
+        let line = Local {
+            proc: proc.copy()?,
+            state: State::Entered,
+            level,
+        };
+        let entered = Change::Entered(proc.copy()?, level);
+        self.change(signature, count + 1, Some(&line), entered)?;
+        Ok(count + 1)
+    }
+
+    /// Keeps the fence's name. Where each own participant ended already, the node's header waits to be taken.
+    pub fn learn(&mut self, name: &FenceName) -> Result<(), AllocError>
+        ensures ok { OnOk result (self.new ≡ changed_at self.old name.now (learned self.old.fences name.now)) }
+        ensures err { OnErr result (self.new ≡ self.old) }
+    {
+        self.change(name.signature(), name.instance(), None, Change::Learned)?;
+        Ok(())
+    }
+
+    /// Keeps the header and the fence's name. The first header of a node counts: a later one changes nothing.
+    pub fn put_header(&mut self, header: Header) -> Result<(), AllocError>
+        ensures ok { OnOk result (self.new ≡ changed_at self.old header.name (with_header self.old.fences header)) }
+        ensures err { OnErr result (self.new ≡ self.old) }
+    {
+        let name = header.name().copy()?;
+        self.change(
+            name.signature(),
+            name.instance(),
+            None,
+            Change::Told(header),
+        )?;
+        Ok(())
+    }
+
+    /// Takes the next own header: those that have come to exist, the first one first, and of those that one call brought
+    /// in the order of their names.
+    pub fn take_header(&mut self) -> Option<Header>
+        ensures header { self.old.waiting ≡ option_to_list result ++ self.new.waiting }
+        ensures empty { result ≡ None → self.old.waiting ≡ [] }
+        ensures rest { self.new ≡ taken self.old self.new.waiting }
+    {
+        self.waiting.pop_front()
+    }
+
+    /// Whether there is something to tell of each own participant.
+    fn is_whole(&self, signature: &Signature, fence: Option<&Fence>) -> bool
+        ensures { result ≡ is_some (lines (entry_with (known_fence (option_map (λ f. f.now) fence.entry)) self.now.fences.ends)
+            (own_of self.now signature.now)) }
+    {
+        for proc in signature.participants() {
+            if !self.is_own(proc) {
+                continue;
+            }
+            let Some(_) = self.entry(fence, proc) else {
+                return false;
+            };
+        }
+        true
+    }
+
+    /// How the participant stands to the fence, as the header of its home tells, where that is there; whether the own one is
+    /// there is known.
+    fn told(&self, fence: Option<&Fence>, whole: bool, proc: &Proc) -> Option<Entry>
+        ensures { result ≡ told_by self.now (known_fence (option_map (λ f. f.now) fence.entry)) whole proc.now }
+    {
+        let home = home_of(&self.registry, proc);
+        if home != self.node.index() {
+            return told_in(fence, home, proc);
+        }
+        if !whole {
+            return None;
+        }
+        self.entry(fence, proc)
+    }
+
+    /// Whether the header of its home calls the participant gone.
+    fn is_told_gone(&self, fence: Option<&Fence>, whole: bool, proc: &Proc) -> bool
+        ensures { result ≡ says_gone (told_by self.now (known_fence (option_map (λ f. f.now) fence.entry)) whole proc.now) }
+    {
+        match self.told(fence, whole, proc) {
+            Some(entry) => entry.is_gone(),
+            None => false,
+        }
+    }
+
+    /// The participants that the headers call gone, rising and each once: those that had ended before they entered.
+    pub fn release(&self, name: &FenceName) -> Result<Vec<Proc>, AllocError>
+        ensures { IfOk result (λ ps. ps.items ≡ gone_by self.now.jobs self.now.node self.now.fences name.now) }
+    {
+        let fence = self.fence(name.signature(), name.instance());
+        let whole = self.is_whole(name.signature(), fence);
+        let mut gone = Vec::new(self.series.allocator());
+        for proc in name.signature().participants() {
+            if !self.is_told_gone(fence, whole, proc) {
+                continue;
+            }
+            gone.push(proc.copy()?)?;
+        }
+        Ok(gone)
+    }
+
+    /// Whether the fence is ready, where the node knows of each process its commits up to a level: of each participant the
+    /// header of its home tells, and where the fence collects data, the participant's level there is known.
+    pub fn ready<L: Fn(&Proc) -> u64>(&self, name: &FenceName, levels: L) -> bool
+        requires { L.IsAlwaysCallable levels }
+        ensures { (level : Proc → ℕ) → ((p : Proc) (n : ℕ) → FnReturnsAt L.Fn levels p n → n ≡ level p)
+            → result ≡ is_ready self.now.jobs self.now.node self.now.fences name.now level }
+    {
+        let fence = self.fence(name.signature(), name.instance());
+        let whole = self.is_whole(name.signature(), fence);
+        for proc in name.signature().participants() {
+            let Some(entry) = self.told(fence, whole, proc) else {
+                return false;
+            };
+            if !name.signature().collect() {
+                continue;
+            }
+            if levels(proc) < entry.level {
+                return false;
+            }
+        }
+        true
+    }
+}
