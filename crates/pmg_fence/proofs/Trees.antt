@@ -27,10 +27,10 @@ module _ {K V X : Type 0} {R : K → K → Ordering} (o : IsTotalOrder R) (exact
 
   -- what a look-up gives
   pub read : (rows : List (K × V)) (m : finite.FinMap R X) (k : K) (found : Option (Bor V)) → rows_of f rows ≡ m → option_copied found ≡ at_key R k rows → option_map (λ v. f v.now) found ≡ finite.get m k
-  read = read_rows o exact f
+  read = read_rows o f
 
   pub get_at : (rows : List (K × V)) (m : finite.FinMap R X) (k : K) → rows_of f rows ≡ m → finite.get m k ≡ option_map f (at_key R k rows)
-  get_at rows m k same = sym (ap (λ (t : finite.FinMap R X). finite.get t k) same) ∙ get-rows_of o exact f rows k
+  get_at rows m k same = sym (ap (λ (t : finite.FinMap R X). finite.get t k) same) ∙ get-rows_of o f rows k
 
 -- a value that is read as it is
 pub copied_there : {V : Type 0} (found : Option (Bor V)) → option_map (λ v. v.now) found ≡ option_copied found
