@@ -9,3 +9,5 @@ pub mod LineLemmas
 pub mod TellLemmas
 pub mod NewsLemmas
 pub mod ReadLemmas
+pub mod EndLemmas
+pub mod FitLemmas

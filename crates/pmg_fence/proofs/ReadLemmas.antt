@@ -44,7 +44,7 @@ module _ (k : Known) (f : FenceName) (known : Fence) (whole : Bool) (same : know
   unfolding told_of header_at
   told_is q i = read_by q i (home_of k.jobs q == k.node) refl
 
-filter_alike : {A : Type 0} (p r : A → Bool) (xs : List A) → ((x : A) → In x xs → p x ≡ r x) → filter p xs ≡ filter r xs
+pub filter_alike : {A : Type 0} (p r : A → Bool) (xs : List A) → ((x : A) → In x xs → p x ≡ r x) → filter p xs ≡ filter r xs
 filter_alike p r [] same = refl
 filter_alike p r (x ∷ xs) same = (λ i. cond (same x (inl refl) i) (x ∷ filter_alike p r xs (λ y j. same y (inr j)) i) (filter_alike p r xs (λ y j. same y (inr j)) i))
 

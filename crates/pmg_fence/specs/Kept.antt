@@ -1,5 +1,5 @@
 -- What the small tables of a fence table keep.
-use Rattle.std.specs.Prelude.{ℕ, Bool, ◌==◌, List, ◌++◌, Option, Some, None, if◌then◌else◌}
+use Rattle.std.specs.Prelude.{ℕ, Bool, ◌==◌, List, [], ◌++◌, Option, Some, None, is_some, if◌then◌else◌}
 use Rattle.std.specs.List.{filter}
 use Rattle.std.specs.FinMap as finite
 use Rattle.std.specs.Option.{unwrap_or}
@@ -11,7 +11,7 @@ use Rattle.pmg_fence.specs.declared.change.Change.{Change}
 use Rattle.pmg_fence.specs.declared.change.Change.TheVariants as changes
 use Rattle.pmg_fence.specs.declared.entry.Entry.{Entry}
 use Rattle.pmg_fence.specs.Entering.{same_proc, entry_by, locals_of, told}
-use Rattle.pmg_fence.specs.Tables.{Numbers, Fence, Series, Fences, no_fence, no_series, series_at, fence_at, entry_at, entry_in}
+use Rattle.pmg_fence.specs.Tables.{Numbers, Fence, Series, Fences, no_fence, no_series, series_at, has_name, fence_at, entry_at, entry_in}
 use Rattle.pmg_fence.specs.Codes.{Instances, AllSeries, Known}
 use Rattle.pmg_fence.specs.Changes.{placed, fence_entered, fence_told, present, newly}
 use Rattle.pmg_jobinfo.specs.Jobs.{Jobs, home_of}
@@ -78,3 +78,7 @@ known_of jobs node series ends waiting = record { jobs = jobs; node = node; fenc
 abbrev pub told_by : Known → Fence → Bool → Proc → Option Entry
 told_by k fence whole q =
     if home_of k.jobs q == k.node then (if whole then entry_with fence k.fences.ends q else None) else entry_in q (finite.get fence.headers (home_of k.jobs q))
+
+-- the own header that comes to exist once the process of the line has ended, where it had not entered the fence
+abbrev pub ended_told : Known → Local → FenceName → List Header
+ended_told k l f = if has_name k.fences f then (if is_some (finite.get (fence_at k.fences f).levels l.proc) then [] else told_with k f (Some l)) else []

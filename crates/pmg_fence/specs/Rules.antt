@@ -1,19 +1,17 @@
 -- How what a node keeps of fences goes on with the calls of its own processes, and with what other nodes tell.
-use Rattle.std.specs.Prelude.{◌≡◌, ◌≤◌, ℕ, true, false, List, [], ◌∷◌, ◌++◌, Some, if◌then◌else◌}
+use Rattle.std.specs.Prelude.{◌≡◌, ◌≤◌, ℕ, true, List, ◌++◌, Some}
 use Rattle.std.specs.FinMap as finite
 use Rattle.std.specs.List.{filter}
 use Rattle.pmg_value.specs.Lists.{In}
 use Rattle.pmg_value.specs.Signatures.{Signature, FenceName}
 use Rattle.pmg_value.specs.declared.process.Proc.{Proc}
-use Rattle.pmg_scope.specs.declared.scope.Scope.{Scope}
-use Rattle.pmg_scope.specs.Scripts.{Call, Script, has_end, commits}
-use Rattle.pmg_frame.specs.Fences.{Header, participants_of}
+use Rattle.pmg_scope.specs.Scripts.{Script}
+use Rattle.pmg_frame.specs.Fences.{participants_of}
 use Rattle.pmg_frame.specs.declared.local.Local.{Local}
 use Rattle.pmg_jobinfo.specs.Jobs.{Jobs, home_of}
 use Rattle.pmg_fence.specs.declared.entry.Entry.{Entry}
-use Rattle.pmg_fence.specs.Entering.{same_proc, enters, level_before, level_at_end, entry, header_of}
-use Rattle.pmg_fence.specs.Tables.{Fences, no_fences, fence_at, count_of, own_header, header_at, told_of, is_ready, says_gone, gone_by}
-use Rattle.pmg_fence.specs.Changes.{learned, entered_by, ended_by, with_header}
+use Rattle.pmg_fence.specs.Entering.{enters, level_before, level_at_end, entry, header_of}
+use Rattle.pmg_fence.specs.Tables.{Fences, fence_at, count_of, own_header, header_at, told_of, is_ready, says_gone, gone_by}
 
 -- What is kept of an own process's fences fits its script: how often it entered those of each signature, at which levels,
 -- and the level at which it ended.
@@ -31,10 +29,6 @@ pub record FitsTable (jobs : Jobs) (node : ℕ) (scripts : Scripts) (t : Fences)
   pub own : (p : Proc) → home_of jobs p ≡ node → FitsFences (scripts p) t p
   pub headers : (f : FenceName) (other : ℕ) (ls : List Local) → finite.get (fence_at t f).headers other ≡ Some ls → header_of jobs scripts f other ≡ Some ls
 
--- the scripts, once the process has made the call
-abbrev pub with_call : Scripts → Proc → Call → Scripts
-with_call scripts p call = λ q. if same_proc q p then scripts q ++ call ∷ [] else scripts q
-
 -- later calls were added to some of the scripts
 abbrev pub Grows : Scripts → Scripts → Type 0
 Grows scripts grown = (q : Proc) → (later : Script) × (grown q ≡ scripts q ++ later)
@@ -49,51 +43,6 @@ abbrev pub HeaderStays : Type 0
 HeaderStays =
     (jobs : Jobs) (scripts grown : Scripts) (f : FenceName) (node : ℕ) (ls : List Local) → Grows scripts grown
     → header_of jobs scripts f node ≡ Some ls → header_of jobs grown f node ≡ Some ls
-
--- ---- tables that fit
-
--- a new table fits processes without calls
-abbrev pub NewFits : Type 0
-NewFits = (jobs : Jobs) (node : ℕ) → FitsTable jobs node (λ _. []) no_fences
-
--- puts and commits are nothing to fences
-abbrev pub PutFits : Type 0
-PutFits =
-    (jobs : Jobs) (node : ℕ) (scripts : Scripts) (t : Fences) (p : Proc) (scope : Scope) (key value : List ℕ) → has_end (scripts p) ≡ false
-    → FitsTable jobs node scripts t → FitsTable jobs node (with_call scripts p (Call.put scope key value)) t
-
-abbrev pub CommitFits : Type 0
-CommitFits =
-    (jobs : Jobs) (node : ℕ) (scripts : Scripts) (t : Fences) (p : Proc) → has_end (scripts p) ≡ false
-    → FitsTable jobs node scripts t → FitsTable jobs node (with_call scripts p Call.commit) t
-
--- an own process that has not ended enters at its level: the number of the entry is the instance
-abbrev pub EnterFits : Type 0
-EnterFits =
-    (jobs : Jobs) (node : ℕ) (scripts : Scripts) (t : Fences) (p : Proc) (g : Signature) → home_of jobs p ≡ node → has_end (scripts p) ≡ false
-    → FitsTable jobs node scripts t → FitsTable jobs node (with_call scripts p (Call.enter g)) (entered_by t g p (commits (scripts p)))
-
--- and ends at its level: the end is a commit itself
-abbrev pub EndFits : Type 0
-EndFits =
-    (jobs : Jobs) (node : ℕ) (scripts : Scripts) (t : Fences) (p : Proc) → home_of jobs p ≡ node → has_end (scripts p) ≡ false
-    → FitsTable jobs node scripts t → FitsTable jobs node (with_call scripts p Call.terminate) (ended_by t p (commits (scripts p ++ Call.terminate ∷ [])))
-
--- a process of another node makes a call
-abbrev pub OthersFit : Type 0
-OthersFit =
-    (jobs : Jobs) (node : ℕ) (scripts : Scripts) (t : Fences) (p : Proc) (call : Call) → (home_of jobs p ≡ node → ⊥)
-    → FitsTable jobs node scripts t → FitsTable jobs node (with_call scripts p call) t
-
--- a name is learned
-abbrev pub LearnFits : Type 0
-LearnFits = (jobs : Jobs) (node : ℕ) (scripts : Scripts) (t : Fences) (f : FenceName) → FitsTable jobs node scripts t → FitsTable jobs node scripts (learned t f)
-
--- a header comes that is the scripts'
-abbrev pub HeaderFits : Type 0
-HeaderFits =
-    (jobs : Jobs) (node : ℕ) (scripts : Scripts) (t : Fences) (h : Header) → header_of jobs scripts h.name h.node ≡ Some h.locals
-    → FitsTable jobs node scripts t → FitsTable jobs node scripts (with_header t h)
 
 -- ---- what a table that fits says
 
@@ -116,24 +65,6 @@ ToldIsTrue =
 -- whatever was learned and told in between, a header that is there stays as it is
 abbrev pub Keeps : Jobs → ℕ → Fences → Fences → FenceName → Type 0
 Keeps jobs node old new f = (other : ℕ) (ls : List Local) → header_at jobs node old f other ≡ Some ls → header_at jobs node new f other ≡ Some ls
-
--- a learned name and a header that comes change no header that is there, not even one that its node sent before
-abbrev pub LearnKeeps : Type 0
-LearnKeeps = (jobs : Jobs) (node : ℕ) (t : Fences) (g f : FenceName) → Keeps jobs node t (learned t g) f
-
-abbrev pub HeaderKeeps : Type 0
-HeaderKeeps = (jobs : Jobs) (node : ℕ) (t : Fences) (h : Header) (f : FenceName) → Keeps jobs node t (with_header t h) f
-
--- nor do an entry and an end, where the table fits
-abbrev pub EnterKeeps : Type 0
-EnterKeeps =
-    (jobs : Jobs) (node : ℕ) (scripts : Scripts) (t : Fences) (p : Proc) (g : Signature) (f : FenceName) → home_of jobs p ≡ node → has_end (scripts p) ≡ false
-    → FitsTable jobs node scripts t → Keeps jobs node t (entered_by t g p (commits (scripts p))) f
-
-abbrev pub EndKeeps : Type 0
-EndKeeps =
-    (jobs : Jobs) (node : ℕ) (scripts : Scripts) (t : Fences) (p : Proc) (f : FenceName) → home_of jobs p ≡ node → has_end (scripts p) ≡ false
-    → FitsTable jobs node scripts t → Keeps jobs node t (ended_by t p (commits (scripts p ++ Call.terminate ∷ []))) f
 
 -- a fence that is ready stays ready, whatever comes to be known
 abbrev pub ReadyStays : Type 0

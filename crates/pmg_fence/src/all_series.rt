@@ -1,6 +1,7 @@
 ghost use Rattle.std.specs.Prelude.{◌≡◌, OnOk, OnErr};
 ghost use Rattle.std.specs.FinMap as finite;
 ghost use Rattle.std.specs.Option.{option_map};
+ghost use Rattle.pmg_value.specs.Rows.{rows_of};
 ghost use Rattle.pmg_fence.specs.Kept.{series_in, series_changed};
 
 use crate::change::Change;
@@ -50,6 +51,13 @@ impl AllSeries {
         ensures { option_map (λ s. s.now) result ≡ finite.get self.now signature.now }
     {
         self.rows.get(signature)
+    }
+
+    /// The fences, in the order of their signatures.
+    pub fn rows(&self) -> &BTreeMap<Signature, Series>
+        ensures { rows_of (λ s. s) result.now.entries ≡ self.now }
+    {
+        &self.rows
     }
 
     /// Keeps what becomes known of the instance of the signature.

@@ -6,9 +6,12 @@ mod change;
 mod entry;
 mod fence;
 mod headers;
+mod laws;
 mod numbers;
 mod series;
 mod table;
 
 pub use entry::Entry;
+pub use laws::{entry_rules, table_rules};
 pub use table::Table;
+

@@ -1,6 +1,7 @@
 ghost use Rattle.std.specs.Prelude.{◌≡◌, OnOk, OnErr};
 ghost use Rattle.std.specs.FinMap as finite;
 ghost use Rattle.std.specs.Option.{option_map, unwrap_or};
+ghost use Rattle.pmg_value.specs.Rows.{rows_of};
 ghost use Rattle.pmg_fence.specs.Tables.{no_series};
 ghost use Rattle.pmg_fence.specs.Kept.{fence_in, fence_changed, series_changed};
 ghost use Rattle.pmg_fence.specs.declared.change.Change.TheVariants as changes;
@@ -48,6 +49,13 @@ impl Instances {
         ensures { option_map (λ f. f.now) result ≡ finite.get self.now instance }
     {
         self.rows.get(&instance)
+    }
+
+    /// The fences, in the order of their instances.
+    pub fn rows(&self) -> &BTreeMap<u64, Fence>
+        ensures { rows_of (λ f. f) result.now.entries ≡ self.now }
+    {
+        &self.rows
     }
 
     /// Keeps what becomes known of the instance.
@@ -108,6 +116,13 @@ impl Series {
         ensures { option_map (λ f. f.now) result ≡ finite.get self.now.fences instance }
     {
         self.fences.get(instance)
+    }
+
+    /// The fences, in the order of their instances.
+    pub fn rows(&self) -> &BTreeMap<u64, Fence>
+        ensures { rows_of (λ f. f) result.now.entries ≡ self.now.fences }
+    {
+        self.fences.rows()
     }
 
     /// Keeps what becomes known of the instance. An entry is the process's entry of that number.

@@ -4,19 +4,22 @@ ghost use Rattle.std.specs.Fn.{FnReturnsAt};
 ghost use Rattle.std.specs.Prelude.{ℕ};
 ghost use Rattle.pmg_value.specs.declared.process.Proc.{Proc};
 ghost use Rattle.std.specs.Option.{option_map, option_to_list};
+ghost use Rattle.std.specs.List.{flat_map};
+ghost use Rattle.std.specs.Prelude.{map};
 ghost use Rattle.pmg_value.specs.Answers.{Gives};
 ghost use Rattle.pmg_frame.specs.Fences.{header};
 ghost use Rattle.pmg_jobinfo.specs.Jobs.{home_of};
 ghost use Rattle.pmg_fence.specs.Entering.{told, lines};
-ghost use Rattle.pmg_fence.specs.Tables.{no_fences, fence_of, series_at, has_name, count_of, entry_at, entry_in, says_gone, gone_by, is_ready};
-ghost use Rattle.pmg_fence.specs.Changes.{learned, next_name, entered_by, with_header, changed_at, present, enter_answer, taken};
-ghost use Rattle.pmg_fence.specs.Kept.{instead, entry_with, known_fence, own_of, told_with, changed_with, told_by};
+ghost use Rattle.pmg_fence.specs.Tables.{names_of, no_fences, fence_of, series_at, has_name, count_of, entry_at, entry_in, says_gone, gone_by, is_ready};
+ghost use Rattle.pmg_fence.specs.Changes.{learned, next_name, entered_by, with_header, changed_at, changed, ended_by, present, enter_answer, taken};
+ghost use Rattle.pmg_fence.specs.Kept.{instead, entry_with, known_fence, own_of, told_with, changed_with, told_by, ended_told};
 
 use crate::all_series::AllSeries;
 use crate::change::Change;
 use crate::entry::Entry;
 use crate::fence::Fence;
 use crate::numbers::Numbers;
+use crate::series::Series;
 use pmg_frame::{FenceName, Header, Local, MAX_INSTANCE, Signature, State};
 use pmg_jobinfo::Registry;
 use pmg_value::{NodeId, Proc, Refusal};
@@ -411,5 +414,75 @@ impl Table {
             }
         }
         true
+    }
+
+    /// The own header of the fence that comes to exist once the process of the line has ended, who had not entered it.
+    fn news_at_end(
+        &self,
+        signature: &Signature,
+        instance: u64,
+        line: &Local,
+    ) -> Result<VecDeque<Header>, AllocError>
+        ensures { IfOk result (λ q. q.items ≡ ended_told self.now line.now (fence_of signature.now instance)) }
+    {
+        let Some(fence) = self.fence(signature, instance) else {
+            return Ok(VecDeque::new(self.series.allocator()));
+        };
+        if let Some(_) = fence.level(&line.proc) {
+            return Ok(VecDeque::new(self.series.allocator()));
+        }
+        Ok(self.news(signature, instance, Some(line))?)
+    }
+
+    /// Adds those of the fences of one signature.
+    fn add_news(
+        &self,
+        news: &mut VecDeque<Header>,
+        signature: &Signature,
+        series: &Series,
+        line: &Local,
+    ) -> Result<(), AllocError>
+        ensures { OnOk result (news.new.items ≡ news.old.items ++ flat_map (ended_told self.now line.now)
+            (map (fence_of signature.now) (finite.keys series.now.fences))) }
+    {
+        for (instance, _) in series.rows().iter() {
+            let mut more = self.news_at_end(signature, *instance, line)?;
+            news.append(&mut more)?;
+        }
+        Ok(())
+    }
+
+    /// Those of all fences, in the order of their names.
+    fn all_news(&self, line: &Local) -> Result<VecDeque<Header>, AllocError>
+        ensures { IfOk result (λ q. q.items ≡ flat_map (ended_told self.now line.now) (names_of self.now.fences)) }
+    {
+        let mut news = VecDeque::new(self.series.allocator());
+        for (signature, series) in self.series.rows().iter() {
+            self.add_news(&mut news, signature, series, line)?;
+        }
+        Ok(news)
+    }
+
+    /// The process ends, after so many commits, its end among them. It counts as gone in each fence that it has not entered,
+    /// those that are learned later among them. The node's headers that this completes wait to be taken.
+    pub fn gone(&mut self, proc: &Proc, level: u64) -> Result<(), AllocError>
+        requires { level ≤ 4294967295 }
+        ensures ok { OnOk result (self.new ≡ changed self.old (ended_by self.old.fences proc.now level)) }
+        ensures err { OnErr result (self.new ≡ self.old) }
+    {
+        let line = Local {
+            proc: proc.copy()?,
+            state: State::Gone,
+            level,
+        };
+        let ended = proc.copy()?;
+        let mut news = self.all_news(&line)?;
+        let start = self.waiting.len();
+        self.waiting.append(&mut news)?;
+        if let Err(AllocError) = self.ends.insert(ended, level) {
+            self.waiting.truncate(start);
+            return Err(AllocError);
+        }
+        Ok(())
     }
 }

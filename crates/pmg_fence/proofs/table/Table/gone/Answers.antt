@@ -1,0 +1,7 @@
+use Rattle.pmg_fence.proofs.EndLemmas.{end_done}
+use Rattle.pmg_fence.proofs.table.Table.gone.Goals as goal
+
+pub returns-clause-ok : goal.returns-clause-ok
+returns-clause-ok c =
+    end_done c.args.self.now c.args.proc.now c.in_ok-copy.field-0 c.in_ok-ended.ended c.args.level c.self.inside.registry c.self.inside.node c.self.inside.series c.self.inside.ends c.insert.new.self
+    c.self.inside.waiting.items _ c.append.new.self.items c.self.view_is c.in_ok-copy.ensures c.in_ok-ended.ensures c.in_default.ensures.ok c.in_ok-news.ensures c.in_ok-append.ensures.items

@@ -1,0 +1,27 @@
+ghost use Rattle.pmg_fence.specs.Rules.{
+  EntryStays,
+  HeaderStays,
+  OwnHeaderIsTrue,
+  HeadersAreTrue,
+  ToldIsTrue,
+  ReadyStays,
+  ReadyIsWhole,
+  GoneAreTrue,
+};
+
+/// The rules of entries and headers as scripts grow: each is final.
+pub fn entry_rules()
+    ensures entry_stays { EntryStays }
+    ensures header_stays { HeaderStays }
+{}
+
+/// The rules of a table that fits the scripts: its headers are those that the scripts tell, a fence that is ready stays
+/// ready, each participant has then entered or is gone, and the gone are those that ended before they entered.
+pub fn table_rules()
+    ensures own_header_is_true { OwnHeaderIsTrue }
+    ensures headers_are_true { HeadersAreTrue }
+    ensures told_is_true { ToldIsTrue }
+    ensures ready_stays { ReadyStays }
+    ensures ready_is_whole { ReadyIsWhole }
+    ensures gone_are_true { GoneAreTrue }
+{}
