@@ -14,14 +14,6 @@ use Rattle.pmg_value.proofs.ProcessOrder.{procs_total, exact_procs}
 use Rattle.pmg_value.proofs.RowLemmas.{at_key, entries-map_of, entries_of_nothing, get-map_of, insert_same, rows_with}
 use Rattle.pmg_dmodex.specs.Levels.{NodeLevels, Levels, levels_of, with_level, below, not_below, without_below}
 
--- ---- behind a `get_mut`
-
-pub found_is : {A : Type 0} (o : Option (MutBor A)) (kept : MutBor A) (x : Option A) → o ≡ Some kept → option_copied_mut o ≡ x → x ≡ Some kept.now
-found_is o kept x some e = sym e ∙ ap option_copied_mut some
-
-pub some_found : {A : Type 0} {x : Option A} {a : A} → x ≡ Some a → IsSome x
-some_found e = ap is_some e
-
 -- ---- the levels of one process
 
 module _ (entries : List (Proc × NodeLevels)) (levels : Levels) (p : Proc) (same : map_of entries ≡ levels) where

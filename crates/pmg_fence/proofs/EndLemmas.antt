@@ -8,7 +8,7 @@ use Rattle.std.specs.FinMap.{nat_cmp-IsAntisymmetric}
 use Rattle.std.specs.Cmp.{nat_cmp_total}
 use Rattle.std.proofs.lemmas.List.Concat.{flat_map-append}
 use Rattle.pmg_value.specs.Rows.{rows_of, AreRising}
-use Rattle.pmg_value.proofs.RowLemmas.{entries_rising}
+use Rattle.pmg_value.proofs.RowLemmas.{entries-map_of}
 use Rattle.pmg_value.specs.Signatures.{Signature, FenceName}
 use Rattle.pmg_value.specs.declared.process.Proc.{Proc}
 use Rattle.std.specs.Cmp.{Equal-is}
@@ -106,19 +106,11 @@ end_done k p one two level jobs node series ends new waiting brought after view 
 
 -- ---- rows, one after another
 
--- rows as they are
-abbrev pub shown_as : {K V : Type 0} → List (K × V) → List (K × V)
-shown_as rows = map (λ e. (e.0, e.1)) rows
-
-same_rows : {K V : Type 0} (rows : List (K × V)) → shown_as rows ≡ rows
-same_rows [] = refl
-same_rows (e ∷ rows) = ap (λ (t : List _). e ∷ t) (same_rows rows)
-
 pub instances_are : (rows : List (ℕ × Fence)) (m : Instances) → rows_of (λ f. f) rows ≡ m → AreRising nat_cmp rows → finite.entries m ≡ rows
-instances_are rows m same rising = sym (ap finite.entries same) ∙ entries_rising nat_cmp_total nat_cmp-IsAntisymmetric (λ f. f) rows rising ∙ same_rows rows
+instances_are rows m same rising = sym (ap finite.entries same) ∙ entries-map_of nat_cmp_total rows rising
 
 pub series_are : (rows : List (Signature × Series)) (m : AllSeries) → rows_of (λ s. s) rows ≡ m → AreRising signature_cmp rows → finite.entries m ≡ rows
-series_are rows m same rising = sym (ap finite.entries same) ∙ entries_rising signature_total signatures_exact (λ s. s) rows rising ∙ same_rows rows
+series_are rows m same rising = sym (ap finite.entries same) ∙ entries-map_of signature_total rows rising
 
 -- the names of the fences of one row
 abbrev pub names_in : Signature × Series → List FenceName

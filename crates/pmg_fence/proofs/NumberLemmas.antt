@@ -6,10 +6,10 @@ use Rattle.pmg_value.proofs.ProcessOrder.{procs_total, exact_procs}
 use Rattle.std.specs.BTreeMap.{is_at}
 use Rattle.pmg_value.specs.Process.{proc_cmp}
 use Rattle.pmg_value.specs.Rows.{rows_of}
-use Rattle.pmg_value.proofs.RowLemmas.{at_key, remove_inserted}
+use Rattle.pmg_value.proofs.RowLemmas.{at_key, remove_inserted, same_option}
 use Rattle.pmg_fence.specs.Tables.{Numbers}
 use Rattle.pmg_fence.specs.Kept.{restored}
-use Rattle.pmg_fence.proofs.Trees.{get_put, put_again, put_in, get_at, same_option}
+use Rattle.pmg_fence.proofs.Trees.{get_put, put_again, put_in, get_at}
 
 -- what a process had before it got a number, given back
 pub put_restored : (m : Numbers) (p : Proc) (n : ℕ) (before : Option ℕ) → before ≡ finite.get m p → restored (finite.insert m p n) p before ≡ m

@@ -7,7 +7,7 @@ use Rattle.std.specs.Option.{option_map, option_copied}
 use Rattle.std.specs.Ordering.{nat_cmp}
 use Rattle.std.specs.Cmp.{nat_cmp_total}
 use Rattle.pmg_value.specs.Rows.{rows_of}
-use Rattle.pmg_value.proofs.RowLemmas.{at_key, insert_same}
+use Rattle.pmg_value.proofs.RowLemmas.{at_key, insert_same, same_option}
 use Rattle.pmg_value.specs.Signatures.{Signature}
 use Rattle.pmg_frame.specs.FenceOrder.{signature_cmp, signature_total}
 use Rattle.pmg_frame.proofs.FenceOrderLemmas.{signatures_exact}
@@ -18,7 +18,7 @@ use Rattle.pmg_fence.specs.Codes.{Headers, Instances, AllSeries}
 use Rattle.pmg_fence.specs.Tables.{Fence, Series, entry_in}
 use Rattle.pmg_fence.specs.Entering.{same_proc}
 use Rattle.pmg_fence.specs.Changes.{first_of}
-use Rattle.pmg_fence.proofs.Trees.{read, get_at, same_option}
+use Rattle.pmg_fence.proofs.Trees.{read, get_at}
 
 is_some_map : {A B : Type 0} (f : A → B) (o : Option A) → is_some (option_map f o) ≡ is_some o
 is_some_map f None = refl

@@ -10,12 +10,6 @@ use Rattle.std.specs.declared.cmp.Ordering.{Ordering}
 use Rattle.pmg_value.specs.Rows.{rows_of}
 use Rattle.pmg_value.proofs.RowLemmas.{at_key, rows_with, rows_without, read_rows, get-rows_of}
 
-pub found_is : {V : Type 0} (o : Option (MutBor V)) (kept : MutBor V) (x : Option V) → o ≡ Some kept → option_copied_mut o ≡ x → x ≡ Some kept.now
-found_is o kept x some e = sym e ∙ ap option_copied_mut some
-
-pub some_found : {A : Type 0} {x : Option A} {a : A} → x ≡ Some a → IsSome x
-some_found e = ap is_some e
-
 module _ {K V X : Type 0} {R : K → K → Ordering} (o : IsTotalOrder R) (exact : IsAntisymmetric R) (f : V → X) where
   pub put_in : (old new : List (K × V)) (m : finite.FinMap R X) (k : K) (v : V) → rows_of f old ≡ m
       → ((q : K) → at_key R q new ≡ cond (is_at (R k) q) (Some v) (at_key R q old)) → rows_of f new ≡ finite.insert m k (f v)
@@ -36,10 +30,6 @@ module _ {K V X : Type 0} {R : K → K → Ordering} (o : IsTotalOrder R) (exact
 pub copied_there : {V : Type 0} (found : Option (Bor V)) → option_map (λ v. v.now) found ≡ option_copied found
 copied_there None = refl
 copied_there (Some v) = refl
-
-pub same_option : {V : Type 0} (o : Option V) → option_map (λ v. v) o ≡ o
-same_option None = refl
-same_option (Some v) = refl
 
 -- ---- a value, given back
 

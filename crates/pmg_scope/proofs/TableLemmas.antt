@@ -1,8 +1,8 @@
 -- Tables in memory: puts taken back, and values changed.
-use Rattle.std.proofs.Common.{◌≡◌, ℕ, Bool, true, false, cond, List, Option, Some, None, refl, sym, ap, ◌∙◌, is_some, IsSome, MutBor}
+use Rattle.std.proofs.Common.{◌≡◌, ℕ, Bool, true, false, cond, List, Option, Some, None, refl, sym, ap, ◌∙◌, is_some}
 use Rattle.std.specs.FinMap as finite
 use Rattle.std.specs.BTreeMap.{is_at}
-use Rattle.std.specs.Option.{option_map, option_copied_mut}
+use Rattle.std.specs.Option.{option_map}
 use Rattle.std.specs.Ordering.{nat_cmp, eq_by_cmp}
 use Rattle.std.specs.Cmp.{Equal-is, eq_by_cmp_equiv}
 use Rattle.std.specs.Cmp.Lexicographic.{slice_cmp, nat_list_cmp_total}
@@ -59,9 +59,3 @@ pub changed_nowhere : (old : Rows) (m : Table) (k : List ℕ) (v : Value) → ta
 changed_nowhere old m k v same e =
     sym (ap (λ (b : Bool). cond b (finite.insert (table_of old) k (spelling v)) (table_of old)) (has_key old k None (sym e)))
     ∙ ap (λ (t : Table). changed_at t k v) same
-
-pub found_is : (o : Option (MutBor Value)) (kept : MutBor Value) (x : Option Value) → o ≡ Some kept → option_copied_mut o ≡ x → x ≡ Some kept.now
-found_is o kept x some e = sym e ∙ ap option_copied_mut some
-
-pub some_found : {A : Type 0} {x : Option A} {a : A} → x ≡ Some a → IsSome x
-some_found e = ap is_some e

@@ -1,5 +1,5 @@
 -- Rows of keys and values in memory, and what stands under a key.
-use Rattle.std.proofs.Common.{◌≡◌, Bool, true, false, cond, List, [], ◌∷◌, ◌++◌, map, length, Option, Some, None, refl, sym, ap, subst, ◌∙◌, Bor, arith}
+use Rattle.std.proofs.Common.{◌≡◌, Bool, true, false, cond, List, [], ◌∷◌, ◌++◌, map, length, Option, Some, None, is_some, IsSome, refl, sym, ap, subst, ◌∙◌, Bor, MutBor, arith}
 use Rattle.std.specs.FinMap as finite
 use Rattle.std.specs.FinMap.{IsAntisymmetric}
 use Rattle.std.specs.FinMap.Entries.{find, put}
@@ -7,7 +7,7 @@ use Rattle.std.specs.Map.{lookup, keys_of, update_all}
 use Rattle.std.proofs.lemmas.Map.Keys.{IsDistinct-from_sorted}
 use Rattle.std.proofs.lemmas.Map.Made.{update_all_none}
 use Rattle.std.specs.BTreeMap.{is_at}
-use Rattle.std.specs.Option.{option_map, option_copied}
+use Rattle.std.specs.Option.{option_map, option_copied, option_copied_mut}
 use Rattle.std.specs.List.{AllByRecursion}
 use Rattle.std.specs.List.Sorted.{IsStrictlySortedBy}
 use Rattle.std.specs.declared.cmp.Ordering.{Ordering}
@@ -94,7 +94,14 @@ read_there : {V X : Type 0} (f : V → X) (found : Option (Bor V)) (x : Option V
 read_there f None x e = ap (option_map f) e
 read_there f (Some v) x e = ap (option_map f) e
 
-same_option : {V : Type 0} (o : Option V) → option_map (λ v. v) o ≡ o
+-- what stands behind a `get_mut`
+pub found_is : {V : Type 0} (o : Option (MutBor V)) (kept : MutBor V) (x : Option V) → o ≡ Some kept → option_copied_mut o ≡ x → x ≡ Some kept.now
+found_is o kept x some e = sym e ∙ ap option_copied_mut some
+
+pub some_found : {V : Type 0} {x : Option V} {v : V} → x ≡ Some v → IsSome x
+some_found e = ap is_some e
+
+pub same_option : {V : Type 0} (o : Option V) → option_map (λ v. v) o ≡ o
 same_option None = refl
 same_option (Some v) = refl
 

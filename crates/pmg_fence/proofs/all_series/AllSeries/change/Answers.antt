@@ -5,11 +5,11 @@ use Rattle.pmg_frame.proofs.FenceOrderLemmas.{signatures_exact}
 use Rattle.std.specs.Option.{unwrap_or}
 use Rattle.std.proofs.lemmas.Result.{err_from_is_err_and}
 use Rattle.pmg_value.specs.Rows.{rows_of}
-use Rattle.pmg_value.proofs.RowLemmas.{at_key, insert_same}
+use Rattle.pmg_value.proofs.RowLemmas.{at_key, insert_same, found_is, some_found}
 use Rattle.pmg_fence.specs.Kept.{series_changed}
 use Rattle.pmg_fence.specs.Tables.{Series, no_series}
 use Rattle.pmg_fence.proofs.RowFacts.{series_is, series_is_none}
-use Rattle.pmg_fence.proofs.Trees.{put_in, found_is, some_found}
+use Rattle.pmg_fence.proofs.Trees.{put_in}
 use Rattle.pmg_fence.proofs.all_series.AllSeries.change.Goals as goal
 
 pub returns-in_err-change-clause-err : goal.returns-in_err-change-clause-err

@@ -1,6 +1,7 @@
 use Rattle.std.proofs.Common.{sym, ◌∙◌}
 use Rattle.pmg_value.proofs.ProcessOrder.{procs_total, exact_procs}
-use Rattle.pmg_fence.proofs.Trees.{put_in, get_at, same_option}
+use Rattle.pmg_value.proofs.RowLemmas.{same_option}
+use Rattle.pmg_fence.proofs.Trees.{put_in, get_at}
 use Rattle.pmg_fence.proofs.numbers.Numbers.insert.Goals as goal
 
 pub returns-clause-ok : goal.returns-clause-ok

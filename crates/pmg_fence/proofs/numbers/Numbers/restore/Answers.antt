@@ -2,10 +2,10 @@ use Rattle.std.proofs.Common.{◌∙◌, sym, ap, ℕ}
 use Rattle.pmg_value.specs.Process.{proc_cmp}
 use Rattle.pmg_value.specs.Rows.{rows_of}
 use Rattle.pmg_value.proofs.ProcessOrder.{procs_total, exact_procs}
-use Rattle.pmg_value.proofs.RowLemmas.{at_key}
+use Rattle.pmg_value.proofs.RowLemmas.{at_key, found_is, some_found}
 use Rattle.pmg_fence.specs.Kept.{restored}
 use Rattle.pmg_fence.proofs.NumberLemmas.{restored_there, restored_nowhere}
-use Rattle.pmg_fence.proofs.Trees.{taken_out, found_is, some_found}
+use Rattle.pmg_fence.proofs.Trees.{taken_out}
 use Rattle.pmg_fence.proofs.numbers.Numbers.restore.Goals as goal
 
 pub returns-in-None : goal.returns-in-None

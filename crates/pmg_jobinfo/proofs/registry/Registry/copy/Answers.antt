@@ -1,4 +1,4 @@
-use Rattle.std.proofs.Common.{ℕ, List, ◌≡◌, refl, sym, ap, subst, ◌∙◌}
+use Rattle.std.proofs.Common.{ℕ, List, refl, sym, ap, subst, ◌∙◌}
 use Rattle.pmg_jobinfo.specs.Jobs.{AreJobs, jobs_of}
 use Rattle.pmg_jobinfo.proofs.TableLemmas.{same_spaces}
 use Rattle.pmg_jobinfo.proofs.registry.Registry.copy.Goals as goal

@@ -1,8 +1,8 @@
 use Rattle.std.proofs.Common.{ap, ◌∙◌}
 use Rattle.std.specs.Cmp.Lexicographic.{slice_cmp}
 use Rattle.std.specs.Ordering.{nat_cmp}
-use Rattle.pmg_value.proofs.RowLemmas.{at_key}
-use Rattle.pmg_scope.proofs.TableLemmas.{changed_there, changed_nowhere, found_is, some_found}
+use Rattle.pmg_value.proofs.RowLemmas.{at_key, found_is, some_found}
+use Rattle.pmg_scope.proofs.TableLemmas.{changed_there, changed_nowhere}
 use Rattle.pmg_scope.specs.Rows.{table_of, changed_at}
 use Rattle.pmg_scope.proofs.table.Table.change.Goals as goal
 use Rattle.pmg_scope.proofs.table.Table.change.Goals.{in-Some, in_default}
