@@ -42,6 +42,7 @@ stays m ends p level n there q = by_proc q p same other
     same e =
         let is = ap (finite.get m) e ∙ there in
         ap (λ o. entry_by o (finite.get (finite.insert ends p level) q)) is ∙ sym (ap (λ o. entry_by o (finite.get ends q)) is)
+
     other : same_proc q p ≡ false → entry_by (finite.get m q) (finite.get (finite.insert ends p level) q) ≡ entry_by (finite.get m q) (finite.get ends q)
     other e = ap (entry_by (finite.get m q)) (finite.get-insert procs_total ends p level q ∙ ap (λ b. cond b (Some level) (finite.get ends q)) e)
 

@@ -126,7 +126,7 @@ level_other (Call.enter i ∷ cs) h g (suc k) e apart =
     let n = enters cs g in
     let ds = cs ++ Call.enter h ∷ [] in
     elim (same_signature g i) as (λ b. (same_signature g h ≡ true → suc k ≡ suc (cond b (suc n) n) → ⊥)
-        → cond b (cond (k == 0) (Some 0) (level_before ds g k)) (level_before ds g (suc k)) ≡ cond b (cond (k == 0) (Some 0) (level_before cs g k)) (level_before cs g (suc k))) [
+    → cond b (cond (k == 0) (Some 0) (level_before ds g k)) (level_before ds g (suc k)) ≡ cond b (cond (k == 0) (Some 0) (level_before cs g k)) (level_before cs g (suc k))) [
       | true ↦ λ far_off. ap (cond (k == 0) (Some 0)) (level_other cs h g k e (λ t z. far_off t (ap suc z)))
       | false ↦ λ far_off. level_other cs h g (suc k) e far_off
     ] apart
@@ -181,6 +181,7 @@ entry_stays s t f e h = by_level (level_before s f.signature f.instance) refl
       where
         none_some : None ≡ Some e → ⊥
         none_some z = cc
+
     by_level : (o : Option ℕ) → level_before s f.signature f.instance ≡ o → entry_by (level_before (s ++ t) f.signature f.instance) (level_at_end (s ++ t)) ≡ Some e
     by_level (Some l) is = ap (λ o. entry_by o (level_at_end (s ++ t))) (level_stays s t f.signature f.instance l is) ∙ sym (ap (λ o. entry_by o (level_at_end s)) is) ∙ h
     by_level None is = no_level is

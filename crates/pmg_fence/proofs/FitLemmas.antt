@@ -125,4 +125,3 @@ gone_are_true jobs node scripts t f level fits ready =
     filter_alike (λ q. says_gone (told_of jobs node t f q)) (λ q. says_gone (entry (scripts q) f)) (participants_of f) (λ q i.
     let is = covered_told jobs node t f level ready q i in
     ap says_gone (is.1 ∙ sym (told_is_true jobs node scripts t f q is.0 fits i is.1)))
-

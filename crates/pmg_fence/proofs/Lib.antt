@@ -11,3 +11,4 @@ pub mod NewsLemmas
 pub mod ReadLemmas
 pub mod EndLemmas
 pub mod FitLemmas
+pub mod StepLemmas

@@ -110,6 +110,7 @@ covered_there collect level n o e is same h = ap (is_covered collect level) is �
   where
     reached : nat_le e.level level ≡ true
     reached = grind (arith, nat_tests)
+
     by_collect : (c : Bool) → (not c || nat_le e.level level) ≡ true
     by_collect true = reached
     by_collect false = refl

@@ -1,16 +1,17 @@
 -- How what a node keeps of fences goes on with the calls of its own processes, and with what other nodes tell.
-use Rattle.std.specs.Prelude.{◌≡◌, ◌≤◌, ℕ, true, List, ◌++◌, Some}
+use Rattle.std.specs.Prelude.{◌≡◌, ◌≤◌, ℕ, true, false, List, [], ◌∷◌, ◌++◌, Some, if◌then◌else◌}
 use Rattle.std.specs.FinMap as finite
 use Rattle.std.specs.List.{filter}
 use Rattle.pmg_value.specs.Lists.{In}
 use Rattle.pmg_value.specs.Signatures.{Signature, FenceName}
 use Rattle.pmg_value.specs.declared.process.Proc.{Proc}
-use Rattle.pmg_scope.specs.Scripts.{Script}
+use Rattle.pmg_scope.specs.Scripts.{Call, Script, has_end, commits}
 use Rattle.pmg_frame.specs.Fences.{participants_of}
 use Rattle.pmg_frame.specs.declared.local.Local.{Local}
 use Rattle.pmg_jobinfo.specs.Jobs.{Jobs, home_of}
 use Rattle.pmg_fence.specs.declared.entry.Entry.{Entry}
-use Rattle.pmg_fence.specs.Entering.{enters, level_before, level_at_end, entry, header_of}
+use Rattle.pmg_fence.specs.Entering.{same_proc, enters, level_before, level_at_end, entry, header_of}
+use Rattle.pmg_fence.specs.Changes.{learned, entered_by, ended_by}
 use Rattle.pmg_fence.specs.Tables.{Fences, fence_at, count_of, own_header, header_at, told_of, is_ready, says_gone, gone_by}
 
 -- What is kept of an own process's fences fits its script: how often it entered those of each signature, at which levels,
@@ -43,6 +44,28 @@ abbrev pub HeaderStays : Type 0
 HeaderStays =
     (jobs : Jobs) (scripts grown : Scripts) (f : FenceName) (node : ℕ) (ls : List Local) → Grows scripts grown
     → header_of jobs scripts f node ≡ Some ls → header_of jobs grown f node ≡ Some ls
+
+-- ---- how a table that fits goes on
+
+-- the scripts, once the process has made the call
+abbrev pub with_call : Scripts → Proc → Call → Scripts
+with_call scripts p call = λ q. if same_proc q p then scripts q ++ call ∷ [] else scripts q
+
+-- an own process that has not ended enters at its level: the number of the entry is the instance
+abbrev pub EnterFits : Type 0
+EnterFits =
+    (jobs : Jobs) (node : ℕ) (scripts : Scripts) (t : Fences) (p : Proc) (g : Signature) → home_of jobs p ≡ node → has_end (scripts p) ≡ false
+    → FitsTable jobs node scripts t → FitsTable jobs node (with_call scripts p (Call.enter g)) (entered_by t g p (commits (scripts p)))
+
+-- and ends at its level: the end is a commit itself
+abbrev pub EndFits : Type 0
+EndFits =
+    (jobs : Jobs) (node : ℕ) (scripts : Scripts) (t : Fences) (p : Proc) → home_of jobs p ≡ node → has_end (scripts p) ≡ false
+    → FitsTable jobs node scripts t → FitsTable jobs node (with_call scripts p Call.terminate) (ended_by t p (commits (scripts p ++ Call.terminate ∷ [])))
+
+-- a name is learned
+abbrev pub LearnFits : Type 0
+LearnFits = (jobs : Jobs) (node : ℕ) (scripts : Scripts) (t : Fences) (f : FenceName) → FitsTable jobs node scripts t → FitsTable jobs node scripts (learned t f)
 
 -- ---- what a table that fits says
 
@@ -88,4 +111,3 @@ abbrev pub GoneAreTrue : Type 0
 GoneAreTrue =
     (jobs : Jobs) (node : ℕ) (scripts : Scripts) (t : Fences) (f : FenceName) (level : Proc → ℕ) → FitsTable jobs node scripts t
     → is_ready jobs node t f level ≡ true → gone_by jobs node t f ≡ gone_of scripts f
-

@@ -7,6 +7,9 @@ ghost use Rattle.pmg_fence.specs.Rules.{
   ReadyStays,
   ReadyIsWhole,
   GoneAreTrue,
+  EnterFits,
+  EndFits,
+  LearnFits,
 };
 
 /// The rules of entries and headers as scripts grow: each is final.
@@ -24,4 +27,12 @@ pub fn table_rules()
     ensures ready_stays { ReadyStays }
     ensures ready_is_whole { ReadyIsWhole }
     ensures gone_are_true { GoneAreTrue }
+{}
+
+/// The rules of a table that fits the scripts as it goes on: it fits them with the call added that an own process made, and as
+/// they are where a name is learned.
+pub fn call_rules()
+    ensures enter_fits { EnterFits }
+    ensures end_fits { EndFits }
+    ensures learn_fits { LearnFits }
 {}

@@ -146,7 +146,10 @@ impl Series {
         let counted = proc.copy()?;
         let entered = proc.copy()?;
         let before = self.counts.insert(counted, instance)?;
-        if let Err(AllocError) = self.fences.change(instance, Change::Entered(entered, level)) {
+        if let Err(AllocError) = self
+            .fences
+            .change(instance, Change::Entered(entered, level))
+        {
             self.counts.restore(&proc, before);
             return Err(AllocError);
         }

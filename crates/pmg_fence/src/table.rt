@@ -276,12 +276,7 @@ impl Table {
     /// The process enters its next fence of the signature, after so many commits: the number of the entry, which is the
     /// instance, is given. Where this completes the node's header, that waits to be taken. Refused as TooMany past 4294967295
     /// entries, and as NoMemory.
-    pub fn enter(
-        &mut self,
-        signature: &Signature,
-        proc: &Proc,
-        level: u64,
-    ) -> Result<u64, Refusal>
+    pub fn enter(&mut self, signature: &Signature, proc: &Proc, level: u64) -> Result<u64, Refusal>
         requires { level ≤ 4294967295 }
         ensures answer { Gives (λ n. n) result (enter_answer self.old.fences signature.now proc.now) }
         ensures ok { OnOk result (self.new ≡ changed_at self.old (next_name self.old.fences signature.now proc.now)

@@ -1,0 +1,157 @@
+-- How a table that fits goes on with the calls.
+use Rattle.std.proofs.Common.{◌≡◌, ℕ, suc, Bool, true, false, ◌&&◌, cond, [], ◌∷◌, ◌++◌, Some, None, refl, sym, ap, ◌∙◌, subst}
+use Rattle.std.specs.FinMap as finite
+use Rattle.std.specs.Option.{unwrap_or}
+use Rattle.std.specs.Ordering.{is_eq}
+use Rattle.std.specs.Cmp.{nat_cmp_total}
+use Rattle.std.proofs.lemmas.Bool.{false≢true}
+use Rattle.std.proofs.lemmas.Cmp.{tied_itself}
+use Rattle.pmg_value.specs.Signatures.{Signature, FenceName}
+use Rattle.pmg_value.specs.declared.process.Proc.{Proc}
+use Rattle.pmg_value.proofs.ProcessOrder.{procs_total, exact_procs}
+use Rattle.pmg_scope.specs.Scripts.{Call, Script, has_end, commits}
+use Rattle.pmg_scope.proofs.ScriptLaws.{open_commits}
+use Rattle.pmg_fence.specs.Entering.{same_proc, same_signature, enters, level_before, level_at_end}
+use Rattle.pmg_fence.specs.Tables.{Numbers, Fence, Fences, series_at, fence_at, count_of}
+use Rattle.pmg_fence.specs.Changes.{placed, next_name, entered_by, ended_by, fence_entered}
+use Rattle.pmg_fence.specs.Rules.{FitsFences, Scripts, Grows, with_call, EnterFits, EndFits, LearnFits}
+use Rattle.pmg_fence.proofs.EntryLemmas.{ends_now, proc_itself, has_end_next, enters_enter, enters_idle, level_idle, level_entered, level_other, no_end}
+use Rattle.pmg_fence.proofs.HeaderLemmas.{by_proc}
+use Rattle.pmg_fence.proofs.LineLemmas.{append_empty}
+use Rattle.pmg_fence.proofs.FitLemmas.{header_stays}
+use Rattle.pmg_fence.proofs.TableLemmas.{same_name, same_instance, signature_exact, name_exact, fence-placed, count-placed}
+use Rattle.pmg_fence.proofs.Trees.{get_put}
+
+-- ---- scripts with one more call
+
+grows_by : (b : Bool) (s : Script) (call : Call) → (later : Script) × (cond b (s ++ call ∷ []) s ≡ s ++ later)
+grows_by true s call = (call ∷ [], refl)
+grows_by false s call = ([], sym (append_empty s))
+
+pub call_grows : (scripts : Scripts) (p : Proc) (call : Call) → Grows scripts (with_call scripts p call)
+call_grows scripts p call q = grows_by (same_proc q p) (scripts q) call
+
+said_at : (scripts : Scripts) (p : Proc) (call : Call) (t : Fences) (q : Proc)
+    → FitsFences (scripts p ++ call ∷ []) t p → (same_proc q p ≡ false → FitsFences (scripts q) t q) → FitsFences (with_call scripts p call q) t q
+said_at scripts p call t q one other = by_proc q p
+    (λ e. subst (λ r. FitsFences (with_call scripts p call r) t r) (sym e) (subst (λ b. FitsFences (cond b (scripts p ++ call ∷ []) (scripts p)) t p) (sym (proc_itself p)) one))
+    (λ e. subst (λ b. FitsFences (cond b (scripts q ++ call ∷ []) (scripts q)) t q) (sym e) (other e))
+
+-- ---- a change that is nothing to a process
+
+same_level : (b : Bool) (x y : Fence) (q : Proc) → (b ≡ true → finite.get x.levels q ≡ finite.get y.levels q) → finite.get (cond b x y).levels q ≡ finite.get y.levels q
+same_level true x y q same = same refl
+same_level false x y q same = refl
+
+same_count : (b : Bool) (m n : ℕ) → (b ≡ true → m ≡ n) → cond b m n ≡ n
+same_count true m n same = same refl
+same_count false m n same = refl
+
+pub placed_fits : (s : Script) (t : Fences) (f : FenceName) (fence : Fence) (counts : Numbers) (q : Proc)
+    → finite.get fence.levels q ≡ finite.get (fence_at t f).levels q → unwrap_or (finite.get counts q) 0 ≡ count_of t f.signature q
+    → FitsFences s t q → FitsFences s (placed t f fence counts) q
+unfolding placed
+placed_fits s t f fence counts q levels count fits = record {
+  counts = λ g. count-placed t f fence counts g q
+      ∙ same_count (same_signature g f.signature) (unwrap_or (finite.get counts q) 0) (count_of t g q) (λ e. count ∙ ap (λ h. count_of t h q) (sym (signature_exact g f.signature e)))
+      ∙ fits.counts g;
+  levels = λ x. ap (λ (y : Fence). finite.get y.levels q) (fence-placed t f fence counts x)
+      ∙ same_level (same_name x f) fence (fence_at t x) q (λ e. levels ∙ ap (λ y. finite.get (fence_at t y).levels q) (sym (name_exact x f e)))
+      ∙ fits.levels x;
+  ends = fits.ends;
+}
+
+same_headers : (b : Bool) (x y : Fence) → (b ≡ true → x.headers ≡ y.headers) → (cond b x y).headers ≡ y.headers
+same_headers true x y same = same refl
+same_headers false x y same = refl
+
+pub headers_placed : (t : Fences) (f : FenceName) (fence : Fence) (counts : Numbers) (x : FenceName) → fence.headers ≡ (fence_at t f).headers → (fence_at (placed t f fence counts) x).headers ≡ (fence_at t x).headers
+headers_placed t f fence counts x same =
+    ap (λ (y : Fence). y.headers) (fence-placed t f fence counts x)
+    ∙ same_headers (same_name x f) fence (fence_at t x) (λ e. same ∙ ap (λ y. (fence_at t y).headers) (sym (name_exact x f e)))
+
+count_is : (t : Fences) (g : Signature) (q : Proc) → unwrap_or (finite.get (series_at t g).counts q) 0 ≡ count_of t g q
+unfolding count_of
+count_is t g q = refl
+
+pub learn_fits : LearnFits
+learn_fits jobs node scripts t f fits = record {
+  own = λ q e. placed_fits (scripts q) t f (fence_at t f) (series_at t f.signature).counts q refl (count_is t f.signature q) (fits.own q e);
+  headers = λ x other ls h. fits.headers x other ls (sym (ap (λ m. finite.get m other) (headers_placed t f (fence_at t f) (series_at t f.signature).counts x refl)) ∙ h);
+}
+
+-- ---- an entry
+
+not_it : (p q : Proc) (m : Numbers) (n : ℕ) → same_proc q p ≡ false → finite.get (finite.insert m p n) q ≡ finite.get m q
+not_it p q m n e = finite.get-insert procs_total m p n q ∙ ap (λ b. cond b (Some n) (finite.get m q)) e
+
+its_count : (s : Script) (t : Fences) (p : Proc) (g h : Signature) (b : Bool) → same_signature h g ≡ b → FitsFences s t p
+    → cond b (suc (count_of t g p)) (count_of t h p) ≡ cond b (suc (enters s h)) (enters s h)
+its_count s t p g h true e fits = ap (λ x. suc (count_of t x p)) (sym (signature_exact h g e)) ∙ ap suc (fits.counts h)
+its_count s t p g h false e fits = fits.counts h
+
+apart_by : (s : Script) (t : Fences) (p : Proc) (g : Signature) (x : FenceName) → FitsFences s t p → same_name x (next_name t g p) ≡ false
+    → same_signature x.signature g ≡ true → x.instance ≡ suc (enters s x.signature) → ⊥
+apart_by s t p g x fits other same number =
+    let count : x.instance ≡ suc (count_of t g p) = number ∙ ap suc (sym (fits.counts x.signature) ∙ ap (λ h. count_of t h p) (signature_exact x.signature g same)) in
+    let alike : same_instance x.instance (suc (count_of t g p)) ≡ true = ap (λ n. same_instance n (suc (count_of t g p))) count ∙ ap is_eq (tied_itself nat_cmp_total (suc (count_of t g p))) in
+    false≢true (sym other ∙ (λ i. same i && alike i))
+
+its_level : (s : Script) (t : Fences) (p : Proc) (g : Signature) (x : FenceName) (b : Bool) → same_name x (next_name t g p) ≡ b → has_end s ≡ false → FitsFences s t p
+    → finite.get (cond b (fence_entered (fence_at t (next_name t g p)) p (commits s)) (fence_at t x)).levels p ≡ level_before (s ++ Call.enter g ∷ []) x.signature x.instance
+its_level s t p g x true e live fits =
+    get_put procs_total exact_procs (fence_at t (next_name t g p)).levels p (commits s)
+    ∙ ap Some (open_commits s live) ∙ sym (level_entered s g live)
+    ∙ ap (λ n. level_before (s ++ Call.enter g ∷ []) g (suc n)) (sym (fits.counts g))
+    ∙ ap (λ (y : FenceName). level_before (s ++ Call.enter g ∷ []) y.signature y.instance) (sym (name_exact x (next_name t g p) e))
+its_level s t p g x false e live fits = fits.levels x ∙ sym (level_other s g x.signature x.instance live (apart_by s t p g x fits e))
+
+entered_fits : (s : Script) (t : Fences) (p : Proc) (g : Signature) → has_end s ≡ false → FitsFences s t p → FitsFences (s ++ Call.enter g ∷ []) (entered_by t g p (commits s)) p
+unfolding placed
+entered_fits s t p g live fits =
+    let f = next_name t g p in
+    let fence = fence_entered (fence_at t f) p (commits s) in
+    let counts = finite.insert (series_at t g).counts p (suc (count_of t g p)) in
+    record {
+      counts = λ h. count-placed t f fence counts h p
+          ∙ ap (λ o. cond (same_signature h g) (unwrap_or o 0) (count_of t h p)) (get_put procs_total exact_procs (series_at t g).counts p (suc (count_of t g p)))
+          ∙ its_count s t p g h (same_signature h g) refl fits ∙ sym (enters_enter s g h live);
+      levels = λ x. ap (λ (y : Fence). finite.get y.levels p) (fence-placed t f fence counts x) ∙ its_level s t p g x (same_name x f) refl live fits;
+      ends = fits.ends ∙ no_end s live ∙ sym (no_end (s ++ Call.enter g ∷ []) (has_end_next s (Call.enter g ∷ []) live));
+    }
+
+pub enter_fits : EnterFits
+enter_fits jobs node scripts t p g home live fits =
+    let f = next_name t g p in
+    let level = commits (scripts p) in
+    let fence = fence_entered (fence_at t f) p level in
+    let counts = finite.insert (series_at t g).counts p (suc (count_of t g p)) in
+    record {
+      own = λ q e. said_at scripts p (Call.enter g) (entered_by t g p level) q (entered_fits (scripts p) t p g live (fits.own p home)) (λ other.
+          placed_fits (scripts q) t f fence counts q (not_it p q (fence_at t f).levels level other)
+          (ap (λ o. unwrap_or o 0) (not_it p q (series_at t g).counts (suc (count_of t g p)) other) ∙ count_is t g q) (fits.own q e));
+      headers = λ x other ls h. header_stays jobs scripts (with_call scripts p (Call.enter g)) x other ls (call_grows scripts p (Call.enter g))
+          (fits.headers x other ls (sym (ap (λ m. finite.get m other) (headers_placed t f fence counts x refl)) ∙ h));
+    }
+
+-- ---- an end
+
+end_level : (s : Script) → has_end s ≡ false → level_at_end (s ++ Call.terminate ∷ []) ≡ Some (commits (s ++ Call.terminate ∷ []))
+end_level s live = ap (λ b. cond b (Some (commits (s ++ Call.terminate ∷ []))) None) (has_end_next s (Call.terminate ∷ []) live)
+
+pub end_fits : EndFits
+unfolding fence_at count_of series_at
+end_fits jobs node scripts t p home live fits =
+    let last = commits (scripts p ++ Call.terminate ∷ []) in
+    let mine = fits.own p home in
+    let left : FitsFences (scripts p ++ Call.terminate ∷ []) (ended_by t p last) p = record {
+      counts = λ g. mine.counts g ∙ sym (enters_idle (scripts p) Call.terminate g ends_now);
+      levels = λ f. mine.levels f ∙ sym (level_idle (scripts p) Call.terminate f.signature f.instance ends_now);
+      ends = get_put procs_total exact_procs t.ends p last ∙ sym (end_level (scripts p) live);
+    } in
+    record {
+      own = λ q e. said_at scripts p Call.terminate (ended_by t p last) q left (λ other.
+          let its = fits.own q e in
+          record { counts = its.counts; levels = its.levels; ends = not_it p q t.ends last other ∙ its.ends });
+      headers = λ x other ls h. header_stays jobs scripts (with_call scripts p Call.terminate) x other ls (call_grows scripts p Call.terminate) (fits.headers x other ls h);
+    }
