@@ -1,7 +1,7 @@
 //! What no clause says: that calls succeed where there is memory, and when they are called again after memory ran out,
 //! with all as it was before; and what lanes of some pieces hold, found by hand.
 use crate::Lane;
-use pmg_commit::{Piece, PieceEntry};
+use pmg_commit::{Piece, PieceEntry, best_of};
 use pmg_join::{Join, join_of_many, join_rules};
 use pmg_value::{Key, Nspace, Proc, Rank, Refusal, Value};
 use std::alloc::{AllocError, Global};
@@ -163,4 +163,71 @@ fn lanes_join_to_what_both_took(rt: HostRuntime) -> Result<(), Refusal> {
 fn lanes_are_joined_lawfully(_rt: HostRuntime) {
     join_of_many::<Lane>();
     join_rules::<Lane>();
+}
+
+// The slow program: how far the pieces go from the first commit without a gap.
+fn plain_level(pieces: &[Piece]) -> u64 {
+    let mut level = 0;
+    for _ in 0..pieces.len() {
+        for piece in pieces {
+            if piece.from() <= level && level < piece.to() {
+                level = piece.to();
+            }
+        }
+    }
+    level
+}
+
+// The slow program: what is read under the key at the level.
+fn plain_read(pieces: &[Piece], level: u64, name: &Key) -> Option<u8> {
+    let mut best = None;
+    for piece in pieces {
+        best = best_of(piece.entries(), level, name, best);
+    }
+    match best {
+        Some(entry) => small(Some(&entry.value)),
+        None => None,
+    }
+}
+
+// A piece of one to four of the commits 1 to 19, as the number says.
+fn drawn(alloc: Global, number: u64) -> Result<Piece, Refusal> {
+    let from = number >> 60;
+    let more = (number >> 58) & 3;
+    let commit = from + 1 + ((number >> 56) & more);
+    let name: &[u8] = if number >> 55 & 1 == 0 { b"a" } else { b"b" };
+    piece(
+        alloc,
+        from,
+        from + 1 + more,
+        name,
+        commit,
+        (number >> 40 & 255) as u8,
+    )
+}
+
+#[test]
+fn lanes_hold_what_a_list_of_pieces_does(rt: HostRuntime) -> Result<(), Refusal> {
+    let alloc = rt.alloc();
+    let a = key(alloc, b"a")?;
+    let b = key(alloc, b"b")?;
+    let mut lane = Lane::new(alloc);
+    let mut pieces = again!(Vec::with_capacity(alloc, 60))?;
+    let mut number = 7u64;
+    for _ in 0..60 {
+        number = number
+            .wrapping_mul(6364136223846793005)
+            .wrapping_add(1442695040888963407);
+        let next = drawn(alloc, number)?;
+        absorb_again(alloc, &mut lane, &next)?;
+        pieces.push(next)?;
+        let level = plain_level(&pieces);
+        let due = (
+            level,
+            plain_read(&pieces, level, &a),
+            plain_read(&pieces, level, &b),
+        );
+        assert_eq!(rt; seen(alloc, &lane)?, due);
+    }
+    Ok(())
 }
