@@ -1,5 +1,5 @@
 -- Levels by process and node.
-use Rattle.std.specs.Prelude.{ℕ, List, Option, Some, None, nat_le, nat_lt, filter, if◌then◌else◌}
+use Rattle.std.specs.Prelude.{ℕ, List, Option, nat_le, nat_lt, filter, if◌then◌else◌}
 use Rattle.std.specs.Option.{unwrap_or}
 use Rattle.std.specs.Ordering.{nat_cmp}
 use Rattle.std.specs.FinMap as finite

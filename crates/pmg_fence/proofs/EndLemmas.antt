@@ -4,7 +4,6 @@ use Rattle.std.specs.FinMap as finite
 use Rattle.std.specs.List.{flat_map}
 use Rattle.std.specs.Map.{keys_of}
 use Rattle.std.specs.Ordering.{nat_cmp}
-use Rattle.std.specs.FinMap.{nat_cmp-IsAntisymmetric}
 use Rattle.std.specs.Cmp.{nat_cmp_total}
 use Rattle.std.proofs.lemmas.List.Concat.{flat_map-append}
 use Rattle.pmg_value.specs.Rows.{rows_of, AreRising}
@@ -14,7 +13,6 @@ use Rattle.pmg_value.specs.declared.process.Proc.{Proc}
 use Rattle.std.specs.Cmp.{Equal-is}
 use Rattle.pmg_value.proofs.ProcessOrder.{procs_total, exact_procs}
 use Rattle.pmg_frame.specs.FenceOrder.{signature_cmp, signature_total}
-use Rattle.pmg_frame.proofs.FenceOrderLemmas.{signatures_exact}
 use Rattle.pmg_frame.specs.Fences.{Header}
 use Rattle.pmg_frame.specs.declared.local.Local.{Local}
 use Rattle.pmg_frame.specs.declared.local.State.TheVariants as states

@@ -1,9 +1,10 @@
 -- How a table that fits goes on with the calls.
-use Rattle.std.proofs.Common.{◌≡◌, ℕ, suc, Bool, true, false, ◌&&◌, cond, [], ◌∷◌, ◌++◌, Some, None, refl, sym, ap, ◌∙◌, subst}
+use Rattle.std.proofs.Common.{◌≡◌, ℕ, suc, Bool, true, false, ◌&&◌, cond, List, [], ◌∷◌, ◌++◌, Option, Some, None, is_some, refl, sym, ap, ◌∙◌, subst}
 use Rattle.std.specs.FinMap as finite
 use Rattle.std.specs.Option.{unwrap_or}
-use Rattle.std.specs.Ordering.{is_eq}
-use Rattle.std.specs.Cmp.{nat_cmp_total}
+use Rattle.std.specs.Ordering.{eq_by_cmp, is_eq, nat_cmp}
+use Rattle.std.specs.Cmp.{Equal-is, nat_cmp_total}
+use Rattle.std.specs.FinMap.{nat_cmp-IsAntisymmetric}
 use Rattle.std.proofs.lemmas.Bool.{false≢true}
 use Rattle.std.proofs.lemmas.Cmp.{tied_itself}
 use Rattle.pmg_value.specs.Signatures.{Signature, FenceName}
@@ -11,11 +12,17 @@ use Rattle.pmg_value.specs.declared.process.Proc.{Proc}
 use Rattle.pmg_value.proofs.ProcessOrder.{procs_total, exact_procs}
 use Rattle.pmg_scope.specs.Scripts.{Call, Script, has_end, commits}
 use Rattle.pmg_scope.proofs.ScriptLaws.{open_commits}
-use Rattle.pmg_fence.specs.Entering.{same_proc, same_signature, enters, level_before, level_at_end}
-use Rattle.pmg_fence.specs.Tables.{Numbers, Fence, Fences, series_at, fence_at, count_of}
-use Rattle.pmg_fence.specs.Changes.{placed, next_name, entered_by, ended_by, fence_entered}
-use Rattle.pmg_fence.specs.Rules.{FitsFences, Scripts, Grows, with_call, EnterFits, EndFits, LearnFits}
-use Rattle.pmg_fence.proofs.EntryLemmas.{ends_now, proc_itself, has_end_next, enters_enter, enters_idle, level_idle, level_entered, level_other, no_end}
+use Rattle.pmg_value.specs.Process.{proc_cmp}
+use Rattle.pmg_frame.specs.FenceOrder.{signature_cmp}
+use Rattle.pmg_frame.specs.Fences.{Header}
+use Rattle.pmg_frame.specs.declared.local.Local.{Local}
+use Rattle.pmg_jobinfo.specs.Jobs.{Jobs, home_of}
+use Rattle.pmg_fence.specs.Codes.{Headers}
+use Rattle.pmg_fence.specs.Entering.{same_proc, same_signature, enters, header_of, level_before, level_at_end}
+use Rattle.pmg_fence.specs.Tables.{Numbers, Fence, Series, Fences, no_fence, no_fences, no_series, series_at, fence_at, count_of}
+use Rattle.pmg_fence.specs.Changes.{placed, next_name, entered_by, ended_by, fence_entered, fence_told, first_of}
+use Rattle.pmg_fence.specs.Rules.{FitsFences, FitsTable, Scripts, Grows, with_call, NewFits, PutFits, CommitFits, EnterFits, EndFits, OthersFit, LearnFits, HeaderFits}
+use Rattle.pmg_fence.proofs.EntryLemmas.{Idle, puts, commits_now, ends_now, proc_itself, has_end_next, enters_enter, enters_idle, level_idle, level_entered, level_other, no_end}
 use Rattle.pmg_fence.proofs.HeaderLemmas.{by_proc}
 use Rattle.pmg_fence.proofs.LineLemmas.{append_empty}
 use Rattle.pmg_fence.proofs.FitLemmas.{header_stays}
@@ -154,4 +161,87 @@ end_fits jobs node scripts t p home live fits =
           let its = fits.own q e in
           record { counts = its.counts; levels = its.levels; ends = not_it p q t.ends last other ∙ its.ends });
       headers = λ x other ls h. header_stays jobs scripts (with_call scripts p Call.terminate) x other ls (call_grows scripts p Call.terminate) (fits.headers x other ls h);
+    }
+
+-- ---- calls that are nothing to fences, and those of other nodes
+
+idle_fits : (s : Script) (t : Fences) (p : Proc) (call : Call) → Idle call → has_end s ≡ false → has_end (call ∷ []) ≡ false → FitsFences s t p → FitsFences (s ++ call ∷ []) t p
+idle_fits s t p call idle live open_still fits = record {
+  counts = λ g. fits.counts g ∙ sym (enters_idle s call g idle);
+  levels = λ f. fits.levels f ∙ sym (level_idle s call f.signature f.instance idle);
+  ends = fits.ends ∙ no_end s live ∙ sym (no_end (s ++ call ∷ []) (has_end_next s (call ∷ []) live ∙ open_still));
+}
+
+said_fits : (jobs : Jobs) (node : ℕ) (scripts : Scripts) (t : Fences) (p : Proc) (call : Call) → (home_of jobs p ≡ node → FitsFences (scripts p ++ call ∷ []) t p)
+    → FitsTable jobs node scripts t → FitsTable jobs node (with_call scripts p call) t
+said_fits jobs node scripts t p call one fits = record {
+  own = λ q e. by_proc q p
+      (λ same. subst (λ r. FitsFences (with_call scripts p call r) t r) (sym same)
+      (subst (λ b. FitsFences (cond b (scripts p ++ call ∷ []) (scripts p)) t p) (sym (proc_itself p)) (one (ap (home_of jobs) (sym same) ∙ e))))
+      (λ other. subst (λ b. FitsFences (cond b (scripts q ++ call ∷ []) (scripts q)) t q) (sym other) (fits.own q e));
+  headers = λ x other ls h. header_stays jobs scripts (with_call scripts p call) x other ls (call_grows scripts p call) (fits.headers x other ls h);
+}
+
+pub put_fits : PutFits
+put_fits jobs node scripts t p scope key value live fits =
+    said_fits jobs node scripts t p (Call.put scope key value) (λ home. idle_fits (scripts p) t p (Call.put scope key value) (puts scope key value) live refl (fits.own p home)) fits
+
+pub commit_fits : CommitFits
+commit_fits jobs node scripts t p live fits = said_fits jobs node scripts t p Call.commit (λ home. idle_fits (scripts p) t p Call.commit commits_now live refl (fits.own p home)) fits
+
+pub others_fit : OthersFit
+others_fit jobs node scripts t p call away fits = said_fits jobs node scripts t p call (λ home. absurd (away home)) fits
+
+-- ---- a new table
+
+new_fence : (f : FenceName) → fence_at no_fences f ≡ no_fence
+unfolding fence_at series_at
+new_fence f =
+    ap (λ (o : Option Series). unwrap_or (finite.get (unwrap_or o no_series).fences f.instance) no_fence) (finite.get-empty signature_cmp f.signature)
+    ∙ ap (λ (o : Option Fence). unwrap_or o no_fence) (finite.get-empty nat_cmp f.instance)
+
+pub new_fits : NewFits
+unfolding count_of series_at level_before
+new_fits jobs node = record {
+  own = λ p e. record {
+    counts = λ g. ap (λ (o : Option Series). unwrap_or (finite.get (unwrap_or o no_series).counts p) 0) (finite.get-empty signature_cmp g) ∙ ap (λ (o : Option ℕ). unwrap_or o 0) (finite.get-empty proc_cmp p);
+    levels = λ f. ap (λ (x : Fence). finite.get x.levels p) (new_fence f) ∙ finite.get-empty proc_cmp p;
+    ends = finite.get-empty proc_cmp p;
+  };
+  headers = λ f other ls h. absurd (false≢true (ap is_some (sym (ap (λ (x : Fence). finite.get x.headers other) (new_fence f) ∙ finite.get-empty nat_cmp other) ∙ h)));
+}
+
+-- ---- a header
+
+module _ (jobs : Jobs) (scripts : Scripts) (f : FenceName) (node : ℕ) (locals : List Local) (headers : Headers)
+    (all : (m : ℕ) (ls : List Local) → finite.get headers m ≡ Some ls → header_of jobs scripts f m ≡ Some ls)
+    (its : header_of jobs scripts f node ≡ Some locals) where
+  first_is : (o : Option (List Local)) (ls : List Local) → finite.get headers node ≡ o → Some (first_of o locals) ≡ Some ls → header_of jobs scripts f node ≡ Some ls
+  first_is None ls e is = its ∙ is
+  first_is (Some first) ls e is = all node first e ∙ is
+
+  told_by_node : (m : ℕ) (ls : List Local) (b : Bool) → eq_by_cmp nat_cmp m node ≡ b → cond b (Some (first_of (finite.get headers node) locals)) (finite.get headers m) ≡ Some ls → header_of jobs scripts f m ≡ Some ls
+  told_by_node m ls true e is = subst (λ k. header_of jobs scripts f k ≡ Some ls) (sym (nat_cmp-IsAntisymmetric m node ((Equal-is _).0 e))) (first_is (finite.get headers node) ls refl is)
+  told_by_node m ls false e is = all m ls is
+
+  told_headers : (m : ℕ) (ls : List Local) → finite.get (finite.insert headers node (first_of (finite.get headers node) locals)) m ≡ Some ls → header_of jobs scripts f m ≡ Some ls
+  told_headers m ls found = told_by_node m ls (eq_by_cmp nat_cmp m node) refl (sym (finite.get-insert nat_cmp_total headers node (first_of (finite.get headers node) locals) m) ∙ found)
+
+told_by_name : (jobs : Jobs) (node : ℕ) (scripts : Scripts) (t : Fences) (h : Header) → header_of jobs scripts h.name h.node ≡ Some h.locals → FitsTable jobs node scripts t
+    → (x : FenceName) (other : ℕ) (ls : List Local) (b : Bool) → same_name x h.name ≡ b
+    → finite.get (cond b (fence_told (fence_at t h.name) h.node h.locals) (fence_at t x)).headers other ≡ Some ls → header_of jobs scripts x other ≡ Some ls
+told_by_name jobs node scripts t h its fits x other ls true e is =
+    subst (λ y. header_of jobs scripts y other ≡ Some ls) (sym (name_exact x h.name e))
+    (told_headers jobs scripts h.name h.node h.locals (fence_at t h.name).headers (fits.headers h.name) its other ls is)
+told_by_name jobs node scripts t h its fits x other ls false e is = fits.headers x other ls is
+
+pub header_fits : HeaderFits
+header_fits jobs node scripts t h its fits =
+    let f = h.name in
+    let fence = fence_told (fence_at t f) h.node h.locals in
+    let counts = (series_at t f.signature).counts in
+    record {
+      own = λ q e. placed_fits (scripts q) t f fence counts q refl (count_is t f.signature q) (fits.own q e);
+      headers = λ x other ls found. told_by_name jobs node scripts t h its fits x other ls (same_name x f) refl
+          (sym (ap (λ (y : Fence). finite.get y.headers other) (fence-placed t f fence counts x)) ∙ found);
     }

@@ -1,9 +1,9 @@
 -- Small trees in memory, as finite maps.
-use Rattle.std.proofs.Common.{◌≡◌, Bool, true, false, cond, List, Option, Some, None, is_some, IsSome, refl, sym, ap, ◌∙◌, Bor, MutBor}
+use Rattle.std.proofs.Common.{◌≡◌, Bool, true, false, cond, List, Option, Some, None, refl, sym, ap, ◌∙◌, Bor}
 use Rattle.std.specs.FinMap as finite
 use Rattle.std.specs.FinMap.{IsAntisymmetric}
 use Rattle.std.specs.BTreeMap.{is_at}
-use Rattle.std.specs.Option.{option_map, option_copied, option_copied_mut}
+use Rattle.std.specs.Option.{option_map, option_copied}
 use Rattle.std.specs.Cmp.{IsTotalOrder, Equal-is, eq_by_cmp_equiv}
 use Rattle.std.specs.Ordering.{eq_by_cmp}
 use Rattle.std.specs.declared.cmp.Ordering.{Ordering}

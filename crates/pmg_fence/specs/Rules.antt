@@ -5,14 +5,15 @@ use Rattle.std.specs.List.{filter}
 use Rattle.pmg_value.specs.Lists.{In}
 use Rattle.pmg_value.specs.Signatures.{Signature, FenceName}
 use Rattle.pmg_value.specs.declared.process.Proc.{Proc}
+use Rattle.pmg_scope.specs.declared.scope.Scope.{Scope}
 use Rattle.pmg_scope.specs.Scripts.{Call, Script, has_end, commits}
-use Rattle.pmg_frame.specs.Fences.{participants_of}
+use Rattle.pmg_frame.specs.Fences.{Header, participants_of}
 use Rattle.pmg_frame.specs.declared.local.Local.{Local}
 use Rattle.pmg_jobinfo.specs.Jobs.{Jobs, home_of}
 use Rattle.pmg_fence.specs.declared.entry.Entry.{Entry}
 use Rattle.pmg_fence.specs.Entering.{same_proc, enters, level_before, level_at_end, entry, header_of}
-use Rattle.pmg_fence.specs.Changes.{learned, entered_by, ended_by}
-use Rattle.pmg_fence.specs.Tables.{Fences, fence_at, count_of, own_header, header_at, told_of, is_ready, says_gone, gone_by}
+use Rattle.pmg_fence.specs.Changes.{learned, entered_by, ended_by, with_header}
+use Rattle.pmg_fence.specs.Tables.{Fences, no_fences, fence_at, count_of, own_header, header_at, told_of, is_ready, says_gone, gone_by}
 
 -- What is kept of an own process's fences fits its script: how often it entered those of each signature, at which levels,
 -- and the level at which it ended.
@@ -51,6 +52,21 @@ HeaderStays =
 abbrev pub with_call : Scripts → Proc → Call → Scripts
 with_call scripts p call = λ q. if same_proc q p then scripts q ++ call ∷ [] else scripts q
 
+-- a new table fits processes without calls
+abbrev pub NewFits : Type 0
+NewFits = (jobs : Jobs) (node : ℕ) → FitsTable jobs node (λ _. []) no_fences
+
+-- puts and commits are nothing to fences
+abbrev pub PutFits : Type 0
+PutFits =
+    (jobs : Jobs) (node : ℕ) (scripts : Scripts) (t : Fences) (p : Proc) (scope : Scope) (key value : List ℕ) → has_end (scripts p) ≡ false
+    → FitsTable jobs node scripts t → FitsTable jobs node (with_call scripts p (Call.put scope key value)) t
+
+abbrev pub CommitFits : Type 0
+CommitFits =
+    (jobs : Jobs) (node : ℕ) (scripts : Scripts) (t : Fences) (p : Proc) → has_end (scripts p) ≡ false
+    → FitsTable jobs node scripts t → FitsTable jobs node (with_call scripts p Call.commit) t
+
 -- an own process that has not ended enters at its level: the number of the entry is the instance
 abbrev pub EnterFits : Type 0
 EnterFits =
@@ -63,9 +79,21 @@ EndFits =
     (jobs : Jobs) (node : ℕ) (scripts : Scripts) (t : Fences) (p : Proc) → home_of jobs p ≡ node → has_end (scripts p) ≡ false
     → FitsTable jobs node scripts t → FitsTable jobs node (with_call scripts p Call.terminate) (ended_by t p (commits (scripts p ++ Call.terminate ∷ [])))
 
+-- a process of another node makes a call
+abbrev pub OthersFit : Type 0
+OthersFit =
+    (jobs : Jobs) (node : ℕ) (scripts : Scripts) (t : Fences) (p : Proc) (call : Call) → (home_of jobs p ≡ node → ⊥)
+    → FitsTable jobs node scripts t → FitsTable jobs node (with_call scripts p call) t
+
 -- a name is learned
 abbrev pub LearnFits : Type 0
 LearnFits = (jobs : Jobs) (node : ℕ) (scripts : Scripts) (t : Fences) (f : FenceName) → FitsTable jobs node scripts t → FitsTable jobs node scripts (learned t f)
+
+-- a header comes that is the scripts'
+abbrev pub HeaderFits : Type 0
+HeaderFits =
+    (jobs : Jobs) (node : ℕ) (scripts : Scripts) (t : Fences) (h : Header) → header_of jobs scripts h.name h.node ≡ Some h.locals
+    → FitsTable jobs node scripts t → FitsTable jobs node scripts (with_header t h)
 
 -- ---- what a table that fits says
 

@@ -7,9 +7,14 @@ ghost use Rattle.pmg_fence.specs.Rules.{
   ReadyStays,
   ReadyIsWhole,
   GoneAreTrue,
+  NewFits,
+  PutFits,
+  CommitFits,
   EnterFits,
   EndFits,
+  OthersFit,
   LearnFits,
+  HeaderFits,
 };
 
 /// The rules of entries and headers as scripts grow: each is final.
@@ -29,10 +34,15 @@ pub fn table_rules()
     ensures gone_are_true { GoneAreTrue }
 {}
 
-/// The rules of a table that fits the scripts as it goes on: it fits them with the call added that an own process made, and as
-/// they are where a name is learned.
+/// The rules of a table that fits the scripts as it goes on: a new one fits scripts without calls; it fits them with the call
+/// added that a process made, and as they are where a name is learned, or a header that is the scripts'.
 pub fn call_rules()
+    ensures new_fits { NewFits }
+    ensures put_fits { PutFits }
+    ensures commit_fits { CommitFits }
     ensures enter_fits { EnterFits }
     ensures end_fits { EndFits }
+    ensures others_fit { OthersFit }
     ensures learn_fits { LearnFits }
+    ensures header_fits { HeaderFits }
 {}

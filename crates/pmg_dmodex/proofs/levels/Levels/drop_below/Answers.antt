@@ -1,9 +1,7 @@
 use Rattle.std.proofs.Common.{sym, ap, ◌∙◌}
-use Rattle.std.specs.FinMap as finite
 use Rattle.pmg_value.specs.Process.{proc_cmp}
 use Rattle.pmg_value.specs.Rows.{map_of}
 use Rattle.pmg_value.proofs.RowLemmas.{at_key, found_is, some_found}
-use Rattle.pmg_dmodex.specs.Levels.{NodeLevels}
 use Rattle.pmg_dmodex.proofs.LevelLemmas.{kept_is, put_there, dropped_there, dropped_none}
 use Rattle.pmg_dmodex.proofs.levels.Levels.drop_below.Goals as goal
 use Rattle.pmg_dmodex.proofs.levels.Levels.drop_below.Goals.{in-Some, in_default}
