@@ -21,7 +21,6 @@ use Rattle.pmg_scope.specs.declared.scope.Reach.TheVariants as reach
 use Rattle.pmg_scope.specs.Scripts.{Call, Script, has_end, has_commit, ended, count_commits, commits, term_key, term_put, put_of, last_put}
 use Rattle.pmg_scope.specs.Sealing.{part, part_of, IsSealed}
 use Rattle.pmg_scope.specs.Cached.{Table, Unsealed}
-
 use Rattle.pmg_scope.proofs.SumLemmas.{t_first, t_second, is_less}
 use Rattle.pmg_scope.proofs.ScriptLaws.{by_end, has_commit_first, count_kept, open_commits, end_is_last}
 use Rattle.pmg_scope.proofs.SealingLaws.{none_earlier, sealed_once, sealed_among_fewer}
