@@ -1,2 +1,3 @@
 pub mod Levels
+pub mod Parked
 pub mod Requests

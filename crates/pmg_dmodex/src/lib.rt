@@ -3,9 +3,11 @@
 
 mod levels;
 mod marks;
+mod parked;
 mod pending;
 
 pub use marks::Marks;
+pub use parked::Parked;
 pub use pending::Pending;
 
 #[cfg(test)]

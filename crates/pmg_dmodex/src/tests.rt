@@ -1,7 +1,7 @@
 //! What no clause says: that each call gives its answer where there is memory, and gives it when it is called again
 //! after an allocation failed; and what waits after some requests, found by hand.
-use crate::{Marks, Pending};
-use pmg_value::{NodeId, Nspace, Proc, Rank, Refusal};
+use crate::{Marks, Parked, Pending};
+use pmg_value::{Key, NodeId, Nspace, Proc, Rank, Refusal};
 use std::alloc::{AllocError, Global};
 use std::process::Abort;
 
@@ -143,5 +143,64 @@ fn other_marks_stay(rt: HostRuntime) -> Result<(), Refusal> {
     assert!(rt; marks.from(first, &zero) == 7);
     assert!(rt; copy.from(second, &zero) == 0);
     assert!(rt; copy.from(first, &zero) == 7);
+    Ok(())
+}
+
+fn key_of(alloc: Global, text: &[u8]) -> Result<Key, Refusal> {
+    match Key::read(alloc, text) {
+        Err(Refusal::NoMemory) => Key::read(alloc, text),
+        key => key,
+    }
+}
+
+// The process of rank 0 asks for the key of the process of rank 1, and so does that of rank 2.
+fn two_ask(alloc: Global, text: &[u8]) -> Result<Parked, Refusal> {
+    let key = key_of(alloc, text)?;
+    let target = proc_of(alloc, 1)?;
+    let mut parked = Parked::new(alloc);
+    again!(parked.park(&target, &proc_of(alloc, 2)?, &key))?;
+    again!(parked.park(&target, &proc_of(alloc, 0)?, &key))?;
+    Ok(parked)
+}
+
+// The ranks of those who ask for a key of the process, as digits.
+fn askers(alloc: Global, parked: &Parked, target: &Proc) -> Result<Vec<u8>, Refusal> {
+    let gets = again!(parked.on(target))?;
+    let mut ranks = again!(Vec::with_capacity(alloc, gets.len()))?;
+    for (asker, _) in gets.iter() {
+        ranks.push(b'0'.wrapping_add(asker.rank.number() as u8))?;
+    }
+    Ok(ranks)
+}
+
+#[test]
+fn gets_wait_for_their_target(rt: HostRuntime) -> Result<(), Refusal> {
+    let alloc = rt.alloc();
+    let mut parked = two_ask(alloc, b"a")?;
+    let (zero, one) = (proc_of(alloc, 0)?, proc_of(alloc, 1)?);
+    assert!(rt; askers(alloc, &parked, &one)?.as_slice() == b"02".as_slice());
+    assert!(rt; askers(alloc, &parked, &zero)?.is_empty());
+    parked.remove(&one, &zero);
+    assert!(rt; askers(alloc, &parked, &one)?.as_slice() == b"2".as_slice());
+    Ok(())
+}
+
+#[test]
+fn an_asker_waits_for_its_last_key(rt: HostRuntime) -> Result<(), Refusal> {
+    let alloc = rt.alloc();
+    let mut parked = two_ask(alloc, b"a")?;
+    let (zero, one) = (proc_of(alloc, 0)?, proc_of(alloc, 1)?);
+    let copy = again!(parked.copy())?;
+    again!(parked.park(&one, &zero, &key_of(alloc, b"b")?))?;
+    assert!(rt;
+        parked
+            .get(&one, &zero)
+            .is_some_and(|key| key.as_bytes() == b"b".as_slice())
+    );
+    assert!(rt;
+        copy.get(&one, &zero)
+            .is_some_and(|key| key.as_bytes() == b"a".as_slice())
+    );
+    assert!(rt; copy.get(&zero, &one).is_none());
     Ok(())
 }

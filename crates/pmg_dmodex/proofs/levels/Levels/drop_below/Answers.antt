@@ -2,7 +2,8 @@ use Rattle.std.proofs.Common.{sym, ap, ◌∙◌}
 use Rattle.pmg_value.specs.Process.{proc_cmp}
 use Rattle.pmg_value.specs.Rows.{map_of}
 use Rattle.pmg_value.proofs.RowLemmas.{at_key, found_is, some_found}
-use Rattle.pmg_dmodex.proofs.LevelLemmas.{kept_is, put_there, dropped_there, dropped_none}
+use Rattle.pmg_dmodex.specs.Levels.{not_below}
+use Rattle.pmg_dmodex.proofs.InnerLemmas.{kept_is, put_there, changed_there, changed_none}
 use Rattle.pmg_dmodex.proofs.levels.Levels.drop_below.Goals as goal
 use Rattle.pmg_dmodex.proofs.levels.Levels.drop_below.Goals.{in-Some, in_default}
 
@@ -15,12 +16,12 @@ returns c =
           let there = found_is c.get_mut.result w.in-Some.levels (at_key proc_cmp p old) w.in-Some.is c.get_mut.ensures.value in
           let updates = ((c.get_mut.follows.holds w.drop_below.new.self).3 (some_found there)).0 in
           ap (λ a. map_of a.rows.entries) w.self-inside-is
-          ∙ dropped_there c.args.self.now p c.args.level w.in-Some.levels.now w.drop_below.new.self (map_of (c.get_mut.follows.lender w.drop_below.new.self).entries)
+          ∙ changed_there c.args.self.now p (not_below c.args.level) w.in-Some.levels.now w.drop_below.new.self (map_of (c.get_mut.follows.lender w.drop_below.new.self).entries)
           (kept_is old c.args.self.now p c.self.view_is _ there) w.drop_below.ensures
           (put_there old c.args.self.now p c.self.view_is (c.get_mut.follows.lender w.drop_below.new.self).entries w.drop_below.new.self updates)
       | in_default w ↦
           ap (λ a. map_of a.rows.entries) w.self-inside-is
           ∙ ap (λ a. map_of a.entries) c.get_mut.follows.holds-at-none
           ∙ c.self.view_is
-          ∙ dropped_none c.args.self.now p c.args.level (kept_is old c.args.self.now p c.self.view_is _ (sym w.in_default.ensures.value))
+          ∙ changed_none c.args.self.now p (not_below c.args.level) (kept_is old c.args.self.now p c.self.view_is _ (sym w.in_default.ensures.value))
     ]

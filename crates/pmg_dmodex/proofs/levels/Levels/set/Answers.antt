@@ -6,7 +6,7 @@ use Rattle.pmg_value.specs.Rows.{map_of}
 use Rattle.pmg_value.proofs.ProcessOrder.{procs_total, exact_procs}
 use Rattle.pmg_value.proofs.RowLemmas.{at_key, found_is, some_found, rows_with}
 use Rattle.pmg_dmodex.specs.Levels.{NodeLevels}
-use Rattle.pmg_dmodex.proofs.LevelLemmas.{kept_is, put_there, put_same, set_there, set_first}
+use Rattle.pmg_dmodex.proofs.InnerLemmas.{kept_is, put_there, put_same, set_there, set_first}
 use Rattle.pmg_dmodex.proofs.levels.Levels.set.Goals as goal
 
 pub returns-in-Some-clause-ok : goal.returns-in-Some-clause-ok
