@@ -168,7 +168,7 @@ fn askers(alloc: Global, parked: &Parked, target: &Proc) -> Result<Vec<u8>, Refu
     let gets = again!(parked.on(target))?;
     let mut ranks = again!(Vec::with_capacity(alloc, gets.len()))?;
     for (asker, _) in gets.iter() {
-        ranks.push(b'0'.wrapping_add(asker.rank.number() as u8))?;
+        ranks.push(b'0' + (asker.rank.number() % 10) as u8)?;
     }
     Ok(ranks)
 }
