@@ -5,6 +5,7 @@ pub mod Trees
 pub mod NumberLemmas
 pub mod RowFacts
 pub mod SeriesLemmas
+pub mod KeepLemmas
 pub mod LineLemmas
 pub mod TellLemmas
 pub mod NewsLemmas

@@ -54,6 +54,12 @@ same_count : (b : Bool) (m n : ℕ) → (b ≡ true → m ≡ n) → cond b m n 
 same_count true m n same = same refl
 same_count false m n same = refl
 
+pub levels_placed : (t : Fences) (f : FenceName) (fence : Fence) (counts : Numbers) (q : Proc) (x : FenceName)
+    → finite.get fence.levels q ≡ finite.get (fence_at t f).levels q → finite.get (fence_at (placed t f fence counts) x).levels q ≡ finite.get (fence_at t x).levels q
+levels_placed t f fence counts q x levels =
+    ap (λ (y : Fence). finite.get y.levels q) (fence-placed t f fence counts x)
+    ∙ same_level (same_name x f) fence (fence_at t x) q (λ e. levels ∙ ap (λ y. finite.get (fence_at t y).levels q) (sym (name_exact x f e)))
+
 pub placed_fits : (s : Script) (t : Fences) (f : FenceName) (fence : Fence) (counts : Numbers) (q : Proc)
     → finite.get fence.levels q ≡ finite.get (fence_at t f).levels q → unwrap_or (finite.get counts q) 0 ≡ count_of t f.signature q
     → FitsFences s t q → FitsFences s (placed t f fence counts) q
@@ -62,9 +68,7 @@ placed_fits s t f fence counts q levels count fits = record {
   counts = λ g. count-placed t f fence counts g q
       ∙ same_count (same_signature g f.signature) (unwrap_or (finite.get counts q) 0) (count_of t g q) (λ e. count ∙ ap (λ h. count_of t h q) (sym (signature_exact g f.signature e)))
       ∙ fits.counts g;
-  levels = λ x. ap (λ (y : Fence). finite.get y.levels q) (fence-placed t f fence counts x)
-      ∙ same_level (same_name x f) fence (fence_at t x) q (λ e. levels ∙ ap (λ y. finite.get (fence_at t y).levels q) (sym (name_exact x f e)))
-      ∙ fits.levels x;
+  levels = λ x. levels_placed t f fence counts q x levels ∙ fits.levels x;
   ends = fits.ends;
 }
 

@@ -117,6 +117,24 @@ ToldIsTrue =
 abbrev pub Keeps : Jobs → ℕ → Fences → Fences → FenceName → Type 0
 Keeps jobs node old new f = (other : ℕ) (ls : List Local) → header_at jobs node old f other ≡ Some ls → header_at jobs node new f other ≡ Some ls
 
+-- a learned name and a header that comes change no header that is there, not even one that its node sent before
+abbrev pub LearnKeeps : Type 0
+LearnKeeps = (jobs : Jobs) (node : ℕ) (t : Fences) (g f : FenceName) → Keeps jobs node t (learned t g) f
+
+abbrev pub HeaderKeeps : Type 0
+HeaderKeeps = (jobs : Jobs) (node : ℕ) (t : Fences) (h : Header) (f : FenceName) → Keeps jobs node t (with_header t h) f
+
+-- nor do an entry and an end, where the table fits
+abbrev pub EnterKeeps : Type 0
+EnterKeeps =
+    (jobs : Jobs) (node : ℕ) (scripts : Scripts) (t : Fences) (p : Proc) (g : Signature) (f : FenceName) → home_of jobs p ≡ node → has_end (scripts p) ≡ false
+    → FitsTable jobs node scripts t → Keeps jobs node t (entered_by t g p (commits (scripts p))) f
+
+abbrev pub EndKeeps : Type 0
+EndKeeps =
+    (jobs : Jobs) (node : ℕ) (scripts : Scripts) (t : Fences) (p : Proc) (f : FenceName) → home_of jobs p ≡ node → has_end (scripts p) ≡ false
+    → FitsTable jobs node scripts t → Keeps jobs node t (ended_by t p (commits (scripts p ++ Call.terminate ∷ []))) f
+
 -- a fence that is ready stays ready, whatever comes to be known
 abbrev pub ReadyStays : Type 0
 ReadyStays =

@@ -15,6 +15,10 @@ ghost use Rattle.pmg_fence.specs.Rules.{
   OthersFit,
   LearnFits,
   HeaderFits,
+  LearnKeeps,
+  HeaderKeeps,
+  EnterKeeps,
+  EndKeeps,
 };
 
 /// The rules of entries and headers as scripts grow: each is final.
@@ -45,4 +49,12 @@ pub fn call_rules()
     ensures others_fit { OthersFit }
     ensures learn_fits { LearnFits }
     ensures header_fits { HeaderFits }
+{}
+
+/// The rules of headers that are there: each stays as it is, whatever is learned and told, and whatever own processes do.
+pub fn header_rules()
+    ensures learn_keeps { LearnKeeps }
+    ensures header_keeps { HeaderKeeps }
+    ensures enter_keeps { EnterKeeps }
+    ensures end_keeps { EndKeeps }
 {}

@@ -12,5 +12,5 @@ mod series;
 mod table;
 
 pub use entry::Entry;
-pub use laws::{call_rules, entry_rules, table_rules};
+pub use laws::{call_rules, entry_rules, header_rules, table_rules};
 pub use table::Table;

@@ -1,0 +1,98 @@
+-- A header that is there stays as it is.
+use Rattle.std.proofs.Common.{◌≡◌, ℕ, Bool, true, false, ◌==◌, cond, List, [], ◌∷◌, ◌++◌, Option, Some, refl, sym, ap, ◌∙◌}
+use Rattle.std.specs.FinMap as finite
+use Rattle.std.specs.FinMap.{nat_cmp-IsAntisymmetric}
+use Rattle.std.specs.Ordering.{eq_by_cmp, nat_cmp}
+use Rattle.std.specs.Cmp.{Equal-is, nat_cmp_total}
+use Rattle.pmg_value.specs.Signatures.{FenceName}
+use Rattle.pmg_value.specs.declared.process.Proc.{Proc}
+use Rattle.pmg_scope.specs.Scripts.{Call, commits}
+use Rattle.pmg_frame.specs.Fences.{Header}
+use Rattle.pmg_frame.specs.declared.local.Local.{Local}
+use Rattle.pmg_jobinfo.specs.Jobs.{Jobs}
+use Rattle.pmg_fence.specs.Codes.{Headers}
+use Rattle.pmg_fence.specs.Entering.{entry_by, locals_of}
+use Rattle.pmg_fence.specs.Tables.{Fence, Fences, series_at, fence_at, entry_at, own_header, header_at}
+use Rattle.pmg_fence.specs.Changes.{placed, next_name, entered_by, ended_by, fence_entered, fence_told, first_of}
+use Rattle.pmg_fence.specs.Rules.{FitsTable, Scripts, Grows, Keeps, with_call, LearnKeeps, HeaderKeeps, EnterKeeps, EndKeeps}
+use Rattle.pmg_fence.proofs.HeaderLemmas.{told_alike}
+use Rattle.pmg_fence.proofs.FitLemmas.{header_stays, own_header_is_true}
+use Rattle.pmg_fence.proofs.StepLemmas.{call_grows, enter_fits, end_fits, headers_placed, levels_placed}
+use Rattle.pmg_fence.proofs.TableLemmas.{same_name, name_exact, fence-placed, ends-placed}
+
+-- ---- one change
+
+by_node : (b : Bool) (other node : ℕ) (x y o p : Option (List Local)) (ls : List Local) → (other == node) ≡ b → (x ≡ Some ls → y ≡ Some ls) → (o ≡ Some ls → p ≡ Some ls)
+    → cond b x o ≡ Some ls → cond b y p ≡ Some ls
+by_node true other node x y o p ls e own head is = own is
+by_node false other node x y o p ls e own head is = head is
+
+keeps_by : (jobs : Jobs) (node : ℕ) (t new : Fences) (f : FenceName) → ((ls : List Local) → own_header jobs node t f ≡ Some ls → own_header jobs node new f ≡ Some ls)
+    → ((other : ℕ) (ls : List Local) → finite.get (fence_at t f).headers other ≡ Some ls → finite.get (fence_at new f).headers other ≡ Some ls) → Keeps jobs node t new f
+unfolding header_at
+keeps_by jobs node t new f own heads other ls is =
+    by_node (other == node) other node (own_header jobs node t f) (own_header jobs node new f) (finite.get (fence_at t f).headers other) (finite.get (fence_at new f).headers other) ls refl
+    (own ls) (heads other ls) is
+
+-- ---- a change that is nothing to own processes
+
+same_own : (jobs : Jobs) (node : ℕ) (t new : Fences) (f : FenceName) → ((q : Proc) → finite.get (fence_at new f).levels q ≡ finite.get (fence_at t f).levels q) → new.ends ≡ t.ends
+    → own_header jobs node new f ≡ own_header jobs node t f
+unfolding own_header entry_at
+same_own jobs node t new f levels ends =
+    told_alike (entry_at new f) (entry_at t f) (locals_of jobs f node) (λ q i j. entry_by (levels q j) (finite.get (ends j) q))
+
+pub learn_keeps : LearnKeeps
+learn_keeps jobs node t g f =
+    let counts = (series_at t g.signature).counts in
+    let new = placed t g (fence_at t g) counts in
+    keeps_by jobs node t new f
+    (λ ls is. same_own jobs node t new f (λ q. levels_placed t g (fence_at t g) counts q f refl) (ends-placed t g (fence_at t g) counts) ∙ is)
+    (λ other ls is. ap (λ m. finite.get m other) (headers_placed t g (fence_at t g) counts f refl) ∙ is)
+
+still_first : (headers : Headers) (node : ℕ) (locals : List Local) (m : ℕ) (ls : List Local) (b : Bool) → eq_by_cmp nat_cmp m node ≡ b → finite.get headers m ≡ Some ls
+    → cond b (Some (first_of (finite.get headers node) locals)) (finite.get headers m) ≡ Some ls
+still_first headers node locals m ls true e is =
+    ap (λ (o : Option (List Local)). Some (first_of o locals)) (ap (finite.get headers) (sym (nat_cmp-IsAntisymmetric m node ((Equal-is _).0 e))) ∙ is)
+still_first headers node locals m ls false e is = is
+
+told_still : (t : Fences) (h : Header) (f : FenceName) (other : ℕ) (ls : List Local) (b : Bool) → same_name f h.name ≡ b → finite.get (fence_at t f).headers other ≡ Some ls
+    → finite.get (cond b (fence_told (fence_at t h.name) h.node h.locals) (fence_at t f)).headers other ≡ Some ls
+told_still t h f other ls true e is =
+    let headers = (fence_at t h.name).headers in
+    finite.get-insert nat_cmp_total headers h.node (first_of (finite.get headers h.node) h.locals) other
+    ∙ still_first headers h.node h.locals other ls (eq_by_cmp nat_cmp other h.node) refl (ap (λ x. finite.get (fence_at t x).headers other) (sym (name_exact f h.name e)) ∙ is)
+told_still t h f other ls false e is = is
+
+pub header_keeps : HeaderKeeps
+header_keeps jobs node t h f =
+    let g = h.name in
+    let fence = fence_told (fence_at t g) h.node h.locals in
+    let counts = (series_at t g.signature).counts in
+    let new = placed t g fence counts in
+    keeps_by jobs node t new f
+    (λ ls is. same_own jobs node t new f (λ q. levels_placed t g fence counts q f refl) (ends-placed t g fence counts) ∙ is)
+    (λ other ls is. ap (λ (y : Fence). finite.get y.headers other) (fence-placed t g fence counts f) ∙ told_still t h f other ls (same_name f g) refl is)
+
+-- ---- a call of an own process
+
+own_still : (jobs : Jobs) (node : ℕ) (scripts grown : Scripts) (t new : Fences) (f : FenceName) → Grows scripts grown → FitsTable jobs node scripts t → FitsTable jobs node grown new
+    → (ls : List Local) → own_header jobs node t f ≡ Some ls → own_header jobs node new f ≡ Some ls
+own_still jobs node scripts grown t new f grows fits fits_new ls is =
+    own_header_is_true jobs node grown new f fits_new ∙ header_stays jobs scripts grown f node ls grows (sym (own_header_is_true jobs node scripts t f fits) ∙ is)
+
+pub enter_keeps : EnterKeeps
+enter_keeps jobs node scripts t p g f home live fits =
+    let x = next_name t g p in
+    let fence = fence_entered (fence_at t x) p (commits (scripts p)) in
+    keeps_by jobs node t (entered_by t g p (commits (scripts p))) f
+    (own_still jobs node scripts (with_call scripts p (Call.enter g)) t (entered_by t g p (commits (scripts p))) f (call_grows scripts p (Call.enter g)) fits (enter_fits jobs node scripts t p g home live fits))
+    (λ other ls is. ap (λ m. finite.get m other) (headers_placed t x fence _ f refl) ∙ is)
+
+pub end_keeps : EndKeeps
+unfolding fence_at series_at
+end_keeps jobs node scripts t p f home live fits =
+    let last = commits (scripts p ++ Call.terminate ∷ []) in
+    keeps_by jobs node t (ended_by t p last) f
+    (own_still jobs node scripts (with_call scripts p Call.terminate) t (ended_by t p last) f (call_grows scripts p Call.terminate) fits (end_fits jobs node scripts t p home live fits))
+    (λ other ls is. is)
