@@ -14,3 +14,6 @@ mod table;
 pub use entry::Entry;
 pub use laws::{call_rules, entry_rules, header_rules, table_rules};
 pub use table::Table;
+
+#[cfg(test)]
+mod tests;
