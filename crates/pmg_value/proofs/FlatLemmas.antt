@@ -17,7 +17,7 @@ module _ {A : Type 0} (f : A → List ℕ) where
       ∙ append_assoc (f x) (flat_map f (take i xs) ++ f (get_or xs i d)) (flat_map f (drop (suc i) xs))
       ∙ ap (λ (t : List ℕ). f x ++ t) (flat_split xs i d (omega (arith, lt)))
 
-  -- a front of the text of one item, behind those of all before it, is a front of the text of all
+  -- a prefix of the text of one item, after those of all before it, is a prefix of the text of all
   pub flat_front : (old mid new : Option (List ℕ)) (xs : List A) (i : ℕ) (d : A) → i < length xs → AppendsFront mid new (f (get_or xs i d)) → Appends old mid (flat_map f (take i xs)) → AppendsFront old new (flat_map f xs)
   flat_front old mid new xs i d lt front first =
       subst (AppendsFront old new) (flat_split xs i d lt) (front_of_first (flat_map f (drop (suc i) xs)) (front_of_second (flat_map f (take i xs)) front first))

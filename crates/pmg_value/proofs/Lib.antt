@@ -7,6 +7,9 @@ pub mod MapLemmas
 pub mod OrderLemmas
 pub mod ProcessOrder
 pub mod RowLemmas
+pub mod SameLemmas
 pub mod SetLemmas
+pub mod SetOrder
+pub mod SortedLists
 pub mod TextLemmas
 pub mod WrittenLemmas

@@ -42,8 +42,8 @@ then_same Less p q f = refl
 then_same Equal p q f = f refl
 then_same Greater p q f = refl
 
--- two bodies of one kind, with more behind them, are in order as their heads, then their middles, then their ends,
--- then what stands behind them
+-- two bodies of one kind, with more after them, are in order as their heads, then their middles, then their ends,
+-- then what stands after them
 cmp_bodies : (tag : ℕ) (h i m n x y p q : List ℕ) → length h ≡ head_len tag → length i ≡ head_len tag → length m ≡ middle_len tag h → length n ≡ middle_len tag i → length x ≡ length y
     → slice_cmp nat_cmp (h ++ (m ++ (x ++ p))) (i ++ (n ++ (y ++ q)))
     ≡ ordering_then (ordering_then (slice_cmp nat_cmp h i) (ordering_then (slice_cmp nat_cmp m n) (slice_cmp nat_cmp x y))) (slice_cmp nat_cmp p q)
@@ -126,7 +126,7 @@ first_equal Less p e = absurd cc
 first_equal Equal p e = refl
 first_equal Greater p e = absurd cc
 
--- behind equal heads stand items that are alike
+-- after equal heads stand items that are alike
 pub items_alike : (v w : Value) (h i m n x y : List ℕ) (p q : List Value) (r : Ordering) → InParts v h m x p → InParts w i n y q → is_ne (nat_cmp (tag_of v) (tag_of w)) ≡ false
     → r ≡ order_of h i m n x y → is_ne r ≡ false → AreAlike p q
 items_alike v w h i m n x y p q r a b ne is alike =
@@ -143,7 +143,7 @@ items_alike v w h i m n x y p q r a b ne is alike =
 
 -- ---- items of an array
 
--- no items stand behind a value that is no array
+-- no items stand after a value that is no array
 pub none_behind : (f : Form) (h : List ℕ) (p : List Value) → IsTrue (is_plain_form f) → length p ≡ items_len (form_tag f) h → p ≡ []
 none_behind (Form.array a) h p plain e = absurd cc
 none_behind (Form.plain v) h [] plain e = refl
@@ -160,14 +160,14 @@ pub body_is : (f : Form) → IsTrue (is_plain_form f) → form_body f ≡ plain_
 body_is (Form.plain p) h = refl
 body_is (Form.array a) h = absurd cc
 
--- an item and what stands behind it
+-- an item and what stands after it
 item_first : (v : Value) (h m x : List ℕ) (p vs : List Value) → IsTrue (is_plain_form (form v)) → InParts v h m x p → bodies (plains_of (v ∷ vs)) ≡ h ++ (m ++ (x ++ bodies (plains_of vs)))
 item_first v h m x p vs plain a =
     let none : p ≡ [] = none_behind (form v) h p plain a.items.count in
     let own : h ++ (m ++ (x ++ [])) ≡ plain_body (plain_of (form v)) = ap (λ (q : List Value). in_parts h m x q) (sym none) ∙ a.body ∙ body_is (form v) plain in
     ap (λ (t : List ℕ). t ++ bodies (plains_of vs)) (sym own) ∙ simp append_assoc
 
--- an item of each list, and what stands behind them
+-- an item of each list, and what stands after them
 pub next_items : (a b : List Value) (i : ℕ) (v w : Value) (h k m n x y : List ℕ) (p q : List Value) (r : Ordering) → i < length a → AreAlike a b → v ≡ get_or a i v → w ≡ get_or b i w
     → InParts v h m x p → InParts w k n y q → r ≡ order_of h k m n x y
     → slice_cmp nat_cmp (bodies (plains_of (drop i a))) (bodies (plains_of (drop i b))) ≡ ordering_then r (slice_cmp nat_cmp (bodies (plains_of (drop (i + 1) a))) (bodies (plains_of (drop (i + 1) b))))

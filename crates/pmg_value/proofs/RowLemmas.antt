@@ -1,5 +1,5 @@
 -- Rows of keys and values in memory, and what stands under a key.
-use Rattle.std.proofs.Common.{◌≡◌, Bool, true, false, cond, List, [], ◌∷◌, ◌++◌, map, length, Option, Some, None, is_some, IsSome, refl, sym, ap, subst, ◌∙◌, Bor, MutBor, arith}
+use Rattle.std.proofs.Common.{◌≡◌, Bool, true, false, cond, List, [], ◌∷◌, ◌++◌, map, length, Option, Some, None, is_some, IsSome, refl, sym, ap, subst, ◌∙◌, inl, inr, Bor, MutBor, arith}
 use Rattle.std.specs.FinMap as finite
 use Rattle.std.specs.FinMap.{IsAntisymmetric}
 use Rattle.std.specs.FinMap.Entries.{find, put}
@@ -15,11 +15,22 @@ use Rattle.std.specs.declared.cmp.Ordering.TheVariants.{Less}
 use Rattle.std.specs.Ordering.{eq_by_cmp, match_ordering}
 use Rattle.std.specs.Cmp.{IsTotalOrder, Equal-is, eq_by_cmp_equiv}
 use Rattle.std.proofs.lemmas.List.{length-map}
-use Rattle.pmg_value.specs.Rows.{AreRising, map_of, rows_of}
+use Rattle.std.proofs.lemmas.Bool.{false≢true}
+use Rattle.pmg_value.specs.Lists.{In}
+use Rattle.pmg_value.specs.Rows.{AreRising, map_of, rows_of, changed_at, put_back}
 
 -- what stands under a key in the rows
 abbrev pub at_key : {K V : Type 0} → (K → K → Ordering) → K → List (K × V) → Option V
 at_key R q rows = lookup (is_at (R q)) rows
+
+-- what is found under a key is under one of the keys
+pub key_there : {K V : Type 0} {R : K → K → Ordering} (exact : IsAntisymmetric R) (rows : List (K × V)) (key : K) → IsSome (at_key R key rows) → In key (keys_of rows)
+key_there exact [] key h = absurd (false≢true h)
+key_there {K} {V} {R} exact (e ∷ rows) key h =
+    elim (is_at (R key) e.0) as (λ t. is_at (R key) e.0 ≡ t → In key (keys_of (e ∷ rows))) [
+      | true ↦ λ t. inl (exact key e.0 ((Equal-is _).0 t))
+      | false ↦ λ t. inr (key_there exact rows key (subst IsSome (ap (λ b. cond b (Some e.1) (at_key R key rows)) t) h))
+    ] refl
 
 no_items : {A : Type 0} (xs : List A) → length xs ≡ 0 → xs ≡ []
 no_items [] e = refl
@@ -55,6 +66,43 @@ module _ {K X : Type 0} {R : K → K → Ordering} (o : IsTotalOrder R) where
         | true ↦ λ t. sym none ∙ ap (finite.get m) (sym (exact q k ((Equal-is _).0 t)))
         | false ↦ λ t. finite.get-insert o m k x q ∙ ap (λ b. cond b (Some x) (finite.get m q)) t
       ] refl)
+
+-- ---- a change, taken back
+
+shadowed : {X : Type 0} (b : Bool) (x : Option X) (v : X) (y : Option X) → (b ≡ true → x ≡ y) → cond b x (cond b (Some v) y) ≡ y
+shadowed true x v y same = same refl
+shadowed false x v y same = refl
+
+module _ {K X : Type 0} {R : K → K → Ordering} (o : IsTotalOrder R) (exact : IsAntisymmetric R) where
+  there_inserted : (m : finite.FinMap R X) (k : K) (x : X) → finite.contains_key (finite.insert m k x) k ≡ true
+  there_inserted m k x = ap is_some (finite.get-insert o m k x k ∙ ap (λ (b : Bool). cond b (Some x) (finite.get m k)) ((eq_by_cmp_equiv o).refl k))
+
+  -- what stands under a key that ties
+  at_tied : (m : finite.FinMap R X) (k q : K) (x : Option X) → x ≡ finite.get m k → eq_by_cmp R q k ≡ true → x ≡ finite.get m q
+  at_tied m k q x e t = e ∙ finite.get_tied o m q k ((Equal-is _).0 t)
+
+  insert_again : (m : finite.FinMap R X) (k : K) (x y : X) → Some y ≡ finite.get m k → finite.insert (finite.insert m k x) k y ≡ m
+  insert_again m k x y e = finite.same_map o exact (finite.insert (finite.insert m k x) k y) m (λ q.
+      finite.get-insert o (finite.insert m k x) k y q
+      ∙ ap (cond (eq_by_cmp R q k) (Some y)) (finite.get-insert o m k x q)
+      ∙ shadowed (eq_by_cmp R q k) (Some y) x (finite.get m q) (at_tied m k q (Some y) e))
+
+  -- what was there before an insertion, put back
+  pub inserted_back : (m : finite.FinMap R X) (k : K) (x : X) (before : Option X) → before ≡ finite.get m k → put_back (finite.insert m k x) k before ≡ m
+  inserted_back m k x None e = remove_inserted o exact m k x (sym e)
+  inserted_back m k x (Some y) e =
+      ap (λ (b : Bool). cond b (finite.insert (finite.insert m k x) k y) (finite.insert m k x)) (there_inserted m k x) ∙ insert_again m k x y e
+
+  -- what is there, put back
+  pub same_back : (m : finite.FinMap R X) (k : K) (before : Option X) → before ≡ finite.get m k → put_back m k before ≡ m
+  same_back m k None e = finite.same_map o exact (finite.remove m k) m (λ q.
+      finite.get-remove o m k q ∙ none_there (eq_by_cmp R q k) (finite.get m q) (at_tied m k q None e))
+    where
+      none_there : {X : Type 0} (b : Bool) (y : Option X) → (b ≡ true → None ≡ y) → cond b None y ≡ y
+      none_there true y same = same refl
+      none_there false y same = refl
+  same_back m k (Some y) e =
+      ap (λ (b : Bool). cond b (finite.insert m k y) m) (ap is_some (sym e)) ∙ insert_same o exact m k y (sym e)
 
 -- rows, with their values as they are seen
 abbrev pub shown : {K V X : Type 0} → (V → X) → List (K × V) → List (K × X)
@@ -94,7 +142,7 @@ read_there : {V X : Type 0} (f : V → X) (found : Option (Bor V)) (x : Option V
 read_there f None x e = ap (option_map f) e
 read_there f (Some v) x e = ap (option_map f) e
 
--- what stands behind a `get_mut`
+-- what stands after a `get_mut`
 pub found_is : {V : Type 0} (o : Option (MutBor V)) (kept : MutBor V) (x : Option V) → o ≡ Some kept → option_copied_mut o ≡ x → x ≡ Some kept.now
 found_is o kept x some e = sym e ∙ ap option_copied_mut some
 
@@ -160,6 +208,23 @@ module _ {K V X : Type 0} {R : K → K → Ordering} (o : IsTotalOrder R) (exact
       ∙ map_cond f (is_at (R k) q) None (at_key R q old)
       ∙ (λ i. cond (turned o k q i) None (sym (get-rows_of o f old q) i))
       ∙ sym (finite.get-remove o (rows_of f old) k q))
+
+module _ {K V X : Type 0} {R : K → K → Ordering} (o : IsTotalOrder R) (exact : IsAntisymmetric R) (f : V → X) where
+  has_row : (rows : List (K × V)) (k : K) (v : Option V) → at_key R k rows ≡ v → finite.contains_key (rows_of {R = R} f rows) k ≡ is_some (option_map f v)
+  has_row rows k v e = ap is_some (get-rows_of o f rows k ∙ ap (option_map f) e)
+
+  -- rows whose value under the key was changed in place
+  pub changed_there : (old new : List (K × V)) (m : finite.FinMap R X) (k : K) (v w : V) → rows_of f old ≡ m → at_key R k old ≡ Some w
+      → ((q : K) → at_key R q new ≡ cond (is_at (R k) q) (Some v) (at_key R q old)) → rows_of f new ≡ changed_at m k (f v)
+  changed_there old new m k v w same e updates =
+      rows_with o exact f old new k v updates
+      ∙ sym (ap (λ (b : Bool). cond b (finite.insert (rows_of {R = R} f old) k (f v)) (rows_of f old)) (has_row old k (Some w) e))
+      ∙ ap (λ (t : finite.FinMap R X). changed_at t k (f v)) same
+
+  pub changed_nowhere : (old : List (K × V)) (m : finite.FinMap R X) (k : K) (v : V) → rows_of f old ≡ m → None ≡ at_key R k old → rows_of f old ≡ changed_at m k (f v)
+  changed_nowhere old m k v same e =
+      sym (ap (λ (b : Bool). cond b (finite.insert (rows_of {R = R} f old) k (f v)) (rows_of f old)) (has_row old k None (sym e)))
+      ∙ ap (λ (t : finite.FinMap R X). changed_at t k (f v)) same
 
 module _ {K V : Type 0} {R : K → K → Ordering} (o : IsTotalOrder R) where
   pub get-map_of : (rows : List (K × V)) (q : K) → finite.get (map_of {R = R} rows) q ≡ at_key R q rows

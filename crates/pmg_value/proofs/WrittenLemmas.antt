@@ -40,14 +40,14 @@ take_front count a b = grind (arith, common_steps)
 take_all : (a : List ℕ) → take (length a) a ≡ a
 take_all a = grind (arith, common_steps)
 
--- a front of the first part is a front of the whole
+-- a prefix of the first part is a prefix of the whole
 pub front_of_first : {old new : Option (List ℕ)} {a : List ℕ} (b : List ℕ) → AppendsFront old new a → AppendsFront old new (a ++ b)
 front_of_first {old} {new} {a} b front = record {
   count = min front.count (length a);
   bytes = subst (λ bytes. Appends old new bytes) (sym (take_front front.count a b)) front.bytes;
 }
 
--- the first part, and a front of the second
+-- the first part, and a prefix of the second
 pub front_of_second : {old mid new : Option (List ℕ)} {b : List ℕ} (a : List ℕ) → AppendsFront mid new b → Appends old mid a → AppendsFront old new (a ++ b)
 front_of_second {old} {mid} {new} {b} a front first = record {
   count = length a + front.count;
@@ -72,7 +72,7 @@ pub appends_taken : (old mid new : Option (List ℕ)) (text rest : List ℕ) (do
 appends_taken old mid new text rest done taken is second first =
     subst (λ bytes. Appends old new bytes) (sym (take_more_bytes text rest done taken is)) (appends_then old mid new (take done text) (take taken rest) second first)
 
--- what a function that writes a text in parts, each behind a `?`, has to prove at its exits
+-- what a function that writes a text in parts, each after a `?`, has to prove at its exits
 pub ruleset written_in_parts = (appends_nothing, appends_then, ok_then, front_of_first, front_of_second, front_of_all)
 
 -- two parts, where each is known by another name
@@ -80,7 +80,7 @@ pub two_parts : {T E : Type 0} (result : Result T E) (old mid new : Option (List
 two_parts result old mid new a b c d is_c is_d second first =
     rw (← is_c, ← is_d) (front_of_second a second.0 first, ok_then result old mid new a b second.1 first)
 
--- a front of the first of two parts, which is known by another name, where the call fails
+-- a prefix of the first of two parts, which is known by another name, where the call fails
 pub first_part : {T E : Type 0} (result : Result T E) (old new : Option (List ℕ)) (a c d : List ℕ) → a ≡ c → AppendsFront old new a → OnOk result ⊥ → Writes old new result (c ++ d)
 first_part result old new a c d is front failed =
     (subst (AppendsFront old new) (ap (λ (t : List ℕ). t ++ d) is) (front_of_first d front), on_ok_weaker result (λ never. absurd never) failed)

@@ -14,7 +14,7 @@ pub record Elements : Type 0 where
 abbrev pub bodies : List Plain → List ℕ
 bodies plains = flat_map plain_body plains
 
--- an array's bytes behind its tag: the tag of its elements, four bytes of their number, and their bodies
+-- an array's bytes after its tag: the tag of its elements, four bytes of their number, and their bodies
 abbrev pub array_body : Elements → List ℕ
 array_body a = a.tag ∷ (to_be_bytes w32 (length a.plains) ++ bodies a.plains)
 

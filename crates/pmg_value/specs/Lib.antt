@@ -3,6 +3,7 @@ pub mod Blobs
 pub mod CheckOrder
 pub mod Elements
 pub mod Hex
+pub mod InOrder
 pub mod Lists
 pub mod Maps
 pub mod Names

@@ -19,14 +19,14 @@ head_len tag =
     else if tag == 19 then 5
     else 4
 
--- how long the bytes behind the head are, by the tag and the head
+-- how long the bytes after the head are, by the tag and the head
 abbrev pub middle_len : ℕ → List ℕ → ℕ
 middle_len tag head =
     if tag == 3 || tag == 18 then from_be_bytes w32 head
     else if tag == 16 then get_or head 0 0
     else 0
 
--- how long the bytes behind these are, by the tag
+-- how long the bytes after these are, by the tag
 abbrev pub end_len : ℕ → ℕ
 end_len tag = if tag == 16 then 4 else 0
 
@@ -38,7 +38,7 @@ items_len tag head = if tag == 19 then from_be_bytes w32 (drop 1 head) else 0
 abbrev pub have_tag : ℕ → List Value → Bool
 have_tag tag items = list_all (λ v. tag_of v == tag) items
 
--- the items behind a head: no arrays, of the kind that it names, and as many as it says
+-- the items after a head: no arrays, of the kind that it names, and as many as it says
 pub record AreItems (tag : ℕ) (head : List ℕ) (items : List Value) : Type 0 where
   pub plain : IsTrue (are_plain items)
   pub kind : IsTrue (have_tag (get_or head 0 0) items)

@@ -61,7 +61,7 @@ signed_bytes w z = to_be_bytes w (cast_unsigned w z)
 abbrev pub counted : List ℕ → List ℕ
 counted text = to_be_bytes w32 (length text) ++ text
 
--- the bytes behind the tag
+-- the bytes after the tag
 abbrev pub plain_body : Plain → List ℕ
 plain_body (Plain.bool false) = 0 ∷ []
 plain_body (Plain.bool true) = 1 ∷ []

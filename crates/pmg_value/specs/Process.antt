@@ -1,7 +1,7 @@
 -- Processes in definitions, and their order.
-use Rattle.std.specs.Prelude.{ℕ, Bool, ◌&&◌, ◌||◌, ◌==◌, not, nat_le, List, codes, refl}
+use Rattle.std.specs.Prelude.{ℕ, Bool, ◌&&◌, ◌||◌, ◌==◌, not, nat_eq, nat_le, List, codes, refl}
 use Rattle.std.specs.Ordering.{nat_cmp, ordering_then}
-use Rattle.std.specs.Cmp.Lexicographic.{slice_cmp}
+use Rattle.std.specs.Cmp.Lexicographic.{slice_cmp, pointwise}
 use Rattle.std.specs.declared.cmp.Ordering.{Ordering}
 use Rattle.std.specs.Coded.{Coded, code_by, coded×, coded_list, coded_ℕ}
 use Rattle.pmg_value.specs.declared.process.Proc.{Proc}
@@ -19,6 +19,10 @@ is_wildcard rank = rank == 4294967294
 -- by the bytes of the namespace, then by rank (PMIx Standard 5.0, data types: pmix_proc_t)
 abbrev pub proc_cmp : Proc → Proc → Ordering
 proc_cmp p q = ordering_then (slice_cmp nat_cmp p.nspace q.nspace) (nat_cmp p.rank q.rank)
+
+-- the processes are one
+abbrev pub is_same_proc : Proc → Proc → Bool
+is_same_proc p q = pointwise nat_eq p.nspace q.nspace && nat_eq p.rank q.rank
 
 -- a process as a pair
 abbrev pub coded_proc : Coded Proc

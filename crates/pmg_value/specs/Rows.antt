@@ -1,5 +1,5 @@
 -- Rows of keys and values in memory, as a finite map.
-use Rattle.std.specs.Prelude.{List, map}
+use Rattle.std.specs.Prelude.{List, map, Option, Some, None, if◌then◌else◌}
 use Rattle.std.specs.declared.cmp.Ordering.{Ordering}
 use Rattle.std.specs.FinMap as finite
 use Rattle.std.specs.List.Sorted.{IsStrictlySortedBy}
@@ -13,6 +13,16 @@ module _ {K V : Type 0} {R : K → K → Ordering} where
   -- the rows as a map, with their values as they are
   abbrev pub map_of : List (K × V) → finite.FinMap R V
   map_of rows = rows_of (λ v. v) rows
+
+module _ {K X : Type 0} {R : K → K → Ordering} where
+  -- the map with another value under the key, where it has one
+  abbrev pub changed_at : finite.FinMap R X → K → X → finite.FinMap R X
+  changed_at m key x = if finite.contains_key m key then finite.insert m key x else m
+
+  -- the map with what was under the key before it was changed there
+  abbrev pub put_back : finite.FinMap R X → K → Option X → finite.FinMap R X
+  put_back m key None = finite.remove m key
+  put_back m key (Some x) = changed_at m key x
 
 -- the keys of the rows rise
 abbrev pub AreRising : {K V : Type 0} → (K → K → Ordering) → List (K × V) → Type 0

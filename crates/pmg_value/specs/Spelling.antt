@@ -60,7 +60,7 @@ abbrev pub form_tag : Form → ℕ
 form_tag (Form.plain p) = plain_tag p
 form_tag (Form.array a) = 19
 
--- the bytes behind the tag
+-- the bytes after the tag
 abbrev pub form_body : Form → List ℕ
 form_body (Form.plain p) = plain_body p
 form_body (Form.array a) = array_body a
@@ -74,7 +74,7 @@ IsForm (Form.array a) = IsArray a
 abbrev pub tag_of : Value → ℕ
 tag_of v = form_tag (form v)
 
--- the bytes behind the tag
+-- the bytes after the tag
 abbrev pub body_of : Value → List ℕ
 body_of v = form_body (form v)
 

@@ -10,7 +10,7 @@ use Rattle.pmg_value.specs.Spelling.{Form, form, tag_of}
 abbrev pub array_text : Elements → List ℕ
 array_text a = kind_name a.tag ++ (codes "[" ++ (join_by plain_text (codes ",") a.plains ++ codes "]"))
 
--- the text behind the kind's name
+-- the text after the kind's name
 abbrev pub form_text : Form → List ℕ
 form_text (Form.plain p) = plain_text p
 form_text (Form.array a) = array_text a

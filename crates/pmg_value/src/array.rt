@@ -80,7 +80,7 @@ impl Array {
         self.size
     }
 
-    /// Another array of the same meaning.
+    /// A copy, equal to this array.
     #[cycle(copy)]
     pub fn copy(&self) -> Result<Array, AllocError>
         ensures { IfOk result (λ a. a ≡ self.now) }

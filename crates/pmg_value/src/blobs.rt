@@ -14,7 +14,7 @@ use std::marker::Model;
 pub const MAX_BLOB_LEN: usize = 1_048_571;
 
 /// A string's bytes: at most 1,048,571, none of them zero. A copy shares the bytes.
-#[derive(Debug, Drop)]
+#[derive(Debug, Drop, PartialEq, Eq)]
 pub struct Text {
     bytes: Bytes,
 }

@@ -1,7 +1,8 @@
-//! What can be copied where memory allows, and copies of trees of it.
+//! What can be copied where memory allows, and copies of lists and trees of it.
 ghost use Rattle.std.specs.Prelude.{◌≡◌, IfOk};
 ghost use Rattle.std.specs.BTreeMap.{get};
 
+use crate::blobs::Text;
 use crate::names::{Key, Nspace};
 use crate::process::{NodeId, Proc};
 use crate::value::Value;
@@ -45,6 +46,12 @@ impl Copied for Key {
     }
 }
 
+impl Copied for Text {
+    fn copy(&self) -> Result<Text, AllocError> {
+        Text::copy(self)
+    }
+}
+
 impl Copied for Value {
     fn copy(&self) -> Result<Value, AllocError> {
         Value::copy(self)
@@ -55,6 +62,26 @@ impl<A: Copied, B: Copied> Copied for (A, B) {
     fn copy(&self) -> Result<(A, B), AllocError> {
         Ok((self.0.copy()?, self.1.copy()?))
     }
+}
+
+impl<A: Copied> Copied for Option<A> {
+    fn copy(&self) -> Result<Option<A>, AllocError> {
+        match self {
+            Some(value) => Ok(Some(value.copy()?)),
+            None => Ok(None),
+        }
+    }
+}
+
+/// Copies of all the items, in their order.
+pub fn copy_all<T: Copied>(items: &Vec<T>) -> Result<Vec<T>, AllocError>
+    ensures { IfOk result (λ copies. copies.items ≡ items.now.items) }
+{
+    let mut copies = Vec::with_capacity(*items.allocator(), items.len())?;
+    for item in items {
+        copies.push(item.copy()?)?;
+    }
+    Ok(copies)
 }
 
 /// A tree of the same keys and values.

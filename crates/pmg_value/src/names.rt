@@ -1,4 +1,4 @@
-ghost use Rattle.std.specs.Prelude.{◌≡◌, ◌&&◌, not, length, IsTrue, IfOk, if◌then◌else◌};
+ghost use Rattle.std.specs.Prelude.{◌≡◌, ◌&&◌, not, codes, length, IsTrue, IfOk, if◌then◌else◌};
 ghost use Rattle.std.specs.List.{list_all};
 ghost use Rattle.pmg_value.specs.Names.{is_graphic, is_printable, is_nspace, is_key, is_reserved};
 ghost use Rattle.pmg_value.specs.Answers.{Gives};
@@ -150,6 +150,15 @@ impl Nspace {
 }
 
 impl Key {
+    /// The reserved key under which a process that has ended stands, made without memory.
+    pub fn of_termination() -> Key
+        ensures { result ≡ codes "pmix.term" }
+    {
+        Key {
+            text: Bytes::from_static(b"pmix.term"),
+        }
+    }
+
     /// Reads a key that a process may put: it does not begin with `pmix`. Refused as BadParam where the
     /// bytes are no such key, and as NoMemory.
     pub fn read(alloc: Global, key: &[u8]) -> Result<Key, Refusal>

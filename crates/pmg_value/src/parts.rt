@@ -15,7 +15,7 @@ use crate::value::Value;
 use arrayvec::ArrayVec;
 use std::cmp::Ordering;
 
-/// The canonical bytes behind a value's tag, in parts: a head of at most eight bytes; the bytes of a
+/// The canonical bytes after a value's tag, in parts: a head of at most eight bytes; the bytes of a
 /// namespace, a string or a byte object; a rank; and the items of an array, whose bodies stand last.
 #[derive(Drop)]
 pub struct Parts<'a> {
@@ -26,7 +26,7 @@ pub struct Parts<'a> {
 }
 
 impl Value {
-    /// The canonical bytes behind the tag, in parts.
+    /// The canonical bytes after the tag, in parts.
     pub fn parts(&self) -> Parts<'_>
         ensures body { in_parts result.head.items result.middle.now result.end.items result.items.now ≡ body_of self.now }
         ensures head { length result.head.items ≡ head_len (tag_of self.now) }
@@ -102,7 +102,7 @@ fn alone(bytes: &[u8]) -> Parts<'static>
     }
 }
 
-// A body of these bytes, behind four bytes of their number.
+// A body of these bytes, after four bytes of their number.
 #[tactic(auto, using(crate::proofs::OrderLemmas::length_again))]
 fn counted(bytes: &[u8]) -> Parts<'_>
     requires { length bytes.now ≤ 1048571 }

@@ -76,7 +76,7 @@ pub enum Refusal {
     Collision,
     /// A reply on replay is another than the one that was recorded.
     Stale,
-    /// No order puts each delivery behind its sending.
+    /// No order puts each delivery after its sending.
     Unordered,
     /// The object is closed, and stays so.
     Closed,

@@ -130,7 +130,7 @@ impl Value {
         }
     }
 
-    /// Another value of the same meaning.
+    /// A copy, equal to this value.
     #[cycle(copy)]
     pub fn copy(&self) -> Result<Value, AllocError>
         ensures { IfOk result (λ v. v ≡ self.now) }
