@@ -25,7 +25,7 @@ Rows = List (List ℕ × List ℕ)
 abbrev put_all : Scope → Rows → Script
 put_all scope rows = map (λ e. Call.put scope e.0 e.1) rows
 
--- ---- puts behind a script
+-- ---- puts after a script
 
 count_puts : (s : Script) (scope : Scope) (rows : Rows) → count_commits (s ++ put_all scope rows) ≡ count_commits s
 count_puts [] scope [] = refl
@@ -85,7 +85,7 @@ row_put r k scope (e ∷ rows) seen sorted =
 table_put : (r : Reach) (k : List ℕ) (scope : Scope) (m : Table) → reaches scope r ≡ true → last_put r k (put_all scope (finite.entries m)) ≡ finite.get m k
 table_put r k scope m seen = row_put r k scope (finite.entries m) seen (finite.entries_sorted m) ∙ sym (finite.get-entries m k)
 
--- what is put last of the two tables, behind a script without unsealed puts
+-- what is put last of the two tables, after a script without unsealed puts
 last_of_both : (b : Unsealed) (s : Script) (r : Reach) (k : List ℕ) → last_put r k (next_part s) ≡ None
     → last_put r k (next_part (s ++ puts_of b)) ≡ later_of (last_put r k (put_all scopes.Remote (finite.entries b.far))) (last_put r k (put_all scopes.Local (finite.entries b.near)))
 last_of_both b s r k none =

@@ -105,13 +105,17 @@ size_stamped n m (e ∷ puts) rising =
     let sizes = sum_by-cons (λ (e : List ℕ × Value). row_size (e.0, spelling e.1)) e puts in
     omega (arith, others, same, put, replaced, sizes)
 
+pub size_of_stamped : (n : ℕ) (m : Stamps) (puts : Puts) → IsRising puts → stamps_size (stamped n (table_of puts) m) ≡ stamps_size m + puts_size puts - replaced_size m puts
+size_of_stamped n m puts rising =
+    let sum = size_stamped n m puts rising in
+    ap stamps_size (sym (stamped-rising n puts m rising)) ∙ omega (arith, sum)
+
 -- ---- the limits
 
 pub within_stamped : (n : ℕ) (m : Stamps) (puts : Puts) → IsRising puts
     → are_within (stamped n (table_of puts) m) ≡ (nat_le (finite.len m + new_keys m puts) 65535 && nat_le (stamps_size m + puts_size puts - replaced_size m puts) 16000000)
 within_stamped n m puts rising =
-    let sum = size_stamped n m puts rising in
-    let size : stamps_size (stamp_all n m (shown spelling puts)) ≡ stamps_size m + puts_size puts - replaced_size m puts = omega (arith, sum) in
+    let size = ap stamps_size (stamped-rising n puts m rising) ∙ size_of_stamped n m puts rising in
     ap are_within (sym (stamped-rising n puts m rising)) ∙ (λ i. nat_le (len_stamped n m puts rising i) 65535 && nat_le (size i) 16000000)
 
 -- more puts than keys may be are too many

@@ -1,3 +1,4 @@
+pub mod BackLemmas
 pub mod BatchLaws
 pub mod CoreOrder
 pub mod GrowthLemmas

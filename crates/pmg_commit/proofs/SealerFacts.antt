@@ -36,7 +36,7 @@ bytes_of s = length s.bytes
 nothing_len : finite.len (finite.empty {X = Stamp} {R = slice_cmp nat_cmp}) ≡ 0
 nothing_len = finite.len-empty (slice_cmp nat_cmp) Stamp
 
-nothing_size : stamps_size finite.empty ≡ 0
+pub nothing_size : stamps_size finite.empty ≡ 0
 nothing_size = ap (sum_by stamp_size) (entries_of_nothing (slice_cmp nat_cmp))
 
 nothing_within : are_within finite.empty ≡ true

@@ -152,7 +152,7 @@ stamps_fit s t r n table m level one_more batch fits key stamp =
 
 -- ---- more calls
 
--- what the calls before and the calls behind make together
+-- what the calls before and the calls after make together
 has_end_more : (s t : Script) → has_end (s ++ t) ≡ (has_end s || has_end t)
 has_end_more [] t = refl
 has_end_more (Call.put scope key value ∷ cs) t = has_end_more cs t
@@ -322,16 +322,16 @@ put_seals_nothing z s scope key value = nothing_sealed z s (Call.put scope key v
 pub enter_seals_nothing : EnterSealsNothing
 enter_seals_nothing z s f = nothing_sealed z s (Call.enter f ∷ []) refl refl
 
-taken : (b : Bool) (x w : Sealed) → ◌≡◌ {A = Result Sealed Refusal} (if b then Ok x else Err refusals.TooMany) (Ok w) → (b ≡ true) × (x ≡ w)
-taken true x w h = (refl, cc)
-taken false x w h = absurd cc
+-- a commit that is made can be sealed
+pub made_can : (b : Bool) (x w : Sealed) → ◌≡◌ {A = Result Sealed Refusal} (if b then Ok x else Err refusals.TooMany) (Ok w) → b ≡ true
+made_can true x w h = refl
+made_can false x w h = absurd cc
 
--- a commit that was taken goes on with the script
-pub commit_goes_on : (z w : Sealed) (b : Unsealed) (s : Script) → commit_answer z b ≡ Ok w → FitsBatch b s → FitsSealer z s → FitsSealer w (s ++ Call.commit ∷ [])
-commit_goes_on z w b s is batch fits =
-    let made = taken (can_seal z b) (sealed_with z b) w is in
-    let going : z.ended ≡ false = not-true z.ended (and_parts _ _ (and_parts _ _ (and_parts _ _ made.0).0).0).0 in
-    subst (λ (x : Sealed). FitsSealer x (s ++ Call.commit ∷ [])) made.1 (seal_fits z b s (sym fits.ended ∙ going) batch fits)
+-- a commit that is made goes on with the script
+pub commit_goes_on : (z w : Sealed) (b : Unsealed) (s : Script) → can_seal z b ≡ true → w ≡ sealed_with z b → FitsBatch b s → FitsSealer z s → FitsSealer w (s ++ Call.commit ∷ [])
+commit_goes_on z w b s can made batch fits =
+    let going : z.ended ≡ false = not-true z.ended (and_parts _ _ (and_parts _ _ (and_parts _ _ can).0).0).0 in
+    subst (λ (x : Sealed). FitsSealer x (s ++ Call.commit ∷ [])) (sym made) (seal_fits z b s (sym fits.ended ∙ going) batch fits)
 
 -- and so does an end, also where the process had ended
 pub end_goes_on : (z : Sealed) (s : Script) → FitsSealer z s → FitsSealer (end_of z) (s ++ Call.terminate ∷ [])

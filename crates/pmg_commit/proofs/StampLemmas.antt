@@ -8,7 +8,7 @@ use Rattle.pmg_value.specs.declared.value.Value.{Value}
 use Rattle.pmg_value.specs.Rows.{rows_of}
 use Rattle.pmg_scope.specs.Rows.{IsRising, table_of}
 use Rattle.pmg_value.proofs.RowLemmas.{shown, entries_rising}
-use Rattle.pmg_commit.specs.declared.stamps.SealedPut.{SealedPut}
+use Rattle.pmg_commit.specs.declared.last_puts.SealedPut.{SealedPut}
 use Rattle.pmg_commit.specs.Entries.{Entry}
 use Rattle.pmg_commit.specs.Sealed.{Stamps, stamp_all, stamped, stamped_entry, newer_than}
 use Rattle.pmg_commit.specs.Stamped.{stamp_of}

@@ -14,4 +14,5 @@ pub mod Rules
 pub mod Sealed
 pub mod SealerRules
 pub mod Stamped
+pub mod TakenBack
 pub mod Within

@@ -60,15 +60,19 @@ stamp_all n stamps (e ∷ es) = stamp_all n (finite.insert stamps e.0 (record { 
 unfoldable pub stamped : ℕ → Table → Stamps → Stamps
 stamped n table stamps = stamp_all n stamps (finite.entries table)
 
--- once the next commit seals a batch
-abbrev pub sealed_with : Sealed → Unsealed → Sealed
-sealed_with z b = record {
+-- once the next commit seals a table for each of the two reaches, after which the process has ended or not
+abbrev pub stamped_with : Sealed → Bool → Table → Table → Sealed
+stamped_with z ended near far = record {
   proc = z.proc;
   level = suc z.level;
-  ended = z.ended;
-  near = stamped (suc z.level) b.near z.near;
-  far = stamped (suc z.level) b.far z.far;
+  ended = ended;
+  near = stamped (suc z.level) near z.near;
+  far = stamped (suc z.level) far z.far;
 }
+
+-- once the next commit seals a batch
+abbrev pub sealed_with : Sealed → Unsealed → Sealed
+sealed_with z b = stamped_with z z.ended b.near b.far
 
 -- what an end seals for all: the key `pmix.term`, true
 abbrev pub term_table : Table
@@ -76,13 +80,7 @@ term_table = finite.insert finite.empty term_key (1 ∷ 1 ∷ [])
 
 -- once the process ends, which is its last commit
 abbrev pub ended_with : Sealed → Sealed
-ended_with z = record {
-  proc = z.proc;
-  level = suc z.level;
-  ended = true;
-  near = stamped (suc z.level) term_table z.near;
-  far = stamped (suc z.level) term_table z.far;
-}
+ended_with z = stamped_with z true term_table term_table
 
 -- a process ends once
 abbrev pub end_of : Sealed → Sealed
@@ -104,11 +102,11 @@ are_within m = nat_le (finite.len m) 65535 && nat_le (stamps_size m) 16000000
 abbrev pub can_seal : Sealed → Unsealed → Bool
 can_seal z b = not z.ended && nat_lt z.level 4294967294 && are_within (sealed_with z b).near && are_within (sealed_with z b).far
 
--- what a commit gives: the sealer once it is made
+-- what a commit gives, by which it can be taken back: the sealer as it was
 abbrev pub commit_answer : Sealed → Unsealed → Result Sealed Refusal
-commit_answer z b = if can_seal z b then Ok (sealed_with z b) else Err refusals.TooMany
+commit_answer z b = if can_seal z b then Ok z else Err refusals.TooMany
 
--- and what it answers: its number
+-- what a commit answers: its number
 abbrev pub seal_answer : Sealed → Unsealed → Result ℕ Refusal
 seal_answer z b = if can_seal z b then Ok (suc z.level) else Err refusals.TooMany
 

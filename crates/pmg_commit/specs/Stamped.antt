@@ -8,7 +8,7 @@ use Rattle.pmg_value.specs.declared.process.Proc.{Proc}
 use Rattle.pmg_value.specs.declared.refusal.Refusal.{Refusal}
 use Rattle.pmg_value.specs.declared.refusal.Refusal.TheVariants as refusals
 use Rattle.pmg_commit.specs.Knowledge.{Contribution}
-use Rattle.pmg_commit.specs.declared.stamps.SealedPut.{SealedPut}
+use Rattle.pmg_commit.specs.declared.last_puts.SealedPut.{SealedPut}
 use Rattle.pmg_commit.specs.Sealed.{Stamp, Stamps, Sealed, are_within, stamps_size, newer_than}
 
 -- a put that was sealed, with its value's canonical bytes

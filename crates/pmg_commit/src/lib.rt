@@ -1,17 +1,18 @@
 //! What processes commit: contributions, and the knowledge that they add up to.
 #![tactic(auto)]
 
+mod last_puts;
 mod laws;
 mod piece;
 mod reading;
 mod sealer;
 mod stamps;
 
+pub use last_puts::SealedPut;
 pub use laws::{data_rules, honest_rules, knowledge_rules, sealer_rules};
 pub use piece::{MAX_COMMIT, MAX_ENTRIES, MAX_PIECE_SIZE, Piece, PieceEntry};
 pub use reading::best_of;
-pub use sealer::Sealer;
-pub use stamps::SealedPut;
+pub use sealer::{Sealer, SealerBefore};
 
 #[cfg(test)]
 mod sealer_tests;

@@ -7,7 +7,7 @@ ghost use Rattle.pmg_value.specs.declared.refusal.Refusal.TheVariants as refusal
 ghost use Rattle.pmg_commit.specs.Entries.{is_readable, is_later};
 ghost use Rattle.pmg_commit.specs.Pieces.{body_size, entry_of, contribution, entry_size, is_numbered, is_key_rising, is_small, is_piece};
 
-use pmg_value::{Key, Proc, Refusal, Value};
+use pmg_value::{Copied, Key, Proc, Refusal, Value, copy_all};
 use std::alloc::AllocError;
 use std::marker::Model;
 
@@ -29,8 +29,14 @@ pub struct PieceEntry {
     pub value: Value,
 }
 
+impl Copied for PieceEntry {
+    fn copy(&self) -> Result<PieceEntry, AllocError> {
+        PieceEntry::copy(self)
+    }
+}
+
 impl PieceEntry {
-    /// Another entry of the same meaning.
+    /// A copy, equal to this entry.
     pub fn copy(&self) -> Result<PieceEntry, AllocError>
         ensures { IfOk result (λ e. e ≡ self.now) }
     {
@@ -146,20 +152,13 @@ fn are_few(proc: &Proc, entries: &[PieceEntry]) -> bool
         && proc.nspace.as_bytes().len() + 25 + entries_size(entries) <= MAX_PIECE_SIZE
 }
 
-/// Whether the process is one that commits: a client of a group, or its host.
-pub fn commits(proc: &Proc) -> bool
-    ensures { result ≡ (is_client proc.now || is_host proc.now) }
-{
-    proc.is_client() || proc.is_host()
-}
-
 /// Whether a frame can hold the contribution.
 #[tactic(auto, unfolding(crate::specs::Pieces::is_piece))]
 fn can_be_framed(proc: &Proc, from: u64, to: u64, entries: &[PieceEntry]) -> bool
     ensures { result ≡ is_piece (contribution proc.now from to entries.now) }
 {
     let ranges = from < to && to <= MAX_COMMIT;
-    commits(proc)
+    proc.can_commit()
         && ranges
         && are_few(proc, entries)
         && are_keys_rising(entries)
@@ -178,12 +177,20 @@ impl Piece {
         if !can_be_framed(&proc, from, to, &entries) {
             return Err(Refusal::BadParam);
         }
-        Ok(Piece {
+        Ok(Piece::from_checked(proc, from, to, entries))
+    }
+
+    /// The contribution of entries that were judged before.
+    pub fn from_checked(proc: Proc, from: u64, to: u64, entries: Vec<PieceEntry>) -> Piece
+        requires { IsTrue (is_piece (contribution proc from to entries.items)) }
+        ensures { result ≡ contribution proc from to entries.items }
+    {
+        Piece {
             proc,
             from,
             to,
             entries,
-        })
+        }
     }
 
     /// The process that committed.
@@ -242,7 +249,22 @@ impl Piece {
         &self.entries
     }
 
-    /// Another piece of the same meaning.
+    /// The process, the last commit before the contribution and its last one, and the entries.
+    pub fn into_parts(self) -> (Proc, u64, u64, Vec<PieceEntry>)
+        ensures value { contribution result.0 result.1 result.2 result.3.items ≡ self }
+        ensures order { result.1 < result.2 }
+        ensures bound { result.2 ≤ 4294967295 }
+    {
+        let Piece {
+            proc,
+            from,
+            to,
+            entries,
+        } = self;
+        (proc, from, to, entries)
+    }
+
+    /// A copy, equal to this piece.
     pub fn copy(&self) -> Result<Piece, AllocError>
         ensures { IfOk result (λ p. p ≡ self.now) }
     {
@@ -250,18 +272,7 @@ impl Piece {
             proc: self.proc.copy()?,
             from: self.from,
             to: self.to,
-            entries: copy_entries(&self.entries)?,
+            entries: copy_all(&self.entries)?,
         })
     }
-}
-
-/// Other entries of the same meaning, with the same allocator.
-fn copy_entries(entries: &Vec<PieceEntry>) -> Result<Vec<PieceEntry>, AllocError>
-    ensures { IfOk result (λ es. es.items ≡ entries.now.items) }
-{
-    let mut copies = Vec::with_capacity(*entries.allocator(), entries.len())?;
-    for entry in entries {
-        copies.push(entry.copy()?)?;
-    }
-    Ok(copies)
 }

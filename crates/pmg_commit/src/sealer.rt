@@ -1,4 +1,4 @@
-ghost use Rattle.std.specs.Prelude.{◌≡◌, ◌≤◌, ℕ, List, [], ◌∷◌, ◌++◌, ◌&&◌, not, nat_lt, length, IfOk, OnOk, OnErr, IsTrue};
+ghost use Rattle.std.specs.Prelude.{◌≡◌, ◌≤◌, ℕ, List, [], ◌∷◌, ◌++◌, ◌&&◌, not, nat_lt, length, IfOk, IfSome, OnOk, OnErr, IsTrue};
 ghost use Rattle.pmg_value.specs.Answers.{Gives};
 ghost use Rattle.pmg_value.specs.Rows.{rows_of};
 ghost use Rattle.pmg_scope.specs.Rows.{IsRising, table_of};
@@ -11,15 +11,18 @@ ghost use Rattle.pmg_commit.specs.Sealed.{
   are_within,
   can_seal,
   commit_answer,
+  stamped_with,
   seal_answer,
   piece_answer,
   term_table,
 };
 ghost use Rattle.pmg_commit.specs.SealerRules.{FitsBatch, FitsSealer};
-ghost use Rattle.pmg_commit.specs.Stamped.{CanBeSent, newer_answer, stamp_of};
+ghost use Rattle.pmg_commit.specs.Stamped.{CanBeSent, IsSealer, newer_answer, stamp_of};
+ghost use Rattle.pmg_commit.specs.TakenBack.{sealer_back, end_back, CanTakeBack};
 
-use crate::piece::{MAX_COMMIT, Piece, commits};
-use crate::stamps::{SealedPut, Stamps};
+use crate::last_puts::SealedPut;
+use crate::piece::{MAX_COMMIT, Piece};
+use crate::stamps::{Stamps, StampsBefore};
 use pmg_scope::{Batch, Reach};
 use pmg_value::{Key, Proc, Refusal, Value};
 use std::alloc::{AllocError, Global};
@@ -51,13 +54,22 @@ impl Model for Sealer {
     ghost invariant = { λ a. IsSealer (record { proc = a.proc; level = a.level; ended = a.ended; near = a.near; far = a.far }) };
 }
 
+/// What a sealer was before a commit, by which it can be taken back.
+#[derive(Debug, Drop)]
+pub struct SealerBefore {
+    level: u64,
+    ended: bool,
+    near: StampsBefore,
+    far: StampsBefore,
+}
+
 impl Sealer {
     /// A sealer of the process, which made no commit. Refused as BadParam where it is no process that commits: no
     /// client of a group, nor its host; and as NoMemory. It keeps the allocator.
     pub fn new(alloc: Global, proc: &Proc) -> Result<Sealer, Refusal>
         ensures { Gives (λ z. z) result (new_answer proc.now) }
     {
-        if !commits(proc) {
+        if !proc.can_commit() {
             return Err(Refusal::BadParam);
         }
         Ok(Sealer {
@@ -78,34 +90,40 @@ impl Sealer {
         self.level
     }
 
-    /// The sealer once the next commit seals the batch (PMIx Standard 5.0, PMIx_Commit). Refused as TooMany where the
-    /// commit's number would be 4294967295, which is kept for the end, or behind the end; where for one reach there
-    /// would be more than 65535 keys, or more than 16000000 bytes of keys and values, ten more counted for each; and as
-    /// NoMemory.
-    pub fn with_commit(&self, batch: &Batch) -> Result<Sealer, Refusal>
-        ensures { Gives (λ z. z) result (commit_answer self.now batch.now) }
+    /// Makes the next commit, which seals the batch, and tells what there was before, by which it can be taken back (PMIx
+    /// Standard 5.0, PMIx_Commit). An empty batch takes a number too. Refused as TooMany where the commit's number would be
+    /// 4294967295, which is kept for the end, or after the end; where for one reach there would be more than 65535 keys,
+    /// or more than 16000000 bytes of keys and values, ten more counted for each; and as NoMemory. A refused commit changes
+    /// nothing. It takes time in proportion to the batch, times the logarithm of what was sealed.
+    pub fn commit(&mut self, batch: &Batch) -> Result<SealerBefore, Refusal>
+        ensures before { Gives (λ b. sealer_back self.new b) result (commit_answer self.old batch.now) }
+        ensures fits { IfOk result (λ b. CanTakeBack self.new b) }
+        ensures ok { OnOk result (self.new ≡ sealed_with self.old batch.now) }
+        ensures err { OnErr result (self.new ≡ self.old) }
     {
+        let near = batch.near();
+        let far = batch.far();
         if !self.goes_on() {
             return Err(Refusal::TooMany);
         }
-        if !self.near.can_take(batch.near()) || !self.far.can_take(batch.far()) {
+        if !self.near.can_take(near) || !self.far.can_take(far) {
             return Err(Refusal::TooMany);
         }
-        let level = self.level + 1;
-        let near = self.near.stamped(self.alloc, level, batch.near())?;
-        let far = self.far.stamped(self.alloc, level, batch.far())?;
-        Ok(Sealer {
-            alloc: self.alloc,
-            proc: self.proc.copy()?,
-            level,
-            ended: false,
-            near,
-            far,
-        })
+        Ok(self.stamp(false, near, far)?)
     }
 
-    /// Makes the next commit, which seals the batch, and gives its number. An empty batch takes a number too. Refused as
-    /// `with_commit` is; a refused commit changes nothing.
+    /// Takes a commit, or an end, back, by what there was before. It takes no memory.
+    pub fn take_back(&mut self, before: SealerBefore)
+        requires { CanTakeBack self.old before }
+        ensures { self.new ≡ sealer_back self.old before }
+    {
+        self.level = before.level;
+        self.ended = before.ended;
+        self.near.take_back(before.near);
+        self.far.take_back(before.far);
+    }
+
+    /// Makes the next commit, and gives its number. Refused as `commit` is; a refused commit changes nothing.
     pub fn seal(&mut self, batch: &Batch) -> Result<u64, Refusal>
         ensures answer { Gives (λ n. n) result (seal_answer self.old batch.now) }
         ensures ok { OnOk result (self.new ≡ sealed_with self.old batch.now) }
@@ -113,8 +131,44 @@ impl Sealer {
         ensures script { OnOk result ((s : Script) → FitsBatch batch.now s → FitsSealer self.old s
             → FitsSealer self.new (s ++ Call.commit ∷ [])) }
     {
-        *self = self.with_commit(batch)?;
+        let _ = self.commit(batch)?;
         Ok(self.level())
+    }
+
+    /// Seals the puts by the next commit, after which the process has ended or not.
+    fn stamp(
+        &mut self,
+        ended: bool,
+        near: &[(Key, Value)],
+        far: &[(Key, Value)],
+    ) -> Result<SealerBefore, AllocError>
+        requires rising { IsRising near.now × IsRising far.now }
+        requires few { (length near.now ≤ 65535) × (length far.now ≤ 65535) }
+        requires sealer { IsSealer (stamped_with self.old ended (table_of near.now) (table_of far.now)) }
+        ensures before { IfOk result (λ b. sealer_back self.new b ≡ self.old) }
+        ensures fits { IfOk result (λ b. CanTakeBack self.new b) }
+        ensures ok { OnOk result (self.new ≡ stamped_with self.old ended (table_of near.now) (table_of far.now)) }
+        ensures err { OnErr result (self.new ≡ self.old) }
+    {
+        let level = self.level + 1;
+        let near = self.near.stamp(self.alloc, level, near)?;
+        match self.far.stamp(self.alloc, level, far) {
+            Err(AllocError) => {
+                self.near.take_back(near);
+                Err(AllocError)
+            }
+            Ok(far) => {
+                let before = SealerBefore {
+                    level: self.level,
+                    ended: self.ended,
+                    near,
+                    far,
+                };
+                self.level = level;
+                self.ended = ended;
+                Ok(before)
+            }
+        }
     }
 
     /// Whether the process can make a commit more: it has not ended, and there is a number left beside that of its end.
@@ -135,30 +189,24 @@ impl Sealer {
         self.goes_on() && self.near.can_take_one(key, size) && self.far.can_take_one(key, size)
     }
 
-    /// The sealer once the process has ended, by its last commit, by which others learn of it: it seals the key
-    /// `pmix.term`, true, for all of them. A sealer that has ended stays as it is.
-    pub fn with_end(&self) -> Result<Sealer, AllocError>
-        ensures { IfOk result (λ z. z ≡ end_of self.now) }
+    /// Makes the last commit of the process, by which others learn that it has ended: it seals the key `pmix.term`, true,
+    /// for all of them; and tells what there was before, by which it can be taken back. A sealer that has ended stays as
+    /// it is, and tells nothing. Where an allocation fails nothing changes.
+    pub fn end(&mut self) -> Result<Option<SealerBefore>, AllocError>
+        ensures before { IfOk result (λ b. end_back self.new b ≡ self.old) }
+        ensures fits { IfOk result (λ b. IfSome b (CanTakeBack self.new)) }
+        ensures ok { OnOk result (self.new ≡ end_of self.old) }
+        ensures err { OnErr result (self.new ≡ self.old) }
     {
         if self.ended {
-            return self.copy();
+            return Ok(None);
         }
-        let level = self.level + 1;
         let puts = last_puts(self.alloc)?;
-        let near = self.near.stamped(self.alloc, level, &puts)?;
-        let far = self.far.stamped(self.alloc, level, &puts)?;
-        Ok(Sealer {
-            alloc: self.alloc,
-            proc: self.proc.copy()?,
-            level,
-            ended: true,
-            near,
-            far,
-        })
+        Ok(Some(self.stamp(true, &puts, &puts)?))
     }
 
-    /// Makes the last commit, as `with_end` tells, and gives its number. Where memory is wanting nothing changes; a
-    /// sealer that has ended takes none.
+    /// Makes the last commit, as `end` tells, and gives its number. Where an allocation fails nothing changes; a sealer that
+    /// has ended takes none.
     pub fn seal_end(&mut self) -> Result<u64, AllocError>
         ensures number { IfOk result (λ n. n ≡ (end_of self.old).level) }
         ensures ok { OnOk result (self.new ≡ end_of self.old) }
@@ -166,9 +214,7 @@ impl Sealer {
         ensures script { OnOk result ((s : Script) → FitsSealer self.old s
             → FitsSealer self.new (s ++ Call.terminate ∷ [])) }
     {
-        if !self.ended {
-            *self = self.with_end()?;
-        }
+        let _ = self.end()?;
         Ok(self.level())
     }
 
@@ -189,10 +235,10 @@ impl Sealer {
     pub fn far_puts(&self) -> &BTreeMap<Key, SealedPut>
         ensures { rows_of stamp_of result.now.entries ≡ self.now.far }
     {
-        self.far.puts()
+        self.far.rows()
     }
 
-    /// Another sealer of the same meaning.
+    /// A copy, equal to this sealer.
     pub fn copy(&self) -> Result<Sealer, AllocError>
         ensures { IfOk result (λ z. z ≡ self.now) }
     {
@@ -230,6 +276,7 @@ fn newer_piece(
 fn last_puts(alloc: Global) -> Result<Vec<(Key, Value)>, AllocError>
     ensures rising { IfOk result (λ ps. IsRising ps.items) }
     ensures table { IfOk result (λ ps. table_of ps.items ≡ term_table) }
+    ensures one { IfOk result (λ ps. length ps.items ≡ 1) }
 {
     let key = Key::from_text(alloc, b"pmix.term")?;
     let mut puts = Vec::with_capacity(alloc, 1)?;

@@ -1,69 +1,47 @@
-ghost use Rattle.std.specs.Prelude.{◌≡◌, ◌+◌, ◌-◌, ◌*◌, ◌≤◌, ◌<◌, ◌&&◌, nat_le, ℕ, List, length, map, IfOk, OnOk, IsTrue};
+//! What a process's commits sealed last under each key, and what it counts for.
+ghost use Rattle.std.specs.Prelude.{◌≡◌, ◌+◌, ◌-◌, ◌*◌, ◌≤◌, ◌<◌, ◌&&◌, nat_le, ℕ, List, length, map, IfOk, OnOk, OnErr, IsTrue};
 ghost use Rattle.std.specs.FinMap as finite;
-ghost use Rattle.pmg_value.specs.Spelling.{spelling};
 ghost use Rattle.pmg_value.specs.Rows.{rows_of};
 ghost use Rattle.pmg_scope.specs.Rows.{IsRising, table_of};
 ghost use Rattle.pmg_commit.specs.Pieces.{entry_of};
 ghost use Rattle.pmg_commit.specs.Growth.{counted_at, new_keys, replaced_size, puts_size};
 ghost use Rattle.pmg_commit.specs.Sealed.{stamped, stamps_size, are_within, newer_than};
 ghost use Rattle.pmg_commit.specs.Stamped.{stamp_of};
+ghost use Rattle.pmg_commit.specs.TakenBack.{stamps_back, FitsBack};
 
+use crate::last_puts::{LastPuts, SealedPut};
 use crate::piece::PieceEntry;
 use pmg_scope::{MAX_CACHE_SIZE, MAX_KEYS, row_size};
-use pmg_value::{Copied, Key, Value, copy_rows};
+use pmg_value::{Key, Value};
 use std::alloc::{AllocError, Global};
 use std::collections::BTreeMap;
 use std::marker::Model;
 
-/// The put under a key that was sealed last: the number of its commit, and the value.
-#[derive(Debug, Drop)]
-pub struct SealedPut {
-    number: u64,
-    value: Value,
-}
-
-impl SealedPut {
-    /// The number of the commit that sealed it.
-    pub fn number(&self) -> u64
-        ensures { result ≡ (stamp_of self.now).number }
-    {
-        self.number
-    }
-
-    /// The value that was put.
-    pub fn value(&self) -> &Value
-        ensures { spelling result.now ≡ (stamp_of self.now).bytes }
-    {
-        &self.value
-    }
-}
-
-impl Copied for SealedPut {
-    fn copy(&self) -> Result<SealedPut, AllocError> {
-        Ok(SealedPut {
-            number: self.number,
-            value: self.value.copy()?,
-        })
-    }
-}
-
-/// What a process's commits sealed last under each key.
+/// What a process's commits sealed last under each key, with what it counts for.
 #[derive(Debug, Drop)]
 pub struct Stamps {
-    rows: BTreeMap<Key, SealedPut>,
+    puts: LastPuts,
+    size: usize,
 }
 
 impl Model for Stamps {
-    ghost use Rattle.pmg_commit.specs.Sealed.{Stamps, coded_stamps};
+    ghost use Rattle.std.specs.Prelude.{◌≡◌};
+    ghost use Rattle.pmg_commit.specs.Sealed.{Stamps, coded_stamps, stamps_size};
 
     ghost Value = { Stamps };
 
     ghost coded = { coded_stamps };
 
-    ghost use Rattle.pmg_value.specs.Rows.{rows_of};
-    ghost use Rattle.pmg_commit.specs.Stamped.{stamp_of};
+    ghost view = { λ a. a.puts };
 
-    ghost view = { λ a. rows_of stamp_of a.rows.entries };
+    ghost invariant = { λ a. a.size ≡ stamps_size a.puts };
+}
+
+/// What stamps were before a commit, by which it can be taken back.
+#[derive(Debug, Drop)]
+pub struct StampsBefore {
+    size: usize,
+    puts: Vec<(Key, Option<SealedPut>)>,
 }
 
 impl Stamps {
@@ -72,86 +50,79 @@ impl Stamps {
         ensures { result ≡ finite.empty }
     {
         Stamps {
-            rows: BTreeMap::new(alloc),
+            puts: LastPuts::new(alloc),
+            size: 0,
         }
     }
 
     /// What was sealed last, under each key.
-    pub fn puts(&self) -> &BTreeMap<Key, SealedPut>
+    pub fn rows(&self) -> &BTreeMap<Key, SealedPut>
         ensures { rows_of stamp_of result.now.entries ≡ self.now }
     {
-        &self.rows
+        self.puts.rows()
     }
 
-    /// Puts what was sealed under the key, and gives back what was there.
-    fn set(&mut self, key: Key, put: SealedPut) -> Result<Option<SealedPut>, AllocError>
-        ensures { OnOk result (self.new ≡ finite.insert self.old key (stamp_of put)) }
-    {
-        Ok(self.rows.insert(key, put)?)
-    }
-
-    /// Puts what was sealed under the key.
-    fn add(&mut self, key: Key, put: SealedPut) -> Result<(), AllocError>
-        ensures { OnOk result (self.new ≡ finite.insert self.old key (stamp_of put)) }
-    {
-        let _ = self.set(key, put)?;
-        Ok(())
-    }
-
-    /// Other stamps of the same meaning.
+    /// A copy, equal to these stamps.
     pub fn copy(&self, alloc: Global) -> Result<Stamps, AllocError>
         ensures { IfOk result (λ s. s ≡ self.now) }
     {
         Ok(Stamps {
-            rows: copy_rows(alloc, &self.rows)?,
+            puts: self.puts.copy(alloc)?,
+            size: self.size,
         })
     }
 
-    /// The stamps once the commit of that number seals these puts, whose keys rise.
-    pub fn stamped(
-        &self,
+    /// What the commits above that number sealed, in the order of the keys.
+    pub fn newer(&self, alloc: Global, from: u64) -> Result<Vec<PieceEntry>, AllocError>
+        ensures { IfOk result (λ es. map entry_of es.items ≡ newer_than from self.now) }
+    {
+        self.puts.newer(alloc, from)
+    }
+
+    /// Seals the puts, whose keys rise, by the commit of that number, and tells what there was before. Where memory is
+    /// wanting nothing changes. It takes time in proportion to the puts, times the logarithm of what was sealed.
+    pub fn stamp(
+        &mut self,
         alloc: Global,
         number: u64,
         puts: &[(Key, Value)],
-    ) -> Result<Stamps, AllocError>
-        requires { IsRising puts.now }
-        ensures { IfOk result (λ s. s ≡ stamped number (table_of puts.now) self.now) }
+    ) -> Result<StampsBefore, AllocError>
+        requires rising { IsRising puts.now }
+        requires keys { length puts.now ≤ 65535 }
+        requires small { stamps_size self.old ≤ 16000021 }
+        ensures ok { OnOk result (self.new ≡ stamped number (table_of puts.now) self.old) }
+        ensures before { IfOk result (λ b. stamps_back self.new b ≡ self.old) }
+        ensures fits { IfOk result (λ b. FitsBack self.new b) }
+        ensures err { OnErr result (self.new ≡ self.old) }
     {
-        let mut stamps = self.copy(alloc)?;
-        for (key, value) in puts {
-            let put = SealedPut {
-                number,
-                value: value.copy()?,
-            };
-            stamps.add(key.copy()?, put)?;
+        let size = self.size + puts_size(puts) - self.replaced_size(puts);
+        let mut before = Vec::new(alloc);
+        if let Err(AllocError) = self.puts.stamp_all(number, puts, &mut before) {
+            self.puts.take_back(before);
+            return Err(AllocError);
         }
-        Ok(stamps)
+        let before = StampsBefore {
+            size: self.size,
+            puts: before,
+        };
+        self.size = size;
+        Ok(before)
     }
 
-    /// The number of the keys.
-    fn len(&self) -> usize
-        ensures { result ≡ finite.len self.now }
+    /// Takes a commit back, by what there was before. It takes no memory.
+    pub fn take_back(&mut self, before: StampsBefore)
+        requires { FitsBack self.old before }
+        ensures { self.new ≡ stamps_back self.old before }
     {
-        self.rows.len()
-    }
-
-    /// What the keys and values count for.
-    fn size(&self) -> usize
-        requires { finite.len self.now ≤ 65535 }
-        ensures { result ≡ stamps_size self.now }
-    {
-        let mut size = 0;
-        for (key, put) in self.rows.iter() {
-            size += row_size(key, &put.value);
-        }
-        size
+        self.size = before.size;
+        self.puts.take_back(before.puts);
     }
 
     /// Whether something was sealed under the key.
     fn has(&self, key: &Key) -> bool
         ensures { result ≡ finite.contains_key self.now key.now }
     {
-        self.rows.get(key).is_some()
+        self.puts.get(key).is_some()
     }
 
     /// What was sealed last under the key counts for, 0 where nothing was.
@@ -159,8 +130,8 @@ impl Stamps {
         ensures value { result ≡ counted_at self.now key.now }
         ensures bound { result ≤ 1049097 }
     {
-        match self.rows.get(key) {
-            Some(put) => row_size(key, &put.value),
+        match self.puts.get(key) {
+            Some(put) => row_size(key, put.value()),
             None => 0,
         }
     }
@@ -201,7 +172,7 @@ impl Stamps {
         ensures { result ≡ (nat_le (finite.len self.now + keys) 65535
             && nat_le (stamps_size self.now + added - replaced) 16000000) }
     {
-        self.len() + keys <= MAX_KEYS && self.size() + added - replaced <= MAX_CACHE_SIZE
+        self.puts.len() + keys <= MAX_KEYS && self.size + added - replaced <= MAX_CACHE_SIZE
     }
 
     /// Whether there would be no more keys and bytes than a sealer may have, once a commit seals these puts, whose keys
@@ -209,7 +180,8 @@ impl Stamps {
     pub fn can_take(&self, puts: &[(Key, Value)]) -> bool
         requires rising { IsRising puts.now }
         requires within { IsTrue (are_within self.now) }
-        ensures { (n : ℕ) → result ≡ are_within (stamped n (table_of puts.now) self.now) }
+        ensures value { (n : ℕ) → result ≡ are_within (stamped n (table_of puts.now) self.now) }
+        ensures few { IsTrue result → length puts.now ≤ 65535 }
     {
         if puts.len() > MAX_KEYS {
             return false;
@@ -232,23 +204,6 @@ impl Stamps {
         let keys = if self.has(key) { 0 } else { 1 };
         let added = 10 + key.as_bytes().len() + size;
         self.has_room(keys, added, self.counted_at(key))
-    }
-
-    /// What the commits above that number sealed, in the order of the keys.
-    pub fn newer(&self, alloc: Global, from: u64) -> Result<Vec<PieceEntry>, AllocError>
-        ensures { IfOk result (λ es. map entry_of es.items ≡ newer_than from self.now) }
-    {
-        let mut entries = Vec::new(alloc);
-        for (key, put) in self.rows.iter() {
-            if from < put.number {
-                entries.push(PieceEntry {
-                    key: key.copy()?,
-                    number: put.number,
-                    value: put.value.copy()?,
-                })?;
-            }
-        }
-        Ok(entries)
     }
 }
 

@@ -111,6 +111,11 @@ some_body p h = absurd (false≢true h)
 pub tag_is : (a : Elements) → are_procs (spelling (values.Array a)) ≡ true → a.tag ≡ 16
 tag_is a h = let begins = (and_parts (starts_with nat_eq (spelling (values.Array a)) (19 ∷ 16 ∷ [])) (nat_le 6 (length (spelling (values.Array a)))) h).0 in grind (arith, begins)
 
+pub procs_bytes : (a : Elements) → a.tag ≡ 16 → are_procs (spelling (values.Array a)) ≡ true
+procs_bytes a e =
+    ap (λ (t : ℕ). starts_with nat_eq (19 ∷ t ∷ []) (19 ∷ 16 ∷ []) && nat_le 6 (length (spelling (values.Array a)))) e
+    ∙ le-leb 6 (length (spelling (values.Array a))) (omega arith)
+
 pub longer : (a : Elements) (p : Plain) (ps : List Plain) → a.plains ≡ p ∷ ps → 0 < length (plain_body p) → 6 < length (spelling (values.Array a))
 longer a p ps e some =
     let body = ap (λ (qs : List Plain). length (bodies qs)) e ∙ length-append (plain_body p) (bodies ps) in

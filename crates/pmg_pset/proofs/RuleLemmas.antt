@@ -39,7 +39,7 @@ use Rattle.pmg_pset.proofs.MemberLemmas.{longer}
 abbrev put_call : Change → Call
 put_call c = Call.put scopes.Global c.name c.bytes
 
--- the last change's calls stand behind those of the others
+-- the last change's calls stand after those of the others
 script_more : (cs : List Change) (c : Change) → script_of (cs ++ c ∷ []) ≡ (script_of cs ++ put_call c ∷ []) ++ Call.commit ∷ []
 script_more [] c = refl
 script_more (d ∷ cs) c = ap (λ (s : Script). put_call d ∷ Call.commit ∷ s) (script_more cs c)
@@ -48,7 +48,7 @@ never_ends : (cs : List Change) (c : Change) → has_end (script_of cs ++ put_ca
 never_ends [] c = refl
 never_ends (d ∷ cs) c = never_ends cs c
 
--- a commit seals the one put behind the commit before
+-- a commit seals the one put after the commit before
 one_put : (cs : List Change) (c : Change) → next_part (script_of cs ++ put_call c ∷ []) ≡ put_call c ∷ []
 unfolding part
 one_put [] c = refl

@@ -21,7 +21,7 @@ use Rattle.pmg_value.specs.Rows.{rows_of}
 use Rattle.pmg_scope.specs.Rows.{IsRising, counted_by}
 use Rattle.pmg_value.proofs.RowLemmas.{shown, entries_rising, entries_of_nothing}
 use Rattle.pmg_scope.proofs.SumLemmas.{len_held, sum_put}
-use Rattle.pmg_commit.specs.declared.stamps.SealedPut.{SealedPut}
+use Rattle.pmg_commit.specs.declared.last_puts.SealedPut.{SealedPut}
 use Rattle.pmg_commit.specs.Sealed.{Stamp, Stamps, Sealed, fresh, new_answer, stamped, are_within, stamp_size, stamps_size, can_seal, commit_answer}
 use Rattle.pmg_commit.specs.Stamped.{stamp_of}
 use Rattle.pmg_commit.proofs.GrowthLemmas.{stamped_one}
@@ -85,16 +85,11 @@ changed_sets z name bytes are is within = record {
   within = within;
 }
 
-taken : (b : Bool) (x w : Sealed) → ◌≡◌ {A = Result Sealed Refusal} (if b then Ok x else Err refusals.TooMany) (Ok w) → (b ≡ true) × (x ≡ w)
-taken true x w h = (refl, cc)
-taken false x w h = absurd cc
-
 -- a change that a commit took leaves sets
-pub changed_are_sets : (z w : Sealed) (name : List ℕ) (procs : List Proc) → AreSets z → commit_answer z (global_put name (proc_bytes procs)) ≡ Ok w → AreSets w
-changed_are_sets z w name procs are is =
+pub changed_are_sets : (z w : Sealed) (name : List ℕ) (procs : List Proc) → AreSets z → can_seal z (global_put name (proc_bytes procs)) ≡ true → w ≡ changed z name (proc_bytes procs) → AreSets w
+changed_are_sets z w name procs are can made =
     let bytes = proc_bytes procs in
-    let made = taken (can_seal z (global_put name bytes)) (changed z name bytes) w is in
-    subst AreSets made.1 (changed_sets z name bytes are (bytes_of_procs procs) (within_after z name bytes made.0))
+    subst AreSets (sym made) (changed_sets z name bytes are (bytes_of_procs procs) (within_after z name bytes can))
 
 -- a new sealer of the host's process has no sets
 fresh_sets : AreSets (fresh host)
@@ -158,12 +153,12 @@ turned false w = refl
 
 -- what is due to a deletion
 pub deletion_due : (z : Sealed) (name : List ℕ) (procs : List Proc) → AreSets z → is_live z name ≡ true → procs ≡ []
-    → change_answer z name procs ≡ first_of (delete_cause z name) (changed z name no_members)
+    → change_answer z name procs ≡ first_of (delete_cause z name) z
 deletion_due z name procs are live none =
     ap (change_answer z name) none
-    ∙ ap (λ (can : Bool). if not can then Err refusals.TooMany else Ok (changed z name no_members)) (deletes z name are live)
-    ∙ turned (is_full z) (changed z name no_members)
-    ∙ sym (λ i. if not (live i) then Err refusals.NotFound else if is_full z then Err refusals.TooMany else Ok (changed z name no_members))
+    ∙ ap (λ (can : Bool). if not can then Err refusals.TooMany else Ok z) (deletes z name are live)
+    ∙ turned (is_full z) z
+    ∙ sym (λ i. if not (live i) then Err refusals.NotFound else if is_full z then Err refusals.TooMany else Ok z)
 
 -- ---- answers, of the sets that a change makes and of its number
 

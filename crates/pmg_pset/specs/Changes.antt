@@ -3,7 +3,7 @@ use Rattle.std.specs.Prelude.{ℕ, List, [], ◌∷◌}
 use Rattle.pmg_value.specs.declared.process.Proc.{Proc}
 use Rattle.pmg_scope.specs.declared.scope.Scope.TheVariants as scopes
 use Rattle.pmg_scope.specs.Scripts.{Call, Script}
-use Rattle.pmg_pset.specs.Members.{in_order, proc_bytes, no_members}
+use Rattle.pmg_pset.specs.Members.{each_once, proc_bytes, no_members}
 
 -- a definition or a deletion: the set's name, and the canonical bytes of the array of its members, of none where it is deleted
 pub record Change : Type 0 where
@@ -12,7 +12,7 @@ pub record Change : Type 0 where
 
 -- the definition of a set of these processes
 abbrev pub definition : List ℕ → List Proc → Change
-definition name list = record { name = name; bytes = proc_bytes (in_order list) }
+definition name list = record { name = name; bytes = proc_bytes (each_once list) }
 
 -- the deletion of a set
 abbrev pub deletion : List ℕ → Change

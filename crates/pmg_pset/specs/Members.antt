@@ -1,22 +1,19 @@
 -- The members of a process set, as a value.
 use Rattle.std.specs.Prelude.{ℕ, ◌+◌, Bool, ◌&&◌, nat_le, length, List, [], ◌∷◌, Option, Some, None, map, nat_eq, if◌then◌else◌}
-use Rattle.std.specs.FinMap as finite
+use Rattle.std.specs.FinSet as set
 use Rattle.std.specs.List.{starts_with}
 use Rattle.std.specs.Str.{bytes_eq}
 use Rattle.pmg_value.specs.declared.process.Proc.{Proc}
 use Rattle.pmg_value.specs.declared.value.Value.TheVariants as values
 use Rattle.pmg_value.specs.Elements.{Elements}
 use Rattle.pmg_value.specs.Plain.{Plain}
+use Rattle.pmg_value.specs.InOrder.{in_order}
 use Rattle.pmg_value.specs.Process.{proc_cmp}
 use Rattle.pmg_value.specs.Spelling.{spelling}
 
--- the processes, as the keys of a map that has nothing at each of them
-abbrev pub marked : List Proc → List (Proc × Unit {0})
-marked list = map (λ p. (p, tt)) list
-
--- The processes of a list, each once, in their order: the keys of the map that has each of them.
-unfoldable pub in_order : List Proc → List Proc
-in_order list = finite.keys (finite.from_entries {R = proc_cmp} (marked list))
+-- the processes of a list, each once, in their order
+unfoldable pub each_once : List Proc → List Proc
+each_once list = in_order (set.from_list {R = proc_cmp} list)
 
 -- the array of these processes (PMIx Standard 5.0, pmix_data_array_t, PMIX_PROC)
 abbrev pub proc_array : List Proc → Elements
@@ -41,3 +38,7 @@ are_procs bytes = starts_with nat_eq bytes (19 ∷ 16 ∷ []) && nat_le 6 (lengt
 -- the bytes of an array that has members, and none of one that a deletion put
 abbrev pub live_of : List ℕ → Option (List ℕ)
 live_of bytes = if bytes_eq bytes no_members then None else Some bytes
+
+-- the bytes of the members' array that a value tells of, where it is an array of processes that has some
+abbrev pub members_told : List ℕ → Option (List ℕ)
+members_told bytes = if are_procs bytes then live_of bytes else None

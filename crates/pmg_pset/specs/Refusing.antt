@@ -8,8 +8,8 @@ use Rattle.pmg_value.specs.Names.{is_reserved}
 use Rattle.pmg_value.specs.Process.{is_client}
 use Rattle.pmg_scope.specs.Cached.{global_put}
 use Rattle.pmg_commit.specs.Sealed.{Sealed, can_seal}
-use Rattle.pmg_pset.specs.Members.{in_order, proc_bytes}
-use Rattle.pmg_pset.specs.Sets.{is_live, changed}
+use Rattle.pmg_pset.specs.Members.{each_once, proc_bytes}
+use Rattle.pmg_pset.specs.Sets.{is_live}
 
 -- no commit can seal the change: its number is the one that is kept for an end, or a limit of a sealer would be passed
 abbrev pub is_too_much : Sealed → List ℕ → List ℕ → Bool
@@ -19,10 +19,9 @@ is_too_much z name bytes = not (can_seal z (global_put name bytes))
 abbrev pub are_too_many : List Proc → Bool
 are_too_many procs = nat_lt 4096 (length procs) || nat_lt 1048576 (length (proc_bytes procs))
 
--- what a change gives: the sets with the processes under the name; of none where the set is deleted
+-- what a change to these processes under the name gives, by which it can be taken back: the sets as they were
 abbrev pub change_answer : Sealed → List ℕ → List Proc → Result Sealed Refusal
-change_answer z name procs =
-    if are_too_many procs || is_too_much z name (proc_bytes procs) then Err refusals.TooMany else Ok (changed z name (proc_bytes procs))
+change_answer z name procs = if are_too_many procs || is_too_much z name (proc_bytes procs) then Err refusals.TooMany else Ok z
 
 -- no set can have these members: there are none, or one is no process that a group may register
 abbrev pub are_unfit : List Proc → Bool
@@ -33,7 +32,7 @@ are_unfit list = (length list == 0) || not (list_all is_client list)
 abbrev pub define_cause : Sealed → List ℕ → List Proc → Refusal → Bool
 define_cause z name list refusals.BadParam = is_reserved name || are_unfit list
 define_cause z name list refusals.Exists = is_live z name
-define_cause z name list refusals.TooMany = are_too_many (in_order list) || is_too_much z name (proc_bytes (in_order list))
+define_cause z name list refusals.TooMany = are_too_many (each_once list) || is_too_much z name (proc_bytes (each_once list))
 define_cause z name list _ = false
 
 -- the next commit's number would be the one that is kept for an end

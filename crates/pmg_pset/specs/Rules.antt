@@ -15,7 +15,7 @@ use Rattle.pmg_commit.specs.Levels.{level}
 use Rattle.pmg_commit.specs.Sealed.{Sealed, fresh, piece_at}
 use Rattle.pmg_commit.specs.SealerRules.{FitsSealer}
 use Rattle.pmg_pset.specs.Changes.{Change, script_of}
-use Rattle.pmg_pset.specs.Members.{in_order, proc_bytes, no_members, live_of}
+use Rattle.pmg_pset.specs.Members.{each_once, proc_bytes, no_members, live_of}
 use Rattle.pmg_pset.specs.Sets.{host, changed, live_at}
 
 -- new sets fit the script of no change
@@ -52,12 +52,12 @@ OnePieceIsEnough =
 
 -- the members of a set rise
 abbrev pub MembersRise : Type 0
-MembersRise = (list : List Proc) → IsStrictlySortedBy proc_cmp (in_order list)
+MembersRise = (list : List Proc) → IsStrictlySortedBy proc_cmp (each_once list)
 
 -- and are those of the list
 abbrev pub MembersAreListed : Type 0
-MembersAreListed = (list : List Proc) → SameItems (in_order list) list
+MembersAreListed = (list : List Proc) → SameItems (each_once list) list
 
 -- so the order of a list, and what stands in it twice, do not matter
-abbrev pub OrderIsFree : Type 0
-OrderIsFree = (xs ys : List Proc) → SameItems xs ys → in_order xs ≡ in_order ys
+abbrev pub MemberOrderIsFree : Type 0
+MemberOrderIsFree = (xs ys : List Proc) → SameItems xs ys → each_once xs ≡ each_once ys

@@ -7,6 +7,8 @@ use Rattle.pmg_value.specs.declared.process.Proc.{Proc}
 use Rattle.pmg_value.specs.Process.{host_name}
 use Rattle.pmg_scope.specs.Cached.{global_put}
 use Rattle.pmg_commit.specs.Sealed.{Stamp, Stamps, Sealed, sealed_with, are_within}
+use Rattle.pmg_commit.specs.TakenBack.{CanTakeBack, sealer_back}
+use Rattle.pmg_commit.specs.declared.sealer.SealerBefore.{SealerBefore}
 use Rattle.pmg_pset.specs.Members.{are_procs, live_of}
 
 -- the process that puts the sets: `pmix.host 0`
@@ -25,6 +27,11 @@ pub record AreSets (z : Sealed) : Type 0 where
   pub alike : z.near ≡ z.far
   pub sets : IsTrue (are_sets z.far)
   pub within : IsTrue (are_within z.far)
+
+-- a change of the sets that can be taken back: what it replaced are sets
+pub record AreSetsBack (z : Sealed) (before : SealerBefore) : Type 0 where
+  pub sealer : CanTakeBack z before
+  pub sets : AreSets (sealer_back z before)
 
 -- the bytes of the members' array, where what was put last has members
 abbrev pub live_in : Option Stamp → Option (List ℕ)

@@ -9,7 +9,7 @@ ghost use Rattle.pmg_pset.specs.Rules.{
   OnePieceIsEnough,
   MembersRise,
   MembersAreListed,
-  OrderIsFree,
+  MemberOrderIsFree,
 };
 
 /// The rules of process sets: they fit the script of the host's process, change by change; there are those that were
@@ -25,5 +25,5 @@ pub fn set_rules()
     ensures one_piece_is_enough { OnePieceIsEnough }
     ensures members_rise { MembersRise }
     ensures members_are_listed { MembersAreListed }
-    ensures order_is_free { OrderIsFree }
+    ensures order_is_free { MemberOrderIsFree }
 {}

@@ -6,7 +6,7 @@ mod members;
 mod sets;
 
 pub use laws::set_rules;
-pub use members::MAX_MEMBERS;
+pub use members::{MAX_MEMBERS, members_in};
 pub use sets::Sets;
 
 #[cfg(test)]

@@ -21,7 +21,7 @@ ghost use Rattle.pmg_value.specs.declared.value.Value.TheVariants as values;
 ghost use Rattle.pmg_value.specs.Process.{is_client};
 ghost use Rattle.pmg_value.specs.Spelling.{spelling};
 ghost use Rattle.pmg_commit.specs.Stamped.{stamp_of};
-ghost use Rattle.pmg_pset.specs.Members.{in_order, proc_array, proc_bytes, proc_size, are_procs, live_of};
+ghost use Rattle.pmg_pset.specs.Members.{each_once, proc_array, proc_bytes, proc_size, are_procs, live_of, members_told};
 ghost use Rattle.pmg_pset.specs.Refusing.{are_too_many, are_unfit};
 
 use pmg_commit::SealedPut;
@@ -49,8 +49,8 @@ pub fn are_unfit(list: &[Proc]) -> bool
 }
 
 /// The processes, each once, in their order.
-pub fn in_order(list: Vec<Proc>) -> Vec<Proc>
-    ensures { result.items ≡ in_order list.items }
+pub fn each_once(list: Vec<Proc>) -> Vec<Proc>
+    ensures { result.items ≡ each_once list.items }
 {
     let mut procs = list;
     procs.sort_unstable();
@@ -105,14 +105,25 @@ pub fn array_of(alloc: Global, procs: Vec<Proc>) -> Result<Array, Refusal>
     Array::new(PROC_TAG, values_of(alloc, procs)?)
 }
 
+/// The members of a process set, of which a value tells that another server's store reads under the set's name, as a
+/// contribution of `pmix.host 0` told it: none where the set was deleted, and where the value is no array of processes.
+pub fn members_in(value: &Value) -> Option<&Array>
+    ensures value { option_map (λ a. spelling (values.Array a.now)) result ≡ members_told (spelling value.now) }
+    ensures kind { IfSome result (λ a. a.now.tag ≡ 16) }
+{
+    match value {
+        Value::Array(members) if members.tag() == PROC_TAG && !members.items().is_empty() => {
+            Some(members)
+        }
+        _ => None,
+    }
+}
+
 /// The members of the set that was sealed last; none where that was a deletion.
 pub fn members_of(put: &SealedPut) -> Option<&Array>
     requires { IsTrue (are_procs (stamp_of put.now).bytes) }
     ensures value { option_map (λ a. spelling (values.Array a.now)) result ≡ live_of (stamp_of put.now).bytes }
     ensures kind { IfSome result (λ a. a.now.tag ≡ 16) }
 {
-    match put.value() {
-        Value::Array(members) if !members.items().is_empty() => Some(members),
-        _ => None,
-    }
+    members_in(put.value())
 }

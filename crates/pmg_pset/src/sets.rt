@@ -9,13 +9,14 @@ ghost use Rattle.pmg_value.specs.Spelling.{spelling};
 ghost use Rattle.pmg_scope.specs.declared.scope.Reach.TheVariants as reach;
 ghost use Rattle.pmg_commit.specs.Sealed.{fresh, piece_answer};
 ghost use Rattle.pmg_commit.specs.SealerRules.{FitsSealer};
+ghost use Rattle.pmg_commit.specs.TakenBack.{sealer_back};
 ghost use Rattle.pmg_pset.specs.Changes.{Change, definition, deletion, script_of};
-ghost use Rattle.pmg_pset.specs.Members.{in_order, proc_bytes, no_members};
+ghost use Rattle.pmg_pset.specs.Members.{each_once, proc_bytes, no_members};
 ghost use Rattle.pmg_pset.specs.Refusing.{define_cause, delete_cause, members_cause, change_answer};
-ghost use Rattle.pmg_pset.specs.Sets.{host, changed, live_at, live_names, members_at};
+ghost use Rattle.pmg_pset.specs.Sets.{host, changed, live_at, live_names, members_at, AreSetsBack};
 
-use crate::members::{are_unfit, array_of, array_size, in_order, members_of};
-use pmg_commit::{Piece, Sealer};
+use crate::members::{are_unfit, array_of, array_size, each_once, members_of};
+use pmg_commit::{Piece, Sealer, SealerBefore};
 use pmg_scope::{Batch, Reach};
 use pmg_value::{Array, HOST_NAME, Key, Nspace, Proc, Rank, Refusal, Value};
 use std::alloc::{AllocError, Global};
@@ -53,15 +54,18 @@ impl Sets {
         Ok(Sets { alloc, sealer })
     }
 
-    /// The sets once the set of these processes is defined, whatever their order and however often each is named (PMIx
-    /// Standard 5.0, process sets). Refused as BadParam where the name begins with `pmix`, where no process is named, and
-    /// where one is that no group may register, as one of rank PMIX_RANK_WILDCARD; as Exists where there is a set of that
-    /// name; as TooMany where more than 4,096 processes are named, where their array would be longer than 1,048,576
-    /// canonical bytes, where the number of the host's commit would be 4294967295, and where the sets would pass the
-    /// limits of a sealer; and as NoMemory.
-    pub fn with_set(&self, name: &Key, members: Vec<Proc>) -> Result<Sets, Refusal>
-        ensures { Gives (λ z. z) result (first_of (define_cause self.now name.now members.items)
-            (changed self.now name.now (proc_bytes (in_order members.items)))) }
+    /// Defines the set of these processes, whatever their order and however often each is named, and tells what there was
+    /// before, by which the definition can be taken back (PMIx Standard 5.0, process sets). Refused as BadParam where the
+    /// name begins with `pmix`, where no process is named, and where one is that no group may register, as one of rank
+    /// PMIX_RANK_WILDCARD; as Exists where there is a set of that name; as TooMany where more than 4,096 processes are
+    /// named, where their array would be longer than 1,048,576 canonical bytes, where the number of the host's commit would
+    /// be 4294967295, and where the sets would pass the limits of a sealer; and as NoMemory. A refused definition changes
+    /// nothing.
+    pub fn put_set(&mut self, name: &Key, members: Vec<Proc>) -> Result<SealerBefore, Refusal>
+        ensures before { Gives (λ b. sealer_back self.new b) result (first_of (define_cause self.old name.now members.items) self.old) }
+        ensures fits { IfOk result (λ b. AreSetsBack self.new b) }
+        ensures ok { OnOk result (self.new ≡ changed self.old name.now (proc_bytes (each_once members.items))) }
+        ensures err { OnErr result (self.new ≡ self.old) }
     {
         if name.is_reserved() || are_unfit(&members) {
             return Err(Refusal::BadParam);
@@ -69,34 +73,38 @@ impl Sets {
         if self.live(name).is_some() {
             return Err(Refusal::Exists);
         }
-        self.with_change(name, in_order(members))
+        self.change(name, each_once(members))
     }
 
     /// Defines the set of these processes, and gives the number of the host's commit that tells of it. Refused as
-    /// `with_set` is; a refused definition changes nothing.
+    /// `put_set` is; a refused definition changes nothing.
     pub fn define(&mut self, name: Key, members: Vec<Proc>) -> Result<u64, Refusal>
         ensures answer { Gives (λ n. n) result (first_of (define_cause self.old name members.items) (suc self.old.level)) }
-        ensures ok { OnOk result (self.new ≡ changed self.old name (proc_bytes (in_order members.items))) }
+        ensures ok { OnOk result (self.new ≡ changed self.old name (proc_bytes (each_once members.items))) }
         ensures err { OnErr result (self.new ≡ self.old) }
         ensures script { OnOk result ((cs : List Change) → FitsSealer self.old (script_of cs)
             → FitsSealer self.new (script_of (cs ++ definition name members.items ∷ []))) }
     {
-        *self = self.with_set(&name, members)?;
+        let _ = self.put_set(&name, members)?;
         Ok(self.level())
     }
 
-    /// The sets once the set of that name is deleted, which may then be defined again. Refused as NotFound where there is
-    /// no such set; as TooMany where the number of the host's commit would be 4294967295; and as NoMemory.
-    pub fn without_set(&self, name: &Key) -> Result<Sets, Refusal>
-        ensures { Gives (λ z. z) result (first_of (delete_cause self.now name.now) (changed self.now name.now no_members)) }
+    /// Deletes the set of that name, which may then be defined again, and tells what there was before, by which the
+    /// deletion can be taken back. Refused as NotFound where there is no such set; as TooMany where the number of the
+    /// host's commit would be 4294967295; and as NoMemory. Where it is refused the set stays.
+    pub fn remove_set(&mut self, name: &Key) -> Result<SealerBefore, Refusal>
+        ensures before { Gives (λ b. sealer_back self.new b) result (first_of (delete_cause self.old name.now) self.old) }
+        ensures fits { IfOk result (λ b. AreSetsBack self.new b) }
+        ensures ok { OnOk result (self.new ≡ changed self.old name.now no_members) }
+        ensures err { OnErr result (self.new ≡ self.old) }
     {
         if self.live(name).is_none() {
             return Err(Refusal::NotFound);
         }
-        self.with_change(name, Vec::new(self.alloc))
+        self.change(name, Vec::new(self.alloc))
     }
 
-    /// Deletes the set of that name, and gives the number of the host's commit that tells of it. Refused as `without_set`
+    /// Deletes the set of that name, and gives the number of the host's commit that tells of it. Refused as `remove_set`
     /// is; where it is refused the set stays.
     pub fn delete(&mut self, name: &Key) -> Result<u64, Refusal>
         ensures answer { Gives (λ n. n) result (first_of (delete_cause self.old name.now) (suc self.old.level)) }
@@ -105,8 +113,16 @@ impl Sets {
         ensures script { OnOk result ((cs : List Change) → FitsSealer self.old (script_of cs)
             → FitsSealer self.new (script_of (cs ++ deletion name.now ∷ []))) }
     {
-        *self = self.without_set(name)?;
+        let _ = self.remove_set(name)?;
         Ok(self.level())
+    }
+
+    /// Takes a definition or a deletion back, by what there was before. It takes no memory.
+    pub fn take_back(&mut self, before: SealerBefore)
+        requires { AreSetsBack self.old before }
+        ensures { self.new ≡ sealer_back self.old before }
+    {
+        self.sealer.take_back(before);
     }
 
     /// The members of the set of that name, as an array of processes (PMIx Standard 5.0, PMIX_QUERY_PSET_MEMBERSHIP).
@@ -150,7 +166,7 @@ impl Sets {
         self.sealer.level()
     }
 
-    /// Other sets of the same meaning.
+    /// A copy, equal to these sets.
     pub fn copy(&self) -> Result<Sets, AllocError>
         ensures { IfOk result (λ z. z ≡ self.now) }
     {
@@ -171,9 +187,12 @@ impl Sets {
         }
     }
 
-    /// The sets once the array of these processes is sealed under the name, for all.
-    fn with_change(&self, name: &Key, procs: Vec<Proc>) -> Result<Sets, Refusal>
-        ensures { Gives (λ z. z) result (change_answer self.now name.now procs.items) }
+    /// Seals the array of these processes under the name, for all, and tells what there was before.
+    fn change(&mut self, name: &Key, procs: Vec<Proc>) -> Result<SealerBefore, Refusal>
+        ensures before { Gives (λ b. sealer_back self.new b) result (change_answer self.old name.now procs.items) }
+        ensures fits { IfOk result (λ b. AreSetsBack self.new b) }
+        ensures ok { OnOk result (self.new ≡ changed self.old name.now (proc_bytes procs.items)) }
+        ensures err { OnErr result (self.new ≡ self.old) }
     {
         let Some(size) = array_size(&procs) else {
             return Err(Refusal::TooMany);
@@ -183,10 +202,7 @@ impl Sets {
         }
         let array = array_of(self.alloc, procs)?;
         let batch = Batch::of_put(self.alloc, name.copy()?, Value::Array(array))?;
-        let sealer = self.sealer.with_commit(&batch)?;
-        Ok(Sets {
-            alloc: self.alloc,
-            sealer,
-        })
+        let before = self.sealer.commit(&batch)?;
+        Ok(before)
     }
 }

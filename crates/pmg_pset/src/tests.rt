@@ -1,6 +1,6 @@
 //! What no clause says: that each call gives its answer where there is memory, and gives it when it is called again
 //! after memory ran out; and what sets hold after some changes, found by hand.
-use crate::{MAX_MEMBERS, Sets, set_rules};
+use crate::{MAX_MEMBERS, Sets, members_in, set_rules};
 use pmg_value::{Array, Key, Nspace, Proc, Rank, Refusal, Value};
 use std::alloc::Global;
 use std::process::Abort;
@@ -71,7 +71,7 @@ fn members(sets: &Sets, alloc: Global, name: &[u8]) -> Result<Vec<u8>, Refusal> 
     again!(try_show(alloc, sets.members(&name)?))
 }
 
-// The names of the sets, each behind a blank.
+// The names of the sets, each after a blank.
 fn try_name(sets: &Sets, alloc: Global) -> Result<Vec<u8>, Refusal> {
     let mut text = Vec::new(alloc);
     for name in &sets.names()? {
@@ -89,16 +89,13 @@ fn names(sets: &Sets, alloc: Global) -> Result<Vec<u8>, Refusal> {
 fn a_set_is_defined_and_deleted(rt: HostRuntime) -> Result<(), Refusal> {
     let alloc = rt.alloc();
     let mut sets = again!(Sets::new(alloc))?;
-    assert_eq!(rt; define(&mut sets, alloc, b"fast", &[1, 0]), Ok(1));
-    assert_eq!(rt;
-        members(&sets, alloc, b"fast")?.as_slice(),
-        b"array:proc[6a/0,6a/1]".as_slice()
-    );
-    assert_eq!(rt; names(&sets, alloc)?.as_slice(), b" fast".as_slice());
-    assert_eq!(rt; delete(&mut sets, alloc, b"fast"), Ok(2));
+    assert!(rt; define(&mut sets, alloc, b"fast", &[1, 0]) == Ok(1));
+    assert!(rt; members(&sets, alloc, b"fast")?.as_slice() == b"array:proc[6a/0,6a/1]".as_slice());
+    assert!(rt; names(&sets, alloc)?.as_slice() == b" fast".as_slice());
+    assert!(rt; delete(&mut sets, alloc, b"fast") == Ok(2));
     assert!(rt; matches!(members(&sets, alloc, b"fast"), Err(Refusal::NotFound)));
-    assert_eq!(rt; names(&sets, alloc)?.as_slice(), b"".as_slice());
-    assert_eq!(rt; delete(&mut sets, alloc, b"fast"), Err(Refusal::NotFound));
+    assert!(rt; names(&sets, alloc)?.as_slice() == b"".as_slice());
+    assert!(rt; delete(&mut sets, alloc, b"fast") == Err(Refusal::NotFound));
     Ok(())
 }
 
@@ -108,12 +105,9 @@ fn a_deleted_name_is_defined_again(rt: HostRuntime) -> Result<(), Refusal> {
     let mut sets = again!(Sets::new(alloc))?;
     define(&mut sets, alloc, b"fast", &[0])?;
     delete(&mut sets, alloc, b"fast")?;
-    assert_eq!(rt; define(&mut sets, alloc, b"fast", &[2]), Ok(3));
-    assert_eq!(rt;
-        members(&sets, alloc, b"fast")?.as_slice(),
-        b"array:proc[6a/2]".as_slice()
-    );
-    assert_eq!(rt; sets.level(), 3);
+    assert!(rt; define(&mut sets, alloc, b"fast", &[2]) == Ok(3));
+    assert!(rt; members(&sets, alloc, b"fast")?.as_slice() == b"array:proc[6a/2]".as_slice());
+    assert!(rt; sets.level() == 3);
     Ok(())
 }
 
@@ -126,8 +120,8 @@ fn names_are_in_order(rt: HostRuntime) -> Result<(), Refusal> {
     }
     delete(&mut sets, alloc, b"d")?;
     let copy = again!(sets.copy().map_err(Refusal::from))?;
-    assert_eq!(rt; names(&copy, alloc)?.as_slice(), b" a b c".as_slice());
-    assert_eq!(rt; copy.level(), 5);
+    assert!(rt; names(&copy, alloc)?.as_slice() == b" a b c".as_slice());
+    assert!(rt; copy.level() == 5);
     Ok(())
 }
 
@@ -136,9 +130,8 @@ fn order_and_repeats_do_not_matter(rt: HostRuntime) -> Result<(), Refusal> {
     let alloc = rt.alloc();
     let mut sets = again!(Sets::new(alloc))?;
     define(&mut sets, alloc, b"a", &[3, 1, 3, 2, 1])?;
-    assert_eq!(rt;
-        members(&sets, alloc, b"a")?.as_slice(),
-        b"array:proc[6a/1,6a/2,6a/3]".as_slice()
+    assert!(rt;
+        members(&sets, alloc, b"a")?.as_slice() == b"array:proc[6a/1,6a/2,6a/3]".as_slice()
     );
     Ok(())
 }
@@ -149,13 +142,13 @@ fn bad_definitions_are_refused(rt: HostRuntime) -> Result<(), Refusal> {
     let mut sets = again!(Sets::new(alloc))?;
     define(&mut sets, alloc, b"a", &[0])?;
     let bad = Err(Refusal::BadParam);
-    assert_eq!(rt; define(&mut sets, alloc, b"a", &[]), bad);
-    assert_eq!(rt; define(&mut sets, alloc, b"pmix.a", &[0]), bad);
-    assert_eq!(rt; define(&mut sets, alloc, b"b", &[0, WILDCARD]), bad);
-    assert_eq!(rt; define(&mut sets, alloc, b"b", &[UNDEF]), bad);
-    assert_eq!(rt; define(&mut sets, alloc, b"b", &[4096]), bad);
-    assert_eq!(rt; define_of(&mut sets, alloc, b"b", b"pmix.host", &[0]), bad);
-    assert_eq!(rt; sets.level(), 1);
+    assert!(rt; define(&mut sets, alloc, b"a", &[]) == bad);
+    assert!(rt; define(&mut sets, alloc, b"pmix.a", &[0]) == bad);
+    assert!(rt; define(&mut sets, alloc, b"b", &[0, WILDCARD]) == bad);
+    assert!(rt; define(&mut sets, alloc, b"b", &[UNDEF]) == bad);
+    assert!(rt; define(&mut sets, alloc, b"b", &[4096]) == bad);
+    assert!(rt; define_of(&mut sets, alloc, b"b", b"pmix.host", &[0]) == bad);
+    assert!(rt; sets.level() == 1);
     Ok(())
 }
 
@@ -185,24 +178,15 @@ fn define_with(
 fn a_set_has_at_most_4096_members(rt: HostRuntime) -> Result<(), Refusal> {
     let alloc = rt.alloc();
     let mut sets = again!(Sets::new(alloc))?;
-    assert_eq!(rt;
-        again!(define_with(&mut sets, alloc, b"a", b"j", 4095)),
-        Ok(1)
-    );
-    assert_eq!(rt;
+    assert!(rt; again!(define_with(&mut sets, alloc, b"a", b"j", 4095)) == Ok(1));
+    assert!(rt;
         sets.members(&key_of(alloc, b"a")?)
-            .map(|array| array.items().len()),
-        Ok(MAX_MEMBERS)
+            .map(|array| array.items().len())
+            == Ok(MAX_MEMBERS)
     );
-    assert_eq!(rt;
-        again!(define_with(&mut sets, alloc, b"b", b"j", 4096)),
-        Err(Refusal::TooMany)
-    );
-    assert_eq!(rt;
-        again!(define_with(&mut sets, alloc, b"a", b"j", 4096)),
-        Err(Refusal::Exists)
-    );
-    assert_eq!(rt; sets.level(), 1);
+    assert!(rt; again!(define_with(&mut sets, alloc, b"b", b"j", 4096)) == Err(Refusal::TooMany));
+    assert!(rt; again!(define_with(&mut sets, alloc, b"a", b"j", 4096)) == Err(Refusal::Exists));
+    assert!(rt; sets.level() == 1);
     Ok(())
 }
 
@@ -213,17 +197,12 @@ fn an_array_is_no_longer_than_a_value(rt: HostRuntime) -> Result<(), Refusal> {
     let alloc = rt.alloc();
     let mut sets = again!(Sets::new(alloc))?;
     let nspace = [b'n'; 255];
-    assert_eq!(rt;
-        again!(define_with(&mut sets, alloc, b"a", &nspace, 4032)),
-        Ok(1)
+    assert!(rt; again!(define_with(&mut sets, alloc, b"a", &nspace, 4032)) == Ok(1));
+    assert!(rt;
+        again!(define_with(&mut sets, alloc, b"b", &nspace, 4033)) == Err(Refusal::TooMany)
     );
-    assert_eq!(rt;
-        again!(define_with(&mut sets, alloc, b"b", &nspace, 4033)),
-        Err(Refusal::TooMany)
-    );
-    assert_eq!(rt;
-        again!(define_with(&mut sets, alloc, b"b", &nspace, 4095)),
-        Err(Refusal::TooMany)
+    assert!(rt;
+        again!(define_with(&mut sets, alloc, b"b", &nspace, 4095)) == Err(Refusal::TooMany)
     );
     Ok(())
 }
@@ -237,15 +216,11 @@ fn all_sets_together_are_limited(rt: HostRuntime) -> Result<(), Refusal> {
     for name in b"abcdefghijklmno" {
         again!(define_with(&mut sets, alloc, &[*name], &nspace, 4032))?;
     }
-    assert_eq!(rt;
-        again!(define_with(&mut sets, alloc, b"p", &nspace, 4032)),
-        Err(Refusal::TooMany)
+    assert!(rt;
+        again!(define_with(&mut sets, alloc, b"p", &nspace, 4032)) == Err(Refusal::TooMany)
     );
     delete(&mut sets, alloc, b"a")?;
-    assert_eq!(rt;
-        again!(define_with(&mut sets, alloc, b"p", &nspace, 4032)),
-        Ok(17)
-    );
+    assert!(rt; again!(define_with(&mut sets, alloc, b"p", &nspace, 4032)) == Ok(17));
     Ok(())
 }
 
@@ -271,8 +246,8 @@ fn a_piece_tells_of_the_changes(rt: HostRuntime) -> Result<(), Refusal> {
     define(&mut sets, alloc, b"b", &[0, 1])?;
     define(&mut sets, alloc, b"a", &[0, 1, 2])?;
     delete(&mut sets, alloc, b"b")?;
-    assert_eq!(rt; shown(&sets, alloc, 0)?.as_slice(), b"a23b30".as_slice());
-    assert_eq!(rt; shown(&sets, alloc, 2)?.as_slice(), b"b30".as_slice());
+    assert!(rt; shown(&sets, alloc, 0)?.as_slice() == b"a23b30".as_slice());
+    assert!(rt; shown(&sets, alloc, 2)?.as_slice() == b"b30".as_slice());
     assert!(rt; matches!(sets.piece_from(3), Err(Refusal::BadParam)));
     Ok(())
 }
@@ -280,4 +255,64 @@ fn a_piece_tells_of_the_changes(rt: HostRuntime) -> Result<(), Refusal> {
 #[test]
 fn rules_are_called() {
     set_rules();
+}
+
+// A definition that is taken back at once.
+fn try_definition(sets: &mut Sets, name: &Key, members: Vec<Proc>) -> Result<(), Refusal> {
+    let before = sets.put_set(name, members)?;
+    sets.take_back(before);
+    Ok(())
+}
+
+// A deletion that is taken back at once.
+fn try_deletion(sets: &mut Sets, name: &Key) -> Result<(), Refusal> {
+    let before = sets.remove_set(name)?;
+    sets.take_back(before);
+    Ok(())
+}
+
+// A definition and a deletion, both taken back at once.
+fn try_out(sets: &mut Sets, alloc: Global) -> Result<(), Refusal> {
+    let slow = key_of(alloc, b"slow")?;
+    again!(try_definition(sets, &slow, procs_of(alloc, b"j", &[3])?))?;
+    let fast = key_of(alloc, b"fast")?;
+    again!(try_deletion(sets, &fast))
+}
+
+#[test]
+fn a_change_is_taken_back(rt: HostRuntime) -> Result<(), Refusal> {
+    let alloc = rt.alloc();
+    let mut sets = again!(Sets::new(alloc))?;
+    assert!(rt; define(&mut sets, alloc, b"fast", &[1, 0]) == Ok(1));
+    try_out(&mut sets, alloc)?;
+    assert!(rt; sets.level() == 1);
+    assert!(rt; names(&sets, alloc)?.as_slice() == b" fast".as_slice());
+    Ok(())
+}
+
+// How many members the value tells of.
+fn told(value: &Value) -> usize {
+    match members_in(value) {
+        Some(members) => members.items().len(),
+        None => 0,
+    }
+}
+
+// An array of that tag, of these values.
+fn array_of(alloc: Global, tag: u8, values: Vec<Value>) -> Result<Value, Refusal> {
+    Ok(Value::Array(Array::new(tag, values)?))
+}
+
+#[test]
+fn a_value_tells_of_members(rt: HostRuntime) -> Result<(), Refusal> {
+    let alloc = rt.alloc();
+    let mut sets = again!(Sets::new(alloc))?;
+    assert!(rt; define(&mut sets, alloc, b"fast", &[1, 0]) == Ok(1));
+    let fast = key_of(alloc, b"fast")?;
+    let members = again!(sets.members(&fast)?.copy().map_err(Refusal::from))?;
+    assert!(rt; told(&Value::Array(members)) == 2);
+    assert!(rt; told(&array_of(alloc, 16, Vec::new(alloc))?) == 0);
+    assert!(rt; told(&array_of(alloc, 1, Vec::new(alloc))?) == 0);
+    assert!(rt; told(&Value::U8(16)) == 0);
+    Ok(())
 }

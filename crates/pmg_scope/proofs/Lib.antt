@@ -3,4 +3,5 @@ pub mod ScriptLaws
 pub mod SealingLaws
 pub mod TableLemmas
 pub mod SizeLemmas
+pub mod SameRows
 pub mod SumLemmas

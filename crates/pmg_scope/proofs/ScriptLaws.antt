@@ -3,7 +3,7 @@ use Rattle.std.proofs.Common.{◌≡◌, ℕ, zero, suc, ◌≤◌, ◌<◌, Boo
 use Rattle.pmg_scope.specs.Scripts.{Call, Script, has_end, has_commit, ended, sealed, count_commits, commits, before, prefix, last_put, value_at}
 use Rattle.pmg_scope.specs.Rules.{CommitsNeverFall, PastValuesStay, EndIsLast}
 
--- ---- behind an end
+-- ---- after an end
 
 has_end_still : (s t : Script) → has_end s ≡ true → has_end (s ++ t) ≡ true
 has_end_still [] t e = absurd cc

@@ -5,7 +5,7 @@ use Rattle.std.specs.Ordering.{nat_cmp}
 use Rattle.std.specs.Cmp.Lexicographic.{slice_cmp}
 use Rattle.std.proofs.lemmas.Bool.{and_parts}
 use Rattle.std.proofs.Common.{length}
-use Rattle.pmg_scope.specs.Cached.{Table, Cached, no_puts, marked, row_size, table_size, is_within, is_cache}
+use Rattle.pmg_scope.specs.Cached.{Table, Cached, no_puts, after_commit, row_size, table_size, is_within, is_cache}
 use Rattle.pmg_scope.specs.Rows.{counted_at}
 use Rattle.pmg_scope.proofs.SumLemmas.{sum_put, sum_of_nothing}
 
@@ -21,5 +21,5 @@ size_with_put m k v = sum_put length m k v
 pub nothing_is_cache : is_cache no_puts ≡ true
 nothing_is_cache = λ i. nothing_is_within i && nothing_is_within i && nothing_is_within i
 
-pub marked_is_cache : (c : Cached) → is_cache c ≡ true → is_cache (marked c) ≡ true
+pub marked_is_cache : (c : Cached) → is_cache c ≡ true → is_cache (after_commit c) ≡ true
 marked_is_cache c h = λ i. (and_parts (is_within c.own) (is_within c.near) (and_parts (is_within c.own && is_within c.near) (is_within c.far) h).0).0 i && nothing_is_within i && nothing_is_within i

@@ -4,7 +4,7 @@ use Rattle.pmg_value.specs.Signatures.{Signature}
 use Rattle.pmg_scope.specs.declared.scope.Scope.{Scope}
 use Rattle.pmg_scope.specs.Scripts.{Call, Script, has_end, commits}
 use Rattle.pmg_scope.specs.Sealing.{part_of, next_part}
-use Rattle.pmg_scope.specs.Cached.{Cached, FitsCache, no_puts, with_put, marked}
+use Rattle.pmg_scope.specs.Cached.{Cached, FitsCache, no_puts, with_put, after_commit}
 
 -- a new cache fits a script without calls
 abbrev pub NewFits : Type 0
@@ -17,7 +17,7 @@ PutFits =
 
 -- a commit takes what was not sealed out of the cache
 abbrev pub CommitFits : Type 0
-CommitFits = (c : Cached) (s : Script) → FitsCache c s → FitsCache (marked c) (s ++ Call.commit ∷ [])
+CommitFits = (c : Cached) (s : Script) → FitsCache c s → FitsCache (after_commit c) (s ++ Call.commit ∷ [])
 
 -- an entry into a fence changes no cache
 abbrev pub EnterFits : Type 0

@@ -83,8 +83,8 @@ abbrev pub global_put : List ℕ → List ℕ → Unsealed
 global_put key value = unsealed_of (with_put no_puts scopes.Global key value)
 
 -- the cache once all of it is sealed
-abbrev pub marked : Cached → Cached
-marked c = record { own = c.own; near = map.empty; far = map.empty }
+abbrev pub after_commit : Cached → Cached
+after_commit c = record { own = c.own; near = map.empty; far = map.empty }
 
 -- where a put has a cause to be refused: its scope is none, or its key one of the standard's; the cache would pass a limit
 abbrev pub put_cause : Cached → Scope → List ℕ → List ℕ → Refusal → Bool

@@ -34,7 +34,7 @@ two_values = Call.put scopes.Local (codes "addr") (u8_of 1) ∷ Call.put scopes.
 abbrev pub TwoValues : Type 0
 TwoValues = (value_at two_values 1 reach.Near (codes "addr") ≡ Some (u8_of 1)) × (value_at two_values 1 reach.Far (codes "addr") ≡ Some (u8_of 2))
 
--- a put behind a commit, which the next commit seals
+-- a put after a commit, which the next commit seals
 abbrev pub put_again : Script
 put_again = Call.put scopes.Global (codes "a") (u8_of 1) ∷ Call.commit ∷ Call.put scopes.Global (codes "a") (u8_of 2) ∷ Call.commit ∷ []
 

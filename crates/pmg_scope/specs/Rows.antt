@@ -1,10 +1,10 @@
 -- Tables as they are kept.
-use Rattle.std.specs.Prelude.{◌≡◌, ℕ, ◌+◌, List, length, Option, Some, None, if◌then◌else◌}
+use Rattle.std.specs.Prelude.{◌≡◌, ℕ, ◌+◌, List, length, Option, Some, None, Bool, ◌&&◌, nat_eq, map}
 use Rattle.std.specs.FinMap as finite
-use Rattle.std.specs.Ordering.{nat_cmp}
-use Rattle.std.specs.Cmp.Lexicographic.{slice_cmp}
+use Rattle.std.specs.Ordering.{nat_cmp, is_eq}
+use Rattle.std.specs.Cmp.Lexicographic.{slice_cmp, pointwise}
 use Rattle.pmg_value.specs.declared.value.Value.{Value}
-use Rattle.pmg_value.specs.Rows.{AreRising, rows_of}
+use Rattle.pmg_value.specs.Rows.{AreRising, rows_of, put_back}
 use Rattle.pmg_value.specs.Spelling.{spelling}
 use Rattle.pmg_scope.specs.declared.table.Before.{Before}
 use Rattle.pmg_scope.specs.declared.table.Before.TheVariants as before
@@ -20,6 +20,18 @@ KeyMap X = finite.FinMap (slice_cmp nat_cmp) X
 abbrev pub table_of : List (List ℕ × Value) → Table
 table_of rows = rows_of spelling rows
 
+-- a key, with its value's canonical bytes
+abbrev pub canonical_row : List ℕ × Value → List ℕ × List ℕ
+canonical_row row = (row.0, spelling row.1)
+
+-- the keys, with their values' canonical bytes
+abbrev pub canonical_rows : List (List ℕ × Value) → List (List ℕ × List ℕ)
+canonical_rows rows = map canonical_row rows
+
+-- the rows have one key and one value
+abbrev pub is_same_row : List ℕ × List ℕ → List ℕ × List ℕ → Bool
+is_same_row e f = pointwise nat_eq e.0 f.0 && is_eq (slice_cmp nat_cmp e.1 f.1)
+
 -- the keys rise
 abbrev pub IsRising : {V : Type 0} → List (List ℕ × V) → Type 0
 IsRising = AreRising (slice_cmp nat_cmp)
@@ -29,15 +41,11 @@ abbrev pub before_of : Option Value → Before
 before_of (Some value) = before.Held value
 before_of None = before.Absent
 
--- the table with another value under the key, where it has one
-abbrev pub changed_at : Table → List ℕ → Value → Table
-changed_at m key value = if finite.contains_key m key then finite.insert m key (spelling value) else m
-
 -- the table with what was there before a put of the key
 abbrev pub restored : Table → List ℕ → Before → Table
 restored m key before.Unseen = m
-restored m key before.Absent = finite.remove m key
-restored m key (before.Held value) = changed_at m key value
+restored m key before.Absent = put_back m key None
+restored m key (before.Held value) = put_back m key (Some (spelling value))
 
 -- what a key counts for together with what stands under it, which counts for as many bytes as h says: ten bytes more
 abbrev pub size_by : {X : Type 0} → (X → ℕ) → List ℕ × X → ℕ

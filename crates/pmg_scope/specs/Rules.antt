@@ -12,7 +12,7 @@ CommitsNeverFall = (s later : Script) → commits s ≤ commits (s ++ later)
 abbrev pub PastValuesStay : Type 0
 PastValuesStay = (s later : Script) (n : ℕ) (r : Reach) (k : List ℕ) → n ≤ commits s → value_at (s ++ later) n r k ≡ value_at s n r k
 
--- behind its end a process makes no commit
+-- after its end a process makes no commit
 abbrev pub EndIsLast : Type 0
 EndIsLast = (s later : Script) → has_end s ≡ true → commits (s ++ later) ≡ commits s
 

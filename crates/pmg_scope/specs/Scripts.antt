@@ -15,7 +15,7 @@ pub data Call : Type 0 where
   enter : Signature → Call
   terminate : Call
 
--- The calls in their order. Nothing that stands behind an end counts.
+-- The calls in their order. Nothing that stands after an end counts.
 abbrev pub Script : Type 0
 Script = List Call
 
@@ -41,7 +41,7 @@ has_commit (Call.commit ∷ cs) = true
 has_commit (Call.enter f ∷ cs) = has_commit cs
 has_commit (Call.terminate ∷ cs) = false
 
--- the calls of a process that ends: without the puts behind its last commit, and with a last commit that seals its end
+-- the calls of a process that ends: without the puts after its last commit, and with a last commit that seals its end
 abbrev pub ended : Script → Script
 ended [] = []
 ended (Call.put scope key value ∷ cs) = if has_commit cs then Call.put scope key value ∷ ended cs else ended cs

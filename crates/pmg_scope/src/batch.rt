@@ -1,11 +1,12 @@
-ghost use Rattle.std.specs.Prelude.{◌≡◌, IfOk};
+ghost use Rattle.std.specs.Prelude.{◌≡◌, ◌↔◌, IfOk, IsTrue};
+ghost use Rattle.std.specs.Cmp.Lexicographic.{pointwise};
 ghost use Rattle.std.specs.FinMap as map;
 ghost use Rattle.pmg_value.specs.Spelling.{spelling};
 ghost use Rattle.pmg_scope.specs.Cached.{global_put};
-ghost use Rattle.pmg_scope.specs.Rows.{IsRising, table_of};
+ghost use Rattle.pmg_scope.specs.Rows.{IsRising, canonical_row, canonical_rows, is_same_row, table_of};
 
 use crate::table::Table;
-use pmg_value::{Key, Value};
+use pmg_value::{Key, Value, copy_all};
 use std::alloc::{AllocError, Global};
 use std::marker::Model;
 
@@ -52,6 +53,23 @@ impl Batch {
         })
     }
 
+    /// A copy, equal to this batch.
+    pub fn copy(&self) -> Result<Batch, AllocError>
+        ensures { IfOk result (λ b. b ≡ self.now) }
+    {
+        Ok(Batch {
+            near: copy_all(&self.near)?,
+            far: copy_all(&self.far)?,
+        })
+    }
+
+    /// Whether the batches are to seal the same.
+    pub fn is_same(&self, other: &Batch) -> bool
+        ensures { IsTrue result ↔ (self.now ≡ other.now) }
+    {
+        are_same_rows(&self.near, &other.near) && are_same_rows(&self.far, &other.far)
+    }
+
     /// What is to be sealed for the other processes on the node, in the order of the keys.
     pub fn near(&self) -> &[(Key, Value)]
         ensures table { table_of result.now ≡ self.now.near }
@@ -67,6 +85,28 @@ impl Batch {
     {
         &self.far
     }
+}
+
+/// Whether the rows have one key and one value.
+fn is_same_row(row: &(Key, Value), other: &(Key, Value)) -> bool
+    ensures { result ≡ is_same_row (canonical_row row.now) (canonical_row other.now) }
+{
+    row.0 == other.0 && row.1.cmp(&other.1).is_eq()
+}
+
+/// Whether the rows have the same keys, and under each the same value.
+fn are_same_rows(rows: &[(Key, Value)], others: &[(Key, Value)]) -> bool
+    ensures { result ≡ pointwise is_same_row (canonical_rows rows.now) (canonical_rows others.now) }
+{
+    if rows.len() != others.len() {
+        return false;
+    }
+    for i in 0..rows.len() {
+        if !is_same_row(&rows[i], &others[i]) {
+            return false;
+        }
+    }
+    true
 }
 
 /// The one row of this key.

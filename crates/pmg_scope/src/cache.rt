@@ -4,7 +4,7 @@ ghost use Rattle.std.specs.Option.{option_map};
 ghost use Rattle.pmg_value.specs.Answers.{Gives};
 ghost use Rattle.pmg_value.specs.CheckOrder.{first_of};
 ghost use Rattle.pmg_value.specs.Spelling.{spelling};
-ghost use Rattle.pmg_scope.specs.Cached.{FitsCache, no_puts, with_put, marked, unsealed_of, put_cause};
+ghost use Rattle.pmg_scope.specs.Cached.{FitsCache, no_puts, with_put, after_commit, unsealed_of, put_cause};
 ghost use Rattle.pmg_scope.specs.Scripts.{Call, Script};
 
 use crate::batch::Batch;
@@ -92,7 +92,7 @@ impl Cache {
 
     /// Marks all puts as sealed by a commit.
     pub fn mark_sealed(&mut self)
-        ensures marked { self.new ≡ marked self.old }
+        ensures after_commit { self.new ≡ after_commit self.old }
         ensures script { (s : Script) → FitsCache self.old s → FitsCache self.new (s ++ Call.commit ∷ []) }
     {
         self.tables.near.clear();
@@ -101,7 +101,7 @@ impl Cache {
         self.sizes.far = 0;
     }
 
-    /// Another cache of the same meaning.
+    /// A copy, equal to this cache.
     pub fn copy(&self) -> Result<Cache, AllocError>
         ensures { IfOk result (λ c. c ≡ self.now) }
     {

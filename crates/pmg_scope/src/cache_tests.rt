@@ -149,7 +149,7 @@ fn a_row_counts_ten_more_than_its_bytes(rt: HostRuntime) -> Result<(), Refusal> 
     for (key_len, value_len, size) in [(1, 0, 16), (3, 4, 22), (511, LONGEST, 1_049_097)] {
         let key = key_of(alloc, &text[..key_len])?;
         let value = string_of(alloc, value_len)?;
-        assert_eq!(rt; row_size(&key, &value), size);
+        assert!(rt; row_size(&key, &value) == size);
     }
     Ok(())
 }
@@ -166,7 +166,7 @@ fn each_put_is_for_its_reaches(rt: HostRuntime) -> Result<(), Refusal> {
     ];
     for (scope, byte, digit, want) in cases {
         let text = put_digit(&mut cache, alloc, scope, byte, digit)?;
-        assert_eq!(rt; text.as_slice(), want);
+        assert!(rt; text.as_slice() == want);
     }
     Ok(())
 }
@@ -184,7 +184,7 @@ fn puts_of_two_scopes_stand_side_by_side(rt: HostRuntime) -> Result<(), Refusal>
     ];
     for (scope, digit, want) in cases {
         let text = put_digit(&mut cache, alloc, scope, b'y', digit)?;
-        assert_eq!(rt; text.as_slice(), want);
+        assert!(rt; text.as_slice() == want);
     }
     Ok(())
 }
@@ -195,11 +195,11 @@ fn a_put_behind_a_commit_is_for_the_next(rt: HostRuntime) -> Result<(), Refusal>
     let mut cache = Cache::new(alloc);
     put_digit(&mut cache, alloc, Scope::Global, b'w', b'1')?;
     let text = put_digit(&mut cache, alloc, Scope::Local, b'x', b'2')?;
-    assert_eq!(rt; text.as_slice(), b"12.. w1x2 w1".as_slice());
+    assert!(rt; text.as_slice() == b"12.. w1x2 w1".as_slice());
     cache.mark_sealed();
-    assert_eq!(rt; shown(alloc, &cache)?.as_slice(), b"12..  ".as_slice());
+    assert!(rt; shown(alloc, &cache)?.as_slice() == b"12..  ".as_slice());
     let text = put_digit(&mut cache, alloc, Scope::Remote, b'w', b'3')?;
-    assert_eq!(rt; text.as_slice(), b"32..  w3".as_slice());
+    assert!(rt; text.as_slice() == b"32..  w3".as_slice());
     Ok(())
 }
 
@@ -211,7 +211,7 @@ fn a_copy_has_what_its_cache_has(rt: HostRuntime) -> Result<(), Refusal> {
     put_digit(&mut cache, alloc, Scope::Remote, b'x', b'2')?;
     put_digit(&mut cache, alloc, Scope::Internal, b'z', b'3')?;
     let copy = again!(cache.copy().map_err(Refusal::from))?;
-    assert_eq!(rt; shown(alloc, &copy)?.as_slice(), b".2.3 x1 x2".as_slice());
+    assert!(rt; shown(alloc, &copy)?.as_slice() == b".2.3 x1 x2".as_slice());
     Ok(())
 }
 
@@ -238,7 +238,7 @@ fn keys_of_the_standard_are_refused(rt: HostRuntime) -> Result<(), Refusal> {
     ];
     for (scope, key) in cases {
         assert!(rt; is_bad(&mut cache, alloc, scope, key)?);
-        assert_eq!(rt; shown(alloc, &cache)?.as_slice(), b".1.. x1 x1".as_slice());
+        assert!(rt; shown(alloc, &cache)?.as_slice() == b".1.. x1 x1".as_slice());
     }
     for key in [b"pmix".as_slice(), b"pmix.x", b"pmixa"] {
         assert!(rt; cache.own(&key_of(alloc, key)?).is_none());
@@ -255,7 +255,7 @@ fn other_keys_are_taken(rt: HostRuntime) -> Result<(), Refusal> {
         put_small(&mut cache, alloc, Scope::Local, key)?;
         assert!(rt; cache.own(&key_of(alloc, key)?).is_some());
     }
-    assert_eq!(rt; batch_lens(&cache)?, (4, 0));
+    assert!(rt; batch_lens(&cache)? == (4, 0));
     Ok(())
 }
 
@@ -277,12 +277,12 @@ fn a_cache_has_65535_keys(rt: HostRuntime) -> Result<(), Refusal> {
     }
     put_small(&mut cache, alloc, Scope::Global, &key_at(0))?;
     put_small(&mut cache, alloc, Scope::Local, &key_at(65_534))?;
-    assert_eq!(rt; batch_lens(&cache)?, (65_535, 65_535));
+    assert!(rt; batch_lens(&cache)? == (65_535, 65_535));
     cache.mark_sealed();
     let answer = put_small(&mut cache, alloc, Scope::Local, b"more");
-    assert_eq!(rt; answer, Err(Refusal::TooMany));
+    assert!(rt; answer == Err(Refusal::TooMany));
     put_small(&mut cache, alloc, Scope::Local, &key_at(0))?;
-    assert_eq!(rt; batch_lens(&cache)?, (1, 0));
+    assert!(rt; batch_lens(&cache)? == (1, 0));
     Ok(())
 }
 
@@ -306,7 +306,7 @@ fn a_cache_has_16000000_bytes(rt: HostRuntime) -> Result<(), Refusal> {
     }
     let one_more = string_of(alloc, LAST + 1)?;
     let answer = put_like(&mut cache, alloc, Scope::Global, b"p", &one_more);
-    assert_eq!(rt; answer, Err(Refusal::TooMany));
+    assert!(rt; answer == Err(Refusal::TooMany));
     put_like(
         &mut cache,
         alloc,
@@ -316,7 +316,7 @@ fn a_cache_has_16000000_bytes(rt: HostRuntime) -> Result<(), Refusal> {
     )?;
     put_small(&mut cache, alloc, Scope::Global, b"p")?;
     put_small(&mut cache, alloc, Scope::Global, b"q")?;
-    assert_eq!(rt; batch_lens(&cache)?, (17, 17));
+    assert!(rt; batch_lens(&cache)? == (17, 17));
     Ok(())
 }
 
@@ -353,6 +353,6 @@ fn a_batch_of_one_put_is_for_all_others(rt: HostRuntime) -> Result<(), Refusal> 
     let mut text = again!(Vec::with_capacity(alloc, 8).map_err(Refusal::from))?;
     show_rows(&mut text, batch.near())?;
     show_rows(&mut text, batch.far())?;
-    assert_eq!(rt; text.as_slice(), b" a7 a7".as_slice());
+    assert!(rt; text.as_slice() == b" a7 a7".as_slice());
     Ok(())
 }

@@ -3,7 +3,8 @@ ghost use Rattle.std.specs.FinMap as map;
 ghost use Rattle.std.specs.Option.{option_map};
 ghost use Rattle.pmg_value.specs.Spelling.{spelling};
 ghost use Rattle.pmg_scope.specs.Cached.{put_if};
-ghost use Rattle.pmg_scope.specs.Rows.{IsRising, before_of, changed_at, restored, table_of};
+ghost use Rattle.pmg_value.specs.Rows.{changed_at};
+ghost use Rattle.pmg_scope.specs.Rows.{IsRising, before_of, restored, table_of};
 
 use pmg_value::{Key, Value, copy_rows};
 use std::alloc::{AllocError, Global};
@@ -115,7 +116,7 @@ impl Table {
 
     /// Puts another value under the key, where there is one, and gives back what is left.
     fn change(&mut self, key: &Key, mut value: Value) -> Value
-        ensures { self.new ≡ changed_at self.old key.now value }
+        ensures { self.new ≡ changed_at self.old key.now (spelling value) }
     {
         if let Some(kept) = self.rows.get_mut(key) {
             mem::swap(kept, &mut value);
@@ -142,7 +143,7 @@ impl Table {
         Ok(rows)
     }
 
-    /// Another table of the same meaning.
+    /// A copy, equal to this table.
     pub fn copy(&self, alloc: Global) -> Result<Table, AllocError>
         ensures { IfOk result (λ t. t ≡ self.now) }
     {

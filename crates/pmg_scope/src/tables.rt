@@ -44,7 +44,7 @@ impl Tables {
         Ok(())
     }
 
-    /// Other tables of the same meaning.
+    /// A copy, equal to these tables.
     pub fn copy(&self, alloc: Global) -> Result<Tables, AllocError>
         ensures { IfOk result (λ t. cached_of t ≡ cached_of self.now) }
     {

@@ -1,5 +1,5 @@
 use Rattle.std.proofs.Common.{[], ◌∷◌, ◌++◌, sym, ap, subst, ◌∙◌}
-use Rattle.pmg_scope.specs.Cached.{Cached, FitsCache, marked, table_size, is_cache}
+use Rattle.pmg_scope.specs.Cached.{Cached, FitsCache, after_commit, table_size, is_cache}
 use Rattle.pmg_scope.specs.Rows.{cached_of}
 use Rattle.pmg_scope.specs.Scripts.{Call}
 use Rattle.pmg_scope.proofs.CacheLaws.{commit_fits}
@@ -16,4 +16,4 @@ invariant_of-self c = (
 pub returns-clause-script : goal.returns-clause-script
 returns-clause-script c = λ s fits.
     subst (λ (d : Cached). FitsCache d (s ++ Call.commit ∷ []))
-    (sym ((λ i. record { own = c.self.inside.tables.own; near = c.clear.ensures i; far = c.clear-2.ensures i }) ∙ ap marked c.self.view_is)) (commit_fits c.args.self.now s fits)
+    (sym ((λ i. record { own = c.self.inside.tables.own; near = c.clear.ensures i; far = c.clear-2.ensures i }) ∙ ap after_commit c.self.view_is)) (commit_fits c.args.self.now s fits)
