@@ -8,7 +8,7 @@ use Rattle.std.proofs.lemmas.List.Elements.{filter-append}
 use Rattle.pmg_jobinfo.specs.Expansion.{ranks}
 use Rattle.pmg_jobinfo.specs.Reserved.{count_hosts}
 
-range_more : (a n : ℕ) → range_with_len a (n + 1) ≡ range_with_len a n ++ (a + n) ∷ []
+pub range_more : (a n : ℕ) → range_with_len a (n + 1) ≡ range_with_len a n ++ (a + n) ∷ []
 range_more a zero = ap (λ (k : ℕ). k ∷ []) (let e : a ≡ a + 0 = omega arith in e)
 range_more a (suc n) =
     let one : suc n + 1 ≡ suc (n + 1) = omega arith in

@@ -4,4 +4,5 @@ pub mod NameLemmas
 pub mod PeerLemmas
 pub mod RuleLemmas
 pub mod SearchLemmas
+pub mod SpaceLemmas
 pub mod TableLemmas

@@ -26,9 +26,13 @@ coded_jobs =
     code_by (List (List ℕ) × Spaces) (coded× (coded_list (coded_list coded_ℕ)) (map.code (coded_list coded_ℕ) (coded_list coded_ℕ))) (λ j. (j.nodes, j.spaces))
     (λ p. record { nodes = p.0; spaces = p.1 }) (λ _. refl)
 
+-- the namespaces that a table holds
+abbrev pub spaces_of : List (List ℕ × List ℕ) → Spaces
+spaces_of table = map_of table
+
 -- the jobs that a table of namespaces holds
 abbrev pub jobs_of : List (List ℕ) → List (List ℕ × List ℕ) → Jobs
-jobs_of names table = record { nodes = names; spaces = map_of table }
+jobs_of names table = record { nodes = names; spaces = spaces_of table }
 
 -- the group with these nodes, and no namespace yet
 abbrev pub opened : List (List ℕ) → Jobs

@@ -1,9 +1,15 @@
 //! The homes of a namespace's ranks.
 ghost use Rattle.std.specs.Prelude.{◌≡◌, ◌==◌, ◌≤◌, ◌++◌, length, codes, decimal, map, IfOk, OnOk};
+ghost use Rattle.std.specs.Cmp.{partial_equiv_from_equiv};
+ghost use Rattle.std.specs.Cmp.Lexicographic.{slice_cmp, nat_list_cmp_total};
 ghost use Rattle.std.specs.List.{join_by, list_any};
+ghost use Rattle.std.specs.Ordering.{nat_cmp, eq_by_cmp};
+ghost use Rattle.std.proofs.lemmas.Cmp.{eq_by_cmp_equiv};
+ghost use Rattle.pmg_jobinfo.specs.Expansion.{ranks};
+ghost use Rattle.pmg_jobinfo.specs.Procs.{procs_of};
 ghost use Rattle.pmg_jobinfo.specs.Reserved.{count_at, count_hosts, ranks_at, peers_text};
 
-use pmg_value::{Copied, NodeId, Text, push_number};
+use pmg_value::{Copied, NodeId, Nspace, Proc, Rank, Text, push_number};
 use std::alloc::{AllocError, Global};
 use std::marker::Model;
 
@@ -19,11 +25,16 @@ impl Model for Homes {
     ghost Value = { List ℕ };
 
     ghost view = { λ a. a.nodes.items };
+
+    ghost use Rattle.std.specs.Prelude.{◌≤◌, length};
+
+    ghost invariant = { λ a. length a.nodes.items ≤ 4096 };
 }
 
 impl Homes {
-    /// These homes.
+    /// These homes, at most 4,096.
     pub fn new(alloc: Global, homes: &[NodeId]) -> Result<Homes, AllocError>
+        requires { length homes.now ≤ 4096 }
         ensures { IfOk result (λ h. h ≡ homes.now) }
     {
         let mut nodes = Vec::with_capacity(alloc, homes.len())?;
@@ -33,15 +44,31 @@ impl Homes {
 
     /// The homes.
     pub fn as_slice(&self) -> &[NodeId]
-        ensures { result.now ≡ self.now }
+        ensures value { result.now ≡ self.now }
+        ensures few { length result.now ≤ 4096 }
     {
         self.nodes.as_slice()
     }
 }
 
+/// By the homes, rank by rank.
+impl PartialEq for Homes {
+    ghost eq = { eq_by_cmp (slice_cmp nat_cmp) };
+
+    ghost laws = { partial_equiv_from_equiv (eq_by_cmp_equiv nat_list_cmp_total) };
+
+    fn eq(&self, other: &Homes) -> bool {
+        self.nodes.cmp(&other.nodes).is_eq()
+    }
+}
+
+impl Eq for Homes {
+    ghost laws = { eq_by_cmp_equiv nat_list_cmp_total };
+}
+
 impl Copied for Homes {
     fn copy(&self) -> Result<Homes, AllocError> {
-        Homes::new(*self.nodes.allocator(), &self.nodes)
+        Homes::new(*self.nodes.allocator(), self.as_slice())
     }
 }
 
@@ -89,7 +116,7 @@ pub fn count_hosts(homes: &[NodeId], nodes: usize) -> usize
 
 /// The ranks at home at the node, rising.
 #[tactic(auto, using(crate::proofs::HomeLemmas::rank_taken, crate::proofs::HomeLemmas::rank_left))]
-fn ranks_at(alloc: Global, homes: &[NodeId], node: NodeId) -> Result<Vec<u32>, AllocError>
+pub fn ranks_at(alloc: Global, homes: &[NodeId], node: NodeId) -> Result<Vec<u32>, AllocError>
     requires { length homes.now ≤ 4096 }
     ensures { IfOk result (λ ranks. ranks.items ≡ ranks_at node homes.now) }
 {
@@ -102,7 +129,27 @@ fn ranks_at(alloc: Global, homes: &[NodeId], node: NodeId) -> Result<Vec<u32>, A
     Ok(ranks)
 }
 
-/// A comma and the number in decimal, behind the text.
+/// Puts the processes of these ranks of the namespace after the list.
+pub fn push_procs(procs: &mut Vec<Proc>, nspace: &Nspace, ranks: &[u32]) -> Result<(), AllocError>
+    ensures { OnOk result (procs.new.items ≡ procs.old.items ++ procs_of nspace.now ranks.now) }
+{
+    for rank in ranks {
+        procs.push(Proc::new(nspace.copy()?, Rank::new(*rank)))?;
+    }
+    Ok(())
+}
+
+/// Puts so many processes of the namespace after the list, from rank 0.
+pub fn push_all(procs: &mut Vec<Proc>, nspace: &Nspace, count: u32) -> Result<(), AllocError>
+    ensures { OnOk result (procs.new.items ≡ procs.old.items ++ procs_of nspace.now (ranks count)) }
+{
+    for rank in 0..count {
+        procs.push(Proc::new(nspace.copy()?, Rank::new(rank)))?;
+    }
+    Ok(())
+}
+
+/// A comma and the number in decimal, after the text.
 fn push_next(text: &mut Vec<u8>, number: u32) -> Result<(), AllocError>
     ensures { OnOk result (text.new.items ≡ text.old.items ++ (codes "," ++ decimal number)) }
 {

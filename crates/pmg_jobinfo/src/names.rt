@@ -43,7 +43,7 @@ fn is_among(name: &[u8], names: &[&[u8]]) -> bool
     false
 }
 
-/// Whether each is none of those behind it. It takes no memory.
+/// Whether each is none of those after it. It takes no memory.
 fn are_all_different(names: &[&[u8]]) -> bool
     ensures { result ≡ are_distinct (map (λ n. n.now) names.now) }
 {
@@ -86,15 +86,4 @@ pub fn texts_of(alloc: Global, names: &[&[u8]]) -> Result<Vec<Text>, AllocError>
         texts.push(Text::from_text(alloc, name)?)?;
     }
     Ok(texts)
-}
-
-/// Other texts of the same meaning, with the same allocator.
-pub fn copy_texts(texts: &Vec<Text>) -> Result<Vec<Text>, AllocError>
-    ensures { IfOk result (λ copies. copies.items ≡ texts.now.items) }
-{
-    let mut copies = Vec::with_capacity(*texts.allocator(), texts.len())?;
-    for text in texts {
-        copies.push(text.copy()?)?;
-    }
-    Ok(copies)
 }

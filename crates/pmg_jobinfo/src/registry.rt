@@ -1,5 +1,5 @@
 //! The registered namespaces and the homes of their processes.
-ghost use Rattle.std.specs.Prelude.{◌≡◌, ◌==◌, ◌<◌, ◌≤◌, [], map, length, slice_index_or, Some, IfOk, OnOk, OnErr, IfSome};
+ghost use Rattle.std.specs.Prelude.{◌≡◌, ◌==◌, ◌<◌, ◌≤◌, [], map, length, slice_index_or, Some, IfOk, OnOk, OnErr, IfSome, IsTrue, ◌↔◌};
 ghost use Rattle.std.specs.List.{list_all};
 ghost use Rattle.std.specs.Ordering.{nat_cmp};
 ghost use Rattle.std.specs.Cmp.Lexicographic.{slice_cmp};
@@ -7,12 +7,14 @@ ghost use Rattle.std.specs.FinMap as finite;
 ghost use Rattle.std.specs.Option.{option_map};
 ghost use Rattle.pmg_value.specs.Answers.{Gives};
 ghost use Rattle.pmg_value.specs.CheckOrder.{first_of};
-ghost use Rattle.pmg_jobinfo.specs.Jobs.{AreJobs, IsSpace, opened, registered, size_of, home_of, is_node};
+ghost use Rattle.pmg_jobinfo.specs.Jobs.{AreJobs, IsSpace, spaces_of, opened, registered, size_of, home_of, is_node};
+ghost use Rattle.pmg_jobinfo.specs.Procs.{all_procs, procs_at, reach_of};
 ghost use Rattle.pmg_jobinfo.specs.Refusing.{new_cause, register_cause, size_cause, home_cause};
 
-use crate::homes::Homes;
-use crate::names::{are_node_names, copy_texts, texts_of};
-use pmg_value::{NodeId, Nspace, Proc, Refusal, Text, copy_rows};
+use crate::homes::{Homes, push_all, push_procs, ranks_at};
+use crate::names::{are_node_names, texts_of};
+use pmg_scope::Reach;
+use pmg_value::{NodeId, Nspace, Proc, Refusal, Text, copy_all, copy_rows};
 use std::alloc::{AllocError, Global};
 use std::collections::BTreeMap;
 use std::marker::Model;
@@ -191,11 +193,62 @@ impl Registry {
     pub fn is_home(&self, node: NodeId, proc: &Proc) -> bool
         ensures { result ≡ (home_of self.now proc.now == node) }
     {
+        self.home_index(proc) == node.index()
+    }
+
+    /// The index of the process's home.
+    fn home_index(&self, proc: &Proc) -> u32
+        ensures { result ≡ home_of self.now proc.now }
+    {
         let rank = proc.rank.number() as usize;
         match self.homes(&proc.nspace) {
-            Some(homes) if rank < homes.len() => homes[rank] == node,
-            _ => node.index() == 0,
+            Some(homes) if rank < homes.len() => homes[rank].index(),
+            _ => 0,
         }
+    }
+
+    /// All processes of the group, by namespace and rank.
+    pub fn procs(&self) -> Result<Vec<Proc>, AllocError>
+        ensures { IfOk result (λ procs. procs.items ≡ all_procs self.now) }
+    {
+        let mut procs = Vec::new(self.allocator());
+        for (nspace, homes) in self.spaces.iter() {
+            push_all(&mut procs, nspace, homes.as_slice().len() as u32)?;
+        }
+        Ok(procs)
+    }
+
+    /// The processes at home at the node, by namespace and rank.
+    pub fn procs_at(&self, node: NodeId) -> Result<Vec<Proc>, AllocError>
+        ensures { IfOk result (λ procs. procs.items ≡ procs_at self.now node) }
+    {
+        let mut procs = Vec::new(self.allocator());
+        for (nspace, homes) in self.spaces.iter() {
+            let ranks = ranks_at(self.allocator(), homes.as_slice(), node)?;
+            push_procs(&mut procs, nspace, &ranks)?;
+        }
+        Ok(procs)
+    }
+
+    /// The reach of a reader on a target: its own, near where they are at home at one node, else far (PMIx Standard 5.0,
+    /// scopes of put data). A process that is not registered counts as at home at node 0.
+    pub fn reach(&self, reader: &Proc, target: &Proc) -> Reach
+        ensures { result ≡ reach_of self.now reader.now target.now }
+    {
+        if reader == target {
+            Reach::Own
+        } else if self.home_index(reader) == self.home_index(target) {
+            Reach::Near
+        } else {
+            Reach::Far
+        }
+    }
+
+    /// Whether the registries tell of one group: the same nodes and the same namespaces, with the same homes.
+    pub fn is_same(&self, other: &Registry) -> bool
+        ensures { IsTrue result ↔ (self.now ≡ other.now) }
+    {
+        self.nodes == other.nodes && are_same_spaces(&self.spaces, &other.spaces)
     }
 
     /// Another registry of the same nodes and namespaces, with the same allocator.
@@ -203,8 +256,15 @@ impl Registry {
         ensures { IfOk result (λ r. r ≡ self.now) }
     {
         Ok(Registry {
-            nodes: copy_texts(&self.nodes)?,
+            nodes: copy_all(&self.nodes)?,
             spaces: copy_rows(*self.nodes.allocator(), &self.spaces)?,
         })
     }
+}
+
+/// Whether the namespaces are the same, with the same homes.
+fn are_same_spaces(spaces: &BTreeMap<Nspace, Homes>, others: &BTreeMap<Nspace, Homes>) -> bool
+    ensures { IsTrue result ↔ (spaces_of spaces.now.entries ≡ spaces_of others.now.entries) }
+{
+    spaces.len() == others.len() && spaces == others
 }

@@ -1,7 +1,8 @@
 //! What no clause says: that each call gives its answer where there is memory, gives it when it is called again
 //! after memory ran out, and leaves the registry as it was where it is refused.
 use crate::Registry;
-use pmg_value::{Key, NodeId, Nspace, Proc, Rank, Refusal, Value};
+use pmg_scope::Reach;
+use pmg_value::{Key, NodeId, Nspace, Proc, Rank, Refusal, Value, push_number};
 use std::alloc::Global;
 use std::process::Abort;
 
@@ -125,7 +126,7 @@ fn reserved_keys_are_refused(rt: HostRuntime) -> Result<(), Refusal> {
     let key = again!(Key::read_any(alloc, b"pmix.job.size"))?;
     let who = process(alloc, b"k", 0)?;
     let refusal = again!(registry.reserved(NodeId::new(2)?, &who, &key)).err();
-    assert_eq!(rt; refusal, Some(Refusal::BadParam));
+    assert!(rt; refusal == Some(Refusal::BadParam));
     Ok(())
 }
 
@@ -141,7 +142,7 @@ fn a_node_without_processes_has_no_peers(rt: HostRuntime) -> Result<(), Refusal>
     ];
     for (key, want) in cases {
         let text = answer(alloc, &registry, b"k", WILDCARD, key)?;
-        assert_eq!(rt; text.as_slice(), want);
+        assert!(rt; text.as_slice() == want);
     }
     Ok(())
 }
@@ -161,12 +162,12 @@ fn registrations_are_refused(rt: HostRuntime) -> Result<(), Refusal> {
         (b"k", &[0, 0], None),
     ];
     for (name, homes, want) in cases {
-        assert_eq!(rt; register(alloc, &mut registry, name, homes).err(), want);
+        assert!(rt; register(alloc, &mut registry, name, homes).err() == want);
     }
     let size_of_k = registry.size(&again!(Nspace::read(alloc, b"k"))?);
-    assert_eq!(rt; size_of_k, Ok(2));
+    assert!(rt; size_of_k == Ok(2));
     let size_of_l = registry.size(&again!(Nspace::read(alloc, b"l"))?);
-    assert_eq!(rt; size_of_l, Err(Refusal::UnknownNamespace));
+    assert!(rt; size_of_l == Err(Refusal::UnknownNamespace));
     Ok(())
 }
 
@@ -194,7 +195,7 @@ fn groups_are_refused(rt: HostRuntime) {
         } else {
             Some(Refusal::BadParam)
         };
-        assert_eq!(rt; new_refusal(alloc, names), want);
+        assert!(rt; new_refusal(alloc, names) == want);
     }
 }
 
@@ -255,7 +256,7 @@ fn processes_have_homes(rt: HostRuntime) -> Result<(), Refusal> {
     check_homes(&rt, alloc, &registry)?;
     let copy = again!(registry.copy().map_err(Refusal::from))?;
     check_homes(&rt, alloc, &copy)?;
-    assert_eq!(rt; copy.node_count(), 2);
+    assert!(rt; copy.node_count() == 2);
     Ok(())
 }
 
@@ -286,7 +287,7 @@ fn lists_are_expanded(rt: HostRuntime) -> Result<(), Refusal> {
     ];
     for (ranks, want) in cases {
         let found = expanded(alloc, &registry, ranks)?;
-        assert_eq!(rt; found.as_slice(), want);
+        assert!(rt; found.as_slice() == want);
     }
     Ok(())
 }
@@ -322,7 +323,7 @@ fn lists_are_refused(rt: HostRuntime) -> Result<(), Refusal> {
         assert_eq!(rt; refusal, want, "at rank {rank}");
     }
     let refusal = pair_refusal(alloc, &registry, (b"k", 0), (b"j", 9))?;
-    assert_eq!(rt; refusal, Some(Refusal::BadParam));
+    assert!(rt; refusal == Some(Refusal::BadParam));
     Ok(())
 }
 
@@ -333,21 +334,82 @@ fn namespaces_and_ranks_are_limited(rt: HostRuntime) -> Result<(), Refusal> {
     let names = b"abcdefghijklmnopq";
     let homes = [1; 4097];
     let refusal = register(alloc, &mut registry, b"a", &homes).err();
-    assert_eq!(rt; refusal, Some(Refusal::TooMany));
+    assert!(rt; refusal == Some(Refusal::TooMany));
     for i in 0..16 {
         register(alloc, &mut registry, &names[i..=i], &homes[..4096])?;
     }
     let refusal = register(alloc, &mut registry, &names[16..], &[0]).err();
-    assert_eq!(rt; refusal, Some(Refusal::TooMany));
+    assert!(rt; refusal == Some(Refusal::TooMany));
     let refusal = register(alloc, &mut registry, b"a", &homes).err();
-    assert_eq!(rt; refusal, Some(Refusal::Exists));
+    assert!(rt; refusal == Some(Refusal::Exists));
     let last = process(alloc, b"p", 4095)?;
-    assert_eq!(rt; registry.home(&last).map(NodeId::index), Ok(1));
+    assert!(rt; registry.home(&last).map(NodeId::index) == Ok(1));
     let text = answer(alloc, &registry, b"p", 4095, b"pmix.lrank")?;
-    assert_eq!(rt; text.as_slice(), b"u16:4095".as_slice());
+    assert!(rt; text.as_slice() == b"u16:4095".as_slice());
     let all = process(alloc, b"c", WILDCARD)?;
     let mut list = again!(Vec::with_capacity(alloc, 1).map_err(Refusal::from))?;
     list.push(all)?;
-    assert_eq!(rt; again!(registry.expand(&list))?.len(), 4096);
+    assert!(rt; again!(registry.expand(&list))?.len() == 4096);
+    Ok(())
+}
+
+// The ranks, each after its namespace's name.
+fn shown(alloc: Global, procs: &[Proc]) -> Result<Vec<u8>, Refusal> {
+    let mut text = Vec::new(alloc);
+    for process in procs {
+        text.extend_from_slice(process.nspace.as_bytes())?;
+        push_number(&mut text, u64::from(process.rank.number()))?;
+    }
+    Ok(text)
+}
+
+fn all_shown(alloc: Global, registry: &Registry) -> Result<Vec<u8>, Refusal> {
+    let procs = again!(registry.procs().map_err(Refusal::from))?;
+    again!(shown(alloc, &procs))
+}
+
+fn shown_at(alloc: Global, registry: &Registry, node: u32) -> Result<Vec<u8>, Refusal> {
+    let node = NodeId::new(node)?;
+    let procs = again!(registry.procs_at(node).map_err(Refusal::from))?;
+    again!(shown(alloc, &procs))
+}
+
+#[test]
+fn processes_are_listed_by_namespace_and_rank(rt: HostRuntime) -> Result<(), Refusal> {
+    let alloc = rt.alloc();
+    let mut registry = three_processes(alloc)?;
+    register(alloc, &mut registry, b"a", &[1, 0])?;
+    assert!(rt; all_shown(alloc, &registry)?.as_slice() == b"a0a1j0j1j2".as_slice());
+    assert!(rt; shown_at(alloc, &registry, 0)?.as_slice() == b"a1j0j2".as_slice());
+    assert!(rt; shown_at(alloc, &registry, 1)?.as_slice() == b"a0j1".as_slice());
+    Ok(())
+}
+
+// The reach of one rank of j on another.
+fn reach(alloc: Global, registry: &Registry, reader: u32, target: u32) -> Result<Reach, Refusal> {
+    let reader = process(alloc, b"j", reader)?;
+    let target = process(alloc, b"j", target)?;
+    Ok(registry.reach(&reader, &target))
+}
+
+#[test]
+fn processes_on_one_node_are_near(rt: HostRuntime) -> Result<(), Refusal> {
+    let alloc = rt.alloc();
+    let registry = three_processes(alloc)?;
+    assert!(rt; matches!(reach(alloc, &registry, 0, 0)?, Reach::Own));
+    assert!(rt; matches!(reach(alloc, &registry, 0, 2)?, Reach::Near));
+    assert!(rt; matches!(reach(alloc, &registry, 0, 1)?, Reach::Far));
+    Ok(())
+}
+
+#[test]
+fn registries_of_one_group_are_the_same(rt: HostRuntime) -> Result<(), Refusal> {
+    let alloc = rt.alloc();
+    let registry = three_processes(alloc)?;
+    let mut other = again!(registry.copy().map_err(Refusal::from))?;
+    assert!(rt; registry.is_same(&other));
+    register(alloc, &mut other, b"a", &[0])?;
+    assert!(rt; !registry.is_same(&other));
+    assert!(rt; other.is_same(&other));
     Ok(())
 }

@@ -15,7 +15,7 @@ distinct names = are_distinct (map (λ n. n.now) names)
 abbrev none : Bor (List ℕ)
 none = record { ref_ptr = (0, 0); now = [] }
 
--- the names behind one, as they are lent
+-- the names after one, as they are lent
 behind : (names : List (Bor (List ℕ))) (i : ℕ) → take (length names - i) (drop i names) ≡ drop i names
 behind names i = grind (arith, common_steps)
 

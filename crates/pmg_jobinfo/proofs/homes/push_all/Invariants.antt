@@ -1,0 +1,7 @@
+use Rattle.std.proofs.Common.{◌≡◌, ◌++◌}
+use Rattle.pmg_jobinfo.specs.Expansion.{ranks}
+use Rattle.pmg_jobinfo.specs.Procs.{procs_of}
+use Rattle.pmg_jobinfo.proofs.homes.push_all.Given as goal
+
+abbrev pub invariant-loop-rank : goal.invariant-loop-rank
+invariant-loop-rank l = l.procs.items ≡ l.fn.procs.items ++ procs_of l.nspace (ranks l.rank)
