@@ -8,7 +8,7 @@ use Rattle.pmg_wire.specs.Reading.{Place, past, front, ◌>>=◌, IsBytes, Takes
 use Rattle.pmg_wire.proofs.Steps.{bind_ok, Takes-then, IsBytes-after}
 use Rattle.pmg_frame.specs.declared.frame.Frame.{Frame}
 use Rattle.pmg_frame.specs.Grammar.{AreFrames, SpellsFrame}
-use Rattle.pmg_frame.specs.Reading.{body_at, head_at, behind_head, frame_at}
+use Rattle.pmg_frame.specs.Reading.{read_frame_body, read_head, behind_head, read_frame}
 use Rattle.pmg_frame.specs.Spelling.{frame_spelling}
 use Rattle.pmg_frame.specs.Streams.{Runs, StopsAt, more_at, left_after, Feeds, Says, SameFeed, Said, said_behind, said_at, said_from, said_by}
 use Rattle.pmg_frame.proofs.FrameLaws.{frame_found, frame_only, chosen, some_is}
@@ -20,26 +20,26 @@ past_more : (n : ℕ) (at : Place) (b : List ℕ) → n ≤ length at.rest → p
 past_more n at b le = ap (λ (t : List ℕ). record { offset = at.offset + n; rest = t }) (drop-append-le n at.rest b le)
 
 -- where the head is there, more bytes leave it as it is
-frame_long : (at : Place) → 6 ≤ length at.rest → frame_at at ≡ (head_at (front 6 at) >>= λ head. behind_head head.0 (past at 6))
-unfolding frame_at
+frame_long : (at : Place) → 6 ≤ length at.rest → read_frame at ≡ (read_head (front 6 at) >>= λ head. behind_head head.0 (past at 6))
+unfolding read_frame
 frame_long at six = rw (le-ltb (length at.rest) 6 six) refl
 
-frame_more : (at : Place) (b : List ℕ) → 6 ≤ length at.rest → frame_at (more_at at b) ≡ (head_at (front 6 at) >>= λ head. behind_head head.0 (more_at (past at 6) b))
+frame_more : (at : Place) (b : List ℕ) → 6 ≤ length at.rest → read_frame (more_at at b) ≡ (read_head (front 6 at) >>= λ head. behind_head head.0 (more_at (past at 6) b))
 frame_more at b six =
     frame_long (more_at at b) (omega (arith, length-append at.rest b))
-    ∙ ap (λ (x : Place). head_at x >>= λ head. behind_head head.0 (past (more_at at b) 6)) (front_more 6 at b six)
-    ∙ ap (λ (x : Place). head_at (front 6 at) >>= λ head. behind_head head.0 x) (past_more 6 at b six)
+    ∙ ap (λ (x : Place). read_head x >>= λ head. behind_head head.0 (past (more_at at b) 6)) (front_more 6 at b six)
+    ∙ ap (λ (x : Place). read_head (front 6 at) >>= λ head. behind_head head.0 x) (past_more 6 at b six)
 
 -- where the body is there too
-behind_long : (head : ℕ × ℕ) (at : Place) → head.1 ≤ length at.rest → behind_head head at ≡ (body_at head.0 (front head.1 at) >>= λ frame. Ok (Some (frame, past at head.1)))
+behind_long : (head : ℕ × ℕ) (at : Place) → head.1 ≤ length at.rest → behind_head head at ≡ (read_frame_body head.0 (front head.1 at) >>= λ frame. Ok (Some (frame, past at head.1)))
 unfolding behind_head
 behind_long head at le = rw (le-ltb (length at.rest) head.1 le) refl
 
-behind_more : (head : ℕ × ℕ) (at : Place) (b : List ℕ) → head.1 ≤ length at.rest → behind_head head (more_at at b) ≡ (body_at head.0 (front head.1 at) >>= λ frame. Ok (Some (frame, more_at (past at head.1) b)))
+behind_more : (head : ℕ × ℕ) (at : Place) (b : List ℕ) → head.1 ≤ length at.rest → behind_head head (more_at at b) ≡ (read_frame_body head.0 (front head.1 at) >>= λ frame. Ok (Some (frame, more_at (past at head.1) b)))
 behind_more head at b le =
     behind_long head (more_at at b) (omega (arith, length-append at.rest b))
-    ∙ ap (λ (x : Place). body_at head.0 x >>= λ frame. Ok (Some (frame, past (more_at at b) head.1))) (front_more head.1 at b le)
-    ∙ ap (λ (x : Place). body_at head.0 (front head.1 at) >>= λ frame. Ok (Some (frame, x))) (past_more head.1 at b le)
+    ∙ ap (λ (x : Place). read_frame_body head.0 x >>= λ frame. Ok (Some (frame, past (more_at at b) head.1))) (front_more head.1 at b le)
+    ∙ ap (λ (x : Place). read_frame_body head.0 (front head.1 at) >>= λ frame. Ok (Some (frame, x))) (past_more head.1 at b le)
 
 -- how a fault comes about
 chosen_err : {A : Type 0} (b : Bool) (r : Result (Option A) Fault) (f : Fault) → cond b (Ok None) r ≡ Err f → (b ≡ false) × (r ≡ Err f)
@@ -58,14 +58,14 @@ unfolding failed
 bind_err (Ok x) g f e = inr (x, refl, e)
 bind_err {B = B} (Err d) g f e = inl (ap (λ (x : Fault). Err x) (err_is B d f e))
 
--- a frame that is there is there with more bytes behind it
-stable_frame : (at : Place) (b : List ℕ) (frame : Frame) (mid : Place) → frame_at at ≡ Ok (Some (frame, mid)) → frame_at (more_at at b) ≡ Ok (Some (frame, more_at mid b))
-unfolding frame_at behind_head
+-- a frame that is there is there with more bytes after it
+stable_frame : (at : Place) (b : List ℕ) (frame : Frame) (mid : Place) → read_frame at ≡ Ok (Some (frame, mid)) → read_frame (more_at at b) ≡ Ok (Some (frame, more_at mid b))
+unfolding read_frame behind_head
 stable_frame at b frame mid e =
     let long = chosen (ltb (length at.rest) 6) _ (frame, mid) e in
-    let head = bind_ok (head_at (front 6 at)) (λ h. behind_head h.0 (past at 6)) (Some (frame, mid)) long.1 in
+    let head = bind_ok (read_head (front 6 at)) (λ h. behind_head h.0 (past at 6)) (Some (frame, mid)) long.1 in
     let behind = chosen (ltb (length (drop 6 at.rest)) head.0.0.1) _ (frame, mid) head.2 in
-    let body = bind_ok (body_at head.0.0.0 (front head.0.0.1 (past at 6))) (λ x. Ok (Some (x, past (past at 6) head.0.0.1))) (Some (frame, mid)) behind.1 in
+    let body = bind_ok (read_frame_body head.0.0.0 (front head.0.0.1 (past at 6))) (λ x. Ok (Some (x, past (past at 6) head.0.0.1))) (Some (frame, mid)) behind.1 in
     let same : (body.0, past (past at 6) head.0.0.1) ≡ (frame, mid) = some_is _ (frame, mid) body.2 in
     frame_more at b (ltb-false _ _ long.0)
     ∙ ap (λ (r : Result ((ℕ × ℕ) × Place) Fault). r >>= λ h. behind_head h.0 (more_at (past at 6) b)) head.1
@@ -73,19 +73,19 @@ stable_frame at b frame mid e =
     ∙ ap (λ (r : Result Frame Fault). r >>= λ x. Ok (Some (x, more_at (past (past at 6) head.0.0.1) b))) body.1
     ∙ ap (λ (x : Frame × Place). Ok (Some (x.0, more_at x.1 b))) same
 
--- a fault that is there is there with more bytes behind it
-stable_fault : (at : Place) (b : List ℕ) (f : Fault) → frame_at at ≡ Err f → frame_at (more_at at b) ≡ Err f
-unfolding frame_at behind_head
+-- a fault that is there is there with more bytes after it
+stable_fault : (at : Place) (b : List ℕ) (f : Fault) → read_frame at ≡ Err f → read_frame (more_at at b) ≡ Err f
+unfolding read_frame behind_head
 stable_fault at b f e =
     let long = chosen_err (ltb (length at.rest) 6) _ f e in
     frame_more at b (ltb-false _ _ long.0)
-    ∙ elim (bind_err (head_at (front 6 at)) (λ h. behind_head h.0 (past at 6)) f long.1) [
+    ∙ elim (bind_err (read_head (front 6 at)) (λ h. behind_head h.0 (past at 6)) f long.1) [
       | inl bad ↦ ap (λ (r : Result ((ℕ × ℕ) × Place) Fault). r >>= λ h. behind_head h.0 (more_at (past at 6) b)) bad
       | inr head ↦
           let behind = chosen_err (ltb (length (drop 6 at.rest)) head.0.0.1) _ f head.2 in
           ap (λ (r : Result ((ℕ × ℕ) × Place) Fault). r >>= λ h. behind_head h.0 (more_at (past at 6) b)) head.1
           ∙ behind_more head.0.0 (past at 6) b (ltb-false _ _ behind.0)
-          ∙ elim (bind_err (body_at head.0.0.0 (front head.0.0.1 (past at 6))) (λ x. Ok (Some (x, past (past at 6) head.0.0.1))) f behind.1) [
+          ∙ elim (bind_err (read_frame_body head.0.0.0 (front head.0.0.1 (past at 6))) (λ x. Ok (Some (x, past (past at 6) head.0.0.1))) f behind.1) [
             | inl bad ↦ ap (λ (r : Result Frame Fault). r >>= λ x. Ok (Some (x, more_at (past (past at 6) head.0.0.1) b))) bad
             | inr body ↦ absurd (let e : Ok (Some (body.0, past (past at 6) head.0.0.1)) ≡ Err f = body.2 in cc)
           ]
@@ -130,7 +130,7 @@ stays_closed at a b fs f p = record {
 abbrev SameRun : List Frame → List Frame → Place → Place → Type 0
 SameRun fs gs x y = (fs ≡ gs) × (x ≡ y)
 
-stops_no_frame : (end : Place) (fault : Option Fault) (frame : Frame) (mid : Place) → StopsAt end fault → frame_at end ≡ Ok (Some (frame, mid)) → ⊥
+stops_no_frame : (end : Place) (fault : Option Fault) (frame : Frame) (mid : Place) → StopsAt end fault → read_frame end ≡ Ok (Some (frame, mid)) → ⊥
 stops_no_frame end None frame mid s e = let bad = sym s ∙ e in cc
 stops_no_frame end (Some f) frame mid s e = let bad = sym s ∙ e in cc
 
@@ -190,11 +190,11 @@ is_found at end bytes fs fault s = record { end = end; runs = spelled_runs (more
 
 -- ---- one frame more
 
-runs_one : (at : Place) (frame : Frame) (end : Place) → frame_at at ≡ Ok (Some (frame, end)) → Runs at (frame ∷ []) end
+runs_one : (at : Place) (frame : Frame) (end : Place) → read_frame at ≡ Ok (Some (frame, end)) → Runs at (frame ∷ []) end
 unfolding Runs
 runs_one at frame end e = (end, e, refl)
 
-pub runs_push : (at : Place) (fs : List Frame) (mid : Place) (frame : Frame) (end : Place) → Runs at fs mid → frame_at mid ≡ Ok (Some (frame, end)) → Runs at (fs ++ frame ∷ []) end
+pub runs_push : (at : Place) (fs : List Frame) (mid : Place) (frame : Frame) (end : Place) → Runs at fs mid → read_frame mid ≡ Ok (Some (frame, end)) → Runs at (fs ++ frame ∷ []) end
 runs_push at fs mid frame end r e = runs_then at fs mid (frame ∷ []) end r (runs_one mid frame end e)
 
 pub runs_none : (at : Place) → Runs at [] at
@@ -202,13 +202,13 @@ unfolding Runs
 runs_none at = refl
 
 -- a frame takes some bytes
-pub moves_on : (at : Place) (frame : Frame) (mid : Place) → frame_at at ≡ Ok (Some (frame, mid)) → length mid.rest < length at.rest
-unfolding frame_at behind_head
+pub moves_on : (at : Place) (frame : Frame) (mid : Place) → read_frame at ≡ Ok (Some (frame, mid)) → length mid.rest < length at.rest
+unfolding read_frame behind_head
 moves_on at frame mid e =
     let long = chosen (ltb (length at.rest) 6) _ (frame, mid) e in
-    let head = bind_ok (head_at (front 6 at)) (λ h. behind_head h.0 (past at 6)) (Some (frame, mid)) long.1 in
+    let head = bind_ok (read_head (front 6 at)) (λ h. behind_head h.0 (past at 6)) (Some (frame, mid)) long.1 in
     let behind = chosen (ltb (length (drop 6 at.rest)) head.0.0.1) _ (frame, mid) head.2 in
-    let body = bind_ok (body_at head.0.0.0 (front head.0.0.1 (past at 6))) (λ x. Ok (Some (x, past (past at 6) head.0.0.1))) (Some (frame, mid)) behind.1 in
+    let body = bind_ok (read_frame_body head.0.0.0 (front head.0.0.1 (past at 6))) (λ x. Ok (Some (x, past (past at 6) head.0.0.1))) (Some (frame, mid)) behind.1 in
     let same : (body.0, past (past at 6) head.0.0.1) ≡ (frame, mid) = some_is _ (frame, mid) body.2 in
     let rest : length (drop head.0.0.1 (drop 6 at.rest)) ≡ length mid.rest = ap (λ (x : Frame × Place). length x.1.rest) same in
     omega (arith, rest, ltb-false _ _ long.0, length-drop head.0.0.1 (drop 6 at.rest), length-drop 6 at.rest)
@@ -234,8 +234,8 @@ runs_end offset held fs end fits r =
 pub said_is : (n : ℕ) (at : Place) (fs : List Frame) (end : Place) (fault : Option Fault) → length at.rest < n → Runs at fs end → StopsAt end fault → said_from n at ≡ record { frames = fs; fault = fault; end = end }
 unfolding said_from Runs
 said_is zero at fs end fault short r s = absurd (omega arith)
-said_is (suc n) at [] end None short r s = rw (ap frame_at (sym r) ∙ s) (ap (λ (x : Place). record { frames = []; fault = None; end = x }) (sym r))
-said_is (suc n) at [] end (Some f) short r s = rw (ap frame_at (sym r) ∙ s) (ap (λ (x : Place). record { frames = []; fault = Some f; end = x }) (sym r))
+said_is (suc n) at [] end None short r s = rw (ap read_frame (sym r) ∙ s) (ap (λ (x : Place). record { frames = []; fault = None; end = x }) (sym r))
+said_is (suc n) at [] end (Some f) short r s = rw (ap read_frame (sym r) ∙ s) (ap (λ (x : Place). record { frames = []; fault = Some f; end = x }) (sym r))
 said_is (suc n) at (f ∷ fs) end fault short r s =
     let fewer = moves_on at f r.0 r.1 in
     rw r.1 (ap (said_behind f) (said_is n r.0 fs end fault (omega (arith, fewer)) r.2 s))
@@ -245,7 +245,7 @@ pub record IsRun (at : Place) (said : Said) : Type 0 where
   pub runs : Runs at said.frames said.end
   pub stops : StopsAt said.end said.fault
 
-run_at : (at : Place) (behind : Place → Said) → ((mid : Place) → length mid.rest < length at.rest → IsRun mid (behind mid)) → (next : Result (Option (Frame × Place)) Fault) → frame_at at ≡ next → IsRun at (said_at at behind next)
+run_at : (at : Place) (behind : Place → Said) → ((mid : Place) → length mid.rest < length at.rest → IsRun mid (behind mid)) → (next : Result (Option (Frame × Place)) Fault) → read_frame at ≡ next → IsRun at (said_at at behind next)
 run_at at behind runs (Err f) e = record { runs = runs_none at; stops = e }
 run_at at behind runs (Ok None) e = record { runs = runs_none at; stops = e }
 run_at at behind runs (Ok (Some next)) e =
@@ -258,7 +258,7 @@ run_at at behind runs (Ok (Some next)) e =
 pub said_runs : (n : ℕ) (at : Place) → length at.rest < n → IsRun at (said_from n at)
 unfolding said_from
 said_runs zero at short = absurd (omega arith)
-said_runs (suc n) at short = run_at at (said_from n) (λ mid fewer. said_runs n mid (omega arith)) (frame_at at) refl
+said_runs (suc n) at short = run_at at (said_from n) (λ mid fewer. said_runs n mid (omega arith)) (read_frame at) refl
 
 pub is_said : (bytes : List ℕ) → IsBytes bytes → Says (record { offset = 0; rest = bytes }) (said_by bytes).frames (said_by bytes).fault (said_by bytes).end
 is_said bytes fits =

@@ -24,27 +24,27 @@ use Rattle.pmg_wire.proofs.FieldLaws.{proc_if, proc_again}
 use Rattle.pmg_wire.proofs.PlainLaws.{flag_if, flag_again}
 use Rattle.pmg_wire.proofs.Steps.{place, IfRead, bind_if, check_if, done_if, Takes-then, IsBytes-after, wide32, wide64, number_if, number_again}
 use Rattle.pmg_frame.specs.Fences.{participants_of, AreParticipants, NameFields, fence_name, is_instance}
-use Rattle.pmg_frame.specs.FenceReading.{is_greater, participant_at, name_fields_at, name_at}
+use Rattle.pmg_frame.specs.FenceReading.{is_greater, read_participant, read_name_fields, read_name}
 use Rattle.pmg_frame.specs.Grammar.{IsClient, IsName}
 use Rattle.pmg_frame.specs.Spelling.{flag_spelling, procs_spelling, name_spelling}
-use Rattle.pmg_frame.proofs.Rising.{in_order_rises, in_order-from_list, from_list-in_order}
+use Rattle.pmg_value.proofs.SetOrder.{in_order_rises, in_order-from_list, from_list-in_order}
 
 -- ---- participants
 
--- a process that a group may register, behind another one or none
+-- a process that a group may register, after another one or none
 pub record FollowsProc (before : Option Proc) (p : Proc) : Type 0 where
   pub is : IsClient p
   pub order : IsTrue (is_greater before p)
 
-pub participant_if : (before : Option Proc) (at : Place) → IsBytes at.rest → IfRead (participant_at before at) (TakesOne proc_spelling FollowsProc before at)
-unfolding participant_at
+pub participant_if : (before : Option Proc) (at : Place) → IsBytes at.rest → IfRead (read_participant before at) (TakesOne proc_spelling FollowsProc before at)
+unfolding read_participant
 participant_if before at fits =
     bind_if (λ p. check (is_greater before p.0) (fault at.offset causes.Order) >>= λ _. Ok p) (proc_if admits.Clients at fits) (λ p after t.
     check_if (is_greater before p) (fault at.offset causes.Order) (λ _. Ok (p, after)) (λ order.
     done_if (record { takes = t.takes; follows = record { is = record { name = t.name; client = t.admitted }; order = order } })))
 
-pub participant_again : (before : Option Proc) (o : ℕ) (p : Proc) (rest : List ℕ) → FollowsProc before p → participant_at before (place o (proc_spelling p ++ rest)) ≡ Ok (p, place (o + length (proc_spelling p)) rest)
-unfolding participant_at
+pub participant_again : (before : Option Proc) (o : ℕ) (p : Proc) (rest : List ℕ) → FollowsProc before p → read_participant before (place o (proc_spelling p ++ rest)) ≡ Ok (p, place (o + length (proc_spelling p)) rest)
+unfolding read_participant
 participant_again before o p rest f = let h = f.order in rw (proc_again admits.Clients o p rest f.is.name f.is.client, h) refl
 
 -- ---- their order
@@ -108,12 +108,12 @@ pub record TakesFields (at : Place) (f : NameFields) (after : Place) : Type 0 wh
   pub takes : Takes at (fields_spelling f) after
   pub are : AreFields f
 
-pub name_fields_if : (at : Place) → IsBytes at.rest → IfRead (name_fields_at at) (TakesFields at)
-unfolding name_fields_at fields_spelling
+pub name_fields_if : (at : Place) → IsBytes at.rest → IfRead (read_name_fields at) (TakesFields at)
+unfolding read_name_fields fields_spelling
 name_fields_if at fits =
     let in_range : ℕ → Bool = λ count. nat_lt 0 count && nat_le count 4096 in
     let made : Bool → ℕ → List Proc × Place → Read NameFields = λ collect number ps. Ok (record { collect = collect; number = number; list = ps.0 }, ps.1) in
-    let listed : Bool → ℕ → ℕ × Place → Read NameFields = λ collect number count. many participant_at count.0 None count.1 >>= made collect number in
+    let listed : Bool → ℕ → ℕ × Place → Read NameFields = λ collect number count. many read_participant count.0 None count.1 >>= made collect number in
     let counted : Bool → ℕ → Place → ℕ × Place → Read NameFields = λ collect number at_count count. check (in_range count.0) (fault at_count.offset causes.Count) >>= λ _. listed collect number count in
     let numbered : Bool → ℕ × Place → Read NameFields = λ collect number. number_at w32 number.1 >>= counted collect number.0 number.1 in
     let begun : Bool → Place → ℕ × Place → Read NameFields = λ collect at_number number. check (is_instance number.0) (fault at_number.offset causes.Number) >>= λ _. numbered collect number in
@@ -126,7 +126,7 @@ name_fields_if at fits =
     let d_fits : IsBytes d.rest = IsBytes-after (to_be_bytes w32 count) b_fits k.takes in
     check_if (in_range count) (fault b.offset causes.Count) (λ _. listed collect number (count, d)) (λ few.
     let range = and_parts (nat_lt 0 count) (nat_le count 4096) few in
-    bind_if (made collect number) (many_if participant_at proc_spelling FollowsProc participant_if count None d d_fits) (λ ps after m.
+    bind_if (made collect number) (many_if read_participant proc_spelling FollowsProc participant_if count None d d_fits) (λ ps after m.
     let list_tail = Takes-then (to_be_bytes w32 count) (flat_map proc_spelling ps) k.takes m.takes in
     let number_tail = Takes-then (to_be_bytes w64 number) (to_be_bytes w32 count ++ flat_map proc_spelling ps) n.takes list_tail in
     let all = Takes-then (flag_spelling collect) (to_be_bytes w64 number ++ (to_be_bytes w32 count ++ flat_map proc_spelling ps)) f number_tail in
@@ -141,8 +141,8 @@ regroup_4 a b c d r = simp append_assoc
 pub length_4 : (a b c d : List ℕ) → length (a ++ (b ++ (c ++ d))) ≡ length a + length b + length c + length d
 length_4 a b c d = omega (arith, length-append a (b ++ (c ++ d)), length-append b (c ++ d), length-append c d)
 
-pub name_fields_again : (o : ℕ) (f : NameFields) (rest : List ℕ) → AreFields f → name_fields_at (place o (fields_spelling f ++ rest)) ≡ Ok (f, place (o + length (fields_spelling f)) rest)
-unfolding name_fields_at fields_spelling
+pub name_fields_again : (o : ℕ) (f : NameFields) (rest : List ℕ) → AreFields f → read_name_fields (place o (fields_spelling f ++ rest)) ≡ Ok (f, place (o + length (fields_spelling f)) rest)
+unfolding read_name_fields fields_spelling
 name_fields_again o f rest are =
     let flag_text = flag_spelling f.collect in
     let number_text = to_be_bytes w64 f.number in
@@ -156,9 +156,9 @@ name_fields_again o f rest are =
     let instance = are.number in
     let k = number_again w32 (2 ^ 32) wide32 (o + 1 + 8) (length f.list) (list_text ++ rest) (omega (arith, are.few)) in
     let few : IsTrue (nat_lt 0 (length f.list) && nat_le (length f.list) 4096) = and_from _ _ (lt-ltb _ _ are.some) (le-leb _ _ are.few) in
-    let m = many_again participant_at proc_spelling FollowsProc participant_again None (o + 1 + 8 + 4) f.list rest are.chain in
+    let m = many_again read_participant proc_spelling FollowsProc participant_again None (o + 1 + 8 + 4) f.list rest are.chain in
     let end : o + 1 + 8 + 4 + length list_text ≡ o + length (fields_spelling f) = omega (arith, length_4 flag_text number_text count_text list_text) in
-    ap (λ (text : List ℕ). name_fields_at (place o text)) regrouped
+    ap (λ (text : List ℕ). read_name_fields (place o text)) regrouped
     ∙ rw (c, n, instance, k, few, m) (ap (λ (x : ℕ). Ok (f, place x rest)) end)
 
 -- ---- names
@@ -185,8 +185,8 @@ named at f after t =
       };
     }
 
-pub name_if : (at : Place) → IsBytes at.rest → IfRead (name_at at) (TakesName at)
-unfolding name_at
+pub name_if : (at : Place) → IsBytes at.rest → IfRead (read_name at) (TakesName at)
+unfolding read_name
 name_if at fits = bind_if (λ f. Ok (fence_name f.0, f.1)) (name_fields_if at fits) (λ f after t. done_if (named at f after t))
 
 pub fields_of : FenceName → NameFields
@@ -201,8 +201,8 @@ unfolding fields_of
 name_of-fields_of name =
     ap (λ (s : set.FinSet proc_cmp). record { signature = record { participants = s; collect = name.signature.collect }; instance = name.instance }) (from_list-in_order procs_total exact_procs name.signature.participants)
 
-pub name_again : (o : ℕ) (name : FenceName) (rest : List ℕ) → IsName name → name_at (place o (name_spelling name ++ rest)) ≡ Ok (name, place (o + length (name_spelling name)) rest)
-unfolding name_at fields_of fields_spelling
+pub name_again : (o : ℕ) (name : FenceName) (rest : List ℕ) → IsName name → read_name (place o (name_spelling name ++ rest)) ≡ Ok (name, place (o + length (name_spelling name)) rest)
+unfolding read_name fields_of fields_spelling
 name_again o name rest is =
     let read = name_fields_again o (fields_of name) rest (are_fields_of name is) in
     rw read (ap (λ (f : FenceName). Ok (f, place (o + length (name_spelling name)) rest)) (name_of-fields_of name))

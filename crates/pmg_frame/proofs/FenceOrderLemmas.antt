@@ -10,9 +10,9 @@ use Rattle.pmg_value.specs.Process.{proc_cmp}
 use Rattle.pmg_value.specs.Signatures.{Signature}
 use Rattle.pmg_value.specs.declared.process.Proc.{Proc}
 use Rattle.pmg_value.proofs.ProcessOrder.{procs_total, exact_procs}
-use Rattle.pmg_frame.specs.Fences.{in_order}
+use Rattle.pmg_value.specs.InOrder.{in_order}
 use Rattle.pmg_frame.specs.FenceOrder.{signature_cmp, AreSignaturesExact, AreNamesExact}
-use Rattle.pmg_frame.proofs.Rising.{from_list-in_order}
+use Rattle.pmg_value.proofs.SetOrder.{from_list-in_order}
 
 -- both comparisons in a row answer Equal
 then_equal : (a b : Ordering) → ordering_then a b ≡ Equal → (a ≡ Equal) × (b ≡ Equal)

@@ -10,7 +10,7 @@ use Rattle.pmg_wire.proofs.Steps.{place, IfRead, bind_if, check_if, choice_if, d
 use Rattle.pmg_frame.specs.declared.frame.Frame.{Frame}
 use Rattle.pmg_frame.specs.declared.frame.Frame.TheVariants as frames
 use Rattle.pmg_frame.specs.Grammar.{IsFrame, AreFrames, SpellsFrame}
-use Rattle.pmg_frame.specs.Reading.{fields_at, body_at, head_at, behind_head, frame_at}
+use Rattle.pmg_frame.specs.Reading.{read_fields, read_frame_body, read_head, behind_head, read_frame}
 use Rattle.pmg_frame.specs.Spelling.{kind_of, body_spelling, head_spelling, frame_spelling}
 use Rattle.pmg_frame.proofs.PieceLaws.{piece_if, piece_again}
 use Rattle.pmg_frame.proofs.HeaderLaws.{header_if, header_again, fence_ask_if, fence_ask_again, commit_ask_if, commit_ask_again}
@@ -25,8 +25,8 @@ pub record TakesHead (at : Place) (head : ℕ × ℕ) (after : Place) : Type 0 w
   pub kind : IsTrue (is_kind head.0)
   pub small : head.1 ≤ 16777216
 
-pub head_if : (at : Place) → IsBytes at.rest → IfRead (head_at at) (TakesHead at)
-unfolding head_at
+pub head_if : (at : Place) → IsBytes at.rest → IfRead (read_head at) (TakesHead at)
+unfolding read_head
 head_if at fits =
     let made : ℕ → Place → ℕ × Place → Read (ℕ × ℕ) = λ kind at_len len. check (nat_le len.0 16777216) (fault at_len.offset causes.Length) >>= λ _. Ok ((kind, len.0), len.1) in
     let sized : ℕ × Place → Read (ℕ × ℕ) = λ kind. number_at w32 kind.1 >>= made kind.0 kind.1 in
@@ -45,8 +45,8 @@ head_if at fits =
     let all = Takes-then (1 ∷ []) (kind ∷ to_be_bytes w32 len) (rw (← is_one) v.takes) two in
     done_if (record { takes = all; kind = second; small = leb-true len 16777216 third })))))))
 
-pub head_again : (o kind len : ℕ) → IsTrue (is_kind kind) → len ≤ 16777216 → head_at (place o (head_spelling kind len)) ≡ Ok ((kind, len), place (o + 6) [])
-unfolding head_at
+pub head_again : (o kind len : ℕ) → IsTrue (is_kind kind) → len ≤ 16777216 → read_head (place o (head_spelling kind len)) ≡ Ok ((kind, len), place (o + 6) [])
+unfolding read_head
 head_again o kind len is small =
     let first = byte_again o 1 (kind ∷ to_be_bytes w32 len) in
     let second = byte_again (o + 1) kind (to_be_bytes w32 len) in
@@ -82,8 +82,8 @@ pub record TakesFields (kind : ℕ) (at : Place) (frame : Frame) (after : Place)
 last_kind : (k : ℕ) → IsTrue (is_kind k) → (k == 1) ≡ false → (k == 2) ≡ false → (k == 3) ≡ false → (k == 4) ≡ false → k ≡ 5
 last_kind k is n1 n2 n3 n4 = grind arith
 
-fields_if : (kind : ℕ) (at : Place) → IsTrue (is_kind kind) → IsBytes at.rest → IfRead (fields_at kind at) (TakesFields kind at)
-unfolding fields_at
+fields_if : (kind : ℕ) (at : Place) → IsTrue (is_kind kind) → IsBytes at.rest → IfRead (read_fields kind at) (TakesFields kind at)
+unfolding read_fields
 fields_if kind at known fits =
     choice_if (kind == 1) (λ is. bind_if (λ x. Ok (frames.Piece x.0, x.1)) (piece_if at fits) (λ x after t. done_if (record { takes = t.takes; is = t.is; of_kind = eqb-true kind 1 is }))) (λ n1.
     choice_if (kind == 2) (λ is. bind_if (λ x. Ok (frames.Header x.0, x.1)) (header_if at fits) (λ x after t. done_if (record { takes = t.takes; is = t.is; of_kind = eqb-true kind 2 is }))) (λ n2.
@@ -91,10 +91,10 @@ fields_if kind at known fits =
     choice_if (kind == 4) (λ is. bind_if (λ x. Ok (frames.RangeAsk x.0, x.1)) (commit_ask_if at fits) (λ x after t. done_if (record { takes = t.takes; is = t.is; of_kind = eqb-true kind 4 is }))) (λ n4.
     bind_if (λ x. Ok (frames.DirectAsk x.0, x.1)) (commit_ask_if at fits) (λ x after t. done_if (record { takes = t.takes; is = t.is; of_kind = last_kind kind known n1 n2 n3 n4 }))))))
 
-pub body_found : (kind : ℕ) (at : Place) (frame : Frame) → IsTrue (is_kind kind) → IsBytes at.rest → body_at kind at ≡ Ok frame → IsBody kind at frame
-unfolding body_at
+pub body_found : (kind : ℕ) (at : Place) (frame : Frame) → IsTrue (is_kind kind) → IsBytes at.rest → read_frame_body kind at ≡ Ok frame → IsBody kind at frame
+unfolding read_frame_body
 body_found kind at frame known fits e =
-    let whole = bind_ok (fields_at kind at) _ frame e in
+    let whole = bind_ok (read_fields kind at) _ frame e in
     let taken = (fields_if kind at known fits).holds whole.0.0 whole.0.1 whole.1 in
     let checked = check_ok (length whole.0.1.rest == 0) _ (λ _. Ok whole.0.0) frame whole.2 in
     let empty : whole.0.1.rest ≡ [] = no_items whole.0.1.rest (eqb-true (length whole.0.1.rest) 0 checked.0) in
@@ -105,22 +105,22 @@ body_found kind at frame known fits e =
     } in
     subst (IsBody kind at) (ok_is whole.0.0 frame checked.1) body
 
-fields_again : (o : ℕ) (frame : Frame) (rest : List ℕ) → IsFrame frame → fields_at (kind_of frame) (place o (body_spelling frame ++ rest)) ≡ Ok (frame, place (o + length (body_spelling frame)) rest)
-unfolding fields_at
+fields_again : (o : ℕ) (frame : Frame) (rest : List ℕ) → IsFrame frame → read_fields (kind_of frame) (place o (body_spelling frame ++ rest)) ≡ Ok (frame, place (o + length (body_spelling frame)) rest)
+unfolding read_fields
 fields_again o (frames.Piece c) rest is = rw (piece_again o c rest is) refl
 fields_again o (frames.Header h) rest is = rw (header_again o h rest is) refl
 fields_again o (frames.FenceAsk a) rest is = rw (fence_ask_again o a rest is) refl
 fields_again o (frames.RangeAsk a) rest is = rw (commit_ask_again o a rest is) refl
 fields_again o (frames.DirectAsk a) rest is = rw (commit_ask_again o a rest is) refl
 
-pub body_again : (o : ℕ) (frame : Frame) → IsFrame frame → body_at (kind_of frame) (place o (body_spelling frame)) ≡ Ok frame
-unfolding body_at
+pub body_again : (o : ℕ) (frame : Frame) → IsFrame frame → read_frame_body (kind_of frame) (place o (body_spelling frame)) ≡ Ok frame
+unfolding read_frame_body
 body_again o frame is =
-    let padded : fields_at (kind_of frame) (place o (body_spelling frame)) ≡ Ok (frame, place (o + length (body_spelling frame)) []) =
-    ap (λ (t : List ℕ). fields_at (kind_of frame) (place o t)) (sym (append-nil (body_spelling frame))) ∙ fields_again o frame [] is in
+    let padded : read_fields (kind_of frame) (place o (body_spelling frame)) ≡ Ok (frame, place (o + length (body_spelling frame)) []) =
+    ap (λ (t : List ℕ). read_fields (kind_of frame) (place o t)) (sym (append-nil (body_spelling frame))) ∙ fields_again o frame [] is in
     rw padded refl
 
--- a front of the bytes that is there
+-- a prefix of the bytes that is there
 pub chosen : {A : Type 0} (b : Bool) (r : Result (Option A) Fault) (x : A) → cond b (Ok None) r ≡ Ok (Some x) → (b ≡ false) × (r ≡ Ok (Some x))
 chosen true r x e = absurd cc
 chosen false r x e = (refl, e)
@@ -152,14 +152,14 @@ frame_of_parts at head end frame six enough h b =
       is = b.is;
     }
 
-pub frame_found : (at : Place) (frame : Frame) (after : Place) → IsBytes at.rest → frame_at at ≡ Ok (Some (frame, after)) → SpellsFrame at frame after
-unfolding frame_at behind_head
+pub frame_found : (at : Place) (frame : Frame) (after : Place) → IsBytes at.rest → read_frame at ≡ Ok (Some (frame, after)) → SpellsFrame at frame after
+unfolding read_frame behind_head
 frame_found at frame after fits e =
     let long = chosen (ltb (length at.rest) 6) _ (frame, after) e in
-    let head_read = bind_ok (head_at (front 6 at)) (λ head. behind_head head.0 (past at 6)) (Some (frame, after)) long.1 in
+    let head_read = bind_ok (read_head (front 6 at)) (λ head. behind_head head.0 (past at 6)) (Some (frame, after)) long.1 in
     let head = head_read.0.0 in
     let behind = chosen (ltb (length (drop 6 at.rest)) head.1) _ (frame, after) head_read.2 in
-    let body_read = bind_ok (body_at head.0 (front head.1 (past at 6))) (λ c. Ok (Some (c, past (past at 6) head.1))) (Some (frame, after)) behind.1 in
+    let body_read = bind_ok (read_frame_body head.0 (front head.1 (past at 6))) (λ c. Ok (Some (c, past (past at 6) head.1))) (Some (frame, after)) behind.1 in
     let six : 6 ≤ length at.rest = ltb-false _ _ long.0 in
     let enough : head.1 ≤ length (drop 6 at.rest) = ltb-false _ _ behind.0 in
     let h = (head_if (front 6 at) (IsBytes-take 6 at.rest fits)).holds head head_read.0.1 head_read.1 in
@@ -176,8 +176,8 @@ kind_known (frames.RangeAsk a) = refl
 kind_known (frames.DirectAsk a) = refl
 
 pub frame_again : (o : ℕ) (frame : Frame) (rest : List ℕ) → length (body_spelling frame) ≤ 16777216 → IsFrame frame
-    → frame_at (place o (frame_spelling frame ++ rest)) ≡ Ok (Some (frame, place (o + length (frame_spelling frame)) rest))
-unfolding frame_at behind_head
+    → read_frame (place o (frame_spelling frame ++ rest)) ≡ Ok (Some (frame, place (o + length (frame_spelling frame)) rest))
+unfolding read_frame behind_head
 frame_again o frame rest small is =
     let body = body_spelling frame in
     let head_text = head_spelling (kind_of frame) (length body) in
@@ -188,13 +188,13 @@ frame_again o frame rest small is =
     let h = head_again o (kind_of frame) (length body) (kind_known frame) small in
     let b = body_again (o + 6) frame is in
     let end : o + 6 + length body ≡ o + length (frame_spelling frame) = omega (arith, length-append head_text body) in
-    ap (λ (t : List ℕ). frame_at (place o t)) regrouped
+    ap (λ (t : List ℕ). read_frame (place o t)) regrouped
     ∙ rw (long, take_at head_text behind 6 refl, drop_at head_text behind 6 refl, h, enough, take_at body rest (length body) refl, drop_at body rest (length body) refl, b)
     (ap (λ (n : ℕ). Ok (Some (frame, place n rest))) end)
 
-pub frame_only : (at : Place) (frame : Frame) (after : Place) → SpellsFrame at frame after → frame_at at ≡ Ok (Some (frame, after))
+pub frame_only : (at : Place) (frame : Frame) (after : Place) → SpellsFrame at frame after → read_frame at ≡ Ok (Some (frame, after))
 frame_only at frame after s =
-    ap (λ (text : List ℕ). frame_at (place at.offset text)) s.takes.parts
+    ap (λ (text : List ℕ). read_frame (place at.offset text)) s.takes.parts
     ∙ frame_again at.offset frame after.rest s.small s.is
     ∙ ap (λ (n : ℕ). Ok (Some (frame, place n after.rest))) (sym s.takes.place)
 
@@ -203,5 +203,5 @@ one_spelling f g x y are e =
     let first = frame_again 0 f x are.1 are.0 in
     let second = frame_again 0 g y are.2.1 are.2.0 in
     let same : (f, place (0 + length (frame_spelling f)) x) ≡ (g, place (0 + length (frame_spelling g)) y) =
-    some_is _ _ (sym first ∙ ap (λ (t : List ℕ). frame_at (place 0 t)) e ∙ second) in
+    some_is _ _ (sym first ∙ ap (λ (t : List ℕ). read_frame (place 0 t)) e ∙ second) in
     (ap (λ (z : Frame × Place). z.0) same, ap (λ (z : Frame × Place). z.1.rest) same)

@@ -11,7 +11,7 @@ use Rattle.pmg_value.specs.Signatures.{FenceName}
 use Rattle.pmg_value.specs.declared.process.Proc.{Proc}
 use Rattle.pmg_value.specs.declared.refusal.Cause.TheVariants as causes
 use Rattle.pmg_wire.specs.declared.fields.Admits.TheVariants as admits
-use Rattle.pmg_wire.specs.Fields.{proc_at, flag_at}
+use Rattle.pmg_wire.specs.Fields.{read_proc, read_flag}
 use Rattle.pmg_wire.specs.Many.{many, Chain}
 use Rattle.pmg_wire.specs.Reading.{Place, Read, fault, ◌>>=◌, check, number_at, IsBytes, Takes}
 use Rattle.pmg_wire.specs.Spelling.{proc_spelling}
@@ -20,7 +20,7 @@ use Rattle.pmg_wire.proofs.FieldLaws.{proc_if, proc_again}
 use Rattle.pmg_wire.proofs.PlainLaws.{flag_if, flag_again}
 use Rattle.pmg_wire.proofs.Steps.{place, IfRead, bind_if, check_if, done_if, Takes-then, IsBytes-after, wide32, wide64, number_if, number_again}
 use Rattle.pmg_frame.specs.Fences.{participants_of, is_level, is_gone, state_of, state_of-is_gone, is_local_rising, is_listed, is_header, is_ask, Header, FenceAsk, CommitAsk}
-use Rattle.pmg_frame.specs.FenceReading.{is_greater, name_at, node_at, level_at, local_at, header_at, fence_ask_at, commit_ask_at}
+use Rattle.pmg_frame.specs.FenceReading.{is_greater, read_name, read_node, read_level, read_local, read_header, read_fence_ask, read_commit_ask}
 use Rattle.pmg_frame.specs.Grammar.{FollowsLocal, IsHeader, IsFenceAsk, IsCommitAsk}
 use Rattle.pmg_frame.specs.Spelling.{flag_spelling, name_spelling, local_spelling, header_body, fence_ask_body, commit_ask_body}
 use Rattle.pmg_frame.specs.declared.local.Local.{Local}
@@ -34,14 +34,14 @@ pub record TakesNode (at : Place) (n : ℕ) (after : Place) : Type 0 where
   pub takes : Takes at (to_be_bytes w32 n) after
   pub bound : n ≤ 63
 
-node_if : (at : Place) → IsBytes at.rest → IfRead (node_at at) (TakesNode at)
-unfolding node_at
+node_if : (at : Place) → IsBytes at.rest → IfRead (read_node at) (TakesNode at)
+unfolding read_node
 node_if at fits =
     bind_if (λ node. check (nat_le node.0 63) (fault at.offset causes.Node) >>= λ _. Ok node) (number_if w32 (2 ^ 32) wide32 at fits) (λ n after t.
     check_if (nat_le n 63) (fault at.offset causes.Node) (λ _. Ok (n, after)) (λ small. done_if (record { takes = t.takes; bound = leb-true n 63 small })))
 
-node_again : (o n : ℕ) (rest : List ℕ) → n ≤ 63 → node_at (place o (to_be_bytes w32 n ++ rest)) ≡ Ok (n, place (o + 4) rest)
-unfolding node_at
+node_again : (o n : ℕ) (rest : List ℕ) → n ≤ 63 → read_node (place o (to_be_bytes w32 n ++ rest)) ≡ Ok (n, place (o + 4) rest)
+unfolding read_node
 node_again o n rest small = rw (number_again w32 (2 ^ 32) wide32 o n rest (omega (arith, small)), le-leb n 63 small) refl
 
 -- what a level took
@@ -49,14 +49,14 @@ pub record TakesLevel (at : Place) (n : ℕ) (after : Place) : Type 0 where
   pub takes : Takes at (to_be_bytes w64 n) after
   pub is : IsTrue (is_level n)
 
-level_if : (at : Place) → IsBytes at.rest → IfRead (level_at at) (TakesLevel at)
-unfolding level_at
+level_if : (at : Place) → IsBytes at.rest → IfRead (read_level at) (TakesLevel at)
+unfolding read_level
 level_if at fits =
     bind_if (λ level. check (is_level level.0) (fault at.offset causes.Level) >>= λ _. Ok level) (number_if w64 (2 ^ 64) wide64 at fits) (λ n after t.
     check_if (is_level n) (fault at.offset causes.Level) (λ _. Ok (n, after)) (λ is. done_if (record { takes = t.takes; is = is })))
 
-level_again : (o n : ℕ) (rest : List ℕ) → IsTrue (is_level n) → level_at (place o (to_be_bytes w64 n ++ rest)) ≡ Ok (n, place (o + 8) rest)
-unfolding level_at
+level_again : (o n : ℕ) (rest : List ℕ) → IsTrue (is_level n) → read_level (place o (to_be_bytes w64 n ++ rest)) ≡ Ok (n, place (o + 8) rest)
+unfolding read_level
 level_again o n rest is = let small : n ≤ 4294967295 = leb-true n 4294967295 is in rw (number_again w64 (2 ^ 64) wide64 o n rest (omega (arith, small)), is) refl
 
 -- ---- locals
@@ -65,14 +65,14 @@ is_gone-state_of : (b : Bool) → is_gone (state_of b) ≡ b
 is_gone-state_of true = refl
 is_gone-state_of false = refl
 
-local_if : (name : FenceName) (before : Option Local) (at : Place) → IsBytes at.rest → IfRead (local_at name before at) (TakesOne local_spelling (FollowsLocal name) before at)
-unfolding local_at
+local_if : (name : FenceName) (before : Option Local) (at : Place) → IsBytes at.rest → IfRead (read_local name before at) (TakesOne local_spelling (FollowsLocal name) before at)
+unfolding read_local
 local_if name before at fits =
     let behind : Proc → Bool = is_greater (option_map (λ (b : Local). b.proc) before) in
     let among : Proc → Bool = set.contains name.signature.participants in
     let made : Proc → Bool → ℕ × Place → Read Local = λ p gone level. Ok (record { proc = p; state = state_of gone; level = level.0 }, level.1) in
-    let flagged : Proc → Bool × Place → Read Local = λ p gone. level_at gone.1 >>= made p gone.0 in
-    let told : Proc × Place → Read Local = λ p. flag_at p.1 >>= flagged p.0 in
+    let flagged : Proc → Bool × Place → Read Local = λ p gone. read_level gone.1 >>= made p gone.0 in
+    let told : Proc × Place → Read Local = λ p. read_flag p.1 >>= flagged p.0 in
     let member : Proc × Place → Read Local = λ p. check (among p.0) (fault at.offset causes.Member) >>= λ _. told p in
     bind_if (λ p. check (behind p.0) (fault at.offset causes.Order) >>= λ _. member p) (proc_if admits.Clients at fits) (λ p a t.
     let a_fits : IsBytes a.rest = IsBytes-after (proc_spelling p) fits t.takes in
@@ -94,8 +94,8 @@ pub length_3 : (a b c : List ℕ) → length (a ++ (b ++ c)) ≡ length a + leng
 length_3 a b c = omega (arith, length-append a (b ++ c), length-append b c)
 
 local_again : (name : FenceName) (before : Option Local) (o : ℕ) (l : Local) (rest : List ℕ) → FollowsLocal name before l
-    → local_at name before (place o (local_spelling l ++ rest)) ≡ Ok (l, place (o + length (local_spelling l)) rest)
-unfolding local_at
+    → read_local name before (place o (local_spelling l ++ rest)) ≡ Ok (l, place (o + length (local_spelling l)) rest)
+unfolding read_local
 local_again name before o l rest f =
     let proc_text = proc_spelling l.proc in
     let flag_text = flag_spelling (is_gone l.state) in
@@ -107,7 +107,7 @@ local_again name before o l rest f =
     let g = flag_again (o + length proc_text) (is_gone l.state) (level_text ++ rest) in
     let n = level_again (o + length proc_text + 1) l.level rest f.level in
     let end : o + length proc_text + 1 + 8 ≡ o + length (local_spelling l) = omega (arith, length_3 proc_text flag_text level_text) in
-    ap (λ (text : List ℕ). local_at name before (place o text)) regrouped
+    ap (λ (text : List ℕ). read_local name before (place o text)) regrouped
     ∙ rw (p, order, member, g, n) (ap (λ (s : State). Ok (record { proc = l.proc; state = s; level = l.level }, place (o + length proc_text + 1 + 8) rest)) (state_of-is_gone l.state)
     ∙ ap (λ (x : ℕ). Ok (l, place x rest)) end)
 
@@ -118,15 +118,15 @@ pub record TakesHeader (at : Place) (h : Header) (after : Place) : Type 0 where
   pub takes : Takes at (header_body h) after
   pub is : IsHeader h
 
-pub header_if : (at : Place) → IsBytes at.rest → IfRead (header_at at) (TakesHeader at)
-unfolding header_at
+pub header_if : (at : Place) → IsBytes at.rest → IfRead (read_header at) (TakesHeader at)
+unfolding read_header
 header_if at fits =
     let in_range : FenceName → ℕ → Bool = λ name count. nat_lt 0 count && nat_le count (length (participants_of name)) in
     let made : ℕ → FenceName → List Local × Place → Read Header = λ node name locals. Ok (record { node = node; name = name; locals = locals.0 }, locals.1) in
-    let listed : ℕ → FenceName → ℕ × Place → Read Header = λ node name count. many (local_at name) count.0 None count.1 >>= made node name in
+    let listed : ℕ → FenceName → ℕ × Place → Read Header = λ node name count. many (read_local name) count.0 None count.1 >>= made node name in
     let counted : ℕ → FenceName → Place → ℕ × Place → Read Header = λ node name at_count count. check (in_range name count.0) (fault at_count.offset causes.Count) >>= λ _. listed node name count in
     let named : ℕ → FenceName × Place → Read Header = λ node name. number_at w32 name.1 >>= counted node name.0 name.1 in
-    bind_if (λ node. name_at node.1 >>= named node.0) (node_if at fits) (λ node a n.
+    bind_if (λ node. read_name node.1 >>= named node.0) (node_if at fits) (λ node a n.
     let a_fits : IsBytes a.rest = IsBytes-after (to_be_bytes w32 node) fits n.takes in
     bind_if (named node) (name_if a a_fits) (λ name b t.
     let b_fits : IsBytes b.rest = IsBytes-after (name_spelling name) a_fits t.takes in
@@ -134,7 +134,7 @@ header_if at fits =
     let d_fits : IsBytes d.rest = IsBytes-after (to_be_bytes w32 count) b_fits k.takes in
     check_if (in_range name count) (fault b.offset causes.Count) (λ _. listed node name (count, d)) (λ few.
     let range = and_parts (nat_lt 0 count) (nat_le count (length (participants_of name))) few in
-    bind_if (made node name) (many_if (local_at name) local_spelling (FollowsLocal name) (local_if name) count None d d_fits) (λ locals after m.
+    bind_if (made node name) (many_if (read_local name) local_spelling (FollowsLocal name) (local_if name) count None d d_fits) (λ locals after m.
     let count_text = to_be_bytes w32 count in
     let tail = Takes-then count_text (flat_map local_spelling locals) k.takes m.takes in
     let name_tail = Takes-then (name_spelling name) (count_text ++ flat_map local_spelling locals) t.takes tail in
@@ -144,8 +144,8 @@ header_if at fits =
       is = record { node = n.bound; name = t.is; some = rw m.len (ltb-true 0 count range.0); few = rw m.len (leb-true count _ range.1); locals = m.chain };
     }))))))
 
-pub header_again : (o : ℕ) (h : Header) (rest : List ℕ) → IsHeader h → header_at (place o (header_body h ++ rest)) ≡ Ok (h, place (o + length (header_body h)) rest)
-unfolding header_at
+pub header_again : (o : ℕ) (h : Header) (rest : List ℕ) → IsHeader h → read_header (place o (header_body h ++ rest)) ≡ Ok (h, place (o + length (header_body h)) rest)
+unfolding read_header
 header_again o h rest is =
     let node_text = to_be_bytes w32 h.node in
     let name_text = name_spelling h.name in
@@ -156,9 +156,9 @@ header_again o h rest is =
     let t = name_again (o + 4) h.name (count_text ++ (locals_text ++ rest)) is.name in
     let k = number_again w32 (2 ^ 32) wide32 (o + 4 + length name_text) (length h.locals) (locals_text ++ rest) (omega (arith, is.few, is.name.few)) in
     let few : IsTrue (nat_lt 0 (length h.locals) && nat_le (length h.locals) (length (participants_of h.name))) = and_from _ _ (lt-ltb _ _ is.some) (le-leb _ _ is.few) in
-    let m = many_again (local_at h.name) local_spelling (FollowsLocal h.name) (local_again h.name) None (o + 4 + length name_text + 4) h.locals rest is.locals in
+    let m = many_again (read_local h.name) local_spelling (FollowsLocal h.name) (local_again h.name) None (o + 4 + length name_text + 4) h.locals rest is.locals in
     let end : o + 4 + length name_text + 4 + length locals_text ≡ o + length (header_body h) = omega (arith, length_4 node_text name_text count_text locals_text) in
-    ap (λ (text : List ℕ). header_at (place o text)) regrouped
+    ap (λ (text : List ℕ). read_header (place o text)) regrouped
     ∙ rw (n, t, k, few, m) (ap (λ (x : ℕ). Ok (h, place x rest)) end)
 
 -- ---- what is read passes the test of a header
@@ -192,23 +192,23 @@ pub record TakesFenceAsk (at : Place) (a : FenceAsk) (after : Place) : Type 0 wh
   pub takes : Takes at (fence_ask_body a) after
   pub is : IsFenceAsk a
 
-pub fence_ask_if : (at : Place) → IsBytes at.rest → IfRead (fence_ask_at at) (TakesFenceAsk at)
-unfolding fence_ask_at
+pub fence_ask_if : (at : Place) → IsBytes at.rest → IfRead (read_fence_ask at) (TakesFenceAsk at)
+unfolding read_fence_ask
 fence_ask_if at fits =
     let made : ℕ → FenceName × Place → Read FenceAsk = λ node name. Ok (record { node = node; name = name.0 }, name.1) in
-    bind_if (λ node. name_at node.1 >>= made node.0) (node_if at fits) (λ node a n.
+    bind_if (λ node. read_name node.1 >>= made node.0) (node_if at fits) (λ node a n.
     bind_if (made node) (name_if a (IsBytes-after (to_be_bytes w32 node) fits n.takes)) (λ name after t.
     done_if (record { takes = Takes-then (to_be_bytes w32 node) (name_spelling name) n.takes t.takes; is = record { node = n.bound; name = t.is } })))
 
-pub fence_ask_again : (o : ℕ) (a : FenceAsk) (rest : List ℕ) → IsFenceAsk a → fence_ask_at (place o (fence_ask_body a ++ rest)) ≡ Ok (a, place (o + length (fence_ask_body a)) rest)
-unfolding fence_ask_at
+pub fence_ask_again : (o : ℕ) (a : FenceAsk) (rest : List ℕ) → IsFenceAsk a → read_fence_ask (place o (fence_ask_body a ++ rest)) ≡ Ok (a, place (o + length (fence_ask_body a)) rest)
+unfolding read_fence_ask
 fence_ask_again o a rest is =
     let node_text = to_be_bytes w32 a.node in
     let name_text = name_spelling a.name in
     let n = node_again o a.node (name_text ++ rest) is.node in
     let t = name_again (o + 4) a.name rest is.name in
     let end : o + 4 + length name_text ≡ o + length (fence_ask_body a) = omega (arith, length-append node_text name_text) in
-    ap (λ (text : List ℕ). fence_ask_at (place o text)) (append_assoc node_text name_text rest)
+    ap (λ (text : List ℕ). read_fence_ask (place o text)) (append_assoc node_text name_text rest)
     ∙ rw (n, t) (ap (λ (x : ℕ). Ok (a, place x rest)) end)
 
 -- what the body of an ask for commits took
@@ -216,12 +216,12 @@ pub record TakesCommitAsk (at : Place) (a : CommitAsk) (after : Place) : Type 0 
   pub takes : Takes at (commit_ask_body a) after
   pub is : IsCommitAsk a
 
-pub commit_ask_if : (at : Place) → IsBytes at.rest → IfRead (commit_ask_at at) (TakesCommitAsk at)
-unfolding commit_ask_at
+pub commit_ask_if : (at : Place) → IsBytes at.rest → IfRead (read_commit_ask at) (TakesCommitAsk at)
+unfolding read_commit_ask
 commit_ask_if at fits =
     let made : ℕ → Proc → ℕ × Place → Read CommitAsk = λ node p level. Ok (record { node = node; proc = p; level = level.0 }, level.1) in
-    let asked : ℕ → Proc × Place → Read CommitAsk = λ node p. level_at p.1 >>= made node p.0 in
-    bind_if (λ node. proc_at admits.ClientsAndHost node.1 >>= asked node.0) (node_if at fits) (λ node a n.
+    let asked : ℕ → Proc × Place → Read CommitAsk = λ node p. read_level p.1 >>= made node p.0 in
+    bind_if (λ node. read_proc admits.ClientsAndHost node.1 >>= asked node.0) (node_if at fits) (λ node a n.
     let a_fits : IsBytes a.rest = IsBytes-after (to_be_bytes w32 node) fits n.takes in
     bind_if (asked node) (proc_if admits.ClientsAndHost a a_fits) (λ p b t.
     bind_if (made node p) (level_if b (IsBytes-after (proc_spelling p) a_fits t.takes)) (λ level after l.
@@ -231,8 +231,8 @@ commit_ask_if at fits =
       is = record { node = n.bound; name = t.name; admitted = t.admitted; level = l.is };
     }))))
 
-pub commit_ask_again : (o : ℕ) (a : CommitAsk) (rest : List ℕ) → IsCommitAsk a → commit_ask_at (place o (commit_ask_body a ++ rest)) ≡ Ok (a, place (o + length (commit_ask_body a)) rest)
-unfolding commit_ask_at
+pub commit_ask_again : (o : ℕ) (a : CommitAsk) (rest : List ℕ) → IsCommitAsk a → read_commit_ask (place o (commit_ask_body a ++ rest)) ≡ Ok (a, place (o + length (commit_ask_body a)) rest)
+unfolding read_commit_ask
 commit_ask_again o a rest is =
     let node_text = to_be_bytes w32 a.node in
     let proc_text = proc_spelling a.proc in
@@ -241,7 +241,7 @@ commit_ask_again o a rest is =
     let p = proc_again admits.ClientsAndHost (o + 4) a.proc (level_text ++ rest) is.name is.admitted in
     let l = level_again (o + 4 + length proc_text) a.level rest is.level in
     let end : o + 4 + length proc_text + 8 ≡ o + length (commit_ask_body a) = omega (arith, length_3 node_text proc_text level_text) in
-    ap (λ (text : List ℕ). commit_ask_at (place o text)) (regroup_3 node_text proc_text level_text rest)
+    ap (λ (text : List ℕ). read_commit_ask (place o text)) (regroup_3 node_text proc_text level_text rest)
     ∙ rw (n, p, l) (ap (λ (x : ℕ). Ok (a, place x rest)) end)
 
 pub ask_passes : (a : CommitAsk) → IsCommitAsk a → IsTrue (is_ask a)

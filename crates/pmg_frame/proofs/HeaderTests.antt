@@ -23,7 +23,7 @@ use Rattle.pmg_frame.specs.declared.frame.Frame.TheVariants as frames
 use Rattle.pmg_frame.specs.declared.local.Local.{Local}
 use Rattle.pmg_frame.proofs.FenceLaws.{length_4}
 use Rattle.pmg_frame.proofs.HeaderLaws.{header_passes, length_3}
-use Rattle.pmg_frame.proofs.Rising.{any_in_order}
+use Rattle.pmg_value.proofs.SetOrder.{any_in_order}
 
 -- ---- what passes is a header
 

@@ -3,7 +3,6 @@ pub mod PieceTests
 pub mod Appending
 pub mod FrameLaws
 pub mod Cuts
-pub mod Rising
 pub mod Kept
 pub mod Searching
 pub mod FenceLaws

@@ -10,7 +10,7 @@ use Rattle.pmg_value.specs.declared.value.Value.{Value}
 use Rattle.pmg_value.specs.Spelling.{spelling, IsValue}
 use Rattle.pmg_value.specs.Names.{is_key}
 use Rattle.pmg_wire.specs.declared.fields.Admits.TheVariants as admits
-use Rattle.pmg_wire.specs.Fields.{value_at}
+use Rattle.pmg_wire.specs.Fields.{read_value}
 use Rattle.pmg_wire.specs.Many.{many}
 use Rattle.pmg_wire.specs.Reading.{Place, Read, fault, ◌>>=◌, check, number_at, IsBytes, Takes}
 use Rattle.pmg_wire.specs.Spelling.{key_spelling, proc_spelling}
@@ -20,19 +20,19 @@ use Rattle.pmg_wire.proofs.Counted.{TakesOne, many_if, many_again}
 use Rattle.pmg_commit.specs.Entries.{Entry}
 use Rattle.pmg_commit.specs.Knowledge.{Contribution}
 use Rattle.pmg_frame.specs.Grammar.{Follows, IsPiece}
-use Rattle.pmg_frame.specs.Reading.{is_after, entry_at, piece_at}
+use Rattle.pmg_frame.specs.Reading.{is_after, read_entry, read_piece}
 use Rattle.pmg_frame.specs.Spelling.{entry_spelling, piece_body}
 
 -- what an entry took
 abbrev TakesEntry : ℕ → ℕ → Option Entry → Place → Entry → Place → Type 0
 TakesEntry from to before at = TakesOne entry_spelling (Follows from to) before at
 
-pub entry_if : (from to : ℕ) (before : Option Entry) (at : Place) → IsBytes at.rest → IfRead (entry_at from to before at) (TakesEntry from to before at)
-unfolding entry_at
+pub entry_if : (from to : ℕ) (before : Option Entry) (at : Place) → IsBytes at.rest → IfRead (read_entry from to before at) (TakesEntry from to before at)
+unfolding read_entry
 entry_if from to before at fits =
     let in_range : ℕ → Bool = λ number. nat_lt from number && nat_le number to in
     let made : List ℕ → ℕ → Value × Place → Read Entry = λ key number value. Ok (record { key = key; number = number; bytes = spelling value.0 }, value.1) in
-    let valued : List ℕ → ℕ × Place → Read Entry = λ key number. value_at number.1 >>= made key number.0 in
+    let valued : List ℕ → ℕ × Place → Read Entry = λ key number. read_value number.1 >>= made key number.0 in
     let numbered : List ℕ → Place → ℕ × Place → Read Entry = λ key middle number. check (in_range number.0) (fault middle.offset causes.Number) >>= λ _. valued key number in
     let ordered : List ℕ × Place → Read Entry = λ key. number_at w64 key.1 >>= numbered key.0 key.1 in
     bind_if (λ key. check (is_after before key.0) (fault at.offset causes.Order) >>= λ _. ordered key) (key_if at fits) (λ key middle k.
@@ -52,12 +52,12 @@ pub record TakesPiece (at : Place) (c : Contribution) (after : Place) : Type 0 w
   pub takes : Takes at (piece_body c) after
   pub is : IsPiece c
 
-pub piece_if : (at : Place) → IsBytes at.rest → IfRead (piece_at at) (TakesPiece at)
-unfolding piece_at
+pub piece_if : (at : Place) → IsBytes at.rest → IfRead (read_piece at) (TakesPiece at)
+unfolding read_piece
 piece_if at fits =
     let in_range : ℕ → ℕ → Bool = λ from to. nat_lt from to && nat_le to 4294967295 in
     let made : Proc → ℕ → ℕ → List Entry × Place → Read Contribution = λ proc from to entries. Ok (record { proc = proc; from = from; to = to; entries = entries.0 }, entries.1) in
-    let listed : Proc → ℕ → ℕ → ℕ × Place → Read Contribution = λ proc from to count. many (entry_at from to) count.0 None count.1 >>= made proc from to in
+    let listed : Proc → ℕ → ℕ → ℕ × Place → Read Contribution = λ proc from to count. many (read_entry from to) count.0 None count.1 >>= made proc from to in
     let counted : Proc → ℕ → ℕ → Place → ℕ × Place → Read Contribution = λ proc from to at_count count. check (nat_le count.0 65536) (fault at_count.offset causes.Count) >>= λ _. listed proc from to count in
     let ranged : Proc → ℕ → ℕ × Place → Read Contribution = λ proc from to. number_at w32 to.1 >>= counted proc from to.0 to.1 in
     let ending : Proc → Place → ℕ → ℕ × Place → Read Contribution = λ proc at_from from to. check (in_range from to.0) (fault at_from.offset causes.Range) >>= λ _. ranged proc from to in
@@ -73,7 +73,7 @@ piece_if at fits =
     bind_if (counted proc from to d) (number_if w32 (2 ^ 32) wide32 d d_fits) (λ count e n.
     let e_fits : IsBytes e.rest = IsBytes-after (to_be_bytes w32 count) d_fits n.takes in
     check_if (nat_le count 65536) (fault d.offset causes.Count) (λ _. listed proc from to (count, e)) (λ few.
-    bind_if (made proc from to) (many_if (entry_at from to) entry_spelling (Follows from to) (entry_if from to) count None e e_fits) (λ entries after m.
+    bind_if (made proc from to) (many_if (read_entry from to) entry_spelling (Follows from to) (entry_if from to) count None e e_fits) (λ entries after m.
     let count_text = to_be_bytes w32 count in
     let tail = Takes-then count_text (flat_map entry_spelling entries) n.takes m.takes in
     let to_tail = Takes-then (to_be_bytes w64 to) (count_text ++ flat_map entry_spelling entries) t.takes tail in
@@ -100,8 +100,8 @@ entry_of : List ℕ → ℕ → Value → Entry
 entry_of key number v = record { key = key; number = number; bytes = spelling v }
 
 entry_made_again : (from to : ℕ) (before : Option Entry) (o : ℕ) (key : List ℕ) (number : ℕ) (v : Value) (rest : List ℕ) → IsValue v → IsTrue (is_key key) → IsTrue (is_after before key) → from < number → number ≤ to → to ≤ 4294967295
-    → entry_at from to before (place o (entry_spelling (entry_of key number v) ++ rest)) ≡ Ok (entry_of key number v, place (o + length (entry_spelling (entry_of key number v))) rest)
-unfolding entry_at entry_of
+    → read_entry from to before (place o (entry_spelling (entry_of key number v) ++ rest)) ≡ Ok (entry_of key number v, place (o + length (entry_spelling (entry_of key number v))) rest)
+unfolding read_entry entry_of
 entry_made_again from to before o key number v rest fits is order above within last =
     let number_text = to_be_bytes w64 number in
     let regrouped : (key_spelling key ++ (number_text ++ spelling v)) ++ rest ≡ key_spelling key ++ (number_text ++ (spelling v ++ rest)) = append_assoc (key_spelling key) (number_text ++ spelling v) rest ∙ ap (λ (t : List ℕ). key_spelling key ++ t) (append_assoc number_text (spelling v) rest) in
@@ -110,14 +110,14 @@ entry_made_again from to before o key number v rest fits is order above within l
     let t = value_again (o + length (key_spelling key) + 8) v rest fits in
     let in_range : IsTrue (nat_lt from number && nat_le number to) = and_from (nat_lt from number) (nat_le number to) (lt-ltb _ _ above) (le-leb _ _ within) in
     let end : o + length (key_spelling key) + 8 + length (spelling v) ≡ o + length (key_spelling key ++ (number_text ++ spelling v)) = omega (arith, length-append (key_spelling key) (number_text ++ spelling v)) in
-    ap (λ (text : List ℕ). entry_at from to before (place o text)) regrouped
+    ap (λ (text : List ℕ). read_entry from to before (place o text)) regrouped
     ∙ rw (k, order, n, in_range, t) (ap (λ (m : ℕ). Ok (entry_of key number v, place m rest)) end)
 
 pub entry_again : (from to : ℕ) → to ≤ 4294967295 → (before : Option Entry) (o : ℕ) (e : Entry) (rest : List ℕ) → Follows from to before e
-    → entry_at from to before (place o (entry_spelling e ++ rest)) ≡ Ok (e, place (o + length (entry_spelling e)) rest)
+    → read_entry from to before (place o (entry_spelling e ++ rest)) ≡ Ok (e, place (o + length (entry_spelling e)) rest)
 unfolding entry_of
 entry_again from to last before o e rest f =
-    let Again : Entry → Type 0 = λ x. entry_at from to before (place o (entry_spelling x ++ rest)) ≡ Ok (x, place (o + length (entry_spelling x)) rest) in
+    let Again : Entry → Type 0 = λ x. read_entry from to before (place o (entry_spelling x ++ rest)) ≡ Ok (x, place (o + length (entry_spelling x)) rest) in
     let same : entry_of e.key e.number f.value ≡ e = ap (λ (b : List ℕ). record { key = e.key; number = e.number; bytes = b }) (sym f.bytes) in
     subst Again same (entry_made_again from to before o e.key e.number f.value rest f.is f.key f.order f.above f.within last)
 
@@ -128,8 +128,8 @@ pub length_5 : (a b c d e : List ℕ) → length (a ++ (b ++ (c ++ (d ++ e)))) �
 length_5 a b c d e =
     omega (arith, length-append a (b ++ (c ++ (d ++ e))), length-append b (c ++ (d ++ e)), length-append c (d ++ e), length-append d e)
 
-pub piece_again : (o : ℕ) (c : Contribution) (rest : List ℕ) → IsPiece c → piece_at (place o (piece_body c ++ rest)) ≡ Ok (c, place (o + length (piece_body c)) rest)
-unfolding piece_at
+pub piece_again : (o : ℕ) (c : Contribution) (rest : List ℕ) → IsPiece c → read_piece (place o (piece_body c ++ rest)) ≡ Ok (c, place (o + length (piece_body c)) rest)
+unfolding read_piece
 piece_again o c rest is =
     let from_text = to_be_bytes w64 c.from in
     let to_text = to_be_bytes w64 c.to in
@@ -143,7 +143,7 @@ piece_again o c rest is =
     let range : IsTrue (nat_lt c.from c.to && nat_le c.to 4294967295) = and_from (nat_lt c.from c.to) (nat_le c.to 4294967295) (lt-ltb _ _ is.range) (le-leb _ _ is.last) in
     let n = number_again w32 (2 ^ 32) wide32 (o1 + 8 + 8) (length c.entries) (entries_text ++ rest) (omega (arith, is.count)) in
     let few : IsTrue (nat_le (length c.entries) 65536) = le-leb _ _ is.count in
-    let m = many_again (entry_at c.from c.to) entry_spelling (Follows c.from c.to) (entry_again c.from c.to is.last) None (o1 + 8 + 8 + 4) c.entries rest is.entries in
+    let m = many_again (read_entry c.from c.to) entry_spelling (Follows c.from c.to) (entry_again c.from c.to is.last) None (o1 + 8 + 8 + 4) c.entries rest is.entries in
     let end : o1 + 8 + 8 + 4 + length entries_text ≡ o + length (piece_body c) = omega (arith, length_5 (proc_spelling c.proc) from_text to_text count_text entries_text) in
-    ap (λ (text : List ℕ). piece_at (place o text)) regrouped
+    ap (λ (text : List ℕ). read_piece (place o text)) regrouped
     ∙ rw (p, f, t, range, n, few, m) (ap (λ (k : ℕ). Ok (c, place k rest)) end)

@@ -14,7 +14,7 @@ use Rattle.pmg_commit.specs.Knowledge.{Contribution}
 use Rattle.pmg_commit.specs.Pieces.{entry_size, body_size, is_small, is_numbered, is_key_rising, is_piece}
 use Rattle.pmg_frame.specs.Grammar.{Follows, IsPiece, AreEntries, ArePieces}
 use Rattle.pmg_value.specs.Names.{is_nspace}
-use Rattle.pmg_frame.specs.Reading.{piece_at}
+use Rattle.pmg_frame.specs.Reading.{read_piece}
 use Rattle.pmg_frame.specs.Spelling.{entry_spelling, piece_body}
 use Rattle.pmg_frame.proofs.PieceLaws.{length_5, piece_if}
 
@@ -61,7 +61,7 @@ piece_passes c is small =
     and_from _ _ (and_from _ _ (and_from _ _ (and_from _ _ is.admitted range) few) (rising c.from c.to c.entries is.entries)) (numbered c.from c.to None c.entries is.entries)
 
 -- what is read as a piece, in bytes that a body may have, passes
-pub read_passes : (at : Place) (c : Contribution) (after : Place) → IsBytes at.rest → length at.rest ≤ 16777216 → piece_at at ≡ Ok (c, after) → IsTrue (is_piece c)
+pub read_passes : (at : Place) (c : Contribution) (after : Place) → IsBytes at.rest → length at.rest ≤ 16777216 → read_piece at ≡ Ok (c, after) → IsTrue (is_piece c)
 read_passes at c after fits small e =
     let taken = (piece_if at fits).holds c after e in
     piece_passes c taken.is (omega (arith, ap length taken.takes.parts, length-append (piece_body c) after.rest, small))

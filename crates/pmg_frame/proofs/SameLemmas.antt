@@ -1,39 +1,25 @@
 -- The tests of sameness decide whether what two frames say is one.
-use Rattle.std.proofs.Common.{◌≡◌, ℕ, true, ◌==◌, ◌&&◌, nat_eq, List, refl, sym, ap, ◌∙◌}
+use Rattle.std.proofs.Common.{◌≡◌, ℕ, ◌==◌, ◌&&◌, nat_eq, List, refl, ap, ◌∙◌}
 use Rattle.std.specs.Bool.{Decides}
-use Rattle.std.specs.Cmp.{IsTotalOrder}
 use Rattle.std.specs.Cmp.Lexicographic.{slice_cmp, nat_list_cmp_total, pointwise, pointwise_decides, bytes_decides}
 use Rattle.std.specs.Ordering.{nat_cmp, is_eq, eq_by_cmp}
-use Rattle.std.specs.declared.cmp.Ordering.{Ordering}
-use Rattle.std.specs.declared.cmp.Ordering.TheVariants.{Less, Equal, Greater}
 use Rattle.std.proofs.lemmas.Bool.Decides.{Decides-eqb, Decides-and, Decides-like}
-use Rattle.std.proofs.lemmas.Cmp.{tied_itself}
 use Rattle.std.proofs.lemmas.Map.Lookups.{exact_bytes}
+use Rattle.pmg_value.proofs.SameLemmas.{by_cmp}
 use Rattle.pmg_value.specs.Signatures.{FenceName}
+use Rattle.pmg_value.specs.Process.{is_same_proc}
 use Rattle.pmg_value.specs.declared.process.Proc.{Proc}
 use Rattle.pmg_commit.specs.Entries.{Entry}
 use Rattle.pmg_commit.specs.Knowledge.{Contribution}
 use Rattle.pmg_frame.specs.FenceOrder.{name_cmp, name_total}
 use Rattle.pmg_frame.specs.Fences.{Header, FenceAsk}
-use Rattle.pmg_frame.specs.Sameness.{is_same_proc, is_same_entry, is_same_piece, is_same_header, is_same_fence_ask}
+use Rattle.pmg_frame.specs.Sameness.{is_same_entry, is_same_piece, is_same_header, is_same_fence_ask}
 use Rattle.pmg_frame.specs.contracts.local.LocalPartialEq.TheImpl as local_tests
 use Rattle.pmg_frame.specs.contracts.local.StatePartialEq.TheImpl as state_tests
 use Rattle.pmg_frame.specs.declared.local.Local.{Local}
 use Rattle.pmg_frame.specs.declared.local.State.{State}
 use Rattle.pmg_frame.specs.declared.local.State.TheVariants as states
 use Rattle.pmg_frame.proofs.FenceOrderLemmas.{names_exact}
-
-is_equal : (r : Ordering) → is_eq r ≡ true → r ≡ Equal
-is_equal Less h = absurd cc
-is_equal Equal h = refl
-is_equal Greater h = absurd cc
-
--- an order that is exact tells whether two things are one
-by_cmp : {K : Type 0} (R : K → K → Ordering) → IsTotalOrder R → ((x y : K) → R x y ≡ Equal → x ≡ y) → (x y : K) → Decides (eq_by_cmp R x y) (x ≡ y)
-by_cmp R o exact x y = (
-  λ h. exact x y (is_equal (R x y) h),
-  λ e. ap (λ z. is_eq (R x z)) (sym e) ∙ ap is_eq (tied_itself o x),
-)
 
 pub same_procs : (p q : Proc) → Decides (is_same_proc p q) (p ≡ q)
 same_procs p q =

@@ -8,7 +8,7 @@ use Rattle.std.specs.declared.cmp.Ordering.TheVariants.{Equal}
 use Rattle.pmg_value.specs.Process.{proc_cmp}
 use Rattle.pmg_value.specs.Signatures.{Signature, FenceName}
 use Rattle.pmg_value.proofs.ProcessOrder.{procs_total}
-use Rattle.pmg_frame.specs.Fences.{in_order}
+use Rattle.pmg_value.specs.InOrder.{in_order}
 
 -- by the participants in their order, then by whether data is collected
 abbrev pub signature_cmp : Signature → Signature → Ordering

@@ -1,13 +1,12 @@
 -- What servers tell and ask one another of fences and of commits.
-use Rattle.std.specs.Prelude.{◌≡◌, ℕ, ◌≤◌, Bool, true, false, ◌&&◌, ◌||◌, ◌==◌, not, nat_lt, nat_le, List, map, length, Result, Ok, Err, IsTrue, refl, if◌then◌else◌}
+use Rattle.std.specs.Prelude.{◌≡◌, ℕ, ◌≤◌, Bool, true, false, ◌&&◌, ◌||◌, ◌==◌, not, nat_lt, nat_le, List, length, Result, Ok, Err, IsTrue, refl, if◌then◌else◌}
 use Rattle.std.proofs.Common.{ap}
 use Rattle.std.specs.Coded.{Coded, code_by, coded×, coded_ℕ, coded_bool, coded_list}
-use Rattle.std.specs.FinMap as finite
 use Rattle.std.specs.FinSet as set
-use Rattle.std.specs.declared.cmp.Ordering.{Ordering}
 use Rattle.std.specs.List.{list_all}
 use Rattle.std.specs.List.Sorted.{IsStrictlySortedBy}
 use Rattle.std.specs.Ordering.{is_lt}
+use Rattle.pmg_value.specs.InOrder.{in_order}
 use Rattle.pmg_value.specs.Lists.{is_chain}
 use Rattle.pmg_value.specs.Process.{proc_cmp, coded_proc, is_client, is_host}
 use Rattle.pmg_value.specs.Signatures.{Signature, FenceName}
@@ -17,14 +16,6 @@ use Rattle.pmg_value.specs.declared.refusal.Refusal.TheVariants as refusals
 use Rattle.pmg_frame.specs.declared.local.Local.{Local}
 use Rattle.pmg_frame.specs.declared.local.State.{State}
 use Rattle.pmg_frame.specs.declared.local.State.TheVariants as states
-
--- the items, as the entries of a map that has nothing at each key
-abbrev pub marked : {K : Type 0} → List K → List (K × Unit {0})
-marked ks = map (λ k. (k, tt)) ks
-
--- the items of a set in their order, each once: the keys of the map that has an entry for each of them
-abbrev pub in_order : {K : Type 0} {R : K → K → Ordering} → set.FinSet R → List K
-in_order {R = R} s = finite.keys (finite.from_entries {R = R} (marked (set.items s)))
 
 -- the participants of a fence, in their order
 abbrev pub participants_of : FenceName → List Proc

@@ -21,7 +21,7 @@ use Rattle.pmg_frame.specs.FenceReading.{is_greater}
 use Rattle.pmg_frame.specs.declared.local.Local.{Local}
 use Rattle.pmg_frame.specs.declared.frame.Frame.{Frame}
 use Rattle.pmg_frame.specs.declared.frame.Frame.TheVariants as frames
-use Rattle.pmg_frame.specs.Reading.{is_after, frame_at}
+use Rattle.pmg_frame.specs.Reading.{is_after, read_frame}
 use Rattle.pmg_frame.specs.Spelling.{piece_body, kind_of, body_spelling, frame_spelling}
 
 -- An entry of a piece of the commits from+1 to to: of a greater key than the entry before, of one of these
@@ -104,11 +104,11 @@ AreFrames (frame ∷ others) = IsFrame frame × (length (body_spelling frame) �
 
 -- what is read as a frame is spelled so
 abbrev pub IsFound : Type 0
-IsFound = (at : Place) (frame : Frame) (after : Place) → IsBytes at.rest → frame_at at ≡ Ok (Some (frame, after)) → SpellsFrame at frame after
+IsFound = (at : Place) (frame : Frame) (after : Place) → IsBytes at.rest → read_frame at ≡ Ok (Some (frame, after)) → SpellsFrame at frame after
 
 -- what is spelled as a frame is read
 abbrev pub IsOnly : Type 0
-IsOnly = (at : Place) (frame : Frame) (after : Place) → SpellsFrame at frame after → frame_at at ≡ Ok (Some (frame, after))
+IsOnly = (at : Place) (frame : Frame) (after : Place) → SpellsFrame at frame after → read_frame at ≡ Ok (Some (frame, after))
 
 -- no frame's spelling begins another's
 abbrev pub IsOneSpelling : Type 0

@@ -7,12 +7,12 @@ use Rattle.pmg_value.specs.declared.refusal.Cause.TheVariants as causes
 use Rattle.pmg_value.specs.declared.refusal.Fault.{Fault}
 use Rattle.pmg_value.specs.Spelling.{spelling}
 use Rattle.pmg_wire.specs.declared.fields.Admits.TheVariants as admits
-use Rattle.pmg_wire.specs.Fields.{key_at, proc_at, value_at, made}
+use Rattle.pmg_wire.specs.Fields.{read_key, read_proc, read_value, made}
 use Rattle.pmg_wire.specs.Many.{many}
 use Rattle.pmg_wire.specs.Reading.{Place, past, front, Read, fault, ◌>>=◌, check, byte_at, number_at}
 use Rattle.pmg_commit.specs.Entries.{Entry}
 use Rattle.pmg_commit.specs.Knowledge.{Contribution}
-use Rattle.pmg_frame.specs.FenceReading.{header_at, fence_ask_at, commit_ask_at}
+use Rattle.pmg_frame.specs.FenceReading.{read_header, read_fence_ask, read_commit_ask}
 use Rattle.pmg_frame.specs.declared.frame.Frame.{Frame}
 use Rattle.pmg_frame.specs.declared.frame.Frame.TheVariants as frames
 
@@ -21,47 +21,47 @@ abbrev pub is_after : Option Entry → List ℕ → Bool
 is_after None key = true
 is_after (Some before) key = is_lt (slice_cmp nat_cmp before.key key)
 
--- an entry of a piece of the commits from+1 to to, behind another entry or none
-unfoldable pub entry_at : ℕ → ℕ → Option Entry → Place → Read Entry
-entry_at from to before at = do
-  key ← key_at at
+-- an entry of a piece of the commits from+1 to to, after another entry or none
+unfoldable pub read_entry : ℕ → ℕ → Option Entry → Place → Read Entry
+read_entry from to before at = do
+  key ← read_key at
   _ ← check (is_after before key.0) (fault at.offset causes.Order)
   number ← number_at w64 key.1
   _ ← check (nat_lt from number.0 && nat_le number.0 to) (fault key.1.offset causes.Number)
-  value ← value_at number.1
+  value ← read_value number.1
   Ok (record { key = key.0; number = number.0; bytes = spelling value.0 }, value.1)
 
 -- the body of a piece
-unfoldable pub piece_at : Place → Read Contribution
-piece_at at = do
-  proc ← proc_at admits.ClientsAndHost at
+unfoldable pub read_piece : Place → Read Contribution
+read_piece at = do
+  proc ← read_proc admits.ClientsAndHost at
   from ← number_at w64 proc.1
   to ← number_at w64 from.1
   _ ← check (nat_lt from.0 to.0 && nat_le to.0 4294967295) (fault proc.1.offset causes.Range)
   count ← number_at w32 to.1
   _ ← check (nat_le count.0 65536) (fault to.1.offset causes.Count)
-  entries ← many (entry_at from.0 to.0) count.0 None count.1
+  entries ← many (read_entry from.0 to.0) count.0 None count.1
   Ok (record { proc = proc.0; from = from.0; to = to.0; entries = entries.0 }, entries.1)
 
 -- the fields of a body of that kind
-unfoldable pub fields_at : ℕ → Place → Read Frame
-fields_at kind at =
-    if kind == 1 then made frames.Piece (piece_at at)
-    else if kind == 2 then made frames.Header (header_at at)
-    else if kind == 3 then made frames.FenceAsk (fence_ask_at at)
-    else if kind == 4 then made frames.RangeAsk (commit_ask_at at)
-    else made frames.DirectAsk (commit_ask_at at)
+unfoldable pub read_fields : ℕ → Place → Read Frame
+read_fields kind at =
+    if kind == 1 then made frames.Piece (read_piece at)
+    else if kind == 2 then made frames.Header (read_header at)
+    else if kind == 3 then made frames.FenceAsk (read_fence_ask at)
+    else if kind == 4 then made frames.RangeAsk (read_commit_ask at)
+    else made frames.DirectAsk (read_commit_ask at)
 
--- a body: its fields, and nothing behind them
-unfoldable pub body_at : ℕ → Place → Result Frame Fault
-body_at kind at = do
-  frame ← fields_at kind at
+-- a body: its fields, and nothing after them
+unfoldable pub read_frame_body : ℕ → Place → Result Frame Fault
+read_frame_body kind at = do
+  frame ← read_fields kind at
   _ ← check (length frame.1.rest == 0) (fault frame.1.offset causes.Long)
   Ok frame.0
 
 -- the head of a frame: its kind, and the length of its body
-unfoldable pub head_at : Place → Read (ℕ × ℕ)
-head_at at = do
+unfoldable pub read_head : Place → Read (ℕ × ℕ)
+read_head at = do
   version ← byte_at at
   _ ← check (version.0 == 1) (fault at.offset causes.Version)
   kind ← byte_at version.1
@@ -70,15 +70,15 @@ head_at at = do
   _ ← check (nat_le len.0 16777216) (fault kind.1.offset causes.Length)
   Ok ((kind.0, len.0), len.1)
 
--- behind a head: the whole frame, or nothing while its body is not all there
+-- after a head: the whole frame, or nothing while its body is not all there
 unfoldable pub behind_head : ℕ × ℕ → Place → Result (Option (Frame × Place)) Fault
 behind_head head at =
     if nat_lt (length at.rest) head.1 then Ok None
-    else (body_at head.0 (front head.1 at) >>= λ frame. Ok (Some (frame, past at head.1)))
+    else (read_frame_body head.0 (front head.1 at) >>= λ frame. Ok (Some (frame, past at head.1)))
 
 -- The next frame, or nothing while it is not all there. The head is checked once its six bytes are there,
 -- the body once all of it is there.
-unfoldable pub frame_at : Place → Result (Option (Frame × Place)) Fault
-frame_at at =
+unfoldable pub read_frame : Place → Result (Option (Frame × Place)) Fault
+read_frame at =
     if nat_lt (length at.rest) 6 then Ok None
-    else (head_at (front 6 at) >>= λ head. behind_head head.0 (past at 6))
+    else (read_head (front 6 at) >>= λ head. behind_head head.0 (past at 6))

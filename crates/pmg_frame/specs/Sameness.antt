@@ -2,16 +2,12 @@
 use Rattle.std.specs.Prelude.{Bool, ◌&&◌, ◌==◌, nat_eq}
 use Rattle.std.specs.Cmp.Lexicographic.{slice_cmp, pointwise}
 use Rattle.std.specs.Ordering.{nat_cmp, is_eq, eq_by_cmp}
-use Rattle.pmg_value.specs.declared.process.Proc.{Proc}
+use Rattle.pmg_value.specs.Process.{is_same_proc}
 use Rattle.pmg_commit.specs.Entries.{Entry}
 use Rattle.pmg_commit.specs.Knowledge.{Contribution}
 use Rattle.pmg_frame.specs.FenceOrder.{name_cmp}
 use Rattle.pmg_frame.specs.Fences.{Header, FenceAsk, CommitAsk}
 use Rattle.pmg_frame.specs.contracts.local.LocalPartialEq.TheImpl as local_tests
-
--- the processes are one
-abbrev pub is_same_proc : Proc → Proc → Bool
-is_same_proc p q = pointwise nat_eq p.nspace q.nspace && nat_eq p.rank q.rank
 
 -- the entries are one
 abbrev pub is_same_entry : Entry → Entry → Bool

@@ -8,18 +8,18 @@ use Rattle.pmg_value.specs.declared.refusal.Refusal.TheVariants as refusals
 use Rattle.pmg_wire.specs.Reading.{Place, fault, IsBytes, Takes}
 use Rattle.pmg_frame.specs.declared.frame.Frame.{Frame}
 use Rattle.pmg_frame.specs.Grammar.{AreFrames}
-use Rattle.pmg_frame.specs.Reading.{frame_at}
+use Rattle.pmg_frame.specs.Reading.{read_frame}
 use Rattle.pmg_frame.specs.Spelling.{frame_spelling}
 
 -- from a place on, these whole frames follow one another, up to a later place
 unfoldable pub Runs : Place → List Frame → Place → Type 0
 Runs at [] end = end ≡ at
-Runs at (frame ∷ others) end = (mid : Place) × (frame_at at ≡ Ok (Some (frame, mid))) × Runs mid others end
+Runs at (frame ∷ others) end = (mid : Place) × (read_frame at ≡ Ok (Some (frame, mid))) × Runs mid others end
 
 -- at that place no whole frame follows: with no fault yet, or with this one
 abbrev pub StopsAt : Place → Option Fault → Type 0
-StopsAt end None = frame_at end ≡ Ok None
-StopsAt end (Some f) = frame_at end ≡ Err f
+StopsAt end None = read_frame end ≡ Ok None
+StopsAt end (Some f) = read_frame end ≡ Err f
 
 -- the place, with more bytes come
 abbrev pub more_at : Place → List ℕ → Place
@@ -30,7 +30,7 @@ abbrev pub left_after : Option Fault → Place → Option Place
 left_after None end = Some end
 left_after (Some f) end = None
 
--- A stream that kept a place was fed bytes: these frames are whole now, and behind them comes a fault or no
+-- A stream that kept a place was fed bytes: these frames are whole now, and after them comes a fault or no
 -- whole frame yet.
 pub record Feeds (at : Place) (bytes : List ℕ) (frames : List Frame) (fault : Option Fault) (new : Option Place) : Type 0 where
   pub end : Place
@@ -57,14 +57,14 @@ abbrev pub finished : Option Place → Result (Unit {0}) Refusal
 finished None = Err refusals.Closed
 finished (Some at) = if length at.rest == 0 then Ok tt else Err (refusals.BadFrame (fault at.offset causes.Cut))
 
--- What the bytes of a stream say: these frames, spelled one behind another, and then a fault or a rest that is
+-- What the bytes of a stream say: these frames, spelled one after another, and then a fault or a rest that is
 -- no whole frame.
 pub record Says (at : Place) (frames : List Frame) (fault : Option Fault) (end : Place) : Type 0 where
   pub takes : Takes at (flat_map frame_spelling frames) end
   pub are : AreFrames frames
   pub stops : StopsAt end fault
 
--- what is read from a place on: the whole frames, the fault behind them if there is one, and where they end
+-- what is read from a place on: the whole frames, the fault after them if there is one, and where they end
 pub record Said : Type 0 where
   pub frames : List Frame
   pub fault : Option Fault
@@ -74,7 +74,7 @@ pub record Said : Type 0 where
 abbrev pub said_behind : Frame → Said → Said
 said_behind frame said = record { frames = frame ∷ said.frames; fault = said.fault; end = said.end }
 
--- what is read at a place, where `behind` says what is read behind a frame
+-- what is read at a place, where `after` says what is read after a frame
 abbrev pub said_at : Place → (Place → Said) → Result (Option (Frame × Place)) Fault → Said
 said_at at behind (Err f) = record { frames = []; fault = Some f; end = at }
 said_at at behind (Ok None) = record { frames = []; fault = None; end = at }
@@ -83,7 +83,7 @@ said_at at behind (Ok (Some next)) = said_behind next.0 (behind next.1)
 -- What is read from a place on, at most so many frames.
 unfoldable pub said_from : ℕ → Place → Said
 said_from zero at = record { frames = []; fault = None; end = at }
-said_from (suc n) at = said_at at (said_from n) (frame_at at)
+said_from (suc n) at = said_at at (said_from n) (read_frame at)
 
 -- What the bytes of a whole stream say. There are no more frames than bytes.
 abbrev pub said_by : List ℕ → Said

@@ -26,36 +26,16 @@ impl Model for FenceAsk {
     ghost view = { λ a. fences.fence_ask a.node a.name };
 }
 
-/// A node asks for what a process sealed after a commit.
+/// A node asks for what a process sealed after the commits up to a level: for those that there are, or, in a direct
+/// modex, for later ones as soon as there are any.
 #[derive(Debug, Drop)]
-pub struct RangeAsk {
-    node: NodeId,
-    proc: Proc,
-    from: u64,
-}
-
-impl Model for RangeAsk {
-    ghost use Rattle.pmg_frame.specs.Fences as fences;
-
-    ghost Value = { fences.CommitAsk };
-
-    ghost use Rattle.std.specs.Prelude.{IsTrue};
-
-    ghost view = { λ a. fences.commit_ask a.node a.proc a.from };
-
-    ghost invariant = { λ a. IsTrue (fences.is_ask (fences.commit_ask a.node a.proc a.from)) };
-}
-
-/// A node that knows a process's commits up to a level asks for later ones. The ask is held until there are
-/// any (direct modex).
-#[derive(Debug, Drop)]
-pub struct DirectAsk {
+pub struct CommitAsk {
     node: NodeId,
     proc: Proc,
     level: u64,
 }
 
-impl Model for DirectAsk {
+impl Model for CommitAsk {
     ghost use Rattle.pmg_frame.specs.Fences as fences;
 
     ghost Value = { fences.CommitAsk };
@@ -96,7 +76,7 @@ impl FenceAsk {
         &self.name
     }
 
-    /// Another ask of the same meaning.
+    /// A copy, equal to this ask.
     pub fn copy(&self) -> Result<FenceAsk, AllocError>
         ensures { IfOk result (λ a. a ≡ self.now) }
     {
@@ -107,16 +87,24 @@ impl FenceAsk {
     }
 }
 
-impl RangeAsk {
-    /// The ask of that node for the process's commits after `from`. Refused as BadParam where the process is
-    /// none that commits, or `from` goes past 4294967295.
-    pub fn new(node: NodeId, proc: Proc, from: u64) -> Result<RangeAsk, Refusal>
-        ensures { result ≡ (if is_ask (commit_ask node proc from) then Ok (commit_ask node proc from) else Err refusals.BadParam) }
+impl CommitAsk {
+    /// The ask of that node for the process's commits after the level. Refused as BadParam where the process is none that
+    /// commits, or the level goes past 4294967295.
+    pub fn new(node: NodeId, proc: Proc, level: u64) -> Result<CommitAsk, Refusal>
+        ensures { result ≡ (if is_ask (commit_ask node proc level) then Ok (commit_ask node proc level) else Err refusals.BadParam) }
     {
-        if !can_be_asked(&proc, from) {
+        if !can_be_asked(&proc, level) {
             return Err(Refusal::BadParam);
         }
-        Ok(RangeAsk { node, proc, from })
+        Ok(CommitAsk { node, proc, level })
+    }
+
+    /// The ask of a process and a level that were judged before.
+    pub fn from_checked(node: NodeId, proc: Proc, level: u64) -> CommitAsk
+        requires { IsTrue (is_ask (commit_ask node proc level)) }
+        ensures { result ≡ commit_ask node proc level }
+    {
+        CommitAsk { node, proc, level }
     }
 
     /// The node that asks.
@@ -135,53 +123,6 @@ impl RangeAsk {
     }
 
     /// The number of the last commit before those that are asked for.
-    pub fn from(&self) -> u64
-        ensures value { result ≡ self.now.level }
-        ensures bound { result ≤ 4294967295 }
-    {
-        self.from
-    }
-
-    /// Another ask of the same meaning.
-    pub fn copy(&self) -> Result<RangeAsk, AllocError>
-        ensures { IfOk result (λ a. a ≡ self.now) }
-    {
-        Ok(RangeAsk {
-            node: self.node,
-            proc: self.proc.copy()?,
-            from: self.from,
-        })
-    }
-}
-
-impl DirectAsk {
-    /// The ask of that node, which knows the process's commits up to `level`, for later ones. Refused as
-    /// BadParam where the process is none that commits, or the level goes past 4294967295.
-    pub fn new(node: NodeId, proc: Proc, level: u64) -> Result<DirectAsk, Refusal>
-        ensures { result ≡ (if is_ask (commit_ask node proc level) then Ok (commit_ask node proc level) else Err refusals.BadParam) }
-    {
-        if !can_be_asked(&proc, level) {
-            return Err(Refusal::BadParam);
-        }
-        Ok(DirectAsk { node, proc, level })
-    }
-
-    /// The node that asks.
-    pub fn node(&self) -> NodeId
-        ensures { result ≡ self.now.node }
-    {
-        self.node
-    }
-
-    /// The process that commits.
-    pub fn proc(&self) -> &Proc
-        ensures value { result.now ≡ self.now.proc }
-        ensures commits { IsTrue (is_client result.now || is_host result.now) }
-    {
-        &self.proc
-    }
-
-    /// The level that the asking node knows.
     pub fn level(&self) -> u64
         ensures value { result ≡ self.now.level }
         ensures bound { result ≤ 4294967295 }
@@ -189,11 +130,11 @@ impl DirectAsk {
         self.level
     }
 
-    /// Another ask of the same meaning.
-    pub fn copy(&self) -> Result<DirectAsk, AllocError>
+    /// A copy, equal to this ask.
+    pub fn copy(&self) -> Result<CommitAsk, AllocError>
         ensures { IfOk result (λ a. a ≡ self.now) }
     {
-        Ok(DirectAsk {
+        Ok(CommitAsk {
             node: self.node,
             proc: self.proc.copy()?,
             level: self.level,

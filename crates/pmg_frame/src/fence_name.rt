@@ -54,6 +54,18 @@ impl FenceName {
         })
     }
 
+    /// The instance of a number that is one of an instance, as was judged before.
+    pub fn from_checked(signature: Signature, instance: u64) -> FenceName
+        requires { IsTrue (is_instance instance) }
+        ensures signature { result.signature ≡ signature }
+        ensures instance { result.instance ≡ instance }
+    {
+        FenceName {
+            signature,
+            instance,
+        }
+    }
+
     /// The fence's signature.
     pub fn signature(&self) -> &Signature
         ensures { result.now ≡ self.now.signature }

@@ -3,9 +3,9 @@ ghost use Rattle.std.specs.Option.{option_map, option_copied};
 ghost use Rattle.pmg_wire.specs.Many.{many};
 ghost use Rattle.pmg_wire.specs.Reading.{Reads};
 ghost use Rattle.pmg_frame.specs.Fences.{name_fields, header, commit_ask};
-ghost use Rattle.pmg_frame.specs.FenceReading.{is_greater, participant_at, name_fields_at, name_at, node_at, level_at, local_at, header_at, fence_ask_at, commit_ask_at};
+ghost use Rattle.pmg_frame.specs.FenceReading.{is_greater, read_participant, read_name_fields, read_name, read_node, read_level, read_local, read_header, read_fence_ask, read_commit_ask};
 
-use crate::asks::{DirectAsk, FenceAsk, RangeAsk};
+use crate::asks::{CommitAsk, FenceAsk};
 use crate::fence_name::{FenceName, MAX_INSTANCE};
 use crate::header::Header;
 use crate::local::{Local, State};
@@ -25,13 +25,13 @@ fn is_greater(before: Option<&Proc>, process: &Proc) -> bool
     }
 }
 
-#[tactic(auto, unfolding(crate::specs::FenceReading::participant_at))]
+#[tactic(auto, unfolding(crate::specs::FenceReading::read_participant))]
 fn get_participant(
     alloc: Global,
     before: Option<&Proc>,
     at: &mut Cursor<'_>,
 ) -> Result<Proc, Refusal>
-    ensures { Reads (λ p. p) result at.new (participant_at (option_copied before.entry) at.old) }
+    ensures { Reads (λ p. p) result at.new (read_participant (option_copied before.entry) at.old) }
 {
     let start = at.offset();
     let process = get_proc(alloc, Admits::Clients, at)?;
@@ -42,7 +42,7 @@ fn get_participant(
 }
 
 fn get_participants(alloc: Global, count: u32, at: &mut Cursor<'_>) -> Result<Vec<Proc>, Refusal>
-    ensures { Reads (λ ps. ps.items) result at.new (many participant_at count None at.old) }
+    ensures { Reads (λ ps. ps.items) result at.new (many read_participant count None at.old) }
 {
     let mut participants = Vec::new(alloc);
     for _ in 0..count {
@@ -53,9 +53,9 @@ fn get_participants(alloc: Global, count: u32, at: &mut Cursor<'_>) -> Result<Ve
 }
 
 // The fields of a fence's name: whether it collects, the instance, and the participants.
-#[tactic(auto, unfolding(crate::specs::FenceReading::name_fields_at))]
+#[tactic(auto, unfolding(crate::specs::FenceReading::read_name_fields))]
 fn get_name_fields(alloc: Global, at: &mut Cursor<'_>) -> Result<(bool, u64, Vec<Proc>), Refusal>
-    ensures { Reads (λ t. name_fields t.0 t.1 t.2.items) result at.new (name_fields_at at.old) }
+    ensures { Reads (λ t. name_fields t.0 t.1 t.2.items) result at.new (read_name_fields at.old) }
 {
     let collect = get_flag(at)?;
     let instance_at = at.offset();
@@ -72,20 +72,20 @@ fn get_name_fields(alloc: Global, at: &mut Cursor<'_>) -> Result<(bool, u64, Vec
     Ok((collect, instance, participants))
 }
 
-#[tactic(auto, unfolding(crate::specs::FenceReading::name_at))]
+#[tactic(auto, unfolding(crate::specs::FenceReading::read_name))]
 fn get_name(alloc: Global, at: &mut Cursor<'_>) -> Result<FenceName, Refusal>
-    ensures { Reads (λ f. f) result at.new (name_at at.old) }
+    ensures { Reads (λ f. f) result at.new (read_name at.old) }
 {
     // No effect at run time: the proof reads here that what is left are bytes.
     let _start = at.offset();
     let (collect, instance, participants) = get_name_fields(alloc, at)?;
     let signature = Signature::from_rising(participants, collect);
-    FenceName::new(signature, instance)
+    Ok(FenceName::from_checked(signature, instance))
 }
 
-#[tactic(auto, unfolding(crate::specs::FenceReading::node_at))]
+#[tactic(auto, unfolding(crate::specs::FenceReading::read_node))]
 fn get_node(at: &mut Cursor<'_>) -> Result<NodeId, Refusal>
-    ensures { Reads (λ n. n) result at.new (node_at at.old) }
+    ensures { Reads (λ n. n) result at.new (read_node at.old) }
 {
     let start = at.offset();
     let index = at.get_u32()?;
@@ -95,9 +95,9 @@ fn get_node(at: &mut Cursor<'_>) -> Result<NodeId, Refusal>
     NodeId::new(index)
 }
 
-#[tactic(auto, unfolding(crate::specs::FenceReading::level_at))]
+#[tactic(auto, unfolding(crate::specs::FenceReading::read_level))]
 fn get_level(at: &mut Cursor<'_>) -> Result<u64, Refusal>
-    ensures { Reads (λ n. n) result at.new (level_at at.old) }
+    ensures { Reads (λ n. n) result at.new (read_level at.old) }
 {
     let start = at.offset();
     let level = at.get_u64()?;
@@ -117,14 +117,14 @@ fn is_behind(before: Option<&Local>, process: &Proc) -> bool
     }
 }
 
-#[tactic(auto, unfolding(crate::specs::FenceReading::local_at))]
+#[tactic(auto, unfolding(crate::specs::FenceReading::read_local))]
 fn get_local(
     alloc: Global,
     name: &FenceName,
     before: Option<&Local>,
     at: &mut Cursor<'_>,
 ) -> Result<Local, Refusal>
-    ensures { Reads (λ l. l) result at.new (local_at name.now (option_copied before.entry) at.old) }
+    ensures { Reads (λ l. l) result at.new (read_local name.now (option_copied before.entry) at.old) }
 {
     let start = at.offset();
     let proc = get_proc(alloc, Admits::Clients, at)?;
@@ -146,7 +146,7 @@ fn get_locals(
     count: u32,
     at: &mut Cursor<'_>,
 ) -> Result<Vec<Local>, Refusal>
-    ensures { Reads (λ ls. ls.items) result at.new (many (local_at name.now) count None at.old) }
+    ensures { Reads (λ ls. ls.items) result at.new (many (read_local name.now) count None at.old) }
 {
     let mut locals = Vec::new(alloc);
     for _ in 0..count {
@@ -157,12 +157,12 @@ fn get_locals(
 }
 
 // The fields of a header: the node, the fence's name, and what it tells of each of its participants.
-#[tactic(auto, unfolding(crate::specs::FenceReading::header_at))]
+#[tactic(auto, unfolding(crate::specs::FenceReading::read_header))]
 fn get_header_fields(
     alloc: Global,
     at: &mut Cursor<'_>,
 ) -> Result<(NodeId, FenceName, Vec<Local>), Refusal>
-    ensures { Reads (λ t. header t.0 t.1 t.2.items) result at.new (header_at at.old) }
+    ensures { Reads (λ t. header t.0 t.1 t.2.items) result at.new (read_header at.old) }
 {
     let node = get_node(at)?;
     let name = get_name(alloc, at)?;
@@ -177,28 +177,28 @@ fn get_header_fields(
 
 /// The body of a header.
 pub fn get_header(alloc: Global, at: &mut Cursor<'_>) -> Result<Header, Refusal>
-    ensures { Reads (λ h. h) result at.new (header_at at.old) }
+    ensures { Reads (λ h. h) result at.new (read_header at.old) }
 {
     // No effect at run time: the proof reads here that what is left are bytes.
     let _start = at.offset();
     let (node, name, locals) = get_header_fields(alloc, at)?;
-    Header::new(node, name, locals)
+    Ok(Header::from_checked(node, name, locals))
 }
 
 /// The body of a fence ask.
-#[tactic(auto, unfolding(crate::specs::FenceReading::fence_ask_at))]
+#[tactic(auto, unfolding(crate::specs::FenceReading::read_fence_ask))]
 pub fn get_fence_ask(alloc: Global, at: &mut Cursor<'_>) -> Result<FenceAsk, Refusal>
-    ensures { Reads (λ a. a) result at.new (fence_ask_at at.old) }
+    ensures { Reads (λ a. a) result at.new (read_fence_ask at.old) }
 {
     let node = get_node(at)?;
     let name = get_name(alloc, at)?;
     Ok(FenceAsk::new(node, name))
 }
 
-// The fields of an ask for commits: the node, the process, and the level.
-#[tactic(auto, unfolding(crate::specs::FenceReading::commit_ask_at))]
-fn get_commit_ask(alloc: Global, at: &mut Cursor<'_>) -> Result<(NodeId, Proc, u64), Refusal>
-    ensures { Reads (λ t. commit_ask t.0 t.1 t.2) result at.new (commit_ask_at at.old) }
+/// The fields of an ask for commits: the node, the process, and the level.
+#[tactic(auto, unfolding(crate::specs::FenceReading::read_commit_ask))]
+fn get_ask_fields(alloc: Global, at: &mut Cursor<'_>) -> Result<(NodeId, Proc, u64), Refusal>
+    ensures { Reads (λ t. commit_ask t.0 t.1 t.2) result at.new (read_commit_ask at.old) }
 {
     let node = get_node(at)?;
     let proc = get_proc(alloc, Admits::ClientsAndHost, at)?;
@@ -206,22 +206,12 @@ fn get_commit_ask(alloc: Global, at: &mut Cursor<'_>) -> Result<(NodeId, Proc, u
     Ok((node, proc, level))
 }
 
-/// The body of a range ask.
-pub fn get_range_ask(alloc: Global, at: &mut Cursor<'_>) -> Result<RangeAsk, Refusal>
-    ensures { Reads (λ a. a) result at.new (commit_ask_at at.old) }
+/// The body of an ask for commits.
+pub fn get_commit_ask(alloc: Global, at: &mut Cursor<'_>) -> Result<CommitAsk, Refusal>
+    ensures { Reads (λ a. a) result at.new (read_commit_ask at.old) }
 {
     // No effect at run time: the proof reads here that what is left are bytes.
     let _start = at.offset();
-    let (node, proc, from) = get_commit_ask(alloc, at)?;
-    RangeAsk::new(node, proc, from)
-}
-
-/// The body of a direct ask.
-pub fn get_direct_ask(alloc: Global, at: &mut Cursor<'_>) -> Result<DirectAsk, Refusal>
-    ensures { Reads (λ a. a) result at.new (commit_ask_at at.old) }
-{
-    // No effect at run time: the proof reads here that what is left are bytes.
-    let _start = at.offset();
-    let (node, proc, level) = get_commit_ask(alloc, at)?;
-    DirectAsk::new(node, proc, level)
+    let (node, proc, level) = get_ask_fields(alloc, at)?;
+    Ok(CommitAsk::from_checked(node, proc, level))
 }

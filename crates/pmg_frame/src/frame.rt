@@ -3,14 +3,10 @@ ghost use Rattle.pmg_frame.specs.Frames.{ReadsBack};
 ghost use Rattle.pmg_frame.specs.Grammar.{IsFrame};
 ghost use Rattle.pmg_frame.specs.Spelling.{body_spelling, frame_spelling};
 
-use crate::asks::{DirectAsk, FenceAsk, RangeAsk};
+use crate::asks::{CommitAsk, FenceAsk};
 use crate::header::Header;
-use crate::same::{
-    is_same_direct_ask, is_same_fence_ask, is_same_header, is_same_piece, is_same_range_ask,
-};
-use crate::writing::{
-    encode_direct_ask, encode_fence_ask, encode_header, encode_piece, encode_range_ask,
-};
+use crate::same::{is_same_commit_ask, is_same_fence_ask, is_same_header, is_same_piece};
+use crate::writing::{encode_commit_ask, encode_fence_ask, encode_header, encode_piece};
 use bytes::BytesMut;
 use pmg_commit::Piece;
 use std::alloc::{AllocError, Global};
@@ -31,9 +27,9 @@ pub enum Frame {
     /// A node asks for another node's header.
     FenceAsk(FenceAsk),
     /// A node asks for what a process sealed after a commit.
-    RangeAsk(RangeAsk),
+    RangeAsk(CommitAsk),
     /// A node asks for a process's commits after those that it knows, once there are any.
-    DirectAsk(DirectAsk),
+    DirectAsk(CommitAsk),
 }
 
 impl Frame {
@@ -49,12 +45,12 @@ impl Frame {
             Frame::Piece(piece) => encode_piece(alloc, piece),
             Frame::Header(header) => encode_header(alloc, header),
             Frame::FenceAsk(ask) => encode_fence_ask(alloc, ask),
-            Frame::RangeAsk(ask) => encode_range_ask(alloc, ask),
-            Frame::DirectAsk(ask) => encode_direct_ask(alloc, ask),
+            Frame::RangeAsk(ask) => encode_commit_ask(alloc, 4, ask),
+            Frame::DirectAsk(ask) => encode_commit_ask(alloc, 5, ask),
         }
     }
 
-    /// Another frame of the same meaning.
+    /// A copy, equal to this frame.
     pub fn copy(&self) -> Result<Frame, AllocError>
         ensures { IfOk result (λ f. f ≡ self.now) }
     {
@@ -85,11 +81,11 @@ impl Frame {
                 _ => false,
             },
             Frame::RangeAsk(ask) => match other {
-                Frame::RangeAsk(other) => is_same_range_ask(ask, other),
+                Frame::RangeAsk(other) => is_same_commit_ask(ask, other),
                 _ => false,
             },
             Frame::DirectAsk(ask) => match other {
-                Frame::DirectAsk(other) => is_same_direct_ask(ask, other),
+                Frame::DirectAsk(other) => is_same_commit_ask(ask, other),
                 _ => false,
             },
         }

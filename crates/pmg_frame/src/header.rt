@@ -7,7 +7,7 @@ ghost use Rattle.pmg_frame.specs.Fences.{header, is_local_rising, is_listed, is_
 use crate::fence_name::FenceName;
 use crate::local::Local;
 use pmg_commit::MAX_COMMIT;
-use pmg_value::{NodeId, Refusal};
+use pmg_value::{Copied, NodeId, Refusal, copy_all};
 use std::alloc::AllocError;
 use std::marker::Model;
 
@@ -94,6 +94,14 @@ impl Header {
         Ok(Header { node, name, locals })
     }
 
+    /// The header of what a frame can hold, as was judged before.
+    pub fn from_checked(node: NodeId, name: FenceName, locals: Vec<Local>) -> Header
+        requires { IsTrue (is_header (header node name locals.items)) }
+        ensures { result ≡ header node name locals.items }
+    {
+        Header { node, name, locals }
+    }
+
     /// The node that tells.
     pub fn node(&self) -> NodeId
         ensures { result ≡ self.now.node }
@@ -119,25 +127,20 @@ impl Header {
         &self.locals
     }
 
-    /// Another header of the same meaning.
+    /// A copy, equal to this header.
     pub fn copy(&self) -> Result<Header, AllocError>
         ensures { IfOk result (λ h. h ≡ self.now) }
     {
         Ok(Header {
             node: self.node,
             name: self.name.copy()?,
-            locals: copy_locals(&self.locals)?,
+            locals: copy_all(&self.locals)?,
         })
     }
 }
 
-/// Other ones of the same meaning, with the same allocator.
-fn copy_locals(locals: &Vec<Local>) -> Result<Vec<Local>, AllocError>
-    ensures { IfOk result (λ ls. ls.items ≡ locals.now.items) }
-{
-    let mut copies = Vec::with_capacity(*locals.allocator(), locals.len())?;
-    for local in locals {
-        copies.push(local.copy()?)?;
+impl Copied for Header {
+    fn copy(&self) -> Result<Header, AllocError> {
+        Header::copy(self)
     }
-    Ok(copies)
 }

@@ -1,8 +1,6 @@
 //! Headers and asks of which the bytes were written by hand: they are read and spelled, and each broken form of
 //! them is refused with its cause where it stands.
-use crate::{
-    DirectAsk, Fed, FenceAsk, FenceName, Frame, Header, Local, RangeAsk, Signature, State, Stream,
-};
+use crate::{CommitAsk, Fed, FenceAsk, FenceName, Frame, Header, Local, Signature, State, Stream};
 use bytes::BytesMut;
 use pmg_value::{Cause, Fault, NodeId, Nspace, Proc, Rank, Refusal};
 use std::alloc::Global;
@@ -116,21 +114,21 @@ fn fence_ask(alloc: Global) -> Result<Frame, Refusal> {
 }
 
 fn range_ask(alloc: Global) -> Result<Frame, Refusal> {
-    let ask = RangeAsk::new(NodeId::new(1)?, process(alloc, 0)?, 2)?;
+    let ask = CommitAsk::new(NodeId::new(1)?, process(alloc, 0)?, 2)?;
     Ok(Frame::RangeAsk(ask.copy()?))
 }
 
 fn direct_ask(alloc: Global) -> Result<Frame, Refusal> {
-    let ask = DirectAsk::new(NodeId::new(1)?, process(alloc, 0)?, 3)?;
+    let ask = CommitAsk::new(NodeId::new(1)?, process(alloc, 0)?, 3)?;
     Ok(Frame::DirectAsk(ask.copy()?))
 }
 
 // Requires that these bytes are one frame, which is spelled so again.
 fn assert_whole(rt: &impl Abort, alloc: Global, bytes: &[u8]) -> Result<(), Refusal> {
     let fed = found_in(alloc, bytes)?;
-    assert_eq!(rt; (fed.frames.len(), fed.fault), (1, None));
+    assert!(rt; (fed.frames.len(), fed.fault) == (1, None));
     for frame in &fed.frames {
-        assert_eq!(rt; spelled(alloc, frame)?.as_slice(), bytes);
+        assert!(rt; spelled(alloc, frame)?.as_slice() == bytes);
     }
     Ok(())
 }
@@ -151,10 +149,10 @@ fn a_copy_of_each_kind_is_spelled_as_the_frame(rt: HostRuntime) -> Result<(), Re
     let kinds: [&[u8]; 4] = [&HEADER, &FENCE_ASK, &RANGE_ASK, &DIRECT_ASK];
     for bytes in kinds {
         let fed = found_in(alloc, bytes)?;
-        assert_eq!(rt; fed.frames.len(), 1);
+        assert!(rt; fed.frames.len() == 1);
         for frame in &fed.frames {
             let copy = again!(frame.copy().map_err(Refusal::from))?;
-            assert_eq!(rt; spelled(alloc, &copy)?.as_slice(), bytes);
+            assert!(rt; spelled(alloc, &copy)?.as_slice() == bytes);
             assert!(rt; copy.is_same(frame));
         }
     }
@@ -229,7 +227,7 @@ fn assert_spelled(
     frame: Frame,
     bytes: &[u8],
 ) -> Result<(), Refusal> {
-    assert_eq!(rt; spelled(alloc, &frame)?.as_slice(), bytes);
+    assert!(rt; spelled(alloc, &frame)?.as_slice() == bytes);
     Ok(())
 }
 
@@ -259,19 +257,19 @@ fn a_direct_ask_is_made_and_spelled(rt: HostRuntime) -> Result<(), Refusal> {
 
 // Requires that the header tells what its bytes say.
 fn assert_header(rt: &impl Abort, header: &Header) {
-    assert_eq!(rt; header.node().index(), 0);
-    assert_eq!(rt; header.name().instance(), 1);
+    assert!(rt; header.node().index() == 0);
+    assert!(rt; header.name().instance() == 1);
     let signature = header.name().signature();
     assert!(rt; signature.collect());
-    assert_eq!(rt; signature.participants().len(), 2);
+    assert!(rt; signature.participants().len() == 2);
     for (i, participant) in signature.participants().iter().enumerate() {
-        assert_eq!(rt; participant.rank.number() as usize, i);
+        assert!(rt; participant.rank.number() as usize == i);
     }
-    assert_eq!(rt; header.locals().len(), 1);
+    assert!(rt; header.locals().len() == 1);
     for local in header.locals() {
-        assert_eq!(rt; local.proc.rank.number(), 0);
-        assert_eq!(rt; local.state, State::Entered);
-        assert_eq!(rt; local.level, 1);
+        assert!(rt; local.proc.rank.number() == 0);
+        assert!(rt; local.state == State::Entered);
+        assert!(rt; local.level == 1);
     }
 }
 
@@ -294,9 +292,9 @@ fn an_ask_lends_what_it_asks_for(rt: HostRuntime) -> Result<(), Refusal> {
         let Frame::RangeAsk(ask) = frame else {
             return Err(Refusal::NotFound);
         };
-        assert_eq!(rt; ask.proc().rank.number(), 0);
-        assert_eq!(rt; ask.node().index(), 1);
-        assert_eq!(rt; ask.from(), 2);
+        assert!(rt; ask.proc().rank.number() == 0);
+        assert!(rt; ask.node().index() == 1);
+        assert!(rt; ask.level() == 2);
     }
     Ok(())
 }
@@ -362,7 +360,7 @@ fn the_first_fault_of_a_header_is_found(rt: HostRuntime) -> Result<(), Refusal> 
     for (first, second, want) in cases {
         let fed = found_in(rt.alloc(), &header_with([first, second]))?;
         assert!(rt; fed.frames.is_empty());
-        assert_eq!(rt; fed.fault, Some(want));
+        assert!(rt; fed.fault == Some(want));
     }
     Ok(())
 }
@@ -397,7 +395,7 @@ fn the_first_fault_of_an_ask_is_found(rt: HostRuntime) -> Result<(), Refusal> {
     ];
     for (i, byte, want) in cases {
         let fed = found_in(rt.alloc(), &fence_ask_with(i, byte))?;
-        assert_eq!(rt; (fed.frames.len(), fed.fault), (0, Some(want)));
+        assert!(rt; (fed.frames.len(), fed.fault) == (0, Some(want)));
     }
     let cases = [
         (9, 64, fault(6, Cause::Node)),
@@ -408,9 +406,9 @@ fn the_first_fault_of_an_ask_is_found(rt: HostRuntime) -> Result<(), Refusal> {
     ];
     for (i, byte, want) in cases {
         let fed = found_in(rt.alloc(), &ask_with(&RANGE_ASK, i, byte))?;
-        assert_eq!(rt; (fed.frames.len(), fed.fault), (0, Some(want)));
+        assert!(rt; (fed.frames.len(), fed.fault) == (0, Some(want)));
         let fed = found_in(rt.alloc(), &ask_with(&DIRECT_ASK, i, byte))?;
-        assert_eq!(rt; (fed.frames.len(), fed.fault), (0, Some(want)));
+        assert!(rt; (fed.frames.len(), fed.fault) == (0, Some(want)));
     }
     Ok(())
 }

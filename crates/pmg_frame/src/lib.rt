@@ -15,7 +15,7 @@ mod signature;
 mod stream;
 mod writing;
 
-pub use asks::{DirectAsk, FenceAsk, RangeAsk};
+pub use asks::{CommitAsk, FenceAsk};
 pub use fence_name::{FenceName, MAX_INSTANCE};
 pub use frame::{Frame, HEAD_SIZE, MAX_BODY_SIZE};
 pub use header::Header;

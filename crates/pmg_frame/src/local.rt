@@ -1,6 +1,6 @@
 ghost use Rattle.std.specs.Prelude.{◌≡◌, IfOk};
 
-use pmg_value::Proc;
+use pmg_value::{Copied, Proc};
 use std::alloc::AllocError;
 
 /// How a participant stands to a fence: it has entered it, or it terminated before it did.
@@ -19,8 +19,14 @@ pub struct Local {
     pub level: u64,
 }
 
+impl Copied for Local {
+    fn copy(&self) -> Result<Local, AllocError> {
+        Local::copy(self)
+    }
+}
+
 impl Local {
-    /// Another one of the same meaning.
+    /// A copy, equal to this one.
     pub fn copy(&self) -> Result<Local, AllocError>
         ensures { IfOk result (λ l. l ≡ self.now) }
     {

@@ -3,7 +3,7 @@ ghost use Rattle.std.specs.Option.{option_map};
 ghost use Rattle.pmg_wire.specs.Many.{many};
 ghost use Rattle.pmg_wire.specs.Reading.{Reads};
 ghost use Rattle.pmg_commit.specs.Pieces.{entry_of, contribution};
-ghost use Rattle.pmg_frame.specs.Reading.{is_after, entry_at, piece_at};
+ghost use Rattle.pmg_frame.specs.Reading.{is_after, read_entry, read_piece};
 
 use pmg_commit::{MAX_COMMIT, MAX_ENTRIES, Piece, PieceEntry};
 use pmg_value::{Cause, Key, Proc, Refusal};
@@ -20,7 +20,7 @@ fn is_key_after(before: Option<&PieceEntry>, key: &Key) -> bool
     }
 }
 
-#[tactic(auto, unfolding(crate::specs::Reading::entry_at))]
+#[tactic(auto, unfolding(crate::specs::Reading::read_entry))]
 fn get_entry(
     alloc: Global,
     from: u64,
@@ -28,7 +28,7 @@ fn get_entry(
     before: Option<&PieceEntry>,
     at: &mut Cursor<'_>,
 ) -> Result<PieceEntry, Refusal>
-    ensures { Reads entry_of result at.new (entry_at from to (option_map (λ e. entry_of e.now) before.entry) at.old) }
+    ensures { Reads entry_of result at.new (read_entry from to (option_map (λ e. entry_of e.now) before.entry) at.old) }
 {
     let key_at = at.offset();
     let key = get_key(alloc, at)?;
@@ -51,7 +51,7 @@ fn get_entries(
     count: u32,
     at: &mut Cursor<'_>,
 ) -> Result<Vec<PieceEntry>, Refusal>
-    ensures { Reads (λ es. map entry_of es.items) result at.new (many (entry_at from to) count None at.old) }
+    ensures { Reads (λ es. map entry_of es.items) result at.new (many (read_entry from to) count None at.old) }
 {
     let mut entries = Vec::new(alloc);
     for _ in 0..count {
@@ -62,12 +62,12 @@ fn get_entries(
 }
 
 // The fields of a piece: the process, the last commit before it and its last one, and the entries.
-#[tactic(auto, unfolding(crate::specs::Reading::piece_at))]
+#[tactic(auto, unfolding(crate::specs::Reading::read_piece))]
 fn get_piece_fields(
     alloc: Global,
     at: &mut Cursor<'_>,
 ) -> Result<(Proc, u64, u64, Vec<PieceEntry>), Refusal>
-    ensures { Reads (λ t. contribution t.0 t.1 t.2 t.3.items) result at.new (piece_at at.old) }
+    ensures { Reads (λ t. contribution t.0 t.1 t.2 t.3.items) result at.new (read_piece at.old) }
 {
     let process = get_proc(alloc, Admits::ClientsAndHost, at)?;
     let range_at = at.offset();
@@ -88,10 +88,10 @@ fn get_piece_fields(
 /// The body of a piece, in bytes that are not more than a body may have.
 pub fn get_piece(alloc: Global, at: &mut Cursor<'_>) -> Result<Piece, Refusal>
     requires { length at.old.rest ≤ 16777216 }
-    ensures { Reads (λ p. p) result at.new (piece_at at.old) }
+    ensures { Reads (λ p. p) result at.new (read_piece at.old) }
 {
     // No effect at run time: the proof reads here that what is left are bytes.
     let _start = at.offset();
     let (process, from, to, entries) = get_piece_fields(alloc, at)?;
-    Piece::new(process, from, to, entries)
+    Ok(Piece::from_checked(process, from, to, entries))
 }

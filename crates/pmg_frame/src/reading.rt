@@ -1,9 +1,9 @@
 ghost use Rattle.std.specs.Prelude.{◌≡◌, ◌≤◌, length, IfOk};
 ghost use Rattle.pmg_wire.specs.Reading.{Reads, ReadsAll};
-ghost use Rattle.pmg_frame.specs.Reading.{fields_at, body_at, head_at};
+ghost use Rattle.pmg_frame.specs.Reading.{read_fields, read_frame_body, read_head};
 ghost use Rattle.pmg_frame.specs.Frames.{ReadsFrame};
 
-use crate::fence_reading::{get_direct_ask, get_fence_ask, get_header, get_range_ask};
+use crate::fence_reading::{get_commit_ask, get_fence_ask, get_header};
 use crate::frame::{Frame, HEAD_SIZE, MAX_BODY_SIZE};
 use crate::piece_reading::get_piece;
 use pmg_value::{Cause, Refusal};
@@ -14,24 +14,24 @@ use std::alloc::Global;
 const MAX_KIND: u8 = 5;
 
 // The fields of a body of that kind.
-#[tactic(auto, unfolding(crate::specs::Reading::fields_at))]
+#[tactic(auto, unfolding(crate::specs::Reading::read_fields))]
 fn get_fields(alloc: Global, kind: u8, at: &mut Cursor<'_>) -> Result<Frame, Refusal>
     requires { length at.old.rest ≤ 16777216 }
-    ensures { Reads (λ f. f) result at.new (fields_at kind at.old) }
+    ensures { Reads (λ f. f) result at.new (read_fields kind at.old) }
 {
     match kind {
         1 => Ok(Frame::Piece(get_piece(alloc, at)?)),
         2 => Ok(Frame::Header(get_header(alloc, at)?)),
         3 => Ok(Frame::FenceAsk(get_fence_ask(alloc, at)?)),
-        4 => Ok(Frame::RangeAsk(get_range_ask(alloc, at)?)),
-        _ => Ok(Frame::DirectAsk(get_direct_ask(alloc, at)?)),
+        4 => Ok(Frame::RangeAsk(get_commit_ask(alloc, at)?)),
+        _ => Ok(Frame::DirectAsk(get_commit_ask(alloc, at)?)),
     }
 }
 
-#[tactic(auto, unfolding(crate::specs::Reading::body_at))]
+#[tactic(auto, unfolding(crate::specs::Reading::read_frame_body))]
 fn get_body(alloc: Global, kind: u8, at: &mut Cursor<'_>) -> Result<Frame, Refusal>
     requires { length at.old.rest ≤ 16777216 }
-    ensures { ReadsAll (λ f. f) result (body_at kind at.old) }
+    ensures { ReadsAll (λ f. f) result (read_frame_body kind at.old) }
 {
     let frame = get_fields(alloc, kind, at)?;
     if !at.rest().is_empty() {
@@ -40,9 +40,9 @@ fn get_body(alloc: Global, kind: u8, at: &mut Cursor<'_>) -> Result<Frame, Refus
     Ok(frame)
 }
 
-#[tactic(auto, unfolding(crate::specs::Reading::head_at))]
+#[tactic(auto, unfolding(crate::specs::Reading::read_head))]
 fn get_head(at: &mut Cursor<'_>) -> Result<(u8, u32), Refusal>
-    ensures read { Reads (λ h. (h.0, h.1)) result at.new (head_at at.old) }
+    ensures read { Reads (λ h. (h.0, h.1)) result at.new (read_head at.old) }
     ensures small { IfOk result (λ h. h.1 ≤ 16777216) }
 {
     let version_at = at.offset();
@@ -64,7 +64,7 @@ fn get_head(at: &mut Cursor<'_>) -> Result<(u8, u32), Refusal>
 
 /// Reads the next frame, or nothing while it is not all there. Refused as BadFrame at the first fault, and as
 /// NoMemory; a refusal leaves the cursor where it was.
-#[tactic(auto, unfolding(crate::specs::Reading::frame_at, crate::specs::Reading::behind_head))]
+#[tactic(auto, unfolding(crate::specs::Reading::read_frame, crate::specs::Reading::behind_head))]
 pub fn get_frame(alloc: Global, at: &mut Cursor<'_>) -> Result<Option<Frame>, Refusal>
     ensures { ReadsFrame result at.old at.new }
 {

@@ -4,7 +4,7 @@ ghost use Rattle.std.specs.Cmp.Lexicographic.{pointwise};
 ghost use Rattle.pmg_commit.specs.Pieces.{entry_of};
 ghost use Rattle.pmg_frame.specs.Sameness.{is_same_entry, is_same_piece, is_same_header, is_same_fence_ask, is_same_commit_ask};
 
-use crate::asks::{DirectAsk, FenceAsk, RangeAsk};
+use crate::asks::{CommitAsk, FenceAsk};
 use crate::header::Header;
 use pmg_commit::{Piece, PieceEntry};
 
@@ -57,14 +57,7 @@ pub fn is_same_fence_ask(ask: &FenceAsk, other: &FenceAsk) -> bool
 }
 
 /// Whether the asks are one.
-pub fn is_same_range_ask(ask: &RangeAsk, other: &RangeAsk) -> bool
-    ensures { result ≡ is_same_commit_ask ask.now other.now }
-{
-    ask.node() == other.node() && *ask.proc() == *other.proc() && ask.from() == other.from()
-}
-
-/// Whether the asks are one.
-pub fn is_same_direct_ask(ask: &DirectAsk, other: &DirectAsk) -> bool
+pub fn is_same_commit_ask(ask: &CommitAsk, other: &CommitAsk) -> bool
     ensures { result ≡ is_same_commit_ask ask.now other.now }
 {
     ask.node() == other.node() && *ask.proc() == *other.proc() && ask.level() == other.level()

@@ -1,15 +1,16 @@
 ghost use Rattle.std.specs.Prelude.{◌≡◌, ◌≤◌, length, IsTrue, IfOk};
 ghost use Rattle.std.specs.FinSet as set;
 ghost use Rattle.std.specs.List.{list_all};
+ghost use Rattle.pmg_value.specs.InOrder.{in_order};
 ghost use Rattle.pmg_value.specs.Process.{is_client};
-ghost use Rattle.pmg_frame.specs.Fences.{AreParticipants, in_order, signature, asked_signature};
+ghost use Rattle.pmg_frame.specs.Fences.{AreParticipants, signature, asked_signature};
 ghost use Rattle.std.specs.Cmp.{partial_order_from_agreeing_total, partial_equiv_from_equiv};
 ghost use Rattle.std.specs.Ordering.{as_partial_cmp, eq_by_cmp};
 ghost use Rattle.std.proofs.Common.{refl};
 ghost use Rattle.std.proofs.lemmas.Cmp.{eq_by_cmp_equiv};
 ghost use Rattle.pmg_frame.specs.FenceOrder.{signature_cmp, signature_total};
 
-use pmg_value::{Proc, Refusal};
+use pmg_value::{Copied, Proc, Refusal, copy_all};
 use std::alloc::AllocError;
 use std::cmp::Ordering;
 use std::marker::Model;
@@ -108,14 +109,20 @@ impl Signature {
         self.participants.binary_search(process).is_ok()
     }
 
-    /// Another signature of the same meaning.
+    /// A copy, equal to this signature.
     pub fn copy(&self) -> Result<Signature, AllocError>
         ensures { IfOk result (λ s. s ≡ self.now) }
     {
         Ok(Signature {
-            participants: copy_procs(&self.participants)?,
+            participants: copy_all(&self.participants)?,
             collect: self.collect,
         })
+    }
+}
+
+impl Copied for Signature {
+    fn copy(&self) -> Result<Signature, AllocError> {
+        Signature::copy(self)
     }
 }
 
@@ -157,15 +164,4 @@ impl PartialEq for Signature {
 
 impl Eq for Signature {
     ghost laws = { eq_by_cmp_equiv signature_total };
-}
-
-/// Other handles of the same processes, with the same allocator.
-fn copy_procs(procs: &Vec<Proc>) -> Result<Vec<Proc>, AllocError>
-    ensures { IfOk result (λ ps. ps.items ≡ procs.now.items) }
-{
-    let mut copies = Vec::with_capacity(*procs.allocator(), procs.len())?;
-    for process in procs {
-        copies.push(process.copy()?)?;
-    }
-    Ok(copies)
 }

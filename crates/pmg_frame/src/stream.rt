@@ -11,7 +11,7 @@ use std::alloc::Global;
 use std::marker::Model;
 
 /// What a stream found in the bytes that it was fed: the frames that are whole now, and the fault that
-/// comes behind them, where one comes.
+/// comes after them, where one comes.
 #[derive(Debug, Drop)]
 pub struct Fed {
     pub frames: Vec<Frame>,
@@ -94,7 +94,7 @@ impl Stream {
         }
     }
 
-    /// Takes the next bytes of the stream, and gives the frames that are whole now, and the fault behind
+    /// Takes the next bytes of the stream, and gives the frames that are whole now, and the fault after
     /// them if there is one; after a fault the stream is closed. Refused as Closed on a closed stream, as
     /// TooMany where an offset would pass 18446744073709551615, and as NoMemory; a refusal changes nothing.
     pub fn feed(&mut self, bytes: &[u8]) -> Result<Fed, Refusal>

@@ -57,7 +57,7 @@ fn feed(stream: &mut Stream, bytes: &[u8]) -> Result<Fed, Refusal> {
     again!(stream.feed(bytes))
 }
 
-fn frame_at(alloc: Global, at: &mut Cursor<'_>) -> Result<Option<Frame>, Refusal> {
+fn read_frame(alloc: Global, at: &mut Cursor<'_>) -> Result<Option<Frame>, Refusal> {
     again!(get_frame(alloc, at))
 }
 
@@ -82,9 +82,9 @@ fn assert_spelled(
     frames: &[Frame],
     spellings: &[&[u8]],
 ) -> Result<(), Refusal> {
-    assert_eq!(rt; frames.len(), spellings.len());
+    assert!(rt; frames.len() == spellings.len());
     for (frame, spelling) in frames.iter().zip(spellings) {
-        assert_eq!(rt; spelled(alloc, frame)?.as_slice(), *spelling);
+        assert!(rt; spelled(alloc, frame)?.as_slice() == *spelling);
     }
     Ok(())
 }
@@ -93,21 +93,21 @@ fn assert_spelled(
 fn a_frame_is_read_and_spelled_again(rt: HostRuntime) -> Result<(), Refusal> {
     let alloc = rt.alloc();
     let fed = found_in(alloc, &PIECE)?;
-    assert_eq!(rt; fed.fault, None);
+    assert!(rt; fed.fault == None);
     assert_spelled(&rt, alloc, &fed.frames, &[&PIECE])?;
     for frame in &fed.frames {
         let copy = again!(frame.copy().map_err(Refusal::from))?;
-        assert_eq!(rt; spelled(alloc, &copy)?.as_slice(), PIECE.as_slice());
+        assert!(rt; spelled(alloc, &copy)?.as_slice() == PIECE.as_slice());
         let Frame::Piece(piece) = frame else {
             return Err(Refusal::NotFound);
         };
-        assert_eq!(rt; piece.proc().nspace.as_bytes(), b"j".as_slice());
-        assert_eq!(rt; piece.proc().rank.number(), 0);
-        assert_eq!(rt; (piece.from(), piece.to(), piece.count()), (0, 1, 1));
+        assert!(rt; piece.proc().nspace.as_bytes() == b"j".as_slice());
+        assert!(rt; piece.proc().rank.number() == 0);
+        assert!(rt; (piece.from(), piece.to(), piece.count()) == (0, 1, 1));
         let Some(entry) = piece.entry(0) else {
             return Err(Refusal::NotFound);
         };
-        assert_eq!(rt; (entry.key.as_bytes(), entry.number), (b"a".as_slice(), 1));
+        assert!(rt; (entry.key.as_bytes(), entry.number) == (b"a".as_slice(), 1));
         assert!(rt; matches!(entry.value, Value::Bool(true)));
     }
     Ok(())
@@ -141,7 +141,7 @@ fn frames_come_in_order_byte_by_byte(rt: HostRuntime) -> Result<(), Refusal> {
     for spelling in [&PIECE, &second, &PIECE] {
         for i in 0..45 {
             let fed = feed(&mut stream, &spelling[i..i + 1])?;
-            assert_eq!(rt; fed.fault, None);
+            assert!(rt; fed.fault == None);
             if i < 44 {
                 assert!(rt; fed.frames.is_empty(), "at {i}");
             } else {
@@ -149,7 +149,7 @@ fn frames_come_in_order_byte_by_byte(rt: HostRuntime) -> Result<(), Refusal> {
             }
         }
     }
-    assert_eq!(rt; stream.finish(), Ok(()));
+    assert!(rt; stream.finish() == Ok(()));
     Ok(())
 }
 
@@ -165,10 +165,10 @@ fn a_stream_is_closed_by_a_fault(rt: HostRuntime) -> Result<(), Refusal> {
     let mut stream = Stream::new(alloc);
     let fed = feed(&mut stream, bytes.as_slice())?;
     assert_spelled(&rt, alloc, &fed.frames, &[&PIECE, &second])?;
-    assert_eq!(rt; fed.fault, Some(fault(134, Cause::Bool)));
-    assert_eq!(rt; stream.feed(&PIECE).err(), Some(Refusal::Closed));
-    assert_eq!(rt; stream.feed(&[]).err(), Some(Refusal::Closed));
-    assert_eq!(rt; stream.finish(), Err(Refusal::Closed));
+    assert!(rt; fed.fault == Some(fault(134, Cause::Bool)));
+    assert!(rt; stream.feed(&PIECE).err() == Some(Refusal::Closed));
+    assert!(rt; stream.feed(&[]).err() == Some(Refusal::Closed));
+    assert!(rt; stream.finish() == Err(Refusal::Closed));
     Ok(())
 }
 
@@ -197,11 +197,11 @@ fn the_first_fault_of_a_piece_is_found(rt: HostRuntime) -> Result<(), Refusal> {
     for (first, second, want) in cases {
         let fed = found_in(rt.alloc(), &changed([first, second]))?;
         assert!(rt; fed.frames.is_empty());
-        assert_eq!(rt; fed.fault, Some(want));
+        assert!(rt; fed.fault == Some(want));
     }
     let fed = found_in(rt.alloc(), &BACKWARDS)?;
     assert!(rt; fed.frames.is_empty());
-    assert_eq!(rt; fed.fault, Some(fault(45, Cause::Order)));
+    assert!(rt; fed.fault == Some(fault(45, Cause::Order)));
     Ok(())
 }
 
@@ -222,9 +222,9 @@ fn a_fault_is_found_as_soon_as_its_part_is_there(rt: HostRuntime) -> Result<(), 
         let (front, last) = bytes.split_at(bytes.len() - 1);
         let mut stream = Stream::new(rt.alloc());
         let fed = feed(&mut stream, front)?;
-        assert_eq!(rt; (fed.frames.len(), fed.fault), (0, None));
+        assert!(rt; (fed.frames.len(), fed.fault) == (0, None));
         let fed = feed(&mut stream, last)?;
-        assert_eq!(rt; (fed.frames.len(), fed.fault), (0, Some(want)));
+        assert!(rt; (fed.frames.len(), fed.fault) == (0, Some(want)));
     }
     Ok(())
 }
@@ -233,15 +233,15 @@ fn a_fault_is_found_as_soon_as_its_part_is_there(rt: HostRuntime) -> Result<(), 
 fn a_frame_is_read_at_a_place(rt: HostRuntime) -> Result<(), Refusal> {
     let alloc = rt.alloc();
     let mut at = Cursor::new(1000, &PIECE[..44]);
-    assert!(rt; frame_at(alloc, &mut at)?.is_none());
-    assert_eq!(rt; (at.offset(), at.rest().len()), (1000, 44));
+    assert!(rt; read_frame(alloc, &mut at)?.is_none());
+    assert!(rt; (at.offset(), at.rest().len()) == (1000, 44));
     let mut at = Cursor::new(1000, &PIECE);
-    let frame = frame_at(alloc, &mut at)?;
+    let frame = read_frame(alloc, &mut at)?;
     assert_spelled(&rt, alloc, frame.as_slice(), &[&PIECE])?;
-    assert_eq!(rt; (at.offset(), at.rest().len()), (1045, 0));
+    assert!(rt; (at.offset(), at.rest().len()) == (1045, 0));
     let mut at = Cursor::new(1000, &BACKWARDS);
-    let refusal = frame_at(alloc, &mut at).err();
-    assert_eq!(rt; refusal, Some(Refusal::BadFrame(fault(1045, Cause::Order))));
-    assert_eq!(rt; (at.offset(), at.rest().len()), (1000, 58));
+    let refusal = read_frame(alloc, &mut at).err();
+    assert!(rt; refusal == Some(Refusal::BadFrame(fault(1045, Cause::Order))));
+    assert!(rt; (at.offset(), at.rest().len()) == (1000, 58));
     Ok(())
 }

@@ -6,11 +6,11 @@ ghost use Rattle.pmg_value.specs.Names.{is_nspace};
 ghost use Rattle.pmg_wire.specs.Spelling.{proc_spelling};
 ghost use Rattle.pmg_commit.specs.Pieces.{entry_of};
 ghost use Rattle.pmg_frame.specs.declared.frame.Frame.TheVariants as frames;
-ghost use Rattle.pmg_frame.specs.Fences.{is_gone, commit_ask};
-ghost use Rattle.pmg_frame.specs.Grammar.{IsEntry, AreEntries, IsName, IsHeader, IsFenceAsk, IsFrame};
+ghost use Rattle.pmg_frame.specs.Fences.{is_gone};
+ghost use Rattle.pmg_frame.specs.Grammar.{IsEntry, AreEntries, IsName, IsHeader, IsFenceAsk, IsCommitAsk, IsFrame};
 ghost use Rattle.pmg_frame.specs.Spelling.{entry_spelling, piece_body, head_spelling, frame_spelling, flag_spelling, procs_spelling, name_spelling, local_spelling, header_body, fence_ask_body, commit_ask_body};
 
-use crate::asks::{DirectAsk, FenceAsk, RangeAsk};
+use crate::asks::{CommitAsk, FenceAsk};
 use crate::fence_name::FenceName;
 use crate::frame::HEAD_SIZE;
 use crate::header::Header;
@@ -215,39 +215,22 @@ pub fn encode_fence_ask(alloc: Global, ask: &FenceAsk) -> Result<BytesMut, Alloc
     Ok(out)
 }
 
-fn put_commit_ask(
-    out: &mut BytesMut,
-    node: NodeId,
-    proc: &Proc,
-    level: u64,
-) -> Result<(), AllocError>
-    ensures bytes { OnOk result (out.new.items ≡ out.old.items ++ commit_ask_body (commit_ask node proc.now level)) }
-    ensures node { OnOk result (node ≤ 63) }
-    ensures name { OnOk result (IsTrue (is_nspace proc.now.nspace)) }
+fn put_commit_ask(out: &mut BytesMut, ask: &CommitAsk) -> Result<(), AllocError>
+    ensures bytes { OnOk result (out.new.items ≡ out.old.items ++ commit_ask_body ask.now) }
+    ensures valid { OnOk result (IsCommitAsk ask.now) }
 {
-    put_node(out, node)?;
-    put_proc(out, proc)?;
-    out.extend_from_slice(&level.to_be_bytes())
+    put_node(out, ask.node())?;
+    put_proc(out, ask.proc())?;
+    out.extend_from_slice(&ask.level().to_be_bytes())
 }
 
-pub fn encode_range_ask(alloc: Global, ask: &RangeAsk) -> Result<BytesMut, AllocError>
-    ensures bytes { IfOk result (λ out. out.items ≡ frame_spelling (frames.RangeAsk ask.now)) }
-    ensures valid { OnOk result (IsFrame (frames.RangeAsk ask.now)) }
+pub fn encode_commit_ask(alloc: Global, kind: u8, ask: &CommitAsk) -> Result<BytesMut, AllocError>
+    ensures bytes { IfOk result (λ out. out.items ≡ head_spelling kind (length (commit_ask_body ask.now)) ++ commit_ask_body ask.now) }
+    ensures valid { OnOk result (IsCommitAsk ask.now) }
 {
     let size = proc_size(ask.proc()) + 12;
     let mut out = BytesMut::with_capacity(alloc, HEAD_SIZE + size)?;
-    put_head(&mut out, 4, size as u32)?;
-    put_commit_ask(&mut out, ask.node(), ask.proc(), ask.from())?;
-    Ok(out)
-}
-
-pub fn encode_direct_ask(alloc: Global, ask: &DirectAsk) -> Result<BytesMut, AllocError>
-    ensures bytes { IfOk result (λ out. out.items ≡ frame_spelling (frames.DirectAsk ask.now)) }
-    ensures valid { OnOk result (IsFrame (frames.DirectAsk ask.now)) }
-{
-    let size = proc_size(ask.proc()) + 12;
-    let mut out = BytesMut::with_capacity(alloc, HEAD_SIZE + size)?;
-    put_head(&mut out, 5, size as u32)?;
-    put_commit_ask(&mut out, ask.node(), ask.proc(), ask.level())?;
+    put_head(&mut out, kind, size as u32)?;
+    put_commit_ask(&mut out, ask)?;
     Ok(out)
 }

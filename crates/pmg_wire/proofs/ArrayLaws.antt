@@ -10,7 +10,7 @@ use Rattle.pmg_value.specs.Elements.{Elements, IsArray, bodies, array_body, are_
 use Rattle.pmg_value.specs.declared.value.Value.{Value}
 use Rattle.pmg_value.specs.Spelling.{Form, IsForm, form_tag, form_body, are_plain, elements, makes_array}
 use Rattle.pmg_value.proofs.FormLemmas.{plain_tag_is}
-use Rattle.pmg_wire.specs.Fields.{made, plain_at, array_at, body_at}
+use Rattle.pmg_wire.specs.Fields.{made, read_plain, read_array, read_value_body}
 use Rattle.pmg_wire.specs.Many.{many, Chain}
 use Rattle.pmg_wire.specs.Reading.{Place, Read, fault, ◌>>=◌, byte_at, number_at, IsBytes, Takes}
 use Rattle.pmg_wire.proofs.BlobLaws.{number_len, taken_short}
@@ -19,14 +19,14 @@ use Rattle.pmg_wire.proofs.PlainLaws.{plain_if, plain_again, plain_short}
 use Rattle.pmg_value.proofs.ArrayLemmas.{some_bytes}
 use Rattle.pmg_wire.proofs.Steps.{place, IfRead, bind_if, check_if, done_if, choice_if, Takes-then, IsBytes-after, wide32, number_if, number_again, byte_if, byte_again}
 
--- an element that was read behind that tag: it keeps the rules of its kind where its length does
+-- an element that was read after that tag: it keeps the rules of its kind where its length does
 pub record IsElement (tag : ℕ) (p : Plain) : Type 0 where
   pub tag_is : plain_tag p ≡ tag
   pub is : length (plain_body p) ≤ 1048575 → IsPlain p
 
 -- an element, whatever stands before it
 element_if : (tag : ℕ) → IsTrue (is_plain_tag tag) → (before : Option Plain) (at : Place) → IsBytes at.rest
-    → IfRead (plain_at tag at) (TakesOne plain_body (λ _ p. IsElement tag p) before at)
+    → IfRead (read_plain tag at) (TakesOne plain_body (λ _ p. IsElement tag p) before at)
 element_if tag is before at fits = record {
   holds = λ p after e.
       let t = (plain_if tag at fits).holds p after e in
@@ -59,44 +59,44 @@ is_array_of tag ps is chain small =
       each = are.1;
     }
 
-pub array_if : (at : Place) → IsBytes at.rest → IfRead (array_at at) (TakesArray at)
-unfolding array_at
+pub array_if : (at : Place) → IsBytes at.rest → IfRead (read_array at) (TakesArray at)
+unfolding read_array
 array_if at fits = bind_if _ (byte_if at) (λ tag after t.
     let bad = fault at.offset causes.Tag in
     let last : List Plain × Place → Read Elements = λ plains. Ok (record { tag = tag; plains = plains.0 }, plains.1) in
-    let listed : ℕ × Place → Read Elements = λ count. many (λ _. plain_at tag) count.0 None count.1 >>= last in
+    let listed : ℕ × Place → Read Elements = λ count. many (λ _. read_plain tag) count.0 None count.1 >>= last in
     check_if (is_plain_tag tag) bad (λ _. number_at w32 after >>= listed) (λ is.
     let after_fits : IsBytes after.rest = IsBytes-after (tag ∷ []) fits t.takes in
     bind_if listed (number_if w32 (2 ^ 32) wide32 after after_fits) (λ count middle n.
     let middle_fits : IsBytes middle.rest = IsBytes-after (to_be_bytes w32 count) after_fits n.takes in
-    bind_if last (many_if (λ _. plain_at tag) plain_body (λ _ p. IsElement tag p) (element_if tag is) count None middle middle_fits) (λ plains end m.
+    bind_if last (many_if (λ _. read_plain tag) plain_body (λ _ p. IsElement tag p) (element_if tag is) count None middle middle_fits) (λ plains end m.
     done_if (record {
       takes = Takes-then (tag ∷ []) (to_be_bytes w32 (length plains) ++ bodies plains) t.takes (Takes-then (to_be_bytes w32 (length plains)) (bodies plains) (rw m.len n.takes) m.takes);
       is = is_array_of tag plains is m.chain;
     })))))
 
--- behind the tag and the count of an array there are no more bytes than before them
+-- after the tag and the count of an array there are no more bytes than before them
 pub fewer_left : (at after middle : Place) (tag count : ℕ) → byte_at at ≡ Ok (tag, after) → number_at w32 after ≡ Ok (count, middle) → length at.rest ≤ 1048575 → length middle.rest ≤ 1048575
 fewer_left at after middle tag count first second short =
     let t = ((byte_if at).holds tag after first).takes in
     omega (arith, short, ap length t.parts, (number_len w32 after).holds count middle second)
 
 -- items that were read from bytes that are no more than a value's body make an array
-pub makes_one : (at end : Place) (tag : ℕ) (items : List Value) → IsBytes at.rest → length at.rest ≤ 1048575 → array_at at ≡ Ok (elements tag items, end) → IsTrue (are_plain items) → makes_array tag items ≡ true
+pub makes_one : (at end : Place) (tag : ℕ) (items : List Value) → IsBytes at.rest → length at.rest ≤ 1048575 → read_array at ≡ Ok (elements tag items, end) → IsTrue (are_plain items) → makes_array tag items ≡ true
 makes_one at end tag items fits short read plain =
     let t = (array_if at fits).holds (elements tag items) end read in
     and_from (are_plain items) (is_array (elements tag items)) plain (t.is (taken_short (array_body (elements tag items)) t.takes short)).is
 
 -- ---- and again
 
--- an element that is read again behind that tag
+-- an element that is read again after that tag
 record IsElementAgain (tag : ℕ) (p : Plain) : Type 0 where
   tag_is : plain_tag p ≡ tag
   is : IsPlain p
 
 element_again : (tag : ℕ) (before : Option Plain) (o : ℕ) (p : Plain) (rest : List ℕ) → IsElementAgain tag p
-    → plain_at tag (place o (plain_body p ++ rest)) ≡ Ok (p, place (o + length (plain_body p)) rest)
-element_again tag before o p rest h = ap (λ (t : ℕ). plain_at t (place o (plain_body p ++ rest))) (sym h.tag_is) ∙ plain_again o p rest h.is
+    → read_plain tag (place o (plain_body p ++ rest)) ≡ Ok (p, place (o + length (plain_body p)) rest)
+element_again tag before o p rest h = ap (λ (t : ℕ). read_plain t (place o (plain_body p ++ rest))) (sym h.tag_is) ∙ plain_again o p rest h.is
 
 chain_again : (tag : ℕ) (before : Option Plain) (ps : List Plain) → IsTrue (are_of_kind tag ps) → Each IsPlain ps → Chain (λ _ p. IsElementAgain tag p) before ps
 chain_again tag before [] kind each = tt
@@ -117,8 +117,8 @@ array_parts a is =
     let le = leb-true (1 + length (array_body a)) 1048576 whole.1 in
     record { tag_is = two.0; kind = two.1; short = omega (arith, le) }
 
-pub array_again : (o : ℕ) (a : Elements) (rest : List ℕ) → IsArray a → array_at (place o (array_body a ++ rest)) ≡ Ok (a, place (o + length (array_body a)) rest)
-unfolding array_at
+pub array_again : (o : ℕ) (a : Elements) (rest : List ℕ) → IsArray a → read_array (place o (array_body a ++ rest)) ≡ Ok (a, place (o + length (array_body a)) rest)
+unfolding read_array
 array_again o a rest is =
     let parts = array_parts a is in
     let tag_is = parts.tag_is in
@@ -130,13 +130,13 @@ array_again o a rest is =
     let first = byte_again o a.tag (count ++ behind) in
     let second = number_again w32 (2 ^ 32) wide32 (o + 1) (length a.plains) behind small in
     let chain = chain_again a.tag None a.plains parts.kind is.each in
-    let third = many_again (λ _. plain_at a.tag) plain_body (λ _ p. IsElementAgain a.tag p) (element_again a.tag) None (o + 1 + 4) a.plains rest chain in
+    let third = many_again (λ _. read_plain a.tag) plain_body (λ _ p. IsElementAgain a.tag p) (element_again a.tag) None (o + 1 + 4) a.plains rest chain in
     let end : o + 1 + 4 + length (bodies a.plains) ≡ o + length (array_body a) = omega (arith, sum) in
-    ap array_at regrouped ∙ rw (first, tag_is, second, third) (ap (λ (n : ℕ). Ok (a, place n rest)) end)
+    ap read_array regrouped ∙ rw (first, tag_is, second, third) (ap (λ (n : ℕ). Ok (a, place n rest)) end)
 
 -- ---- bodies
 
--- what the body behind a tag took
+-- what the body after a tag took
 pub record TakesBody (tag : ℕ) (at : Place) (f : Form) (after : Place) : Type 0 where
   pub takes : Takes at (form_body f) after
   pub tag_is : IsTrue (nat_lt 0 tag && nat_lt tag 20) → tag ≡ form_tag f
@@ -150,8 +150,8 @@ other_tag tag ne is =
     let other = eqb-false tag 19 ne in
     and_from (nat_lt 0 tag) (nat_lt tag 19) parts.0 (lt-ltb tag 19 (omega (arith, below, other)))
 
-pub body_if : (tag : ℕ) (at : Place) → IsBytes at.rest → IfRead (body_at tag at) (TakesBody tag at)
-unfolding body_at
+pub body_if : (tag : ℕ) (at : Place) → IsBytes at.rest → IfRead (read_value_body tag at) (TakesBody tag at)
+unfolding read_value_body
 body_if tag at fits =
     choice_if (tag == 19) (λ is. bind_if _ (array_if at fits) (λ a after t. done_if (record { takes = t.takes; tag_is = λ _. eqb-true tag 19 is; is = t.is }))) (λ ne.
     bind_if _ (plain_if tag at fits) (λ p after t. done_if (record { takes = t.takes; tag_is = λ is. t.tag_is (other_tag tag ne is); is = t.is })))
@@ -173,7 +173,7 @@ pub form_short : (f : Form) → IsForm f → length (form_body f) ≤ 1048575
 form_short (Form.array a) is = (array_parts a is).short
 form_short (Form.plain p) is = plain_short p is
 
-pub body_again : (o : ℕ) (f : Form) (rest : List ℕ) → IsForm f → body_at (form_tag f) (place o (form_body f ++ rest)) ≡ Ok (f, place (o + length (form_body f)) rest)
-unfolding body_at
+pub body_again : (o : ℕ) (f : Form) (rest : List ℕ) → IsForm f → read_value_body (form_tag f) (place o (form_body f ++ rest)) ≡ Ok (f, place (o + length (form_body f)) rest)
+unfolding read_value_body
 body_again o (Form.array a) rest is = ap (made Form.array) (array_again o a rest is)
 body_again o (Form.plain p) rest is = rw (not_array_tag p) (ap (made Form.plain) (plain_again o p rest is))

@@ -12,13 +12,13 @@ use Rattle.pmg_value.specs.declared.refusal.Cause.TheVariants as causes
 use Rattle.pmg_value.specs.Blobs.{is_zero, is_blob}
 use Rattle.pmg_value.specs.Names.{is_nspace}
 use Rattle.pmg_value.specs.Plain.{Plain, plain_tag, plain_body, is_plain_tag, IsPlain, counted}
-use Rattle.pmg_wire.specs.Fields.{flag_at, made, plain_at}
+use Rattle.pmg_wire.specs.Fields.{read_flag, made, read_plain}
 use Rattle.pmg_wire.specs.Reading.{Place, Read, fault, byte_at, number_at, IsBytes, Takes}
 use Rattle.pmg_wire.proofs.BlobLaws.{short_counted, text_if, text_again, blob_if, blob_again, any_proc_if, any_proc_again}
 use Rattle.pmg_wire.proofs.Steps.{place, IfRead, bind_if, check_if, done_if, choice_if, IsWide, wide16, wide32, wide64, number_if, number_again, byte_if, byte_again}
 
-pub flag_if : (at : Place) → IfRead (flag_at at) (λ b after. Takes at (cond b 1 0 ∷ []) after)
-unfolding flag_at
+pub flag_if : (at : Place) → IfRead (read_flag at) (λ b after. Takes at (cond b 1 0 ∷ []) after)
+unfolding read_flag
 flag_if at = bind_if _ (byte_if at) (λ n after t.
     check_if (nat_lt n 2) (fault at.offset causes.Bool) (λ _. Ok (n == 1, after)) (λ small.
     done_if (rw (← is_flag n small) t.takes)))
@@ -76,8 +76,8 @@ some_tag tag is =
     let pos : 0 < tag = ltb-true 0 tag (and_parts (nat_lt 0 tag) (nat_lt tag 19) is).0 in
     omega (arith, pos)
 
-pub plain_if : (tag : ℕ) (at : Place) → IsBytes at.rest → IfRead (plain_at tag at) (TakesPlain tag at)
-unfolding plain_at
+pub plain_if : (tag : ℕ) (at : Place) → IsBytes at.rest → IfRead (read_plain tag at) (TakesPlain tag at)
+unfolding read_plain
 plain_if tag at fits =
     choice_if (tag == 1) (λ is. bind_if _ (flag_if at) (λ b after t. done_if (record { takes = rw (bool_body b) t; tag_is = λ _. eqb-true tag 1 is; is = λ _. tt }))) (λ n1.
     choice_if (tag == 2) (λ is. byte_kind tag 2 at fits Plain.byte is (λ n lt. (refl, refl, lt))) (λ n2.
@@ -107,8 +107,8 @@ plain_if tag at fits =
 
 -- ---- and again
 
-pub flag_again : (o : ℕ) (b : Bool) (rest : List ℕ) → flag_at (place o (cond b 1 0 ∷ rest)) ≡ Ok (b, place (o + 1) rest)
-unfolding flag_at
+pub flag_again : (o : ℕ) (b : Bool) (rest : List ℕ) → read_flag (place o (cond b 1 0 ∷ rest)) ≡ Ok (b, place (o + 1) rest)
+unfolding read_flag
 flag_again o true rest = rw (byte_again o 1 rest) refl
 flag_again o false rest = rw (byte_again o 0 rest) refl
 
@@ -132,8 +132,8 @@ signed_kind_again w wide kind o z rest fits =
     number_kind_again w (2 ^ bits w) wide (λ n. kind (cast_signed w n)) o (cast_unsigned w z) rest (of_z_fits w z fits).fits
     ∙ ap (λ (y : ℤ). Ok (kind y, place (o + byte_len w) rest)) (to_z-of_z w z fits)
 
-pub plain_again : (o : ℕ) (p : Plain) (rest : List ℕ) → IsPlain p → plain_at (plain_tag p) (place o (plain_body p ++ rest)) ≡ Ok (p, place (o + length (plain_body p)) rest)
-unfolding plain_at
+pub plain_again : (o : ℕ) (p : Plain) (rest : List ℕ) → IsPlain p → read_plain (plain_tag p) (place o (plain_body p ++ rest)) ≡ Ok (p, place (o + length (plain_body p)) rest)
+unfolding read_plain
 plain_again o (Plain.bool true) rest is = rw (flag_again o true rest) refl
 plain_again o (Plain.bool false) rest is = rw (flag_again o false rest) refl
 plain_again o (Plain.byte n) rest is = byte_kind_again Plain.byte o n rest

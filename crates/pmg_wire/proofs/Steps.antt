@@ -5,7 +5,7 @@ use Rattle.std.proofs.lemmas.Bool.{cases_lt, ltb-false, le-ltb}
 use Rattle.std.proofs.lemmas.List.{take_at, drop_at, take-append-drop, length-append, length-take, get_or-drop, get_or-take, get_or_past, get_or-append-add}
 use Rattle.std.proofs.lemmas.Nat.{be_bytes_2, be_bytes_4, be_bytes_8, from_be_bytes-to_be_bytes_2, from_be_bytes-to_be_bytes_4, from_be_bytes-to_be_bytes_8}
 use Rattle.pmg_value.specs.declared.refusal.Fault.{Fault}
-use Rattle.pmg_wire.specs.Reading.{Place, past, fault, Read, ◌>>=◌, check, bytes_at, byte_at, number_at, IsBytes, Takes, FailsReading}
+use Rattle.pmg_wire.specs.Reading.{Place, past, fault, Read, ◌>>=◌, check, read_bytes, byte_at, number_at, IsBytes, Takes, FailsReading}
 use Rattle.pmg_value.specs.declared.refusal.Refusal.{Refusal}
 
 -- the place at an offset before these bytes
@@ -48,7 +48,7 @@ Takes-then {a = a} {b = b} {c = c} x y p q = record {
   place = q.place ∙ ap (λ (n : ℕ). n + length y) p.place ∙ omega (arith, length-append x y);
 }
 
--- bytes stay bytes behind what was read
+-- bytes stay bytes after what was read
 pub IsBytes-after : {a b : Place} (x : List ℕ) → IsBytes a.rest → Takes a x b → IsBytes b.rest
 IsBytes-after {a = a} {b = b} x h t i =
     let at : get_or a.rest (length x + i) 0 ≡ get_or b.rest i 0 = rw t.parts (get_or-append-add x b.rest i 0) in
@@ -76,8 +76,8 @@ pub record TakesField (n : ℕ) (at : Place) (b : List ℕ) (after : Place) : Ty
   pub len : length b ≡ n
   pub bytes : IsBytes at.rest → IsBytes b
 
-pub bytes_if : (n : ℕ) (at : Place) → IfRead (bytes_at n at) (TakesField n at)
-unfolding bytes_at
+pub bytes_if : (n : ℕ) (at : Place) → IfRead (read_bytes n at) (TakesField n at)
+unfolding read_bytes
 bytes_if n at = record {
   holds = λ b after e.
       let g = guard_ok (ltb (length at.rest) n) (fault at.offset _) (take n at.rest, past at n) (b, after) e in
@@ -91,8 +91,8 @@ bytes_if n at = record {
       subst (λ (z : List ℕ × Place). TakesField n at z.0 z.1) g.1 taken;
 }
 
-pub bytes_again : (o : ℕ) (text rest : List ℕ) (n : ℕ) → length text ≡ n → bytes_at n (place o (text ++ rest)) ≡ Ok (text, place (o + n) rest)
-unfolding bytes_at
+pub bytes_again : (o : ℕ) (text rest : List ℕ) (n : ℕ) → length text ≡ n → read_bytes n (place o (text ++ rest)) ≡ Ok (text, place (o + n) rest)
+unfolding read_bytes
 bytes_again o text rest n e =
     let long : ltb (length (text ++ rest)) n ≡ false = le-ltb _ _ (omega (arith, length-append text rest)) in
     rw (long, take_at text rest n e, drop_at text rest n e) refl

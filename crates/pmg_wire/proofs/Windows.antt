@@ -7,7 +7,7 @@ use Rattle.pmg_value.specs.declared.refusal.Refusal.TheVariants as refusals
 use Rattle.pmg_value.specs.declared.value.Value.{Value}
 use Rattle.pmg_value.specs.Spelling.{Form, form, value_of, form_body}
 use Rattle.pmg_value.proofs.FormLemmas.{value_of-form}
-use Rattle.pmg_wire.specs.Fields.{passed, body_at, value_at}
+use Rattle.pmg_wire.specs.Fields.{passed, read_value_body, read_value}
 use Rattle.pmg_wire.specs.Reading.{Place, Read, front, byte_at, IsBytes, Takes, FailsReading}
 use Rattle.pmg_wire.proofs.ArrayLaws.{TakesBody, body_if, body_again}
 use Rattle.pmg_wire.proofs.Passing.{was_passed}
@@ -16,17 +16,17 @@ use Rattle.pmg_wire.proofs.Steps.{place, byte_if}
 -- a body that was passed over
 pub record IsPassed (tag : ℕ) (at behind : Place) : Type 0 where
   pub form : Form
-  pub read : body_at tag at ≡ Ok (form, behind)
+  pub read : read_value_body tag at ≡ Ok (form, behind)
   pub took : TakesBody tag at form behind
 
-pub is_passed : (tag : ℕ) (at : Place) (u : Unit {0}) (behind : Place) → IsBytes at.rest → passed (body_at tag at) ≡ Ok (u, behind) → IsPassed tag at behind
+pub is_passed : (tag : ℕ) (at : Place) (u : Unit {0}) (behind : Place) → IsBytes at.rest → passed (read_value_body tag at) ≡ Ok (u, behind) → IsPassed tag at behind
 is_passed tag at u behind fits e =
-    let w = was_passed (body_at tag at) u behind e in
+    let w = was_passed (read_value_body tag at) u behind e in
     record { form = w.0; read = w.1; took = (body_if tag at fits).holds w.0 behind w.1 }
 
 -- by a second cursor, too
-pub passed_body : (tag : ℕ) (at fork : Place) (u : Unit {0}) (behind : Place) → fork ≡ at → IsBytes at.rest → passed (body_at tag fork) ≡ Ok (u, behind) → IsPassed tag at behind
-passed_body tag at fork u behind same fits e = is_passed tag at u behind fits (ap (λ (x : Place). passed (body_at tag x)) (sym same) ∙ e)
+pub passed_body : (tag : ℕ) (at fork : Place) (u : Unit {0}) (behind : Place) → fork ≡ at → IsBytes at.rest → passed (read_value_body tag fork) ≡ Ok (u, behind) → IsPassed tag at behind
+passed_body tag at fork u behind same fits e = is_passed tag at u behind fits (ap (λ (x : Place). passed (read_value_body tag x)) (sym same) ∙ e)
 
 -- how far it reaches
 pub record Reaches (at behind : Place) : Type 0 where
@@ -48,13 +48,13 @@ between at behind text t =
 
 -- what was passed over is read from its bytes alone
 pub in_window : (tag : ℕ) (at behind : Place) → (p : IsPassed tag at behind) → IsTrue (nat_lt 0 tag && nat_lt tag 20) → behind.offset - at.offset ≤ 1048575
-    → body_at tag (front (behind.offset - at.offset) at) ≡ Ok (p.form, place (at.offset + length (form_body p.form)) [])
+    → read_value_body tag (front (behind.offset - at.offset) at) ≡ Ok (p.form, place (at.offset + length (form_body p.form)) [])
 in_window tag at behind p is small =
     let t = p.took.takes in
     let short : length (form_body p.form) ≤ 1048575 = omega (arith, t.place, small) in
     let tag_is = p.took.tag_is is in
-    ap (body_at tag) (between at behind (form_body p.form) t)
-    ∙ ap (λ (n : ℕ). body_at n (place at.offset (form_body p.form ++ []))) tag_is
+    ap (read_value_body tag) (between at behind (form_body p.form) t)
+    ∙ ap (λ (n : ℕ). read_value_body n (place at.offset (form_body p.form ++ []))) tag_is
     ∙ body_again at.offset p.form [] (p.took.is short)
 
 form_is : (f g : Form) (x y : Place) (r : Read Form) → r ≡ Ok (f, x) → r ≡ Ok (g, y) → f ≡ g
@@ -83,7 +83,7 @@ window_short at tag after behind h = omega (arith, length-take (behind.offset - 
 
 -- the facts in the code's own names
 pub has_passed : (at : Place) (tag : ℕ) (after fork : Place) (u : Unit {0}) (behind : Place) (start stop : ℕ) → byte_at at ≡ Ok (tag, after) → 0 < tag → tag < 20
-    → fork ≡ after → IsBytes after.rest → passed (body_at tag fork) ≡ Ok (u, behind) → start ≡ at.offset → stop ≡ behind.offset → stop - start ≤ 1048576 → HasPassed at tag after behind
+    → fork ≡ after → IsBytes after.rest → passed (read_value_body tag fork) ≡ Ok (u, behind) → start ≡ at.offset → stop ≡ behind.offset → stop - start ≤ 1048576 → HasPassed at tag after behind
 has_passed at tag after fork u behind start stop read above below same fits over from to small = record {
   tag_read = read;
   tag_is = and_from (nat_lt 0 tag) (nat_lt tag 20) (lt-ltb 0 tag above) (lt-ltb tag 20 below);
@@ -98,8 +98,8 @@ window_is after behind window start stop from to is =
 
 -- the value that its bytes give is the one that stands there
 pub reads_whole : (at : Place) (tag : ℕ) (after behind : Place) (v : Value) (end : Place) → HasPassed at tag after behind
-    → body_at tag (front (behind.offset - after.offset) after) ≡ Ok (form v, end) → value_at at ≡ Ok (v, behind)
-unfolding value_at
+    → read_value_body tag (front (behind.offset - after.offset) after) ≡ Ok (form v, end) → read_value at ≡ Ok (v, behind)
+unfolding read_value
 reads_whole at tag after behind v end h read =
     let first = h.tag_read in
     let tag_is = h.tag_is in
@@ -109,9 +109,9 @@ reads_whole at tag after behind v end h read =
     let same : h.body.form ≡ form v = form_is _ _ _ _ _ window read in
     rw (first, tag_is, body, size) (ap (λ (w : Value). Ok (w, behind)) (ap value_of same ∙ value_of-form v))
 
--- and reading there fails for want of memory alone
+-- and reading there fails because an allocation failed alone
 pub fails_whole : (at : Place) (tag : ℕ) (after behind : Place) (e : Refusal) (due : Read Value) → HasPassed at tag after behind
-    → FailsReading e (body_at tag (front (behind.offset - after.offset) after)) → FailsReading e due
+    → FailsReading e (read_value_body tag (front (behind.offset - after.offset) after)) → FailsReading e due
 fails_whole at tag after behind e due h failed =
     let window = in_window tag after behind h.body h.tag_is (behind_tag at tag after behind h) in
     no_fault e _ (subst (FailsReading e) window failed)

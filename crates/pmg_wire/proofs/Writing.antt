@@ -10,7 +10,7 @@ use Rattle.pmg_value.specs.Plain.{plain_body}
 use Rattle.pmg_value.specs.Spelling.{form, is_plain_form, plain_of, tag_of, body_of, are_plain, plains_of}
 use Rattle.pmg_value.proofs.OrderLemmas.{none_behind, body_is}
 
--- the bytes of an item stand behind those of the items before it, and before those of the others
+-- the bytes of an item stand after those of the items before it, and before those of the others
 pub record IsBetween (items : List Value) (i : ℕ) (text : List ℕ) : Type 0 where
   pub more : bodies (plains_of (take (i + 1) items)) ≡ bodies (plains_of (take i items)) ++ text
   pub left : bodies (plains_of (drop i items)) ≡ text ++ bodies (plains_of (drop (i + 1) items))

@@ -5,7 +5,7 @@ use Rattle.pmg_value.specs.declared.value.Value.{Value}
 use Rattle.pmg_value.specs.Names.{is_nspace, is_key}
 use Rattle.pmg_value.specs.Spelling.{spelling, IsValue}
 use Rattle.pmg_wire.specs.declared.fields.Admits.{Admits}
-use Rattle.pmg_wire.specs.Fields.{is_admitted, value_at}
+use Rattle.pmg_wire.specs.Fields.{is_admitted, read_value}
 use Rattle.pmg_wire.specs.Reading.{Place, Takes, IsBytes}
 use Rattle.pmg_wire.specs.Spelling.{key_spelling, proc_spelling}
 
@@ -32,11 +32,11 @@ pub record IsWholeValue (bytes : List ℕ) (v : Value) : Type 0 where
 
 -- what is read as a value is spelled so
 abbrev pub IsFound : Type 0
-IsFound = (at : Place) (v : Value) (after : Place) → IsBytes at.rest → value_at at ≡ Ok (v, after) → SpellsValue at v after
+IsFound = (at : Place) (v : Value) (after : Place) → IsBytes at.rest → read_value at ≡ Ok (v, after) → SpellsValue at v after
 
 -- what is spelled as a value is read
 abbrev pub IsOnly : Type 0
-IsOnly = (at : Place) (v : Value) (after : Place) → SpellsValue at v after → value_at at ≡ Ok (v, after)
+IsOnly = (at : Place) (v : Value) (after : Place) → SpellsValue at v after → read_value at ≡ Ok (v, after)
 
 -- no value's spelling begins another's
 abbrev pub IsOneSpelling : Type 0

@@ -24,7 +24,7 @@ front n at = record { offset = at.offset; rest = take n at.rest }
 abbrev pub fault : ℕ → Cause → Fault
 fault offset cause = record { offset = offset; cause = cause }
 
--- what reading a field gives: the field and the place behind it, or the first fault
+-- what reading a field gives: the field and the place after it, or the first fault
 abbrev pub Read : Type 0 → Type 0
 Read X = Result (X × Place) Fault
 
@@ -40,16 +40,16 @@ check true f = Ok tt
 check false f = Err f
 
 -- the next n bytes: one field
-unfoldable pub bytes_at : ℕ → Place → Read (List ℕ)
-bytes_at n at = if nat_lt (length at.rest) n then Err (fault at.offset causes.Short) else Ok (take n at.rest, past at n)
+unfoldable pub read_bytes : ℕ → Place → Read (List ℕ)
+read_bytes n at = if nat_lt (length at.rest) n then Err (fault at.offset causes.Short) else Ok (take n at.rest, past at n)
 
 -- one byte
 abbrev pub byte_at : Place → Read ℕ
-byte_at at = bytes_at 1 at >>= λ b. Ok (get_or b.0 0 0, b.1)
+byte_at at = read_bytes 1 at >>= λ b. Ok (get_or b.0 0 0, b.1)
 
 -- a big-endian number of that width
 abbrev pub number_at : Width → Place → Read ℕ
-number_at w at = bytes_at (byte_len w) at >>= λ b. Ok (from_be_bytes w b.0, b.1)
+number_at w at = read_bytes (byte_len w) at >>= λ b. Ok (from_be_bytes w b.0, b.1)
 
 -- each item is a byte
 abbrev pub IsBytes : List ℕ → Type 0

@@ -1,6 +1,6 @@
 ghost use Rattle.std.specs.Prelude.{◌≡◌, ◌+◌, ◌<◌, ◌≤◌, ◌^◌, length, IfOk, OnErr};
 ghost use Rattle.std.specs.Int.{w16, w32, w64};
-ghost use Rattle.pmg_wire.specs.Reading.{Place, IsBytes, Reads, past, front, bytes_at, byte_at, number_at};
+ghost use Rattle.pmg_wire.specs.Reading.{Place, IsBytes, Reads, past, front, read_bytes, byte_at, number_at};
 
 use pmg_value::{Cause, Refusal};
 use std::marker::Model;
@@ -87,9 +87,9 @@ impl<'a> Cursor<'a> {
     }
 
     /// The next bytes, so many of them. Refused as Short at their place where fewer are left.
-    #[tactic(auto, unfolding(crate::specs::Reading::bytes_at))]
+    #[tactic(auto, unfolding(crate::specs::Reading::read_bytes))]
     pub fn take(&mut self, count: usize) -> Result<&'a [u8], Refusal>
-        ensures read { Reads (λ s. s.now) result self.new (bytes_at count self.old) }
+        ensures read { Reads (λ s. s.now) result self.new (read_bytes count self.old) }
         ensures len { IfOk result (λ s. length s.now ≡ count) }
         ensures err { OnErr result (self.new ≡ self.old) }
     {

@@ -1,7 +1,7 @@
 ghost use Rattle.std.specs.Prelude.{◌≡◌, ℕ, List, IfOk, OnErr};
 ghost use Rattle.pmg_wire.specs.Grammar.{SpellsKey, SpellsProc};
 ghost use Rattle.pmg_wire.specs.Reading.{Place, Reads};
-ghost use Rattle.pmg_wire.specs.Fields.{is_admitted, is_named, is_ranked, flag_at, key_at, proc_at};
+ghost use Rattle.pmg_wire.specs.Fields.{is_admitted, is_named, is_ranked, read_flag, read_key, read_proc};
 
 use crate::cursor::Cursor;
 use pmg_value::{
@@ -42,9 +42,9 @@ impl Admits {
 }
 
 /// Reads a flag, the byte 0 or 1.
-#[tactic(auto, unfolding(crate::specs::Fields::flag_at))]
+#[tactic(auto, unfolding(crate::specs::Fields::read_flag))]
 pub fn get_flag(at: &mut Cursor<'_>) -> Result<bool, Refusal>
-    ensures read { Reads (λ b. b) result at.new (flag_at at.old) }
+    ensures read { Reads (λ b. b) result at.new (read_flag at.old) }
 {
     let start = at.offset();
     let byte = at.get_u8()?;
@@ -54,9 +54,9 @@ pub fn get_flag(at: &mut Cursor<'_>) -> Result<bool, Refusal>
     Ok(byte == 1)
 }
 
-#[tactic(auto, unfolding(crate::specs::Fields::key_at))]
+#[tactic(auto, unfolding(crate::specs::Fields::read_key))]
 fn key_of(alloc: Global, at: &mut Cursor<'_>) -> Result<Key, Refusal>
-    ensures { Reads (λ k. k) result at.new (key_at at.old) }
+    ensures { Reads (λ k. k) result at.new (read_key at.old) }
 {
     let start = at.offset();
     let len = at.get_u16()? as usize;
@@ -75,7 +75,7 @@ fn key_of(alloc: Global, at: &mut Cursor<'_>) -> Result<Key, Refusal>
 pub fn get_key(alloc: Global, at: &mut Cursor<'_>) -> Result<Key, Refusal>
     ensures found { IfOk result (λ k. SpellsKey at.old k at.new) }
     ensures only { (k : List ℕ) (after : Place) → SpellsKey at.old k after → Reads (λ k. k) result at.new (Ok (k, after)) }
-    ensures first_fault { Reads (λ k. k) result at.new (key_at at.old) }
+    ensures first_fault { Reads (λ k. k) result at.new (read_key at.old) }
     ensures err { OnErr result (at.new ≡ at.old) }
 {
     let mut ahead = at.fork();
@@ -84,9 +84,9 @@ pub fn get_key(alloc: Global, at: &mut Cursor<'_>) -> Result<Key, Refusal>
     Ok(key)
 }
 
-#[tactic(auto, unfolding(crate::specs::Fields::proc_at))]
+#[tactic(auto, unfolding(crate::specs::Fields::read_proc))]
 fn proc_of(alloc: Global, admits: Admits, at: &mut Cursor<'_>) -> Result<Proc, Refusal>
-    ensures { Reads (λ p. p) result at.new (proc_at admits at.old) }
+    ensures { Reads (λ p. p) result at.new (read_proc admits at.old) }
 {
     let start = at.offset();
     let len = at.get_u8()? as usize;
@@ -120,7 +120,7 @@ fn admits_rank(name: &[u8], rank: u32) -> bool
 pub fn get_proc(alloc: Global, admits: Admits, at: &mut Cursor<'_>) -> Result<Proc, Refusal>
     ensures found { IfOk result (λ p. SpellsProc admits at.old p at.new) }
     ensures only { (p : Proc) (after : Place) → SpellsProc admits at.old p after → Reads (λ p. p) result at.new (Ok (p, after)) }
-    ensures first_fault { Reads (λ p. p) result at.new (proc_at admits at.old) }
+    ensures first_fault { Reads (λ p. p) result at.new (read_proc admits at.old) }
     ensures err { OnErr result (at.new ≡ at.old) }
 {
     let mut ahead = at.fork();

@@ -2,7 +2,7 @@
 ghost use Rattle.std.specs.Prelude.{None};
 ghost use Rattle.pmg_wire.specs.Many.{many};
 ghost use Rattle.pmg_wire.specs.Reading.{Reads};
-ghost use Rattle.pmg_wire.specs.Fields.{passed, plain_at, array_at, body_at};
+ghost use Rattle.pmg_wire.specs.Fields.{passed, read_plain, read_array, read_value_body};
 
 use crate::cursor::Cursor;
 use crate::fields::get_flag;
@@ -13,9 +13,9 @@ use pmg_value::{Cause, Refusal};
 pub const ARRAY_TAG: u8 = 19;
 
 // Passes over the body of a value with this tag, which is no array's.
-#[tactic(auto, using(crate::proofs::Passing::passed_made), unfolding(crate::specs::Fields::plain_at))]
+#[tactic(auto, using(crate::proofs::Passing::passed_made), unfolding(crate::specs::Fields::read_plain))]
 fn skip_plain(tag: u8, at: &mut Cursor<'_>) -> Result<(), Refusal>
-    ensures { Reads (λ u. u) result at.new (passed (plain_at tag at.old)) }
+    ensures { Reads (λ u. u) result at.new (passed (read_plain tag at.old)) }
 {
     match tag {
         1 => {
@@ -48,7 +48,7 @@ fn skip_plain(tag: u8, at: &mut Cursor<'_>) -> Result<(), Refusal>
 
 // Passes over so many elements of that kind.
 fn skip_elements(tag: u8, count: u32, at: &mut Cursor<'_>) -> Result<(), Refusal>
-    ensures { Reads (λ u. u) result at.new (passed (many (λ _. plain_at tag) count None at.old)) }
+    ensures { Reads (λ u. u) result at.new (passed (many (λ _. read_plain tag) count None at.old)) }
 {
     for _ in 0..count {
         skip_plain(tag, at)?;
@@ -57,9 +57,9 @@ fn skip_elements(tag: u8, count: u32, at: &mut Cursor<'_>) -> Result<(), Refusal
 }
 
 // Passes over the body of an array.
-#[tactic(auto, unfolding(crate::specs::Fields::array_at))]
+#[tactic(auto, unfolding(crate::specs::Fields::read_array))]
 fn skip_array(at: &mut Cursor<'_>) -> Result<(), Refusal>
-    ensures { Reads (λ u. u) result at.new (passed (array_at at.old)) }
+    ensures { Reads (λ u. u) result at.new (passed (read_array at.old)) }
 {
     let start = at.offset();
     let tag = at.get_u8()?;
@@ -71,9 +71,9 @@ fn skip_array(at: &mut Cursor<'_>) -> Result<(), Refusal>
 }
 
 /// Passes over the body of a value with this tag.
-#[tactic(auto, using(crate::proofs::Passing::passed_made), unfolding(crate::specs::Fields::body_at))]
+#[tactic(auto, using(crate::proofs::Passing::passed_made), unfolding(crate::specs::Fields::read_value_body))]
 pub fn skip_body(tag: u8, at: &mut Cursor<'_>) -> Result<(), Refusal>
-    ensures { Reads (λ u. u) result at.new (passed (body_at tag at.old)) }
+    ensures { Reads (λ u. u) result at.new (passed (read_value_body tag at.old)) }
 {
     if tag == ARRAY_TAG {
         skip_array(at)

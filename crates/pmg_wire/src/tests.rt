@@ -15,7 +15,7 @@ macro_rules! again {
     };
 }
 
-fn key_at(alloc: Global, at: &mut Cursor<'_>) -> Result<Key, Refusal> {
+fn read_key(alloc: Global, at: &mut Cursor<'_>) -> Result<Key, Refusal> {
     again!(get_key(alloc, at))
 }
 
@@ -108,7 +108,7 @@ fn keys_are_read_as_they_are_written(rt: HostRuntime) -> Result<(), Refusal> {
     ];
     for spelling in cases {
         let mut at = Cursor::new(0, spelling);
-        let key = key_at(alloc, &mut at)?;
+        let key = read_key(alloc, &mut at)?;
         assert_eq!(rt; key.as_bytes(), &spelling[2..]);
         assert!(rt; at.rest().is_empty());
         assert_eq!(rt; spelled_key(alloc, &key)?.as_slice(), spelling);
@@ -131,7 +131,7 @@ fn a_key_is_refused_at_its_first_fault(rt: HostRuntime) -> Result<(), Refusal> {
     ];
     for (bytes, want) in cases {
         let mut at = Cursor::new(9, bytes);
-        let refusal = key_at(rt.alloc(), &mut at).err();
+        let refusal = read_key(rt.alloc(), &mut at).err();
         assert_eq!(rt; refusal, Some(want));
         assert_eq!(rt; (at.offset(), at.rest()), (9, bytes));
     }

@@ -2,15 +2,15 @@
 ghost use Rattle.std.specs.Prelude.{IfOk, IsTrue};
 ghost use Rattle.pmg_value.specs.Names.{is_nspace};
 ghost use Rattle.pmg_wire.specs.Reading.{Reads};
-ghost use Rattle.pmg_wire.specs.Fields.{text_at, blob_at, any_proc_at};
+ghost use Rattle.pmg_wire.specs.Fields.{read_text, read_blob, read_any_proc};
 
 use crate::cursor::Cursor;
 use pmg_value::{Cause, Refusal, first_zero, is_nspace_name};
 
 /// A string's bytes.
-#[tactic(auto, unfolding(crate::specs::Fields::text_at))]
+#[tactic(auto, unfolding(crate::specs::Fields::read_text))]
 pub fn get_text<'a>(at: &mut Cursor<'a>) -> Result<&'a [u8], Refusal>
-    ensures { Reads (λ s. s.now) result at.new (text_at at.old) }
+    ensures { Reads (λ s. s.now) result at.new (read_text at.old) }
 {
     let len = at.get_u32()? as usize;
     let start = at.offset();
@@ -22,18 +22,18 @@ pub fn get_text<'a>(at: &mut Cursor<'a>) -> Result<&'a [u8], Refusal>
 }
 
 /// A byte object's bytes.
-#[tactic(auto, unfolding(crate::specs::Fields::blob_at))]
+#[tactic(auto, unfolding(crate::specs::Fields::read_blob))]
 pub fn get_blob<'a>(at: &mut Cursor<'a>) -> Result<&'a [u8], Refusal>
-    ensures { Reads (λ s. s.now) result at.new (blob_at at.old) }
+    ensures { Reads (λ s. s.now) result at.new (read_blob at.old) }
 {
     let len = at.get_u32()? as usize;
     at.take(len)
 }
 
 /// The namespace and the rank of any process, also of one that no group registers.
-#[tactic(auto, unfolding(crate::specs::Fields::any_proc_at))]
+#[tactic(auto, unfolding(crate::specs::Fields::read_any_proc))]
 pub fn get_any_proc<'a>(at: &mut Cursor<'a>) -> Result<(&'a [u8], u32), Refusal>
-    ensures read { Reads (λ p. record { nspace = p.0.now; rank = p.1 }) result at.new (any_proc_at at.old) }
+    ensures read { Reads (λ p. record { nspace = p.0.now; rank = p.1 }) result at.new (read_any_proc at.old) }
     ensures name { IfOk result (λ p. IsTrue (is_nspace p.0.now)) }
 {
     let start = at.offset();

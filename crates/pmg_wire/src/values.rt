@@ -5,7 +5,7 @@ ghost use Rattle.pmg_value.specs.Spelling.{Form, form, are_plain, plains_of};
 ghost use Rattle.pmg_wire.specs.Grammar.{SpellsValue, IsWholeValue};
 ghost use Rattle.pmg_wire.specs.Many.{many};
 ghost use Rattle.pmg_wire.specs.Reading.{Place, Reads, ReadsAll};
-ghost use Rattle.pmg_wire.specs.Fields.{made, text_at, blob_at, any_proc_at, plain_at, array_at, body_at, value_at, whole_value};
+ghost use Rattle.pmg_wire.specs.Fields.{made, read_text, read_blob, read_any_proc, read_plain, read_array, read_value_body, read_value, whole_value};
 
 use crate::cursor::Cursor;
 use crate::fields::get_flag;
@@ -17,7 +17,7 @@ use std::alloc::Global;
 // A string, of bytes that are no more than a value's body.
 fn text_of(alloc: Global, at: &mut Cursor<'_>) -> Result<Text, Refusal>
     requires { length at.old.rest ≤ 1048575 }
-    ensures { Reads (λ t. t) result at.new (text_at at.old) }
+    ensures { Reads (λ t. t) result at.new (read_text at.old) }
 {
     // No effect at run time: the proof reads here that what is left are bytes.
     let _start = at.offset();
@@ -28,7 +28,7 @@ fn text_of(alloc: Global, at: &mut Cursor<'_>) -> Result<Text, Refusal>
 // A byte object, of bytes that are no more than a value's body.
 fn octets_of(alloc: Global, at: &mut Cursor<'_>) -> Result<Octets, Refusal>
     requires { length at.old.rest ≤ 1048575 }
-    ensures { Reads (λ o. o) result at.new (blob_at at.old) }
+    ensures { Reads (λ o. o) result at.new (read_blob at.old) }
 {
     // No effect at run time: the proof reads here that what is left are bytes.
     let _start = at.offset();
@@ -38,17 +38,17 @@ fn octets_of(alloc: Global, at: &mut Cursor<'_>) -> Result<Octets, Refusal>
 
 // Any process, also one that no group registers.
 fn any_proc_of(alloc: Global, at: &mut Cursor<'_>) -> Result<Proc, Refusal>
-    ensures { Reads (λ p. p) result at.new (any_proc_at at.old) }
+    ensures { Reads (λ p. p) result at.new (read_any_proc at.old) }
 {
     let (name, rank) = get_any_proc(at)?;
     Ok(Proc::new(Nspace::from_name(alloc, name)?, Rank::new(rank)))
 }
 
 // The value with this tag whose body is here. It is no array, and no longer than a value may be.
-#[tactic(auto, unfolding(crate::specs::Fields::plain_at))]
+#[tactic(auto, unfolding(crate::specs::Fields::read_plain))]
 fn plain_of(alloc: Global, tag: u8, at: &mut Cursor<'_>) -> Result<Value, Refusal>
     requires { length at.old.rest ≤ 1048575 }
-    ensures { Reads form result at.new (made Form.plain (plain_at tag at.old)) }
+    ensures { Reads form result at.new (made Form.plain (read_plain tag at.old)) }
 {
     match tag {
         1 => Ok(Value::Bool(get_flag(at)?)),
@@ -80,7 +80,7 @@ fn elements_of(
     at: &mut Cursor<'_>,
 ) -> Result<Vec<Value>, Refusal>
     requires { length at.old.rest ≤ 1048575 }
-    ensures read { Reads (λ vs. plains_of vs.items) result at.new (many (λ _. plain_at tag) count None at.old) }
+    ensures read { Reads (λ vs. plains_of vs.items) result at.new (many (λ _. read_plain tag) count None at.old) }
     ensures plain { IfOk result (λ vs. IsTrue (are_plain vs.items)) }
 {
     // No effect at run time: the proof reads here that what is left are bytes.
@@ -94,10 +94,10 @@ fn elements_of(
 }
 
 // An array: the tag of its elements, their number, and their bodies.
-#[tactic(auto, unfolding(crate::specs::Fields::array_at))]
+#[tactic(auto, unfolding(crate::specs::Fields::read_array))]
 fn array_of(alloc: Global, at: &mut Cursor<'_>) -> Result<Value, Refusal>
     requires { length at.old.rest ≤ 1048575 }
-    ensures { Reads form result at.new (made Form.array (array_at at.old)) }
+    ensures { Reads form result at.new (made Form.array (read_array at.old)) }
 {
     let start = at.offset();
     let tag = at.get_u8()?;
@@ -110,10 +110,10 @@ fn array_of(alloc: Global, at: &mut Cursor<'_>) -> Result<Value, Refusal>
 }
 
 // The value with this tag whose body is here. It is no longer than a value may be.
-#[tactic(auto, unfolding(crate::specs::Fields::body_at))]
+#[tactic(auto, unfolding(crate::specs::Fields::read_value_body))]
 fn body_of(alloc: Global, tag: u8, at: &mut Cursor<'_>) -> Result<Value, Refusal>
     requires { length at.old.rest ≤ 1048575 }
-    ensures { Reads form result at.new (body_at tag at.old) }
+    ensures { Reads form result at.new (read_value_body tag at.old) }
 {
     if tag == ARRAY_TAG {
         array_of(alloc, at)
@@ -123,9 +123,9 @@ fn body_of(alloc: Global, tag: u8, at: &mut Cursor<'_>) -> Result<Value, Refusal
 }
 
 // A value: what is wrong with it and where it ends first, and then its parts.
-#[tactic(auto, unfolding(crate::specs::Fields::value_at))]
+#[tactic(auto, unfolding(crate::specs::Fields::read_value))]
 fn value_of(alloc: Global, at: &mut Cursor<'_>) -> Result<Value, Refusal>
-    ensures { Reads (λ v. v) result at.new (value_at at.old) }
+    ensures { Reads (λ v. v) result at.new (read_value at.old) }
 {
     let start = at.offset();
     let tag = at.get_u8()?;
@@ -148,7 +148,7 @@ fn value_of(alloc: Global, at: &mut Cursor<'_>) -> Result<Value, Refusal>
 pub fn get_value(alloc: Global, at: &mut Cursor<'_>) -> Result<Value, Refusal>
     ensures found { IfOk result (λ v. SpellsValue at.old v at.new) }
     ensures only { (v : Value) (after : Place) → SpellsValue at.old v after → Reads (λ v. v) result at.new (Ok (v, after)) }
-    ensures first_fault { Reads (λ v. v) result at.new (value_at at.old) }
+    ensures first_fault { Reads (λ v. v) result at.new (read_value at.old) }
     ensures err { OnErr result (at.new ≡ at.old) }
 {
     let mut ahead = at.fork();
@@ -157,8 +157,8 @@ pub fn get_value(alloc: Global, at: &mut Cursor<'_>) -> Result<Value, Refusal>
     Ok(value)
 }
 
-/// Reads bytes that are one value and nothing behind it. Refused as BadFrame at the first fault, counted from
-/// the first byte: those of `get_value`, and Long where bytes are left behind the value; and as NoMemory.
+/// Reads bytes that are one value and nothing after it. Refused as BadFrame at the first fault, counted from
+/// the first byte: those of `get_value`, and Long where bytes are left after the value; and as NoMemory.
 #[tactic(auto, unfolding(crate::specs::Fields::whole_value))]
 pub fn value_from_bytes(alloc: Global, bytes: &[u8]) -> Result<Value, Refusal>
     ensures found { IfOk result (λ v. IsWholeValue bytes.now v) }

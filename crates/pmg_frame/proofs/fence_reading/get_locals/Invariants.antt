@@ -1,9 +1,9 @@
 use Rattle.std.proofs.Common.{◌≡◌, ◌-◌, None}
 use Rattle.pmg_wire.specs.Many.{many}
 use Rattle.pmg_wire.proofs.Counted.{with_front, last_of}
-use Rattle.pmg_frame.specs.FenceReading.{local_at}
+use Rattle.pmg_frame.specs.FenceReading.{read_local}
 use Rattle.pmg_frame.proofs.fence_reading.get_locals.Given as goal
 
 -- those so far, and those that are still read, are all of them
 abbrev pub invariant-loop : goal.invariant-loop
-invariant-loop l = with_front l.locals.items (many (local_at l.name) (l.count - l.counter) (last_of l.locals.items) l.at) ≡ many (local_at l.name) l.count None l.fn.at
+invariant-loop l = with_front l.locals.items (many (read_local l.name) (l.count - l.counter) (last_of l.locals.items) l.at) ≡ many (read_local l.name) l.count None l.fn.at

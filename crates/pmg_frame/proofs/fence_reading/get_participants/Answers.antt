@@ -4,14 +4,14 @@ use Rattle.std.proofs.lemmas.Result.{err_from_is_err_and}
 use Rattle.pmg_wire.specs.Many.{many}
 use Rattle.pmg_wire.specs.Reading.{FailsReading}
 use Rattle.pmg_wire.proofs.Counted.{goes_on, ends, is_done, last_of}
-use Rattle.pmg_frame.specs.FenceReading.{participant_at}
+use Rattle.pmg_frame.specs.FenceReading.{read_participant}
 use Rattle.pmg_frame.proofs.Lasts.{last_is}
 use Rattle.pmg_frame.proofs.fence_reading.get_participants.Goals as goal
 
 pub returns-in_err-process : goal.returns-in_err-process
 returns-in_err-process c =
     let err = err_from_is_err_and c.from_residual.result c.from_residual.ensures.1 in
-    let read = participant_at in
+    let read = read_participant in
     let front = c.loop.participants.items in
     let last : option_copied c.last.result ≡ last_of front = (rw c.deref.ensures.value at c.last.ensures.value) ∙ last_is front in
     let failed : FailsReading c.in_err-process.field-0.0 (read (last_of front) c.loop.at) = rw (← last) c.in_err-process.ensures in
@@ -19,7 +19,7 @@ returns-in_err-process c =
 
 pub loop-preserved : goal.loop-preserved
 loop-preserved c =
-    let read = participant_at in
+    let read = read_participant in
     let front = c.loop.participants.items in
     let x = c.in_ok-process.process in
     let last : option_copied c.last.result ≡ last_of front = (rw c.deref.ensures.value at c.last.ensures.value) ∙ last_is front in
@@ -27,4 +27,4 @@ loop-preserved c =
     rw grown (goes_on read front c.args.count c.loop.counter c.loop.at x c.get_participant.new.at (many read c.args.count None c.args.at.now) c.loop-test.true (rw (← last) c.in_ok-process.ensures) c.loop.invariant)
 
 pub returns : goal.returns
-returns c = let read = participant_at in is_done read c.loop.participants.items c.args.count c.loop.counter c.loop.at (many read c.args.count None c.args.at.now) c.loop-test.false c.loop.invariant
+returns c = let read = read_participant in is_done read c.loop.participants.items c.args.count c.loop.counter c.loop.at (many read c.args.count None c.args.at.now) c.loop-test.false c.loop.invariant

@@ -1,8 +1,8 @@
 use Rattle.std.proofs.Common.{None}
-use Rattle.pmg_wire.specs.Fields.{plain_at}
+use Rattle.pmg_wire.specs.Fields.{read_plain}
 use Rattle.pmg_wire.specs.Many.{many}
 use Rattle.pmg_wire.proofs.Building.{HasRead}
 use Rattle.pmg_wire.proofs.values.elements_of.Given as goal
 
 abbrev pub invariant-loop : goal.invariant-loop
-invariant-loop l = HasRead l.tag l.count l.counter l.items.items l.at (many (λ _. plain_at l.tag) l.count None l.fn.at)
+invariant-loop l = HasRead l.tag l.count l.counter l.items.items l.at (many (λ _. read_plain l.tag) l.count None l.fn.at)

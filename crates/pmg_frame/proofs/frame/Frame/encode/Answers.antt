@@ -27,19 +27,19 @@ returns-in-FenceAsk-clause-read_back c =
     rw c.in-FenceAsk.is (reads_back frame (λ out. out.items) c.encode_fence_ask.result e.bytes e.valid (fits frame c.encode_fence_ask.result (omega arith) e.valid))
 
 pub returns-in-RangeAsk-clause-small : goal.returns-in-RangeAsk-clause-small
-returns-in-RangeAsk-clause-small c = rw c.in-RangeAsk.is (fits (frames.RangeAsk c.in-RangeAsk.ask) c.encode_range_ask.result (omega arith) c.encode_range_ask.ensures.valid)
+returns-in-RangeAsk-clause-small c = rw c.in-RangeAsk.is (fits (frames.RangeAsk c.in-RangeAsk.ask) c.encode_commit_ask.result (omega arith) c.encode_commit_ask.ensures.valid)
 
 pub returns-in-RangeAsk-clause-read_back : goal.returns-in-RangeAsk-clause-read_back
 returns-in-RangeAsk-clause-read_back c =
     let frame = frames.RangeAsk c.in-RangeAsk.ask in
-    let e = c.encode_range_ask.ensures in
-    rw c.in-RangeAsk.is (reads_back frame (λ out. out.items) c.encode_range_ask.result e.bytes e.valid (fits frame c.encode_range_ask.result (omega arith) e.valid))
+    let e = c.encode_commit_ask.ensures in
+    rw c.in-RangeAsk.is (reads_back frame (λ out. out.items) c.encode_commit_ask.result e.bytes e.valid (fits frame c.encode_commit_ask.result (omega arith) e.valid))
 
 pub returns-in-DirectAsk-clause-small : goal.returns-in-DirectAsk-clause-small
-returns-in-DirectAsk-clause-small c = rw c.in-DirectAsk.is (fits (frames.DirectAsk c.in-DirectAsk.ask) c.encode_direct_ask.result (omega arith) c.encode_direct_ask.ensures.valid)
+returns-in-DirectAsk-clause-small c = rw c.in-DirectAsk.is (fits (frames.DirectAsk c.in-DirectAsk.ask) c.encode_commit_ask-in-DirectAsk.result (omega arith) c.encode_commit_ask-in-DirectAsk.ensures.valid)
 
 pub returns-in-DirectAsk-clause-read_back : goal.returns-in-DirectAsk-clause-read_back
 returns-in-DirectAsk-clause-read_back c =
     let frame = frames.DirectAsk c.in-DirectAsk.ask in
-    let e = c.encode_direct_ask.ensures in
-    rw c.in-DirectAsk.is (reads_back frame (λ out. out.items) c.encode_direct_ask.result e.bytes e.valid (fits frame c.encode_direct_ask.result (omega arith) e.valid))
+    let e = c.encode_commit_ask-in-DirectAsk.ensures in
+    rw c.in-DirectAsk.is (reads_back frame (λ out. out.items) c.encode_commit_ask-in-DirectAsk.result e.bytes e.valid (fits frame c.encode_commit_ask-in-DirectAsk.result (omega arith) e.valid))

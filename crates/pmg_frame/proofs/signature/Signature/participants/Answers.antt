@@ -1,8 +1,8 @@
 use Rattle.std.proofs.Common.{sym, ◌∙◌, ap}
 use Rattle.pmg_value.proofs.ProcessOrder.{procs_total, exact_procs}
 use Rattle.pmg_value.specs.Signatures.{Signature}
-use Rattle.pmg_frame.specs.Fences.{in_order}
-use Rattle.pmg_frame.proofs.Rising.{in_order-from_list}
+use Rattle.pmg_value.specs.InOrder.{in_order}
+use Rattle.pmg_value.proofs.SetOrder.{in_order-from_list}
 use Rattle.pmg_frame.proofs.signature.Signature.participants.Goals as goal
 
 pub returns-clause-value : goal.returns-clause-value
