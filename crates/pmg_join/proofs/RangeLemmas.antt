@@ -1,6 +1,6 @@
 -- Which numbers ranges have.
 use Rattle.std.proofs.Common.{ℕ, zero, suc, ◌+◌, ◌-◌, ◌<◌, ◌≤◌, Bool, true, false, ◌||◌, nat_lt, List, [], ◌∷◌, ◌++◌, ◌≡◌, ◌⊎◌, inl, inr, cond, refl, sym, ap, ◌∙◌, arith}
-use Rattle.std.specs.Prelude.{Option, Some, None, IsTrue, ◌↔◌, Result, Ok, Err, OnErr}
+use Rattle.std.specs.Prelude.{Option, Some, None, is_some, IsTrue, ◌↔◌, Result, Ok, Err, OnErr}
 use Rattle.std.specs.Bool.{Decides}
 use Rattle.std.specs.Cmp.{Equal-is}
 use Rattle.std.specs.Ordering.{nat_cmp}
@@ -13,6 +13,8 @@ use Rattle.std.proofs.lemmas.Map.Lookups.{exact_unsigned}
 use Rattle.std.proofs.lemmas.Bool.{false≢true, false_from_ne_true, leb-true, le-leb, or_cases, or_left, or_right}
 use Rattle.std.proofs.lemmas.Bool.Decides.{Decides-and, Decides-ltb}
 use Rattle.pmg_value.specs.Lists.{In}
+use Rattle.pmg_value.proofs.ListLemmas.{in_parts, in_append_left, in_append_right}
+use Rattle.pmg_value.proofs.RowLemmas.{key_there}
 use Rattle.pmg_value.proofs.SetLemmas.{in_from_list, from_list_in, same_bool}
 use Rattle.pmg_join.specs.Ranges.{is_between, Between, HasRange, Covers, Spans, LieIn, numbers_above, numbers_in, numbers_of, set_of}
 
@@ -37,20 +39,6 @@ numbers_above_in from zero n i = absurd i
 numbers_above_in from (suc count) n (inl e) = (omega arith, omega arith)
 numbers_above_in from (suc count) n (inr i) = let h = numbers_above_in (suc from) count n i in (omega arith, omega arith)
 
-in_append : (n : ℕ) (xs ys : List ℕ) → In n (xs ++ ys) → In n xs ⊎ In n ys
-in_append n [] ys i = inr i
-in_append n (x ∷ xs) ys (inl e) = inl (inl e)
-in_append n (x ∷ xs) ys (inr i) = elim (in_append n xs ys i) [ inl a ↦ inl (inr a) | inr b ↦ inr b ]
-
-append_left : (n : ℕ) (xs ys : List ℕ) → In n xs → In n (xs ++ ys)
-append_left n [] ys i = absurd i
-append_left n (x ∷ xs) ys (inl e) = inl e
-append_left n (x ∷ xs) ys (inr i) = inr (append_left n xs ys i)
-
-append_right : (n : ℕ) (xs ys : List ℕ) → In n ys → In n (xs ++ ys)
-append_right n [] ys i = i
-append_right n (x ∷ xs) ys i = inr (append_right n xs ys i)
-
 in_range : (from n : ℕ) (o : Option ℕ) → In n (numbers_in from o) → (to : ℕ) × (o ≡ Some to) × Between from to n
 in_range from n None i = absurd i
 in_range from n (Some to) i = let h = numbers_above_in from (to - from) n i in (to, refl, (h.0, let a = h.0 in let b = h.1 in omega arith))
@@ -65,7 +53,7 @@ range_in from to n o e b =
 covers_of : (m : BTreeMap ℕ ℕ) (starts : List ℕ) (n : ℕ) → In n (numbers_of m starts) → Covers m n
 unfolding numbers_of
 covers_of m [] n i = absurd i
-covers_of m (from ∷ starts) n i = elim (in_append n (numbers_in from (get nat_cmp m from)) (numbers_of m starts) i) [
+covers_of m (from ∷ starts) n i = elim (in_parts (numbers_in from (get nat_cmp m from)) (numbers_of m starts) n i) [
   | inl a ↦ let h = in_range from n (get nat_cmp m from) a in (from, h.0, h.1, h.2)
   | inr b ↦ covers_of m starts n b
 ]
@@ -74,29 +62,20 @@ of_covers : (m : BTreeMap ℕ ℕ) (starts : List ℕ) (from to n : ℕ) → In 
 unfolding numbers_of
 of_covers m [] from to n i h b = absurd i
 of_covers m (start ∷ starts) from to n (inl e) h b =
-    append_left n (numbers_in start (get nat_cmp m start)) (numbers_of m starts)
+    in_append_left (numbers_in start (get nat_cmp m start)) (numbers_of m starts) n
     (subst_start e (range_in from to n (get nat_cmp m from) h b))
   where
     subst_start : from ≡ start → In n (numbers_in from (get nat_cmp m from)) → In n (numbers_in start (get nat_cmp m start))
     subst_start e i = rw (sym e) i
 of_covers m (start ∷ starts) from to n (inr i) h b =
-    append_right n (numbers_in start (get nat_cmp m start)) (numbers_of m starts) (of_covers m starts from to n i h b)
-
--- what is found under a number is under one of the keys
-pub key_there : {X : Type 0} (es : List (ℕ × X)) (key : ℕ) (x : X) → lookup (is_at (nat_cmp key)) es ≡ Some x → In key (keys_of es)
-key_there [] key x h = absurd (let bad = h in cc)
-key_there (e ∷ es) key x h =
-    elim (is_at (nat_cmp key) e.0) as (λ t. is_at (nat_cmp key) e.0 ≡ t → In key (keys_of (e ∷ es))) [
-      | true ↦ λ t. inl (exact_unsigned key e.0 ((Equal-is _).0 t))
-      | false ↦ λ t. inr (key_there es key x (sym (ap (λ b. cond b (Some e.1) (lookup (is_at (nat_cmp key)) es)) t) ∙ h))
-    ] refl
+    in_append_right (numbers_in start (get nat_cmp m start)) (numbers_of m starts) n (of_covers m starts from to n i h b)
 
 -- the set of the ranges has a number where one of them does
 pub set_of-Decides : (m : BTreeMap ℕ ℕ) (n : ℕ) → Decides (set.contains (set_of m) n) (Covers m n)
 unfolding set_of
 set_of-Decides m n = (
   λ h. covers_of m (keys m) n (in_from_list nat_cmp_total nat_cmp-IsAntisymmetric (numbers_of m (keys m)) n h),
-  λ (from, to, h, b). from_list_in nat_cmp_total nat_cmp-IsAntisymmetric (numbers_of m (keys m)) n (of_covers m (keys m) from to n (key_there m.entries from to h) h b),
+  λ (from, to, h, b). from_list_in nat_cmp_total nat_cmp-IsAntisymmetric (numbers_of m (keys m)) n (of_covers m (keys m) from to n (key_there exact_unsigned m.entries from (ap is_some h)) h b),
 )
 
 pub not_covered : (m : BTreeMap ℕ ℕ) (n : ℕ) → (Covers m n → ⊥) → set.contains (set_of m) n ≡ false

@@ -25,7 +25,7 @@ impl<T: Element> GrowSet<T> {
         }
     }
 
-    /// Puts the element into the set. Where memory is wanting, the set keeps what it has, and the element is handed
+    /// Puts the element into the set. Where an allocation fails, the set keeps what it has, and the element is handed
     /// back.
     pub fn insert(&mut self, element: T) -> Result<(), AllocFailed<T>>
         ensures ok { OnOk result (set_in T.cmp self.new.elements ≡ set.insert (set_in T.cmp self.old.elements) element) }
@@ -42,16 +42,9 @@ impl<T: Element> GrowSet<T> {
     {
         self.elements.contains(element)
     }
-
-    /// The elements, in their order.
-    pub fn elements(&self) -> &BTreeSet<T, Global>
-        ensures { result.now ≡ self.now.elements }
-    {
-        &self.elements
-    }
 }
 
-/// Puts copies of all that the other set has into this one. Where memory is wanting, some of them were put.
+/// Puts copies of all that the other set has into this one. Where an allocation fails, some of them were put.
 fn insert_copies<T: Element>(all: &mut GrowSet<T>, other: &GrowSet<T>) -> Result<(), AllocError>
     ensures { OnOk result (set_in T.cmp all.new.elements ≡ set.union (set_in T.cmp all.old.elements) (set_in T.cmp other.now.elements)) }
 {

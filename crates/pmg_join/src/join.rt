@@ -14,11 +14,11 @@ pub trait Join: Drop {
 
     ghost Within: { Meaning → Meaning → Type 0 };
 
-    /// Another one of the same meaning.
+    /// A copy, equal to this one.
     fn copy(&self) -> Result<Self, AllocError>
         ensures { IfOk result (λ copy. meaning copy ≡ meaning self.now) };
 
-    /// Joins the other one into this one. Where memory is wanting, this one keeps its meaning, and the other one is
+    /// Joins the other one into this one. Where an allocation fails, this one keeps its meaning, and the other one is
     /// handed back with its own.
     fn join(&mut self, other: Self) -> Result<(), AllocFailed<Self>>
         ensures ok { OnOk result (meaning self.new ≡ joined (meaning self.old) (meaning other)) }

@@ -32,14 +32,7 @@ impl<K: Element, J: Join> MapJoin<K, J> {
         self.table.get(key)
     }
 
-    /// The keys with what is under each, in their order.
-    pub fn table(&self) -> &BTreeMap<K, J, Global>
-        ensures { result.now ≡ self.now.table }
-    {
-        &self.table
-    }
-
-    /// Joins the part into what is under the key, or puts it there. Where memory is wanting, the map keeps its
+    /// Joins the part into what is under the key, or puts it there. Where an allocation fails, the map keeps its
     /// meaning, and both are handed back.
     pub fn put(&mut self, key: K, part: J) -> Result<(), AllocFailed<(K, J)>>
         ensures ok { OnOk result ((q : K) → meant K.cmp J.meaning self.new.table q
@@ -61,7 +54,7 @@ impl<K: Element, J: Join> MapJoin<K, J> {
     }
 }
 
-/// Joins copies of all that the other map has into this one. Where memory is wanting, some of them were joined.
+/// Joins copies of all that the other map has into this one. Where an allocation fails, some of them were joined.
 fn join_copies<K: Element, J: Join>(
     map: &mut MapJoin<K, J>,
     other: &MapJoin<K, J>,

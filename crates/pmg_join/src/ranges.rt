@@ -128,7 +128,7 @@ impl Ranges {
         }
     }
 
-    /// Makes room for each of the other ranges. Where memory is wanting, there is room for some of them.
+    /// Makes room for each of the other ranges. Where an allocation fails, there is room for some of them.
     pub fn make_rooms(&mut self, other: &Ranges) -> Result<(), AllocError>
         requires { AreApart self.old.ends }
         ensures apart { AreApart self.new.ends }

@@ -12,6 +12,8 @@ use Rattle.std.specs.Map.{lookup, keys_of}
 use Rattle.std.proofs.lemmas.Bool.{false≢true}
 use Rattle.std.proofs.lemmas.Map.Lookups.{CmpEqualImpliesEq, exact_bytes}
 use Rattle.pmg_value.specs.Lists.{In}
+use Rattle.pmg_value.proofs.ListLemmas.{in_parts, in_append_left, in_append_right}
+use Rattle.pmg_value.proofs.RowLemmas.{key_there}
 use Rattle.pmg_value.proofs.SetLemmas.{in_from_list, from_list_in, same_members}
 use Rattle.pmg_commit.specs.Entries.{Entry}
 use Rattle.pmg_commit.specs.EntryOrder.{entries_total, exact_entries, Superseded, superseded_itself}
@@ -26,20 +28,6 @@ use Rattle.pmg_lane.specs.declared.track.Track.{Track}
 use Rattle.pmg_lane.proofs.Settling.{exact_late, key_read, key_late, some_is}
 
 -- ---- entries in a list
-pub in_append : {A : Type 0} (x : A) (xs ys : List A) → In x (xs ++ ys) → In x xs ⊎ In x ys
-in_append x [] ys i = inr i
-in_append x (y ∷ xs) ys (inl e) = inl (inl e)
-in_append x (y ∷ xs) ys (inr i) = elim (in_append x xs ys i) [ inl a ↦ inl (inr a) | inr b ↦ inr b ]
-
-pub append_left : {A : Type 0} (x : A) (xs ys : List A) → In x xs → In x (xs ++ ys)
-append_left x [] ys i = absurd i
-append_left x (y ∷ xs) ys (inl e) = inl e
-append_left x (y ∷ xs) ys (inr i) = inr (append_left x xs ys i)
-
-pub append_right : {A : Type 0} (x : A) (xs ys : List A) → In x ys → In x (xs ++ ys)
-append_right x [] ys i = i
-append_right x (y ∷ xs) ys i = inr (append_right x xs ys i)
-
 of_option : {A : Type 0} (x : A) (o : Option A) → In x (option_to_list o) → o ≡ Some x
 of_option x None i = absurd i
 of_option x (Some y) (inl e) = ap Some (sym e)
@@ -50,40 +38,32 @@ in_option x o e = subst (λ o. In x (option_to_list o)) (sym e) (inl refl)
 
 in_options : {K A : Type 0} (f : K → Option A) (ks : List K) (x : A) → In x (flat_map (λ k. option_to_list (f k)) ks) → (k : K) × (f k ≡ Some x)
 in_options f [] x i = absurd i
-in_options f (k ∷ ks) x i = elim (in_append x (option_to_list (f k)) (flat_map (λ k. option_to_list (f k)) ks) i) [
+in_options f (k ∷ ks) x i = elim (in_parts (option_to_list (f k)) (flat_map (λ k. option_to_list (f k)) ks) x i) [
   | inl a ↦ (k, of_option x (f k) a)
   | inr b ↦ in_options f ks x b
 ]
 
 options_in : {K A : Type 0} (f : K → Option A) (ks : List K) (x : A) (k : K) → In k ks → f k ≡ Some x → In x (flat_map (λ k. option_to_list (f k)) ks)
 options_in f [] x k i e = absurd i
-options_in f (q ∷ ks) x k (inl same) e = append_left x (option_to_list (f q)) _ (in_option x (f q) (ap f (sym same) ∙ e))
-options_in f (q ∷ ks) x k (inr i) e = append_right x (option_to_list (f q)) _ (options_in f ks x k i e)
-
-pub key_there : {K X : Type 0} {R : K → K → Ordering} (exact : CmpEqualImpliesEq R) (es : List (K × X)) (key : K) → IsSome (lookup (is_at (R key)) es) → In key (keys_of es)
-key_there exact [] key h = absurd (false≢true h)
-key_there {K} {X} {R} exact (e ∷ es) key h =
-    elim (is_at (R key) e.0) as (λ t. is_at (R key) e.0 ≡ t → In key (keys_of (e ∷ es))) [
-      | true ↦ λ t. inl (exact key e.0 ((Equal-is _).0 t))
-      | false ↦ λ t. inr (key_there exact es key (subst IsSome (ap (λ b. cond b (Some e.1) (lookup (is_at (R key)) es)) t) h))
-    ] refl
+options_in f (q ∷ ks) x k (inl same) e = in_append_left (option_to_list (f q)) _ x (in_option x (f q) (ap f (sym same) ∙ e))
+options_in f (q ∷ ks) x k (inr i) e = in_append_right (option_to_list (f q)) _ x (options_in f ks x k i e)
 
 has_place : {X V : Type 0} (f : V → X) (o : Option (Option V)) (x : X) → option_map f (placed o) ≡ Some x → IsSome o
 has_place f None x h = absurd (let bad = h in cc)
 has_place f (Some p) x h = refl
 
 pub in_entries : (a : Entries) (e : Entry) → In e (entries_list a) → Holds a e
-in_entries a e i = elim (in_append e (flat_map (λ key. option_to_list (read_at a key)) (keys a.reads)) _ i) [
+in_entries a e i = elim (in_parts (flat_map (λ key. option_to_list (read_at a key)) (keys a.reads)) _ e i) [
   | inl r ↦ let at = in_options (read_at a) (keys a.reads) e r in inl (ap (read_at a) (sym (key_read a at.0 e at.1)) ∙ at.1)
   | inr l ↦ let at = in_options (late_at a) (keys a.late) e l in inr (ap (late_at a) (sym (key_late a at.0 e at.1)) ∙ at.1)
 ]
 
 pub entries_in : (a : Entries) (e : Entry) → Holds a e → In e (entries_list a)
 entries_in a e (inl h) =
-    append_left e (flat_map (λ key. option_to_list (read_at a key)) (keys a.reads)) _
+    in_append_left (flat_map (λ key. option_to_list (read_at a key)) (keys a.reads)) _ e
     (options_in (read_at a) (keys a.reads) e e.key (key_there exact_bytes a.reads.entries e.key (has_place (read_entry e.key) (get (slice_cmp nat_cmp) a.reads e.key) e h)) h)
 entries_in a e (inr h) =
-    append_right e (flat_map (λ key. option_to_list (read_at a key)) (keys a.reads)) _
+    in_append_right (flat_map (λ key. option_to_list (read_at a key)) (keys a.reads)) _ e
     (options_in (late_at a) (keys a.late) e (e.number, e.key) (key_there exact_late a.late.entries (e.number, e.key) (has_place (late_entry (e.number, e.key)) (get late_cmp a.late (e.number, e.key)) e h)) h)
 
 pub has_holds : (t : Track) (e : Entry) → Has (known_by t) e → Holds t.entries e

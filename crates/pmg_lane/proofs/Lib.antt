@@ -3,4 +3,5 @@ pub mod Promoting
 pub mod Knowing
 pub mod Tracking
 pub mod Listing
+pub mod Moving
 pub mod LaneCores

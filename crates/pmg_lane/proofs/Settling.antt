@@ -34,7 +34,7 @@ some_is {A} {a} {b} h = ap (λ o. or_this o) h
     or_this None = a
     or_this (Some x) = x
 
-not_some : {A : Type 0} {a : A} → None ≡ Some a → ⊥
+pub not_some : {A : Type 0} {a : A} → None ≡ Some a → ⊥
 not_some h = cc
 
 -- of two entries of a key, one is the other, or one is later

@@ -6,11 +6,13 @@ use Rattle.std.specs.FinSet as set
 use Rattle.std.specs.FinMap.{nat_cmp-IsAntisymmetric}
 use Rattle.std.proofs.lemmas.Cmp.{nat_cmp_total}
 use Rattle.std.proofs.lemmas.Bool.{false≢true, cases_lt, leb-true}
-use Rattle.std.specs.BTreeMap.{BTreeMap}
+use Rattle.std.specs.BTreeMap.{BTreeMap, is_at}
+use Rattle.std.specs.Map.{lookup}
+use Rattle.std.specs.Ordering.{nat_cmp}
 use Rattle.pmg_value.specs.Lists.{In}
 use Rattle.pmg_value.proofs.SetLemmas.{in_from_list, from_list_in, same_members}
-use Rattle.pmg_join.specs.Ranges.{set_of, Covers, LieIn, AreApart, Between, Spans}
-use Rattle.pmg_join.proofs.RangeLemmas.{set_of-Decides, covers_kept, same_cover, not_covered, no_cover, cover_added, cover_joined, spans_cover}
+use Rattle.pmg_join.specs.Ranges.{set_of, HasRange, Covers, LieIn, AreApart, Between, Spans}
+use Rattle.pmg_join.proofs.RangeLemmas.{set_of-Decides, covers_kept, same_cover, not_covered, no_cover, cover_added, cover_joined, entries_lie, spans_cover}
 use Rattle.pmg_commit.specs.Entries.{Entry}
 use Rattle.pmg_commit.specs.EntryOrder.{entries_total, exact_entries, Superseded, Readable, Later, later_itself}
 use Rattle.pmg_commit.specs.Levels.{level}
@@ -154,12 +156,12 @@ told_numbers : (from to : ℕ) (es : List Entry) → (told from to es).numbers �
 unfolding told
 told_numbers from to es = refl
 
--- the track u after the track t has taken more knowledge, whose entries are a list
-module _ (t u : Track) (middle : Entries) (more : Knowledge) (es : List Entry)
+-- the track u after the track t has taken more knowledge
+module _ (t u : Track) (middle : Entries) (more : Knowledge) (IsOne : Entry → Type 0)
     (numbers : (known_by u).numbers ≡ set.union (known_by t).numbers more.numbers)
-    (listed : (e : Entry) → In e es → Has more e) (all : (e : Entry) → Has more e → In e es)
+    (listed : (e : Entry) → IsOne e → Has more e) (all : (e : Entry) → Has more e → IsOne e)
     (promoted : Settles (level (set_of u.taken.ends)) t.entries NoneLeft middle NoneLeft)
-    (put : Settles (level (set_of u.taken.ends)) middle (λ e. In e es) u.entries NoneLeft) where
+    (put : Settles (level (set_of u.taken.ends)) middle IsOne u.entries NoneLeft) where
   fewer : (e : Entry) → Has (known_by u) e → Has (union (known_by t) more) e
   fewer e h = elim (put.fewer e (has_holds u e h)) [
     | inr i ↦ union_has_right (known_by t) more e (listed e i)
@@ -170,8 +172,8 @@ module _ (t u : Track) (middle : Entries) (more : Knowledge) (es : List Entry)
   ]
 
   -- what accounts for an entry when late entries were promoted does so at last
-  at_last : (e : Entry) → Accounts (level (set_of u.taken.ends)) middle e ⊎ In e es → Accounts (level (set_of u.taken.ends)) u.entries e
-  at_last e (inl a) = accounts_more (level (set_of u.taken.ends)) middle u.entries (λ e. In e es) put e a
+  at_last : (e : Entry) → Accounts (level (set_of u.taken.ends)) middle e ⊎ IsOne e → Accounts (level (set_of u.taken.ends)) u.entries e
+  at_last e (inl a) = accounts_more (level (set_of u.taken.ends)) middle u.entries IsOne put e a
   at_last e (inr i) = elim (put.enough e (inr i)) [ inl a ↦ a | inr n ↦ absurd n ]
 
   enough : (e : Entry) → Has (union (known_by t) more) e → Accounts (level (set_of u.taken.ends)) u.entries e
@@ -194,7 +196,7 @@ module _ (t u : Track) (middle : Entries) (from to : ℕ) (es : List Entry)
     (put : Settles (level (set_of u.taken.ends)) middle (λ e. In e es) u.entries NoneLeft) where
   pub taken_core : core (known_by u) ≡ core (union (known_by t) (told from to es))
   taken_core =
-      more_core t u middle (told from to es) es
+      more_core t u middle (told from to es) (λ e. In e es)
       (numbers_is u
       ∙ set.same_set nat_cmp_total nat_cmp-IsAntisymmetric (set_of u.taken.ends) (set.union (set_of t.taken.ends) (numbers_between from to)) (λ n.
       cover_added t.taken.ends u.taken.ends from to no_more
@@ -204,17 +206,16 @@ module _ (t u : Track) (middle : Entries) (from to : ℕ) (es : List Entry)
       ∙ sym (λ i. set.union (numbers_is t i) (told_numbers from to es i)))
       (told_has from to es) (has_told from to es) promoted put
 
-module _ (t o u : Track) (middle : Entries) (es : List Entry)
-    (listed : (e : Entry) → In e es → Holds o.entries e) (all : (e : Entry) → Holds o.entries e → In e es)
+module _ (t o u : Track) (middle : Entries)
     (kept : LieIn t.taken.ends u.taken.ends) (added : (n : ℕ) → Covers o.taken.ends n → Covers u.taken.ends n)
     (no_more : (n : ℕ) → Covers u.taken.ends n → Covers t.taken.ends n ⊎ Covers o.taken.ends n)
     (promoted : Settles (level (set_of u.taken.ends)) t.entries NoneLeft middle NoneLeft)
-    (put : Settles (level (set_of u.taken.ends)) middle (λ e. In e es) u.entries NoneLeft) where
+    (put : Settles (level (set_of u.taken.ends)) middle (Holds o.entries) u.entries NoneLeft) where
   pub joined_core : core (known_by u) ≡ core (union (known_by t) (known_by o))
   joined_core =
-      more_core t u middle (known_by o) es
+      more_core t u middle (known_by o) (Holds o.entries)
       (numbers_is u ∙ cover_joined t.taken.ends o.taken.ends u.taken.ends no_more kept added ∙ sym (λ i. set.union (numbers_is t i) (numbers_is o i)))
-      (λ e i. holds_has o e (listed e i)) (λ e h. all e (has_holds o e h)) promoted put
+      (holds_has o) (has_holds o) promoted put
 
 -- room up to the number that will be reached is room up to the level
 pub places_up : (a : Entries) (m n number : ℕ) (key : List ℕ) → m ≤ n → HasPlaces a m number key → HasPlaces a n number key
@@ -269,3 +270,25 @@ read_known t is key = go (read_at t.entries key) refl
 
 pub same_reach : (t u : Track) (from to : ℕ) → level_of u ≡ level_of t → reach_with t from to ≡ reach_with u from to
 same_reach t u from to same = ap (λ n. cond (nat_le from n) to n) (sym same)
+
+-- ---- a copy
+module _ (t u : Track) (ends : u.taken.ends.entries ≡ t.taken.ends.entries) (alike : HoldAlike t.entries u.entries) where
+  there : (m n : BTreeMap ℕ ℕ) → m.entries ≡ n.entries → (from to : ℕ) → HasRange m from to → HasRange n from to
+  there m n e from to h = ap (λ es. lookup (is_at (nat_cmp from)) es) (sym e) ∙ h
+
+  apart_too : AreApart t.taken.ends → AreApart u.taken.ends
+  apart_too apart from to h =
+      let was = apart from to (there u.taken.ends t.taken.ends ends from to h) in
+      (was.0, λ start end other. was.1 start end (there u.taken.ends t.taken.ends ends start end other))
+
+  kept_ends : LieIn t.taken.ends u.taken.ends
+  kept_ends = entries_lie t.taken.ends u.taken.ends (sym ends)
+
+  no_more_ends : (n : ℕ) → Covers u.taken.ends n → Covers t.taken.ends n
+  no_more_ends n (from, to, h, b) = (from, to, there u.taken.ends t.taken.ends ends from to h, b)
+
+  pub copied_known : known_by u ≡ known_by t
+  copied_known = roomy_known t u kept_ends no_more_ends alike
+
+  pub copied_track : IsRoomy u.entries → IsTrack t → IsTrack u
+  copied_track roomy is = roomy_track t u kept_ends no_more_ends alike (apart_too is.apart) roomy is

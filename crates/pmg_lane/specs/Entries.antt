@@ -1,12 +1,11 @@
 -- The entries that a lane keeps: those that are read, by key, and those past the level, by number and key.
-use Rattle.std.specs.Prelude.{◌≡◌, ◌<◌, ◌≤◌, ◌⊎◌, ℕ, List, [], ◌∷◌, ◌++◌, Option, Some, None, IfSome, Bool, true}
+use Rattle.std.specs.Prelude.{◌≡◌, ◌<◌, ◌≤◌, ◌⊎◌, ℕ, List, ◌++◌, Option, Some, None, IfSome, Bool, true}
 use Rattle.std.specs.Option.{option_map, option_to_list}
 use Rattle.std.specs.List.{flat_map}
 use Rattle.std.specs.Ordering.{nat_cmp, ordering_then, is_lt}
 use Rattle.std.specs.Cmp.Lexicographic.{slice_cmp}
 use Rattle.std.specs.declared.cmp.Ordering.{Ordering}
-use Rattle.std.specs.BTreeMap.{keys}
-use Rattle.pmg_value.specs.Lists.{In}
+use Rattle.std.specs.BTreeMap.{BTreeMap, keys}
 use Rattle.pmg_value.specs.Spelling.{spelling}
 use Rattle.pmg_value.specs.declared.value.Value.{Value}
 use Rattle.pmg_commit.specs.Entries.{Entry, is_later}
@@ -35,9 +34,17 @@ read_at a key = option_map (read_entry key) (there_at (slice_cmp nat_cmp) a.read
 abbrev pub late_at : Entries → ℕ × List ℕ → Option Entry
 late_at a place = option_map (late_entry place) (there_at late_cmp a.late place)
 
+-- e is what is read under its key
+abbrev pub IsReadIn : BTreeMap (List ℕ) (Option Stamp) → Entry → Type 0
+IsReadIn reads e = option_map (read_entry e.key) (there_at (slice_cmp nat_cmp) reads e.key) ≡ Some e
+
+-- e is the late entry of its number and key
+abbrev pub IsLateIn : BTreeMap (ℕ × List ℕ) (Option Value) → Entry → Type 0
+IsLateIn late e = option_map (late_entry (e.number, e.key)) (there_at late_cmp late (e.number, e.key)) ≡ Some e
+
 -- e is one of the entries
 abbrev pub Holds : Entries → Entry → Type 0
-Holds a e = (read_at a e.key ≡ Some e) ⊎ (late_at a (e.number, e.key) ≡ Some e)
+Holds a e = IsReadIn a.reads e ⊎ IsLateIn a.late e
 
 -- one has the entries of the other
 abbrev pub HoldAlike : Entries → Entries → Type 0
@@ -96,17 +103,3 @@ LateFrom level a b = (place : ℕ × List ℕ) → (late_at b place ≡ late_at 
 -- all the entries in a list
 abbrev pub entries_list : Entries → List Entry
 entries_list a = flat_map (λ key. option_to_list (read_at a key)) (keys a.reads) ++ flat_map (λ place. option_to_list (late_at a place)) (keys a.late)
-
--- what is in a place, if it is not empty, before others
-abbrev pub made_before : {K V : Type 0} → (K → V → Entry) → K → Option V → List Entry → List Entry
-made_before make key None es = es
-made_before make key (Some v) es = make key v ∷ es
-
--- what is in the places that are not empty
-abbrev pub made_of : {K V : Type 0} → (K → V → Entry) → List (K × Option V) → List Entry
-made_of make [] = []
-made_of make (place ∷ places) = made_before make place.0 place.1 (made_of make places)
-
--- the entries are those in the list
-abbrev pub AreAll : Entries → List Entry → Type 0
-AreAll a es = (e : Entry) → (In e es → Holds a e) × (Holds a e → In e es)

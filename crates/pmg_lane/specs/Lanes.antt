@@ -7,7 +7,7 @@ use Rattle.pmg_commit.specs.Entries.{Entry}
 use Rattle.pmg_commit.specs.Levels.{level}
 use Rattle.pmg_commit.specs.Knowledge.{Knowledge, core, numbers_between}
 use Rattle.pmg_commit.specs.declared.piece.PieceEntry.{PieceEntry}
-use Rattle.pmg_lane.specs.Entries.{entries_list, ReadsWithin, LatePast, IsRoomy, HasPlaces}
+use Rattle.pmg_lane.specs.Entries.{Holds, entries_list, ReadsWithin, LatePast, IsRoomy, HasPlaces}
 use Rattle.pmg_lane.specs.declared.track.Track.{Track}
 
 -- what a track knows of its process
@@ -41,7 +41,7 @@ pub record HasRoom (t : Track) (from : ℕ) (to : ℕ) (entries : List PieceEntr
   pub range : Spans t.taken.ends from from
   pub places : (e : PieceEntry) → In e entries → HasPlaces t.entries (reach_with t from to) e.number e.key
 
--- there is room for the commits of another track and these entries
-pub record HaveRooms (t : Track) (other : Track) (entries : List PieceEntry) : Type 0 where
+-- there is room for all that another track has
+pub record HaveRooms (t : Track) (other : Track) : Type 0 where
   pub ranges : HaveRoom other.taken.ends t.taken.ends
-  pub places : (e : PieceEntry) → In e entries → HasPlaces t.entries (level_of t) e.number e.key
+  pub places : (e : Entry) → Holds other.entries e → HasPlaces t.entries (level_of t) e.number e.key

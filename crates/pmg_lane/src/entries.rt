@@ -1,7 +1,8 @@
 //! The entries of one process that are not superseded.
 ghost use Rattle.std.specs.Prelude.{◌≡◌, ◌<◌, ◌≤◌, ◌++◌, ℕ, List, map, cond, OnOk, OnErr, IfOk, IfSome, IfNone, Some, None};
 ghost use Rattle.pmg_value.specs.Spelling.{spelling};
-ghost use Rattle.pmg_lane.specs.Entries.{read_at, late_at, late_cmp, read_entry, late_entry, beats, exceeds, made_of, AreAll, HoldAlike, PlacesStay, HasPlaces, ReadsWithin, IsRoomy, LateFrom, LatePast, Settles, NoneLeft};
+ghost use Rattle.pmg_commit.specs.Entries.{Entry};
+ghost use Rattle.pmg_lane.specs.Entries.{read_at, late_at, late_cmp, read_entry, late_entry, beats, exceeds, IsReadIn, IsLateIn, Holds, HoldAlike, PlacesStay, HasPlaces, ReadsWithin, IsRoomy, LateFrom, LatePast, Settles, NoneLeft};
 ghost use Rattle.pmg_lane.specs.Places.{placed, there_at, HasPlace};
 ghost use Rattle.std.specs.Option.{option_map};
 ghost use Rattle.std.specs.BTreeMap.{get, is_at, btree_map_len, IsOrdered};
@@ -10,9 +11,9 @@ ghost use Rattle.pmg_commit.specs.Pieces.{entry_of};
 ghost use Rattle.std.specs.Ordering.{nat_cmp};
 ghost use Rattle.std.specs.Cmp.Lexicographic.{slice_cmp};
 
-use crate::places::{make_place, put_in_place};
+use crate::places::{make_place, pop_place, put_in_place};
 use pmg_commit::PieceEntry;
-use pmg_value::{Key, Value};
+use pmg_value::{Copied, Key, Value, copy_rows};
 use std::alloc::{AllocError, Global};
 use std::collections::BTreeMap;
 
@@ -29,6 +30,15 @@ pub struct Stamp {
 pub struct Entries {
     reads: BTreeMap<Key, Option<Stamp>, Global>,
     late: BTreeMap<(u64, Key), Option<Value>, Global>,
+}
+
+impl Copied for Stamp {
+    fn copy(&self) -> Result<Stamp, AllocError> {
+        Ok(Stamp {
+            number: self.number,
+            value: self.value.copy()?,
+        })
+    }
 }
 
 impl Entries {
@@ -62,7 +72,6 @@ impl Entries {
         ensures stay { PlacesStay self.old self.new }
         ensures roomy { IsRoomy self.new }
     {
-        let key = key.copy()?;
         make_place(&mut self.reads, key)
     }
 
@@ -75,8 +84,8 @@ impl Entries {
         ensures stay { PlacesStay self.old self.new }
         ensures roomy { IsRoomy self.new }
     {
-        let key = key.copy()?;
-        make_place(&mut self.late, (number, key))
+        let place = (number, key.copy()?);
+        make_place(&mut self.late, &place)
     }
 
     /// Makes a place for an entry of that number and key: where it will be read and, past the number that will be
@@ -215,55 +224,127 @@ impl Entries {
         }
     }
 
-    /// Copies of the entries.
-    pub fn copies(&self, alloc: Global) -> Result<Vec<PieceEntry>, AllocError>
-        ensures { IfOk result (λ all. AreAll self.now (map entry_of all.items)) }
+    /// Makes places for what is read in another tree.
+    fn make_read_places(
+        &mut self,
+        reach: u64,
+        reads: &BTreeMap<Key, Option<Stamp>, Global>,
+    ) -> Result<(), AllocError>
+        requires { IsRoomy self.old }
+        ensures same { HoldAlike self.old self.new }
+        ensures places { OnOk result ((e : Entry) → IsReadIn reads.now e → HasPlaces self.new reach e.number e.key) }
+        ensures stay { PlacesStay self.old self.new }
+        ensures roomy { IsRoomy self.new }
     {
-        let mut all = Vec::new(alloc);
-        push_reads(&mut all, &self.reads)?;
-        push_late(&mut all, &self.late)?;
-        Ok(all)
+        for (key, place) in reads.iter() {
+            if let Some(there) = place {
+                self.make_place(reach, there.number, key)?;
+            }
+        }
+        Ok(())
     }
-}
 
-/// Appends copies of the entries that are read.
-fn push_reads(
-    all: &mut Vec<PieceEntry>,
-    reads: &BTreeMap<Key, Option<Stamp>, Global>,
-) -> Result<(), AllocError>
-    ensures all { OnOk result (map entry_of all.new.items ≡ map entry_of all.old.items ++ made_of read_entry reads.now.entries) }
-    ensures ordered { IsOrdered (slice_cmp nat_cmp) reads.now }
-{
-    for (key, place) in reads.iter() {
-        if let Some(there) = place {
-            all.push(PieceEntry {
-                key: key.copy()?,
-                number: there.number,
-                value: there.value.copy()?,
-            })?;
+    /// Makes places for the late entries of another tree.
+    fn make_late_places(
+        &mut self,
+        reach: u64,
+        late: &BTreeMap<(u64, Key), Option<Value>, Global>,
+    ) -> Result<(), AllocError>
+        requires { IsRoomy self.old }
+        ensures same { HoldAlike self.old self.new }
+        ensures places { OnOk result ((e : Entry) → IsLateIn late.now e → HasPlaces self.new reach e.number e.key) }
+        ensures stay { PlacesStay self.old self.new }
+        ensures roomy { IsRoomy self.new }
+    {
+        for (place, there) in late.iter() {
+            if there.is_some() {
+                self.make_place(reach, place.0, &place.1)?;
+            }
+        }
+        Ok(())
+    }
+
+    /// Makes places for the other entries.
+    pub fn make_places_of(&mut self, reach: u64, other: &Entries) -> Result<(), AllocError>
+        requires { IsRoomy self.old }
+        ensures same { HoldAlike self.old self.new }
+        ensures places { OnOk result ((e : Entry) → Holds other.now e → HasPlaces self.new reach e.number e.key) }
+        ensures stay { PlacesStay self.old self.new }
+        ensures roomy { IsRoomy self.new }
+    {
+        self.make_read_places(reach, &other.reads)?;
+        self.make_late_places(reach, &other.late)?;
+        Ok(())
+    }
+
+    /// Puts what is read in another tree where it belongs at that level, but what is superseded.
+    fn put_reads(&mut self, level: u64, mut reads: BTreeMap<Key, Option<Stamp>, Global>)
+        requires places { (e : Entry) → IsReadIn reads e → HasPlaces self.old level e.number e.key }
+        requires within { ReadsWithin level self.old }
+        requires roomy { IsRoomy self.old }
+        ensures settles { Settles level self.old (IsReadIn reads) self.new NoneLeft }
+        ensures within { ReadsWithin level self.new }
+        ensures late { LateFrom level self.old self.new }
+        ensures stay { PlacesStay self.old self.new }
+        ensures roomy { IsRoomy self.new }
+    {
+        while let Some((key, place)) = pop_place(&mut reads) {
+            if let Some(there) = place {
+                self.put(level, key, there.number, there.value);
+            }
         }
     }
-    Ok(())
-}
 
-/// Appends copies of the late entries.
-fn push_late(
-    all: &mut Vec<PieceEntry>,
-    late: &BTreeMap<(u64, Key), Option<Value>, Global>,
-) -> Result<(), AllocError>
-    ensures all { OnOk result (map entry_of all.new.items ≡ map entry_of all.old.items ++ made_of late_entry late.now.entries) }
-    ensures ordered { IsOrdered late_cmp late.now }
-{
-    for (place, there) in late.iter() {
-        if let Some(value) = there {
-            all.push(PieceEntry {
-                key: place.1.copy()?,
-                number: place.0,
-                value: value.copy()?,
-            })?;
+    /// Puts the late entries of another tree where they belong at that level, but those that are superseded.
+    fn put_lates(&mut self, level: u64, mut late: BTreeMap<(u64, Key), Option<Value>, Global>)
+        requires places { (e : Entry) → IsLateIn late e → HasPlaces self.old level e.number e.key }
+        requires within { ReadsWithin level self.old }
+        requires roomy { IsRoomy self.old }
+        ensures settles { Settles level self.old (IsLateIn late) self.new NoneLeft }
+        ensures within { ReadsWithin level self.new }
+        ensures late { LateFrom level self.old self.new }
+        ensures stay { PlacesStay self.old self.new }
+        ensures roomy { IsRoomy self.new }
+    {
+        while let Some((place, there)) = pop_place(&mut late) {
+            if let Some(value) = there {
+                self.put(level, place.1, place.0, value);
+            }
         }
     }
-    Ok(())
+
+    /// Puts the other entries where they belong at that level, but those that are superseded.
+    pub fn put_others(&mut self, level: u64, other: Entries)
+        requires places { (e : Entry) → Holds other e → HasPlaces self.old level e.number e.key }
+        requires within { ReadsWithin level self.old }
+        requires roomy { IsRoomy self.old }
+        ensures settles { Settles level self.old (Holds other) self.new NoneLeft }
+        ensures within { ReadsWithin level self.new }
+        ensures late { LateFrom level self.old self.new }
+        ensures roomy { IsRoomy self.new }
+    {
+        let Entries { reads, late } = other;
+        self.put_reads(level, reads);
+        self.put_lates(level, late);
+    }
+
+    /// The keys in their order, with what is read under each where something is.
+    pub fn reads(&self) -> &BTreeMap<Key, Option<Stamp>, Global>
+        ensures { result.now ≡ self.now.reads }
+    {
+        &self.reads
+    }
+
+    /// A copy, equal to these entries.
+    pub fn copy(&self, alloc: Global) -> Result<Entries, AllocError>
+        ensures same { IfOk result (λ copy. HoldAlike self.now copy) }
+        ensures roomy { IfOk result (λ copy. IsRoomy self.now → IsRoomy copy) }
+    {
+        Ok(Entries {
+            reads: copy_rows(alloc, &self.reads)?,
+            late: copy_rows(alloc, &self.late)?,
+        })
+    }
 }
 
 /// Whether an entry of that number and value is later than the one in the place, if there is one.

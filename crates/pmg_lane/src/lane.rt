@@ -52,33 +52,22 @@ impl Lane {
         ensures err { OnErr result (self.new ≡ self.old) }
     {
         let entries = copies_of(self.alloc, piece.entries())?;
-        self.track.make_room(piece.from(), piece.to(), &entries)?;
-        self.track.take(piece.from(), piece.to(), entries);
-        Ok(())
+        self.track.absorb(piece.from(), piece.to(), entries)
     }
 
     /// Takes all that the other lane has taken. It takes time in proportion to what the other one holds, and to the
-    /// logarithm of what this one does. Where memory is wanting, this one stays as it is, and the other one is handed
+    /// logarithm of what this one does. Where an allocation fails, this one stays as it is, and the other one is handed
     /// back.
     pub fn join(&mut self, other: Lane) -> Result<(), AllocFailed<Lane>>
         ensures ok { OnOk result (self.new ≡ join_cores self.old other) }
         ensures err { OnErr result (self.new ≡ self.old) }
         ensures handed_back { IfErr result (λ e. e.value ≡ other) }
     {
-        if let Err(_) = self.join_copies(&other) {
+        if let Err(_) = self.track.make_rooms(&other.track) {
             return Err(AllocFailed { value: other });
         }
-        Ok(())
-    }
-
-    /// Takes copies of all that the other lane has taken.
-    fn join_copies(&mut self, other: &Lane) -> Result<(), AllocError>
-        ensures ok { OnOk result (self.new ≡ join_cores self.old other.now) }
-        ensures err { OnErr result (self.new ≡ self.old) }
-    {
-        let entries = other.track.copies(self.alloc)?;
-        self.track.make_rooms(&other.track, &entries)?;
-        self.track.take_all(&other.track, entries);
+        let Lane { track, .. } = other;
+        self.track.take_all(track);
         Ok(())
     }
 
@@ -114,18 +103,19 @@ impl Lane {
         if level < want { Some(level) } else { None }
     }
 
-    /// Another lane of the same meaning.
+    /// A copy, equal to this lane.
     pub fn copy(&self) -> Result<Lane, AllocError>
         ensures { IfOk result (λ lane. lane ≡ self.now) }
     {
-        let mut copy = Lane::new(self.alloc);
-        copy.join_copies(self)?;
-        Ok(copy)
+        Ok(Lane {
+            alloc: self.alloc,
+            track: self.track.copy(self.alloc)?,
+        })
     }
 }
 
-/// Other entries of the same meaning.
-fn copies_of(alloc: Global, entries: &[PieceEntry]) -> Result<Vec<PieceEntry>, AllocError>
+/// A copy, equal to these entries.
+pub fn copies_of(alloc: Global, entries: &[PieceEntry]) -> Result<Vec<PieceEntry>, AllocError>
     ensures { IfOk result (λ es. es.items ≡ entries.now) }
 {
     let mut copies = Vec::with_capacity(alloc, entries.len())?;

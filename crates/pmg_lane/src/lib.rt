@@ -6,7 +6,9 @@ mod lane;
 mod places;
 mod track;
 
-pub use lane::Lane;
+pub use entries::Stamp;
+pub use lane::{Lane, copies_of};
+pub use places::{make_place, pop_place};
 pub use track::Track;
 
 #[cfg(test)]

@@ -1,6 +1,6 @@
 //! Places in a tree, which are made before they are filled: to make one takes memory, and to fill it takes none.
-ghost use Rattle.std.specs.Prelude.{◌≡◌, ◌⊎◌, Some, cond, OnOk};
-ghost use Rattle.std.specs.BTreeMap.{is_at};
+ghost use Rattle.std.specs.Prelude.{◌≡◌, ◌⊎◌, ◌<◌, Some, None, cond, OnOk, IfSome, IfNone};
+ghost use Rattle.std.specs.BTreeMap.{get, is_at, btree_map_len};
 ghost use Rattle.pmg_lane.specs.Places.{there_at, HasPlace};
 
 use pmg_join::Element;
@@ -10,17 +10,29 @@ use std::collections::BTreeMap;
 /// Makes an empty place for the key, where there is none.
 pub fn make_place<K: Element, V: Drop>(
     tree: &mut BTreeMap<K, Option<V>, Global>,
-    key: K,
+    key: &K,
 ) -> Result<(), AllocError>
     ensures same { (q : K) → there_at K.cmp tree.new q ≡ there_at K.cmp tree.old q }
-    ensures place { OnOk result (HasPlace K.cmp tree.new key) }
+    ensures place { OnOk result (HasPlace K.cmp tree.new key.now) }
     ensures stay { (q : K) → HasPlace K.cmp tree.old q → HasPlace K.cmp tree.new q }
-    ensures no_more { (q : K) → HasPlace K.cmp tree.new q → HasPlace K.cmp tree.old q ⊎ (key ≡ q) }
+    ensures no_more { (q : K) → HasPlace K.cmp tree.new q → HasPlace K.cmp tree.old q ⊎ (key.now ≡ q) }
 {
-    if !tree.contains_key(&key) {
-        tree.insert(key, None)?;
+    if !tree.contains_key(key) {
+        tree.insert(key.copy()?, None)?;
     }
     Ok(())
+}
+
+/// Takes the first place out of the tree, with what is in it.
+pub fn pop_place<K: Element, V: Drop>(
+    tree: &mut BTreeMap<K, Option<V>, Global>,
+) -> Option<(K, Option<V>)>
+    ensures there { IfSome result (λ p. get K.cmp tree.old p.0 ≡ Some p.1) }
+    ensures taken { IfSome result (λ p. (q : K) → get K.cmp tree.new q ≡ cond (is_at (K.cmp p.0) q) None (get K.cmp tree.old q)) }
+    ensures fewer { IfSome result (λ _. btree_map_len tree.new < btree_map_len tree.old) }
+    ensures none { IfNone result ((q : K) → get K.cmp tree.old q ≡ None) }
+{
+    tree.pop_first()
 }
 
 /// Puts the value into the place under the key.

@@ -5,14 +5,14 @@ ghost use Rattle.std.specs.Option.{option_map};
 ghost use Rattle.pmg_value.specs.Spelling.{spelling};
 ghost use Rattle.pmg_commit.specs.Pieces.{entry_of};
 ghost use Rattle.pmg_commit.specs.Knowledge.{nothing, union, core, read};
-ghost use Rattle.pmg_lane.specs.Entries.{AreAll};
 ghost use Rattle.pmg_lane.specs.Lanes.{known_by, level_of, told, reach_with, IsTrack, HasRoom, HaveRooms};
 
-use crate::entries::Entries;
+use crate::entries::{Entries, Stamp};
 use pmg_commit::PieceEntry;
 use pmg_join::Ranges;
 use pmg_value::{Key, Value};
 use std::alloc::{AllocError, Global};
+use std::collections::BTreeMap;
 
 /// What is known of one process: the numbers of the commits that were taken, and the entries that are not
 /// superseded. Where there is room for more, it is taken without memory.
@@ -102,38 +102,65 @@ impl Track {
         self.entries.put_all(level, entries);
     }
 
-    /// Copies of the entries.
-    pub fn copies(&self, alloc: Global) -> Result<Vec<PieceEntry>, AllocError>
-        ensures { IfOk result (λ all. AreAll self.now.entries (map entry_of all.items)) }
+    /// Takes the commits from+1 to to and their entries. Where an allocation fails, the track stays as it is.
+    pub fn absorb(&mut self, from: u64, to: u64, entries: Vec<PieceEntry>) -> Result<(), AllocError>
+        requires kept { IsTrack self.old }
+        requires some { from < to }
+        requires bound { to ≤ 4294967295 }
+        ensures kept { IsTrack self.new }
+        ensures taken { OnOk result (core (known_by self.new)
+            ≡ core (union (known_by self.old) (told from to (map entry_of entries.items)))) }
+        ensures same { OnErr result (known_by self.new ≡ known_by self.old) }
     {
-        self.entries.copies(alloc)
+        self.make_room(from, to, &entries)?;
+        self.take(from, to, entries);
+        Ok(())
     }
 
-    /// Makes room for all that the other track has, of which these are the entries.
-    pub fn make_rooms(&mut self, other: &Track, entries: &[PieceEntry]) -> Result<(), AllocError>
+    /// Makes room for all that the other track has.
+    pub fn make_rooms(&mut self, other: &Track) -> Result<(), AllocError>
         requires { IsTrack self.old }
         ensures kept { IsTrack self.new }
         ensures same { known_by self.new ≡ known_by self.old }
-        ensures room { OnOk result (HaveRooms self.new other.now entries.now) }
+        ensures room { OnOk result (HaveRooms self.new other.now) }
     {
         let level = self.level();
-        self.entries.make_places(level, entries)?;
+        self.entries.make_places_of(level, &other.entries)?;
         self.taken.make_rooms(&other.taken)?;
         Ok(())
     }
 
-    /// Takes all that the other track has, of which these are the entries, and for which there is room.
-    pub fn take_all(&mut self, other: &Track, entries: Vec<PieceEntry>)
+    /// Takes all that the other track has, for which there is room.
+    pub fn take_all(&mut self, other: Track)
         requires kept { IsTrack self.old }
-        requires other { IsTrack other.now }
-        requires all { AreAll other.now.entries (map entry_of entries.items) }
-        requires room { HaveRooms self.old other.now entries.items }
+        requires other { IsTrack other }
+        requires room { HaveRooms self.old other }
         ensures kept { IsTrack self.new }
-        ensures taken { core (known_by self.new) ≡ core (union (known_by self.old) (known_by other.now)) }
+        ensures taken { core (known_by self.new) ≡ core (union (known_by self.old) (known_by other)) }
     {
-        self.taken.fill_rooms(&other.taken);
+        let Track { taken, entries } = other;
+        self.taken.fill_rooms(&taken);
         let level = self.taken.level();
         self.entries.promote(level);
-        self.entries.put_all(level, entries);
+        self.entries.put_others(level, entries);
+    }
+
+    /// The keys in their order, with what is read under each where something is.
+    pub fn reads(&self) -> &BTreeMap<Key, Option<Stamp>, Global>
+        ensures { result.now ≡ self.now.entries.reads }
+    {
+        self.entries.reads()
+    }
+
+    /// A copy, equal to this track.
+    pub fn copy(&self, alloc: Global) -> Result<Track, AllocError>
+        requires { IsTrack self.now }
+        ensures kept { IfOk result IsTrack }
+        ensures same { IfOk result (λ copy. known_by copy ≡ known_by self.now) }
+    {
+        Ok(Track {
+            taken: self.taken.copy()?,
+            entries: self.entries.copy(alloc)?,
+        })
     }
 }

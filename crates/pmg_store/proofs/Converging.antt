@@ -1,17 +1,36 @@
 -- The data of pieces, in any order and grouping.
 use Rattle.std.proofs.Common.{List, [], ◌∷◌, ◌++◌, ◌≡◌, map, refl, sym, ap, ◌∙◌}
 use Rattle.std.specs.FinMap as finite
+use Rattle.std.specs.Prelude.{Option, Some, None}
+use Rattle.pmg_value.specs.Maps.{join_options}
+use Rattle.pmg_value.specs.Process.{proc_cmp}
 use Rattle.pmg_value.proofs.ListLemmas.{same_items_map}
+use Rattle.pmg_value.proofs.MapLemmas.{get-join_maps}
+use Rattle.pmg_value.proofs.ProcessOrder.{procs_total, exact_procs}
+use Rattle.pmg_commit.specs.Cores.{Core, join_cores}
 use Rattle.pmg_join.specs.Joins.{join_all}
 use Rattle.pmg_join.proofs.ManyJoined.{join_all-append, free_in_order, free_in_grouping}
 use Rattle.pmg_commit.specs.Knowledge.{Contribution}
-use Rattle.pmg_commit.specs.Data.{join_data, of_contribution, absorbed, level_at, read_at}
+use Rattle.pmg_commit.specs.Data.{Data, join_data, of_contribution, absorbed, level_at, read_at}
 use Rattle.pmg_store.specs.Joining.{data_joined}
 use Rattle.pmg_store.specs.Pieces.{data_of}
 use Rattle.pmg_store.specs.Convergence.{SameInAnyOrder, SameInAnyGrouping, ReadsAlike, PrintsAlike, StreamsPrintAlike}
 use Rattle.pmg_store.specs.Dump.{dump}
 use Rattle.pmg_store.specs.Told.{data_told}
 
+-- ---- nothing more
+none_joined : (known : Option Core) → join_options join_cores known None ≡ known
+none_joined None = refl
+none_joined (Some core) = refl
+
+pub nothing_joined : (all : Data) → join_data all finite.empty ≡ all
+nothing_joined all = finite.same_map procs_total exact_procs _ _
+    (λ p. get-join_maps procs_total join_cores all finite.empty p ∙ (λ i. join_options join_cores (finite.get all p) (finite.get-empty {X = Core} proc_cmp p i)) ∙ none_joined (finite.get all p))
+
+pub joined_to_nothing : (all : Data) → join_data finite.empty all ≡ all
+joined_to_nothing all = data_joined.comm finite.empty all ∙ nothing_joined all
+
+-- ---- pieces
 map-append : {A B : Type 0} (f : A → B) (xs ys : List A) → map f (xs ++ ys) ≡ map f xs ++ map f ys
 map-append f [] ys = refl
 map-append f (x ∷ xs) ys = ap (λ zs. f x ∷ zs) (map-append f xs ys)

@@ -14,7 +14,7 @@ use Rattle.pmg_commit.specs.Levels.{level}
 use Rattle.pmg_commit.specs.Honest.{IsHonest, known_from}
 use Rattle.pmg_commit.proofs.HonestLaws.{honest_reading}
 use Rattle.pmg_store.specs.Pieces.{is_of, told_of}
-use Rattle.pmg_store.specs.HonestStores.{AreHonest, StoreReadsHonestly, EqualLevelsReadAlike}
+use Rattle.pmg_store.specs.HonestStores.{AreHonest, StoreReadsHonestly, EqualStoresReadAlike}
 use Rattle.pmg_store.proofs.Telling.{level-told, read-told}
 
 nothing_more : (k : Knowledge) → union nothing k ≡ k
@@ -47,6 +47,6 @@ store_reads_honestly s r p pieces h key =
     ∙ honest_reading s r (filter (is_of p) pieces) (honest_own s r p pieces h) key
     ∙ ap (λ n. value_at s n r key) (ap (λ (k : Knowledge). level k.numbers) (sym told) ∙ sym (level-told p pieces))
 
-pub equal_levels_read_alike : EqualLevelsReadAlike
+pub equal_levels_read_alike : EqualStoresReadAlike
 equal_levels_read_alike s r p xs ys a b same key =
     store_reads_honestly s r p xs a key ∙ ap (λ n. value_at s n r key) same ∙ sym (store_reads_honestly s r p ys b key)

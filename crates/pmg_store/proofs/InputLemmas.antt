@@ -8,7 +8,7 @@ use Rattle.pmg_store.specs.declared.input.TheConstants.{INPUT_LIMIT}
 use Rattle.pmg_value.specs.declared.refusal.Refusal.TheVariants.{BadFrame}
 use Rattle.pmg_store.specs.declared.failure.Failure.TheVariants.{Refused}
 use Rattle.pmg_store.specs.Input.{input_of, too_much_input}
-use Rattle.pmg_store.specs.Outcomes.{Fails, or_failure}
+use Rattle.pmg_store.specs.Outcomes.{FailsInput, or_failure}
 
 taken_whole : (bytes input : List ℕ) → bytes ≡ input → length input ≤ INPUT_LIMIT → input_of bytes ≡ Ok input
 taken_whole bytes input is within = rw is (grind (arith, common_steps))
@@ -28,7 +28,7 @@ all_read (Some bytes) (Some rest) (Some more) input taken within none first last
 
 -- bytes past the limit
 pub too_much_read : (known mid new : Option (List ℕ)) (input taken : List ℕ) → INPUT_LIMIT < length input + length taken →
-    Consumes known mid input → Consumes mid new taken → IfSome known (λ bytes. Fails (Refused (BadFrame too_much_input)) (or_failure (input_of bytes)))
+    Consumes known mid input → Consumes mid new taken → IfSome known (λ bytes. FailsInput (Refused (BadFrame too_much_input)) (or_failure (input_of bytes)))
 too_much_read None mid new input taken over first last = tt
 too_much_read (Some bytes) None new input taken over first last = absurd first
 too_much_read (Some bytes) (Some rest) None input taken over first last = absurd last

@@ -1,7 +1,7 @@
 pub mod Converging
-pub mod Covering
 pub mod DumpLemmas
 pub mod EveryTaking
+pub mod Filled
 pub mod InputLemmas
 pub mod Ordered
 pub mod MergeLaws
@@ -10,6 +10,8 @@ pub mod OutcomeLemmas
 pub mod ReaderLemmas
 pub mod ReadTable
 pub mod Telling
+pub mod TrackData
+pub mod TrackSteps
 pub mod ToldLemmas
 pub mod HonestDataLaws
 pub mod HonestPieces

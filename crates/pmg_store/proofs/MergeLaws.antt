@@ -13,7 +13,7 @@ use Rattle.pmg_commit.specs.Knowledge.{Contribution}
 use Rattle.pmg_frame.specs.declared.frame.Frame.{Frame}
 use Rattle.pmg_frame.specs.declared.frame.Frame.TheVariants as frames
 use Rattle.pmg_frame.specs.Grammar.{AreFrames}
-use Rattle.pmg_frame.specs.Reading.{frame_at}
+use Rattle.pmg_frame.specs.Reading.{read_frame}
 use Rattle.pmg_frame.specs.Spelling.{frame_spelling}
 use Rattle.pmg_frame.specs.Streams.{said_by}
 use Rattle.pmg_frame.proofs.Cuts.{is_said, is_found}
@@ -145,9 +145,9 @@ whole bytes cs fits is =
     parts fs (Some f) offset left is = cc
     parts fs None offset left is = ended fs (fault offset causes.Cut) left (left == 0) refl is
 
--- behind the last whole frame no other follows
-nothing_follows : (offset : ℕ) → frame_at (record { offset = offset; rest = [] }) ≡ Ok None
-unfolding frame_at
+-- after the last whole frame no other follows
+nothing_follows : (offset : ℕ) → read_frame (record { offset = offset; rest = [] }) ≡ Ok None
+unfolding read_frame
 nothing_follows offset = refl
 
 told_whole : (bytes : List ℕ) (cs : List Contribution) → IsWhole bytes cs → told_in bytes ≡ Ok cs

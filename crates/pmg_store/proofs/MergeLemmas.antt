@@ -7,25 +7,20 @@ use Rattle.std.proofs.lemmas.Bool.{lt-ltb, le-ltb, le-leb, lt-leb}
 use Rattle.pmg_value.specs.declared.refusal.Fault.{Fault}
 use Rattle.pmg_value.specs.declared.refusal.Refusal.{Refusal}
 use Rattle.pmg_value.specs.declared.refusal.Refusal.TheVariants as refusals
-use Rattle.pmg_value.specs.Maps.{join_options}
-use Rattle.pmg_value.specs.Process.{proc_cmp}
-use Rattle.pmg_value.proofs.MapLemmas.{get-join_maps}
-use Rattle.pmg_value.proofs.ProcessOrder.{procs_total, exact_procs}
 use Rattle.pmg_wire.specs.Reading.{FailsReading, ◌>>=◌}
-use Rattle.pmg_commit.specs.Cores.{Core, join_cores}
 use Rattle.pmg_commit.specs.Knowledge.{Contribution}
 use Rattle.pmg_commit.specs.Data.{Data, join_data}
 use Rattle.pmg_store.specs.declared.failure.Failure.{Failure}
 use Rattle.pmg_store.specs.declared.failure.Failure.TheVariants as failures
 use Rattle.pmg_store.specs.Joining.{data_joined}
-use Rattle.pmg_store.specs.Outcomes.{Fails, Stops, Dumps, or_failure}
+use Rattle.pmg_store.specs.Outcomes.{FailsInput, Stops, Dumps, or_failure}
 use Rattle.pmg_store.specs.Pieces.{data_of}
 use Rattle.pmg_store.specs.Dump.{dump}
 use Rattle.pmg_store.specs.declared.input.TheConstants.{INPUT_LIMIT}
 use Rattle.pmg_store.specs.Input.{input_of, too_much_input}
 use Rattle.pmg_store.specs.Told.{told_in, data_told}
 use Rattle.pmg_store.specs.Merged.{told_by_input, data_by_input, failure_in, told_behind, told_first, told_from, made_of, merged, merge_of, too_many}
-use Rattle.pmg_store.proofs.Converging.{same_in_any_grouping}
+use Rattle.pmg_store.proofs.Converging.{nothing_joined, same_in_any_grouping}
 use Rattle.pmg_store.proofs.OutcomeLemmas.{fails_first, keeps_same, ok_is, refused_reading}
 
 -- a stream is read whole, and then what it tells is taken
@@ -45,34 +40,26 @@ known_gives (Some bytes) kept store read told =
     ap or_failure (sym (read_then_told bytes) ∙ ap (λ input. input >>= data_told) (ok_is (input_of bytes) kept read) ∙ told)
 
 pub known_fails : (known : Option (List ℕ)) (kept : List ℕ) (refusal : Refusal) → IfSome known (λ bytes. or_failure (input_of bytes) ≡ Ok kept) →
-    FailsReading refusal (data_told kept) → IfSome known (λ bytes. Fails (failures.Refused refusal) (or_failure (data_by_input bytes)))
+    FailsReading refusal (data_told kept) → IfSome known (λ bytes. FailsInput (failures.Refused refusal) (or_failure (data_by_input bytes)))
 known_fails None kept refusal read fails = tt
 known_fails (Some bytes) kept refusal read fails =
     let same : data_by_input bytes ≡ data_told kept = sym (read_then_told bytes) ∙ ap (λ input. input >>= data_told) (ok_is (input_of bytes) kept read) in
     rw same (refused_reading refusal (data_told kept) fails)
 
-pub known_fails_first : (known : Option (List ℕ)) (failure : Failure) → IfSome known (λ bytes. Fails failure (or_failure (input_of bytes))) →
-    IfSome known (λ bytes. Fails failure (or_failure (data_by_input bytes)))
+pub known_fails_first : (known : Option (List ℕ)) (failure : Failure) → IfSome known (λ bytes. FailsInput failure (or_failure (input_of bytes))) →
+    IfSome known (λ bytes. FailsInput failure (or_failure (data_by_input bytes)))
 known_fails_first None failure fails = tt
 known_fails_first (Some bytes) failure fails =
     fails_first failure (told_by_input bytes) (λ cs. Ok (data_of cs)) (fails_first failure (input_of bytes) told_in fails)
 
--- what a server holds that takes contributions behind what it held
+-- what a server holds that takes contributions after what it held
 abbrev pub taken_with : Data → Result (List Contribution) Failure → Result Data Failure
 taken_with all told = made_of (λ cs. join_data all (data_of cs)) told
-
-none_joined : (known : Option Core) → join_options join_cores known None ≡ known
-none_joined None = refl
-none_joined (Some core) = refl
-
-nothing_joined : (all : Data) → join_data all (data_of []) ≡ all
-nothing_joined all = finite.same_map procs_total exact_procs _ _
-    (λ p. get-join_maps procs_total join_cores all finite.empty p ∙ (λ i. join_options join_cores (finite.get all p) (finite.get-empty {X = Core} proc_cmp p i)) ∙ none_joined (finite.get all p))
 
 started : (cs : List Contribution) → join_data finite.empty (data_of cs) ≡ data_of cs
 started cs = same_in_any_grouping [] cs
 
--- On the way: what the other readers give, behind what was taken, is what all give. Of each reader the bytes may be known.
+-- On the way: what the other readers give, after what was taken, is what all give. Of each reader the bytes may be known.
 abbrev pub IsOnTheWay : Data → ℕ → List (Option (List ℕ)) → List (Option (List ℕ)) → Type 0
 IsOnTheWay all number left whole =
     (streams : List (List ℕ)) → whole ≡ map Some streams → (rest : List (List ℕ)) × (left ≡ map Some rest) × (taken_with all (told_from (suc number) rest) ≡ merged streams)
@@ -141,8 +128,8 @@ fault_due all number known left whole way streams is bytes at_hand f fails =
     let one : taken_with all (told_first (suc number) (Err f) others) ≡ merged streams = rw told at behind in
     sym one
 
-due_failure : (number : ℕ) (failure : Failure) (first : Result Data Fault) (due : Result Data Failure) → Fails failure (or_failure first) →
-    ((f : Fault) → first ≡ Err f → due ≡ Err (failures.InStream number f)) → Fails (failure_in number failure) due
+due_failure : (number : ℕ) (failure : Failure) (first : Result Data Fault) (due : Result Data Failure) → FailsInput failure (or_failure first) →
+    ((f : Fault) → first ≡ Err f → due ≡ Err (failures.InStream number f)) → FailsInput (failure_in number failure) due
 due_failure number failure first due (inl (inl is)) fault = rw is (inl (inl refl))
 due_failure number failure first due (inl (inr is)) fault = rw is (inl (inr refl))
 due_failure number failure (Ok store) due (inr is) fault = cc
@@ -151,11 +138,11 @@ due_failure number failure (Err f) due (inr is) fault =
     rw same (inr (fault f refl))
 
 pub on_failure : (all : Data) (number : ℕ) (known : Option (List ℕ)) (left whole : List (Option (List ℕ))) (failure : Failure) → IsOnTheWay all number (known ∷ left) whole →
-    IfSome known (λ bytes. Fails failure (or_failure (data_by_input bytes))) → (streams : List (List ℕ)) → whole ≡ map Some streams → Fails (failure_in (number + 1) failure) (merged streams)
+    IfSome known (λ bytes. FailsInput failure (or_failure (data_by_input bytes))) → (streams : List (List ℕ)) → whole ≡ map Some streams → FailsInput (failure_in (number + 1) failure) (merged streams)
 on_failure all number known left whole failure way fails streams is =
     let at = way streams is in
     let first = first_is known left at.0 at.1 in
-    subst (λ (n : ℕ). Fails (failure_in n failure) (merged streams)) (one_more number)
+    subst (λ (n : ℕ). FailsInput (failure_in n failure) (merged streams)) (one_more number)
     (due_failure (suc number) failure (data_by_input first.0) (merged streams) (rw first.2 at fails) (fault_due all number known left whole way streams is first.0 first.2))
 
 none_left : (rest : List (List ℕ)) → [] ≡ map {A = List ℕ} Some rest → rest ≡ []
@@ -189,7 +176,7 @@ failure_due : {X Y : Type 0} (told : Result (List Contribution) Failure) (make :
 failure_due (Ok cs) make other e is = cc
 failure_due (Err f) make other e is = cc
 
-pub merge_failed : (known : Option (List ℕ)) (e : Failure) (streams : List (List ℕ)) → length streams ≤ 64 → Fails e (merged streams) →
+pub merge_failed : (known : Option (List ℕ)) (e : Failure) (streams : List (List ℕ)) → length streams ≤ 64 → FailsInput e (merged streams) →
     Stops known known e (merge_of streams)
 merge_failed known e streams few (inl always) = inl (inl always, keeps_same known)
 merge_failed known e streams few (inr due) =

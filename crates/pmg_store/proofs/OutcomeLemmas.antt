@@ -10,7 +10,7 @@ use Rattle.pmg_value.specs.declared.refusal.Refusal.TheVariants as refusals
 use Rattle.pmg_wire.specs.Reading.{FailsReading, ◌>>=◌}
 use Rattle.pmg_store.specs.declared.failure.Failure.{Failure}
 use Rattle.pmg_store.specs.declared.failure.Failure.TheVariants as failures
-use Rattle.pmg_store.specs.Outcomes.{Fails, Stops, Dumps, or_failure}
+use Rattle.pmg_store.specs.Outcomes.{FailsInput, Stops, Dumps, or_failure}
 
 -- the refusal of the first step is that of all, where bytes are read
 pub refused_first : {A B : Type 0} (refusal : Refusal) (first : Result A Fault) (next : A → Result B Fault) →
@@ -33,7 +33,7 @@ refused_first refusals.Unordered first next fails = absurd fails
 refused_first refusals.Closed first next fails = absurd fails
 
 -- the refusal of a reader of bytes
-pub refused_reading : {Y : Type 0} (refusal : Refusal) (due : Result Y Fault) → FailsReading refusal due → Fails (failures.Refused refusal) (or_failure due)
+pub refused_reading : {Y : Type 0} (refusal : Refusal) (due : Result Y Fault) → FailsReading refusal due → FailsInput (failures.Refused refusal) (or_failure due)
 refused_reading refusals.NoMemory due fails = inl (inl refl)
 refused_reading (refusals.BadFrame fault) due fails = inr (ap or_failure fails)
 refused_reading refusals.BadParam due fails = absurd fails
@@ -58,7 +58,7 @@ err_first failure (Err fault) next is = let same : failures.Refused (refusals.Ba
 
 -- the failure of the first step is that of all
 pub fails_first : {A B : Type 0} (failure : Failure) (first : Result A Fault) (next : A → Result B Fault) →
-    Fails failure (or_failure first) → Fails failure (or_failure (first >>= next))
+    FailsInput failure (or_failure first) → FailsInput failure (or_failure (first >>= next))
 fails_first failure first next (inl always) = inl always
 fails_first failure first next (inr is) = inr (err_first failure first next is)
 
@@ -79,7 +79,7 @@ keeps_same (Some xs) = refl
 -- At a reader whose bytes may be known, `first` and `next` say what is due for them: a first step that fails leaves
 -- nothing written; where it succeeds, the next one decides.
 pub known_stops : {A : Type 0} (known old : Option (List ℕ)) (failure : Failure) (first : List ℕ → Result A Fault) (next : A → Result (List ℕ) Fault) →
-    IfSome known (λ bytes. Fails failure (or_failure (first bytes))) → IfSome known (λ bytes. Stops old old failure (or_failure (first bytes >>= next)))
+    IfSome known (λ bytes. FailsInput failure (or_failure (first bytes))) → IfSome known (λ bytes. Stops old old failure (or_failure (first bytes >>= next)))
 known_stops None old failure first next fails = tt
 known_stops (Some bytes) old failure first next fails = inl (fails_first failure (first bytes) next fails, keeps_same old)
 

@@ -1,5 +1,5 @@
 -- The table of what is read answers as `read` does.
-use Rattle.std.proofs.Common.{ℕ, List, [], ◌∷◌, ◌≡◌, Bool, nat_le, true, false, ◌||◌, ◌&&◌, cond, refl, sym, ap, ◌∙◌}
+use Rattle.std.proofs.Common.{ℕ, List, [], ◌∷◌, ◌≡◌, Bool, true, false, ◌||◌, cond, refl, sym, ap, ◌∙◌}
 use Rattle.std.specs.Prelude.{Option, Some, None}
 use Rattle.std.specs.Option.{option_map}
 use Rattle.std.specs.List.{list_any}
@@ -13,18 +13,13 @@ use Rattle.std.specs.FinSet as set
 use Rattle.std.proofs.lemmas.Map.Text.{is_eq-slice_cmp}
 use Rattle.std.proofs.lemmas.Slice.Eq.{bytes_eq-Decides}
 use Rattle.std.proofs.lemmas.Bool.{and_parts, or_left, or_right}
-use Rattle.pmg_commit.specs.Entries.{Entry, best_of_two, is_later}
-use Rattle.pmg_store.specs.Tables.{best_at, improves}
+use Rattle.pmg_commit.specs.Entries.{Entry}
 use Rattle.pmg_value.specs.declared.value.Value.{Value}
 use Rattle.pmg_value.specs.Spelling.{spelling, IsValue}
 use Rattle.pmg_value.specs.Text.{text_of}
-use Rattle.std.specs.BTreeMap.{BTreeMap, get, is_at}
-use Rattle.pmg_commit.specs.Pieces.{entry_of}
-use Rattle.pmg_commit.specs.declared.piece.PieceEntry.{PieceEntry}
-use Rattle.pmg_value.proofs.SetLemmas.{same_bool}
 use Rattle.pmg_commit.specs.Knowledge.{Knowledge, is_read, read}
 use Rattle.pmg_store.specs.Dump.{with_reading, readings, reads_of, text_read, value_text}
-use Rattle.pmg_wire.specs.Fields.{value_at}
+use Rattle.pmg_wire.specs.Fields.{read_value}
 use Rattle.pmg_wire.proofs.FieldLaws.{value_again}
 use Rattle.std.proofs.lemmas.List.{append-nil}
 
@@ -76,63 +71,7 @@ get-reads_of k q =
     whole false None h = refl
     whole false (Some bytes) h = absurd (let bad = h bytes refl in cc)
 
--- ---- tables of entries
-
-none_of_three : (a b c : Bool) → (a ≡ true → (b && c) ≡ false) → ((a && b) && c) ≡ false
-none_of_three true b c h = h refl
-none_of_three false b c h = refl
-
-none_of_two : (a b : Bool) → (a ≡ true → b ≡ false) → (a && b) ≡ false
-none_of_two true b h = h refl
-none_of_two false b h = refl
-
--- an entry that is no better leaves what is best
-pub no_better : (level : ℕ) (q : List ℕ) (e : Entry) (o : Option Entry) → (q ≡ e.key → improves level o e ≡ false) → o ≡ best_of_two level q o e
-no_better level q e None h = rw (none_of_two (bytes_eq q e.key) (nat_le e.number level) (λ t. h ((bytes_eq-Decides q e.key).0 t))) refl
-no_better level q e (Some best) h = rw (none_of_three (bytes_eq q e.key) (nat_le e.number level) (is_later best e) (λ t. h ((bytes_eq-Decides q e.key).0 t))) refl
-
--- one that is better takes its place
-pub better : (level : ℕ) (q : List ℕ) (e : Entry) (o : Option Entry) → improves level o e ≡ true → q ≡ e.key → Some e ≡ best_of_two level q o e
-better level q e None i same = rw ((bytes_eq-Decides q e.key).1 same, i) refl
-better level q e (Some best) i same =
-    let parts = and_parts (nat_le e.number level) (is_later best e) i in
-    rw ((bytes_eq-Decides q e.key).1 same, parts.0, parts.1) refl
-
--- and one of another key changes nothing
-pub another_key : (level : ℕ) (q : List ℕ) (e : Entry) (o : Option Entry) → bytes_eq q e.key ≡ false → o ≡ best_of_two level q o e
-another_key level q e o h = no_better level q e o (λ same. absurd (let bad = sym h ∙ (bytes_eq-Decides q e.key).1 same in cc))
-
--- the entry is kept under its key, where it is better
-pub kept : (level : ℕ) (best : List ℕ → Option Entry) (e : Entry) (q : List ℕ) → improves level (best e.key) e ≡ true → cond (bytes_eq q e.key) (Some e) (best q) ≡ best_of_two level q (best q) e
-kept level best e q i =
-    elim (bytes_eq q e.key) as (λ b. bytes_eq q e.key ≡ b → cond b (Some e) (best q) ≡ best_of_two level q (best q) e) [
-      | true ↦ λ t.
-          let same = (bytes_eq-Decides q e.key).0 t in
-          better level q e (best q) (ap (λ (k : List ℕ). improves level (best k) e) same ∙ i) same
-      | false ↦ λ t. another_key level q e (best q) t
-    ] refl
-
-pub at_key : (key q : List ℕ) → is_at (slice_cmp nat_cmp key) q ≡ bytes_eq q key
-at_key key q = is_eq-slice_cmp key q ∙ same_bool (bytes_eq key q) (bytes_eq q key)
-    (λ t. (bytes_eq-Decides q key).1 (sym ((bytes_eq-Decides key q).0 t))) (λ t. (bytes_eq-Decides key q).1 (sym ((bytes_eq-Decides q key).0 t)))
-
-map-cond : (b : Bool) (v : PieceEntry) (o : Option PieceEntry) → option_map entry_of (cond b (Some v) o) ≡ cond b (Some (entry_of v)) (option_map entry_of o)
-map-cond true v o = refl
-map-cond false v o = refl
-
--- the table in which the entry was put under its key
-pub inserted : (level : ℕ) (old new : BTreeMap (List ℕ) PieceEntry) (key : List ℕ) (value entry : PieceEntry) (q : List ℕ)
-    → get (slice_cmp nat_cmp) new q ≡ cond (is_at (slice_cmp nat_cmp key) q) (Some value) (get (slice_cmp nat_cmp) old q)
-    → key ≡ entry.key → value ≡ entry → improves level (best_at old entry.key) (entry_of entry) ≡ true
-    → best_at new q ≡ best_of_two level q (best_at old q) (entry_of entry)
-inserted level old new key value entry q put same_key same_value i =
-    ap (option_map entry_of) put
-    ∙ map-cond (is_at (slice_cmp nat_cmp key) q) value (get (slice_cmp nat_cmp) old q)
-    ∙ ap (λ (v : PieceEntry). cond (is_at (slice_cmp nat_cmp key) q) (Some (entry_of v)) (best_at old q)) same_value
-    ∙ ap (λ (b : Bool). cond b (Some (entry_of entry)) (best_at old q)) (at_key key q ∙ ap (bytes_eq q) same_key)
-    ∙ kept level (best_at old) (entry_of entry) q i
-
 -- the text of a value's canonical bytes is the value's
 pub value_text-spelling : (v : Value) → IsValue v → value_text (spelling v) ≡ text_of v
 unfolding value_text
-value_text-spelling v is = ap text_read (ap (λ (t : List ℕ). value_at (record { offset = 0; rest = t })) (sym (append-nil (spelling v))) ∙ value_again 0 v [] is)
+value_text-spelling v is = ap text_read (ap (λ (t : List ℕ). read_value (record { offset = 0; rest = t })) (sym (append-nil (spelling v))) ∙ value_again 0 v [] is)

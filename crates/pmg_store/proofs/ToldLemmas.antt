@@ -1,13 +1,22 @@
 -- What a stream tells is what was fed, where it was fed whole.
-use Rattle.std.proofs.Common.{◌≡◌, ℕ, ◌==◌, Bool, true, false, cond, List, [], length, Option, Some, None, Result, Ok, Err, refl, sym, ap, subst, ◌∙◌, arith}
+use Rattle.std.proofs.Common.{◌≡◌, ℕ, ◌==◌, Bool, true, false, cond, List, [], ◌∷◌, ◌++◌, map, length, Option, Some, None, Result, Ok, Err, refl, sym, ap, subst, ◌∙◌, arith}
 use Rattle.pmg_value.specs.declared.refusal.Cause.TheVariants as causes
 use Rattle.pmg_value.specs.declared.refusal.Fault.{Fault}
 use Rattle.pmg_value.specs.declared.refusal.Refusal.{Refusal}
 use Rattle.pmg_value.specs.declared.refusal.Refusal.TheVariants as refusals
 use Rattle.pmg_wire.specs.Reading.{Place, fault, FailsReading}
+use Rattle.std.specs.Prelude.{OnOk, IfErr}
+use Rattle.std.specs.FinMap as finite
 use Rattle.pmg_frame.specs.declared.frame.Frame.{Frame}
-use Rattle.pmg_frame.specs.Streams.{Said, Feeds, finished, said_by}
-use Rattle.pmg_frame.proofs.Cuts.{said_is}
+use Rattle.pmg_frame.specs.declared.frame.Frame.TheVariants as frames
+use Rattle.pmg_frame.specs.Reading.{read_frame}
+use Rattle.pmg_join.specs.Joins.{join_all}
+use Rattle.pmg_join.proofs.ManyJoined.{free_in_grouping}
+use Rattle.pmg_commit.specs.Data.{Data, join_data, of_contribution}
+use Rattle.pmg_store.specs.Joining.{data_joined}
+use Rattle.pmg_store.proofs.Converging.{nothing_joined}
+use Rattle.pmg_frame.specs.Streams.{Said, Feeds, Runs, StopsAt, left_after, finished, said_by}
+use Rattle.pmg_frame.proofs.Cuts.{said_is, runs_none, runs_push}
 use Rattle.pmg_commit.specs.Knowledge.{Contribution}
 use Rattle.pmg_store.specs.Pieces.{data_of}
 use Rattle.pmg_store.proofs.OutcomeLemmas.{refused_first}
@@ -62,3 +71,59 @@ unfolding data_told
 told_cut bytes fs new e fed done =
     let cut = cut_of (length fed.end.rest == 0) (contributions fs) (fault fed.end.offset causes.Cut) e (sym (ended bytes fs new fed) ∙ done) in
     refused_first e (told_in bytes) (λ cs. Ok (data_of cs)) (rw (told_of_feed bytes fs None new fed) cut)
+
+-- ---- contributions are taken as their frames are read
+-- the contributions of the frames from the start to a place are taken
+abbrev pub IsTakenTo : List ℕ → Data → Place → Data → Type 0
+IsTakenTo bytes old at new =
+    (fs : List Frame) × Runs (record { offset = 0; rest = bytes }) fs at × (new ≡ join_all join_data old (map of_contribution (contributions fs)))
+
+pub none_taken : (bytes : List ℕ) (old : Data) → IsTakenTo bytes old (record { offset = 0; rest = bytes }) old
+none_taken bytes old = ([], runs_none (record { offset = 0; rest = bytes }), refl)
+
+taken_more : (d : Data) (fs : List Frame) (frame : Frame)
+    → join_all join_data (join_all join_data d (map of_contribution (contributions fs))) (map of_contribution (contributions (frame ∷ [])))
+    ≡ join_all join_data d (map of_contribution (contributions (fs ++ frame ∷ [])))
+taken_more d [] frame = refl
+taken_more d (frames.Piece c ∷ fs) frame = taken_more (join_data d (of_contribution c)) fs frame
+taken_more d (frames.Header h ∷ fs) frame = taken_more d fs frame
+taken_more d (frames.FenceAsk a ∷ fs) frame = taken_more d fs frame
+taken_more d (frames.RangeAsk a ∷ fs) frame = taken_more d fs frame
+taken_more d (frames.DirectAsk a ∷ fs) frame = taken_more d fs frame
+
+pub one_taken :
+    (bytes : List ℕ) (start_data old new : Data) (at mid : Place) (frame : Frame) → IsTakenTo bytes start_data at old → read_frame at ≡ Ok (Some (frame, mid))
+    → new ≡ join_all join_data old (map of_contribution (contributions (frame ∷ []))) → IsTakenTo bytes start_data mid new
+one_taken bytes start_data old new at mid frame taken next is = (
+  taken.0 ++ frame ∷ [],
+  runs_push (record { offset = 0; rest = bytes }) taken.0 at frame mid taken.1 next,
+  is ∙ ap (λ d. join_all join_data d (map of_contribution (contributions (frame ∷ [])))) taken.2 ∙ taken_more start_data taken.0 frame,
+)
+
+fed_to : (bytes : List ℕ) (fs : List Frame) (end : Place) (f : Option Fault) → Runs (record { offset = 0; rest = bytes }) fs end → StopsAt end f → Feeds start bytes fs f (left_after f end)
+fed_to bytes fs end f runs stops = record { end = end; runs = runs; stops = stops; left = refl }
+
+-- at a fault
+pub fault_told : (bytes : List ℕ) (old new : Data) (at : Place) (refusal : Refusal) → IsTakenTo bytes old at new → FailsReading refusal (read_frame at) → FailsReading refusal (data_told bytes)
+fault_told bytes old new at refusal taken fails = of_refusal refusal fails
+  where
+    of_refusal : (e : Refusal) → FailsReading e (read_frame at) → FailsReading e (data_told bytes)
+    of_refusal refusals.NoMemory h = tt
+    of_refusal (refusals.BadFrame f) h = told_fault bytes taken.0 f None (fed_to bytes taken.0 at (Some f) taken.1 h)
+    of_refusal e h = absurd h
+
+-- at the end of the frames
+pub end_told : (bytes : List ℕ) (old new : Data) (at : Place) (r : Result (Unit {0}) Refusal) → IsTakenTo bytes old at new → read_frame at ≡ Ok None → r ≡ finished (Some at)
+    → OnOk r ((d : Data) × (data_told bytes ≡ Ok d) × (new ≡ join_data old d))
+end_told bytes old new at (Err e) taken none is = tt
+end_told bytes old new at (Ok x) taken none is =
+    let cs = contributions taken.0 in (
+      data_of cs,
+      told_whole bytes taken.0 (Some at) (fed_to bytes taken.0 at None taken.1 none) (sym is),
+      taken.2 ∙ ap (λ d. join_all join_data d (map of_contribution cs)) (sym (nothing_joined old)) ∙ sym (free_in_grouping data_joined old finite.empty [] (map of_contribution cs)),
+    )
+
+pub end_cut : (bytes : List ℕ) (old new : Data) (at : Place) (r : Result (Unit {0}) Refusal) → IsTakenTo bytes old at new → read_frame at ≡ Ok None → r ≡ finished (Some at)
+    → IfErr r (λ e. FailsReading e (data_told bytes))
+end_cut bytes old new at (Ok x) taken none is = tt
+end_cut bytes old new at (Err e) taken none is = told_cut bytes taken.0 (Some at) e (fed_to bytes taken.0 at None taken.1 none) (sym is)

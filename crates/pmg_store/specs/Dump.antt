@@ -9,7 +9,7 @@ use Rattle.pmg_value.specs.declared.process.Proc.{Proc}
 use Rattle.pmg_value.specs.declared.value.Value.{Value}
 use Rattle.pmg_value.specs.Text.{text_of}
 use Rattle.pmg_wire.specs.Reading.{Read}
-use Rattle.pmg_wire.specs.Fields.{value_at}
+use Rattle.pmg_wire.specs.Fields.{read_value}
 use Rattle.pmg_commit.specs.Entries.{Entry}
 use Rattle.pmg_commit.specs.Levels.{level}
 use Rattle.pmg_commit.specs.Knowledge.{Knowledge, read}
@@ -22,7 +22,7 @@ text_read (Err f) = []
 
 -- the text of the value that these canonical bytes spell
 unfoldable pub value_text : List ℕ → List ℕ
-value_text bytes = text_read (value_at (record { offset = 0; rest = bytes }))
+value_text bytes = text_read (read_value (record { offset = 0; rest = bytes }))
 
 -- a key's line: its value's text, and the key
 abbrev pub key_line : List ℕ × List ℕ → List ℕ

@@ -20,7 +20,7 @@ StoreReadsHonestly =
     → (key : List ℕ) → read_at (data_of pieces) p key ≡ value_at s (level_at (data_of pieces) p) r key
 
 -- Servers at equal levels of a process read alike of it, whatever pieces each of them took.
-abbrev pub EqualLevelsReadAlike : Type 0
-EqualLevelsReadAlike =
+abbrev pub EqualStoresReadAlike : Type 0
+EqualStoresReadAlike =
     (s : Script) (r : Reach) (p : Proc) (xs ys : List Contribution) → AreHonest s r p xs → AreHonest s r p ys
     → level_at (data_of xs) p ≡ level_at (data_of ys) p → (key : List ℕ) → read_at (data_of xs) p key ≡ read_at (data_of ys) p key

@@ -8,26 +8,12 @@ use Rattle.pmg_join.proofs.MapsJoined.{maps_joined, maps_ordered}
 use Rattle.pmg_commit.specs.Cores.{join_cores}
 use Rattle.pmg_commit.specs.Data.{Data, join_data}
 use Rattle.pmg_commit.specs.Within.{CoreWithin}
-use Rattle.pmg_commit.proofs.Joining.{cores_assoc, cores_comm, cores_idem}
-use Rattle.pmg_commit.proofs.CoreOrder.{cores_reflexive, cores_transitive, cores_antisymmetric, cores_left, cores_right, cores_least}
+use Rattle.pmg_lane.specs.Joining.{cores_joined, cores_ordered}
 
 -- Each process of the one is in the other; and of each, the numbers of the one are in the other, and each entry of the
 -- one is in the other or superseded there at the other's level.
 abbrev pub DataWithin : Data → Data → Type 0
 DataWithin d e = (p : Proc) → OptionWithin CoreWithin (map.get d p) (map.get e p)
-
-pub cores_joined : JoinLaws join_cores
-cores_joined = record { assoc = cores_assoc; comm = cores_comm; idem = cores_idem }
-
-pub cores_ordered : JoinOrder join_cores CoreWithin
-cores_ordered = record {
-  reflexive = cores_reflexive;
-  transitive = cores_transitive;
-  antisymmetric = cores_antisymmetric;
-  left = cores_left;
-  right = cores_right;
-  least = cores_least;
-}
 
 pub data_joined : JoinLaws join_data
 data_joined = maps_joined procs_total exact_procs cores_joined

@@ -9,5 +9,6 @@ pub mod Pieces
 pub mod Readers
 pub mod Tables
 pub mod Told
+pub mod Tracks
 pub mod HonestData
 pub mod HonestStores

@@ -27,12 +27,12 @@ abbrev pub failure_in : ℕ → Failure → Failure
 failure_in number (Refused (BadFrame fault)) = InStream number fault
 failure_in number failure = failure
 
--- the contributions behind others
+-- the contributions after others
 abbrev pub told_behind : List Contribution → Result (List Contribution) Failure → Result (List Contribution) Failure
 told_behind cs (Ok ds) = Ok (cs ++ ds)
 told_behind cs (Err e) = Err e
 
--- those of the stream of that number, and behind them those of the others; a fault is told with the stream's number
+-- those of the stream of that number, and after them those of the others; a fault is told with the stream's number
 abbrev pub told_first : ℕ → Result (List Contribution) Fault → Result (List Contribution) Failure → Result (List Contribution) Failure
 told_first number (Ok cs) others = told_behind cs others
 told_first number (Err fault) others = Err (InStream number fault)

@@ -19,17 +19,17 @@ abbrev pub CanAlwaysCome : Failure → Type 0
 CanAlwaysCome failure = (failure ≡ Refused NoMemory) ⊎ (failure ≡ Read)
 
 -- the failure is the one that is due, or one that can always come
-abbrev pub Fails : {Y : Type 0} → Failure → Result Y Failure → Type 0
-Fails failure due = CanAlwaysCome failure ⊎ (due ≡ Err failure)
+abbrev pub FailsInput : {Y : Type 0} → Failure → Result Y Failure → Type 0
+FailsInput failure due = CanAlwaysCome failure ⊎ (due ≡ Err failure)
 
 -- the answer, seen by view, is the one that is due
-abbrev pub Gives : {X Y : Type 0} → (X → Y) → Result X Failure → Result Y Failure → Type 0
-Gives view result due = MatchResult result (λ value. due ≡ Ok (view value)) (λ failure. Fails failure due)
+abbrev pub GivesInput : {X Y : Type 0} → (X → Y) → Result X Failure → Result Y Failure → Type 0
+GivesInput view result due = MatchResult result (λ value. due ≡ Ok (view value)) (λ failure. FailsInput failure due)
 
 -- a call that failed wrote nothing; or the writer failed, after a prefix of the text that is due
 abbrev pub Stops : Option (List ℕ) → Option (List ℕ) → Failure → Result (List ℕ) Failure → Type 0
 Stops old new failure due =
-    (Fails failure due × Keeps old new) ⊎ ((failure ≡ Write) × MatchResult due (λ text. AppendsFront old new text) (λ _. ⊥))
+    (FailsInput failure due × Keeps old new) ⊎ ((failure ≡ Write) × MatchResult due (λ text. AppendsFront old new text) (λ _. ⊥))
 
 -- a text is due, and was written
 abbrev pub WritesDue : Option (List ℕ) → Option (List ℕ) → Result (List ℕ) Failure → Type 0

@@ -1,23 +1,36 @@
--- What a table of entries has at a key.
-use Rattle.std.specs.Prelude.{ℕ, Bool, ◌&&◌, nat_le, List, map, Option, Some, None}
-use Rattle.std.specs.Option.{option_map}
-use Rattle.std.specs.Ordering.{nat_cmp}
-use Rattle.std.specs.Cmp.Lexicographic.{slice_cmp}
-use Rattle.std.specs.BTreeMap.{BTreeMap, get}
+-- What is in trees of places that may be empty.
+use Rattle.std.specs.Prelude.{ℕ, List, [], ◌∷◌, map, Option, Some, None}
+use Rattle.pmg_value.specs.declared.process.Proc.{Proc}
 use Rattle.pmg_value.specs.Spelling.{spelling}
-use Rattle.pmg_commit.specs.Entries.{Entry, is_later}
-use Rattle.pmg_commit.specs.Pieces.{entry_of}
-use Rattle.pmg_commit.specs.declared.piece.PieceEntry.{PieceEntry}
+use Rattle.pmg_lane.specs.Lanes.{known_by}
+use Rattle.pmg_lane.specs.declared.entries.Stamp.{Stamp}
+use Rattle.pmg_lane.specs.declared.track.Track.{Track}
+use Rattle.pmg_store.specs.Dump.{known_text}
+use Rattle.pmg_store.specs.Tracks.{core_in}
 
--- the entry that is kept under the key
-abbrev pub best_at : BTreeMap (List ℕ) PieceEntry → List ℕ → Option Entry
-best_at reads key = option_map entry_of (get (slice_cmp nat_cmp) reads key)
+-- a place before others, if it is not empty, with what is in it as f shows it
+abbrev pub filled_before : {K V X : Type 0} → (V → X) → K → Option V → List (K × X) → List (K × X)
+filled_before f key None others = others
+filled_before f key (Some value) others = (key, f value) ∷ others
+
+-- the places that are not empty, with what is in them as f shows it
+abbrev pub filled : {K V X : Type 0} → (V → X) → List (K × Option V) → List (K × X)
+filled f [] = []
+filled f (place ∷ places) = filled_before f place.0 place.1 (filled f places)
 
 -- the keys, with the canonical bytes of the values
-abbrev pub lines_of : List (List ℕ × PieceEntry) → List (List ℕ × List ℕ)
-lines_of entries = map (λ e. (e.0, spelling e.1.value)) entries
+abbrev pub lines_of : List (List ℕ × Option Stamp) → List (List ℕ × List ℕ)
+lines_of places = filled (λ s. spelling s.value) places
 
--- the entry can be read at the level, and is later than the one that is kept
-abbrev pub improves : ℕ → Option Entry → Entry → Bool
-improves level None e = nat_le e.number level
-improves level (Some best) e = nat_le e.number level && is_later best e
+-- the lines of a process, if there is a track
+abbrev pub track_text : Proc → Option Track → List ℕ
+track_text p None = []
+track_text p (Some t) = known_text p (known_by t)
+
+-- the lines of a process in its place
+abbrev pub place_text : Proc × Option Track → List ℕ
+place_text place = track_text place.0 place.1
+
+-- the processes that have tracks
+abbrev pub procs_of : List (Proc × Option Track) → List Proc
+procs_of places = map (λ e. e.0) (filled core_in places)

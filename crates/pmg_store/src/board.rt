@@ -3,7 +3,7 @@ ghost use Rattle.std.specs.FinMap as finite;
 ghost use Rattle.pmg_commit.specs.Data.{absorbed, join_data};
 ghost use Rattle.pmg_store.specs.Pieces.{data_of};
 
-use crate::store::Store;
+use crate::store::{Store, join_both};
 use pmg_commit::Piece;
 use std::alloc::{AllocError, Global};
 
@@ -59,7 +59,8 @@ impl Board {
         self.far.absorb(piece)
     }
 
-    /// Takes the pieces into the near store and those into the far store, all of them or none.
+    /// Takes the pieces into the near store and those into the far store, all of them or none. It takes time in
+    /// proportion to their entries, and to the logarithm of what is held.
     pub fn absorb_all(&mut self, near: &[Piece], far: &[Piece]) -> Result<(), AllocError>
         ensures near_ok { OnOk result (self.new.near ≡ join_data self.old.near (data_of near.now)) }
         ensures far_ok { OnOk result (self.new.far ≡ join_data self.old.far (data_of far.now)) }
@@ -68,14 +69,10 @@ impl Board {
     {
         let near_more = self.near.of_pieces(near)?;
         let far_more = self.far.of_pieces(far)?;
-        let mut all = self.near.copy()?;
-        all.join(near_more)?;
-        self.far.join(far_more)?;
-        self.near = all;
-        Ok(())
+        join_both(&mut self.near, near_more, &mut self.far, far_more)
     }
 
-    /// Another board of the same meaning.
+    /// A copy, equal to this board.
     pub fn copy(&self) -> Result<Board, AllocError>
         ensures near { IfOk result (λ b. b.near ≡ self.now.near) }
         ensures far { IfOk result (λ b. b.far ≡ self.now.far) }

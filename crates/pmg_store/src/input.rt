@@ -4,7 +4,7 @@ ghost use Rattle.std.specs.Option.{option_copied};
 ghost use Rattle.std.specs.Io.{ReadsAtMost};
 ghost use Rattle.std.specs.Io.KnownBytes.{ReadConsumes};
 ghost use Rattle.pmg_store.specs.Input.{input_of, too_much_input};
-ghost use Rattle.pmg_store.specs.Outcomes.{Gives, or_failure};
+ghost use Rattle.pmg_store.specs.Outcomes.{GivesInput, or_failure};
 
 use crate::failure::Failure;
 use pmg_value::{Cause, Fault, Refusal};
@@ -95,7 +95,7 @@ impl<R: Read> WatchedReader<R> {
 /// the reader is a read fault, an interrupted read too. The reader is read at most 67,108,865 times.
 pub fn read_input<R: Read>(alloc: Global, reader: &mut WatchedReader<R>) -> Result<Vec<u8>, Failure>
     ensures input { IfSome (R.remaining reader.old.reader)
-        (λ bytes. Gives (λ input. input.items) result (or_failure (input_of bytes))) }
+        (λ bytes. GivesInput (λ input. input.items) result (or_failure (input_of bytes))) }
     ensures read_fault { IfErr result (λ e. e ≡ Failure.Read → IsSome reader.new.failure) }
     ensures no_write_fault { IfErr result (λ e. e ≢ Failure.Write) }
     ensures failed { IsSome reader.new.failure → IsSome reader.old.failure ⊎ (result
@@ -113,7 +113,7 @@ fn read_by_chunks<R: Read>(
 ) -> Result<Vec<u8>, Failure>
     requires { 0 < length chunk.old }
     ensures input { IfSome (R.remaining reader.old.reader)
-        (λ bytes. Gives (λ input. input.items) result (or_failure (input_of bytes))) }
+        (λ bytes. GivesInput (λ input. input.items) result (or_failure (input_of bytes))) }
     ensures read_fault { IfErr result (λ e. e ≡ Failure.Read → IsSome reader.new.failure) }
     ensures no_write_fault { IfErr result (λ e. e ≢ Failure.Write) }
     ensures failed { IsSome reader.new.failure → IsSome reader.old.failure ⊎ (result

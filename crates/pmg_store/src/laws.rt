@@ -1,5 +1,5 @@
 ghost use Rattle.pmg_store.specs.HonestData.{EmptyIsHonest, AbsorbedIsHonest, JoinedIsHonest, LongerIsHonest, HonestDataReads, HonestLevelIsMade, LevelsRise};
-ghost use Rattle.pmg_store.specs.HonestStores.{StoreReadsHonestly, EqualLevelsReadAlike};
+ghost use Rattle.pmg_store.specs.HonestStores.{StoreReadsHonestly, EqualStoresReadAlike};
 ghost use Rattle.pmg_store.specs.Convergence.{Converges, SameInAnyOrder, SameInAnyGrouping, ReadsAlike, PrintsAlike, StreamsPrintAlike, MergesAlike, MergesAsOne, HoldsUnion};
 
 /// The convergence theorem: two servers that have taken the same pieces, in any order, in any grouping and with any
@@ -22,7 +22,7 @@ pub fn pieces_in_any_order()
 /// number is their level of it, so that servers at equal levels of a process read alike of it.
 pub fn honest_stores()
     ensures store_reads_honestly { StoreReadsHonestly }
-    ensures equal_levels_read_alike { EqualLevelsReadAlike }
+    ensures equal_levels_read_alike { EqualStoresReadAlike }
 {}
 
 /// Data that is honest for a process, since what it knows of it is what the process's own commits sealed, stays so

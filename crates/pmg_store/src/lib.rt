@@ -9,6 +9,7 @@ mod laws;
 mod merge;
 mod store;
 mod stream;
+mod tracks;
 
 pub use board::Board;
 pub use failure::Failure;
@@ -20,6 +21,10 @@ pub use stream::{dump_stream, store_of_stream};
 
 #[cfg(test)]
 mod input_tests;
+#[cfg(test)]
+mod lane_tests;
+#[cfg(test)]
+mod plain;
 #[cfg(test)]
 mod store_tests;
 #[cfg(test)]

@@ -1,14 +1,15 @@
 //! The dump of what several streams tell.
-ghost use Rattle.std.specs.Prelude.{◌≡◌, ◌≢◌, ◌<◌, ◌≤◌, ◌+◌, ℕ, List, map, length, Some, Err, IfErr, IfSome, IsSome, OnOk};
+ghost use Rattle.std.specs.Prelude.{◌≡◌, ◌≢◌, ◌<◌, ◌≤◌, ◌+◌, ℕ, List, map, length, Some, Ok, Err, IfErr, IfSome, IsSome, OnOk};
 ghost use Rattle.pmg_value.specs.Lists.{SameItems};
+ghost use Rattle.pmg_commit.specs.Data.{Data, join_data};
 ghost use Rattle.pmg_store.specs.Merged.{data_by_input, failure_in, merged, merge_of, too_many};
-ghost use Rattle.pmg_store.specs.Outcomes.{Dumps, Gives, WritesDue, or_failure};
+ghost use Rattle.pmg_store.specs.Outcomes.{Dumps, FailsInput, GivesInput, WritesDue, or_failure};
 ghost use Rattle.pmg_store.specs.Readers.{AnyFailed, ReadFewTimes};
 
 use crate::failure::Failure;
 use crate::input::{INPUT_LIMIT, MOST_READS, WatchedReader, read_input, too_long};
 use crate::store::Store;
-use crate::stream::store_of_stream;
+use crate::stream::take_stream;
 use pmg_value::{Refusal, WatchedWriter};
 use std::alloc::Global;
 use std::io::{Read, Write};
@@ -16,16 +17,23 @@ use std::io::{Read, Write};
 /// The most streams that are merged.
 pub const MAX_STREAMS: usize = 64;
 
-/// A store that took the contributions in the stream that the reader gives.
-fn store_of_reader<R: Read>(alloc: Global, reader: &mut WatchedReader<R>) -> Result<Store, Failure>
-    ensures gives { IfSome (R.remaining reader.old.reader)
-        (λ bytes. Gives (λ s. s) result (or_failure (data_by_input bytes))) }
+/// Takes the contributions in the stream that the reader gives. Where it fails, some of them were taken.
+fn take_reader<R: Read>(
+    alloc: Global,
+    store: &mut Store,
+    reader: &mut WatchedReader<R>,
+) -> Result<(), Failure>
+    ensures taken { OnOk result ((d : Data) × IfSome (R.remaining reader.old.reader)
+        (λ bytes. or_failure (data_by_input bytes) ≡ Ok d) × (store.new ≡ join_data store.old d)) }
+    ensures fails { IfErr result (λ e. IfSome (R.remaining reader.old.reader)
+        (λ bytes. FailsInput e (or_failure (data_by_input bytes)))) }
     ensures read_fault { IfErr result (λ e. e ≡ Failure.Read → IsSome reader.new.failure) }
     ensures no_write_fault { IfErr result (λ e. e ≢ Failure.Write) }
     ensures few { reader.new.reads ≤ reader.old.reads + MOST_READS }
 {
     let input = read_input(alloc, reader)?;
-    Ok(store_of_stream(alloc, &input)?)
+    take_stream(alloc, store, &input)?;
+    Ok(())
 }
 
 /// The failure at the stream of that number: a fault is told with the number.
@@ -46,7 +54,7 @@ fn store_of_streams<R: Read>(
 ) -> Result<Store, Failure>
     ensures gives { (streams : List (List ℕ)) → map
         (λ r. R.remaining r.reader) readers.old ≡ map Some streams
-        → Gives (λ s. s) result (merged streams) }
+        → GivesInput (λ s. s) result (merged streams) }
     ensures read_fault { IfErr result (λ e. e ≡ Failure.Read → AnyFailed readers.new) }
     ensures no_write_fault { IfErr result (λ e. e ≢ Failure.Write) }
     ensures few { ReadFewTimes readers.old readers.new }
@@ -55,29 +63,31 @@ fn store_of_streams<R: Read>(
     let mut number = 0;
     for reader in readers.iter_mut() {
         number += 1;
-        match store_of_reader(alloc, reader) {
-            Ok(store) => all.join(store)?,
-            Err(failure) => return Err(failure_in(number, failure)),
+        if let Err(failure) = take_reader(alloc, &mut all, reader) {
+            return Err(failure_in(number, failure));
         }
     }
     Ok(all)
 }
 
-/// A store that took the contributions in a stream in memory, which is no longer than an input may be.
-fn store_of_input(alloc: Global, input: &[u8]) -> Result<Store, Failure>
-    ensures gives { Gives (λ s. s) result (or_failure (data_by_input input.now)) }
+/// Takes the contributions in a stream in memory, which is no longer than an input may be. Where it fails, some of them
+/// were taken.
+fn take_input(alloc: Global, store: &mut Store, input: &[u8]) -> Result<(), Failure>
+    ensures taken { OnOk result ((d : Data) × (or_failure (data_by_input input.now) ≡ Ok d) × (store.new ≡ join_data store.old d)) }
+    ensures fails { IfErr result (λ e. FailsInput e (or_failure (data_by_input input.now))) }
     ensures no_read_fault { IfErr result (λ e. e ≢ Failure.Read) }
     ensures no_write_fault { IfErr result (λ e. e ≢ Failure.Write) }
 {
     if input.len() > INPUT_LIMIT {
         return Err(too_long());
     }
-    Ok(store_of_stream(alloc, input)?)
+    take_stream(alloc, store, input)?;
+    Ok(())
 }
 
 /// A store that took the contributions in the streams, one stream after the other.
 fn store_of_inputs(alloc: Global, inputs: &[Vec<u8>]) -> Result<Store, Failure>
-    ensures gives { Gives (λ s. s) result (merged (map (λ input. input.items) inputs.now)) }
+    ensures gives { GivesInput (λ s. s) result (merged (map (λ input. input.items) inputs.now)) }
     ensures no_read_fault { IfErr result (λ e. e ≢ Failure.Read) }
     ensures no_write_fault { IfErr result (λ e. e ≢ Failure.Write) }
 {
@@ -85,9 +95,8 @@ fn store_of_inputs(alloc: Global, inputs: &[Vec<u8>]) -> Result<Store, Failure>
     let mut number = 0;
     for input in inputs {
         number += 1;
-        match store_of_input(alloc, input) {
-            Ok(store) => all.join(store)?,
-            Err(failure) => return Err(failure_in(number, failure)),
+        if let Err(failure) = take_input(alloc, &mut all, input) {
+            return Err(failure_in(number, failure));
         }
     }
     Ok(all)

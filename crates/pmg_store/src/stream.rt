@@ -1,34 +1,59 @@
 //! What a stream of frames tells, and its dump.
-ghost use Rattle.std.specs.Prelude.{◌≡◌, ◌≤◌, ◌+◌, IfErr, IfOk, IfSome, IsSome};
-ghost use Rattle.pmg_wire.specs.Reading.{ReadsAll};
+ghost use Rattle.std.specs.Prelude.{◌≡◌, ◌≤◌, ◌+◌, [], ◌∷◌, Ok, map, Some, IfErr, IfSome, IsSome, OnOk};
+ghost use Rattle.pmg_wire.specs.Reading.{FailsReading, ReadsAll};
+ghost use Rattle.pmg_join.specs.Joins.{join_all};
+ghost use Rattle.pmg_commit.specs.Data.{Data, join_data, of_contribution};
+ghost use Rattle.pmg_frame.specs.Streams.{finished};
 ghost use Rattle.pmg_store.specs.Dumps.{dump_of};
 ghost use Rattle.pmg_store.specs.Outcomes.{Dumps, or_failure};
-ghost use Rattle.pmg_store.specs.Pieces.{data_of};
 ghost use Rattle.pmg_store.specs.Told.{contributions, data_told};
 
 use crate::failure::Failure;
 use crate::input::{MOST_READS, WatchedReader, read_input};
 use crate::store::Store;
-use pmg_frame::{Frame, Stream};
-use pmg_value::{Refusal, WatchedWriter};
+use pmg_frame::{Frame, get_frame};
+use pmg_value::{Cause, Refusal, WatchedWriter};
+use pmg_wire::Cursor;
 use std::alloc::{AllocError, Global};
 use std::io::{Read, Write};
 
-/// A store that took the contributions in the frames. A frame that is no piece tells nothing.
-fn store_of_frames(alloc: Global, frames: &[Frame]) -> Result<Store, AllocError>
-    ensures { IfOk result (λ s. s ≡ data_of (contributions frames.now)) }
+/// Takes the contribution in the frame. A frame that is no piece tells nothing.
+fn take_frame(store: &mut Store, frame: Frame) -> Result<(), AllocError>
+    ensures { OnOk result (store.new ≡ join_all join_data store.old (map of_contribution (contributions (frame ∷ [])))) }
 {
-    let mut store = Store::new(alloc);
-    for frame in frames {
-        match frame {
-            Frame::Piece(piece) => store.absorb(piece)?,
-            Frame::Header(_) => {}
-            Frame::FenceAsk(_) => {}
-            Frame::RangeAsk(_) => {}
-            Frame::DirectAsk(_) => {}
+    match frame {
+        Frame::Piece(piece) => store.take(piece),
+        Frame::Header(_) => Ok(()),
+        Frame::FenceAsk(_) => Ok(()),
+        Frame::RangeAsk(_) => Ok(()),
+        Frame::DirectAsk(_) => Ok(()),
+    }
+}
+
+/// Takes the contributions in a whole stream into the store, each as its frame is decoded. Refused as BadFrame at the
+/// first fault, Cut where the stream ends inside a frame, and as NoMemory: then the store has taken some of them.
+pub fn take_stream(alloc: Global, store: &mut Store, bytes: &[u8]) -> Result<(), Refusal>
+    ensures taken { OnOk result ((d : Data) × (data_told bytes.now ≡ Ok d) × (store.new ≡ join_data store.old d)) }
+    ensures fault { IfErr result (λ e. FailsReading e (data_told bytes.now)) }
+{
+    let mut at = Cursor::of(bytes);
+    loop {
+        match get_frame(alloc, &mut at) {
+            Ok(Some(frame)) => take_frame(store, frame)?,
+            Ok(None) => return end_of_stream(&at),
+            Err(refusal) => return Err(refusal),
         }
     }
-    Ok(store)
+}
+
+/// Whether nothing is left. Refused as Cut at the place of what is left.
+fn end_of_stream(at: &Cursor<'_>) -> Result<(), Refusal>
+    ensures { result ≡ finished (Some at.now) }
+{
+    if !at.rest().is_empty() {
+        return Err(Refusal::bad_frame(at.offset(), Cause::Cut));
+    }
+    Ok(())
 }
 
 /// A store that took the contributions in a whole stream. Refused as BadFrame at the first fault, Cut where
@@ -36,15 +61,9 @@ fn store_of_frames(alloc: Global, frames: &[Frame]) -> Result<Store, AllocError>
 pub fn store_of_stream(alloc: Global, bytes: &[u8]) -> Result<Store, Refusal>
     ensures { ReadsAll (λ s. s) result (data_told bytes.now) }
 {
-    let mut stream = Stream::new(alloc);
-    let fed = stream.feed(bytes)?;
-    match fed.fault {
-        Some(fault) => Err(Refusal::BadFrame(fault)),
-        None => {
-            stream.finish()?;
-            Ok(store_of_frames(alloc, &fed.frames)?)
-        }
-    }
+    let mut store = Store::new(alloc);
+    take_stream(alloc, &mut store, bytes)?;
+    Ok(store)
 }
 
 /// Reads a stream of frames to its end, and then writes the dump of a store that took its contributions. Frames

@@ -1,4 +1,7 @@
-use Rattle.std.proofs.Common.{◌≡◌, ◌<◌, ◌++◌, sym, ◌∙◌, arith}
+use Rattle.std.proofs.Common.{◌≡◌, ◌<◌, ◌++◌, sym, subst, ◌∙◌, arith, ap}
+use Rattle.std.specs.BTreeMap.{IsOrdered}
+use Rattle.std.specs.Cmp.Lexicographic.{slice_cmp}
+use Rattle.std.specs.Ordering.{nat_cmp}
 use Rattle.std.proofs.lemmas.List.{append-nil}
 use Rattle.std.proofs.lemmas.Result.{on_ok_weaker}
 use Rattle.std.specs.List.{flat_map}
@@ -10,15 +13,17 @@ use Rattle.pmg_store.proofs.dump.push_proc.Goals as goal
 
 pub returns-then-level-eq0 : goal.returns-then-level-eq0
 returns-then-level-eq0 c =
-    rw (silent c.args.proc.now c.args.pieces.now (sym c.level_in-level.ensures.value ∙ c.if-level-eq0.true)) (sym (append-nil c.args.text.now.items))
+    rw (silent c.args.proc.now c.args.track.now (sym c.level-level.ensures.value ∙ c.if-level-eq0.true)) (sym (append-nil c.args.text.now.items))
 
 pub returns : goal.returns
 returns c =
-    let n = c.level_in-level.result in
-    let reads = c.in_ok-reads.reads in
+    let n = c.level-level.result in
+    let t = c.args.track.now in
+    let es = t.entries.reads.entries in
     let some : 0 < n = omega arith in
-    let told = told_text c.args.proc.now c.args.pieces.now n reads c.level_in-level.ensures.value some c.in_ok-reads.ensures c.push_key_lines.ensures.ordered in
+    let told = told_text c.args.proc.now t n c.requires c.level-level.ensures.value some (subst (IsOrdered (slice_cmp nat_cmp)) c.reads.ensures c.push_key_lines.ensures.ordered) in
     on_ok_weaker c.push_key_lines.result
-    (λ (e : c.push_key_lines.new.text.items ≡ c.push_proc_line.new.text.items ++ flat_map key_line (lines_of reads.entries)).
-    rw told (appended_2 c.args.text.now.items c.push_proc_line.new.text.items c.push_key_lines.new.text.items (proc_line c.args.proc.now n) (flat_map key_line (lines_of reads.entries)) c.in_ok-push_proc_line.ensures e))
+    (λ (e : c.push_key_lines.new.text.items ≡ c.push_proc_line.new.text.items ++ flat_map key_line (lines_of c.reads.result.now.entries)).
+    rw told (appended_2 c.args.text.now.items c.push_proc_line.new.text.items c.push_key_lines.new.text.items (proc_line c.args.proc.now n) (flat_map key_line (lines_of es)) c.in_ok-push_proc_line.ensures
+    (e ∙ ap (λ r. c.push_proc_line.new.text.items ++ flat_map key_line (lines_of r.entries)) c.reads.ensures)))
     c.push_key_lines.ensures.lines

@@ -1,13 +1,14 @@
-use Rattle.std.proofs.Common.{◌≡◌, ℕ, List, ◌++◌}
-use Rattle.std.specs.List.{flat_map}
-use Rattle.pmg_value.specs.declared.process.Proc.{Proc}
-use Rattle.pmg_commit.specs.Data.{known}
-use Rattle.pmg_store.specs.Dump.{known_text}
-use Rattle.pmg_store.specs.Pieces.{data_of}
+use Rattle.std.proofs.Common.{◌≡◌, ◌++◌}
+use Rattle.std.specs.Prelude.{Some}
+use Rattle.std.specs.List.{flat_map, AllByRecursion}
+use Rattle.std.specs.BTreeMap.{get}
+use Rattle.pmg_value.specs.Process.{proc_cmp}
+use Rattle.pmg_store.specs.Tables.{place_text}
 use Rattle.pmg_store.proofs.dump.push_procs.Given as goal
 
--- the lines so far, and those of the processes that are left, are all of them
+-- the lines so far, and those of the places that are left, are all of them
 abbrev pub invariant-loop-proc : goal.invariant-loop-proc
-invariant-loop-proc l =
-    let lines : Proc → List ℕ = λ p. known_text p (known (data_of l.pieces) p) in
-    l.text.items ++ flat_map lines l.proc-iterator ≡ l.fn.text.items ++ flat_map lines l.procs.keys
+invariant-loop-proc l = record {
+  lines : l.text.items ++ flat_map place_text l.proc-iterator ≡ l.fn.text.items ++ flat_map place_text l.places.entries;
+  found : AllByRecursion (λ e. get proc_cmp l.places e.0 ≡ Some e.1) l.proc-iterator;
+}

@@ -14,16 +14,17 @@ returns-in-Err-clause-gives c =
     let at = c.loop-input in
     let next = next_of (λ input. Some input.items) c.args.inputs.now at.input-index c.input-item.result (omega (arith, c.loop-input-test.true)) c.input-item.is in
     rw c.failure_in.ensures.value (rw at.invariant.number (on_failure at.all at.input-index _ _ (map (λ input. Some input.items) c.args.inputs.now) c.in-Err.failure
-    (rw next at at.invariant.way) (rw c.deref.ensures.value at c.in-Err.ensures.gives) (map (λ input. input.items) c.args.inputs.now) (some_of_each (λ input. input.items) c.args.inputs.now)))
+    (rw next at at.invariant.way) (rw c.deref.ensures.value at c.in-Err.ensures.fails) (map (λ input. input.items) c.args.inputs.now) (some_of_each (λ input. input.items) c.args.inputs.now)))
 
 pub loop-input-preserved : goal.loop-input-preserved
 loop-input-preserved c =
     let at = c.loop-input in
     let next = next_of (λ input. Some input.items) c.args.inputs.now at.input-index c.input-item.result (omega (arith, c.loop-input-test.true)) c.input-item.is in
+    let taken = rw c.deref.ensures.value at c.in_default.ensures.taken in
     record {
       number = omega (arith, at.invariant.number);
-      way = rw c.in_ok-join-in-Ok.ensures.ok (on_step at.all c.in-Ok.store at.input-index _ _ (map (λ input. Some input.items) c.args.inputs.now)
-          (rw next at at.invariant.way) (rw c.deref.ensures.value at c.in-Ok.ensures.gives));
+      way = rw taken.2 (on_step at.all taken.0 at.input-index _ _ (map (λ input. Some input.items) c.args.inputs.now)
+          (rw next at at.invariant.way) taken.1);
     }
 
 no_more : {X : Type 0} (xs : List X) (i : _) → length xs ≤ i → drop i xs ≡ []

@@ -13,51 +13,44 @@ loop-reader-init g c = record {
   way = rw c.new-all.ensures (on_start (map (λ r. g.R.Read.remaining r.reader) c.args.readers.now));
 }
 
-pub returns-in_err-join-in-Ok-clause-few : goal.returns-in_err-join-in-Ok-clause-few
-returns-in_err-join-in-Ok-clause-few g c =
-    let at = c.loop-reader in
-    let within : at.reader-index < length at.readers = omega (arith, c.loop-reader-test.true) in
-    let same = same_reader c.args.readers.now at.readers at.reader-index c.reader-item.result within at.invariant.unread at.auto.readers in
-    few_at c.args.readers.now at.readers at.reader-index c.reader-item.result c.store_of_reader.new.reader at.invariant.few
-    (rw (← same) c.store_of_reader.ensures.few)
-
 pub returns-in-Err-clause-gives : goal.returns-in-Err-clause-gives
 returns-in-Err-clause-gives g c streams known =
     let at = c.loop-reader in
     let give = λ (r : WatchedReader g.row.R.Denot). g.R.Read.remaining r.reader in
     let within : at.reader-index < length at.readers = omega (arith, c.loop-reader-test.true) in
-    let next = next_reader give at.readers at.reader-index c.reader-item.result c.store_of_reader.new.reader within in
+    let next = next_reader give at.readers at.reader-index c.reader-item.result c.take_reader.new.reader within in
     rw c.failure_in.ensures.value (rw at.invariant.number (on_failure at.all at.reader-index _ _ (map give c.args.readers.now) c.in-Err.failure
-    (rw next at at.invariant.way) c.in-Err.ensures.gives streams known))
+    (rw next at at.invariant.way) c.in-Err.ensures.fails streams known))
 
 pub returns-in-Err-clause-read_fault : goal.returns-in-Err-clause-read_fault
 returns-in-Err-clause-read_fault g c is =
     let at = c.loop-reader in
     let within : at.reader-index < length at.readers = omega (arith, c.loop-reader-test.true) in
-    failed_at at.readers at.reader-index c.store_of_reader.new.reader within (c.in-Err.ensures.read_fault (c.failure_in.ensures.read_fault is))
+    failed_at at.readers at.reader-index c.take_reader.new.reader within (c.in-Err.ensures.read_fault (c.failure_in.ensures.read_fault is))
 
 pub returns-in-Err-clause-few : goal.returns-in-Err-clause-few
 returns-in-Err-clause-few g c =
     let at = c.loop-reader in
     let within : at.reader-index < length at.readers = omega (arith, c.loop-reader-test.true) in
     let same = same_reader c.args.readers.now at.readers at.reader-index c.reader-item.result within at.invariant.unread at.auto.readers in
-    few_at c.args.readers.now at.readers at.reader-index c.reader-item.result c.store_of_reader.new.reader at.invariant.few
-    (rw (← same) c.store_of_reader.ensures.few)
+    few_at c.args.readers.now at.readers at.reader-index c.reader-item.result c.take_reader.new.reader at.invariant.few
+    (rw (← same) c.take_reader.ensures.few)
 
 pub loop-reader-preserved : goal.loop-reader-preserved
 loop-reader-preserved g c =
     let at = c.loop-reader in
     let give = λ (r : WatchedReader g.row.R.Denot). g.R.Read.remaining r.reader in
     let within : at.reader-index < length at.readers = omega (arith, c.loop-reader-test.true) in
-    let next = next_reader give at.readers at.reader-index c.reader-item.result c.store_of_reader.new.reader within in
+    let next = next_reader give at.readers at.reader-index c.reader-item.result c.take_reader.new.reader within in
     let same = same_reader c.args.readers.now at.readers at.reader-index c.reader-item.result within at.invariant.unread at.auto.readers in
+    let taken = c.in_default.ensures.taken in
     record {
       number = omega (arith, at.invariant.number);
-      unread = same_others c.args.readers.now at.readers at.reader-index c.store_of_reader.new.reader within at.invariant.unread at.auto.readers;
-      few = few_at c.args.readers.now at.readers at.reader-index c.reader-item.result c.store_of_reader.new.reader at.invariant.few
-          (rw (← same) c.store_of_reader.ensures.few);
-      way = rw c.in_ok-join-in-Ok.ensures.ok (on_step at.all c.in-Ok.store at.reader-index _ _ (map give c.args.readers.now)
-          (rw next at at.invariant.way) c.in-Ok.ensures.gives);
+      unread = same_others c.args.readers.now at.readers at.reader-index c.take_reader.new.reader within at.invariant.unread at.auto.readers;
+      few = few_at c.args.readers.now at.readers at.reader-index c.reader-item.result c.take_reader.new.reader at.invariant.few
+          (rw (← same) c.take_reader.ensures.few);
+      way = rw taken.2 (on_step at.all taken.0 at.reader-index _ _ (map give c.args.readers.now)
+          (rw next at at.invariant.way) taken.1);
     }
 
 no_more : {X : Type 0} (xs : List X) (i : _) → length xs ≤ i → drop i xs ≡ []

@@ -13,5 +13,5 @@ returns-clause-same c =
 pub returns-clause-roomy : goal.returns-clause-roomy
 returns-clause-roomy c =
     let a = c.args.self.now in
-    roomy_late a (record { reads = a.reads; late = c.make_place.new.tree }) (c.args.number, c.in_ok-key.key) refl c.make_place.ensures.no_more
-    (subst (HasPlace (slice_cmp nat_cmp) a.reads) (sym c.in_ok-key.ensures) c.requires.place) c.requires.roomy
+    roomy_late a (record { reads = a.reads; late = c.make_place.new.tree }) (c.args.number, c.in_ok-copy.field-0) refl c.make_place.ensures.no_more
+    (subst (HasPlace (slice_cmp nat_cmp) a.reads) (sym c.in_ok-copy.ensures) c.requires.place) c.requires.roomy

@@ -1,4 +1,5 @@
 use Rattle.std.proofs.Common.{map, ap, ◌∙◌}
+use Rattle.std.proofs.lemmas.Result.{on_ok_weaker}
 use Rattle.pmg_commit.specs.Pieces.{entry_of}
 use Rattle.pmg_commit.specs.Knowledge.{union, core, knowledge_of}
 use Rattle.pmg_commit.specs.Cores.{core_of, join_cores}
@@ -10,6 +11,8 @@ pub returns-clause-ok : goal.returns-clause-ok
 returns-clause-ok c =
     let piece = c.args.piece.now in
     let old = known_by c.self.inside.track in
-    let told = told_is piece _ _ _ c.from-2.ensures.value c.to-2.ensures.value (ap (map entry_of) c.in_ok-entries.ensures ∙ c.entries.ensures) in
-    joined old (knowledge_of piece) (known_by c.take.new.self) (c.take.ensures.taken ∙ (λ i. core (union (c.in_ok-make_room.ensures.same i) (told i))))
-    ∙ ap (λ a. join_cores a (core_of (knowledge_of piece))) c.self.view_is
+    let told = told_is piece _ _ _ c.from.ensures.value c.to.ensures.value (ap (map entry_of) c.in_ok-entries.ensures ∙ c.entries.ensures) in
+    on_ok_weaker c.absorb.result
+    (λ taken. joined old (knowledge_of piece) (known_by c.absorb.new.self) (taken ∙ ap (λ k. core (union old k)) told)
+    ∙ ap (λ a. join_cores a (core_of (knowledge_of piece))) c.self.view_is)
+    c.absorb.ensures.taken

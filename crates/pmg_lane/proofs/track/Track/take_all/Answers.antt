@@ -1,9 +1,7 @@
-use Rattle.std.proofs.Common.{◌≤◌, inl, inr, sym, subst, map}
+use Rattle.std.proofs.Common.{◌≤◌, inl, inr, sym, subst}
 use Rattle.pmg_join.specs.Ranges.{set_of}
 use Rattle.pmg_commit.specs.Levels.{level}
-use Rattle.pmg_commit.specs.Pieces.{entry_of}
-use Rattle.pmg_value.specs.Lists.{In}
-use Rattle.pmg_lane.specs.Entries.{ReadsWithin, LatePast, Settles, NoneLeft}
+use Rattle.pmg_lane.specs.Entries.{ReadsWithin, LatePast, Settles, Holds, NoneLeft}
 use Rattle.pmg_lane.specs.Lanes.{level_of}
 use Rattle.pmg_lane.specs.declared.track.Track.{Track}
 use Rattle.pmg_lane.proofs.Tracking.{level_reached, level_up, level_is_of, within_up, places_up, make_track, past_from, joined_core}
@@ -17,33 +15,33 @@ promote-requires-clause-within c =
     within_up (level (set_of t.taken.ends)) c.level-level.result t.entries (subst (λ n. level (set_of t.taken.ends) ≤ n) (sym is) (level_up t.taken.ends ends c.fill_rooms.ensures.kept))
     (subst (λ n. ReadsWithin n t.entries) (level_is_of t) c.requires.kept.within)
 
-pub put_all-requires-clause-places : goal.put_all-requires-clause-places
-put_all-requires-clause-places c e i =
+pub put_others-requires-clause-places : goal.put_others-requires-clause-places
+put_others-requires-clause-places c e h =
     let t = c.args.self.now in
     let ends = c.fill_rooms.new.self.ends in
     let is = level_reached ends c.level-level.result c.level-level.ensures.reached c.level-level.ensures.no_more in
     let up : level_of t ≤ c.level-level.result = subst (λ n. level_of t ≤ n) (sym is) (subst (λ n. n ≤ level (set_of ends)) (sym (level_is_of t)) (level_up t.taken.ends ends c.fill_rooms.ensures.kept)) in
-    c.promote.ensures.stay e.number e.key (places_up t.entries (level_of t) c.level-level.result e.number e.key up (c.requires.room.places e i))
+    c.promote.ensures.stay e.number e.key (places_up t.entries (level_of t) c.level-level.result e.number e.key up (c.requires.room.places e h))
 
 pub returns-clause-kept : goal.returns-clause-kept
 returns-clause-kept c =
-    let u : Track = record { taken = c.fill_rooms.new.self; entries = c.put_all.new.self } in
+    let u : Track = record { taken = c.fill_rooms.new.self; entries = c.put_others.new.self } in
     let is = level_reached c.fill_rooms.new.self.ends c.level-level.result c.level-level.ensures.reached c.level-level.ensures.no_more in
     let filled = c.fill_rooms.ensures in
-    let past = past_from c.level-level.result c.promote.new.self c.put_all.new.self c.promote.ensures.past c.put_all.ensures.late in
+    let past = past_from c.level-level.result c.promote.new.self c.put_others.new.self c.promote.ensures.past c.put_others.ensures.late in
     make_track u filled.apart
-    (subst (λ n. ReadsWithin n c.put_all.new.self) is c.put_all.ensures.within)
-    (subst (λ n. LatePast n c.put_all.new.self) is past)
-    c.put_all.ensures.roomy
+    (subst (λ n. ReadsWithin n c.put_others.new.self) is c.put_others.ensures.within)
+    (subst (λ n. LatePast n c.put_others.new.self) is past)
+    c.put_others.ensures.roomy
     (λ n h. elim (filled.no_more n h) [ inl a ↦ c.requires.kept.bound n a | inr b ↦ c.requires.other.bound n b ])
 
 pub returns-clause-taken : goal.returns-clause-taken
 returns-clause-taken c =
     let t = c.args.self.now in
-    let o = c.args.other.now in
-    let u : Track = record { taken = c.fill_rooms.new.self; entries = c.put_all.new.self } in
+    let o = c.args.other in
+    let u : Track = record { taken = c.fill_rooms.new.self; entries = c.put_others.new.self } in
     let is = level_reached c.fill_rooms.new.self.ends c.level-level.result c.level-level.ensures.reached c.level-level.ensures.no_more in
     let filled = c.fill_rooms.ensures in
-    joined_core t o u c.promote.new.self (map entry_of c.args.entries.items) (λ e i. (c.requires.all e).0 i) (λ e h. (c.requires.all e).1 h) filled.kept filled.added filled.no_more
+    joined_core t o u c.promote.new.self filled.kept filled.added filled.no_more
     (subst (λ n. Settles n t.entries NoneLeft c.promote.new.self NoneLeft) is c.promote.ensures.settles)
-    (subst (λ n. Settles n c.promote.new.self (λ e. In e (map entry_of c.args.entries.items)) c.put_all.new.self NoneLeft) is c.put_all.ensures.settles)
+    (subst (λ n. Settles n c.promote.new.self (Holds o.entries) c.put_others.new.self NoneLeft) is c.put_others.ensures.settles)

@@ -1,13 +1,20 @@
 use Rattle.std.proofs.Common.{sym, ap, ◌∙◌}
 use Rattle.pmg_commit.specs.Levels.{level}
 use Rattle.pmg_commit.specs.Data.{level_at}
-use Rattle.pmg_store.specs.Pieces.{told_of}
-use Rattle.pmg_store.proofs.Telling.{level-told}
+use Rattle.pmg_lane.proofs.Knowing.{level_known}
+use Rattle.pmg_store.proofs.TrackData.{known_there, known_none, level-nothing}
 use Rattle.pmg_store.proofs.store.Store.level.Goals as goal
 
-pub returns-clause-value : goal.returns-clause-value
-returns-clause-value c =
-    c.level_in.ensures.value
-    ∙ ap (λ ps. level (told_of c.args.proc.now ps).numbers) c.deref.ensures.value
-    ∙ sym (level-told c.args.proc.now c.self.inside.pieces.items)
+pub returns-in-Some-clause-value : goal.returns-in-Some-clause-value
+returns-in-Some-clause-value c =
+    let t = c.in-Some.track.now in
+    c.level.ensures.value
+    ∙ sym (level_known t)
+    ∙ ap (λ k. level k.numbers) (known_there c.self.inside.tracks.places c.args.proc.now t c.in-Some.ensures.kept c.in-Some.ensures.there)
+    ∙ ap (λ d. level_at d c.args.proc.now) c.self.view_is
+
+pub returns-in-None-clause-value : goal.returns-in-None-clause-value
+returns-in-None-clause-value c =
+    level-nothing
+    ∙ ap (λ k. level k.numbers) (known_none c.self.inside.tracks.places c.args.proc.now c.in-None.ensures.there)
     ∙ ap (λ d. level_at d c.args.proc.now) c.self.view_is

@@ -1,14 +1,17 @@
-use Rattle.std.proofs.Common.{Some, None}
-use Rattle.pmg_commit.specs.Pieces.{entry_of}
-use Rattle.pmg_store.proofs.Telling.{best_is_read}
+use Rattle.std.proofs.Common.{sym, ap, ◌∙◌}
+use Rattle.pmg_commit.specs.Data.{read_at}
+use Rattle.pmg_commit.specs.Knowledge.{read}
+use Rattle.pmg_store.proofs.TrackData.{known_there, known_none, read-nothing}
 use Rattle.pmg_store.proofs.store.Store.read.Goals as goal
 
 pub returns-in-Some : goal.returns-in-Some
 returns-in-Some c =
-    best_is_read c.args.proc.now c.deref.result.now c.self.inside.pieces.items c.args.self.now c.level-level.result c.args.key.now (Some (entry_of c.in-Some.entry.now))
-    c.in-Some.ensures c.deref.ensures.value c.self.view_is c.level-level.ensures.value
+    c.read.ensures
+    ∙ ap (λ k. read k c.args.key.now) (known_there c.self.inside.tracks.places c.args.proc.now c.in-Some.track.now c.in-Some.ensures.kept c.in-Some.ensures.there)
+    ∙ ap (λ d. read_at d c.args.proc.now c.args.key.now) c.self.view_is
 
 pub returns-in-None : goal.returns-in-None
 returns-in-None c =
-    best_is_read c.args.proc.now c.deref.result.now c.self.inside.pieces.items c.args.self.now c.level-level.result c.args.key.now None
-    c.in-None.ensures c.deref.ensures.value c.self.view_is c.level-level.ensures.value
+    sym (read-nothing c.args.key.now)
+    ∙ ap (λ k. read k c.args.key.now) (known_none c.self.inside.tracks.places c.args.proc.now c.in-None.ensures.there)
+    ∙ ap (λ d. read_at d c.args.proc.now c.args.key.now) c.self.view_is

@@ -1,13 +1,18 @@
 use Rattle.std.proofs.Common.{sym, ap, ◌∙◌}
-use Rattle.std.specs.List.{list_any}
+use Rattle.std.specs.FinSet as set
+use Rattle.std.specs.Ordering.{nat_cmp}
 use Rattle.pmg_commit.specs.Data.{taken_at}
-use Rattle.pmg_store.specs.Pieces.{covers}
-use Rattle.pmg_store.proofs.Telling.{taken-told}
+use Rattle.pmg_store.proofs.TrackData.{known_there, known_none}
 use Rattle.pmg_store.proofs.store.Store.taken.Goals as goal
 
-pub returns : goal.returns
-returns c =
-    c.is_covered.ensures
-    ∙ ap (list_any (covers c.args.proc.now c.args.n)) c.deref.ensures.value
-    ∙ sym (taken-told c.args.proc.now c.self.inside.pieces.items c.args.n)
+pub returns-in-Some : goal.returns-in-Some
+returns-in-Some c =
+    c.taken.ensures
+    ∙ ap (λ k. set.contains k.numbers c.args.n) (known_there c.self.inside.tracks.places c.args.proc.now c.in-Some.track.now c.in-Some.ensures.kept c.in-Some.ensures.there)
+    ∙ ap (λ d. taken_at d c.args.proc.now c.args.n) c.self.view_is
+
+pub returns-in-None : goal.returns-in-None
+returns-in-None c =
+    sym (set.contains-empty nat_cmp c.args.n)
+    ∙ ap (λ k. set.contains k.numbers c.args.n) (known_none c.self.inside.tracks.places c.args.proc.now c.in-None.ensures.there)
     ∙ ap (λ d. taken_at d c.args.proc.now c.args.n) c.self.view_is

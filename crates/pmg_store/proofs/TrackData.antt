@@ -1,0 +1,162 @@
+-- What tracks know, as data.
+use Rattle.std.proofs.Common.{arith, ◌≡◌, ℕ, List, [], ◌∷◌, ◌++◌, ◌⊎◌, inl, inr, Bool, true, false, cond, refl, sym, ap, ◌∙◌}
+use Rattle.std.specs.Prelude.{Option, Some, None, is_some}
+use Rattle.std.specs.Option.{option_map, option_to_list}
+use Rattle.std.specs.List.{flat_map}
+use Rattle.std.specs.Cmp.{Equal-is, eq_by_cmp_equiv}
+use Rattle.std.specs.Ordering.{eq_by_cmp, is_eq}
+use Rattle.std.specs.BTreeMap.{BTreeMap, get, keys, is_at}
+use Rattle.std.specs.FinMap as finite
+use Rattle.std.specs.FinSet as set
+use Rattle.std.specs.Ordering.{nat_cmp}
+use Rattle.std.specs.FinMap.Entries.{find}
+use Rattle.std.proofs.lemmas.Bool.{false≢true}
+use Rattle.std.proofs.lemmas.Cmp.{tied_itself}
+use Rattle.pmg_value.specs.declared.process.Proc.{Proc}
+use Rattle.pmg_value.specs.Lists.{In}
+use Rattle.pmg_value.specs.Maps.{join_options, join_to}
+use Rattle.pmg_value.specs.Process.{proc_cmp}
+use Rattle.pmg_value.proofs.MapLemmas.{get-join_maps}
+use Rattle.pmg_value.proofs.ProcessOrder.{procs_total, exact_procs}
+use Rattle.pmg_value.proofs.RowLemmas.{key_there}
+use Rattle.pmg_commit.specs.Cores.{Core, core_of, join_cores}
+use Rattle.pmg_commit.specs.Data.{Data, join_data, absorbed, of_contribution, known, knowledge_in}
+use Rattle.pmg_commit.specs.Knowledge.{Contribution, Knowledge, nothing, knowledge_of, read}
+use Rattle.pmg_commit.specs.Entries.{entry_cmp}
+use Rattle.pmg_commit.specs.Levels.{level}
+use Rattle.pmg_commit.specs.LevelLaws.{level_unique}
+use Rattle.pmg_commit.proofs.ReadLaws.{read_none}
+use Rattle.pmg_lane.specs.Lanes.{known_by, IsTrack}
+use Rattle.pmg_lane.specs.Places.{placed, there_at}
+use Rattle.pmg_lane.specs.declared.track.Track.{Track}
+use Rattle.pmg_store.specs.Tracks.{held_in, held_at, row_at, data_in}
+
+-- ---- what is found at a process
+
+-- a row before others, of what is held of its process
+abbrev with_row : Proc → Option Core → List (Proc × Core) → List (Proc × Core)
+with_row p o rest = option_to_list (option_map (λ core. (p, core)) o) ++ rest
+
+past_row : (q p : Proc) (o : Option Core) (rest : List (Proc × Core)) → eq_by_cmp proc_cmp q p ≡ false → find proc_cmp q (with_row p o rest) ≡ find proc_cmp q rest
+past_row q p None rest t = refl
+past_row q p (Some core) rest t = ap (λ b. cond b (Some core) (find proc_cmp q rest)) t
+
+own_row : (q p : Proc) (o : Option Core) (rest : List (Proc × Core)) → eq_by_cmp proc_cmp q p ≡ true → (o ≡ None → find proc_cmp q rest ≡ None) → find proc_cmp q (with_row p o rest) ≡ o
+own_row q p None rest t none = none refl
+own_row q p (Some core) rest t none = ap (λ b. cond b (Some core) (find proc_cmp q rest)) t
+
+module _ (places : BTreeMap Proc (Option Track)) where
+  found_row : (q : Proc) (ps : List Proc) → In q ps ⊎ (held_at places q ≡ None) → find proc_cmp q (flat_map (row_at places) ps) ≡ held_at places q
+  found_row q [] (inl i) = absurd i
+  found_row q [] (inr none) = sym none
+  found_row q (p ∷ ps) h =
+      elim (eq_by_cmp proc_cmp q p) as (λ t. eq_by_cmp proc_cmp q p ≡ t → find proc_cmp q (flat_map (row_at places) (p ∷ ps)) ≡ held_at places q) [
+        | true ↦ λ t.
+            let same : q ≡ p = exact_procs q p ((Equal-is _).0 t) in
+            own_row q p (held_at places p) (flat_map (row_at places) ps) t (λ none. let gone : held_at places q ≡ None = ap (held_at places) same ∙ none in found_row q ps (inr gone) ∙ gone)
+            ∙ ap (held_at places) (sym same)
+        | false ↦ λ t. past_row q p (held_at places p) (flat_map (row_at places) ps) t ∙ found_row q ps (elim h [
+          | inl (inl same) ↦ absurd (false≢true (sym t ∙ ap (eq_by_cmp proc_cmp q) (sym same) ∙ ap is_eq (tied_itself procs_total q)))
+          | inl (inr i) ↦ inl i
+          | inr none ↦ inr none
+        ])
+      ] refl
+
+  key_or_none : (q : Proc) → In q (keys places) ⊎ (held_at places q ≡ None)
+  key_or_none q = go (get proc_cmp places q) refl
+    where
+      go : (o : Option (Option Track)) → get proc_cmp places q ≡ o → In q (keys places) ⊎ (held_at places q ≡ None)
+      go None is = inr (ap (λ o. held_in (placed o)) is)
+      go (Some place) is = inl (key_there exact_procs places.entries q (ap is_some is))
+
+  pub get-data_in : (q : Proc) → finite.get (data_in places) q ≡ held_at places q
+  unfolding data_in
+  get-data_in q = finite.get-from_entries procs_total (flat_map (row_at places) (keys places)) q ∙ found_row q (keys places) (key_or_none q)
+
+  pub known_in : (q : Proc) → known (data_in places) q ≡ knowledge_in (held_at places q)
+  unfolding known
+  known_in q = ap knowledge_in (get-data_in q)
+
+-- ---- the same data, and more
+
+pub same_data : (old new : BTreeMap Proc (Option Track)) → ((q : Proc) → held_at new q ≡ held_at old q) → data_in new ≡ data_in old
+same_data old new same = finite.same_map procs_total exact_procs (data_in new) (data_in old) (λ q. get-data_in new q ∙ same q ∙ sym (get-data_in old q))
+
+pub joined_data : (old other new : BTreeMap Proc (Option Track)) → ((q : Proc) → held_at new q ≡ join_options join_cores (held_at old q) (held_at other q))
+    → data_in new ≡ join_data (data_in old) (data_in other)
+joined_data old other new joined =
+    finite.same_map procs_total exact_procs (data_in new) (join_data (data_in old) (data_in other)) (λ q.
+    get-data_in new q
+    ∙ joined q
+    ∙ (λ i. join_options join_cores (sym (get-data_in old q) i) (sym (get-data_in other q) i))
+    ∙ sym (get-join_maps procs_total join_cores (data_in old) (data_in other) q))
+
+-- room was made, and then all was taken
+pub taken_all : (old roomy other new : BTreeMap Proc (Option Track)) (d e : Data) → ((q : Proc) → held_at roomy q ≡ held_at old q)
+    → ((q : Proc) → held_at new q ≡ join_options join_cores (held_at roomy q) (held_at other q)) → data_in old ≡ d → data_in other ≡ e → data_in new ≡ join_data d e
+taken_all old roomy other new d e same joined is_d is_e =
+    joined_data old other new (λ q. joined q ∙ ap (λ o. join_options join_cores o (held_at other q)) (same q)) ∙ (λ i. join_data (is_d i) (is_e i))
+
+joined_one : (b : Bool) (o : Option Core) (c : Core) → cond b (Some (join_to join_cores o c)) o ≡ join_options join_cores o (cond b (Some c) None)
+joined_one true None c = refl
+joined_one true (Some a) c = refl
+joined_one false None c = refl
+joined_one false (Some a) c = refl
+
+get-of : (c : Contribution) (q : Proc) → finite.get (of_contribution c) q ≡ cond (eq_by_cmp proc_cmp q c.proc) (Some (core_of (knowledge_of c))) None
+unfolding of_contribution
+get-of c q =
+    finite.get-insert procs_total finite.empty c.proc (core_of (knowledge_of c)) q ∙ ap (cond (eq_by_cmp proc_cmp q c.proc) (Some (core_of (knowledge_of c)))) (finite.get-empty proc_cmp q)
+
+-- what is held of one process, joined to the knowledge of a contribution
+here_or_there : (places : BTreeMap Proc (Option Track)) (p q : Proc) (c : Core)
+    → cond (is_at (proc_cmp p) q) (Some (join_to join_cores (held_at places p) c)) (held_at places q)
+    ≡ cond (is_at (proc_cmp p) q) (Some (join_to join_cores (held_at places q) c)) (held_at places q)
+here_or_there places p q c =
+    elim (is_at (proc_cmp p) q) as (λ t. is_at (proc_cmp p) q ≡ t → cond t (Some (join_to join_cores (held_at places p) c)) (held_at places q)
+    ≡ cond t (Some (join_to join_cores (held_at places q) c)) (held_at places q)) [
+      | true ↦ λ t. ap (λ p. Some (join_to join_cores (held_at places p) c)) (exact_procs p q ((Equal-is _).0 t))
+      | false ↦ λ t. refl
+    ] refl
+
+pub absorbed_data : (old new : BTreeMap Proc (Option Track)) (c : Contribution)
+    → ((q : Proc) → held_at new q ≡ cond (is_at (proc_cmp c.proc) q) (Some (join_to join_cores (held_at old c.proc) (core_of (knowledge_of c)))) (held_at old q))
+    → data_in new ≡ absorbed (data_in old) c
+absorbed_data old new c put =
+    let core = core_of (knowledge_of c) in
+    finite.same_map procs_total exact_procs (data_in new) (absorbed (data_in old) c) (λ q.
+    get-data_in new q
+    ∙ put q
+    ∙ here_or_there old c.proc q core
+    ∙ ap (λ b. cond b (Some (join_to join_cores (held_at old q) core)) (held_at old q)) ((eq_by_cmp_equiv procs_total).symm c.proc q)
+    ∙ joined_one (eq_by_cmp proc_cmp q c.proc) (held_at old q) core
+    ∙ (λ i. join_options join_cores (sym (get-data_in old q) i) (sym (get-of c q) i))
+    ∙ sym (get-join_maps procs_total join_cores (data_in old) (of_contribution c) q))
+
+pub taken_data : (old new : BTreeMap Proc (Option Track)) (c : Contribution) (p : Proc) (k : Knowledge) → p ≡ c.proc → k ≡ knowledge_of c
+    → ((q : Proc) → held_at new q ≡ cond (is_at (proc_cmp p) q) (Some (join_to join_cores (held_at old p) (core_of k))) (held_at old q))
+    → data_in new ≡ absorbed (data_in old) c
+taken_data old new c p k is told put =
+    absorbed_data old new c (λ q. put q ∙ (λ i. cond (is_at (proc_cmp (is i)) q) (Some (join_to join_cores (held_at old (is i)) (core_of (told i)))) (held_at old q)))
+
+pub nothing_in : (places : BTreeMap Proc (Option Track)) → ((q : Proc) → held_at places q ≡ None) → data_in places ≡ finite.empty
+nothing_in places none = finite.same_map procs_total exact_procs (data_in places) finite.empty (λ q. get-data_in places q ∙ none q ∙ sym (finite.get-empty proc_cmp q))
+
+-- ---- what is known of a process
+module _ (places : BTreeMap Proc (Option Track)) (p : Proc) where
+  pub known_there : (t : Track) → IsTrack t → Some t ≡ there_at proc_cmp places p → known_by t ≡ known (data_in places) p
+  known_there t is there = sym (known_in places p ∙ ap (λ o. knowledge_in (held_in o)) (sym there) ∙ is.is_core)
+
+  pub known_none : None ≡ there_at proc_cmp places p → nothing ≡ known (data_in places) p
+  known_none there = sym (known_in places p ∙ ap (λ o. knowledge_in (held_in o)) (sym there))
+
+pub level-nothing : 0 ≡ level nothing.numbers
+level-nothing = level_unique nothing.numbers 0 ((λ i low high. absurd (let bad : ⊥ = omega (arith, low, high) in bad)), set.contains-empty nat_cmp 1)
+
+pub read-nothing : (key : List ℕ) → read nothing key ≡ None
+read-nothing key = read_none nothing key (λ f has r. false≢true (sym (set.contains-empty entry_cmp f) ∙ has))
+
+-- ---- whether something is read
+pub is_read_alike : {V : Type 0} (o : Option V) (bytes : Option (List ℕ)) (f : V → List ℕ) → option_map f o ≡ bytes → is_some o ≡ is_some bytes
+is_read_alike None bytes f e = ap is_some e
+is_read_alike (Some v) bytes f e = ap is_some e

@@ -1,0 +1,7 @@
+use Rattle.std.proofs.Common.{◌≡◌, ◌++◌}
+use Rattle.pmg_store.specs.Tables.{procs_of}
+use Rattle.pmg_store.proofs.tracks.Tracks.processes.Given as goal
+
+-- the processes so far, and those that are left, are all of them
+abbrev pub invariant-loop-proc : goal.invariant-loop-proc
+invariant-loop-proc l = l.procs.items ++ procs_of l.proc-iterator ≡ procs_of l.self.places.entries
