@@ -29,38 +29,33 @@ pub name_beside : {X Y Z : Type 0} (name : X → Y) (other : X → Z) (found : O
 name_beside name other None = refl
 name_beside name other (Some x) = refl
 
--- what was found amiss is shown, but for want of memory
+-- what was found amiss is shown, but because an allocation failed
 pub shown_is_chosen : {E : Type 0} (result : Result Chosen E) (words : List Text) (kind : ErrorKind) → IfOk result (λ chosen. chosen ≡ Shown (shown_status kind))
     → IfOk result (λ _. kind ≢ OutOfMemory) → (kind ≡ OutOfMemory) ⊎ IsAmong kind (fault_of program words) → IfOk result (IsChosen words)
 shown_is_chosen (Err e) words kind shown memory found = tt
 shown_is_chosen (Ok chosen) words kind shown memory (inl wanting) = absurd (memory wanting)
-shown_is_chosen (Ok chosen) words kind shown memory (inr among) = subst (IsChosen words) (sym shown) (kind, among, refl)
+shown_is_chosen (Ok chosen) words kind shown memory (inr among) = subst (IsChosen words) (sym shown) (inl (kind, among, refl))
 
 -- the command that was found is what is asked for
 pub named_is_chosen : (chosen : Chosen) (words : List Text) → fault_of program words ≡ [] → chosen ≡ chosen_of (command_in words) → IsChosen words chosen
 named_is_chosen Dump words none is = (none, sym is)
 named_is_chosen Merge words none is = (none, sym is)
-named_is_chosen (Shown status) words none is = absurd (never_shown (command_in words) status is)
-  where
-    never_shown : (name : Option Text) (status : ℕ) → Shown status ≡ chosen_of name → ⊥
-    never_shown None status is = cc
-    never_shown (Some name) status is = elim (bytes_eq name (codes "merge")) as (λ b. Shown status ≡ (if b then Merge else Dump) → ⊥) [
-      | true ↦ λ is. cc
-      | false ↦ λ is. cc
-    ] is
+named_is_chosen (Shown status) words none is = inr (none, sym is)
 
 -- where nothing is amiss, the command that is named is asked for
 pub is_dump : {E : Type 0} (result : Result Chosen E) (words : List Text) → fault_of program words ≡ [] → chosen_of (command_in words) ≡ Dump → IfOk result (IsChosen words) → IfOk result (λ chosen. chosen ≡ Dump)
 is_dump (Err e) words none named chosen = tt
 is_dump (Ok Dump) words none named chosen = refl
 is_dump (Ok Merge) words none named chosen = sym chosen.1 ∙ named
-is_dump (Ok (Shown status)) words none named chosen = absurd (subst (IsAmong chosen.0) none chosen.1)
+is_dump (Ok (Shown status)) words none named (inl found) = absurd (subst (IsAmong found.0) none found.1)
+is_dump (Ok (Shown status)) words none named (inr is) = sym is.1 ∙ named
 
 pub is_merge : {E : Type 0} (result : Result Chosen E) (words : List Text) → fault_of program words ≡ [] → chosen_of (command_in words) ≡ Merge → IfOk result (IsChosen words) → IfOk result (λ chosen. chosen ≡ Merge)
 is_merge (Err e) words none named chosen = tt
 is_merge (Ok Dump) words none named chosen = sym chosen.1 ∙ named
 is_merge (Ok Merge) words none named chosen = refl
-is_merge (Ok (Shown status)) words none named chosen = absurd (subst (IsAmong chosen.0) none chosen.1)
+is_merge (Ok (Shown status)) words none named (inl found) = absurd (subst (IsAmong found.0) none found.1)
+is_merge (Ok (Shown status)) words none named (inr is) = sym is.1 ∙ named
 
 -- where one thing is found, it is shown
 pub is_shown : {E : Type 0} (result : Result Chosen E) (words : List Text) (kind : ErrorKind) → fault_of program words ≡ kind ∷ [] → IfOk result (IsChosen words)
@@ -68,10 +63,11 @@ pub is_shown : {E : Type 0} (result : Result Chosen E) (words : List Text) (kind
 is_shown (Err e) words kind one chosen = tt
 is_shown (Ok Dump) words kind one chosen = let both : [] ≡ kind ∷ [] = sym chosen.0 ∙ one in cc
 is_shown (Ok Merge) words kind one chosen = let both : [] ≡ kind ∷ [] = sym chosen.0 ∙ one in cc
-is_shown (Ok (Shown status)) words kind one chosen = elim (subst (IsAmong chosen.0) one chosen.1) [
-  | inl same ↦ ap Shown (chosen.2 ∙ ap shown_status same)
+is_shown (Ok (Shown status)) words kind one (inl found) = elim (subst (IsAmong found.0) one found.1) [
+  | inl same ↦ ap Shown (found.2 ∙ ap shown_status same)
   | inr none ↦ absurd none
 ]
+is_shown (Ok (Shown status)) words kind one (inr is) = let both : [] ≡ kind ∷ [] = sym is.0 ∙ one in cc
 
 -- lines of words
 pub of_dump : (name : Text) → fault_of program (name ∷ codes "dump" ∷ []) ≡ []
@@ -102,7 +98,7 @@ pub of_name : (name : Text) → fault_of program (name ∷ []) ≡ MissingSubcom
 unfolding clap_on_literals
 of_name name = refl
 
--- nothing is amiss, and so memory was wanting
+-- nothing is amiss, and so an allocation failed
 pub is_wanting : (words : List Text) (kind : ErrorKind) → fault_of program words ≡ [] → (kind ≡ OutOfMemory) ⊎ IsAmong kind (fault_of program words) → kind ≡ OutOfMemory
 is_wanting words kind none (inl is) = is
 is_wanting words kind none (inr among) = absurd (subst (IsAmong kind) none among)

@@ -14,7 +14,7 @@ use Rattle.pmg_store.specs.declared.failure.Failure.{Failure}
 use Rattle.pmg_store.specs.declared.failure.Failure.TheVariants as failures
 use Rattle.pmg_store.specs.Input.{input_of}
 use Rattle.pmg_store.specs.Merged.{merge_of, too_many}
-use Rattle.pmg_store.specs.Outcomes.{Dumps, Fails, Stops, or_failure}
+use Rattle.pmg_store.specs.Outcomes.{Dumps, FailsInput, Stops, or_failure}
 use Rattle.pmg_store.proofs.OutcomeLemmas.{keeps_same, ok_is, refused_reading}
 use Rattle.pmg_app.specs.Merge.{is_separator, span, spans_from, spans_of, decoded_all, unless_fault, spans_merge, merge_text}
 use Rattle.pmg_app.specs.Text.{decoded, is_stray, digits_of, unless_stray}
@@ -54,7 +54,7 @@ separated start end (line ∷ lines) =
 pub count_spans : (text : List ℕ) → length (spans_of text) ≡ suc (count_by is_separator (lines_of text))
 count_spans text = separated 0 0 (lines_of text) ∙ ap suc (length-filter is_separator (lines_of text))
 
--- streams behind others
+-- streams after others
 abbrev pub decoded_behind : List (List ℕ) → Result (List (List ℕ)) Fault → Result (List (List ℕ)) Fault
 decoded_behind streams others = others >>= λ ss. Ok (streams ++ ss)
 
@@ -90,7 +90,7 @@ unread text failure is = first (input_of text) is
     first (Ok kept) is = cc
     first (Err f) is = is
 
-pub read_failed : (given known : Option (List ℕ)) (failure : Failure) → IfSome given (λ text. Fails failure (or_failure (input_of text))) →
+pub read_failed : (given known : Option (List ℕ)) (failure : Failure) → IfSome given (λ text. FailsInput failure (or_failure (input_of text))) →
     IfSome given (λ text. Stops known known failure (merge_text text))
 read_failed None known failure fails = tt
 read_failed (Some text) known failure (inl always) = inl (inl always, keeps_same known)
@@ -110,8 +110,8 @@ few_spans : (kept : List ℕ) → count_by is_separator (lines_of kept) < 64 →
 unfolding spans_merge
 few_spans kept few = let more = count_spans kept in rw (le-ltb 64 (length (spans_of kept)) (omega (arith, more, few))) refl
 
-fault_first : {X : Type 0} (first : Result X Fault) (next : X → Result (List ℕ) Failure) (failure : Failure) → Fails failure (or_failure first) →
-    Fails failure (unless_fault first next)
+fault_first : {X : Type 0} (first : Result X Fault) (next : X → Result (List ℕ) Failure) (failure : Failure) → FailsInput failure (or_failure first) →
+    FailsInput failure (unless_fault first next)
 fault_first first next failure (inl always) = inl always
 fault_first (Ok x) next failure (inr due) = cc
 fault_first (Err f) next failure (inr due) = let same : failures.Refused (refusals.BadFrame f) ≡ failure = cc in inr (ap Err same)

@@ -12,7 +12,7 @@ use Rattle.pmg_value.proofs.WrittenLemmas.{appends_then, front_of_all}
 use Rattle.pmg_store.specs.declared.failure.Failure.{Failure}
 use Rattle.pmg_store.specs.declared.failure.Failure.TheVariants as failures
 use Rattle.pmg_store.specs.Outcomes.{Stops, Dumps}
-use Rattle.pmg_app.specs.Output.{Output, Prints, Runs, output_of, outcome_output, failure_output, failure_line}
+use Rattle.pmg_app.specs.Output.{Output, Prints, PrintsDue, output_of, outcome_output, failure_output, failure_line}
 
 -- nothing, and then a text
 kept_appends : (old mid new : Option (List ℕ)) (a : List ℕ) → Keeps old mid → Appends mid new a → Appends old new a
@@ -43,7 +43,7 @@ front_then_nothing old mid new text front nothing =
 
 -- the text that is due was written
 runs_done : {D E : Type 0} (old mid new : Option (List ℕ)) (read : Option D) (write : Option E) (status : ℕ) (due : Result (List ℕ) Failure) →
-    Dumps {T = Unit {0}} old mid (Ok tt) due → Prints mid new write status (outcome_output {T = Unit {0}} (Ok tt)) → Runs old new read write status (output_of due)
+    Dumps {T = Unit {0}} old mid (Ok tt) due → Prints mid new write status (outcome_output {T = Unit {0}} (Ok tt)) → PrintsDue old new read write status (output_of due)
 runs_done old mid new read None status (Ok text) dumps (is, nothing) = inl (is, then_nothing old mid new text nothing dumps)
 runs_done old mid new read (Some e) status (Ok text) dumps (is, front) =
     inl (is, front_of_all old new text (then_nothing old mid new text (nothing_more mid new front) dumps))
@@ -57,14 +57,14 @@ no_line mid new None status failed prints = absurd (false≢true failed)
 no_line mid new (Some e) status failed (is, front) = (is, nothing_more mid new front)
 
 runs_unwritten : {D E : Type 0} (old mid new : Option (List ℕ)) (read : Option D) (write : Option E) (status : ℕ) (text : List ℕ) → AppendsFront old mid text →
-    IsSome write → (status ≡ 1) × Appends mid new [] → Runs old new read write status (output_of (Ok text))
+    IsSome write → (status ≡ 1) × Appends mid new [] → PrintsDue old new read write status (output_of (Ok text))
 runs_unwritten old mid new read None status text front failed told = absurd (false≢true failed)
 runs_unwritten old mid new read (Some e) status text front failed (is, nothing) = inl (is, front_then_nothing old mid new text front nothing)
 
 -- the call failed
 runs_stopped : {D E : Type 0} (old mid new : Option (List ℕ)) (read : Option D) (write : Option E) (status : ℕ) (failure : Failure) (due : Result (List ℕ) Failure) →
     Stops old mid failure due → (failure ≡ failures.Read → IsSome read) → (failure ≡ failures.Write → IsSome write) →
-    Prints mid new write status (failure_output failure) → Runs old new read write status (output_of due)
+    Prints mid new write status (failure_output failure) → PrintsDue old new read write status (output_of due)
 runs_stopped old mid new read write status failure due (inl (inl (inl is), kept)) reads writes prints =
     inr (inl (kept_prints old mid new write status (failure_output (failures.Refused refusals.NoMemory)) kept (rw is at prints)))
 runs_stopped old mid new read write status failure due (inl (inl (inr is), kept)) reads writes prints =
@@ -87,13 +87,13 @@ told_of read mid write (Err failure) reads writes kept = (reads, λ is. kept (wr
 
 runs : {D E : Type 0} (old mid new : Option (List ℕ)) (read : Option D) (write : Option E) (status : ℕ) (outcome : Result (Unit {0}) Failure)
     (due : Result (List ℕ) Failure) → Dumps old mid outcome due → IsTold read write outcome → Prints mid new write status (outcome_output outcome) →
-    Runs old new read write status (output_of due)
+    PrintsDue old new read write status (output_of due)
 runs old mid new read write status (Ok done) due dumps told prints = runs_done old mid new read write status due dumps prints
 runs old mid new read write status (Err failure) due stops (reads, writes) prints = runs_stopped old mid new read write status failure due stops reads writes prints
 
 -- the same, at a reader whose bytes may be known
 pub known_runs : {D E : Type 0} (known old mid new : Option (List ℕ)) (read : Option D) (write : Option E) (status : ℕ) (outcome : Result (Unit {0}) Failure)
     (due : List ℕ → Result (List ℕ) Failure) → IfSome known (λ text. Dumps old mid outcome (due text)) → IsTold read write outcome →
-    Prints mid new write status (outcome_output outcome) → IfSome known (λ text. Runs old new read write status (output_of (due text)))
+    Prints mid new write status (outcome_output outcome) → IfSome known (λ text. PrintsDue old new read write status (output_of (due text)))
 known_runs None old mid new read write status outcome due dumps told prints = tt
 known_runs (Some text) old mid new read write status outcome due dumps told prints = runs old mid new read write status outcome (due text) dumps told prints

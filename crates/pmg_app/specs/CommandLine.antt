@@ -21,10 +21,10 @@ program =
 abbrev pub command_in : List Text → Option Text
 command_in words = option_map (λ p. p.0) (subcommand_of program words)
 
--- the command of a name: `merge`, else `dump`
+-- the command of a name; of no name, and of another one, there is none, which is a usage fault
 abbrev pub chosen_of : Option Text → Chosen
-chosen_of None = Dump
-chosen_of (Some name) = if bytes_eq name (codes "merge") then Merge else Dump
+chosen_of None = Shown 2
+chosen_of (Some name) = if bytes_eq name (codes "dump") then Dump else if bytes_eq name (codes "merge") then Merge else Shown 2
 
 -- the status of a line that asks for help or the version, and of one that is not understood
 abbrev pub shown_status : ErrorKind → ℕ
@@ -32,11 +32,15 @@ shown_status DisplayHelp = 0
 shown_status DisplayVersion = 0
 shown_status _ = 2
 
+-- the words name what was chosen, and `clap` finds nothing amiss in them
+abbrev pub IsNamed : List Text → Chosen → Type 0
+IsNamed words chosen = (fault_of program words ≡ []) × (chosen_of (command_in words) ≡ chosen)
+
 -- The words ask for that: for their command, where `clap` finds nothing amiss in them; else for what it finds.
 abbrev pub IsChosen : List Text → Chosen → Type 0
-IsChosen words Dump = (fault_of program words ≡ []) × (chosen_of (command_in words) ≡ Dump)
-IsChosen words Merge = (fault_of program words ≡ []) × (chosen_of (command_in words) ≡ Merge)
-IsChosen words (Shown status) = (kind : ErrorKind) × IsAmong kind (fault_of program words) × (status ≡ shown_status kind)
+IsChosen words Dump = IsNamed words Dump
+IsChosen words Merge = IsNamed words Merge
+IsChosen words (Shown status) = ((kind : ErrorKind) × IsAmong kind (fault_of program words) × (status ≡ shown_status kind)) ⊎ IsNamed words (Shown status)
 
 -- the status of what was shown is 0 or 2
 abbrev pub HasStatus : Chosen → Type 0

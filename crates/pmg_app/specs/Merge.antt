@@ -27,7 +27,7 @@ abbrev pub span : ℕ → ℕ → Span
 span start end = record { start = start; end = end }
 
 -- The texts of the streams, where that of the first has begun at a start and goes on at an end. A text ends where its
--- separator begins, and the next one begins behind it.
+-- separator begins, and the next one begins after it.
 abbrev pub spans_from : ℕ → ℕ → List (List ℕ) → List Span
 spans_from start end [] = span start end ∷ []
 spans_from start end (line ∷ lines) =

@@ -65,8 +65,8 @@ Prints old new failure status output =
     (λ _. (status ≡ 1) × AppendsFront old new output.printed)
 
 -- The output that is due is printed; or that of an allocation that failed; or, where the reader failed, that of a read fault.
-abbrev pub Runs : {D E : Type 0} → Option (List ℕ) → Option (List ℕ) → Option D → Option E → ℕ → Output → Type 0
-Runs old new read_failure write_failure status due =
+abbrev pub PrintsDue : {D E : Type 0} → Option (List ℕ) → Option (List ℕ) → Option D → Option E → ℕ → Output → Type 0
+PrintsDue old new read_failure write_failure status due =
     Prints old new write_failure status due
     ⊎ (Prints old new write_failure status (failure_output (Refused NoMemory))
     ⊎ (IsSome read_failure × Prints old new write_failure status (failure_output Read)))

@@ -76,17 +76,18 @@ pub fn choose<R: Print + Eprint + AllocGlobal, S: AsStr>(rt: &R, words: &[S]) ->
     }
 }
 
-/// The command that the words named.
+/// The command that the words named. `clap` takes no words that name none of them.
 fn chosen_by(matches: &ArgMatches) -> Chosen
     ensures { result ≡ chosen_of (subcommand_name_of matches.now) }
 {
     match matches.subcommand_name() {
+        Some("dump") => Chosen::Dump,
         Some("merge") => Chosen::Merge,
-        _ => Chosen::Dump,
+        _ => Chosen::Shown(USAGE_FAULT),
     }
 }
 
-/// Prints what the words were answered with, where that was not want of memory.
+/// Prints what the words were answered with, where that was not a failed allocation.
 fn show(rt: &(impl Print + Eprint), error: &Error) -> io::Result<Chosen>
     ensures shown { IfOk result (λ chosen. chosen ≡ Chosen.Shown (shown_status (kind_of error.now))) }
     ensures kind { IfOk result (λ _. kind_of error.now ≢ Kind.OutOfMemory) }

@@ -2,7 +2,7 @@
 ghost use Rattle.std.specs.Prelude.{◌≡◌, ◌≤◌, ◌+◌, IfErr, IfSome, IsNone, IsSome, IsTrue};
 ghost use Rattle.pmg_store.specs.Outcomes.{Dumps, or_failure};
 ghost use Rattle.pmg_app.specs.Dump.{dump_text, dump_output};
-ghost use Rattle.pmg_app.specs.Output.{IsStatus, Runs};
+ghost use Rattle.pmg_app.specs.Output.{IsStatus, PrintsDue};
 
 use crate::reporting::conclude;
 use crate::text::decode_text;
@@ -22,7 +22,7 @@ pub fn run_dump<R: Read, W: Write>(
     writer: &mut WatchedWriter<W>,
 ) -> u8
     ensures printed { IfSome (R.remaining reader.old.reader) (λ text.
-        Runs (W.contents writer.old.writer) (W.contents writer.new.writer) reader.new.failure writer.new.failure
+        PrintsDue (W.contents writer.old.writer) (W.contents writer.new.writer) reader.new.failure writer.new.failure
         result (dump_output text)) }
     ensures flushed { IsNone writer.new.failure → IsTrue writer.new.is_flushed }
     ensures few { reader.new.reads ≤ reader.old.reads + MOST_READS }
@@ -45,6 +45,7 @@ fn dump_text<R: Read, W: Write>(
 {
     let text = read_input(alloc, reader)?;
     let frames = decode_text(alloc, &text)?;
+    drop(text);
     let store = store_of_stream(alloc, &frames)?;
     store.dump(writer)
 }

@@ -8,7 +8,7 @@ ghost use Rattle.pmg_store.specs.declared.failure.Failure.TheVariants.{Refused};
 ghost use Rattle.pmg_app.specs.CommandLine.{HasStatus};
 ghost use Rattle.pmg_app.specs.Dump.{dump_output};
 ghost use Rattle.pmg_app.specs.Merge.{merge_output};
-ghost use Rattle.pmg_app.specs.Output.{failure_output, Prints, Runs};
+ghost use Rattle.pmg_app.specs.Output.{failure_output, Prints, PrintsDue};
 
 mod command;
 mod dump;
@@ -70,10 +70,10 @@ fn carry_out<R: Read, W: Write>(
     writer: &mut WatchedWriter<W>,
 ) -> u8
     ensures dump { chosen ≡ Chosen.Dump → IfSome (R.remaining reader.old.reader) (λ text.
-        Runs (W.contents writer.old.writer) (W.contents writer.new.writer) reader.new.failure writer.new.failure
+        PrintsDue (W.contents writer.old.writer) (W.contents writer.new.writer) reader.new.failure writer.new.failure
         result (dump_output text)) }
     ensures merge { chosen ≡ Chosen.Merge → IfSome (R.remaining reader.old.reader) (λ text.
-        Runs (W.contents writer.old.writer) (W.contents writer.new.writer) reader.new.failure writer.new.failure
+        PrintsDue (W.contents writer.old.writer) (W.contents writer.new.writer) reader.new.failure writer.new.failure
         result (merge_output text)) }
     ensures shown { (status : ℕ) → chosen ≡ Chosen.Shown status
         → (result ≡ status) × (reader.new ≡ reader.old) × (writer.new ≡ writer.old) }

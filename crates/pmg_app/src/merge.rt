@@ -4,7 +4,7 @@ ghost use Rattle.bstr.specs.Text.{lines_of};
 ghost use Rattle.pmg_wire.specs.Reading.{FailsReading};
 ghost use Rattle.pmg_store.specs.Outcomes.{Dumps};
 ghost use Rattle.pmg_app.specs.Merge.{is_separator, span, spans_of, decoded_at, decoded_all, merge_text, merge_output};
-ghost use Rattle.pmg_app.specs.Output.{IsStatus, Runs};
+ghost use Rattle.pmg_app.specs.Output.{IsStatus, PrintsDue};
 
 use crate::reporting::conclude;
 use crate::text::decode_text;
@@ -26,7 +26,7 @@ pub fn run_merge<R: Read, W: Write>(
     writer: &mut WatchedWriter<W>,
 ) -> u8
     ensures printed { IfSome (R.remaining reader.old.reader) (λ text.
-        Runs (W.contents writer.old.writer) (W.contents writer.new.writer) reader.new.failure writer.new.failure
+        PrintsDue (W.contents writer.old.writer) (W.contents writer.new.writer) reader.new.failure writer.new.failure
         result (merge_output text)) }
     ensures flushed { IsNone writer.new.failure → IsTrue writer.new.is_flushed }
     ensures few { reader.new.reads ≤ reader.old.reads + MOST_READS }
@@ -52,6 +52,7 @@ fn merge_text<R: Read, W: Write>(
         return Err(Failure::Refused(Refusal::TooMany));
     }
     let streams = decode_streams(alloc, &text)?;
+    drop(text);
     merge_inputs(alloc, &streams, writer)
 }
 

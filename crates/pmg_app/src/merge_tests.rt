@@ -1,4 +1,5 @@
-//! What streams merged print, from their hexadecimal text: dumps and first faults, and what separates streams.
+//! What streams merged print, from their hexadecimal text: dumps and first faults, and what separates streams. The rows
+//! that have the name of an input in `examples/merge` are that input, and print what stands beside it.
 use crate::command::Chosen;
 use crate::tests::run_on;
 use std::alloc::AllocError;
@@ -7,27 +8,52 @@ use std::alloc::AllocError;
 fn merged_streams_print_one_dump(rt: HostRuntime) {
     let cases = [
         (
-            "010100000027016a00000000000000000000000000000000000000010000000100016100000000000000010101\n--\n01010000001a016b000000030000000000000000000000000000000200000000",
+            "two-servers",
+            "01 01 00000027  01 6a 00000000  0000000000000000 0000000000000001  00000001  0001 61 0000000000000001 09 01\n\
+             01 01 00000027  01 6a 00000000  0000000000000001 0000000000000002  00000001  0001 61 0000000000000002 09 02\n\
+             --\n\
+             01 01 00000027  01 6a 00000001  0000000000000000 0000000000000001  00000001  0001 62 0000000000000001 09 07\n\
+             01 01 00000027  01 6a 00000000  0000000000000001 0000000000000002  00000001  0001 61 0000000000000002 09 02\n\
+             ",
+            "proc j 0 level 2\n  u8:2 a\nproc j 1 level 1\n  u8:7 b\n",
+        ),
+        (
+            "two-processes",
+            "01  01  00000027  01 6a 00000000  0000000000000000 0000000000000001  00000001  0001 61 0000000000000001 01 01\n\
+             --\n\
+             01  01  0000001a  01 6b 00000003  0000000000000000 0000000000000002  00000000",
             "proc j 0 level 1\n  bool:true a\nproc k 3 level 2\n",
         ),
         (
-            "01010000001a016b000000030000000000000000000000000000000200000000\n--\n010100000027016a00000000000000000000000000000000000000010000000100016100000000000000010101",
+            "two-processes-in-the-other-order",
+            "01  01  0000001a  01 6b 00000003  0000000000000000 0000000000000002  00000000\n\
+             --\n\
+             01  01  00000027  01 6a 00000000  0000000000000000 0000000000000001  00000001  0001 61 0000000000000001 01 01",
             "proc j 0 level 1\n  bool:true a\nproc k 3 level 2\n",
         ),
         (
-            "010100000027016a00000000000000000000000000000000000000030000000100016100000000000000030909\r\n--\r\n010100000027016a00000000000000000000000000000000000000020000000100016100000000000000010901\n--\n010100000027016a00000000000000000000000000000000000000030000000100016100000000000000030909",
+            "separators-with-carriage-returns",
+            "01  01  00000027  01 6a 00000000  0000000000000000 0000000000000003  00000001  0001 61 0000000000000003 09 09\r\n\
+             --\r\n\
+             01  01  00000027  01 6a 00000000  0000000000000000 0000000000000002  00000001  0001 61 0000000000000001 09 01\n\
+             --\n\
+             01  01  00000027  01 6a 00000000  0000000000000000 0000000000000003  00000001  0001 61 0000000000000003 09 09",
             "proc j 0 level 3\n  u8:9 a\n",
         ),
         (
-            "010100000027016a00000000000000000000000000000000000000010000000100016100000000000000010902\n--\n010100000027016a00000000000000000000000000000000000000010000000100016100000000000000010901\n--\r",
+            "greater-bytes-of-one-commit",
+            "01  01  00000027  01 6a 00000000  0000000000000000 0000000000000001  00000001  0001 61 0000000000000001 09 02\n\
+             --\n\
+             01  01  00000027  01 6a 00000000  0000000000000000 0000000000000001  00000001  0001 61 0000000000000001 09 01\n\
+             --\r",
             "proc j 0 level 1\n  u8:2 a\n",
         ),
-        ("--\n--\n--", ""),
+        ("streams-of-nothing", "--\n--\n--", ""),
     ];
-    for (text, want) in cases {
+    for (name, text, want) in cases {
         let (status, printed) = run_on(rt.alloc(), Chosen::Merge, text.as_bytes());
-        assert_eq!(rt; printed.as_slice(), want.as_bytes(), "{text}");
-        assert_eq!(rt; status, 0, "{text}");
+        assert_eq!(rt; printed.as_slice(), want.as_bytes(), "{name}");
+        assert_eq!(rt; status, 0, "{name}");
     }
 }
 
@@ -35,22 +61,50 @@ fn merged_streams_print_one_dump(rt: HostRuntime) {
 fn the_first_fault_of_the_first_faulty_stream_is_told(rt: HostRuntime) {
     let cases = [
         (
-            "010100000027016a00000000000000000000000000000000000000010000000100016100000000000000010101\n--\n010100000027016a00000000000000000000000000000000000000010000000100016100000000000000010102",
+            "fault-in-the-second-stream",
+            "01 01 00000027  01 6a 00000000  0000000000000000 0000000000000001  00000001  0001 61 0000000000000001 09 01\n\
+             --\n\
+             01 01 00000027  01 6a 00000000  0000000000000000 0000000000000001  00000001  0001 61 0000000000000001 01 02\n\
+             ",
             "refused 10 BadFrame: Bool at 44 in stream 2\n",
         ),
         (
+            "bool-in-the-second-stream",
+            "01  01  00000027  01 6a 00000000  0000000000000000 0000000000000001  00000001  0001 61 0000000000000001 01 01\n\
+             --\n\
+             01  01  00000027  01 6a 00000000  0000000000000000 0000000000000001  00000001  0001 61 0000000000000001 01 02",
+            "refused 10 BadFrame: Bool at 44 in stream 2\n",
+        ),
+        (
+            "cut-in-the-second-stream",
             "--\n0101\n--\n030100000000",
             "refused 10 BadFrame: Cut at 0 in stream 2\n",
         ),
-        ("030100000000\n--\n0g", "refused 10 BadFrame: Hex at 17\n"),
-        ("010\n--\n0g", "refused 10 BadFrame: Hex at 4\n"),
-        ("-- \n", "refused 10 BadFrame: Hex at 0\n"),
-        ("01\n ---\n--\n", "refused 10 BadFrame: Hex at 8\n"),
+        (
+            "digit-before-a-frame",
+            "030100000000\n--\n0g",
+            "refused 10 BadFrame: Hex at 17\n",
+        ),
+        (
+            "odd-digits-of-the-first-stream",
+            "010\n--\n0g",
+            "refused 10 BadFrame: Hex at 4\n",
+        ),
+        (
+            "separator-with-a-blank",
+            "-- \n",
+            "refused 10 BadFrame: Hex at 0\n",
+        ),
+        (
+            "separator-behind-a-blank",
+            "01\n ---\n--\n",
+            "refused 10 BadFrame: Hex at 8\n",
+        ),
     ];
-    for (text, want) in cases {
+    for (name, text, want) in cases {
         let (status, printed) = run_on(rt.alloc(), Chosen::Merge, text.as_bytes());
-        assert_eq!(rt; printed.as_slice(), want.as_bytes(), "{text}");
-        assert_eq!(rt; status, 1, "{text}");
+        assert_eq!(rt; printed.as_slice(), want.as_bytes(), "{name}");
+        assert_eq!(rt; status, 1, "{name}");
     }
 }
 

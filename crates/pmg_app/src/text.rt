@@ -20,11 +20,11 @@ pub fn decode_text(alloc: Global, text: &[u8]) -> Result<Vec<u8>, Refusal>
     if digits.len() % 2 == 1 {
         return Err(hex_fault(text.len()));
     }
-    match first_stray(text) {
-        Some(offset) => Err(hex_fault(offset)),
-        None => match hex::decode(alloc, digits) {
-            Ok(bytes) => Ok(bytes),
-            Err(_) => Err(Refusal::NoMemory),
+    match hex::decode(alloc, digits) {
+        Ok(bytes) => Ok(bytes),
+        Err(_) => match first_stray(text) {
+            Some(offset) => Err(hex_fault(offset)),
+            None => Err(Refusal::NoMemory),
         },
     }
 }
@@ -41,10 +41,13 @@ fn hex_fault(offset: usize) -> Refusal
 fn digits(alloc: Global, text: &[u8]) -> Result<Vec<u8>, AllocError>
     ensures { IfOk result (λ digits. digits.items ≡ digits_of text.now) }
 {
-    text.iter()
-        .copied()
-        .filter(|byte| !is_blank(*byte))
-        .collect(alloc)
+    let mut digits = Vec::with_capacity(alloc, text.len())?;
+    for byte in text {
+        if !is_blank(*byte) {
+            digits.push(*byte)?;
+        }
+    }
+    Ok(digits)
 }
 
 fn first_stray(text: &[u8]) -> Option<usize>

@@ -16,4 +16,4 @@ returns-in-Some-clause-fault c =
 pub returns-in-Ok-clause-bytes : goal.returns-in-Ok-clause-bytes
 returns-in-Ok-clause-bytes c =
     let even : length (digits_of c.args.text.now) % 2 ≡ 0 = rw (← c.in_ok-digits.ensures) (search rules) in
-    clean_text c.args.text.now c.in-Ok.bytes.items even (sym c.in-None.ensures) (rw (← c.in_ok-digits.ensures) c.in-Ok.ensures.ok)
+    clean_text c.args.text.now c.in-Ok.bytes.items even (rw (← c.in_ok-digits.ensures) c.in-Ok.ensures.ok)
