@@ -62,7 +62,7 @@ impl Asked {
         self.rows.remove(proc);
     }
 
-    /// Another one of the same meaning.
+    /// A copy, equal to this one.
     fn copy(&self, alloc: Global) -> Result<Asked, AllocError>
         ensures { IfOk result (λ copy. copy ≡ self.now) }
     {

@@ -28,7 +28,7 @@ use Rattle.pmg_fence.proofs.TellLemmas.{fence_known}
 abbrev pub end_line : Proc → ℕ → Local
 end_line p level = record { proc = p; state = states.Gone; level = level }
 
-newly_same : (node : ℕ) (f : FenceName) (o : Option (List Local)) → newly node f o o ≡ []
+pub newly_same : (node : ℕ) (f : FenceName) (o : Option (List Local)) → newly node f o o ≡ []
 newly_same node f None = refl
 newly_same node f (Some ls) = refl
 

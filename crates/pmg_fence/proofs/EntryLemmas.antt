@@ -153,7 +153,7 @@ level_stays (Call.enter i ∷ cs) t g (suc k) l h =
     (level_stays cs t g k) (level_stays cs t g (suc k)) h
 level_stays (Call.terminate ∷ cs) t g k l h = absurd cc
 
--- nothing counts behind an end
+-- nothing counts after an end
 pub level_still : (s t : Script) (g : Signature) (k : ℕ) → has_end s ≡ true → level_before (s ++ t) g k ≡ level_before s g k
 unfolding level_before
 level_still [] t g k e = absurd cc

@@ -13,3 +13,7 @@ pub mod ReadLemmas
 pub mod EndLemmas
 pub mod FitLemmas
 pub mod StepLemmas
+pub mod SearchLemmas
+pub mod CountLemmas
+pub mod LimitLemmas
+pub mod KeptLemmas

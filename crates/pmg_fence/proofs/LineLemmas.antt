@@ -30,9 +30,6 @@ pub before_none : (o : Option (List Local)) → o ≡ before [] o
 before_none None = refl
 before_none (Some ls) = refl
 
-with_line_none : (p : Proc) (o : Option (List Local)) → with_line p None o ≡ None
-with_line_none p o = refl
-
 -- one more line
 before_more : (ls : List Local) (p : Proc) (e : Entry) (o : Option (List Local)) → before ls (with_line p (Some e) o) ≡ before (ls ++ local_of p e ∷ []) o
 before_more ls p e None = refl
@@ -53,17 +50,6 @@ module _ (s : Proc → Option Entry) (own : Proc → Bool) where
       by_own true t = ap (λ c. lines s (cond c (p ∷ filter own (drop (i + 1) ps)) (filter own (drop (i + 1) ps)))) t
       by_own false t = ap (λ c. lines s (cond c (p ∷ filter own (drop (i + 1) ps)) (filter own (drop (i + 1) ps)))) t
 
--- of nobody nothing is told, and of others the lines
-pub told_lines : (s : Proc → Option Entry) (ps : List Proc) (ls : List Local) → lines s ps ≡ Some ls → length ls ≡ 0 → told s ps ≡ None
-told_lines s [] ls h e = refl
-told_lines s (p ∷ ps) ls h e = none_left (s p) (lines s ps) ls h e
-  where
-    none_left : (o : Option Entry) (x : Option (List Local)) (ls : List Local) → with_line p o x ≡ Some ls → length ls ≡ 0 → with_line p o x ≡ None
-    none_left None x ls h e = refl
-    none_left (Some f) None ls h e = refl
-    none_left (Some f) (Some xs) [] h e = cc
-    none_left (Some f) (Some xs) (l ∷ ls) h e = cc
-
 told_none : (s : Proc → Option Entry) (ps : List Proc) → lines s ps ≡ None → told s ps ≡ None
 told_none s [] h = refl
 told_none s (p ∷ ps) h = h
@@ -75,62 +61,33 @@ stands_with k fence line = instead (option_map (λ l. l.now) line) (entry_with (
 abbrev pub own_at : Known → Proc → Bool
 own_at k p = home_of k.jobs p == k.node
 
-module _ (s : Proc → Option Entry) (own : Proc → Bool) (ps : List Proc) (ls : List Local) (i : ℕ) (p : Proc) where
-  pub skipped : rest s own ps ≡ before ls (rest s own (drop i ps)) → i < length ps → p ≡ get_or ps i p → own p ≡ false
-      → rest s own ps ≡ before ls (rest s own (drop (i + 1) ps))
-  skipped so_far h is e = so_far ∙ ap (before ls) (rest_at s own ps i p h is false e)
-
-  pub added : (new : List Local) (e : Entry) → rest s own ps ≡ before ls (rest s own (drop i ps)) → i < length ps → p ≡ get_or ps i p → own p ≡ true → s p ≡ Some e
-      → new ≡ ls ++ local_of p e ∷ [] → rest s own ps ≡ before new (rest s own (drop (i + 1) ps))
-  added new e so_far h is mine there pushed =
-      so_far ∙ ap (before ls) (rest_at s own ps i p h is true mine)
-      ∙ ap (λ o. before ls (with_line p o (rest s own (drop (i + 1) ps)))) there
-      ∙ before_more ls p e (rest s own (drop (i + 1) ps))
-      ∙ ap (λ xs. before xs (rest s own (drop (i + 1) ps))) (sym pushed)
-
-  pub stopped : rest s own ps ≡ before ls (rest s own (drop i ps)) → i < length ps → p ≡ get_or ps i p → own p ≡ true → s p ≡ None
-      → None ≡ told s (filter own ps)
-  stopped so_far h is mine none =
-      sym (told_none s (filter own ps) (so_far ∙ ap (before ls) (rest_at s own ps i p h is true mine ∙ ap (λ o. with_line p o (rest s own (drop (i + 1) ps))) none)))
-
-told_some : (s : Proc → Option Entry) (ps : List Proc) (ls : List Local) → lines s ps ≡ Some ls → (length ls ≡ 0 → ⊥) → told s ps ≡ Some ls
-told_some s [] ls h some = absurd (some (sym (ap length_of h)))
-  where
-    length_of : Option (List Local) → ℕ
-    length_of None = 0
-    length_of (Some xs) = length xs
-told_some s (p ∷ ps) ls h some = h
-
-all_made : (s : Proc → Option Entry) (own : Proc → Bool) (ps : List Proc) (ls : List Local) (i : ℕ) → rest s own ps ≡ before ls (rest s own (drop i ps)) → length ps ≤ i → rest s own ps ≡ Some ls
-all_made s own ps ls i so_far h = so_far ∙ ap (λ xs. before ls (rest s own xs)) (drop-all i ps h) ∙ ap Some (append_empty ls)
-
-pub nobody_told : (s : Proc → Option Entry) (own : Proc → Bool) (ps : List Proc) (ls : List Local) (i : ℕ) → rest s own ps ≡ before ls (rest s own (drop i ps)) → length ps ≤ i → length ls ≡ 0 → None ≡ told s (filter own ps)
-nobody_told s own ps ls i so_far h none = sym (told_lines s (filter own ps) ls (all_made s own ps ls i so_far h) none)
-
-pub all_told : (s : Proc → Option Entry) (own : Proc → Bool) (ps : List Proc) (ls : List Local) (i : ℕ) → rest s own ps ≡ before ls (rest s own (drop i ps)) → length ps ≤ i → (length ls ≡ 0 → ⊥) → Some ls ≡ told s (filter own ps)
-all_told s own ps ls i so_far h some = sym (told_some s (filter own ps) ls (all_made s own ps ls i so_far h) some)
-
 -- ---- whether there are all lines
 
-is_some_line : (p : Proc) (e : Entry) (o : Option (List Local)) → is_some (with_line p (Some e) o) ≡ is_some o
-is_some_line p e None = refl
-is_some_line p e (Some ls) = refl
-
 module _ (s : Proc → Option Entry) (own : Proc → Bool) (ps : List Proc) (i : ℕ) (p : Proc) where
-  pub whole_skipped : is_some (rest s own ps) ≡ is_some (rest s own (drop i ps)) → i < length ps → p ≡ get_or ps i p → own p ≡ false
-      → is_some (rest s own ps) ≡ is_some (rest s own (drop (i + 1) ps))
-  whole_skipped so_far h is e = so_far ∙ ap is_some (rest_at s own ps i p h is false e)
-
-  pub whole_more : (e : Entry) → is_some (rest s own ps) ≡ is_some (rest s own (drop i ps)) → i < length ps → p ≡ get_or ps i p → own p ≡ true → s p ≡ Some e
-      → is_some (rest s own ps) ≡ is_some (rest s own (drop (i + 1) ps))
-  whole_more e so_far h is mine there =
-      so_far ∙ ap is_some (rest_at s own ps i p h is true mine ∙ ap (λ o. with_line p o (rest s own (drop (i + 1) ps))) there)
-      ∙ is_some_line p e (rest s own (drop (i + 1) ps))
-
   pub whole_stopped : is_some (rest s own ps) ≡ is_some (rest s own (drop i ps)) → i < length ps → p ≡ get_or ps i p → own p ≡ true → s p ≡ None
       → false ≡ is_some (rest s own ps)
   whole_stopped so_far h is mine none =
       sym (so_far ∙ ap is_some (rest_at s own ps i p h is true mine ∙ ap (λ o. with_line p o (rest s own (drop (i + 1) ps))) none))
 
-pub whole_made : (s : Proc → Option Entry) (own : Proc → Bool) (ps : List Proc) (i : ℕ) → is_some (rest s own ps) ≡ is_some (rest s own (drop i ps)) → length ps ≤ i → true ≡ is_some (rest s own ps)
-whole_made s own ps i so_far h = sym (so_far ∙ ap (λ xs. is_some (rest s own xs)) (drop-all i ps h))
+-- ---- lines of a whole list
+
+module _ (s : Proc → Option Entry) where
+  line_at : (ps : List Proc) (i : ℕ) (p : Proc) → i < length ps → p ≡ get_or ps i p → lines s (drop i ps) ≡ with_line p (s p) (lines s (drop (i + 1) ps))
+  line_at ps i p h is = ap (lines s) (drop-cons ps i p h ∙ ap (λ x. x ∷ drop (suc i) ps) (sym is) ∙ ap (λ k. p ∷ drop k ps) (sym (add-one i)))
+
+  module _ (ps : List Proc) (ls : List Local) (i : ℕ) (p : Proc) where
+    pub line_added : (new : List Local) (e : Entry) → lines s ps ≡ before ls (lines s (drop i ps)) → i < length ps → p ≡ get_or ps i p → s p ≡ Some e
+        → new ≡ ls ++ local_of p e ∷ [] → lines s ps ≡ before new (lines s (drop (i + 1) ps))
+    line_added new e so_far h is there pushed =
+        so_far ∙ ap (before ls) (line_at ps i p h is ∙ ap (λ o. with_line p o (lines s (drop (i + 1) ps))) there)
+        ∙ before_more ls p e (lines s (drop (i + 1) ps))
+        ∙ ap (λ xs. before xs (lines s (drop (i + 1) ps))) (sym pushed)
+
+    pub line_missing : lines s ps ≡ before ls (lines s (drop i ps)) → i < length ps → p ≡ get_or ps i p → s p ≡ None → None ≡ told s ps
+    line_missing so_far h is none =
+        sym (told_none s ps (so_far ∙ ap (before ls) (line_at ps i p h is ∙ ap (λ o. with_line p o (lines s (drop (i + 1) ps))) none)))
+
+  module _ (ps : List Proc) (i : ℕ) (p : Proc) where
+    pub told_missing : is_some (lines s ps) ≡ is_some (lines s (drop i ps)) → i < length ps → p ≡ get_or ps i p → s p ≡ None → false ≡ is_some (lines s ps)
+    told_missing so_far h is none =
+        sym (so_far ∙ ap is_some (line_at ps i p h is ∙ ap (λ o. with_line p o (lines s (drop (i + 1) ps))) none))

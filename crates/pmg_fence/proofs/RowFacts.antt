@@ -1,7 +1,6 @@
 -- Headers of one fence in memory, and fences of one signature.
-use Rattle.std.proofs.Common.{◌≡◌, ℕ, suc, ◌+◌, ◌<◌, Bool, true, false, cond, List, ◌∷◌, length, get_or, drop, Option, Some, None, is_some, refl, sym, ap, ◌∙◌, Bor, add-one, drop-cons}
+use Rattle.std.proofs.Common.{◌≡◌, ℕ, Bool, true, false, List, Option, Some, None, is_some, refl, sym, ap, ◌∙◌, Bor}
 use Rattle.std.specs.FinMap as finite
-use Rattle.std.specs.List.{find}
 use Rattle.std.specs.FinMap.{nat_cmp-IsAntisymmetric}
 use Rattle.std.specs.Option.{option_map, option_copied}
 use Rattle.std.specs.Ordering.{nat_cmp}
@@ -13,10 +12,8 @@ use Rattle.pmg_frame.specs.FenceOrder.{signature_cmp, signature_total}
 use Rattle.pmg_frame.proofs.FenceOrderLemmas.{signatures_exact}
 use Rattle.pmg_frame.specs.Fences.{Header}
 use Rattle.pmg_frame.specs.declared.local.Local.{Local}
-use Rattle.pmg_value.specs.declared.process.Proc.{Proc}
 use Rattle.pmg_fence.specs.Codes.{Headers, Instances, AllSeries}
-use Rattle.pmg_fence.specs.Tables.{Fence, Series, entry_in}
-use Rattle.pmg_fence.specs.Entering.{same_proc}
+use Rattle.pmg_fence.specs.Tables.{Fence, Series}
 use Rattle.pmg_fence.specs.Changes.{first_of}
 use Rattle.pmg_fence.proofs.Trees.{read, get_at}
 
@@ -46,23 +43,6 @@ new_by (Some x) ls h = absurd cc
 -- and is new
 pub first_comes : (m n : Headers) (k node : ℕ) (ls : List Local) → k ≡ node → is_some (finite.get m k) ≡ false → n ≡ finite.insert m k ls → n ≡ finite.insert m node (first_of (finite.get m node) ls)
 first_comes m n k node ls same h e = e ∙ ap (finite.insert m k) (new_by (finite.get m k) ls h) ∙ ap (λ j. finite.insert m j (first_of (finite.get m j) ls)) same
-
--- ---- lines of a header
-
--- the next line is the process's
-pub line_here : (q : Proc) (ls : List Local) (i : ℕ) (l : Local) → i < length ls → l ≡ get_or ls i l → same_proc q l.proc ≡ true
-    → entry_in q (Some (drop i ls)) ≡ Some (record { state = l.state; level = l.level })
-line_here q ls i l h is e =
-    ap (λ xs. entry_in q (Some xs)) (drop-cons ls i l h ∙ ap (λ x. x ∷ drop (suc i) ls) (sym is))
-    ∙ ap (λ b. option_map (λ (x : Local). record { state = x.state; level = x.level }) (cond b (Some l) (find (λ x. same_proc q x.proc) (drop (suc i) ls)))) e
-
--- or another's
-pub line_later : (q : Proc) (ls : List Local) (i : ℕ) (l : Local) → i < length ls → l ≡ get_or ls i l → same_proc q l.proc ≡ false
-    → entry_in q (Some (drop i ls)) ≡ entry_in q (Some (drop (i + 1) ls))
-line_later q ls i l h is e =
-    ap (λ xs. entry_in q (Some xs)) (drop-cons ls i l h ∙ ap (λ x. x ∷ drop (suc i) ls) (sym is))
-    ∙ ap (λ b. option_map (λ (x : Local). record { state = x.state; level = x.level }) (cond b (Some l) (find (λ x. same_proc q x.proc) (drop (suc i) ls)))) e
-    ∙ ap (λ k. entry_in q (Some (drop k ls))) (sym (add-one i))
 
 -- ---- fences of one signature
 

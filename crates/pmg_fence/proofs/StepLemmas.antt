@@ -19,7 +19,7 @@ use Rattle.pmg_frame.specs.declared.local.Local.{Local}
 use Rattle.pmg_jobinfo.specs.Jobs.{Jobs, home_of}
 use Rattle.pmg_fence.specs.Codes.{Headers}
 use Rattle.pmg_fence.specs.Entering.{same_proc, same_signature, enters, header_of, level_before, level_at_end}
-use Rattle.pmg_fence.specs.Tables.{Numbers, Fence, Series, Fences, no_fence, no_fences, no_series, series_at, fence_at, count_of}
+use Rattle.pmg_fence.specs.Tables.{Numbers, Fence, Series, Fences, no_fence, no_fences, no_series, series_at, has_name, fence_at, count_of}
 use Rattle.pmg_fence.specs.Changes.{placed, next_name, entered_by, ended_by, fence_entered, fence_told, first_of}
 use Rattle.pmg_fence.specs.Rules.{FitsFences, FitsTable, Scripts, Grows, with_call, NewFits, PutFits, CommitFits, EnterFits, EndFits, OthersFit, LearnFits, HeaderFits}
 use Rattle.pmg_fence.proofs.EntryLemmas.{Idle, puts, commits_now, ends_now, proc_itself, has_end_next, enters_enter, enters_idle, level_idle, level_entered, level_other, no_end}
@@ -60,14 +60,18 @@ levels_placed t f fence counts q x levels =
     ap (λ (y : Fence). finite.get y.levels q) (fence-placed t f fence counts x)
     ∙ same_level (same_name x f) fence (fence_at t x) q (λ e. levels ∙ ap (λ y. finite.get (fence_at t y).levels q) (sym (name_exact x f e)))
 
+pub count_same : (t : Fences) (f : FenceName) (fence : Fence) (counts : Numbers) (g : Signature) (q : Proc) → unwrap_or (finite.get counts q) 0 ≡ count_of t f.signature q
+    → count_of (placed t f fence counts) g q ≡ count_of t g q
+count_same t f fence counts g q count =
+    count-placed t f fence counts g q
+    ∙ same_count (same_signature g f.signature) (unwrap_or (finite.get counts q) 0) (count_of t g q) (λ e. count ∙ ap (λ h. count_of t h q) (sym (signature_exact g f.signature e)))
+
 pub placed_fits : (s : Script) (t : Fences) (f : FenceName) (fence : Fence) (counts : Numbers) (q : Proc)
     → finite.get fence.levels q ≡ finite.get (fence_at t f).levels q → unwrap_or (finite.get counts q) 0 ≡ count_of t f.signature q
     → FitsFences s t q → FitsFences s (placed t f fence counts) q
 unfolding placed
 placed_fits s t f fence counts q levels count fits = record {
-  counts = λ g. count-placed t f fence counts g q
-      ∙ same_count (same_signature g f.signature) (unwrap_or (finite.get counts q) 0) (count_of t g q) (λ e. count ∙ ap (λ h. count_of t h q) (sym (signature_exact g f.signature e)))
-      ∙ fits.counts g;
+  counts = λ g. count_same t f fence counts g q count ∙ fits.counts g;
   levels = λ x. levels_placed t f fence counts q x levels ∙ fits.levels x;
   ends = fits.ends;
 }
@@ -81,7 +85,7 @@ headers_placed t f fence counts x same =
     ap (λ (y : Fence). y.headers) (fence-placed t f fence counts x)
     ∙ same_headers (same_name x f) fence (fence_at t x) (λ e. same ∙ ap (λ y. (fence_at t y).headers) (sym (name_exact x f e)))
 
-count_is : (t : Fences) (g : Signature) (q : Proc) → unwrap_or (finite.get (series_at t g).counts q) 0 ≡ count_of t g q
+pub count_is : (t : Fences) (g : Signature) (q : Proc) → unwrap_or (finite.get (series_at t g).counts q) 0 ≡ count_of t g q
 unfolding count_of
 count_is t g q = refl
 
@@ -93,7 +97,7 @@ learn_fits jobs node scripts t f fits = record {
 
 -- ---- an entry
 
-not_it : (p q : Proc) (m : Numbers) (n : ℕ) → same_proc q p ≡ false → finite.get (finite.insert m p n) q ≡ finite.get m q
+pub not_it : (p q : Proc) (m : Numbers) (n : ℕ) → same_proc q p ≡ false → finite.get (finite.insert m p n) q ≡ finite.get m q
 not_it p q m n e = finite.get-insert procs_total m p n q ∙ ap (λ b. cond b (Some n) (finite.get m q)) e
 
 its_count : (s : Script) (t : Fences) (p : Proc) (g h : Signature) (b : Bool) → same_signature h g ≡ b → FitsFences s t p
@@ -198,17 +202,29 @@ others_fit jobs node scripts t p call away fits = said_fits jobs node scripts t 
 
 -- ---- a new table
 
-new_fence : (f : FenceName) → fence_at no_fences f ≡ no_fence
+pub no_names : (f : FenceName) → has_name no_fences f ≡ false
+unfolding has_name series_at
+no_names f =
+    ap (λ (o : Option Series). is_some (finite.get (unwrap_or o no_series).fences f.instance)) (finite.get-empty signature_cmp f.signature)
+    ∙ ap (λ (o : Option Fence). is_some o) (finite.get-empty nat_cmp f.instance)
+
+pub new_fence : (f : FenceName) → fence_at no_fences f ≡ no_fence
 unfolding fence_at series_at
 new_fence f =
     ap (λ (o : Option Series). unwrap_or (finite.get (unwrap_or o no_series).fences f.instance) no_fence) (finite.get-empty signature_cmp f.signature)
     ∙ ap (λ (o : Option Fence). unwrap_or o no_fence) (finite.get-empty nat_cmp f.instance)
 
+pub no_counts : (g : Signature) (p : Proc) → count_of no_fences g p ≡ 0
+unfolding count_of series_at
+no_counts g p =
+    ap (λ (o : Option Series). unwrap_or (finite.get (unwrap_or o no_series).counts p) 0) (finite.get-empty signature_cmp g)
+    ∙ ap (λ (o : Option ℕ). unwrap_or o 0) (finite.get-empty proc_cmp p)
+
 pub new_fits : NewFits
-unfolding count_of series_at level_before
+unfolding level_before
 new_fits jobs node = record {
   own = λ p e. record {
-    counts = λ g. ap (λ (o : Option Series). unwrap_or (finite.get (unwrap_or o no_series).counts p) 0) (finite.get-empty signature_cmp g) ∙ ap (λ (o : Option ℕ). unwrap_or o 0) (finite.get-empty proc_cmp p);
+    counts = λ g. no_counts g p;
     levels = λ f. ap (λ (x : Fence). finite.get x.levels p) (new_fence f) ∙ finite.get-empty proc_cmp p;
     ends = finite.get-empty proc_cmp p;
   };

@@ -1,19 +1,19 @@
 -- Own headers that come to exist, and what a change of one fence leaves.
-use Rattle.std.proofs.Common.{◌≡◌, ℕ, Bool, true, false, cond, List, [], ◌∷◌, ◌++◌, Option, Some, None, is_some, Result, Ok, Err, refl, sym, ap, ◌∙◌, Vec, Global}
+use Rattle.std.proofs.Common.{◌&&◌, Bor, IsTrue, subst, ◌≡◌, ℕ, Bool, true, false, cond, List, [], ◌∷◌, ◌++◌, Option, Some, None, is_some, refl, sym, ap, ◌∙◌}
 use Rattle.std.specs.FinMap as finite
 use Rattle.std.specs.Option.{option_map}
 use Rattle.pmg_value.specs.Signatures.{Signature, FenceName}
 use Rattle.pmg_value.specs.declared.process.Proc.{Proc}
-use Rattle.pmg_value.specs.declared.refusal.Refusal.{Refusal}
-use Rattle.pmg_frame.specs.Fences.{Header, header}
+use Rattle.pmg_frame.specs.Fences.{Header, header, is_header}
 use Rattle.pmg_frame.specs.declared.local.Local.{Local}
 use Rattle.pmg_jobinfo.specs.Jobs.{Jobs}
 use Rattle.pmg_fence.specs.declared.change.Change.{Change}
 use Rattle.pmg_fence.specs.Entering.{locals_of, told}
 use Rattle.pmg_fence.specs.Tables.{Numbers, Fence, Fences, fence_of, series_at, has_name, fence_at, entry_at, own_header}
-use Rattle.pmg_fence.specs.Codes.{Known, AllSeries}
+use Rattle.pmg_fence.specs.Codes.{Known, AllSeries, Owns}
 use Rattle.pmg_fence.specs.Changes.{placed, present, newly}
-use Rattle.pmg_fence.specs.Kept.{instead, entry_with, known_fence, own_of, told_with, changed_with, placed_by, known_of, series_in, series_changed}
+use Rattle.pmg_fence.specs.Kept.{instead, entry_with, known_fence, own_of, told_with, changed_with, placed_by, known_of, series_in, series_changed, IsKept, IsLine}
+use Rattle.pmg_fence.proofs.LimitLemmas.{header_fits, told_level}
 
 -- what is known of a fence that was looked up
 pub fence_known : (t : Fences) (g : Signature) (k : ℕ) (o : Option Fence) → o ≡ finite.get (series_at t g).fences k → known_fence o ≡ fence_at t (fence_of g k)
@@ -24,14 +24,6 @@ pub told_known : (t : Fences) (f : FenceName) (known : Fence) (l : Option Local)
     → told (instead l (entry_with known t.ends)) ps ≡ told (instead l (entry_at t f)) ps
 unfolding entry_at
 told_known t f known l ps e = ap (λ x. told (instead l (entry_with x t.ends)) ps) e
-
--- what a constructor that tests made
-pub made_is : {X : Type 0} (b : Bool) (x y : X) (e : Refusal) (r : Result X Refusal) → r ≡ cond b (Ok x) (Err e) → r ≡ Ok y → y ≡ x
-made_is true x y e r is ok = cc
-made_is false x y e r is ok = absurd (other (sym ok ∙ is))
-  where
-    other : Ok y ≡ Err e → ⊥
-    other z = cc
 
 -- ---- whether an own header is there
 
@@ -87,14 +79,24 @@ change_done k f change l jobs node series new ends waiting told_now after view i
       waiting = x.waiting ++ told_with k f l;
     }) view
 
-pub some_mapped : (o : Option (Vec Local Global)) → is_some o ≡ is_some (option_map (λ ls. ls.items) o)
-some_mapped None = refl
-some_mapped (Some x) = refl
-
 -- the header that was made
-pub header_is : (k : Known) (g g2 : Signature) (i node : ℕ) (name : FenceName) (ls : List Local) (b c : Bool) (d e : Refusal) (r : Result FenceName Refusal) (q : Result Header Refusal) (h : Header)
-    (now : Option (List Local)) → g2 ≡ g → node ≡ k.node → r ≡ cond b (Ok (fence_of g2 i)) (Err d) → r ≡ Ok name
-    → q ≡ cond c (Ok (header node name ls)) (Err e) → q ≡ Ok h → Some ls ≡ now → Some h ≡ option_map (header k.node (fence_of g i)) now
-header_is k g g2 i node name ls b c d e r q h now same here named is_named made is_made there =
-    ap Some (made_is c (header node name ls) h e q made is_made ∙ (λ j. header (here j) ((made_is b (fence_of g2 i) name d r named is_named ∙ ap (λ s. fence_of s i) same) j) ls))
-    ∙ ap (option_map (header k.node (fence_of g i))) there
+pub header_is : (k : Known) (g one : Signature) (i node : ℕ) (name : FenceName) (ls : List Local) (h : Header) (now : Option (List Local)) → one ≡ g → node ≡ k.node → name.signature ≡ one
+    → name.instance ≡ i → h ≡ header node name ls → Some ls ≡ now → Some h ≡ option_map (header k.node (fence_of g i)) now
+header_is k g one i node name ls h now same here signature number made there =
+    ap Some (made ∙ (λ j. header (here j) (record { signature = (signature ∙ same) j; instance = number j }) ls)) ∙ ap (option_map (header k.node (fence_of g i))) there
+
+-- is one that a frame can hold
+pub header_framed : (k : Known) (owns : Owns) (g one : Signature) (i node : ℕ) (name : FenceName) (ls : List Local) (own : List Proc) (known : Fence) (l : Option Local) → IsKept k owns → IsLine l
+    → one ≡ g → node ≡ k.node → name.signature ≡ one → name.instance ≡ i → own ≡ own_of k g → known ≡ fence_at k.fences (fence_of g i)
+    → Some ls ≡ told (instead l (entry_with known k.fences.ends)) own → IsTrue (is_header (header node name ls))
+header_framed k owns g one i node name ls own known l kept small same here signature number is looked there =
+    subst (λ h. IsTrue (is_header h)) (λ j. header (sym here j) (record { signature = sym (signature ∙ same) j; instance = sym number j }) ls)
+    (header_fits k (fence_of g i) (instead l (entry_at k.fences (fence_of g i))) own ls is (sym (there ∙ told_known k.fences (fence_of g i) known l own looked)) (told_level k owns (fence_of g i) l kept small))
+
+-- whether the own header is there of a fence that was looked up
+pub present_is : (k : Known) (g : Signature) (i : ℕ) (o : Option (Bor Fence)) (own : List Proc) (b : Bool) → own ≡ own_of k g → option_map (λ f. f.now) o ≡ finite.get (series_at k.fences g).fences i
+    → b ≡ (is_some o && is_some (told (entry_with (known_fence (option_map (λ f. f.now) o)) k.fences.ends) own)) → b ≡ is_some (present k.jobs k.node k.fences (fence_of g i))
+present_is k g i None own b is there e = e ∙ absent_there k.jobs k.node k.fences g i there
+present_is k g i (Some x) own b is there e =
+    present_there k g i x.now b (told (entry_with x.now k.fences.ends) own) there e
+    (ap (told (entry_with x.now k.fences.ends)) is ∙ told_known k.fences (fence_of g i) x.now None (own_of k g) (fence_known k.fences g i (Some x.now) there))

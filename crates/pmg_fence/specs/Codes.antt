@@ -4,6 +4,7 @@ use Rattle.std.specs.Coded.{Coded, code_by, coded×, coded_ℕ, coded_list}
 use Rattle.std.specs.FinMap as finite
 use Rattle.std.specs.Ordering.{nat_cmp}
 use Rattle.pmg_value.specs.Process.{coded_proc}
+use Rattle.pmg_value.specs.declared.process.Proc.{Proc}
 use Rattle.pmg_frame.specs.FenceOrder.{signature_cmp}
 use Rattle.pmg_frame.specs.Fences.{Header, coded_local, coded_signature, coded_header}
 use Rattle.pmg_frame.specs.declared.local.Local.{Local}
@@ -39,6 +40,13 @@ AllSeries = finite.FinMap signature_cmp Series
 
 abbrev pub coded_all_series : Coded AllSeries
 coded_all_series = finite.code coded_signature coded_series
+
+-- own participants, by the signature of their fences
+abbrev pub Owns : Type 0
+Owns = finite.FinMap signature_cmp (List Proc)
+
+abbrev pub coded_owns : Coded Owns
+coded_owns = finite.code coded_signature (coded_list coded_proc)
 
 abbrev pub coded_fences : Coded Fences
 coded_fences = code_by (AllSeries × Numbers) (coded× coded_all_series coded_numbers) (λ t. (t.series, t.ends)) (λ p. record { series = p.0; ends = p.1 }) (λ _. refl)

@@ -1,18 +1,19 @@
 -- What the small tables of a fence table keep.
-use Rattle.std.specs.Prelude.{ℕ, Bool, ◌==◌, List, [], ◌++◌, Option, Some, None, is_some, if◌then◌else◌}
+use Rattle.std.specs.Prelude.{◌≡◌, ℕ, suc, ◌+◌, nat_le, Bool, true, ◌==◌, List, [], ◌++◌, Option, Some, None, is_some, if◌then◌else◌}
 use Rattle.std.specs.List.{filter}
 use Rattle.std.specs.FinMap as finite
 use Rattle.std.specs.Option.{unwrap_or}
 use Rattle.pmg_value.specs.Signatures.{Signature, FenceName}
 use Rattle.pmg_value.specs.declared.process.Proc.{Proc}
-use Rattle.pmg_frame.specs.Fences.{Header, in_order}
+use Rattle.pmg_value.specs.InOrder.{in_order}
+use Rattle.pmg_frame.specs.Fences.{Header, is_instance, is_level}
 use Rattle.pmg_frame.specs.declared.local.Local.{Local}
 use Rattle.pmg_fence.specs.declared.change.Change.{Change}
 use Rattle.pmg_fence.specs.declared.change.Change.TheVariants as changes
 use Rattle.pmg_fence.specs.declared.entry.Entry.{Entry}
 use Rattle.pmg_fence.specs.Entering.{same_proc, entry_by, locals_of, told}
-use Rattle.pmg_fence.specs.Tables.{Numbers, Fence, Series, Fences, no_fence, no_series, series_at, has_name, fence_at, entry_at, entry_in}
-use Rattle.pmg_fence.specs.Codes.{Instances, AllSeries, Known}
+use Rattle.pmg_fence.specs.Tables.{Numbers, Fence, Series, Fences, no_fence, no_series, series_at, fence_of, has_name, fence_at, count_of, entry_at, entry_in}
+use Rattle.pmg_fence.specs.Codes.{Instances, AllSeries, Known, Owns}
 use Rattle.pmg_fence.specs.Changes.{placed, fence_entered, fence_told, present, newly}
 use Rattle.pmg_jobinfo.specs.Jobs.{Jobs, home_of}
 
@@ -82,3 +83,33 @@ told_by k fence whole q =
 -- the own header that comes to exist once the process of the line has ended, where it had not entered the fence
 abbrev pub ended_told : Known → Local → FenceName → List Header
 ended_told k l f = if has_name k.fences f then (if is_some (finite.get (fence_at k.fences f).levels l.proc) then [] else told_with k f (Some l)) else []
+
+-- ---- what a table keeps beside
+
+-- Beside what it holds a table keeps own participants, of the signatures for which they were looked up; its numbers of
+-- instances and levels are within their limits; and who entered so many fences of a signature entered each up to that one.
+pub record IsKept (k : Known) (owns : Owns) : Type 0 where
+  pub own : (g : Signature) (ps : List Proc) → finite.get owns g ≡ Some ps → ps ≡ own_of k g
+  pub names : (f : FenceName) → has_name k.fences f ≡ true → is_instance f.instance ≡ true
+  pub levels : (f : FenceName) (p : Proc) (n : ℕ) → finite.get (fence_at k.fences f).levels p ≡ Some n → is_level n ≡ true
+  pub ends : (p : Proc) (n : ℕ) → finite.get k.fences.ends p ≡ Some n → is_level n ≡ true
+  pub entered : (g : Signature) (p : Proc) (i : ℕ) → is_instance i ≡ true → nat_le i (count_of k.fences g p) ≡ true → is_some (finite.get (fence_at k.fences (fence_of g i)).levels p) ≡ true
+
+-- what a table can take: an entry is the process's next of the signature, and at a level
+abbrev pub CanChange : Fences → FenceName → Change → Type 0
+CanChange t f changes.Learned = Unit {0}
+CanChange t f (changes.Entered p level) = (is_level level ≡ true) × (f.instance ≡ suc (count_of t f.signature p))
+CanChange t f (changes.Told h) = Unit {0}
+
+-- what comes to be told of a process names a level
+abbrev pub IsLine : Option Local → Type 0
+IsLine None = Unit {0}
+IsLine (Some l) = is_level l.level ≡ true
+
+-- so many of them can be told of at most, with one to come
+abbrev pub most_told : Fence → Numbers → ℕ
+most_told fence ends = finite.len fence.levels + finite.len ends + 1
+
+-- of the fences of the signature up to that one the process entered each whose name is there
+abbrev pub EntersUpTo : Fences → Signature → Proc → ℕ → Type 0
+EntersUpTo t g p n = (i : ℕ) → nat_le i n ≡ true → has_name t (fence_of g i) ≡ true → is_some (finite.get (fence_at t (fence_of g i)).levels p) ≡ true

@@ -1,4 +1,4 @@
-ghost use Rattle.std.specs.Prelude.{◌≡◌, OnOk, OnErr};
+ghost use Rattle.std.specs.Prelude.{◌≡◌, IfOk, OnOk, OnErr};
 ghost use Rattle.std.specs.FinMap as finite;
 ghost use Rattle.std.specs.Option.{option_map};
 ghost use Rattle.pmg_value.specs.Rows.{rows_of};
@@ -7,6 +7,7 @@ ghost use Rattle.pmg_fence.specs.Kept.{series_in, series_changed};
 use crate::change::Change;
 use crate::series::Series;
 use pmg_frame::Signature;
+use pmg_value::copy_rows;
 use std::alloc::{AllocError, Global};
 use std::collections::BTreeMap;
 use std::marker::Model;
@@ -78,5 +79,15 @@ impl AllSeries {
         series.change(instance, change)?;
         self.rows.insert(signature.copy()?, series)?;
         Ok(())
+    }
+
+    /// The same fences, with the same allocator.
+    pub fn copy(&self) -> Result<AllSeries, AllocError>
+        ensures { IfOk result (λ copy. copy ≡ self.now) }
+    {
+        Ok(AllSeries {
+            alloc: self.alloc,
+            rows: copy_rows(self.alloc, &self.rows)?,
+        })
     }
 }

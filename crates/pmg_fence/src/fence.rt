@@ -1,4 +1,4 @@
-ghost use Rattle.std.specs.Prelude.{◌≡◌, OnOk, OnErr};
+ghost use Rattle.std.specs.Prelude.{◌≡◌, ◌<◌, ◌^◌, OnOk, OnErr};
 ghost use Rattle.pmg_fence.specs.Tables.{no_fence, entry_in};
 ghost use Rattle.pmg_fence.specs.Kept.{fence_changed};
 ghost use Rattle.std.specs.FinMap as finite;
@@ -7,7 +7,7 @@ use crate::change::Change;
 use crate::entry::Entry;
 use crate::headers::Headers;
 use crate::numbers::Numbers;
-use pmg_value::Proc;
+use pmg_value::{Copied, Proc};
 use std::alloc::{AllocError, Global};
 use std::marker::Model;
 
@@ -56,6 +56,14 @@ impl Fence {
         }
     }
 
+    /// How many processes entered the fence.
+    pub fn count(&self) -> usize
+        ensures value { result ≡ finite.len self.now.levels }
+        ensures small { result < 2 ^ 63 }
+    {
+        self.levels.len()
+    }
+
     /// The level at which the process entered the fence.
     pub fn level(&self, proc: &Proc) -> Option<u64>
         ensures { result ≡ finite.get self.now.levels proc.now }
@@ -68,5 +76,14 @@ impl Fence {
         ensures { result ≡ entry_in proc.now (finite.get self.now.headers node) }
     {
         self.headers.entry(node, proc)
+    }
+}
+
+impl Copied for Fence {
+    fn copy(&self) -> Result<Fence, AllocError> {
+        Ok(Fence {
+            levels: self.levels.copy()?,
+            headers: self.headers.copy()?,
+        })
     }
 }

@@ -1,11 +1,13 @@
-ghost use Rattle.std.specs.Prelude.{◌≡◌, Some, IsTrue, OnOk, OnErr};
+ghost use Rattle.std.specs.Prelude.{◌≡◌, Some, IsTrue, IfOk, OnOk, OnErr};
 ghost use Rattle.std.specs.FinMap as finite;
 ghost use Rattle.pmg_fence.specs.Changes.{first_of};
 ghost use Rattle.pmg_fence.specs.Tables.{entry_in};
+ghost use Rattle.pmg_value.specs.Lists.{is_chain};
+ghost use Rattle.pmg_frame.specs.Fences.{is_local_rising};
 
 use crate::entry::Entry;
 use pmg_frame::{Header, Local};
-use pmg_value::Proc;
+use pmg_value::{Proc, copy_rows};
 use std::alloc::{AllocError, Global};
 use std::collections::BTreeMap;
 use std::marker::Model;
@@ -13,7 +15,8 @@ use std::marker::Model;
 /// The headers of one fence, by the index of their node.
 #[derive(Debug, Drop)]
 pub struct Headers {
-    rows: BTreeMap<u32, Header>,
+    alloc: Global,
+    rows: BTreeMap<u64, Header>,
 }
 
 impl Model for Headers {
@@ -34,6 +37,7 @@ impl Headers {
         ensures { result ≡ finite.empty }
     {
         Headers {
+            alloc,
             rows: BTreeMap::new(alloc),
         }
     }
@@ -43,7 +47,7 @@ impl Headers {
         ensures ok { OnOk result (self.new ≡ finite.insert self.old header.node (first_of (finite.get self.old header.node) header.locals)) }
         ensures err { OnErr result (self.new ≡ self.old) }
     {
-        let node = header.node().index();
+        let node = header.node().index() as u64;
         if self.rows.get(&node).is_some() {
             return Ok(());
         }
@@ -51,11 +55,21 @@ impl Headers {
         Ok(())
     }
 
+    /// The same headers, with the same allocator.
+    pub fn copy(&self) -> Result<Headers, AllocError>
+        ensures { IfOk result (λ copy. copy ≡ self.now) }
+    {
+        Ok(Headers {
+            alloc: self.alloc,
+            rows: copy_rows(self.alloc, &self.rows)?,
+        })
+    }
+
     /// How the process stands to the fence, as the header of the node tells.
     pub fn entry(&self, node: u32, proc: &Proc) -> Option<Entry>
         ensures { result ≡ entry_in proc.now (finite.get self.now node) }
     {
-        match self.rows.get(&node) {
+        match self.rows.get(&(node as u64)) {
             Some(header) => told_entry(header.locals(), proc),
             None => None,
         }
@@ -64,15 +78,17 @@ impl Headers {
 
 /// How the process stands to the fence, as these lines of a header tell.
 fn told_entry(locals: &[Local], proc: &Proc) -> Option<Entry>
+    requires { IsTrue (is_chain is_local_rising locals.now) }
     ensures { result ≡ entry_in proc.now (Some locals.now) }
 {
-    for local in locals {
-        if proc.cmp(&local.proc).is_eq() {
-            return Some(Entry {
+    match locals.binary_search_by(|local| local.proc.cmp(proc)) {
+        Ok(index) => {
+            let local = &locals[index];
+            Some(Entry {
                 state: local.state,
                 level: local.level,
-            });
+            })
         }
+        Err(_) => None,
     }
-    None
 }

@@ -8,6 +8,7 @@ mod fence;
 mod headers;
 mod laws;
 mod numbers;
+mod owns;
 mod series;
 mod table;
 

@@ -1,8 +1,8 @@
-ghost use Rattle.std.specs.Prelude.{◌≡◌, IfOk, OnOk, OnErr};
+ghost use Rattle.std.specs.Prelude.{◌≡◌, ◌<◌, ◌^◌, IfOk, OnOk, OnErr};
 ghost use Rattle.std.specs.FinMap as finite;
 ghost use Rattle.pmg_fence.specs.Kept.{restored};
 
-use pmg_value::Proc;
+use pmg_value::{Proc, copy_rows};
 use std::alloc::{AllocError, Global};
 use std::collections::BTreeMap;
 use std::marker::Model;
@@ -10,6 +10,7 @@ use std::marker::Model;
 /// A number for each of some processes.
 #[derive(Debug, Drop)]
 pub struct Numbers {
+    alloc: Global,
     rows: BTreeMap<Proc, u64>,
 }
 
@@ -33,8 +34,17 @@ impl Numbers {
         ensures { result ≡ finite.empty }
     {
         Numbers {
+            alloc,
             rows: BTreeMap::new(alloc),
         }
+    }
+
+    /// How many processes have a number.
+    pub fn len(&self) -> usize
+        ensures value { result ≡ finite.len self.now }
+        ensures small { result < 2 ^ 63 }
+    {
+        self.rows.len()
     }
 
     /// The process's number.
@@ -67,5 +77,15 @@ impl Numbers {
                 }
             }
         }
+    }
+
+    /// The same numbers, with the same allocator.
+    pub fn copy(&self) -> Result<Numbers, AllocError>
+        ensures { IfOk result (λ copy. copy ≡ self.now) }
+    {
+        Ok(Numbers {
+            alloc: self.alloc,
+            rows: copy_rows(self.alloc, &self.rows)?,
+        })
     }
 }

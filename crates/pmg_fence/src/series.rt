@@ -1,4 +1,4 @@
-ghost use Rattle.std.specs.Prelude.{◌≡◌, OnOk, OnErr};
+ghost use Rattle.std.specs.Prelude.{◌≡◌, IfOk, OnOk, OnErr};
 ghost use Rattle.std.specs.FinMap as finite;
 ghost use Rattle.std.specs.Option.{option_map, unwrap_or};
 ghost use Rattle.pmg_value.specs.Rows.{rows_of};
@@ -9,7 +9,7 @@ ghost use Rattle.pmg_fence.specs.declared.change.Change.TheVariants as changes;
 use crate::change::Change;
 use crate::fence::Fence;
 use crate::numbers::Numbers;
-use pmg_value::Proc;
+use pmg_value::{Copied, Proc, copy_rows};
 use std::alloc::{AllocError, Global};
 use std::collections::BTreeMap;
 use std::marker::Model;
@@ -56,6 +56,16 @@ impl Instances {
         ensures { rows_of (λ f. f) result.now.entries ≡ self.now }
     {
         &self.rows
+    }
+
+    /// The same fences, with the same allocator.
+    pub fn copy(&self) -> Result<Instances, AllocError>
+        ensures { IfOk result (λ copy. copy ≡ self.now) }
+    {
+        Ok(Instances {
+            alloc: self.alloc,
+            rows: copy_rows(self.alloc, &self.rows)?,
+        })
     }
 
     /// Keeps what becomes known of the instance.
@@ -154,5 +164,14 @@ impl Series {
             return Err(AllocError);
         }
         Ok(())
+    }
+}
+
+impl Copied for Series {
+    fn copy(&self) -> Result<Series, AllocError> {
+        Ok(Series {
+            counts: self.counts.copy()?,
+            fences: self.fences.copy()?,
+        })
     }
 }

@@ -1,25 +1,25 @@
-ghost use Rattle.std.specs.Prelude.{◌≡◌, ◌≤◌, ◌==◌, ◌++◌, ◌∷◌, [], Some, None, length, IsTrue, IfOk, OnOk, OnErr, is_some};
+ghost use Rattle.std.specs.Prelude.{◌≡◌, ◌≤◌, ◌<◌, ◌^◌, ◌==◌, ◌++◌, [], Some, None, IsTrue, IfOk, OnOk, OnErr, is_some};
 ghost use Rattle.std.specs.FinMap as finite;
 ghost use Rattle.std.specs.Fn.{FnReturnsAt};
 ghost use Rattle.std.specs.Prelude.{ℕ};
 ghost use Rattle.pmg_value.specs.declared.process.Proc.{Proc};
 ghost use Rattle.std.specs.Option.{option_map, option_to_list};
-ghost use Rattle.std.specs.List.{flat_map};
-ghost use Rattle.std.specs.Prelude.{map};
 ghost use Rattle.pmg_value.specs.Answers.{Gives};
-ghost use Rattle.pmg_frame.specs.Fences.{header};
+ghost use Rattle.pmg_frame.specs.Fences.{header, is_instance};
 ghost use Rattle.pmg_jobinfo.specs.Jobs.{home_of};
 ghost use Rattle.pmg_fence.specs.Entering.{told, lines};
-ghost use Rattle.pmg_fence.specs.Tables.{names_of, no_fences, fence_of, series_at, has_name, count_of, entry_at, entry_in, says_gone, gone_by, is_ready};
-ghost use Rattle.pmg_fence.specs.Changes.{learned, next_name, entered_by, with_header, changed_at, changed, ended_by, present, enter_answer, taken};
-ghost use Rattle.pmg_fence.specs.Kept.{instead, entry_with, known_fence, own_of, told_with, changed_with, told_by, ended_told};
+ghost use Rattle.pmg_fence.specs.Tables.{no_fences, series_at, count_of, entry_in, says_gone, gone_by, is_ready};
+ghost use Rattle.pmg_fence.specs.Changes.{learned, next_name, entered_by, with_header, changed_at, changed, ended_by, enter_answer, taken};
+ghost use Rattle.pmg_fence.specs.Kept.{entry_with, known_fence, own_of, told_by, EntersUpTo};
+
+mod news;
 
 use crate::all_series::AllSeries;
 use crate::change::Change;
 use crate::entry::Entry;
 use crate::fence::Fence;
 use crate::numbers::Numbers;
-use crate::series::Series;
+use crate::owns::Owns;
 use pmg_frame::{FenceName, Header, Local, MAX_INSTANCE, Signature, State};
 use pmg_jobinfo::Registry;
 use pmg_value::{NodeId, Proc, Refusal};
@@ -37,6 +37,7 @@ pub struct Table {
     series: AllSeries,
     ends: Numbers,
     waiting: VecDeque<Header>,
+    owns: Owns,
 }
 
 impl Model for Table {
@@ -46,9 +47,11 @@ impl Model for Table {
 
     ghost coded = { codes.coded_known };
 
-    ghost use Rattle.pmg_fence.specs.Kept.{known_of};
+    ghost use Rattle.pmg_fence.specs.Kept.{known_of, IsKept};
 
     ghost view = { λ a. known_of a.registry a.node a.series a.ends a.waiting.items };
+
+    ghost invariant = { λ a. IsKept (known_of a.registry a.node a.series a.ends a.waiting.items) a.owns };
 }
 
 /// The index of the process's home: 0 for a process that is not registered.
@@ -74,6 +77,17 @@ fn level_in(fence: Option<&Fence>, proc: &Proc) -> Option<u64>
     }
 }
 
+/// How many processes entered the fence.
+fn count_in(fence: Option<&Fence>) -> usize
+    ensures value { result ≡ finite.len (known_fence (option_map (λ f. f.now) fence.entry)).levels }
+    ensures small { result < 2 ^ 63 }
+{
+    match fence {
+        Some(fence) => fence.count(),
+        None => 0,
+    }
+}
+
 /// How the process stands to the fence, as the header of the node of that index tells.
 fn told_in(fence: Option<&Fence>, home: u32, proc: &Proc) -> Option<Entry>
     ensures { result ≡ entry_in proc.now (finite.get (known_fence (option_map (λ f. f.now) fence.entry)).headers home) }
@@ -82,6 +96,17 @@ fn told_in(fence: Option<&Fence>, home: u32, proc: &Proc) -> Option<Entry>
         Some(fence) => fence.told(home, proc),
         None => None,
     }
+}
+
+/// The same headers, with the same allocator.
+fn copy_headers(headers: &VecDeque<Header>) -> Result<VecDeque<Header>, AllocError>
+    ensures { IfOk result (λ copy. copy.items ≡ headers.now.items) }
+{
+    let mut copies = VecDeque::with_capacity(*headers.allocator(), headers.len())?;
+    for header in headers.iter() {
+        copies.push_back(header.copy()?)?;
+    }
+    Ok(copies)
 }
 
 impl Table {
@@ -99,6 +124,7 @@ impl Table {
             series: AllSeries::new(alloc),
             ends: Numbers::new(alloc),
             waiting: VecDeque::new(alloc),
+            owns: Owns::new(alloc),
         }
     }
 
@@ -107,6 +133,20 @@ impl Table {
         ensures { result.now ≡ self.now.jobs }
     {
         &self.registry
+    }
+
+    /// Another table of the same meaning, with the same allocator.
+    pub fn copy(&self) -> Result<Table, AllocError>
+        ensures { IfOk result (λ copy. copy ≡ self.now) }
+    {
+        Ok(Table {
+            node: self.node,
+            registry: self.registry.copy()?,
+            series: self.series.copy()?,
+            ends: self.ends.copy()?,
+            waiting: copy_headers(&self.waiting)?,
+            owns: Owns::new(self.series.allocator()),
+        })
     }
 
     /// Whether the process is at home at the node.
@@ -118,7 +158,8 @@ impl Table {
 
     /// How often the process entered fences of the signature.
     fn count(&self, signature: &Signature, proc: &Proc) -> u64
-        ensures { result ≡ count_of self.now.fences signature.now proc.now }
+        ensures value { result ≡ count_of self.now.fences signature.now proc.now }
+        ensures entered { EntersUpTo self.now.fences signature.now proc.now result }
     {
         match self.series.get(signature) {
             Some(series) => series.count(proc),
@@ -128,7 +169,8 @@ impl Table {
 
     /// What is known of the fence.
     fn fence(&self, signature: &Signature, instance: u64) -> Option<&Fence>
-        ensures { option_map (λ f. f.now) result ≡ finite.get (series_at self.now.fences signature.now).fences instance }
+        ensures value { option_map (λ f. f.now) result ≡ finite.get (series_at self.now.fences signature.now).fences instance }
+        ensures number { IsTrue (is_some result) → IsTrue (is_instance instance) }
     {
         match self.series.get(signature) {
             Some(series) => series.fence(instance),
@@ -154,123 +196,6 @@ impl Table {
             }),
             None => None,
         }
-    }
-
-    /// The same, where something else has come to be told of a process.
-    fn entry_now(&self, fence: Option<&Fence>, line: Option<&Local>, proc: &Proc) -> Option<Entry>
-        ensures { result ≡ instead (option_map (λ l. l.now) line.entry)
-            (entry_with (known_fence (option_map (λ f. f.now) fence.entry)) self.now.fences.ends) proc.now }
-    {
-        match line {
-            Some(line) if proc.cmp(&line.proc).is_eq() => Some(Entry {
-                state: line.state,
-                level: line.level,
-            }),
-            _ => self.entry(fence, proc),
-        }
-    }
-
-    /// What there is to tell of the own participants, once there is something to tell of each.
-    fn lines(
-        &self,
-        signature: &Signature,
-        fence: Option<&Fence>,
-        line: Option<&Local>,
-    ) -> Result<Option<Vec<Local>>, AllocError>
-        ensures { IfOk result (λ o. option_map (λ ls. ls.items) o ≡ told (instead (option_map (λ l. l.now) line.entry)
-            (entry_with (known_fence (option_map (λ f. f.now) fence.entry)) self.now.fences.ends)) (own_of self.now signature.now)) }
-    {
-        let mut lines = Vec::new(self.series.allocator());
-        for proc in signature.participants() {
-            if !self.is_own(proc) {
-                continue;
-            }
-            let Some(entry) = self.entry_now(fence, line, proc) else {
-                return Ok(None);
-            };
-            lines.push(entry.local(proc)?)?;
-        }
-        if lines.is_empty() {
-            return Ok(None);
-        }
-        Ok(Some(lines))
-    }
-
-    /// The own header of the fence, once it exists.
-    fn header_with(
-        &self,
-        signature: &Signature,
-        instance: u64,
-        line: Option<&Local>,
-    ) -> Result<Option<Header>, AllocError>
-        ensures { IfOk result (λ o. o ≡ option_map (header self.now.node (fence_of signature.now instance))
-            (told (instead (option_map (λ l. l.now) line.entry) (entry_at self.now.fences (fence_of signature.now instance)))
-            (own_of self.now signature.now))) }
-    {
-        let fence = self.fence(signature, instance);
-        let Some(lines) = self.lines(signature, fence, line)? else {
-            return Ok(None);
-        };
-        let Ok(name) = FenceName::new(signature.copy()?, instance) else {
-            return Err(AllocError);
-        };
-        match Header::new(self.node, name, lines) {
-            Ok(header) => Ok(Some(header)),
-            Err(_) => Err(AllocError),
-        }
-    }
-
-    /// Whether the own header exists of a fence whose name the node has.
-    fn is_present(&self, signature: &Signature, instance: u64) -> Result<bool, AllocError>
-        ensures { IfOk result (λ b. b ≡ is_some (present self.now.jobs self.now.node self.now.fences (fence_of signature.now instance))) }
-    {
-        let Some(fence) = self.fence(signature, instance) else {
-            return Ok(false);
-        };
-        Ok(self.lines(signature, Some(fence), None)?.is_some())
-    }
-
-    /// The own header that comes to exist once the process of the line stands to the fence so.
-    fn news(
-        &self,
-        signature: &Signature,
-        instance: u64,
-        line: Option<&Local>,
-    ) -> Result<VecDeque<Header>, AllocError>
-        ensures { IfOk result (λ q. q.items ≡ told_with self.now (fence_of signature.now instance) (option_map (λ l. l.now) line.entry)) }
-    {
-        let mut news = VecDeque::new(self.series.allocator());
-        if self.is_present(signature, instance)? {
-            return Ok(news);
-        }
-        match self.header_with(signature, instance, line)? {
-            Some(header) => {
-                news.push_back(header)?;
-                Ok(news)
-            }
-            None => Ok(news),
-        }
-    }
-
-    /// Keeps what becomes known of the fence, by which the process of the line stands to it so.
-    fn change(
-        &mut self,
-        signature: &Signature,
-        instance: u64,
-        line: Option<&Local>,
-        change: Change,
-    ) -> Result<(), AllocError>
-        ensures ok { OnOk result (self.new ≡ changed_with self.old (fence_of signature.now instance) change (option_map (λ l. l.now) line.entry)) }
-        ensures err { OnErr result (self.new ≡ self.old) }
-    {
-        let mut news = self.news(signature, instance, line)?;
-        let start = self.waiting.len();
-        self.waiting.append(&mut news)?;
-        if let Err(AllocError) = self.series.change(signature, instance, change) {
-            self.waiting.truncate(start);
-            return Err(AllocError);
-        }
-        Ok(())
     }
 
     /// The process enters its next fence of the signature, after so many commits: the number of the entry, which is the
@@ -409,53 +334,6 @@ impl Table {
             }
         }
         true
-    }
-
-    /// The own header of the fence that comes to exist once the process of the line has ended, who had not entered it.
-    fn news_at_end(
-        &self,
-        signature: &Signature,
-        instance: u64,
-        line: &Local,
-    ) -> Result<VecDeque<Header>, AllocError>
-        ensures { IfOk result (λ q. q.items ≡ ended_told self.now line.now (fence_of signature.now instance)) }
-    {
-        let Some(fence) = self.fence(signature, instance) else {
-            return Ok(VecDeque::new(self.series.allocator()));
-        };
-        if let Some(_) = fence.level(&line.proc) {
-            return Ok(VecDeque::new(self.series.allocator()));
-        }
-        Ok(self.news(signature, instance, Some(line))?)
-    }
-
-    /// Adds those of the fences of one signature.
-    fn add_news(
-        &self,
-        news: &mut VecDeque<Header>,
-        signature: &Signature,
-        series: &Series,
-        line: &Local,
-    ) -> Result<(), AllocError>
-        ensures { OnOk result (news.new.items ≡ news.old.items ++ flat_map (ended_told self.now line.now)
-            (map (fence_of signature.now) (finite.keys series.now.fences))) }
-    {
-        for (instance, _) in series.rows().iter() {
-            let mut more = self.news_at_end(signature, *instance, line)?;
-            news.append(&mut more)?;
-        }
-        Ok(())
-    }
-
-    /// Those of all fences, in the order of their names.
-    fn all_news(&self, line: &Local) -> Result<VecDeque<Header>, AllocError>
-        ensures { IfOk result (λ q. q.items ≡ flat_map (ended_told self.now line.now) (names_of self.now.fences)) }
-    {
-        let mut news = VecDeque::new(self.series.allocator());
-        for (signature, series) in self.series.rows().iter() {
-            self.add_news(&mut news, signature, series, line)?;
-        }
-        Ok(news)
     }
 
     /// The process ends, after so many commits, its end among them. It counts as gone in each fence that it has not entered,

@@ -7,13 +7,13 @@ use Rattle.pmg_fence.proofs.headers.Headers.put.Goals as goal
 
 pub returns-then-is_some-clause-ok : goal.returns-then-is_some-clause-ok
 returns-then-is_some-clause-ok c =
-    let key = c.index-node.result in
-    first_stays c.args.self.now key c.args.header.node c.args.header.locals (c.index-node.ensures.value ∙ c.node.ensures)
+    let key = c.index.result in
+    first_stays c.args.self.now key c.args.header.node c.args.header.locals (c.index.ensures.value ∙ c.node.ensures)
     (is_there c.self.inside.rows.entries c.args.self.now key c.get.result _ c.self.view_is c.get.ensures.value (sym c.is_some.ensures ∙ c.if-is_some.true))
 
 pub returns-clause-ok : goal.returns-clause-ok
 returns-clause-ok c =
-    let key = c.index-node.result in
-    first_comes c.args.self.now _ key c.args.header.node c.args.header.locals (c.index-node.ensures.value ∙ c.node.ensures)
+    let key = c.index.result in
+    first_comes c.args.self.now _ key c.args.header.node c.args.header.locals (c.index.ensures.value ∙ c.node.ensures)
     (is_there c.self.inside.rows.entries c.args.self.now key c.get.result _ c.self.view_is c.get.ensures.value (sym c.is_some.ensures ∙ c.if-is_some.false))
     (put_in nat_cmp_total nat_cmp-IsAntisymmetric (λ h. h.locals) c.self.inside.rows.entries c.insert.new.self.entries c.args.self.now key c.args.header c.self.view_is (c.in_ok-insert.ensures).updates.0)

@@ -1,0 +1,90 @@
+use pmg_fence::Table;
+use pmg_frame::{FenceName, Signature};
+use pmg_jobinfo::Registry;
+use pmg_value::{NodeId, Nspace, Proc, Rank, Refusal};
+use std::alloc::Global;
+
+/// The participants of each fence: half of them at each of two nodes.
+pub const PARTICIPANTS: u32 = 32;
+
+/// How many of them are at home at node 0.
+const FIRST_HALF: u32 = 16;
+
+/// The tables of two nodes.
+#[derive(Drop)]
+struct Group {
+    zero: Table,
+    one: Table,
+}
+
+/// Enters and releases so many fences one after another, and tells whether each was ready at both nodes, with nobody gone.
+pub fn run(alloc: Global, count: u64) -> Result<bool, Refusal> {
+    let procs = processes(alloc)?;
+    let signature = Signature::new(processes(alloc)?, true)?;
+    let mut group = Group {
+        zero: table(alloc, 0)?,
+        one: table(alloc, 1)?,
+    };
+    for _ in 0..count {
+        if !meet(&mut group, &signature, &procs)? {
+            return Ok(false);
+        }
+    }
+    Ok(true)
+}
+
+/// The process of that rank.
+fn process(alloc: Global, rank: u32) -> Result<Proc, Refusal> {
+    Ok(Proc::new(Nspace::read(alloc, b"job")?, Rank::new(rank)))
+}
+
+/// The participants.
+fn processes(alloc: Global) -> Result<Vec<Proc>, Refusal> {
+    let mut procs = Vec::new(alloc);
+    for rank in 0..PARTICIPANTS {
+        procs.push(process(alloc, rank)?)?;
+    }
+    Ok(procs)
+}
+
+/// The table of the node of that index.
+fn table(alloc: Global, node: u32) -> Result<Table, Refusal> {
+    let names: [&[u8]; 2] = [b"n0", b"n1"];
+    let mut homes = Vec::new(alloc);
+    for rank in 0..PARTICIPANTS {
+        homes.push(NodeId::new(u32::from(rank >= FIRST_HALF))?)?;
+    }
+    let mut registry = Registry::new(alloc, &names)?;
+    registry.register(Nspace::read(alloc, b"job")?, &homes)?;
+    Ok(Table::new(NodeId::new(node)?, registry))
+}
+
+/// All enter the next fence at their homes, and the headers are handed across: whether it is ready at both nodes then, with
+/// nobody gone.
+fn meet(group: &mut Group, signature: &Signature, procs: &[Proc]) -> Result<bool, Refusal> {
+    let mut instance = 0;
+    for proc in procs {
+        if proc.rank.number() < FIRST_HALF {
+            instance = group.zero.enter(signature, proc, 0)?;
+        } else {
+            instance = group.one.enter(signature, proc, 0)?;
+        }
+    }
+    hand_over(&mut group.zero, &mut group.one)?;
+    hand_over(&mut group.one, &mut group.zero)?;
+    let name = FenceName::new(signature.copy()?, instance)?;
+    Ok(is_released(&group.zero, &name)? && is_released(&group.one, &name)?)
+}
+
+/// Hands the next own header across.
+fn hand_over(from: &mut Table, to: &mut Table) -> Result<(), Refusal> {
+    if let Some(header) = from.take_header() {
+        to.put_header(header)?;
+    }
+    Ok(())
+}
+
+/// Whether the fence is ready, with nobody gone.
+fn is_released(table: &Table, name: &FenceName) -> Result<bool, Refusal> {
+    Ok(table.ready(name, |_| 0) && table.release(name)?.is_empty())
+}

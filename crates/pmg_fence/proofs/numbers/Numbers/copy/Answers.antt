@@ -1,0 +1,7 @@
+use Rattle.std.proofs.Common.{ℕ, ◌∙◌}
+use Rattle.pmg_value.proofs.ProcessOrder.{procs_total, exact_procs}
+use Rattle.pmg_value.proofs.RowLemmas.{same_rows}
+use Rattle.pmg_fence.proofs.numbers.Numbers.copy.Goals as goal
+
+pub returns : goal.returns
+returns c = same_rows procs_total exact_procs (λ (n : ℕ). n) c.in_ok-copy_rows.field-0.entries c.self.inside.rows.entries c.in_ok-copy_rows.ensures ∙ c.self.view_is

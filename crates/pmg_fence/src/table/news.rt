@@ -1,0 +1,264 @@
+//! The node's own headers, as they come to exist.
+ghost use Rattle.std.specs.Prelude.{◌≡◌, ◌&&◌, nat_le, ◌++◌, length, map, IsTrue, IfOk, OnOk, OnErr, is_some};
+ghost use Rattle.std.specs.FinMap as finite;
+ghost use Rattle.std.specs.List.{flat_map};
+ghost use Rattle.std.specs.Option.{option_map};
+ghost use Rattle.pmg_frame.specs.Fences.{header, is_instance, is_level};
+ghost use Rattle.pmg_fence.specs.Entering.{told, lines};
+ghost use Rattle.pmg_fence.specs.Tables.{names_of, fence_of, entry_at};
+ghost use Rattle.pmg_fence.specs.Kept.{instead, entry_with, known_fence, own_of, told_with, changed_with, ended_told, most_told, IsLine, CanChange};
+
+use super::{Table, count_in};
+use crate::change::Change;
+use crate::entry::Entry;
+use crate::fence::Fence;
+use crate::series::Series;
+use pmg_frame::{FenceName, Header, Local, Signature};
+use pmg_value::Proc;
+use std::alloc::AllocError;
+use std::collections::VecDeque;
+use std::ops::Bound;
+
+impl Table {
+    /// How the own process stands to the fence, where something else has come to be told of a process.
+    fn entry_now(&self, fence: Option<&Fence>, line: Option<&Local>, proc: &Proc) -> Option<Entry>
+        ensures { result ≡ instead (option_map (λ l. l.now) line.entry)
+            (entry_with (known_fence (option_map (λ f. f.now) fence.entry)) self.now.fences.ends) proc.now }
+    {
+        match line {
+            Some(line) if proc.cmp(&line.proc).is_eq() => Some(Entry {
+                state: line.state,
+                level: line.level,
+            }),
+            _ => self.entry(fence, proc),
+        }
+    }
+
+    /// The participants at home at the node, in their order.
+    fn own_participants(&self, signature: &Signature) -> Result<Vec<Proc>, AllocError>
+        ensures { IfOk result (λ ps. ps.items ≡ own_of self.now signature.now) }
+    {
+        let mut own = Vec::new(self.series.allocator());
+        for proc in signature.participants() {
+            if !self.is_own(proc) {
+                continue;
+            }
+            own.push(proc.copy()?)?;
+        }
+        Ok(own)
+    }
+
+    /// Keeps the own participants of the signature, so that they are looked up once.
+    fn keep_own(&mut self, signature: &Signature) -> Result<(), AllocError>
+        ensures { self.new ≡ self.old }
+    {
+        if self.owns.get(signature).is_some() {
+            return Ok(());
+        }
+        let own = self.own_participants(signature)?;
+        self.owns.insert(signature.copy()?, own)?;
+        Ok(())
+    }
+
+    /// Whether so many entered the fence or ended that there may be something to tell of each of these, with one to come.
+    fn may_be_told(&self, own: &[Proc], fence: Option<&Fence>) -> bool
+        ensures { result ≡ nat_le (length own.now) (most_told (known_fence (option_map (λ f. f.now) fence.entry)) self.now.fences.ends) }
+    {
+        own.len() <= count_in(fence) + self.ends.len() + 1
+    }
+
+    /// Whether there is something to tell of each of these.
+    fn are_told(&self, own: &[Proc], fence: Option<&Fence>) -> bool
+        ensures { result ≡ is_some (lines (entry_with (known_fence (option_map (λ f. f.now) fence.entry)) self.now.fences.ends) own.now) }
+    {
+        for proc in own {
+            let Some(_) = self.entry(fence, proc) else {
+                return false;
+            };
+        }
+        true
+    }
+
+    /// What there is to tell of these, once there is something to tell of each.
+    fn lines(
+        &self,
+        own: &[Proc],
+        fence: Option<&Fence>,
+        line: Option<&Local>,
+    ) -> Result<Option<Vec<Local>>, AllocError>
+        ensures { IfOk result (λ o. option_map (λ ls. ls.items) o ≡ told (instead (option_map (λ l. l.now) line.entry)
+            (entry_with (known_fence (option_map (λ f. f.now) fence.entry)) self.now.fences.ends)) own.now) }
+    {
+        let mut lines = Vec::new(self.series.allocator());
+        for proc in own {
+            let Some(entry) = self.entry_now(fence, line, proc) else {
+                return Ok(None);
+            };
+            lines.push(entry.local(proc)?)?;
+        }
+        if lines.is_empty() {
+            return Ok(None);
+        }
+        Ok(Some(lines))
+    }
+
+    /// Whether the own header is there of a fence that is looked up, whose own participants these are.
+    fn is_present(&self, own: &[Proc], fence: Option<&Fence>) -> bool
+        ensures { result ≡ (is_some fence.entry && is_some (told (entry_with (known_fence (option_map (λ f. f.now) fence.entry)) self.now.fences.ends) own.now)) }
+    {
+        fence.is_some() && !own.is_empty() && self.are_told(own, fence)
+    }
+
+    /// The own header of the fence, once it exists.
+    fn header_with(
+        &self,
+        own: &[Proc],
+        signature: &Signature,
+        instance: u64,
+        line: Option<&Local>,
+    ) -> Result<Option<Header>, AllocError>
+        requires own { own.now ≡ own_of self.now signature.now }
+        requires number { IsTrue (is_instance instance) }
+        requires line { IsLine (option_map (λ l. l.now) line) }
+        ensures { IfOk result (λ o. o ≡ option_map (header self.now.node (fence_of signature.now instance))
+            (told (instead (option_map (λ l. l.now) line.entry) (entry_at self.now.fences (fence_of signature.now instance)))
+            (own_of self.now signature.now))) }
+    {
+        let fence = self.fence(signature, instance);
+        let Some(lines) = self.lines(own, fence, line)? else {
+            return Ok(None);
+        };
+        let name = FenceName::from_checked(signature.copy()?, instance);
+        Ok(Some(Header::from_checked(self.node, name, lines)))
+    }
+
+    /// The own header that comes to exist once the process of the line stands to the fence so.
+    fn news(
+        &self,
+        own: &[Proc],
+        signature: &Signature,
+        instance: u64,
+        line: Option<&Local>,
+    ) -> Result<VecDeque<Header>, AllocError>
+        requires own { own.now ≡ own_of self.now signature.now }
+        requires number { IsTrue (is_instance instance) }
+        requires line { IsLine (option_map (λ l. l.now) line) }
+        ensures { IfOk result (λ q. q.items ≡ told_with self.now (fence_of signature.now instance) (option_map (λ l. l.now) line.entry)) }
+    {
+        let mut news = VecDeque::new(self.series.allocator());
+        let fence = self.fence(signature, instance);
+        if !self.may_be_told(own, fence) {
+            return Ok(news);
+        }
+        if self.is_present(own, fence) {
+            return Ok(news);
+        }
+        match self.header_with(own, signature, instance, line)? {
+            Some(header) => {
+                news.push_back(header)?;
+                Ok(news)
+            }
+            None => Ok(news),
+        }
+    }
+
+    /// The same, with the own participants that are kept, or that are looked up now.
+    fn news_of(
+        &self,
+        signature: &Signature,
+        instance: u64,
+        line: Option<&Local>,
+    ) -> Result<VecDeque<Header>, AllocError>
+        requires number { IsTrue (is_instance instance) }
+        requires line { IsLine (option_map (λ l. l.now) line) }
+        ensures { IfOk result (λ q. q.items ≡ told_with self.now (fence_of signature.now instance) (option_map (λ l. l.now) line.entry)) }
+    {
+        match self.owns.get(signature) {
+            Some(own) => self.news(own, signature, instance, line),
+            None => {
+                let own = self.own_participants(signature)?;
+                self.news(&own, signature, instance, line)
+            }
+        }
+    }
+
+    /// Keeps what becomes known of the fence, by which the process of the line stands to it so.
+    pub(crate) fn change(
+        &mut self,
+        signature: &Signature,
+        instance: u64,
+        line: Option<&Local>,
+        change: Change,
+    ) -> Result<(), AllocError>
+        requires number { IsTrue (is_instance instance) }
+        requires line { IsLine (option_map (λ l. l.now) line) }
+        requires change { CanChange self.old.fences (fence_of signature.now instance) change }
+        ensures ok { OnOk result (self.new ≡ changed_with self.old (fence_of signature.now instance) change (option_map (λ l. l.now) line.entry)) }
+        ensures err { OnErr result (self.new ≡ self.old) }
+    {
+        self.keep_own(signature)?;
+        let mut news = self.news_of(signature, instance, line)?;
+        let start = self.waiting.len();
+        self.waiting.append(&mut news)?;
+        if let Err(AllocError) = self.series.change(signature, instance, change) {
+            self.waiting.truncate(start);
+            return Err(AllocError);
+        }
+        Ok(())
+    }
+
+    /// The own header of the fence that comes to exist once the process of the line has ended, who had not entered it.
+    fn news_at_end(
+        &self,
+        signature: &Signature,
+        instance: u64,
+        line: &Local,
+    ) -> Result<VecDeque<Header>, AllocError>
+        requires { IsTrue (is_level line.now.level) }
+        ensures { IfOk result (λ q. q.items ≡ ended_told self.now line.now (fence_of signature.now instance)) }
+    {
+        let Some(fence) = self.fence(signature, instance) else {
+            return Ok(VecDeque::new(self.series.allocator()));
+        };
+        if let Some(_) = fence.level(&line.proc) {
+            return Ok(VecDeque::new(self.series.allocator()));
+        }
+        Ok(self.news_of(signature, instance, Some(line))?)
+    }
+
+    /// Adds those of the fences of one signature: of a participant, those that it has not entered yet.
+    fn add_news(
+        &self,
+        news: &mut VecDeque<Header>,
+        signature: &Signature,
+        series: &Series,
+        line: &Local,
+    ) -> Result<(), AllocError>
+        requires { IsTrue (is_level line.now.level) }
+        ensures { OnOk result (news.new.items ≡ news.old.items ++ flat_map (ended_told self.now line.now)
+            (map (fence_of signature.now) (finite.keys series.now.fences))) }
+    {
+        if !signature.contains(&line.proc) {
+            return Ok(());
+        }
+        let entered = self.count(signature, &line.proc);
+        let later = (Bound::Excluded(entered), Bound::Unbounded);
+        for (instance, _) in series.rows().range(later) {
+            let mut more = self.news_at_end(signature, *instance, line)?;
+            news.append(&mut more)?;
+        }
+        Ok(())
+    }
+
+    /// Those of all fences, in the order of their names.
+    pub(crate) fn all_news(&self, line: &Local) -> Result<VecDeque<Header>, AllocError>
+        requires { IsTrue (is_level line.now.level) }
+        ensures { IfOk result (λ q. q.items ≡ flat_map (ended_told self.now line.now) (names_of self.now.fences)) }
+    {
+        let mut news = VecDeque::new(self.series.allocator());
+        for (signature, series) in self.series.rows().iter() {
+            self.add_news(&mut news, signature, series, line)?;
+        }
+        Ok(news)
+    }
+}
