@@ -5,33 +5,39 @@ use Rattle.std.specs.FinSet as set
 use Rattle.std.specs.BTreeMap.Range.{range_contains}
 use Rattle.std.specs.Cmp.{nat_cmp_total}
 use Rattle.std.specs.List.{filter, flat_map}
+use Rattle.std.specs.List.Sorted.{IsStrictlySortedBy}
 use Rattle.std.specs.Map.{keys_of}
+use Rattle.std.proofs.lemmas.List.Concat.{flat_map-append}
 use Rattle.std.specs.Option.{option_map, unwrap_or}
 use Rattle.std.specs.Ordering.{is_eq, is_lt, nat_cmp}
 use Rattle.std.specs.declared.ops.Bound.TheVariants.{Excluded, Unbounded}
 use Rattle.std.proofs.lemmas.Bool.{and_parts, cases_lt, false≢true, leb-true, le-leb, ltb-true}
 use Rattle.std.proofs.lemmas.Cmp.{tied_itself}
+use Rattle.std.proofs.lemmas.List.Folds.{flat_map-map}
 use Rattle.std.proofs.lemmas.Map.Keys.{ge_from_not_lt}
 use Rattle.pmg_value.specs.Process.{proc_cmp}
 use Rattle.pmg_value.specs.Signatures.{Signature, FenceName}
 use Rattle.pmg_value.specs.declared.process.Proc.{Proc}
 use Rattle.pmg_value.proofs.ProcessOrder.{procs_total, exact_procs}
+use Rattle.pmg_value.specs.Lists.{In}
+use Rattle.pmg_value.proofs.RowLemmas.{entries_of_nothing, insert_same}
 use Rattle.pmg_frame.specs.FenceOrder.{signature_cmp, signature_total}
+use Rattle.pmg_frame.proofs.FenceOrderLemmas.{signatures_exact}
 use Rattle.pmg_frame.specs.Fences.{Header, is_instance, is_level}
 use Rattle.pmg_frame.specs.declared.local.Local.{Local}
 use Rattle.pmg_fence.specs.declared.change.Change.{Change}
 use Rattle.pmg_fence.specs.declared.change.Change.TheVariants as changes
 use Rattle.pmg_fence.specs.Entering.{same_proc, same_signature, locals_of, told}
-use Rattle.pmg_fence.specs.Tables.{Numbers, Fence, Fences, no_fences, fence_of, series_at, has_name, fence_at, count_of, entry_at, own_header}
-use Rattle.pmg_fence.specs.Codes.{Known, Owns}
+use Rattle.pmg_fence.specs.Tables.{Numbers, Fence, Series, Fences, no_fences, no_series, names_of, fence_of, series_at, has_name, fence_at, count_of, entry_at, own_header}
+use Rattle.pmg_fence.specs.Codes.{Known, Owns, Signatures}
 use Rattle.pmg_fence.specs.Changes.{placed, changed, ended_by, fence_entered, present, newly}
-use Rattle.pmg_fence.specs.Kept.{own_of, instead, told_with, ended_told, fence_changed, counts_changed, placed_by, changed_with, IsKept, CanChange, EntersUpTo}
-use Rattle.pmg_fence.proofs.EndLemmas.{newly_same}
+use Rattle.pmg_fence.specs.Kept.{known_of, own_of, instead, told_with, ended_told, series_in, series_told, HasSignaturesOf, fence_changed, counts_changed, placed_by, changed_with, IsKept, CanChange, EntersUpTo}
+use Rattle.pmg_fence.proofs.EndLemmas.{newly_same, names_in}
 use Rattle.pmg_fence.proofs.EntryLemmas.{signature_itself}
+use Rattle.pmg_fence.proofs.IndexLemmas.{only_some, brought_alike, keys_rise, each_row}
 use Rattle.pmg_fence.proofs.HeaderLemmas.{by_proc, told_alike}
-use Rattle.pmg_fence.proofs.LimitLemmas.{own_inside}
 use Rattle.pmg_fence.proofs.StepLemmas.{new_fence, no_names, no_counts, levels_placed, count_same, count_is, not_it}
-use Rattle.pmg_fence.proofs.TableLemmas.{same_instance, same_name, name_exact, fence-placed, name-placed, count-placed, ends-placed, signature_exact}
+use Rattle.pmg_fence.proofs.TableLemmas.{same_instance, same_name, name_exact, series_placed, fence-placed, name-placed, count-placed, ends-placed, signature_exact}
 use Rattle.pmg_fence.proofs.Trees.{get_put}
 
 nothing : {A : Type 0} (x : A) → None ≡ Some x → ⊥
@@ -39,29 +45,41 @@ nothing x e = cc
 
 -- ---- own participants
 
-pub kept_without : (k : Known) (owns : Owns) → IsKept k owns → IsKept k finite.empty
-kept_without k owns kept = record {
-  own = λ g ps e. absurd (nothing ps (sym (finite.get-empty signature_cmp g) ∙ e));
-  names = kept.names;
-  levels = kept.levels;
-  ends = kept.ends;
-  entered = kept.entered;
-}
-
-own_by : (b : Bool) (k : Known) (g h : Signature) (own ps : List Proc) (o : Option (List Proc)) → own ≡ own_of k g → same_signature h g ≡ b → ((qs : List Proc) → o ≡ Some qs → qs ≡ own_of k h)
+own_at_other : (b : Bool) (k : Known) (g h : Signature) (own ps : List Proc) (o : Option (List Proc)) → own ≡ own_of k g → same_signature h g ≡ b → ((qs : List Proc) → o ≡ Some qs → qs ≡ own_of k h)
     → cond b (Some own) o ≡ Some ps → ps ≡ own_of k h
-own_by true k g h own ps o is e others found = let same : own ≡ ps = cc in sym same ∙ is ∙ ap (own_of k) (sym (signature_exact h g e))
-own_by false k g h own ps o is e others found = others ps found
+own_at_other true k g h own ps o is e others found = let same : own ≡ ps = cc in sym same ∙ is ∙ ap (own_of k) (sym (signature_exact h g e))
+own_at_other false k g h own ps o is e others found = others ps found
 
-pub kept_own : (k : Known) (owns new : Owns) (g one : Signature) (own : List Proc) → IsKept k owns → own ≡ own_of k g → one ≡ g → new ≡ finite.insert owns one own → IsKept k new
-kept_own k owns new g one own kept is same now = record {
-  own = λ h ps e. own_by (same_signature h g) k g h own ps (finite.get owns h) is refl (kept.own h)
-      (sym (finite.get-insert signature_total owns g own h) ∙ ap (λ x. finite.get (finite.insert owns x own) h) (sym same) ∙ ap (λ (m : Owns). finite.get m h) (sym now) ∙ e);
+there_still : (b : Bool) (own : List Proc) (o : Option (List Proc)) → is_some o ≡ true → is_some (cond b (Some own) o) ≡ true
+there_still true own o there = refl
+there_still false own o there = there
+
+pub kept_own : (k : Known) (owns new : Owns) (g : Signature) → IsKept k owns → new ≡ finite.insert owns g (own_of k g) → IsKept k new
+kept_own k owns new g kept now = record {
+  own = λ h ps e. own_at_other (same_signature h g) k g h (own_of k g) ps (finite.get owns h) refl refl (kept.own h)
+      (sym (finite.get-insert signature_total owns g (own_of k g) h) ∙ ap (λ (m : Owns). finite.get m h) (sym now) ∙ e);
+  held = λ h there. ap (λ (m : Owns). is_some (finite.get m h)) now ∙ ap is_some (finite.get-insert signature_total owns g (own_of k g) h)
+      ∙ there_still (same_signature h g) (own_of k g) (finite.get owns h) (kept.held h there);
   names = kept.names;
   levels = kept.levels;
   ends = kept.ends;
   entered = kept.entered;
 }
+
+-- whatever headers wait
+pub kept_waiting : (k : Known) (owns : Owns) (waiting : List Header) → IsKept k owns → IsKept (known_of k.jobs k.node k.fences.series k.fences.ends waiting) owns
+kept_waiting k owns waiting kept = record {
+  own = kept.own;
+  held = kept.held;
+  names = kept.names;
+  levels = kept.levels;
+  ends = kept.ends;
+  entered = kept.entered;
+}
+
+-- those of the signature are there then
+pub own_there : (k : Known) (owns new : Owns) (g : Signature) → new ≡ finite.insert owns g (own_of k g) → is_some (finite.get new g) ≡ true
+own_there k owns new g now = ap (λ (m : Owns). is_some (finite.get m g)) now ∙ ap is_some (get_put signature_total signatures_exact owns g (own_of k g))
 
 -- ---- a change of a fence
 
@@ -160,7 +178,19 @@ can_level t f changes.Learned can = tt
 can_level t f (changes.Entered q level) can = can.0
 can_level t f (changes.Told h) can = tt
 
-module _ (k : Known) (owns : Owns) (f : FenceName) (change : Change) (l : Option Local) (kept : IsKept k owns) (number : is_instance f.instance ≡ true) (can : CanChange k.fences f change) where
+held_by : (b : Bool) (owns : Owns) (h g : Signature) (o : Option Series) (x : Series) → same_signature h g ≡ b → is_some (finite.get owns g) ≡ true → (is_some o ≡ true → is_some (finite.get owns h) ≡ true)
+    → is_some (cond b (Some x) o) ≡ true → is_some (finite.get owns h) ≡ true
+held_by true owns h g o x e own others there = ap (λ (q : Signature). is_some (finite.get owns q)) (signature_exact h g e) ∙ own
+held_by false owns h g o x e own others there = others there
+
+held_placed : (t : Fences) (owns : Owns) (f : FenceName) (fence : Fence) (counts : Numbers) (h : Signature) → is_some (finite.get owns f.signature) ≡ true
+    → (is_some (finite.get t.series h) ≡ true → is_some (finite.get owns h) ≡ true) → is_some (finite.get (placed t f fence counts).series h) ≡ true → is_some (finite.get owns h) ≡ true
+unfolding placed
+held_placed t owns f fence counts h own others there =
+    held_by (same_signature h f.signature) owns h f.signature (finite.get t.series h) (series_placed t f fence counts) refl own others
+    (ap is_some (sym (finite.get-insert signature_total t.series f.signature (series_placed t f fence counts) h)) ∙ there)
+
+module _ (k : Known) (owns : Owns) (f : FenceName) (change : Change) (l : Option Local) (kept : IsKept k owns) (own : is_some (finite.get owns f.signature) ≡ true) (number : is_instance f.instance ≡ true) (can : CanChange k.fences f change) where
   level_kept : (x : FenceName) (p : Proc) (n : ℕ) → finite.get (fence_at (placed_by k.fences f change) x).levels p ≡ Some n → is_level n ≡ true
   level_kept x p n e =
       leveled_by (same_name x f) (fence_changed (fence_at k.fences f) change) (fence_at k.fences x) p n (λ m. changed_level (fence_at k.fences f) change p m (can_level k.fences f change can) (kept.levels f p)) (kept.levels x p)
@@ -169,6 +199,7 @@ module _ (k : Known) (owns : Owns) (f : FenceName) (change : Change) (l : Option
   pub kept_changed : IsKept (changed_with k f change l) owns
   kept_changed = record {
     own = kept.own;
+    held = λ h. held_placed k.fences owns f _ _ h own (kept.held h);
     names = λ x e. named_by (same_name x f) k.fences x f refl number (kept.names x) (sym (name-placed k.fences f _ _ x) ∙ e);
     levels = level_kept;
     ends = λ p n e. kept.ends p n (sym (ap (λ (m : Numbers). finite.get m p) (ends-placed k.fences f (fence_changed (fence_at k.fences f) change) (counts_changed (series_at k.fences f.signature).counts f.instance change))) ∙ e);
@@ -181,6 +212,7 @@ pub kept_ended : (k : Known) (owns : Owns) (p : Proc) (level : ℕ) → IsKept k
 unfolding has_name fence_at series_at count_of
 kept_ended k owns p level kept small = record {
   own = kept.own;
+  held = kept.held;
   names = kept.names;
   levels = kept.levels;
   ends = λ q n e. entered_level (same_proc q p) level n (finite.get k.fences.ends q) small (kept.ends q n) (sym (finite.get-insert procs_total k.fences.ends p level q) ∙ e);
@@ -198,6 +230,7 @@ no_entries i is all =
 pub kept_new : (k : Known) (owns : Owns) → k.fences ≡ no_fences → owns ≡ finite.empty → IsKept k owns
 kept_new k owns none nobody = record {
   own = λ g ps e. absurd (nothing ps (sym (ap (λ (m : Owns). finite.get m g) nobody ∙ finite.get-empty signature_cmp g) ∙ e));
+  held = λ g there. absurd (false≢true (sym (ap (λ (t : Fences). is_some (finite.get t.series g)) none ∙ ap (λ (o : Option Series). is_some o) (finite.get-empty signature_cmp g)) ∙ there));
   names = λ f e. absurd (false≢true (sym (ap (λ t. has_name t f) none ∙ no_names f) ∙ e));
   levels = λ f p n e. absurd (nothing n (sym (ap (λ t. finite.get (fence_at t f).levels p) none ∙ ap (λ (x : Fence). finite.get x.levels p) (new_fence f) ∙ finite.get-empty proc_cmp p) ∙ e));
   ends = λ p n e. absurd (nothing n (sym (ap (λ (t : Fences). finite.get t.ends p) none ∙ finite.get-empty proc_cmp p) ∙ e));
@@ -229,14 +262,14 @@ ended_entered k l g i n each all = by_name (has_name k.fences (fence_of g i)) re
     by_name true e = ap (λ b. cond b [] (told_with k (fence_of g i) (Some l))) (each i all e)
     by_name false e = refl
 
--- a fence of others
-pub ended_other : (k : Known) (l : Local) (f : FenceName) → set.contains f.signature.participants l.proc ≡ false → ended_told k l f ≡ []
+-- a fence in which it is no own participant
+pub ended_other : (k : Known) (l : Local) (f : FenceName) → (In l.proc (own_of k f.signature) → ⊥) → ended_told k l f ≡ []
 unfolding locals_of own_header present
 ended_other k l f other = by_name (has_name k.fences f) refl (is_some (finite.get (fence_at k.fences f).levels l.proc))
   where
     same : told (instead (Some l) (entry_at k.fences f)) (own_of k f.signature) ≡ told (entry_at k.fences f) (own_of k f.signature)
     same = told_alike _ _ (own_of k f.signature) (λ q i. by_proc q l.proc
-        (λ e. absurd (false≢true (sym other ∙ ap (set.contains f.signature.participants) (sym e) ∙ own_inside k f q i)))
+        (λ e. absurd (other (subst (λ r. In r (own_of k f.signature)) e i)))
         (λ e. ap (λ b. cond b (Some (record { state = l.state; level = l.level })) (entry_at k.fences f q)) e))
 
     by_name : (b : Bool) → has_name k.fences f ≡ b → (c : Bool)
@@ -245,16 +278,14 @@ ended_other k l f other = by_name (has_name k.fences f) refl (is_some (finite.ge
     by_name true e true = refl
     by_name true e false = ap (newly k.node f (told (entry_at k.fences f) (own_of k f.signature))) same ∙ newly_same k.node f (told (entry_at k.fences f) (own_of k f.signature))
 
-kept_or_not : (n : FenceName → List Header) (g : Signature) (later : ℕ → Bool) (e : ℕ × Fence) (es : List (ℕ × Fence)) (b : Bool) → later e.0 ≡ b → ((i : ℕ) → later i ≡ false → n (fence_of g i) ≡ [])
-    → flat_map n (map (fence_of g) (keys_of (filter (λ x. later x.0) es))) ≡ flat_map n (map (fence_of g) (keys_of es))
-    → flat_map n (map (fence_of g) (keys_of (cond b (e ∷ filter (λ x. later x.0) es) (filter (λ x. later x.0) es)))) ≡ n (fence_of g e.0) ++ flat_map n (map (fence_of g) (keys_of es))
-kept_or_not n g later e es true is each rest = ap (λ hs. n (fence_of g e.0) ++ hs) rest
-kept_or_not n g later e es false is each rest = rest ∙ sym (ap (λ hs. hs ++ flat_map n (map (fence_of g) (keys_of es))) (each e.0 is))
+-- of some fences of one signature
+by_rows : (n : FenceName → List Header) (g : Signature) (es : List (ℕ × Fence)) → flat_map n (map (fence_of g) (keys_of es)) ≡ flat_map (λ (e : ℕ × Fence). n (fence_of g e.0)) es
+by_rows n g es = flat_map-map n (fence_of g) (keys_of es) ∙ flat_map-map (λ i. n (fence_of g i)) (λ (e : ℕ × Fence). e.0) es
 
 only_later : (n : FenceName → List Header) (g : Signature) (later : ℕ → Bool) (es : List (ℕ × Fence)) → ((i : ℕ) → later i ≡ false → n (fence_of g i) ≡ [])
     → flat_map n (map (fence_of g) (keys_of (filter (λ x. later x.0) es))) ≡ flat_map n (map (fence_of g) (keys_of es))
-only_later n g later [] each = refl
-only_later n g later (e ∷ es) each = kept_or_not n g later e es (later e.0) refl each (only_later n g later es each)
+only_later n g later es each =
+    by_rows n g (filter (λ x. later x.0) es) ∙ only_some (λ (e : ℕ × Fence). n (fence_of g e.0)) (λ x. later x.0) es (λ e. each e.0) ∙ sym (by_rows n g es)
 
 abbrev pub is_later : ℕ → ℕ → Bool
 is_later count i = range_contains nat_cmp (Excluded count) Unbounded i
@@ -272,6 +303,75 @@ pub later_told : (k : Known) (l : Local) (g : Signature) (n : ℕ) (es : List (�
 later_told k l g n es each = only_later (ended_told k l) g (is_later n) es (λ i e. ended_entered k l g i n each (not_later n i e))
 
 -- and of those of others nothing
-pub others_told : (k : Known) (l : Local) (g : Signature) (ns : List ℕ) → set.contains g.participants l.proc ≡ false → flat_map (ended_told k l) (map (fence_of g) ns) ≡ []
+others_told : (k : Known) (l : Local) (g : Signature) (ns : List ℕ) → (In l.proc (own_of k g) → ⊥) → flat_map (ended_told k l) (map (fence_of g) ns) ≡ []
 others_told k l g [] other = refl
 others_told k l g (i ∷ ns) other = ap (λ hs. hs ++ flat_map (ended_told k l) (map (fence_of g) ns)) (ended_other k l (fence_of g i) other) ∙ others_told k l g ns other
+
+-- ---- an end, in the fences of all signatures
+
+-- a signature of which no name is there
+no_series_told : (k : Known) (l : Local) (g : Signature) → is_some (finite.get k.fences.series g) ≡ false → series_told k l g ≡ []
+no_series_told k l g none = by_series (finite.get k.fences.series g) none
+  where
+    by_series : (o : Option Series) → is_some o ≡ false → flat_map (ended_told k l) (map (fence_of g) (finite.keys (unwrap_or o no_series).fences)) ≡ []
+    by_series None e = ap (λ es. flat_map (ended_told k l) (map (fence_of g) (keys_of es))) (entries_of_nothing nat_cmp)
+    by_series (Some x) e = absurd cc
+
+-- one of which the process is no own participant
+unlisted_told : (k : Known) (owns : Owns) (l : Local) (found : Signatures) (g : Signature) → IsKept k owns → HasSignaturesOf owns l.proc found → set.contains found g ≡ false → series_told k l g ≡ []
+unlisted_told k owns l found g kept all none = by_own (finite.get k.fences.series g) refl
+  where
+    not_own : (o : Option (List Proc)) → finite.get owns g ≡ o → is_some o ≡ true → In l.proc (own_of k g) → ⊥
+    not_own (Some ps) e there i = false≢true (sym none ∙ all g ps e (subst (In l.proc) (sym (kept.own g ps e)) i))
+    not_own None e there i = absurd cc
+
+    by_own : (o : Option Series) → finite.get k.fences.series g ≡ o → series_told k l g ≡ []
+    by_own None e = no_series_told k l g (ap (λ (o : Option Series). is_some o) e)
+    by_own (Some x) e = others_told k l g (finite.keys (series_in k.fences.series g).fences) (not_own (finite.get owns g) refl (kept.held g (ap (λ (o : Option Series). is_some o) e)))
+
+-- each row has the series of its signature
+row_told : (k : Known) (l : Local) (es : List (Signature × Series)) → ((e : Signature × Series) → In e es → finite.get k.fences.series e.0 ≡ Some e.1)
+    → flat_map (ended_told k l) (flat_map names_in es) ≡ flat_map (series_told k l) (keys_of es)
+row_told k l [] each = refl
+row_told k l (e ∷ es) each =
+    flat_map-append (ended_told k l) (names_in e) (flat_map names_in es)
+    ∙ (λ i. flat_map (ended_told k l) (map (fence_of e.0) (finite.keys (unwrap_or (sym (each e (inl refl)) i) no_series).fences)) ++ row_told k l es (λ x j. each x (inr j)) i)
+
+-- an end brings what it brings in the fences of the signatures that are listed
+pub listed_told : (k : Known) (owns : Owns) (l : Local) (found : Signatures) (gs : List Signature) → IsKept k owns → HasSignaturesOf owns l.proc found
+    → set.from_list gs ≡ found → IsStrictlySortedBy signature_cmp gs → flat_map (series_told k l) gs ≡ flat_map (ended_told k l) (names_of k.fences)
+listed_told k owns l found gs kept all is rises =
+    brought_alike signature_total signatures_exact (series_told k l) gs (finite.keys k.fences.series) rises (keys_rise signature_cmp k.fences.series)
+    (λ g none. no_series_told k l g (finite.contains_key-keys k.fences.series g ∙ none))
+    (λ g none. unlisted_told k owns l found g kept all (ap (λ (s : Signatures). set.contains s g) (sym is) ∙ set.contains-from_list signature_total gs g ∙ none))
+    ∙ sym (row_told k l (finite.entries k.fences.series) (each_row signature_total k.fences.series))
+
+nothing_from : (n : Signature → List Header) (gs : List Signature) → ((g : Signature) → n g ≡ []) → flat_map n gs ≡ []
+nothing_from n [] none = refl
+nothing_from n (g ∷ gs) none = ap (λ hs. hs ++ flat_map n gs) (none g) ∙ nothing_from n gs none
+
+-- where none is listed, nothing
+pub unlisted_news : (k : Known) (owns : Owns) (l : Local) → IsKept k owns → HasSignaturesOf owns l.proc set.empty → [] ≡ flat_map (ended_told k l) (names_of k.fences)
+unlisted_news k owns l kept all =
+    sym (row_told k l (finite.entries k.fences.series) (each_row signature_total k.fences.series)
+    ∙ nothing_from (series_told k l) (finite.keys k.fences.series) (λ g. unlisted_told k owns l set.empty g kept all (set.contains-empty signature_cmp g)))
+
+-- ---- what is read of one signature
+
+pub series_there : (k : Known) (l : Local) (g : Signature) (x : Series) → Some x ≡ finite.get k.fences.series g → flat_map (ended_told k l) (map (fence_of g) (finite.keys x.fences)) ≡ series_told k l g
+series_there k l g x e = ap (λ (o : Option Series). flat_map (ended_told k l) (map (fence_of g) (finite.keys (unwrap_or o no_series).fences))) e
+
+pub no_series_there : (k : Known) (l : Local) (g : Signature) → None ≡ finite.get k.fences.series g → series_told k l g ≡ []
+no_series_there k l g e = no_series_told k l g (ap (λ (o : Option Series). is_some o) (sym e))
+
+some_own : (o : Option (Bor (List Proc))) → is_some o ≡ true → (ps : Bor (List Proc)) × (o ≡ Some ps)
+some_own (Some ps) e = (ps, refl)
+some_own None e = absurd cc
+
+-- own participants that are kept already
+pub own_kept : (owns : Owns) (g : Signature) (own : List Proc) (found : Option (Bor (List Proc))) → option_map (λ ps. ps.now) found ≡ finite.get owns g → is_some found ≡ true
+    → ((ps : List Proc) → finite.get owns g ≡ Some ps → ps ≡ own) → owns ≡ finite.insert owns g own
+own_kept owns g own found is there same =
+    let kept = some_own found there in
+    let row : finite.get owns g ≡ Some kept.0.now = sym is ∙ ap (option_map (λ (ps : Bor (List Proc)). ps.now)) kept.1 in
+    sym (insert_same signature_total signatures_exact owns g own (row ∙ ap Some (same kept.0.now row)))

@@ -16,4 +16,6 @@ pub mod StepLemmas
 pub mod SearchLemmas
 pub mod CountLemmas
 pub mod LimitLemmas
+pub mod IndexLemmas
 pub mod KeptLemmas
+pub mod ListingLemmas

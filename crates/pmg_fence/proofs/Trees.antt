@@ -1,6 +1,9 @@
--- Small trees in memory, as finite maps.
-use Rattle.std.proofs.Common.{◌≡◌, Bool, true, false, cond, List, Option, Some, None, refl, sym, ap, ◌∙◌, Bor}
+-- Small trees in memory, as finite maps and sets.
+use Rattle.std.proofs.Common.{◌≡◌, Bool, true, false, ◌||◌, cond, List, Option, Some, None, refl, sym, ap, ◌∙◌, Bor}
+use Rattle.std.specs.BTreeSet as tree
+use Rattle.std.specs.BTreeSet.{BTreeSet}
 use Rattle.std.specs.FinMap as finite
+use Rattle.std.specs.FinSet as set
 use Rattle.std.specs.FinMap.{IsAntisymmetric}
 use Rattle.std.specs.BTreeMap.{is_at}
 use Rattle.std.specs.Option.{option_map, option_copied}
@@ -49,3 +52,19 @@ module _ {K X : Type 0} {R : K → K → Ordering} (o : IsTotalOrder R) (exact :
       finite.get-insert o (finite.insert m k v) k w q
       ∙ ap (cond (eq_by_cmp R q k) (Some w)) (finite.get-insert o m k v q)
       ∙ shadowed (eq_by_cmp R q k) w v (finite.get m q) (λ t. sym e ∙ ap (finite.get m) (sym (exact q k ((Equal-is _).0 t)))))
+
+-- ---- a tree of keys, as a finite set
+
+cond_or : (a b x : Bool) → a ≡ b → cond a true x ≡ (b || x)
+cond_or true b x e = ap (λ c. c || x) e
+cond_or false b x e = ap (λ c. c || x) e
+
+module _ {K : Type 0} {R : K → K → Ordering} (o : IsTotalOrder R) (exact : IsAntisymmetric R) where
+  pub put_among : (old new : BTreeSet K) (m : set.FinSet R) (k : K) → set.from_list old.keys ≡ m
+      → ((q : K) → tree.contains R new q ≡ cond (is_at (R k) q) true (tree.contains R old q)) → set.from_list new.keys ≡ set.insert m k
+  put_among old new m k same updates =
+      set.same_set o exact (set.from_list new.keys) (set.insert (set.from_list old.keys) k) (λ q.
+      set.contains-from_list o new.keys q ∙ updates q
+      ∙ cond_or (is_at (R k) q) (eq_by_cmp R q k) (tree.contains R old q) ((eq_by_cmp_equiv o).symm k q)
+      ∙ ap (λ b. eq_by_cmp R q k || b) (sym (set.contains-from_list o old.keys q)) ∙ sym (set.contains-insert o (set.from_list old.keys) k q))
+      ∙ ap (λ (t : set.FinSet R). set.insert t k) same

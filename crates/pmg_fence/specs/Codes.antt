@@ -2,8 +2,9 @@
 use Rattle.std.specs.Prelude.{ℕ, List, refl}
 use Rattle.std.specs.Coded.{Coded, code_by, coded×, coded_ℕ, coded_list}
 use Rattle.std.specs.FinMap as finite
+use Rattle.std.specs.FinSet as set
 use Rattle.std.specs.Ordering.{nat_cmp}
-use Rattle.pmg_value.specs.Process.{coded_proc}
+use Rattle.pmg_value.specs.Process.{proc_cmp, coded_proc}
 use Rattle.pmg_value.specs.declared.process.Proc.{Proc}
 use Rattle.pmg_frame.specs.FenceOrder.{signature_cmp}
 use Rattle.pmg_frame.specs.Fences.{Header, coded_local, coded_signature, coded_header}
@@ -47,6 +48,20 @@ Owns = finite.FinMap signature_cmp (List Proc)
 
 abbrev pub coded_owns : Coded Owns
 coded_owns = finite.code coded_signature (coded_list coded_proc)
+
+-- signatures of fences
+abbrev pub Signatures : Type 0
+Signatures = set.FinSet signature_cmp
+
+abbrev pub coded_signatures : Coded Signatures
+coded_signatures = set.code coded_signature
+
+-- the signatures of fences in which an own process takes part, by process
+abbrev pub Index : Type 0
+Index = finite.FinMap proc_cmp Signatures
+
+abbrev pub coded_index : Coded Index
+coded_index = finite.code coded_proc coded_signatures
 
 abbrev pub coded_fences : Coded Fences
 coded_fences = code_by (AllSeries × Numbers) (coded× coded_all_series coded_numbers) (λ t. (t.series, t.ends)) (λ p. record { series = p.0; ends = p.1 }) (λ _. refl)

@@ -1,8 +1,10 @@
 -- What the small tables of a fence table keep.
-use Rattle.std.specs.Prelude.{◌≡◌, ℕ, suc, ◌+◌, nat_le, Bool, true, ◌==◌, List, [], ◌++◌, Option, Some, None, is_some, if◌then◌else◌}
-use Rattle.std.specs.List.{filter}
+use Rattle.std.specs.Prelude.{◌≡◌, ℕ, suc, ◌+◌, nat_le, Bool, true, ◌==◌, List, [], ◌++◌, map, Option, Some, None, is_some, if◌then◌else◌}
+use Rattle.std.specs.List.{filter, flat_map}
 use Rattle.std.specs.FinMap as finite
+use Rattle.std.specs.FinSet as set
 use Rattle.std.specs.Option.{unwrap_or}
+use Rattle.pmg_value.specs.Lists.{In}
 use Rattle.pmg_value.specs.Signatures.{Signature, FenceName}
 use Rattle.pmg_value.specs.declared.process.Proc.{Proc}
 use Rattle.pmg_value.specs.InOrder.{in_order}
@@ -13,7 +15,7 @@ use Rattle.pmg_fence.specs.declared.change.Change.TheVariants as changes
 use Rattle.pmg_fence.specs.declared.entry.Entry.{Entry}
 use Rattle.pmg_fence.specs.Entering.{same_proc, entry_by, locals_of, told}
 use Rattle.pmg_fence.specs.Tables.{Numbers, Fence, Series, Fences, no_fence, no_series, series_at, fence_of, has_name, fence_at, count_of, entry_at, entry_in}
-use Rattle.pmg_fence.specs.Codes.{Instances, AllSeries, Known, Owns}
+use Rattle.pmg_fence.specs.Codes.{Instances, AllSeries, Known, Owns, Signatures, Index}
 use Rattle.pmg_fence.specs.Changes.{placed, fence_entered, fence_told, present, newly}
 use Rattle.pmg_jobinfo.specs.Jobs.{Jobs, home_of}
 
@@ -59,9 +61,13 @@ entry_with fence ends p = entry_by (finite.get fence.levels p) (finite.get ends 
 abbrev pub known_fence : Option Fence → Fence
 known_fence fence = unwrap_or fence no_fence
 
+-- the participants of the signature that are at home at the node
+abbrev pub own_by : Jobs → ℕ → Signature → List Proc
+own_by jobs node g = filter (λ p. home_of jobs p == node) (in_order g.participants)
+
 -- the own participants of a fence of the signature
 abbrev pub own_of : Known → Signature → List Proc
-own_of k g = filter (λ p. home_of k.jobs p == k.node) (in_order g.participants)
+own_of k g = own_by k.jobs k.node g
 
 -- the own header that comes to exist once the process stands to the fence so
 abbrev pub told_with : Known → FenceName → Option Local → List Header
@@ -84,12 +90,41 @@ told_by k fence whole q =
 abbrev pub ended_told : Known → Local → FenceName → List Header
 ended_told k l f = if has_name k.fences f then (if is_some (finite.get (fence_at k.fences f).levels l.proc) then [] else told_with k f (Some l)) else []
 
+-- what comes to be told of the fences of one signature by that end
+abbrev pub series_told : Known → Local → Signature → List Header
+series_told k l g = flat_map (ended_told k l) (map (fence_of g) (finite.keys (series_in k.fences.series g).fences))
+
+-- ---- own participants, and the signatures of each
+
+-- the signatures that are found for a process
+abbrev pub found_signatures : Option Signatures → Signatures
+found_signatures found = unwrap_or found set.empty
+
+-- the signature is listed for each of the processes
+abbrev pub ListsEach : Index → Signature → List Proc → Type 0
+ListsEach index g ps = (p : Proc) → In p ps → set.contains (found_signatures (finite.get index p)) g ≡ true
+
+-- what was listed for a process stays listed
+abbrev pub ListsMore : Index → Index → Type 0
+ListsMore old new = (p : Proc) (g : Signature) → set.contains (found_signatures (finite.get old p)) g ≡ true
+    → set.contains (found_signatures (finite.get new p)) g ≡ true
+
+-- Each signature is listed for each own participant of its fences that is kept. One whose own participants were not kept, as an
+-- allocation failed, may be listed too.
+abbrev pub IsIndex : Owns → Index → Type 0
+IsIndex owns index = (g : Signature) (ps : List Proc) → finite.get owns g ≡ Some ps → ListsEach index g ps
+
+-- the signatures are all those that have the process among their own participants, or more
+abbrev pub HasSignaturesOf : Owns → Proc → Signatures → Type 0
+HasSignaturesOf owns p found = (g : Signature) (ps : List Proc) → finite.get owns g ≡ Some ps → In p ps → set.contains found g ≡ true
+
 -- ---- what a table keeps beside
 
--- Beside what it holds a table keeps own participants, of the signatures for which they were looked up; its numbers of
+-- Beside what it holds a table keeps own participants, of each signature of a fence whose name it has; its numbers of
 -- instances and levels are within their limits; and who entered so many fences of a signature entered each up to that one.
 pub record IsKept (k : Known) (owns : Owns) : Type 0 where
   pub own : (g : Signature) (ps : List Proc) → finite.get owns g ≡ Some ps → ps ≡ own_of k g
+  pub held : (g : Signature) → is_some (finite.get k.fences.series g) ≡ true → is_some (finite.get owns g) ≡ true
   pub names : (f : FenceName) → has_name k.fences f ≡ true → is_instance f.instance ≡ true
   pub levels : (f : FenceName) (p : Proc) (n : ℕ) → finite.get (fence_at k.fences f).levels p ≡ Some n → is_level n ≡ true
   pub ends : (p : Proc) (n : ℕ) → finite.get k.fences.ends p ≡ Some n → is_level n ≡ true

@@ -6,10 +6,12 @@ mod change;
 mod entry;
 mod fence;
 mod headers;
+mod index;
 mod laws;
 mod numbers;
 mod owns;
 mod series;
+mod signatures;
 mod table;
 
 pub use entry::Entry;

@@ -1,17 +1,22 @@
-ghost use Rattle.std.specs.Prelude.{◌≡◌, OnOk, OnErr};
+ghost use Rattle.std.specs.Prelude.{◌≡◌, IfOk, OnOk, OnErr};
 ghost use Rattle.std.specs.FinMap as finite;
 ghost use Rattle.std.specs.Option.{option_map};
+ghost use Rattle.pmg_fence.specs.Kept.{found_signatures, HasSignaturesOf};
 
+use crate::index::Index;
+use crate::signatures::{Shared, Signatures};
 use pmg_frame::Signature;
 use pmg_value::Proc;
 use std::alloc::{AllocError, Global};
 use std::collections::BTreeMap;
 use std::marker::Model;
 
-/// The participants of fences that are at home at a node, by signature.
+/// The participants of fences that are at home at a node, by signature, and the signatures of each of them.
 #[derive(Debug, Drop)]
 pub struct Owns {
+    alloc: Global,
     rows: BTreeMap<Signature, Vec<Proc>>,
+    index: Index,
 }
 
 impl Model for Owns {
@@ -24,15 +29,32 @@ impl Model for Owns {
     ghost use Rattle.pmg_value.specs.Rows.{rows_of};
 
     ghost view = { λ a. rows_of (λ ps. ps.items) a.rows.entries };
+
+    ghost use Rattle.pmg_fence.specs.Kept.{IsIndex};
+
+    ghost invariant = { λ a. IsIndex (rows_of (λ ps. ps.items) a.rows.entries) a.index };
+}
+
+/// Other handles of the same processes, with the same allocator.
+fn copy_procs(procs: &Vec<Proc>) -> Result<Vec<Proc>, AllocError>
+    ensures { IfOk result (λ copy. copy.items ≡ procs.now.items) }
+{
+    let mut copies = Vec::with_capacity(*procs.allocator(), procs.len())?;
+    for process in procs {
+        copies.push(process.copy()?)?;
+    }
+    Ok(copies)
 }
 
 impl Owns {
-    /// Of no signature.
+    /// Of no signature. It keeps the allocator.
     pub fn new(alloc: Global) -> Owns
         ensures { result ≡ finite.empty }
     {
         Owns {
+            alloc,
             rows: BTreeMap::new(alloc),
+            index: Index::new(alloc),
         }
     }
 
@@ -46,12 +68,32 @@ impl Owns {
         }
     }
 
-    /// Keeps those of the signature.
+    /// The signatures with the process among those that are kept, and at most some for which an allocation failed.
+    pub fn signatures(&self, proc: &Proc) -> Option<&Signatures>
+        ensures { HasSignaturesOf self.now proc.now (found_signatures (option_map (λ s. s.now) result)) }
+    {
+        self.index.get(proc)
+    }
+
+    /// Keeps those of the signature, once it is listed for each of them.
     pub fn insert(&mut self, signature: Signature, own: Vec<Proc>) -> Result<(), AllocError>
         ensures ok { OnOk result (self.new ≡ finite.insert self.old signature own.items) }
         ensures err { OnErr result (self.new ≡ self.old) }
     {
+        let shared = Shared::new(self.alloc, signature.copy()?)?;
+        self.index.put_all(&own, &shared)?;
         self.rows.insert(signature, own)?;
         Ok(())
+    }
+
+    /// The same participants, with the same allocator.
+    pub fn copy(&self) -> Result<Owns, AllocError>
+        ensures { IfOk result (λ copy. copy ≡ self.now) }
+    {
+        let mut copy = Owns::new(self.alloc);
+        for (signature, own) in self.rows.iter() {
+            copy.insert(signature.copy()?, copy_procs(own)?)?;
+        }
+        Ok(copy)
     }
 }

@@ -145,7 +145,7 @@ impl Table {
             series: self.series.copy()?,
             ends: self.ends.copy()?,
             waiting: copy_headers(&self.waiting)?,
-            owns: Owns::new(self.series.allocator()),
+            owns: self.owns.copy()?,
         })
     }
 

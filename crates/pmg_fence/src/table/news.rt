@@ -1,23 +1,62 @@
 //! The node's own headers, as they come to exist.
-ghost use Rattle.std.specs.Prelude.{◌≡◌, ◌&&◌, nat_le, ◌++◌, length, map, IsTrue, IfOk, OnOk, OnErr, is_some};
+ghost use Rattle.std.specs.Prelude.{◌≡◌, ◌&&◌, nat_le, ◌++◌, List, Some, length, IsTrue, IfOk, OnOk, OnErr, is_some};
 ghost use Rattle.std.specs.FinMap as finite;
 ghost use Rattle.std.specs.List.{flat_map};
 ghost use Rattle.std.specs.Option.{option_map};
+ghost use Rattle.pmg_value.specs.declared.process.Proc.{Proc};
 ghost use Rattle.pmg_frame.specs.Fences.{header, is_instance, is_level};
 ghost use Rattle.pmg_fence.specs.Entering.{told, lines};
 ghost use Rattle.pmg_fence.specs.Tables.{names_of, fence_of, entry_at};
-ghost use Rattle.pmg_fence.specs.Kept.{instead, entry_with, known_fence, own_of, told_with, changed_with, ended_told, most_told, IsLine, CanChange};
+ghost use Rattle.pmg_fence.specs.Kept.{instead, entry_with, known_fence, own_by, own_of, told_with, changed_with, ended_told, series_told, most_told, IsLine, CanChange};
 
-use super::{Table, count_in};
+use super::{Table, count_in, home_of};
 use crate::change::Change;
 use crate::entry::Entry;
 use crate::fence::Fence;
-use crate::series::Series;
+use crate::owns::Owns;
 use pmg_frame::{FenceName, Header, Local, Signature};
-use pmg_value::Proc;
+use pmg_jobinfo::Registry;
+use pmg_value::{NodeId, Proc};
 use std::alloc::AllocError;
 use std::collections::VecDeque;
 use std::ops::Bound;
+
+/// The participants at home at the node, in their order.
+fn own_participants(
+    registry: &Registry,
+    node: NodeId,
+    signature: &Signature,
+) -> Result<Vec<Proc>, AllocError>
+    ensures { IfOk result (λ ps. ps.items ≡ own_by registry.now node signature.now) }
+{
+    let mut own = Vec::new(registry.allocator());
+    for proc in signature.participants() {
+        if home_of(registry, proc) != node.index() {
+            continue;
+        }
+        own.push(proc.copy()?)?;
+    }
+    Ok(own)
+}
+
+/// Keeps the own participants of the signature, so that they are looked up once.
+fn keep_own(
+    owns: &mut Owns,
+    registry: &Registry,
+    node: NodeId,
+    signature: &Signature,
+) -> Result<(), AllocError>
+    requires { (ps : List Proc) → finite.get owns.old signature.now ≡ Some ps → ps ≡ own_by registry.now node signature.now }
+    ensures ok { OnOk result (owns.new ≡ finite.insert owns.old signature.now (own_by registry.now node signature.now)) }
+    ensures err { OnErr result (owns.new ≡ owns.old) }
+{
+    if owns.get(signature).is_some() {
+        return Ok(());
+    }
+    let own = own_participants(registry, node, signature)?;
+    owns.insert(signature.copy()?, own)?;
+    Ok(())
+}
 
 impl Table {
     /// How the own process stands to the fence, where something else has come to be told of a process.
@@ -32,32 +71,6 @@ impl Table {
             }),
             _ => self.entry(fence, proc),
         }
-    }
-
-    /// The participants at home at the node, in their order.
-    fn own_participants(&self, signature: &Signature) -> Result<Vec<Proc>, AllocError>
-        ensures { IfOk result (λ ps. ps.items ≡ own_of self.now signature.now) }
-    {
-        let mut own = Vec::new(self.series.allocator());
-        for proc in signature.participants() {
-            if !self.is_own(proc) {
-                continue;
-            }
-            own.push(proc.copy()?)?;
-        }
-        Ok(own)
-    }
-
-    /// Keeps the own participants of the signature, so that they are looked up once.
-    fn keep_own(&mut self, signature: &Signature) -> Result<(), AllocError>
-        ensures { self.new ≡ self.old }
-    {
-        if self.owns.get(signature).is_some() {
-            return Ok(());
-        }
-        let own = self.own_participants(signature)?;
-        self.owns.insert(signature.copy()?, own)?;
-        Ok(())
     }
 
     /// Whether so many entered the fence or ended that there may be something to tell of each of these, with one to come.
@@ -176,7 +189,7 @@ impl Table {
         match self.owns.get(signature) {
             Some(own) => self.news(own, signature, instance, line),
             None => {
-                let own = self.own_participants(signature)?;
+                let own = own_participants(&self.registry, self.node, signature)?;
                 self.news(&own, signature, instance, line)
             }
         }
@@ -196,7 +209,7 @@ impl Table {
         ensures ok { OnOk result (self.new ≡ changed_with self.old (fence_of signature.now instance) change (option_map (λ l. l.now) line.entry)) }
         ensures err { OnErr result (self.new ≡ self.old) }
     {
-        self.keep_own(signature)?;
+        keep_own(&mut self.owns, &self.registry, self.node, signature)?;
         let mut news = self.news_of(signature, instance, line)?;
         let start = self.waiting.len();
         self.waiting.append(&mut news)?;
@@ -226,21 +239,19 @@ impl Table {
         Ok(self.news_of(signature, instance, Some(line))?)
     }
 
-    /// Adds those of the fences of one signature: of a participant, those that it has not entered yet.
+    /// Adds those of the fences of one signature: those that the process has not entered yet.
     fn add_news(
         &self,
         news: &mut VecDeque<Header>,
         signature: &Signature,
-        series: &Series,
         line: &Local,
     ) -> Result<(), AllocError>
         requires { IsTrue (is_level line.now.level) }
-        ensures { OnOk result (news.new.items ≡ news.old.items ++ flat_map (ended_told self.now line.now)
-            (map (fence_of signature.now) (finite.keys series.now.fences))) }
+        ensures { OnOk result (news.new.items ≡ news.old.items ++ series_told self.now line.now signature.now) }
     {
-        if !signature.contains(&line.proc) {
+        let Some(series) = self.series.get(signature) else {
             return Ok(());
-        }
+        };
         let entered = self.count(signature, &line.proc);
         let later = (Bound::Excluded(entered), Bound::Unbounded);
         for (instance, _) in series.rows().range(later) {
@@ -256,8 +267,11 @@ impl Table {
         ensures { IfOk result (λ q. q.items ≡ flat_map (ended_told self.now line.now) (names_of self.now.fences)) }
     {
         let mut news = VecDeque::new(self.series.allocator());
-        for (signature, series) in self.series.rows().iter() {
-            self.add_news(&mut news, signature, series, line)?;
+        let Some(signatures) = self.owns.signatures(&line.proc) else {
+            return Ok(news);
+        };
+        for signature in signatures.items().iter() {
+            self.add_news(&mut news, signature.signature(), line)?;
         }
         Ok(news)
     }
