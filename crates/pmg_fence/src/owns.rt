@@ -6,7 +6,7 @@ ghost use Rattle.pmg_fence.specs.Kept.{found_signatures, HasSignaturesOf};
 use crate::index::Index;
 use crate::signatures::{Shared, Signatures};
 use pmg_frame::Signature;
-use pmg_value::Proc;
+use pmg_value::{Proc, copy_all};
 use std::alloc::{AllocError, Global};
 use std::collections::BTreeMap;
 use std::marker::Model;
@@ -33,17 +33,6 @@ impl Model for Owns {
     ghost use Rattle.pmg_fence.specs.Kept.{IsIndex};
 
     ghost invariant = { λ a. IsIndex (rows_of (λ ps. ps.items) a.rows.entries) a.index };
-}
-
-/// Other handles of the same processes, with the same allocator.
-fn copy_procs(procs: &Vec<Proc>) -> Result<Vec<Proc>, AllocError>
-    ensures { IfOk result (λ copy. copy.items ≡ procs.now.items) }
-{
-    let mut copies = Vec::with_capacity(*procs.allocator(), procs.len())?;
-    for process in procs {
-        copies.push(process.copy()?)?;
-    }
-    Ok(copies)
 }
 
 impl Owns {
@@ -92,7 +81,7 @@ impl Owns {
     {
         let mut copy = Owns::new(self.alloc);
         for (signature, own) in self.rows.iter() {
-            copy.insert(signature.copy()?, copy_procs(own)?)?;
+            copy.insert(signature.copy()?, copy_all(own)?)?;
         }
         Ok(copy)
     }

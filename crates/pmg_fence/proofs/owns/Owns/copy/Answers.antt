@@ -12,8 +12,8 @@ loop-signature-init c =
 
 pub loop-signature-preserved : goal.loop-signature-preserved
 loop-signature-preserved c = λ q.
-    owns_next c.args.self.now c.loop-signature.copy c.insert.new.self c.next.new.self c.loop-signature.signature-iterator c.in-Some.signature.now c.in_ok-copy.field-0 c.in-Some.own.now c.in_ok-copy_procs.field-0.items
-    c.in-Some.ensures.steps c.in_ok-copy.ensures c.in_ok-copy_procs.ensures c.in_ok-insert.ensures.ok q (c.loop-signature.invariant q)
+    owns_next c.args.self.now c.loop-signature.copy c.insert.new.self c.next.new.self c.loop-signature.signature-iterator c.in-Some.signature.now c.in_ok-copy.field-0 c.in-Some.own.now c.in_ok-copy_all.field-0.items
+    c.in-Some.ensures.steps c.in_ok-copy.ensures c.in_ok-copy_all.ensures c.in_ok-insert.ensures.ok q (c.loop-signature.invariant q)
 
 pub returns : goal.returns
 returns c = owns_copied c.args.self.now c.loop-signature.copy c.loop-signature.signature-iterator c.in-None.ensures.steps.0 c.loop-signature.invariant
