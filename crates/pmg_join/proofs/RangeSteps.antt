@@ -224,6 +224,18 @@ next_missing m end apart at (f, t, h, b) = elim (cases_lt 0 f) [
 pub first_missing : (m : BTreeMap ℕ ℕ) → get nat_cmp m 0 ≡ None → Covers m 1 → ⊥
 first_missing m none (f, t, h, b) = let zeroth : 0 ≡ f = omega (arith, b.0) in let bad = sym none ∙ ap (get nat_cmp m) zeroth ∙ h in cc
 
+-- up to the level, and with one more range past it, each number is there
+pub reached_with :
+    (m : BTreeMap ℕ ℕ) (level from to top start end n : ℕ) → from ≤ level → top ≡ max level to → HasRange m start end → start ≤ top
+    → ((i : ℕ) → 0 < i → i ≤ level → Covers m i) → 0 < n → n ≤ max top end → Covers m n ⊎ Between from to n
+reached_with m level from to top start end n low is at before reached some up = elim (cases_lt level n) [
+  | inr le ↦ inl (reached n some le)
+  | inl past ↦ elim (cases_lt to n) [
+    | inr le ↦ inr (omega (arith, low, past), le)
+    | inl over ↦ inl (start, end, at, (omega (arith, before, is, past, over), omega (arith, up, is, past, over)))
+  ]
+]
+
 -- ---- many ranges
 pub spans_kept : (m n : BTreeMap ℕ ℕ) → LieIn m n → (from to : ℕ) → Spans m from to → Spans n from to
 spans_kept m n kept from to (start, end, h, before, past) =

@@ -178,6 +178,24 @@ impl Ranges {
         }
     }
 
+    /// How far the ranges go from 1 without a gap once the numbers above the one, up to the other, are put in too: it
+    /// takes time in proportion to the logarithm of the number of ranges.
+    pub fn level_with(&self, from: u64, to: u64) -> u64
+        requires { AreApart self.now.ends }
+        ensures reached { (n : ℕ) → 0 < n → n ≤ result → Covers self.now.ends n ⊎ Between from to n }
+        ensures no_more { Covers self.now.ends (suc result) ⊎ Between from to (suc result) → ⊥ }
+    {
+        let level = self.level();
+        if level < from {
+            return level;
+        }
+        let top = level.max(to);
+        match last_up_to(&self.ends, top) {
+            Some(span) => top.max(span.to),
+            None => top,
+        }
+    }
+
     /// Other ranges of the same numbers.
     pub fn copy(&self) -> Result<Ranges, AllocError>
         ensures { IfOk result (λ copy. copy.ends.entries ≡ self.now.ends.entries) }

@@ -4,4 +4,5 @@ pub mod Knowing
 pub mod Tracking
 pub mod Listing
 pub mod Moving
+pub mod Reading
 pub mod LaneCores

@@ -1,13 +1,13 @@
 -- One entry put into its place.
-use Rattle.std.proofs.Common.{arith, ℕ, List, [], ◌∷◌, map, ◌≡◌, ◌<◌, ◌≤◌, ◌⊎◌, inl, inr, true, false, cond, refl, sym, ap, ◌∙◌, subst}
-use Rattle.std.specs.Prelude.{Option, Some, None, IfSome}
+use Rattle.std.proofs.Common.{arith, ℕ, List, [], ◌∷◌, map, ◌≡◌, ◌<◌, ◌≤◌, ◌⊎◌, inl, inr, Bool, true, false, cond, refl, sym, ap, ◌∙◌, subst}
+use Rattle.std.specs.Prelude.{Option, Some, None, IfSome, IsSome}
 use Rattle.std.specs.Option.{option_map}
 use Rattle.std.specs.Cmp.{Equal-is, IsTotalOrder}
 use Rattle.std.specs.Cmp.Lexicographic.{slice_cmp, nat_list_cmp_total}
 use Rattle.std.specs.Ordering.{nat_cmp, is_eq, is_lt}
 use Rattle.std.specs.declared.cmp.Ordering.{Ordering}
 use Rattle.std.specs.declared.cmp.Ordering.TheVariants.{Less}
-use Rattle.std.specs.BTreeMap.{is_at}
+use Rattle.std.specs.BTreeMap.{BTreeMap, get, is_at}
 use Rattle.std.proofs.lemmas.Cmp.{then_total, on_total, nat_cmp_total, tied_itself}
 use Rattle.std.proofs.lemmas.Bool.{false≢true, cases_lt}
 use Rattle.std.proofs.lemmas.Map.Lookups.{CmpEqualImpliesEq, exact_pairs, exact_bytes, exact_unsigned}
@@ -16,7 +16,7 @@ use Rattle.pmg_value.specs.Spelling.{spelling}
 use Rattle.pmg_value.specs.declared.value.Value.{Value}
 use Rattle.pmg_commit.specs.Entries.{Entry, is_later}
 use Rattle.pmg_commit.specs.EntryOrder.{Below, Later, is_later-Decides, below_cases, superseded_trans}
-use Rattle.pmg_lane.specs.Places.{there_at, HasPlace}
+use Rattle.pmg_lane.specs.Places.{placed, there_at, HasPlace}
 use Rattle.pmg_lane.specs.Entries.{late_cmp, read_entry, late_entry, read_at, late_at, Holds, ReadsWithin, Accounts, Settles, NoneLeft, beats, exceeds, LateFrom, HoldAlike, IsRoomy}
 use Rattle.pmg_lane.specs.declared.entries.Entries.{Entries}
 use Rattle.pmg_lane.specs.declared.entries.Stamp.{Stamp}
@@ -258,6 +258,61 @@ settles_next level a b c x More Left Rest s t more left = record {
 
 pub settles_start : (level : ℕ) (a : Entries) (More : Entry → Type 0) → Settles level a More a More
 settles_start level a More = record { fewer = λ e h. inl h; enough = λ e h. elim h [ inl i ↦ inl (inl i) | inr m ↦ inr m ] }
+
+-- ---- a place that was filled, or left as it was
+module _ {K V : Type 0} {R : K → K → Ordering} (m n : BTreeMap K (Option V)) (key : K) (there filled : Option V) (at : Some there ≡ get R m key) (exact : CmpEqualImpliesEq R)
+    (put : (q : K) → get R n q ≡ cond (is_at (R key) q) (Some filled) (get R m q)) where
+  was_at : (q : K) → is_at (R key) q ≡ true → get R m q ≡ Some there
+  was_at q t = ap (get R m) (sym (exact key q ((Equal-is _).0 t))) ∙ sym at
+
+  pub filled_at : (q : K) → there_at R n q ≡ cond (is_at (R key) q) filled (there_at R m q)
+  filled_at q = ap placed (put q) ∙ inside (is_at (R key) q)
+    where
+      inside : (t : Bool) → placed (cond t (Some filled) (get R m q)) ≡ cond t filled (there_at R m q)
+      inside true = refl
+      inside false = refl
+
+  pub left_at : filled ≡ there → (q : K) → there_at R n q ≡ there_at R m q
+  left_at same q =
+      elim (is_at (R key) q) as (λ t. is_at (R key) q ≡ t → there_at R n q ≡ there_at R m q) [
+        | true ↦ λ t. ap placed (put q ∙ ap (λ b. cond b (Some filled) (get R m q)) t) ∙ same ∙ ap placed (sym (was_at q t))
+        | false ↦ λ t. ap placed (put q ∙ ap (λ b. cond b (Some filled) (get R m q)) t)
+      ] refl
+
+  pub filled_stay : (q : K) → HasPlace R m q → HasPlace R n q
+  filled_stay q has = subst IsSome (sym (put q)) (here (is_at (R key) q))
+    where
+      here : (t : Bool) → IsSome (cond t (Some filled) (get R m q))
+      here true = refl
+      here false = has
+
+  pub filled_no_more : (q : K) → HasPlace R n q → HasPlace R m q
+  filled_no_more q has =
+      elim (is_at (R key) q) as (λ t. is_at (R key) q ≡ t → HasPlace R m q) [
+        | true ↦ λ t. subst IsSome (sym (was_at q t)) refl
+        | false ↦ λ t. subst IsSome (put q ∙ ap (λ b. cond b (Some filled) (get R m q)) t) has
+      ] refl
+
+-- the same entries in other places
+pub settles_alike : (level : ℕ) (a b : Entries) (More : Entry → Type 0) → HoldAlike a b → Settles level a More a NoneLeft → Settles level a More b NoneLeft
+settles_alike level a b More alike s = record {
+  fewer = λ e h. elim h [ inl r ↦ inl (inl (sym (alike.0 e.key) ∙ r)) | inr l ↦ inl (inr (sym (alike.1 (e.number, e.key)) ∙ l)) ];
+  enough = λ e h. elim (s.enough e h) [
+    | inr none ↦ absurd none
+    | inl (inl i) ↦ inl (inl (there e i))
+    | inl (inr (f, i, sup)) ↦ inl (inr (f, there f i, sup))
+  ];
+}
+  where
+    there : (e : Entry) → Holds a e → Holds b e
+    there e (inl r) = inl (alike.0 e.key ∙ r)
+    there e (inr l) = inr (alike.1 (e.number, e.key) ∙ l)
+
+pub within_alike : (level : ℕ) (a b : Entries) → HoldAlike a b → ReadsWithin level a → ReadsWithin level b
+within_alike level a b alike within key = subst (λ o. IfSome o (λ e. e.number ≤ level)) (sym (alike.0 key)) (within key)
+
+pub late_alike : (level : ℕ) (a b : Entries) → HoldAlike a b → LateFrom level a b
+late_alike level a b alike place = inl (alike.1 place)
 
 -- ---- room
 pub alike_reads : (a b : Entries) → ((q : List ℕ) → there_at (slice_cmp nat_cmp) b.reads q ≡ there_at (slice_cmp nat_cmp) a.reads q) → b.late ≡ a.late → HoldAlike a b

@@ -144,15 +144,15 @@ core_settled k l numbers fewer enough =
       | inr sup ↦ absurd (kept.1 sup.0 (fewer sup.0 sup.1) sup.2)
     ])
 
-has_told : (from to : ℕ) (es : List Entry) (e : Entry) → Has (told from to es) e → In e es
+pub has_told : (from to : ℕ) (es : List Entry) (e : Entry) → Has (told from to es) e → In e es
 unfolding told
 has_told from to es e h = in_from_list entries_total exact_entries es e h
 
-told_has : (from to : ℕ) (es : List Entry) (e : Entry) → In e es → Has (told from to es) e
+pub told_has : (from to : ℕ) (es : List Entry) (e : Entry) → In e es → Has (told from to es) e
 unfolding told
 told_has from to es e i = from_list_in entries_total exact_entries es e i
 
-told_numbers : (from to : ℕ) (es : List Entry) → (told from to es).numbers ≡ numbers_between from to
+pub told_numbers : (from to : ℕ) (es : List Entry) → (told from to es).numbers ≡ numbers_between from to
 unfolding told
 told_numbers from to es = refl
 

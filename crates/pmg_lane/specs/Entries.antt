@@ -100,6 +100,10 @@ exceeds (Some there) bytes = is_lt (slice_cmp nat_cmp there bytes)
 abbrev pub LateFrom : ℕ → Entries → Entries → Type 0
 LateFrom level a b = (place : ℕ × List ℕ) → (late_at b place ≡ late_at a place) ⊎ (level < place.0)
 
+-- the late entries in a list
+abbrev pub late_list : Entries → List Entry
+late_list a = flat_map (λ place. option_to_list (late_at a place)) (keys a.late)
+
 -- all the entries in a list
 abbrev pub entries_list : Entries → List Entry
-entries_list a = flat_map (λ key. option_to_list (read_at a key)) (keys a.reads) ++ flat_map (λ place. option_to_list (late_at a place)) (keys a.late)
+entries_list a = flat_map (λ key. option_to_list (read_at a key)) (keys a.reads) ++ late_list a

@@ -1,17 +1,20 @@
 //! The entries of one process that are not superseded.
 ghost use Rattle.std.specs.Prelude.{◌≡◌, ◌<◌, ◌≤◌, ◌++◌, ℕ, List, map, cond, OnOk, OnErr, IfOk, IfSome, IfNone, Some, None};
 ghost use Rattle.pmg_value.specs.Spelling.{spelling};
-ghost use Rattle.pmg_commit.specs.Entries.{Entry};
-ghost use Rattle.pmg_lane.specs.Entries.{read_at, late_at, late_cmp, read_entry, late_entry, beats, exceeds, IsReadIn, IsLateIn, Holds, HoldAlike, PlacesStay, HasPlaces, ReadsWithin, IsRoomy, LateFrom, LatePast, Settles, NoneLeft};
+ghost use Rattle.pmg_commit.specs.Entries.{Entry, best_of_two};
+ghost use Rattle.pmg_lane.specs.Entries.{read_at, late_at, late_list, late_cmp, read_entry, late_entry, beats, exceeds, IsReadIn, IsLateIn, Holds, HoldAlike, PlacesStay, HasPlaces, ReadsWithin, IsRoomy, LateFrom, LatePast, Settles, NoneLeft};
 ghost use Rattle.pmg_lane.specs.Places.{placed, there_at, HasPlace};
+ghost use Rattle.pmg_lane.specs.Readings.{seen_entry};
 ghost use Rattle.std.specs.Option.{option_map};
+ghost use Rattle.std.specs.List.{fold};
 ghost use Rattle.std.specs.BTreeMap.{get, is_at, btree_map_len, IsOrdered};
 ghost use Rattle.pmg_value.specs.Lists.{In};
 ghost use Rattle.pmg_commit.specs.Pieces.{entry_of};
 ghost use Rattle.std.specs.Ordering.{nat_cmp};
 ghost use Rattle.std.specs.Cmp.Lexicographic.{slice_cmp};
 
-use crate::places::{make_place, pop_place, put_in_place};
+use crate::places::{make_place, pop_place, put_place};
+use crate::readings::{Reading, better};
 use pmg_commit::PieceEntry;
 use pmg_value::{Copied, Key, Value, copy_rows};
 use std::alloc::{AllocError, Global};
@@ -64,6 +67,42 @@ impl Entries {
         }
     }
 
+    /// What is read under the key, with its number.
+    fn reading(&self, key: &Key) -> Option<Reading<'_>>
+        ensures { option_map (seen_entry key.now) result ≡ read_at self.now key.now }
+    {
+        match self.reads.get(key) {
+            Some(Some(there)) => Some(Reading {
+                number: there.number,
+                value: &there.value,
+            }),
+            _ => None,
+        }
+    }
+
+    /// What is read under the key at that level, which may not be reached yet: of what is read now and the late entries
+    /// up to the level, the latest. It takes time in proportion to the logarithm of the number of keys, and to the
+    /// number of those late entries.
+    pub fn reading_at(&self, level: u64, key: &Key) -> Option<Reading<'_>>
+        ensures { option_map (seen_entry key.now) result
+            ≡ fold (best_of_two level key.now) (read_at self.now key.now) (late_list self.now) }
+    {
+        let mut best = self.reading(key);
+        for (place, there) in self.late.iter() {
+            if place.0 > level {
+                return best;
+            }
+            if let Some(value) = there {
+                let late = Reading {
+                    number: place.0,
+                    value,
+                };
+                best = better(level, key, best, &place.1, late);
+            }
+        }
+        best
+    }
+
     /// Makes a place where an entry of the key will be read.
     fn make_read_place(&mut self, key: &Key) -> Result<(), AllocError>
         requires { IsRoomy self.old }
@@ -84,8 +123,7 @@ impl Entries {
         ensures stay { PlacesStay self.old self.new }
         ensures roomy { IsRoomy self.new }
     {
-        let place = (number, key.copy()?);
-        make_place(&mut self.late, &place)
+        put_place(&mut self.late, (number, key.copy()?))
     }
 
     /// Makes a place for an entry of that number and key: where it will be read and, past the number that will be
@@ -117,8 +155,13 @@ impl Entries {
         ensures stay { PlacesStay self.old self.new }
         ensures roomy { IsRoomy self.new }
     {
-        if is_newer(self.reads.get(&key), number, &value) {
-            put_in_place(&mut self.reads, &key, Stamp { number, value });
+        match self.reads.get_mut(&key) {
+            Some(there) => {
+                if is_newer(there, number, &value) {
+                    *there = Some(Stamp { number, value });
+                }
+            }
+            None => unreachable!(),
         }
     }
 
@@ -134,9 +177,13 @@ impl Entries {
         ensures stay { PlacesStay self.old self.new }
         ensures roomy { IsRoomy self.new }
     {
-        let place = (number, key);
-        if is_greater(self.late.get(&place), &value) {
-            put_in_place(&mut self.late, &place, value);
+        match self.late.get_mut(&(number, key)) {
+            Some(there) => {
+                if is_greater(there, &value) {
+                    *there = Some(value);
+                }
+            }
+            None => unreachable!(),
         }
     }
 
@@ -348,24 +395,24 @@ impl Entries {
 }
 
 /// Whether an entry of that number and value is later than the one in the place, if there is one.
-fn is_newer(place: Option<&Option<Stamp>>, number: u64, value: &Value) -> bool
-    ensures { (key : List ℕ) → let there = option_map (read_entry key) (placed (option_map (λ p. p.now) place.entry)) in
-        result ≡ beats there (record { key = key; number = number; bytes = spelling value.now }) }
+fn is_newer(place: &Option<Stamp>, number: u64, value: &Value) -> bool
+    ensures { (key : List ℕ) → result ≡ beats (option_map (read_entry key) place.now)
+        (record { key = key; number = number; bytes = spelling value.now }) }
 {
     match place {
-        Some(Some(there)) => {
+        Some(there) => {
             there.number < number || (there.number == number && there.value.cmp(value).is_lt())
         }
-        _ => true,
+        None => true,
     }
 }
 
 /// Whether the value is greater than the one in the place, if there is one.
-fn is_greater(place: Option<&Option<Value>>, value: &Value) -> bool
-    ensures { result ≡ exceeds (option_map spelling (placed (option_map (λ p. p.now) place.entry))) (spelling value.now) }
+fn is_greater(place: &Option<Value>, value: &Value) -> bool
+    ensures { result ≡ exceeds (option_map spelling place.now) (spelling value.now) }
 {
     match place {
-        Some(Some(there)) => there.cmp(value).is_lt(),
-        _ => true,
+        Some(there) => there.cmp(value).is_lt(),
+        None => true,
     }
 }

@@ -94,6 +94,24 @@ impl Lane {
         self.track.read(key)
     }
 
+    /// The level once the piece, which is one of the process, is taken too.
+    pub fn level_with(&self, piece: &Piece) -> u64
+        ensures value { result ≡ level (join_cores self.now (core_of (knowledge_of piece.now))).knowledge.numbers }
+        ensures bound { result ≤ 4294967295 }
+    {
+        self.track.level_with(piece.from(), piece.to())
+    }
+
+    /// What is read under the key once the piece, which is one of the process, is taken too. It takes time in proportion
+    /// to the piece's entries and to the late entries that are read then, and to the logarithm of what is held.
+    pub fn read_with<'a>(&'a self, piece: &'a Piece, key: &Key) -> Option<&'a Value>
+        ensures { option_map (λ v. spelling v.now) result
+            ≡ read (join_cores self.now (core_of (knowledge_of piece.now))).knowledge key.now }
+    {
+        self.track
+            .read_with(piece.from(), piece.to(), piece.entries(), key)
+    }
+
     /// The level, where it is below the one that is wanted: the commits after it are missing.
     pub fn missing_after(&self, want: u64) -> Option<u64>
         ensures { result ≡ (if nat_lt (level self.now.knowledge.numbers) want

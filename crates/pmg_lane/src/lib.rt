@@ -4,11 +4,13 @@
 mod entries;
 mod lane;
 mod places;
+mod readings;
 mod track;
 
 pub use entries::Stamp;
 pub use lane::{Lane, copies_of};
 pub use places::{make_place, pop_place};
+pub use readings::{level_alone, read_alone};
 pub use track::Track;
 
 #[cfg(test)]

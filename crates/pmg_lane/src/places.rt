@@ -23,6 +23,22 @@ pub fn make_place<K: Element, V: Drop>(
     Ok(())
 }
 
+/// Makes an empty place under the key, where there is none.
+pub fn put_place<K: Element, V: Drop>(
+    tree: &mut BTreeMap<K, Option<V>, Global>,
+    key: K,
+) -> Result<(), AllocError>
+    ensures same { (q : K) → there_at K.cmp tree.new q ≡ there_at K.cmp tree.old q }
+    ensures place { OnOk result (HasPlace K.cmp tree.new key) }
+    ensures stay { (q : K) → HasPlace K.cmp tree.old q → HasPlace K.cmp tree.new q }
+    ensures no_more { (q : K) → HasPlace K.cmp tree.new q → HasPlace K.cmp tree.old q ⊎ (key ≡ q) }
+{
+    if !tree.contains_key(&key) {
+        tree.insert(key, None)?;
+    }
+    Ok(())
+}
+
 /// Takes the first place out of the tree, with what is in it.
 pub fn pop_place<K: Element, V: Drop>(
     tree: &mut BTreeMap<K, Option<V>, Global>,
@@ -33,22 +49,4 @@ pub fn pop_place<K: Element, V: Drop>(
     ensures none { IfNone result ((q : K) → get K.cmp tree.old q ≡ None) }
 {
     tree.pop_first()
-}
-
-/// Puts the value into the place under the key.
-pub fn put_in_place<K: Element, V: Drop>(
-    tree: &mut BTreeMap<K, Option<V>, Global>,
-    key: &K,
-    value: V,
-)
-    requires { HasPlace K.cmp tree.old key.now }
-    ensures put { (q : K) → there_at K.cmp tree.new q
-        ≡ cond (is_at (K.cmp key.now) q) (Some value) (there_at K.cmp tree.old q) }
-    ensures stay { (q : K) → HasPlace K.cmp tree.old q → HasPlace K.cmp tree.new q }
-    ensures no_more { (q : K) → HasPlace K.cmp tree.new q → HasPlace K.cmp tree.old q }
-{
-    match tree.get_mut(key) {
-        Some(place) => *place = Some(value),
-        None => unreachable!(),
-    }
 }

@@ -4,10 +4,12 @@ ghost use Rattle.std.specs.FinSet as set;
 ghost use Rattle.std.specs.Option.{option_map};
 ghost use Rattle.pmg_value.specs.Spelling.{spelling};
 ghost use Rattle.pmg_commit.specs.Pieces.{entry_of};
-ghost use Rattle.pmg_commit.specs.Knowledge.{nothing, union, core, read};
+ghost use Rattle.pmg_commit.specs.Levels.{level};
+ghost use Rattle.pmg_commit.specs.Knowledge.{nothing, union, core, read, numbers_between};
 ghost use Rattle.pmg_lane.specs.Lanes.{known_by, level_of, told, reach_with, IsTrack, HasRoom, HaveRooms};
 
 use crate::entries::{Entries, Stamp};
+use crate::readings::best_with;
 use pmg_commit::PieceEntry;
 use pmg_join::Ranges;
 use pmg_value::{Key, Value};
@@ -57,6 +59,39 @@ impl Track {
         ensures { option_map (λ v. spelling v.now) result ≡ read (known_by self.now) key.now }
     {
         self.entries.read(key)
+    }
+
+    /// The level once the commits from+1 to to are taken too.
+    pub fn level_with(&self, from: u64, to: u64) -> u64
+        requires kept { IsTrack self.now }
+        requires bound { to ≤ 4294967295 }
+        ensures value { result ≡ level (set.union (known_by self.now).numbers (numbers_between from to)) }
+        ensures bound { result ≤ 4294967295 }
+    {
+        self.taken.level_with(from, to)
+    }
+
+    /// What is read under the key once the commits from+1 to to and their entries are taken too. It takes time in
+    /// proportion to the number of these entries and of the late ones that are read then, and to the logarithm of what
+    /// is held.
+    pub fn read_with<'a>(
+        &'a self,
+        from: u64,
+        to: u64,
+        entries: &'a [PieceEntry],
+        key: &Key,
+    ) -> Option<&'a Value>
+        requires kept { IsTrack self.now }
+        requires bound { to ≤ 4294967295 }
+        ensures { option_map (λ v. spelling v.now) result
+            ≡ read (union (known_by self.now) (told from to (map entry_of entries.now))) key.now }
+    {
+        let level = self.level_with(from, to);
+        let now = self.entries.reading_at(level, key);
+        match best_with(level, key, now, entries) {
+            Some(best) => Some(best.value),
+            None => None,
+        }
     }
 
     /// Up to where entries are read once the commits from+1 to to are taken too.

@@ -20,12 +20,14 @@ use Rattle.pmg_value.proofs.MapLemmas.{get-join_maps}
 use Rattle.pmg_value.proofs.ProcessOrder.{procs_total, exact_procs}
 use Rattle.pmg_value.proofs.RowLemmas.{key_there}
 use Rattle.pmg_commit.specs.Cores.{Core, core_of, join_cores}
-use Rattle.pmg_commit.specs.Data.{Data, join_data, absorbed, of_contribution, known, knowledge_in}
-use Rattle.pmg_commit.specs.Knowledge.{Contribution, Knowledge, nothing, knowledge_of, read}
+use Rattle.pmg_commit.specs.CoreLaws.{numbers-core}
+use Rattle.pmg_commit.specs.Data.{Data, join_data, absorbed, of_contribution, known, knowledge_in, level_at, read_at}
+use Rattle.pmg_commit.specs.Knowledge.{Contribution, Knowledge, nothing, union, core, knowledge_of, read}
 use Rattle.pmg_commit.specs.Entries.{entry_cmp}
 use Rattle.pmg_commit.specs.Levels.{level}
 use Rattle.pmg_commit.specs.LevelLaws.{level_unique}
-use Rattle.pmg_commit.proofs.ReadLaws.{read_none}
+use Rattle.pmg_commit.proofs.Joining.{unions_comm, union_nothing, core-union_right, known_together, known_of_one}
+use Rattle.pmg_commit.proofs.ReadLaws.{read_none, read-core}
 use Rattle.pmg_lane.specs.Lanes.{known_by, IsTrack}
 use Rattle.pmg_lane.specs.Places.{placed, there_at}
 use Rattle.pmg_lane.specs.declared.track.Track.{Track}
@@ -149,6 +151,41 @@ module _ (places : BTreeMap Proc (Option Track)) (p : Proc) where
 
   pub known_none : None ≡ there_at proc_cmp places p → nothing ≡ known (data_in places) p
   known_none there = sym (known_in places p ∙ ap (λ o. knowledge_in (held_in o)) (sym there))
+
+-- ---- what is known once a contribution is taken too
+module _ (d : Data) (c : Contribution) (p : Proc) where
+  known_here : eq_by_cmp proc_cmp p c.proc ≡ true → known (absorbed d c) p ≡ core (union (known d p) (knowledge_of c))
+  known_here same =
+      known_together d (of_contribution c) p
+      ∙ ap (λ k. core (union (known d p) k)) (known_of_one c p ∙ ap (λ b. cond b (core (knowledge_of c)) nothing) same)
+      ∙ core-union_right (known d p) (knowledge_of c)
+
+  known_past : eq_by_cmp proc_cmp p c.proc ≡ false → known (absorbed d c) p ≡ core (known d p)
+  known_past other =
+      known_together d (of_contribution c) p
+      ∙ ap (λ k. core (union (known d p) k)) (known_of_one c p ∙ ap (λ b. cond b (core (knowledge_of c)) nothing) other)
+      ∙ ap core (unions_comm (known d p) nothing ∙ union_nothing (known d p))
+
+  -- of another process, what was known is known
+  pub level_past : eq_by_cmp proc_cmp p c.proc ≡ false → level_at d p ≡ level_at (absorbed d c) p
+  level_past other = sym (ap level (numbers-core (known d p))) ∙ ap (λ k. level k.numbers) (sym (known_past other))
+
+  pub read_past : (key : List ℕ) → eq_by_cmp proc_cmp p c.proc ≡ false → read_at d p key ≡ read_at (absorbed d c) p key
+  read_past key other = sym (read-core (known d p) key) ∙ ap (λ k. read k key) (sym (known_past other))
+
+  -- of its process, what was known and what it tells
+  module _ (k m : Knowledge) (is : k ≡ known d p) (told : m ≡ knowledge_of c) (same : eq_by_cmp proc_cmp p c.proc ≡ true) where
+    pub level_here : level (union k m).numbers ≡ level_at (absorbed d c) p
+    level_here =
+        (λ i. level (union (is i) (told i)).numbers)
+        ∙ sym (ap level (numbers-core (union (known d p) (knowledge_of c))))
+        ∙ ap (λ k. level k.numbers) (sym (known_here same))
+
+    pub read_here : (key : List ℕ) → read (union k m) key ≡ read_at (absorbed d c) p key
+    read_here key =
+        (λ i. read (union (is i) (told i)) key)
+        ∙ sym (read-core (union (known d p) (knowledge_of c)) key)
+        ∙ ap (λ k. read k key) (sym (known_here same))
 
 pub level-nothing : 0 ≡ level nothing.numbers
 level-nothing = level_unique nothing.numbers 0 ((λ i low high. absurd (let bad : ⊥ = omega (arith, low, high) in bad)), set.contains-empty nat_cmp 1)

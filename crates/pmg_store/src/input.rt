@@ -70,7 +70,7 @@ impl<R: Read> WatchedReader<R> {
     }
 
     /// Reads once. The one place that reads.
-    fn read(&mut self, chunk: &mut [u8]) -> Result<usize, ReadFault>
+    pub fn read(&mut self, chunk: &mut [u8]) -> Result<usize, ReadFault>
         ensures counted { self.new.reads ≤ self.old.reads + 1 }
         ensures bound { ReadsAtMost result chunk.new }
         ensures bytes { ReadConsumes (R.remaining self.old.reader) (R.remaining self.new.reader)

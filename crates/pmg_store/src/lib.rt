@@ -13,7 +13,7 @@ mod tracks;
 
 pub use board::Board;
 pub use failure::Failure;
-pub use input::{INPUT_LIMIT, MOST_READS, ReadFault, WatchedReader, read_input};
+pub use input::{INPUT_LIMIT, MOST_READS, ReadFault, WatchedReader, read_input, too_long};
 pub use laws::{honest_data, honest_stores, pieces_in_any_order};
 pub use merge::{MAX_STREAMS, merge_inputs, merge_streams};
 pub use store::Store;

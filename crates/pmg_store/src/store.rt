@@ -6,14 +6,14 @@ ghost use Rattle.pmg_scope.specs.Scripts.{term_key};
 ghost use Rattle.pmg_commit.specs.Data.{join_data, absorbed, level_at, read_at, taken_at};
 ghost use Rattle.pmg_store.specs.Dump.{dump};
 ghost use Rattle.pmg_store.specs.Outcomes.{Dumps};
-ghost use Rattle.pmg_store.specs.Pieces.{data_of};
+ghost use Rattle.pmg_store.specs.Pieces.{data_of, is_of};
 
 use crate::dump::dump_of_tracks;
 use crate::failure::Failure;
 use crate::tracks::Tracks;
 use pmg_commit::Piece;
 use pmg_join::Join;
-use pmg_lane::copies_of;
+use pmg_lane::{copies_of, level_alone, read_alone};
 use pmg_value::{Key, Proc, Value, WatchedWriter};
 use std::alloc::{AllocError, AllocFailed, Global};
 use std::io::Write;
@@ -153,6 +153,43 @@ impl Store {
         }
     }
 
+    /// The level of the process once the piece is taken too: it takes time in proportion to the logarithm of what is
+    /// held.
+    pub fn level_with(&self, piece: &Piece, proc: &Proc) -> u64
+        ensures value { result ≡ level_at (absorbed self.now piece.now) proc.now }
+        ensures bound { result ≤ 4294967295 }
+    {
+        if !is_of(proc, piece) {
+            return self.level(proc);
+        }
+        match self.tracks.get(proc) {
+            Some(track) => track.level_with(piece.from(), piece.to()),
+            None => level_alone(piece.from(), piece.to()),
+        }
+    }
+
+    /// The value of the process under the key once the piece is taken too: it takes time in proportion to the piece's
+    /// entries and to the late entries that are read then, and to the logarithm of what is held.
+    pub fn read_with<'a>(&'a self, piece: &'a Piece, proc: &Proc, key: &Key) -> Option<&'a Value>
+        ensures { option_map (λ v. spelling v.now) result ≡ read_at (absorbed self.now piece.now) proc.now key.now }
+    {
+        if !is_of(proc, piece) {
+            return self.read(proc, key);
+        }
+        match self.tracks.get(proc) {
+            Some(track) => track.read_with(piece.from(), piece.to(), piece.entries(), key),
+            None => read_alone(piece.from(), piece.to(), piece.entries(), key),
+        }
+    }
+
+    /// Whether the process has ended once the piece is taken too.
+    pub fn has_ended_with(&self, piece: &Piece, proc: &Proc) -> bool
+        ensures { result ≡ is_some (read_at (absorbed self.now piece.now) proc.now term_key) }
+    {
+        let value = self.read_with(piece, proc, &Key::of_termination());
+        value.is_some()
+    }
+
     /// Whether the process has ended: its last commit put the reserved key `pmix.term`, and all up to it were taken (this
     /// project's key).
     pub fn has_ended(&self, proc: &Proc) -> bool
@@ -191,6 +228,13 @@ impl Store {
             tracks: self.tracks.copy()?,
         })
     }
+}
+
+/// Whether the piece is of the process.
+fn is_of(proc: &Proc, piece: &Piece) -> bool
+    ensures { result ≡ is_of proc.now piece.now }
+{
+    proc.cmp(piece.proc()).is_eq()
 }
 
 /// Joins the others into the two stores, into both or into none: room is made in both before they take anything.
