@@ -19,3 +19,6 @@ pub mod LimitLemmas
 pub mod IndexLemmas
 pub mod KeptLemmas
 pub mod ListingLemmas
+pub mod BackLemmas
+pub mod UndoLemmas
+pub mod LookLemmas

@@ -42,7 +42,7 @@ procs_by s p ps (Some e) (Some xs) rest (l ∷ ls) h =
     let tail : xs ≡ ls = cc in
     (λ i. (sym head i).proc ∷ map (λ (m : Local). m.proc) (sym tail i)) ∙ ap (λ qs. p ∷ qs) (rest xs refl)
 
-lines_procs : (s : Proc → Option Entry) (ps : List Proc) (ls : List Local) → lines s ps ≡ Some ls → map (λ (l : Local). l.proc) ls ≡ ps
+pub lines_procs : (s : Proc → Option Entry) (ps : List Proc) (ls : List Local) → lines s ps ≡ Some ls → map (λ (l : Local). l.proc) ls ≡ ps
 lines_procs s [] [] h = refl
 lines_procs s [] (l ∷ ls) h = absurd cc
 lines_procs s (p ∷ ps) ls h = procs_by s p ps (s p) (lines s ps) (lines_procs s ps) ls h

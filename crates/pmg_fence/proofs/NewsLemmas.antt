@@ -16,7 +16,7 @@ use Rattle.pmg_fence.specs.Entering.{same_proc, entered, entry_by, locals_of, to
 use Rattle.pmg_fence.specs.Tables.{Numbers, Fence, Fences, fence_of, series_at, has_name, fence_at, entry_at, count_of, own_header}
 use Rattle.pmg_fence.specs.Codes.{Known}
 use Rattle.pmg_fence.specs.Changes.{placed, learned, next_name, entered_by, with_header, fence_entered, changed_at, present, newly, news}
-use Rattle.pmg_fence.specs.Kept.{instead, changed_with, placed_by}
+use Rattle.pmg_fence.specs.Kept.{line_of, instead, changed_with, placed_by}
 use Rattle.pmg_fence.proofs.EntryLemmas.{signature_itself}
 use Rattle.pmg_fence.proofs.HeaderLemmas.{told_alike}
 use Rattle.pmg_fence.proofs.TableLemmas.{same_name, fence-placed, name-placed}
@@ -71,6 +71,11 @@ entry_entered t f p level q =
     ∙ ap (λ o. entry_by o (finite.get t.ends q)) (finite.get-insert procs_total (fence_at t f).levels p level q)
     ∙ cond_entry (same_proc q p) level (finite.get (fence_at t f).levels q) (finite.get t.ends q)
 
+entry_changed : (t : Fences) (f : FenceName) (change : Change) (q : Proc) → entry_at (placed_by t f change) f q ≡ instead (line_of change) (entry_at t f) q
+entry_changed t f changes.Learned q = entry_learned t f q
+entry_changed t f (changes.Entered p level) q = entry_entered t f p level q
+entry_changed t f (changes.Told h) q = entry_told t f h q
+
 -- ---- the calls
 
 pub enter_done : (k new : Known) (g : Signature) (p one two : Proc) (level n : ℕ) → n ≡ count_of k.fences g p → one ≡ p → two ≡ p
@@ -80,6 +85,11 @@ enter_done k new g p one two level n count first second is =
     is
     ∙ (λ i. changed_with k (fence_of g ((add-one n ∙ ap suc count) i)) (changes.Entered (second i) level) (Some (record { proc = first i; state = states.Entered; level = level })))
     ∙ told_news k (next_name k.fences g p) (changes.Entered p level) (Some (record { proc = p; state = states.Entered; level = level })) (entry_entered k.fences (next_name k.fences g p) p level)
+
+pub note_done : (k new : Known) (f : FenceName) (g : Signature) (i : ℕ) (change : Change) (l : Option Local) → g ≡ f.signature → i ≡ f.instance → l ≡ line_of change
+    → new ≡ changed_with k (fence_of g i) change l → new ≡ changed_at k f (placed_by k.fences f change)
+note_done k new f g i change l same number line is =
+    is ∙ (λ j. changed_with k (fence_of (same j) (number j)) change (line j)) ∙ told_news k f change (line_of change) (entry_changed k.fences f change)
 
 pub learn_done : (k new : Known) (f : FenceName) (g : Signature) (i : ℕ) → g ≡ f.signature → i ≡ f.instance
     → new ≡ changed_with k (fence_of g i) changes.Learned None → new ≡ changed_at k f (learned k.fences f)

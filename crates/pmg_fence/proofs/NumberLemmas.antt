@@ -18,6 +18,9 @@ put_restored m p n (Some k) e =
     ap (λ (b : Bool). cond b (finite.insert (finite.insert m p n) p k) (finite.insert m p n)) (ap is_some (get_put procs_total exact_procs m p n))
     ∙ put_again procs_total exact_procs m p n k (sym e)
 
+pub number_put : (old new : Numbers) (p q : Proc) (n : ℕ) (before : Option ℕ) → q ≡ p → new ≡ finite.insert old p n → before ≡ finite.get old p → restored new q before ≡ old
+number_put old new p q n before same is was = (λ i. restored (is i) (same i) before) ∙ put_restored old p n before was
+
 has_key : (rows : List (Proc × ℕ)) (m : Numbers) (p : Proc) (o : Option ℕ) → rows_of (λ n. n) rows ≡ m → at_key proc_cmp p rows ≡ o → finite.contains_key m p ≡ is_some o
 has_key rows m p o same e = ap is_some (get_at procs_total exact_procs (λ n. n) rows m p same ∙ same_option (at_key proc_cmp p rows) ∙ e)
 

@@ -28,6 +28,14 @@ is_there rows m k found b same e is =
     ap is_some (sym (read nat_cmp_total nat_cmp-IsAntisymmetric (λ (h : Header). h.locals) rows m k found same e))
     ∙ is_some_map (λ (h : Bor Header). h.now.locals) found ∙ is
 
+none_of : {A : Type 0} (o : Option A) → is_some o ≡ false → o ≡ None
+none_of None h = refl
+none_of (Some x) h = absurd cc
+
+pub not_there : (rows : List (ℕ × Header)) (m : Headers) (k : ℕ) (found : Option (Bor Header)) → rows_of (λ h. h.locals) rows ≡ m
+    → option_copied found ≡ at_key nat_cmp k rows → is_some found ≡ false → finite.get m k ≡ None
+not_there rows m k found same e is = none_of (finite.get m k) (is_there rows m k found false same e is)
+
 kept_by : (m : Headers) (k : ℕ) (ls : List Local) (o : Option (List Local)) → finite.get m k ≡ o → is_some o ≡ true → m ≡ finite.insert m k (first_of o ls)
 kept_by m k ls (Some first) e h = sym (insert_same nat_cmp_total nat_cmp-IsAntisymmetric m k first e)
 kept_by m k ls None e h = absurd cc

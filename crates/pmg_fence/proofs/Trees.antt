@@ -34,6 +34,9 @@ pub copied_there : {V : Type 0} (found : Option (Bor V)) → option_map (λ v. v
 copied_there None = refl
 copied_there (Some v) = refl
 
+pub lent_there : {V : Type 0} (found : Option (Bor V)) (o line : Option V) → option_copied found ≡ o → o ≡ line → option_map (λ v. v.now) found ≡ line
+lent_there found o line e is = copied_there found ∙ e ∙ is
+
 -- ---- a value, given back
 
 itself : {K : Type 0} {R : K → K → Ordering} → IsTotalOrder R → (k : K) → eq_by_cmp R k k ≡ true

@@ -13,7 +13,7 @@ use Rattle.pmg_frame.specs.declared.local.Local.{Local}
 use Rattle.pmg_fence.specs.declared.change.Change.{Change}
 use Rattle.pmg_fence.specs.declared.change.Change.TheVariants as changes
 use Rattle.pmg_fence.specs.declared.entry.Entry.{Entry}
-use Rattle.pmg_fence.specs.Entering.{same_proc, entry_by, locals_of, told}
+use Rattle.pmg_fence.specs.Entering.{same_proc, entered, entry_by, local_of, locals_of, told}
 use Rattle.pmg_fence.specs.Tables.{Numbers, Fence, Series, Fences, no_fence, no_series, series_at, fence_of, has_name, fence_at, count_of, entry_at, entry_in}
 use Rattle.pmg_fence.specs.Codes.{Instances, AllSeries, Known, Owns, Signatures, Index}
 use Rattle.pmg_fence.specs.Changes.{placed, fence_entered, fence_told, present, newly}
@@ -38,6 +38,10 @@ counts_changed counts k (changes.Told h) = counts
 abbrev pub fence_in : Instances → ℕ → Fence
 fence_in fences k = unwrap_or (finite.get fences k) no_fence
 
+-- the instance has changed, and the counts have not
+abbrev pub series_placed : Series → ℕ → Change → Series
+series_placed s k change = record { counts = s.counts; fences = finite.insert s.fences k (fence_changed (fence_in s.fences k) change) }
+
 unfoldable pub series_changed : Series → ℕ → Change → Series
 series_changed s k change = record { counts = counts_changed s.counts k change; fences = finite.insert s.fences k (fence_changed (fence_in s.fences k) change) }
 
@@ -47,6 +51,12 @@ series_in all g = unwrap_or (finite.get all g) no_series
 -- the table once the fence has changed
 abbrev pub placed_by : Fences → FenceName → Change → Fences
 placed_by t f change = placed t f (fence_changed (fence_at t f) change) (counts_changed (series_at t f.signature).counts f.instance change)
+
+-- what comes to be told of a process by the change
+abbrev pub line_of : Change → Option Local
+line_of changes.Learned = None
+line_of (changes.Entered p level) = Some (local_of p (entered level))
+line_of (changes.Told h) = None
 
 -- how a process stands to a fence, where that of one process has come to be what is told of it
 abbrev pub instead : Option Local → (Proc → Option Entry) → Proc → Option Entry

@@ -4,3 +4,4 @@ pub mod Codes
 pub mod Changes
 pub mod Rules
 pub mod Kept
+pub mod TakenBack

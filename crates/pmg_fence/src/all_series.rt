@@ -3,9 +3,10 @@ ghost use Rattle.std.specs.FinMap as finite;
 ghost use Rattle.std.specs.Option.{option_map};
 ghost use Rattle.pmg_value.specs.Rows.{rows_of};
 ghost use Rattle.pmg_fence.specs.Kept.{series_in, series_changed};
+ghost use Rattle.pmg_fence.specs.TakenBack.{all_series_back};
 
 use crate::change::Change;
-use crate::series::Series;
+use crate::series::{Series, SeriesBefore};
 use pmg_frame::Signature;
 use pmg_value::copy_rows;
 use std::alloc::{AllocError, Global};
@@ -61,24 +62,46 @@ impl AllSeries {
         &self.rows
     }
 
-    /// Keeps what becomes known of the instance of the signature.
+    /// Keeps what becomes known of the instance of the signature, and tells what its fences were before, if it had any.
     pub fn change(
         &mut self,
         signature: &Signature,
         instance: u64,
         change: Change,
-    ) -> Result<(), AllocError>
+    ) -> Result<Option<SeriesBefore>, AllocError>
+        ensures before { IfOk result (λ b. all_series_back self.new signature.now instance b ≡ self.old) }
         ensures ok { OnOk result (self.new ≡ finite.insert self.old signature.now (series_changed (series_in self.old signature.now) instance change)) }
         ensures err { OnErr result (self.new ≡ self.old) }
     {
         if let Some(series) = self.rows.get_mut(signature) {
-            series.change(instance, change)?;
-            return Ok(());
+            let before = series.change(instance, change)?;
+            return Ok(Some(before));
         }
         let mut series = Series::new(self.alloc);
         series.change(instance, change)?;
         self.rows.insert(signature.copy()?, series)?;
-        Ok(())
+        Ok(None)
+    }
+
+    /// Takes the fences of the signature out.
+    fn remove(&mut self, signature: &Signature)
+        ensures { self.new ≡ finite.remove self.old signature.now }
+    {
+        let _ = self.rows.remove(signature);
+    }
+
+    /// Takes a change back. It takes no memory.
+    pub fn take_back(&mut self, signature: &Signature, instance: u64, before: &Option<SeriesBefore>)
+        ensures { self.new ≡ all_series_back self.old signature.now instance before.now }
+    {
+        match before {
+            None => self.remove(signature),
+            Some(before) => {
+                if let Some(series) = self.rows.get_mut(signature) {
+                    series.take_back(instance, before);
+                }
+            }
+        }
     }
 
     /// The same fences, with the same allocator.

@@ -1,12 +1,13 @@
-ghost use Rattle.std.specs.Prelude.{◌≡◌, ◌<◌, ◌^◌, OnOk, OnErr};
+ghost use Rattle.std.specs.Prelude.{◌≡◌, ◌<◌, ◌^◌, is_some, IfOk, OnOk, OnErr};
 ghost use Rattle.pmg_fence.specs.Tables.{no_fence, entry_in};
 ghost use Rattle.pmg_fence.specs.Kept.{fence_changed};
+ghost use Rattle.pmg_fence.specs.TakenBack.{fence_back};
 ghost use Rattle.std.specs.FinMap as finite;
 
 use crate::change::Change;
 use crate::entry::Entry;
 use crate::headers::Headers;
-use crate::numbers::Numbers;
+use crate::numbers::{NumberBefore, Numbers};
 use pmg_value::{Copied, Proc};
 use std::alloc::{AllocError, Global};
 use std::marker::Model;
@@ -30,6 +31,17 @@ impl Model for Fence {
     ghost view = { λ a. record { levels = a.levels; headers = a.headers } };
 }
 
+/// What was known of a fence before a change, by which it can be taken back.
+#[derive(Debug, Drop)]
+pub enum FenceBefore {
+    /// The same.
+    Learned,
+    /// The level of a process that entered.
+    Entered(NumberBefore),
+    /// No header of that node, if one has come.
+    Told(Option<u64>),
+}
+
 impl Fence {
     /// A fence of which the name alone is known.
     pub fn new(alloc: Global) -> Fence
@@ -41,18 +53,33 @@ impl Fence {
         }
     }
 
-    /// Keeps what becomes known of the fence.
-    pub fn change(&mut self, change: Change) -> Result<(), AllocError>
+    /// Keeps what becomes known of the fence, and tells what there was before.
+    pub fn change(&mut self, change: Change) -> Result<FenceBefore, AllocError>
+        ensures before { IfOk result (λ b. fence_back self.new b ≡ self.old) }
         ensures ok { OnOk result (self.new ≡ fence_changed self.old change) }
         ensures err { OnErr result (self.new ≡ self.old) }
     {
         match change {
-            Change::Learned => Ok(()),
+            Change::Learned => Ok(FenceBefore::Learned),
             Change::Entered(proc, level) => {
-                self.levels.insert(proc, level)?;
-                Ok(())
+                let before = self.levels.put(proc, level)?;
+                Ok(FenceBefore::Entered(before))
             }
-            Change::Told(header) => self.headers.put(header),
+            Change::Told(header) => {
+                let before = self.headers.put(header)?;
+                Ok(FenceBefore::Told(before))
+            }
+        }
+    }
+
+    /// Takes a change back. It takes no memory.
+    pub fn take_back(&mut self, before: &FenceBefore)
+        ensures { self.new ≡ fence_back self.old before.now }
+    {
+        match before {
+            FenceBefore::Learned => (),
+            FenceBefore::Entered(before) => self.levels.take_back(before),
+            FenceBefore::Told(node) => self.headers.take_back(*node),
         }
     }
 
@@ -69,6 +96,13 @@ impl Fence {
         ensures { result ≡ finite.get self.now.levels proc.now }
     {
         self.levels.get(proc)
+    }
+
+    /// Whether the node's header is there.
+    pub fn has_header(&self, node: u32) -> bool
+        ensures { result ≡ is_some (finite.get self.now.headers node) }
+    {
+        self.headers.contains(node)
     }
 
     /// How the process stands to the fence, as the header of the node tells.

@@ -1,6 +1,7 @@
-ghost use Rattle.std.specs.Prelude.{◌≡◌, Some, IsTrue, IfOk, OnOk, OnErr};
+ghost use Rattle.std.specs.Prelude.{◌≡◌, Some, is_some, IsTrue, IfOk, OnOk, OnErr};
 ghost use Rattle.std.specs.FinMap as finite;
 ghost use Rattle.pmg_fence.specs.Changes.{first_of};
+ghost use Rattle.pmg_fence.specs.TakenBack.{headers_back};
 ghost use Rattle.pmg_fence.specs.Tables.{entry_in};
 ghost use Rattle.pmg_value.specs.Lists.{is_chain};
 ghost use Rattle.pmg_frame.specs.Fences.{is_local_rising};
@@ -42,17 +43,34 @@ impl Headers {
         }
     }
 
-    /// Keeps the header, unless there is one of its node already.
-    pub fn put(&mut self, header: Header) -> Result<(), AllocError>
+    /// Keeps the header, unless there is one of its node already; and tells its node where it is kept.
+    pub fn put(&mut self, header: Header) -> Result<Option<u64>, AllocError>
+        ensures before { IfOk result (λ node. headers_back self.new node ≡ self.old) }
         ensures ok { OnOk result (self.new ≡ finite.insert self.old header.node (first_of (finite.get self.old header.node) header.locals)) }
         ensures err { OnErr result (self.new ≡ self.old) }
     {
         let node = header.node().index() as u64;
         if self.rows.get(&node).is_some() {
-            return Ok(());
+            return Ok(None);
         }
         self.rows.insert(node, header)?;
-        Ok(())
+        Ok(Some(node))
+    }
+
+    /// Takes the node's header out.
+    fn remove(&mut self, node: u64)
+        ensures { self.new ≡ finite.remove self.old node }
+    {
+        let _ = self.rows.remove(&node);
+    }
+
+    /// Takes the header of the node back that was kept, where one was. It takes no memory.
+    pub fn take_back(&mut self, node: Option<u64>)
+        ensures { self.new ≡ headers_back self.old node }
+    {
+        if let Some(node) = node {
+            self.remove(node);
+        }
     }
 
     /// The same headers, with the same allocator.
@@ -63,6 +81,13 @@ impl Headers {
             alloc: self.alloc,
             rows: copy_rows(self.alloc, &self.rows)?,
         })
+    }
+
+    /// Whether the node's header is there.
+    pub fn contains(&self, node: u32) -> bool
+        ensures { result ≡ is_some (finite.get self.now node) }
+    {
+        self.rows.get(&(node as u64)).is_some()
     }
 
     /// How the process stands to the fence, as the header of the node tells.

@@ -14,9 +14,10 @@ mod series;
 mod signatures;
 mod table;
 
+pub use change::Change;
 pub use entry::Entry;
 pub use laws::{call_rules, entry_rules, header_rules, table_rules};
-pub use table::Table;
+pub use table::{Table, TableBefore};
 
 #[cfg(test)]
 mod tests;

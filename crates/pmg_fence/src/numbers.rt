@@ -1,6 +1,7 @@
 ghost use Rattle.std.specs.Prelude.{◌≡◌, ◌<◌, ◌^◌, IfOk, OnOk, OnErr};
 ghost use Rattle.std.specs.FinMap as finite;
 ghost use Rattle.pmg_fence.specs.Kept.{restored};
+ghost use Rattle.pmg_fence.specs.TakenBack.{number_back};
 
 use pmg_value::{Proc, copy_rows};
 use std::alloc::{AllocError, Global};
@@ -26,6 +27,13 @@ impl Model for Numbers {
     ghost use Rattle.pmg_value.specs.Rows.{rows_of};
 
     ghost view = { λ a. rows_of (λ n. n) a.rows.entries };
+}
+
+/// What a process's number was before it was given one, by which that can be taken back.
+#[derive(Debug, Drop)]
+pub struct NumberBefore {
+    proc: Proc,
+    number: Option<u64>,
 }
 
 impl Numbers {
@@ -55,7 +63,7 @@ impl Numbers {
     }
 
     /// Gives the process a number, and tells the one that it had.
-    pub fn insert(&mut self, proc: Proc, number: u64) -> Result<Option<u64>, AllocError>
+    fn insert(&mut self, proc: Proc, number: u64) -> Result<Option<u64>, AllocError>
         ensures ok { OnOk result (self.new ≡ finite.insert self.old proc number) }
         ensures before { IfOk result (λ b. b ≡ finite.get self.old proc) }
         ensures err { OnErr result (self.new ≡ self.old) }
@@ -63,8 +71,29 @@ impl Numbers {
         Ok(self.rows.insert(proc, number)?)
     }
 
+    /// Gives the process a number, and tells what there was before.
+    pub fn put(&mut self, proc: Proc, number: u64) -> Result<NumberBefore, AllocError>
+        ensures before { IfOk result (λ b. number_back self.new b ≡ self.old) }
+        ensures ok { OnOk result (self.new ≡ finite.insert self.old proc number) }
+        ensures err { OnErr result (self.new ≡ self.old) }
+    {
+        let numbered = proc.copy()?;
+        let before = self.insert(proc, number)?;
+        Ok(NumberBefore {
+            proc: numbered,
+            number: before,
+        })
+    }
+
+    /// Takes a number that was given back. It takes no memory.
+    pub fn take_back(&mut self, before: &NumberBefore)
+        ensures { self.new ≡ number_back self.old before.now }
+    {
+        self.restore(&before.proc, before.number);
+    }
+
     /// Gives the process the number back that it had before.
-    pub fn restore(&mut self, proc: &Proc, before: Option<u64>)
+    fn restore(&mut self, proc: &Proc, before: Option<u64>)
         ensures { self.new ≡ restored self.old proc.now before }
     {
         match before {

@@ -3,12 +3,13 @@ ghost use Rattle.std.specs.FinMap as finite;
 ghost use Rattle.std.specs.Option.{option_map, unwrap_or};
 ghost use Rattle.pmg_value.specs.Rows.{rows_of};
 ghost use Rattle.pmg_fence.specs.Tables.{no_series};
-ghost use Rattle.pmg_fence.specs.Kept.{fence_in, fence_changed, series_changed};
+ghost use Rattle.pmg_fence.specs.Kept.{fence_in, fence_changed, series_placed, series_changed};
+ghost use Rattle.pmg_fence.specs.TakenBack.{instances_back, series_back};
 ghost use Rattle.pmg_fence.specs.declared.change.Change.TheVariants as changes;
 
 use crate::change::Change;
-use crate::fence::Fence;
-use crate::numbers::Numbers;
+use crate::fence::{Fence, FenceBefore};
+use crate::numbers::{NumberBefore, Numbers};
 use pmg_value::{Copied, Proc, copy_rows};
 use std::alloc::{AllocError, Global};
 use std::collections::BTreeMap;
@@ -68,19 +69,45 @@ impl Instances {
         })
     }
 
-    /// Keeps what becomes known of the instance.
-    pub fn change(&mut self, instance: u64, change: Change) -> Result<(), AllocError>
+    /// Keeps what becomes known of the instance, and tells what was known before, if anything was.
+    pub fn change(
+        &mut self,
+        instance: u64,
+        change: Change,
+    ) -> Result<Option<FenceBefore>, AllocError>
+        ensures before { IfOk result (λ b. instances_back self.new instance b ≡ self.old) }
         ensures ok { OnOk result (self.new ≡ finite.insert self.old instance (fence_changed (fence_in self.old instance) change)) }
         ensures err { OnErr result (self.new ≡ self.old) }
     {
         if let Some(fence) = self.rows.get_mut(&instance) {
-            fence.change(change)?;
-            return Ok(());
+            let before = fence.change(change)?;
+            return Ok(Some(before));
         }
         let mut fence = Fence::new(self.alloc);
         fence.change(change)?;
         self.rows.insert(instance, fence)?;
-        Ok(())
+        Ok(None)
+    }
+
+    /// Takes the instance out.
+    fn remove(&mut self, instance: u64)
+        ensures { self.new ≡ finite.remove self.old instance }
+    {
+        let _ = self.rows.remove(&instance);
+    }
+
+    /// Takes a change back. It takes no memory.
+    pub fn take_back(&mut self, instance: u64, before: &Option<FenceBefore>)
+        ensures { self.new ≡ instances_back self.old instance before.now }
+    {
+        match before {
+            None => self.remove(instance),
+            Some(before) => {
+                if let Some(fence) = self.rows.get_mut(&instance) {
+                    fence.take_back(before);
+                }
+            }
+        }
     }
 }
 
@@ -101,6 +128,14 @@ impl Model for Series {
     ghost coded = { coded_series };
 
     ghost view = { λ a. record { counts = a.counts; fences = a.fences } };
+}
+
+/// What the fences of one signature were before a change, by which it can be taken back: how often the process that entered
+/// had entered, and what was known of the instance, if anything was.
+#[derive(Debug, Drop)]
+pub struct SeriesBefore {
+    count: Option<NumberBefore>,
+    fence: Option<FenceBefore>,
 }
 
 impl Series {
@@ -135,35 +170,59 @@ impl Series {
         self.fences.rows()
     }
 
-    /// Keeps what becomes known of the instance. An entry is the process's entry of that number.
+    /// Keeps what becomes known of the instance, and tells what there was before. An entry is the process's entry of that
+    /// number.
     #[tactic(auto, unfolding(crate::specs::Kept::series_changed))]
-    pub fn change(&mut self, instance: u64, change: Change) -> Result<(), AllocError>
+    pub fn change(&mut self, instance: u64, change: Change) -> Result<SeriesBefore, AllocError>
+        ensures before { IfOk result (λ b. series_back self.new instance b ≡ self.old) }
         ensures ok { OnOk result (self.new ≡ series_changed self.old instance change) }
         ensures err { OnErr result (self.new ≡ self.old) }
     {
         match change {
             Change::Entered(proc, level) => self.enter(instance, proc, level),
-            Change::Learned => self.fences.change(instance, Change::Learned),
-            Change::Told(header) => self.fences.change(instance, Change::Told(header)),
+            Change::Learned => self.place(instance, Change::Learned),
+            Change::Told(header) => self.place(instance, Change::Told(header)),
         }
     }
 
-    /// Keeps the process's entry into the instance, which is its entry of that number.
-    fn enter(&mut self, instance: u64, proc: Proc, level: u64) -> Result<(), AllocError>
+    /// Keeps what becomes known of the instance, and tells what was known before, if anything was.
+    fn place(&mut self, instance: u64, change: Change) -> Result<SeriesBefore, AllocError>
+        ensures before { IfOk result (λ b. series_back self.new instance b ≡ self.old) }
+        ensures ok { OnOk result (self.new ≡ series_placed self.old instance change) }
+        ensures err { OnErr result (self.new ≡ self.old) }
+    {
+        let fence = self.fences.change(instance, change)?;
+        Ok(SeriesBefore { count: None, fence })
+    }
+
+    /// Keeps the process's entry into the instance, which is its entry of that number, and tells what there was before.
+    fn enter(&mut self, instance: u64, proc: Proc, level: u64) -> Result<SeriesBefore, AllocError>
+        ensures before { IfOk result (λ b. series_back self.new instance b ≡ self.old) }
         ensures ok { OnOk result (self.new ≡ series_changed self.old instance (changes.Entered proc level)) }
         ensures err { OnErr result (self.new ≡ self.old) }
     {
         let counted = proc.copy()?;
-        let entered = proc.copy()?;
-        let before = self.counts.insert(counted, instance)?;
-        if let Err(AllocError) = self
-            .fences
-            .change(instance, Change::Entered(entered, level))
-        {
-            self.counts.restore(&proc, before);
-            return Err(AllocError);
+        let before = self.counts.put(counted, instance)?;
+        match self.fences.change(instance, Change::Entered(proc, level)) {
+            Err(AllocError) => {
+                self.counts.take_back(&before);
+                Err(AllocError)
+            }
+            Ok(fence) => Ok(SeriesBefore {
+                count: Some(before),
+                fence,
+            }),
         }
-        Ok(())
+    }
+
+    /// Takes a change back. It takes no memory.
+    pub fn take_back(&mut self, instance: u64, before: &SeriesBefore)
+        ensures { self.new ≡ series_back self.old instance before.now }
+    {
+        if let Some(count) = &before.count {
+            self.counts.take_back(count);
+        }
+        self.fences.take_back(instance, &before.fence);
     }
 }
 

@@ -12,20 +12,24 @@ ghost use Rattle.pmg_fence.specs.Tables.{no_fences, series_at, count_of, entry_i
 ghost use Rattle.pmg_fence.specs.Changes.{learned, next_name, entered_by, with_header, changed_at, changed, ended_by, enter_answer, taken};
 ghost use Rattle.pmg_fence.specs.Kept.{entry_with, known_fence, own_of, told_by, EntersUpTo};
 
+mod changes;
+mod looks;
 mod news;
 
 use crate::all_series::AllSeries;
 use crate::change::Change;
 use crate::entry::Entry;
 use crate::fence::Fence;
-use crate::numbers::Numbers;
+use crate::numbers::{NumberBefore, Numbers};
 use crate::owns::Owns;
+use crate::series::SeriesBefore;
 use pmg_frame::{FenceName, Header, Local, MAX_INSTANCE, Signature, State};
 use pmg_jobinfo::Registry;
 use pmg_value::{NodeId, Proc, Refusal};
 use std::alloc::AllocError;
 use std::collections::VecDeque;
 use std::marker::Model;
+use std::mem;
 
 /// What one node knows of fences: which of its own processes entered them and at which level, which ended, and what the
 /// headers of other nodes tell (PMIx Standard 5.0, PMIx_Fence). Fences are told apart by their signature, that is by their
@@ -109,6 +113,21 @@ fn copy_headers(headers: &VecDeque<Header>) -> Result<VecDeque<Header>, AllocErr
     Ok(copies)
 }
 
+/// What a table was before a change, by which that can be taken back: how many headers waited, and what was known of the
+/// fence or of the process.
+#[derive(Debug, Drop)]
+pub struct TableBefore {
+    waiting: usize,
+    change: ChangeBefore,
+}
+
+/// What was known of a fence, of whose signature there may have been none, or of a process's end.
+#[derive(Debug, Drop)]
+enum ChangeBefore {
+    Fence(FenceName, Option<SeriesBefore>),
+    End(NumberBefore),
+}
+
 impl Table {
     /// A table of no fences, for the node of that index, with its group's registry. It keeps the registry's allocator.
     pub fn new(node: NodeId, registry: Registry) -> Table
@@ -157,7 +176,7 @@ impl Table {
     }
 
     /// How often the process entered fences of the signature.
-    fn count(&self, signature: &Signature, proc: &Proc) -> u64
+    pub fn count(&self, signature: &Signature, proc: &Proc) -> u64
         ensures value { result ≡ count_of self.now.fences signature.now proc.now }
         ensures entered { EntersUpTo self.now.fences signature.now proc.now result }
     {
@@ -256,6 +275,14 @@ impl Table {
         self.waiting.pop_front()
     }
 
+    /// Takes all own headers that wait, in the order in which they came to exist. It takes no memory.
+    pub fn take_headers(&mut self) -> VecDeque<Header>
+        ensures headers { result.items ≡ self.old.waiting }
+        ensures rest { self.new ≡ taken self.old [] }
+    {
+        mem::replace(&mut self.waiting, VecDeque::new(self.series.allocator()))
+    }
+
     /// Whether there is something to tell of each own participant.
     fn is_whole(&self, signature: &Signature, fence: Option<&Fence>) -> bool
         ensures { result ≡ is_some (lines (entry_with (known_fence (option_map (λ f. f.now) fence.entry)) self.now.fences.ends)
@@ -343,19 +370,7 @@ impl Table {
         ensures ok { OnOk result (self.new ≡ changed self.old (ended_by self.old.fences proc.now level)) }
         ensures err { OnErr result (self.new ≡ self.old) }
     {
-        let line = Local {
-            proc: proc.copy()?,
-            state: State::Gone,
-            level,
-        };
-        let ended = proc.copy()?;
-        let mut news = self.all_news(&line)?;
-        let start = self.waiting.len();
-        self.waiting.append(&mut news)?;
-        if let Err(AllocError) = self.ends.insert(ended, level) {
-            self.waiting.truncate(start);
-            return Err(AllocError);
-        }
+        self.end(proc, level)?;
         Ok(())
     }
 }

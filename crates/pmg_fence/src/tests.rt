@@ -27,6 +27,8 @@ macro_rules! again_in {
     };
 }
 
+mod back;
+
 // Three nodes. The processes of rank 0 and 1 of j are at home at the nodes of their numbers, that of rank 2 at node 1, and
 // that of rank 3 at node 2.
 #[derive(Drop)]

@@ -8,12 +8,14 @@ ghost use Rattle.pmg_frame.specs.Fences.{header, is_instance, is_level};
 ghost use Rattle.pmg_fence.specs.Entering.{told, lines};
 ghost use Rattle.pmg_fence.specs.Tables.{names_of, fence_of, entry_at};
 ghost use Rattle.pmg_fence.specs.Kept.{instead, entry_with, known_fence, own_by, own_of, told_with, changed_with, ended_told, series_told, most_told, IsLine, CanChange};
+ghost use Rattle.pmg_fence.specs.TakenBack.{fences_back};
 
 use super::{Table, count_in, home_of};
 use crate::change::Change;
 use crate::entry::Entry;
 use crate::fence::Fence;
 use crate::owns::Owns;
+use crate::series::SeriesBefore;
 use pmg_frame::{FenceName, Header, Local, Signature};
 use pmg_jobinfo::Registry;
 use pmg_value::{NodeId, Proc};
@@ -123,7 +125,7 @@ impl Table {
     }
 
     /// The own header of the fence, once it exists.
-    fn header_with(
+    pub(crate) fn header_with(
         &self,
         own: &[Proc],
         signature: &Signature,
@@ -195,17 +197,19 @@ impl Table {
         }
     }
 
-    /// Keeps what becomes known of the fence, by which the process of the line stands to it so.
+    /// Keeps what becomes known of the fence, by which the process of the line stands to it so; and tells what the fences of
+    /// its signature were before, if it had any.
     pub(crate) fn change(
         &mut self,
         signature: &Signature,
         instance: u64,
         line: Option<&Local>,
         change: Change,
-    ) -> Result<(), AllocError>
+    ) -> Result<Option<SeriesBefore>, AllocError>
         requires number { IsTrue (is_instance instance) }
         requires line { IsLine (option_map (λ l. l.now) line) }
         requires change { CanChange self.old.fences (fence_of signature.now instance) change }
+        ensures before { IfOk result (λ b. fences_back self.new.fences (fence_of signature.now instance) b ≡ self.old.fences) }
         ensures ok { OnOk result (self.new ≡ changed_with self.old (fence_of signature.now instance) change (option_map (λ l. l.now) line.entry)) }
         ensures err { OnErr result (self.new ≡ self.old) }
     {
@@ -213,11 +217,13 @@ impl Table {
         let mut news = self.news_of(signature, instance, line)?;
         let start = self.waiting.len();
         self.waiting.append(&mut news)?;
-        if let Err(AllocError) = self.series.change(signature, instance, change) {
-            self.waiting.truncate(start);
-            return Err(AllocError);
+        match self.series.change(signature, instance, change) {
+            Err(AllocError) => {
+                self.waiting.truncate(start);
+                Err(AllocError)
+            }
+            Ok(before) => Ok(before),
         }
-        Ok(())
     }
 
     /// The own header of the fence that comes to exist once the process of the line has ended, who had not entered it.

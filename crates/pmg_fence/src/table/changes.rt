@@ -1,0 +1,93 @@
+//! Changes of a table that can be taken back.
+ghost use Rattle.std.specs.Prelude.{◌≡◌, ◌≤◌, IsTrue, IfOk, OnOk, OnErr};
+ghost use Rattle.std.specs.Option.{option_map};
+ghost use Rattle.pmg_fence.specs.Changes.{changed_at, changed, ended_by};
+ghost use Rattle.pmg_fence.specs.Kept.{line_of, placed_by, IsLine, CanChange};
+ghost use Rattle.pmg_fence.specs.TakenBack.{table_back, CanTakeBack};
+
+use super::{ChangeBefore, Table, TableBefore};
+use crate::change::Change;
+use pmg_frame::{FenceName, Local, State};
+use pmg_value::Proc;
+use std::alloc::AllocError;
+
+/// What comes to be told of a process by the change.
+fn line_of(change: &Change) -> Result<Option<Local>, AllocError>
+    ensures { IfOk result (λ l. l ≡ line_of change.now) }
+{
+    match change {
+        Change::Entered(proc, level) => Ok(Some(Local {
+            proc: proc.copy()?,
+            state: State::Entered,
+            level: *level,
+        })),
+        Change::Learned => Ok(None),
+        Change::Told(_) => Ok(None),
+    }
+}
+
+impl Table {
+    /// Keeps the fence's name and what becomes known of it, and tells what there was before, by which it can be taken back. An
+    /// entry has to be the process's next of the signature. Where this completes the node's header, that waits to be taken.
+    pub fn note(&mut self, name: &FenceName, change: Change) -> Result<TableBefore, AllocError>
+        requires { CanChange self.old.fences name.now change }
+        ensures before { IfOk result (λ b. table_back self.new b ≡ self.old) }
+        ensures fits { IfOk result (λ b. CanTakeBack self.new b) }
+        ensures ok { OnOk result (self.new ≡ changed_at self.old name.now (placed_by self.old.fences name.now change)) }
+        ensures err { OnErr result (self.new ≡ self.old) }
+    {
+        let kept = name.copy()?;
+        let line = line_of(&change)?;
+        let waiting = self.waiting.len();
+        let before = self.change(name.signature(), name.instance(), line.as_ref(), change)?;
+        Ok(TableBefore {
+            waiting,
+            change: ChangeBefore::Fence(kept, before),
+        })
+    }
+
+    /// The process ends, as `gone` tells, and what there was before is told, by which it can be taken back.
+    pub fn end(&mut self, proc: &Proc, level: u64) -> Result<TableBefore, AllocError>
+        requires { level ≤ 4294967295 }
+        ensures before { IfOk result (λ b. table_back self.new b ≡ self.old) }
+        ensures fits { IfOk result (λ b. CanTakeBack self.new b) }
+        ensures ok { OnOk result (self.new ≡ changed self.old (ended_by self.old.fences proc.now level)) }
+        ensures err { OnErr result (self.new ≡ self.old) }
+    {
+        let line = Local {
+            proc: proc.copy()?,
+            state: State::Gone,
+            level,
+        };
+        let ended = proc.copy()?;
+        let mut news = self.all_news(&line)?;
+        let waiting = self.waiting.len();
+        self.waiting.append(&mut news)?;
+        match self.ends.put(ended, level) {
+            Err(AllocError) => {
+                self.waiting.truncate(waiting);
+                Err(AllocError)
+            }
+            Ok(before) => Ok(TableBefore {
+                waiting,
+                change: ChangeBefore::End(before),
+            }),
+        }
+    }
+
+    /// Takes a change back, by what there was before; of the own headers that wait, only so many are left as waited then. It
+    /// takes no memory.
+    pub fn take_back(&mut self, before: TableBefore)
+        requires { CanTakeBack self.old before }
+        ensures { self.new ≡ table_back self.old before }
+    {
+        self.waiting.truncate(before.waiting);
+        match &before.change {
+            ChangeBefore::Fence(name, series) => {
+                self.series
+                    .take_back(name.signature(), name.instance(), series)
+            }
+            ChangeBefore::End(number) => self.ends.take_back(number),
+        }
+    }
+}
