@@ -1,8 +1,11 @@
 pub mod HomeLemmas
+pub mod ListedLemmas
+pub mod MeantLemmas
 pub mod MemberLemmas
 pub mod NameLemmas
 pub mod PeerLemmas
 pub mod RuleLemmas
 pub mod SearchLemmas
+pub mod SetSums
 pub mod SpaceLemmas
 pub mod TableLemmas

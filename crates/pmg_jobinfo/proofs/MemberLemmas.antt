@@ -49,7 +49,7 @@ module _ {A : Type 0} (p : A → Bool) where
   pub all_added_at : (xs : List A) (i : ℕ) (found : Bool) → length xs ≤ i → (found || list_any p (drop i xs)) ≡ list_any p xs → found ≡ list_any p xs
   all_added_at xs i found past so_far = all_added (drop i xs) found (list_any p xs) (drop_all i xs past) so_far
 
-  any_append : (xs ys : List A) → list_any p (xs ++ ys) ≡ (list_any p xs || list_any p ys)
+  pub any_append : (xs ys : List A) → list_any p (xs ++ ys) ≡ (list_any p xs || list_any p ys)
   any_append [] ys = refl
   any_append (x ∷ xs) ys = ap (λ b. p x || b) (any_append xs ys) ∙ or_chain (p x) (list_any p xs) (list_any p ys)
     where

@@ -22,12 +22,12 @@ use Rattle.pmg_jobinfo.proofs.MemberLemmas.{any_flat}
 
 -- ---- ranks
 
-in_range : (a n k : ℕ) → In k (range_with_len a n) → (a ≤ k) × (k < a + n)
+pub in_range : (a n k : ℕ) → In k (range_with_len a n) → (a ≤ k) × (k < a + n)
 in_range a zero k i = absurd i
 in_range a (suc n) k (inl e) = (omega (arith, e), omega (arith, e))
 in_range a (suc n) k (inr i) = let h = in_range (a + 1) n k i in (omega (arith, h.0), omega (arith, h.1))
 
-range_in : (a n k : ℕ) → a ≤ k → k < a + n → In k (range_with_len a n)
+pub range_in : (a n k : ℕ) → a ≤ k → k < a + n → In k (range_with_len a n)
 range_in a zero k low high = absurd (omega (arith, low, high))
 range_in a (suc n) k low high = elim (order_cases a k low) [ inl e ↦ inl (sym e) | inr less ↦ inr (range_in (a + 1) n k (omega (arith, less)) (omega (arith, high))) ]
   where
@@ -39,16 +39,16 @@ range_in a (suc n) k low high = elim (order_cases a k low) [ inl e ↦ inl (sym 
 
 -- ---- membership
 
-abbrev is_same : Proc → Proc → Bool
+abbrev pub is_same : Proc → Proc → Bool
 is_same q p = eq_by_cmp proc_cmp q p
 
-same_itself : (q : Proc) → is_same q q ≡ true
+pub same_itself : (q : Proc) → is_same q q ≡ true
 same_itself q = ap is_eq (tied_itself procs_total q)
 
-same_is : (q p : Proc) → is_same q p ≡ true → q ≡ p
+pub same_is : (q p : Proc) → is_same q p ≡ true → q ≡ p
 same_is q p h = exact_procs q p ((Equal-is _).0 h)
 
-has : (jobs : Jobs) (list : List Proc) (q : Proc) → set.contains (expansion jobs list) q ≡ list_any (λ p. list_any (is_same q) (meant jobs p)) list
+pub has : (jobs : Jobs) (list : List Proc) (q : Proc) → set.contains (expansion jobs list) q ≡ list_any (λ p. list_any (is_same q) (meant jobs p)) list
 unfolding expansion
 has jobs list q = set.contains-from_list procs_total (flat_map (meant jobs) list) q ∙ any_flat (is_same q) (meant jobs) list
 
@@ -68,7 +68,7 @@ in_members name count q same less =
 abbrev chosen : Jobs → Proc → Bool → List Proc
 chosen jobs p b = if b then members p.nspace (size_of jobs p.nspace) else p ∷ []
 
-meant_stands : (jobs : Jobs) (p q : Proc) → In q (meant jobs p) → StandsFor jobs p q
+pub meant_stands : (jobs : Jobs) (p q : Proc) → In q (meant jobs p) → StandsFor jobs p q
 meant_stands jobs p q i =
     elim (is_all p) as (λ b. is_all p ≡ b → In q (chosen jobs p b) → StandsFor jobs p q) [
       | true ↦ λ t j.
@@ -77,7 +77,7 @@ meant_stands jobs p q i =
       | false ↦ λ t j. elim j [ inl e ↦ inr (t, e) | inr none ↦ absurd none ]
     ] refl i
 
-stands_meant : (jobs : Jobs) (p q : Proc) → StandsFor jobs p q → In q (meant jobs p)
+pub stands_meant : (jobs : Jobs) (p q : Proc) → StandsFor jobs p q → In q (meant jobs p)
 stands_meant jobs p q (inl s) =
     let less = ltb-true q.rank (size_of jobs q.nspace) s.2 in
     subst (λ (b : Bool). In q (chosen jobs p b)) (sym s.0) (in_members p.nspace (size_of jobs p.nspace) q s.1 (subst (λ (n : List ℕ). q.rank < size_of jobs n) s.1 less))

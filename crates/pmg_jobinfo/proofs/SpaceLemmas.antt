@@ -1,9 +1,8 @@
 -- Tables of namespaces, entry by entry.
-use Rattle.std.proofs.Common.{BTreeMap, ◌≡◌, ℕ, Bool, true, false, ◌&&◌, ◌++◌, nat_eq, List, [], ◌∷◌, length, map, refl, sym, ap, ◌∙◌, ◌+◌, arith}
+use Rattle.std.proofs.Common.{BTreeMap, ◌≡◌, ℕ, Bool, false, ◌&&◌, ◌++◌, nat_eq, List, [], ◌∷◌, length, sym, ap, ◌∙◌, ◌+◌, arith}
 use Rattle.std.specs.Bool.{Decides}
 use Rattle.std.specs.Cmp.Lexicographic.{slice_cmp, nat_list_cmp_total, pointwise, pointwise_decides, bytes_decides}
 use Rattle.std.specs.FinMap as finite
-use Rattle.std.specs.List.{flat_map}
 use Rattle.std.specs.Ordering.{nat_cmp, eq_by_cmp}
 use Rattle.std.proofs.lemmas.Bool.{false≢true}
 use Rattle.std.proofs.lemmas.Bool.Decides.{Decides-like}

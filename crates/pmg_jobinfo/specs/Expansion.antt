@@ -1,9 +1,10 @@
 -- The processes that a list of processes stands for.
-use Rattle.std.specs.Prelude.{ℕ, Bool, ◌==◌, List, [], ◌∷◌, map, if◌then◌else◌}
-use Rattle.std.specs.List.{flat_map, range_with_len}
+use Rattle.std.specs.Prelude.{ℕ, Bool, ◌==◌, ◌+◌, List, [], ◌∷◌, map, length, if◌then◌else◌}
+use Rattle.std.specs.List.{flat_map, range_with_len, sum_by}
 use Rattle.std.specs.FinSet as set
 use Rattle.std.specs.Ordering.{is_lt}
 use Rattle.pmg_value.specs.declared.process.Proc.{Proc}
+use Rattle.pmg_value.specs.InOrder.{in_order}
 use Rattle.pmg_value.specs.Process.{proc_cmp}
 use Rattle.pmg_jobinfo.specs.Jobs.{Jobs, size_of}
 
@@ -34,3 +35,7 @@ meant jobs p = if is_all p then members p.nspace (size_of jobs p.nspace) else p 
 -- the set of those whom the list stands for
 unfoldable pub expansion : Jobs → List Proc → set.FinSet proc_cmp
 expansion jobs list = set.from_list (flat_map (meant jobs) list)
+
+-- the bytes that those whom the list stands for have in an array, each once: of each one of length, the namespace, and four of rank
+abbrev pub expansion_size : Jobs → List Proc → ℕ
+expansion_size jobs list = sum_by (λ p. length p.nspace + 5) (in_order (expansion jobs list))

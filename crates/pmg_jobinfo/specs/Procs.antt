@@ -7,7 +7,7 @@ use Rattle.pmg_value.specs.Process.{is_same_proc}
 use Rattle.pmg_scope.specs.declared.scope.Reach.{Reach}
 use Rattle.pmg_scope.specs.declared.scope.Reach.TheVariants as reach
 use Rattle.pmg_jobinfo.specs.Expansion.{ranks}
-use Rattle.pmg_jobinfo.specs.Jobs.{Jobs, Spaces, home_of}
+use Rattle.pmg_jobinfo.specs.Jobs.{Jobs, home_of}
 use Rattle.pmg_jobinfo.specs.Reserved.{ranks_at}
 
 -- the processes of these ranks of the namespace

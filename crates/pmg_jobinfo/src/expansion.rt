@@ -1,5 +1,5 @@
 //! The processes that a list of processes stands for.
-ghost use Rattle.std.specs.Prelude.{◌≡◌, ◌||◌, ◌==◌, not, ℕ, map, length, IfOk, OnOk, IsTrue};
+ghost use Rattle.std.specs.Prelude.{◌≡◌, ◌≤◌, ◌||◌, ◌==◌, not, ℕ, map, length, IfOk, OnOk, IsTrue};
 ghost use Rattle.std.specs.List.{list_any};
 ghost use Rattle.std.specs.FinSet as set;
 ghost use Rattle.std.specs.Ordering.{eq_by_cmp};
@@ -99,8 +99,9 @@ impl Registry {
     }
 
     /// How many processes the namespace has, 0 where it is not registered.
-    fn count(&self, nspace: &Nspace) -> u32
-        ensures { result ≡ size_of self.now nspace.now }
+    pub(crate) fn count(&self, nspace: &Nspace) -> u32
+        ensures value { result ≡ size_of self.now nspace.now }
+        ensures bound { result ≤ 4096 }
     {
         match self.homes(nspace) {
             Some(homes) => homes.len() as u32,

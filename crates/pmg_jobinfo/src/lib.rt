@@ -4,11 +4,12 @@
 mod expansion;
 mod homes;
 mod laws;
+mod meant;
 mod names;
 mod registry;
 mod reserved;
 
-pub use laws::expansion_rules;
+pub use laws::{expansion_rules, home_rules};
 pub use registry::{MAX_NODES, MAX_RANKS, MAX_SPACES, Registry};
 pub use reserved::ReservedKey;
 

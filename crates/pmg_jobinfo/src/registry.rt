@@ -193,17 +193,17 @@ impl Registry {
     pub fn is_home(&self, node: NodeId, proc: &Proc) -> bool
         ensures { result ≡ (home_of self.now proc.now == node) }
     {
-        self.home_index(proc) == node.index()
+        self.home_of(proc) == node
     }
 
-    /// The index of the process's home.
-    fn home_index(&self, proc: &Proc) -> u32
+    /// The process's home. It is node 0 for one that is none of its namespace, or of one that is not registered.
+    pub fn home_of(&self, proc: &Proc) -> NodeId
         ensures { result ≡ home_of self.now proc.now }
     {
         let rank = proc.rank.number() as usize;
         match self.homes(&proc.nspace) {
-            Some(homes) if rank < homes.len() => homes[rank].index(),
-            _ => 0,
+            Some(homes) if rank < homes.len() => homes[rank],
+            _ => NodeId::new(0).unwrap(),
         }
     }
 
@@ -237,7 +237,7 @@ impl Registry {
     {
         if reader == target {
             Reach::Own
-        } else if self.home_index(reader) == self.home_index(target) {
+        } else if self.home_of(reader) == self.home_of(target) {
             Reach::Near
         } else {
             Reach::Far

@@ -260,12 +260,18 @@ fn processes_have_homes(rt: HostRuntime) -> Result<(), Refusal> {
     Ok(())
 }
 
-// The ranks of the namespace j that these ranks stand for.
-fn expanded(alloc: Global, registry: &Registry, ranks: &[u32]) -> Result<Vec<u32>, Refusal> {
+// The processes of these ranks of the namespace j.
+fn listed(alloc: Global, ranks: &[u32]) -> Result<Vec<Proc>, Refusal> {
     let mut list = again!(Vec::with_capacity(alloc, ranks.len()).map_err(Refusal::from))?;
     for rank in ranks {
         list.push(process(alloc, b"j", *rank)?)?;
     }
+    Ok(list)
+}
+
+// The ranks of the namespace j that these ranks stand for.
+fn expanded(alloc: Global, registry: &Registry, ranks: &[u32]) -> Result<Vec<u32>, Refusal> {
+    let list = listed(alloc, ranks)?;
     let procs = again!(registry.expand(&list))?;
     let mut found = again!(Vec::with_capacity(alloc, procs.len()).map_err(Refusal::from))?;
     for proc in &procs {
@@ -289,6 +295,35 @@ fn lists_are_expanded(rt: HostRuntime) -> Result<(), Refusal> {
         let found = expanded(alloc, &registry, ranks)?;
         assert!(rt; found.as_slice() == want);
     }
+    Ok(())
+}
+
+// How many processes the list stands for, and how many bytes they have; nothing where they are too many.
+fn measured(registry: &Registry, list: &[Proc]) -> Option<(usize, usize)> {
+    let count = registry.count_meant(list);
+    if count > 4096 {
+        return None;
+    }
+    Some((count, registry.size_meant(list)))
+}
+
+#[test]
+fn lists_are_measured_without_memory(rt: HostRuntime) -> Result<(), Refusal> {
+    let alloc = rt.alloc();
+    let registry = three_processes(alloc)?;
+    let cases: [(&[u32], usize, usize, bool); 4] = [
+        (&[], 0, 0, false),
+        (&[2, 0, 2], 2, 12, false),
+        (&[1, WILDCARD, 1, WILDCARD], 3, 18, true),
+        (&[1, WILDCARD, 7], 4, 24, true),
+    ];
+    let second = process(alloc, b"j", 1)?;
+    for (ranks, count, size, is_meant) in cases {
+        let list = listed(alloc, ranks)?;
+        assert!(rt; measured(&registry, &list) == Some((count, size)));
+        assert!(rt; registry.is_meant(&list, &second) == is_meant);
+    }
+    assert!(rt; registry.home_of(&second).index() == 1);
     Ok(())
 }
 

@@ -1,3 +1,4 @@
+pub mod MeasureLemmas
 pub mod MemberLemmas
 pub mod OrderLemmas
 pub mod RuleLemmas

@@ -1,5 +1,5 @@
 -- Where each call of the sets has a cause to be refused. The causes are looked for in the order of all calls.
-use Rattle.std.specs.Prelude.{ℕ, Bool, false, ◌||◌, ◌==◌, not, nat_lt, nat_le, List, length, Result, Ok, Err, if◌then◌else◌}
+use Rattle.std.specs.Prelude.{◌≡◌, ◌≤◌, ℕ, Bool, false, ◌||◌, ◌==◌, not, nat_lt, nat_le, List, length, Result, Ok, Err, if◌then◌else◌}
 use Rattle.std.specs.List.{list_all}
 use Rattle.pmg_value.specs.declared.process.Proc.{Proc}
 use Rattle.pmg_value.specs.declared.refusal.Refusal.{Refusal}
@@ -34,6 +34,19 @@ define_cause z name list refusals.BadParam = is_reserved name || are_unfit list
 define_cause z name list refusals.Exists = is_live z name
 define_cause z name list refusals.TooMany = are_too_many (each_once list) || is_too_much z name (proc_bytes (each_once list))
 define_cause z name list _ = false
+
+-- what is left to look for once the members are known, each once and in their order: there is no set of that name; and the
+-- members, and all sets together, stay within the limits
+abbrev pub room_cause : Sealed → List ℕ → List Proc → Refusal → Bool
+room_cause z name procs refusals.Exists = is_live z name
+room_cause z name procs refusals.TooMany = are_too_many procs || is_too_much z name (proc_bytes procs)
+room_cause z name procs _ = false
+
+-- The processes are of that number and their array of that many canonical bytes, as far as it matters: of more than a set
+-- may have neither needs to be told.
+pub record AreMeasured (procs : List Proc) (count size : ℕ) : Type 0 where
+  pub number : nat_lt 4096 count ≡ nat_lt 4096 (length procs)
+  pub bytes : length procs ≤ 4096 → size ≡ length (proc_bytes procs)
 
 -- the next commit's number would be the one that is kept for an end
 abbrev pub is_full : Sealed → Bool

@@ -1,5 +1,5 @@
 //! The process sets of a group.
-ghost use Rattle.std.specs.Prelude.{◌≡◌, ◌≤◌, suc, List, [], ◌∷◌, ◌++◌, Ok, IfOk, OnOk, OnErr, IfSome};
+ghost use Rattle.std.specs.Prelude.{◌≡◌, ◌≤◌, ◌||◌, not, suc, List, [], ◌∷◌, ◌++◌, Ok, IfOk, OnOk, OnErr, IfSome};
 ghost use Rattle.std.specs.Option.{option_map};
 ghost use Rattle.std.specs.Result.{result_map_both};
 ghost use Rattle.pmg_value.specs.Answers.{Gives};
@@ -12,13 +12,13 @@ ghost use Rattle.pmg_commit.specs.SealerRules.{FitsSealer};
 ghost use Rattle.pmg_commit.specs.TakenBack.{sealer_back};
 ghost use Rattle.pmg_pset.specs.Changes.{Change, definition, deletion, script_of};
 ghost use Rattle.pmg_pset.specs.Members.{each_once, proc_bytes, no_members};
-ghost use Rattle.pmg_pset.specs.Refusing.{define_cause, delete_cause, members_cause, change_answer};
+ghost use Rattle.pmg_pset.specs.Refusing.{AreMeasured, are_too_many, is_too_much, define_cause, room_cause, delete_cause, members_cause, change_answer};
 ghost use Rattle.pmg_pset.specs.Sets.{host, changed, live_at, live_names, members_at, AreSetsBack};
 
-use crate::members::{are_unfit, array_of, array_size, each_once, members_of};
+use crate::members::{MAX_MEMBERS, are_unfit, array_of, array_size, each_once, members_of};
 use pmg_commit::{Piece, Sealer, SealerBefore};
 use pmg_scope::{Batch, Reach};
-use pmg_value::{Array, HOST_NAME, Key, Nspace, Proc, Rank, Refusal, Value};
+use pmg_value::{Array, HOST_NAME, Key, MAX_VALUE_SIZE, Nspace, Proc, Rank, Refusal, Value};
 use std::alloc::{AllocError, Global};
 use std::marker::Model;
 
@@ -74,6 +74,19 @@ impl Sets {
             return Err(Refusal::Exists);
         }
         self.change(name, each_once(members))
+    }
+
+    /// Whether a set of that name can be defined whose members are so many, and their array so many canonical bytes long: for
+    /// whatever processes that holds of, as `put_set` is refused once they are known, as Exists and as TooMany. Of more than
+    /// 4,096 processes the number may be told as any that is more, and their size as any. It takes no memory.
+    pub fn can_define(&self, name: &Key, count: usize, size: usize) -> Result<(), Refusal>
+        ensures { (procs : List Proc) → AreMeasured procs count size → result ≡ first_of (room_cause self.now name.now procs) tt }
+    {
+        match self.live(name) {
+            Some(_) => Err(Refusal::Exists),
+            None if !self.has_room(name, count, size) => Err(Refusal::TooMany),
+            None => Ok(()),
+        }
     }
 
     /// Defines the set of these processes, and gives the number of the host's commit that tells of it. Refused as
@@ -150,10 +163,11 @@ impl Sets {
         Ok(names)
     }
 
-    /// What other servers take to learn of the changes from+1 to the level: a contribution of `pmix.host 0`. Refused as
-    /// BadParam where there is no such change, and as NoMemory.
+    /// What other servers take to learn of the changes from+1 to the level: a contribution of `pmix.host 0`, which is the
+    /// same for processes on its node. Refused as BadParam where there is no such change, and as NoMemory.
     pub fn piece_from(&self, from: u64) -> Result<Piece, Refusal>
-        ensures { Gives (λ p. p) result (piece_answer self.now from reach.Far) }
+        ensures value { Gives (λ p. p) result (piece_answer self.now from reach.Far) }
+        ensures near { Gives (λ p. p) result (piece_answer self.now from reach.Near) }
     {
         self.sealer.piece_of(from, Reach::Far)
     }
@@ -185,6 +199,14 @@ impl Sets {
             Some(put) => members_of(put),
             None => None,
         }
+    }
+
+    /// Whether a set of that name may have so many members, whose array is so many canonical bytes long.
+    fn has_room(&self, name: &Key, count: usize, size: usize) -> bool
+        ensures { (procs : List Proc) → AreMeasured procs count size
+            → result ≡ not (are_too_many procs || is_too_much self.now name.now (proc_bytes procs)) }
+    {
+        count <= MAX_MEMBERS && size <= MAX_VALUE_SIZE && self.sealer.can_seal_put(name, size)
     }
 
     /// Seals the array of these processes under the name, for all, and tells what there was before.

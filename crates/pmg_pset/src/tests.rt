@@ -100,6 +100,20 @@ fn a_set_is_defined_and_deleted(rt: HostRuntime) -> Result<(), Refusal> {
 }
 
 #[test]
+fn a_definition_is_judged_without_memory(rt: HostRuntime) -> Result<(), Refusal> {
+    let alloc = rt.alloc();
+    let mut sets = again!(Sets::new(alloc))?;
+    define(&mut sets, alloc, b"fast", &[0])?;
+    let fast = key_of(alloc, b"fast")?;
+    let slow = key_of(alloc, b"slow")?;
+    assert!(rt; sets.can_define(&fast, 1, 12) == Err(Refusal::Exists));
+    assert!(rt; sets.can_define(&slow, 1, 12) == Ok(()));
+    assert!(rt; sets.can_define(&slow, 4097, 12) == Err(Refusal::TooMany));
+    assert!(rt; sets.can_define(&slow, 4096, 1_048_577) == Err(Refusal::TooMany));
+    Ok(())
+}
+
+#[test]
 fn a_deleted_name_is_defined_again(rt: HostRuntime) -> Result<(), Refusal> {
     let alloc = rt.alloc();
     let mut sets = again!(Sets::new(alloc))?;

@@ -1,4 +1,4 @@
-use Rattle.std.proofs.Common.{nat_eq, sym, ◌∙◌}
+use Rattle.std.proofs.Common.{sym}
 use Rattle.std.specs.Cmp.Lexicographic.{pointwise_decides, bytes_decides}
 use Rattle.pmg_jobinfo.proofs.SpaceLemmas.{same_groups, other_groups}
 use Rattle.pmg_jobinfo.proofs.registry.Registry.is_same.Goals as goal

@@ -2,7 +2,7 @@ use Rattle.std.proofs.Common.{◌++◌, length, ap, ◌∙◌}
 use Rattle.std.specs.List.{flat_map}
 use Rattle.pmg_jobinfo.specs.Expansion.{ranks}
 use Rattle.pmg_jobinfo.specs.Jobs.{Jobs}
-use Rattle.pmg_jobinfo.specs.Procs.{procs_of, all_procs}
+use Rattle.pmg_jobinfo.specs.Procs.{procs_of}
 use Rattle.pmg_jobinfo.proofs.SpaceLemmas.{each_entry}
 use Rattle.pmg_jobinfo.proofs.registry.Registry.procs.Goals as goal
 
