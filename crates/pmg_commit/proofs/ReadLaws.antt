@@ -127,7 +127,7 @@ read-core k key =
     upto e f n h (inr b) = omega arith
 
 -- ---- the best of a list of entries is what is read
-abbrev IsBest : ℕ → List ℕ → List Entry → Option Entry → Type 0
+abbrev pub IsBest : ℕ → List ℕ → List Entry → Option Entry → Type 0
 IsBest n key es None = (f : Entry) → In f es → Readable n key f → ⊥
 IsBest n key es (Some e) = In e es × Readable n key e × ((f : Entry) → In f es → Readable n key f → Later e f → ⊥)
 
@@ -172,17 +172,20 @@ best_push n key es (Some e) x best =
       )
     ] refl
 
-best_of_all : (n : ℕ) (key : List ℕ) (es xs : List Entry) (o : Option Entry) → IsBest n key es o → IsBest n key (es ++ xs) (fold (best_of_two n key) o xs)
+pub best_of_all : (n : ℕ) (key : List ℕ) (es xs : List Entry) (o : Option Entry) → IsBest n key es o → IsBest n key (es ++ xs) (fold (best_of_two n key) o xs)
 best_of_all n key es [] o best = subst (λ l. IsBest n key l o) (sym (append-nil es)) best
 best_of_all n key es (x ∷ xs) o best =
     subst (λ l. IsBest n key l (fold (best_of_two n key) (best_of_two n key o x) xs)) (append_assoc es (x ∷ []) xs)
     (best_of_all n key (es ++ x ∷ []) xs (best_of_two n key o x) (best_push n key es o x best))
 
+-- the best of entries of k, among which are all that can be read, is what is read
+pub best_read : (k : Knowledge) (key : List ℕ) (es : List Entry) → ((e : Entry) → Has k e → Readable (level k.numbers) key e → In e es) → ((e : Entry) → In e es → Has k e)
+    → (o : Option Entry) → IsBest (level k.numbers) key es o → option_map (λ e. e.bytes) o ≡ read k key
+best_read k key es there back None best = sym (read_none k key (λ e h r. best e (there e h r) r))
+best_read k key es there back (Some e) best = sym (read_latest k key e (record { has = back e best.0; readable = best.1; last = λ f h r l. best.2 f (there f h r) r l }))
+
 -- es are the entries of k
 pub read_best : (k : Knowledge) (key : List ℕ) (es : List Entry) → ((e : Entry) → Has k e → In e es) → ((e : Entry) → In e es → Has k e)
     → option_map (λ e. e.bytes) (fold (best_of_two (level k.numbers) key) None es) ≡ read k key
-read_best k key es there back = by_best (fold (best_of_two (level k.numbers) key) None es) (best_of_all (level k.numbers) key [] es None (λ f i r. i))
-  where
-    by_best : (o : Option Entry) → IsBest (level k.numbers) key es o → option_map (λ e. e.bytes) o ≡ read k key
-    by_best None best = sym (read_none k key (λ e h r. best e (there e h) r))
-    by_best (Some e) best = sym (read_latest k key e (record { has = back e best.0; readable = best.1; last = λ f h r l. best.2 f (there f h) r l }))
+read_best k key es there back =
+    best_read k key es (λ e h r. there e h) back (fold (best_of_two (level k.numbers) key) None es) (best_of_all (level k.numbers) key [] es None (λ f i r. i))

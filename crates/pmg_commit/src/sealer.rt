@@ -90,6 +90,13 @@ impl Sealer {
         self.level
     }
 
+    /// Whether the process has ended.
+    pub fn has_ended(&self) -> bool
+        ensures { result ≡ self.now.ended }
+    {
+        self.ended
+    }
+
     /// Makes the next commit, which seals the batch, and tells what there was before, by which it can be taken back (PMIx
     /// Standard 5.0, PMIx_Commit). An empty batch takes a number too. Refused as TooMany where the commit's number would be
     /// 4294967295, which is kept for the end, or after the end; where for one reach there would be more than 65535 keys,

@@ -51,3 +51,11 @@ module _ {K X : Type 0} {R : K → K → Ordering} (whole : finite.FinMap proc_c
   -- and where it has nothing
   pub changed_none : (f : finite.FinMap R X → finite.FinMap R X) → finite.get whole p ≡ None → whole ≡ cond (finite.contains_key whole p) (finite.insert whole p (f inner)) whole
   changed_none f is = sym (ap (λ (o : Option (finite.FinMap R X)). cond (is_some o) (finite.insert whole p (f inner)) whole) is)
+
+  -- nothing stands under a key where the process has nothing
+  pub none_there : (k : K) → finite.get whole p ≡ None → finite.get inner k ≡ None
+  none_there k is = ap (λ (o : Option (finite.FinMap R X)). finite.get (unwrap_or o finite.empty) k) is ∙ finite.get-empty R k
+
+  -- what stands under a key where the process has something
+  pub some_there : (k : K) (there : finite.FinMap R X) → finite.get whole p ≡ Some there → finite.get there k ≡ None → finite.get inner k ≡ None
+  some_there k there is none = ap (λ (o : Option (finite.FinMap R X)). finite.get (unwrap_or o finite.empty) k) is ∙ none

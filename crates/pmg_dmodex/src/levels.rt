@@ -1,5 +1,5 @@
 //! Levels by node, and by process and node.
-ghost use Rattle.std.specs.Prelude.{◌≡◌, IfOk, OnOk, OnErr};
+ghost use Rattle.std.specs.Prelude.{◌≡◌, None, IfOk, OnOk, OnErr};
 ghost use Rattle.std.specs.FinMap as finite;
 ghost use Rattle.std.specs.Option.{option_map};
 ghost use Rattle.pmg_dmodex.specs.Levels.{below, level_at, levels_of, not_below, with_level, without_below};
@@ -49,6 +49,7 @@ impl NodeLevels {
     fn set(&mut self, node: NodeId, level: u64) -> Result<(), AllocError>
         ensures ok { OnOk result (self.new ≡ finite.insert self.old node level) }
         ensures err { OnErr result (self.new ≡ self.old) }
+        ensures absent { OnErr result (finite.get self.old node ≡ None) }
     {
         self.rows.insert(node, level)?;
         Ok(())
@@ -130,10 +131,12 @@ impl Levels {
         }
     }
 
-    /// Sets the process's level at the node. Where an allocation fails, nothing changes.
+    /// Sets the process's level at the node. Where an allocation fails, nothing changes; none is made where there is a
+    /// level.
     pub fn set(&mut self, proc: &Proc, node: NodeId, level: u64) -> Result<(), AllocError>
         ensures ok { OnOk result (self.new ≡ with_level self.old proc.now node level) }
         ensures err { OnErr result (self.new ≡ self.old) }
+        ensures absent { OnErr result (level_at self.old proc.now node ≡ None) }
     {
         if let Some(levels) = self.rows.get_mut(proc) {
             return levels.set(node, level);

@@ -1,5 +1,5 @@
 //! What was sent to whom.
-ghost use Rattle.std.specs.Prelude.{◌≡◌, IfOk, OnOk, OnErr};
+ghost use Rattle.std.specs.Prelude.{◌≡◌, None, IfOk, OnOk, OnErr};
 ghost use Rattle.std.specs.FinMap as finite;
 ghost use Rattle.std.specs.Option.{unwrap_or};
 ghost use Rattle.pmg_dmodex.specs.Levels.{level_at, with_level};
@@ -40,14 +40,22 @@ impl Marks {
     pub fn from(&self, node: NodeId, proc: &Proc) -> u64
         ensures { result ≡ unwrap_or (level_at self.now proc.now node) 0 }
     {
-        self.levels.get(proc, node).unwrap_or(0)
+        self.get(node, proc).unwrap_or(0)
+    }
+
+    /// The mark of the node for the process, if it was set.
+    pub fn get(&self, node: NodeId, proc: &Proc) -> Option<u64>
+        ensures { result ≡ level_at self.now proc.now node }
+    {
+        self.levels.get(proc, node)
     }
 
     /// Sets the mark of the node for the process, upwards or downwards. All other marks stay. Where an allocation
-    /// fails, nothing changes.
+    /// fails, nothing changes; none is made where the mark was set before.
     pub fn set(&mut self, node: NodeId, proc: &Proc, level: u64) -> Result<(), AllocError>
         ensures ok { OnOk result (self.new ≡ with_level self.old proc.now node level) }
         ensures err { OnErr result (self.new ≡ self.old) }
+        ensures absent { OnErr result (level_at self.old proc.now node ≡ None) }
     {
         self.levels.set(proc, node, level)
     }

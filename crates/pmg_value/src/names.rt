@@ -2,6 +2,7 @@ ghost use Rattle.std.specs.Prelude.{◌≡◌, ◌&&◌, not, codes, length, IsT
 ghost use Rattle.std.specs.List.{list_all};
 ghost use Rattle.pmg_value.specs.Names.{is_graphic, is_printable, is_nspace, is_key, is_reserved};
 ghost use Rattle.pmg_value.specs.Answers.{Gives};
+ghost use Rattle.pmg_value.specs.Process.{host_name};
 ghost use Rattle.pmg_value.specs.declared.refusal.Refusal.TheVariants as refusals;
 
 use crate::refusal::Refusal;
@@ -91,6 +92,15 @@ pub fn is_reserved_name(name: &[u8]) -> bool
 }
 
 impl Nspace {
+    /// The namespace of the process that stands for the group's host, made without memory.
+    pub fn of_host() -> Nspace
+        ensures { result ≡ host_name }
+    {
+        Nspace {
+            name: Bytes::from_static(b"pmix.host"),
+        }
+    }
+
     /// Reads the name of a namespace that may be registered: it does not begin with `pmix`. Refused
     /// as BadParam where the bytes are no such name, and as NoMemory.
     pub fn read(alloc: Global, name: &[u8]) -> Result<Nspace, Refusal>

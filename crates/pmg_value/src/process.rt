@@ -1,5 +1,5 @@
 ghost use Rattle.std.specs.Prelude.{◌≡◌, ◌≤◌, nat_le, if◌then◌else◌, IfOk};
-ghost use Rattle.pmg_value.specs.Process.{is_undef, is_wildcard, is_client, is_host, can_commit};
+ghost use Rattle.pmg_value.specs.Process.{is_undef, is_wildcard, is_client, is_host, can_commit, host_name};
 ghost use Rattle.pmg_value.specs.declared.refusal.Refusal.TheVariants as refusals;
 
 use crate::names::Nspace;
@@ -87,6 +87,14 @@ impl Proc {
         ensures rank { result.rank ≡ rank }
     {
         Proc { nspace, rank }
+    }
+
+    /// The process `pmix.host 0`, which stands for the group's host, made without memory.
+    pub fn of_host() -> Proc
+        ensures nspace { result.nspace ≡ host_name }
+        ensures rank { result.rank ≡ 0 }
+    {
+        Proc::new(Nspace::of_host(), Rank::new(0))
     }
 
     /// Whether a group may register the process: the namespace does not begin with `pmix`, and the rank

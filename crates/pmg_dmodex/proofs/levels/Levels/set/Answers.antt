@@ -1,12 +1,12 @@
 use Rattle.std.proofs.Common.{ap, ◌∙◌, sym}
 use Rattle.std.specs.FinMap as finite
-use Rattle.std.proofs.lemmas.Result.{on_ok_weaker, on_err_weaker}
+use Rattle.std.proofs.lemmas.Result.{on_ok_weaker, on_err_weaker, err_from_is_err_and}
 use Rattle.pmg_value.specs.Process.{proc_cmp}
 use Rattle.pmg_value.specs.Rows.{map_of}
 use Rattle.pmg_value.proofs.ProcessOrder.{procs_total, exact_procs}
 use Rattle.pmg_value.proofs.RowLemmas.{at_key, found_is, some_found, rows_with}
 use Rattle.pmg_dmodex.specs.Levels.{NodeLevels}
-use Rattle.pmg_dmodex.proofs.InnerLemmas.{kept_is, put_there, put_same, set_there, set_first}
+use Rattle.pmg_dmodex.proofs.InnerLemmas.{kept_is, put_there, put_same, set_there, set_first, none_there, some_there}
 use Rattle.pmg_dmodex.proofs.levels.Levels.set.Goals as goal
 
 pub returns-in-Some-clause-ok : goal.returns-in-Some-clause-ok
@@ -41,3 +41,25 @@ returns-clause-ok c =
     (rows_with procs_total exact_procs (λ (m : NodeLevels). m) c.get_mut.follows.lender-at-none.entries c.insert.new.self.entries c.in_ok-copy.field-0 first c.in_ok-insert.ensures.updates.0
     ∙ ap (λ a. finite.insert (map_of a.entries) c.in_ok-copy.field-0 first) c.get_mut.follows.holds-at-none
     ∙ (λ i. finite.insert (c.self.view_is i) (c.in_ok-copy.ensures i) first))
+
+pub returns-in-Some-clause-absent : goal.returns-in-Some-clause-absent
+returns-in-Some-clause-absent c =
+    let old = c.self.inside.rows.entries in
+    let p = c.args.proc.now in
+    let there = found_is c.get_mut.result c.in-Some.levels (at_key proc_cmp p old) c.in-Some.is c.get_mut.ensures.value in
+    on_err_weaker c.set.result (some_there c.args.self.now p c.args.node c.in-Some.levels.now (kept_is old c.args.self.now p c.self.view_is _ there)) c.set.ensures.absent
+
+pub returns-in_err-set-clause-absent : goal.returns-in_err-set-clause-absent
+returns-in_err-set-clause-absent c =
+    let p = err_from_is_err_and c.from_residual.result c.from_residual.ensures.1 in
+    rw p.1 (none_there c.args.self.now c.args.proc.now c.args.node (kept_is c.self.inside.rows.entries c.args.self.now c.args.proc.now c.self.view_is _ (sym c.in_default.ensures.value)))
+
+pub returns-in_err-copy-clause-absent : goal.returns-in_err-copy-clause-absent
+returns-in_err-copy-clause-absent c =
+    let p = err_from_is_err_and c.from_residual-in_err-copy.result c.from_residual-in_err-copy.ensures.1 in
+    rw p.1 (none_there c.args.self.now c.args.proc.now c.args.node (kept_is c.self.inside.rows.entries c.args.self.now c.args.proc.now c.self.view_is _ (sym c.in_default.ensures.value)))
+
+pub returns-in_err-insert-clause-absent : goal.returns-in_err-insert-clause-absent
+returns-in_err-insert-clause-absent c =
+    let p = err_from_is_err_and c.from_residual-in_err-insert.result c.from_residual-in_err-insert.ensures.1 in
+    rw p.1 (none_there c.args.self.now c.args.proc.now c.args.node (kept_is c.self.inside.rows.entries c.args.self.now c.args.proc.now c.self.view_is _ (sym c.in_default.ensures.value)))
