@@ -1,11 +1,22 @@
 //! Hexadecimal text.
-ghost use Rattle.std.specs.Prelude.{◌≡◌, IfOk, IfErr};
+ghost use Rattle.std.specs.Prelude.{◌≡◌, ◌≤◌, ◌++◌, ℕ, List, length, take, drop, IfOk, IfErr, IfSome};
 ghost use Rattle.std.specs.List.{position};
 ghost use Rattle.pmg_wire.specs.Reading.{FailsReading};
-ghost use Rattle.pmg_app.specs.Text.{is_blank, is_stray, digits_of, decoded};
+ghost use Rattle.hex.specs.Hex.{decode_of};
+ghost use Rattle.pmg_app.specs.Text.{is_blank, is_stray, digits_of, decoded, Spells};
 
 use pmg_value::{Cause, Fault, Refusal};
 use std::alloc::{AllocError, Global};
+
+/// The most digits that are decoded at once: those of a line.
+const LINE: usize = 64;
+
+/// A run of digits at the front of a text: the bytes that it spells, and how far it goes with the blank after it.
+#[derive(Drop)]
+struct Run {
+    bytes: Vec<u8>,
+    size: usize,
+}
 
 /// The bytes that hexadecimal text spells, two digits each, in either case. Blanks, tabs, CR and LF are
 /// ignored wherever they stand.
@@ -13,6 +24,17 @@ use std::alloc::{AllocError, Global};
 /// Refused as `BadFrame` with the cause Hex: at the end of the text where an odd number of its bytes is not
 /// ignored, else at the first of them that is no digit. `NoMemory` where memory was wanted and not given.
 pub fn decode_text(alloc: Global, text: &[u8]) -> Result<Vec<u8>, Refusal>
+    ensures bytes { IfOk result (λ bytes. decoded text.now ≡ Ok bytes.items) }
+    ensures fault { IfErr result (λ refusal. FailsReading refusal (decoded text.now)) }
+{
+    match decode_runs(alloc, text)? {
+        Some(bytes) => Ok(bytes),
+        None => decode_digits(alloc, text),
+    }
+}
+
+/// What `decode_text` answers, found by the digits of the whole text.
+fn decode_digits(alloc: Global, text: &[u8]) -> Result<Vec<u8>, Refusal>
     ensures bytes { IfOk result (λ bytes. decoded text.now ≡ Ok bytes.items) }
     ensures fault { IfErr result (λ refusal. FailsReading refusal (decoded text.now)) }
 {
@@ -27,6 +49,58 @@ pub fn decode_text(alloc: Global, text: &[u8]) -> Result<Vec<u8>, Refusal>
             None => Err(Refusal::NoMemory),
         },
     }
+}
+
+/// The bytes of a text without a fault whose digits stand in runs of even length; of another text none.
+fn decode_runs(alloc: Global, text: &[u8]) -> Result<Option<Vec<u8>>, AllocError>
+    ensures { IfOk result (λ found. IfSome found (λ bytes. decoded text.now ≡ Ok bytes.items)) }
+{
+    let mut bytes = Vec::with_capacity(alloc, text.len() / 2)?;
+    let mut at = 0;
+    while at < text.len() {
+        match first_run(alloc, &text[at..]) {
+            Some(run) if run.size > 0 => {
+                bytes.extend_from_slice(&run.bytes)?;
+                at += run.size;
+            }
+            _ => return Ok(None),
+        }
+    }
+    Ok(Some(bytes))
+}
+
+/// The first run of digits, or as much of it as a line has.
+fn first_run(alloc: Global, text: &[u8]) -> Option<Run>
+    ensures within { IfSome result (λ run. run.size ≤ length text.now) }
+    ensures spells { IfSome result (λ run. (more : List ℕ) → Spells (drop run.size text.now) more
+        → Spells text.now (run.bytes.items ++ more)) }
+{
+    let line = text.len().min(LINE);
+    if let Ok(bytes) = hex::decode(alloc, &text[..line]) {
+        return Some(run_of(text, bytes, line));
+    }
+    let size = text[..line].iter().position(|byte| is_blank(*byte))?;
+    match hex::decode(alloc, &text[..size]) {
+        Ok(bytes) => Some(run_of(text, bytes, size)),
+        Err(_) => None,
+    }
+}
+
+/// The run of that length at the front of the text, which spells these bytes, with a blank after it.
+fn run_of(text: &[u8], bytes: Vec<u8>, size: usize) -> Run
+    requires within { size ≤ length text.now }
+    requires decodes { decode_of (take size text.now) ≡ Ok bytes.items }
+    ensures within { result.size ≤ length text.now }
+    ensures spells { (more : List ℕ) → Spells (drop result.size text.now) more
+        → Spells text.now (result.bytes.items ++ more) }
+{
+    if size < text.len() && is_blank(text[size]) {
+        return Run {
+            bytes,
+            size: size + 1,
+        };
+    }
+    Run { bytes, size }
 }
 
 fn hex_fault(offset: usize) -> Refusal

@@ -1,7 +1,7 @@
 use Rattle.std.proofs.Common.{◌≡◌, ◌%◌, length, rules, sym}
 use Rattle.pmg_app.specs.Text.{digits_of}
 use Rattle.pmg_app.proofs.TextLemmas.{odd_text, stray_text, clean_text}
-use Rattle.pmg_app.proofs.text.decode_text.Goals as goal
+use Rattle.pmg_app.proofs.text.decode_digits.Goals as goal
 
 pub returns-then-len-eq1-clause-fault : goal.returns-then-len-eq1-clause-fault
 returns-then-len-eq1-clause-fault c =
