@@ -5,7 +5,7 @@ use pmg_value::{NodeId, Nspace, Proc, Rank, Refusal};
 use std::alloc::Global;
 
 /// The participants of each fence: half of them at each of two nodes.
-pub const PARTICIPANTS: u32 = 32;
+const PARTICIPANTS: u32 = 32;
 
 /// How many of them are at home at node 0.
 const FIRST_HALF: u32 = 16;

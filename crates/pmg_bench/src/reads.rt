@@ -1,0 +1,100 @@
+use pmg_commit::{Piece, PieceEntry};
+use pmg_publish::{Publisher, Viewer, publisher};
+use pmg_store::Board;
+use pmg_value::{Key, Nspace, Proc, Rank, Refusal, Value};
+use std::alloc::{AllocError, Global};
+use std::sync::{Mutex, Wait};
+
+/// The processes that are read, of one key each.
+const PROCESSES: u32 = 100;
+
+/// What is read, of whom, and the pieces that say it.
+#[derive(Drop)]
+struct Asked {
+    key: Key,
+    procs: Vec<Proc>,
+    pieces: Vec<Piece>,
+}
+
+/// Reads so often from what is published, by one viewer: how many reads found the value.
+pub fn read_published<R: Wait>(rt: &R, alloc: Global, count: u64) -> Result<u64, Refusal> {
+    let asked = make_asked(alloc)?;
+    let (mut publisher, mut viewers) = publisher(rt, alloc, 1)?;
+    let found = match viewers.pop() {
+        Some(viewer) => published_found(rt, &mut publisher, viewer, &asked, count),
+        None => Ok(0),
+    };
+    publisher.close(rt);
+    found
+}
+
+/// Publishes the pieces, and then reads.
+fn published_found<R: Wait>(
+    rt: &R,
+    publisher: &mut Publisher,
+    mut viewer: Viewer,
+    asked: &Asked,
+    count: u64,
+) -> Result<u64, Refusal> {
+    publisher.publish(rt, &asked.pieces, &asked.pieces)?;
+    let mut found = 0_u64;
+    for number in 0..count {
+        if let Some(proc) = asked.procs.get((number % 100) as usize) {
+            let sight = viewer.read(proc, &asked.key)?;
+            found = found.wrapping_add(u64::from(sight.far.is_some()));
+        }
+    }
+    Ok(found)
+}
+
+/// Reads so often from a board under a lock, what a viewer reads: how many reads found the value.
+pub fn read_locked<R: Wait>(rt: &R, alloc: Global, count: u64) -> Result<u64, Refusal> {
+    let asked = make_asked(alloc)?;
+    let mut board = Board::new(alloc);
+    board.absorb_all(&asked.pieces, &asked.pieces)?;
+    let locked = Mutex::new(board);
+    let mut found = 0_u64;
+    for number in 0..count {
+        if let Some(proc) = asked.procs.get((number % 100) as usize) {
+            let board = locked.lock(rt);
+            found = found.wrapping_add(u64::from(is_found(&board, proc, &asked.key)?));
+        }
+    }
+    Ok(found)
+}
+
+/// Whether there is a far value, once what a viewer reads is copied.
+fn is_found(board: &Board, proc: &Proc, key: &Key) -> Result<bool, AllocError> {
+    let near = copy_of(board.near().read(proc, key))?;
+    let far = copy_of(board.far().read(proc, key))?;
+    let ended = board.near().has_ended(proc) || board.far().has_ended(proc);
+    Ok(far.is_some() && near.is_some() && !ended)
+}
+
+/// A copy of the value, if there is one.
+fn copy_of(value: Option<&Value>) -> Result<Option<Value>, AllocError> {
+    match value {
+        Some(value) => Ok(Some(value.copy()?)),
+        None => Ok(None),
+    }
+}
+
+/// The processes of one namespace, and of each a commit of the key with a string.
+fn make_asked(alloc: Global) -> Result<Asked, Refusal> {
+    let nspace = Nspace::read(alloc, b"job")?;
+    let key = Key::read(alloc, b"addr")?;
+    let mut procs = Vec::new(alloc);
+    let mut pieces = Vec::new(alloc);
+    for rank in 0..PROCESSES {
+        let proc = Proc::new(nspace.copy()?, Rank::new(rank));
+        let mut entries = Vec::new(alloc);
+        entries.push(PieceEntry {
+            key: key.copy()?,
+            number: 1,
+            value: Value::string(alloc, b"tcp://10.0.0.1:40000")?,
+        })?;
+        pieces.push(Piece::new(proc.copy()?, 0, 1, entries)?)?;
+        procs.push(proc)?;
+    }
+    Ok(Asked { key, procs, pieces })
+}

@@ -1,0 +1,4 @@
+pub mod Prefixes
+pub mod Adding
+pub mod Steps
+pub mod Crossing

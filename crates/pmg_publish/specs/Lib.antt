@@ -1,0 +1,5 @@
+pub mod Publications
+pub mod Counting
+pub mod Boards
+pub mod Rule
+pub mod Sights

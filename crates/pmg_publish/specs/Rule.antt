@@ -1,0 +1,34 @@
+-- The rule over what is shown and what each place knows of it: lists alone.
+use Rattle.std.specs.Prelude.{ℕ, ◌≡◌, true, false, List, []}
+use mathlib.Core.Option.{some}
+use mathlib.Core.List.{IsPrefix}
+use lib.ListN.{get_elem?}
+use Rattle.logbook.specs.Pages.{Book}
+use Rattle.pmg_publish.specs.declared.rule.Known.{Known}
+use Rattle.pmg_publish.specs.declared.shown.Shown.{Shown}
+use Rattle.pmg_publish.specs.Publications.{Publications}
+use Rattle.pmg_publish.specs.Boards.{IsMade}
+
+-- a new place, which knows of no list
+abbrev pub unnamed : Known
+unnamed = record { live = false; history = record { book = record { number = 0; log_name = 0; cells_name = 0 }; log = [] } }
+
+-- a place that knows this much of its list
+abbrev pub knowing : Publications → Known
+knowing h = record { live = true; history = h }
+
+-- the place is live, and of this list
+abbrev pub IsOf : Book → Known → Type 0
+IsOf b v = (v.live ≡ true) × (v.history.book ≡ b)
+
+-- where the place is live, it knows a prefix of the list of what is shown
+abbrev pub Below : Shown → Known → Type 0
+Below x v = v.live ≡ true → (v.history.book ≡ x.history.book) × IsPrefix v.history.log x.history.log
+
+-- what is shown is what its list makes, and each live place knows a prefix of that list
+abbrev pub Keeps : Shown → List Known → Type 0
+Keeps x views = IsMade x × ((seat : ℕ) (v : Known) → get_elem? views seat ≡ some v → Below x v)
+
+-- what is shown afterwards is what its list makes; the list begins with what the place knew, which now knows all of it
+abbrev pub Sees : Known → Shown → Shown → Known → Type 0
+Sees v x y w = Below y v × IsMade y × (w ≡ knowing y.history)

@@ -1,0 +1,173 @@
+ghost use Rattle.std.specs.Prelude.{◌≡◌, ◌↔◌, ◌∷◌, ◌++◌, [], true, false, IsTrue, IsOk, IsOkUnless, OnOk, OnErr, IfSome, MatchBool};
+ghost use Rattle.std.specs.Prelude.{drop as after};
+ghost use mathlib.Core.List.{IsPrefix};
+ghost use Rattle.left_right.specs.Sides.{view as known_at};
+ghost use Rattle.pmg_value.specs.declared.refusal.Refusal.TheVariants as refusals;
+ghost use Rattle.pmg_publish.specs.Counting.{counter_of};
+ghost use Rattle.pmg_publish.specs.Publications.{publication};
+ghost use Rattle.pmg_publish.specs.Rule.{IsOf};
+
+use crate::counting::Counter;
+use crate::history::History;
+use crate::parts::Parts;
+use crate::rule::{InOneList, Known, Sees};
+use crate::shown::{Issue, Shown};
+use crate::viewer::{Told, Viewer};
+use left_right::writer::Writer;
+use pmg_commit::Piece;
+use pmg_value::Refusal;
+use std::alloc::Global;
+use std::marker::Model;
+use std::mem;
+use std::sync::Wait;
+
+/// The writer of the two copies.
+pub(crate) type Desk = Writer<Shown, Issue, Known, InOneList>;
+
+/// The one who publishes. Contracts see whether it is open, and the list of its publications. It is not dropped: end it by
+/// `close`.
+pub struct Publisher {
+    alloc: Global,
+    is_open: bool,
+    writer: Option<Desk>,
+    counter: Counter,
+    history: History,
+}
+
+impl Model for Publisher {
+    ghost use Rattle.std.specs.Prelude.{◌≡◌, [], true, IfSome};
+    ghost use Rattle.std.specs.Prelude.{drop as after};
+    ghost use Rattle.left_right.specs.Sides.{view as known_at};
+    ghost use Rattle.pmg_publish.specs.Publications.{Published};
+    ghost use Rattle.pmg_publish.specs.Counting.{counter_of};
+    ghost use Rattle.pmg_publish.specs.Rule.{IsOf};
+
+    ghost Value = { Published };
+
+    ghost view = { λ p. record { is_open = p.is_open; book = p.history.book; log = p.history.log } };
+
+    ghost invariant = { λ p. (p.counter ≡ counter_of p.history.book)
+        × IfSome p.writer (λ w. IsOf p.history.book (known_at w.desk.place)
+        × (p.is_open ≡ true → (w.desk.shown.value.history ≡ p.history) × (after w.behind w.log.items ≡ []))) };
+}
+
+impl Publisher {
+    /// A publisher of this list, by this writer, which shows it.
+    pub(crate) fn new(alloc: Global, writer: Desk, counter: Counter, history: History) -> Publisher
+        requires counter { counter ≡ counter_of history.book }
+        requires place { IsOf history.book (known_at writer.desk.place) }
+        requires shown { writer.desk.shown.value.history ≡ history }
+        requires pending { after writer.behind writer.log.items ≡ [] }
+        ensures { result ≡ record { is_open = true; book = history.book; log = history.log } }
+    {
+        Publisher {
+            alloc,
+            is_open: true,
+            writer: Some(writer),
+            counter,
+            history,
+        }
+    }
+
+    /// Shows viewers the board with these pieces too, all of them at once, as the next publication of its list. It waits for
+    /// those who still read the board before the last. NoMemory closes the publisher: what was published stands, and every
+    /// later call is Closed.
+    pub fn publish<R: Wait>(&mut self, rt: &R, near: &[Piece], far: &[Piece]) -> Result<(), Refusal>
+        ensures book { self.new.book ≡ self.old.book }
+        ensures ok { OnOk result (self.new.log ≡ self.old.log ++ publication near.now far.now ∷ []) }
+        ensures open { IsTrue self.new.is_open ↔ IsOk result }
+        ensures err { OnErr result (self.new.log ≡ self.old.log) }
+        ensures closed { self.old.is_open ≡ false → result ≡ Err refusals.Closed }
+        ensures memory { self.old.is_open ≡ true → IsOkUnless result refusals.NoMemory }
+    {
+        if !self.is_open {
+            return Err(Refusal::Closed);
+        }
+        let Some(issue) = self.issue_of(near, far) else {
+            self.is_open = false;
+            return Err(Refusal::NoMemory);
+        };
+        self.show(rt, issue)
+    }
+
+    /// The next publication of the list; none where an allocation fails.
+    fn issue_of(&self, near: &[Piece], far: &[Piece]) -> Option<Issue>
+        ensures near { IfSome result (λ i. i.parts.near.items ≡ near.now) }
+        ensures far { IfSome result (λ i. i.parts.far.items ≡ far.now) }
+        ensures book { IfSome result (λ i. i.history.book ≡ self.now.book) }
+        ensures log { IfSome result (λ i. i.history.log ≡ self.now.log ++ publication near.now far.now ∷ []) }
+    {
+        let parts = Parts::copies_of(self.alloc, near, far).ok()?;
+        let history = self.history.extended(&self.counter, &parts)?;
+        Some(Issue { parts, history })
+    }
+
+    /// Shows the board with what is issued; the publisher is closed where an allocation fails.
+    fn show<R: Wait>(&mut self, rt: &R, issue: Issue) -> Result<(), Refusal>
+        requires open { self.old.is_open ≡ true }
+        requires book { issue.history.book ≡ self.old.book }
+        requires log { issue.history.log ≡ self.old.log ++ publication issue.parts.near.items issue.parts.far.items ∷ [] }
+        ensures ok { OnOk result (self.new ≡ record self.old { log = issue.history.log }) }
+        ensures err { OnErr result (self.new ≡ record self.old { is_open = false }) }
+        ensures memory { IsOkUnless result refusals.NoMemory }
+    {
+        self.is_open = false;
+        let history = issue.history.again();
+        let Some(mut writer) = self.writer.take() else {
+            return Err(Refusal::NoMemory);
+        };
+        if let Err(_) = writer.append(issue) {
+            put_back(&mut self.writer, writer, rt);
+            return Err(Refusal::NoMemory);
+        }
+        let (writer, shown) = writer.publish_as::<Sees, R>(rt);
+        put_back(&mut self.writer, writer, rt);
+        if shown.is_err() {
+            return Err(Refusal::NoMemory);
+        }
+        self.history = history;
+        self.is_open = true;
+        Ok(())
+    }
+
+    /// What was published so far. It tells nobody by itself: a viewer learns it.
+    pub fn tell(&self) -> Told
+        ensures { result ≡ record { book = self.now.book; log = self.now.log } }
+    {
+        Told {
+            history: self.history.again(),
+        }
+    }
+
+    /// Whether all that the viewer saw and was told of is published here, as it is in every run: where it is, the viewer's list
+    /// is a prefix of this one's, else the other way round.
+    pub fn has_published(&self, viewer: &Viewer) -> bool
+        requires { viewer.now.book ≡ self.now.book }
+        ensures { MatchBool result (IsPrefix viewer.now.log self.now.log) (IsPrefix self.now.log viewer.now.log) }
+    {
+        self.history.continues(viewer.history())
+    }
+
+    /// Ends the publisher. It waits for those who still read, and viewers are Closed from then on.
+    pub fn close<R: Wait>(self, rt: &R) {
+        let Publisher {
+            alloc: _,
+            is_open: _,
+            writer,
+            counter: _,
+            history: _,
+        } = self;
+        if let Some(writer) = writer {
+            drop(writer.take(rt));
+        }
+    }
+}
+
+/// Puts the writer into its place, and ends the one that was there.
+fn put_back<R: Wait>(place: &mut Option<Desk>, writer: Desk, rt: &R)
+    ensures { place.new ≡ Some writer }
+{
+    if let Some(old) = mem::replace(place, Some(writer)) {
+        drop(old.take(rt));
+    }
+}

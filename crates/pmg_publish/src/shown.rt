@@ -1,0 +1,54 @@
+ghost use Rattle.std.specs.Prelude.{◌≡◌, []};
+ghost use Rattle.pmg_publish.specs.Boards.{IsMade};
+
+use crate::history::History;
+use crate::parts::Parts;
+use left_right::Absorb;
+use pmg_store::Board;
+use std::alloc::{AllocError, Global};
+
+/// What viewers read: a board, and the list of publications that made it.
+#[derive(Drop)]
+pub struct Shown {
+    pub board: Board,
+    pub history: History,
+}
+
+/// What is published: the parts, and the list that ends with them.
+#[derive(Drop)]
+pub struct Issue {
+    pub parts: Parts,
+    pub history: History,
+}
+
+impl Shown {
+    /// The board of a list without publications.
+    #[tactic(auto, unfolding(crate::specs::Publications::near_of, crate::specs::Publications::far_of))]
+    pub fn new(alloc: Global, history: &History) -> Shown
+        requires { history.now.log ≡ [] }
+        ensures made { IsMade result }
+        ensures history { result.history ≡ history.now }
+    {
+        Shown {
+            board: Board::new(alloc),
+            history: history.again(),
+        }
+    }
+}
+
+impl Absorb<Issue> for Shown {
+    ghost use Rattle.pmg_publish.specs.Boards.{applied};
+
+    type State = Shown;
+
+    ghost state = { λ s. s };
+
+    ghost applied = { applied };
+
+    fn absorb_first(&mut self, operation: &Issue, _other: &Shown) -> Result<(), AllocError> {
+        self.board
+            .absorb_all(&operation.parts.near, &operation.parts.far)?;
+        self.history = operation.history.again();
+        Ok(())
+    }
+}

@@ -1,0 +1,39 @@
+ghost use Rattle.std.specs.Prelude.{◌≡◌, IfOk};
+ghost use Rattle.std.specs.Option.{option_map};
+ghost use Rattle.pmg_publish.specs.Sights.{IsSight};
+
+use pmg_store::Board;
+use pmg_value::{Key, Proc, Value};
+use std::alloc::AllocError;
+
+/// What is read of a process under a key: the values in the near and in the far store, and whether the process has ended in
+/// each.
+#[derive(Debug, Drop)]
+pub struct Sight {
+    pub near: Option<Value>,
+    pub far: Option<Value>,
+    pub near_ended: bool,
+    pub far_ended: bool,
+}
+
+/// What is read of the process under the key in the board, copied.
+pub(crate) fn sight_of(board: &Board, proc: &Proc, key: &Key) -> Result<Sight, AllocError>
+    ensures { IfOk result (IsSight board.now.near board.now.far proc.now key.now) }
+{
+    Ok(Sight {
+        near: copy_of(board.near().read(proc, key))?,
+        far: copy_of(board.far().read(proc, key))?,
+        near_ended: board.near().has_ended(proc),
+        far_ended: board.far().has_ended(proc),
+    })
+}
+
+/// A copy of the value, if there is one.
+fn copy_of(value: Option<&Value>) -> Result<Option<Value>, AllocError>
+    ensures { IfOk result (λ copy. copy ≡ option_map (λ v. v.now) value.entry) }
+{
+    match value {
+        Some(value) => Ok(Some(value.copy()?)),
+        None => Ok(None),
+    }
+}

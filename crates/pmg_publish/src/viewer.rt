@@ -1,0 +1,164 @@
+ghost use Rattle.std.specs.Prelude.{◌≡◌, ◌⊎◌, ◌≤◌, OnErr, IfOk, IfErr};
+ghost use mathlib.Core.List.{IsPrefix};
+ghost use Rattle.left_right.specs.Sides.{view as known_at};
+ghost use Rattle.pmg_value.specs.declared.refusal.Refusal.TheVariants as refusals;
+ghost use Rattle.pmg_commit.specs.Data.{level_at};
+ghost use Rattle.pmg_publish.specs.Publications.{near_of, far_of};
+ghost use Rattle.pmg_publish.specs.Boards.{IsMade};
+ghost use Rattle.pmg_publish.specs.Rule.{IsOf};
+ghost use Rattle.pmg_publish.specs.Sights.{IsSight};
+
+use crate::history::History;
+use crate::rule::{InOneList, Known, Sees};
+use crate::shown::Shown;
+use crate::sight::{Sight, sight_of};
+use left_right::reader::{Reader, Reading};
+use pmg_value::{Key, Proc, Refusal};
+use std::marker::Model;
+
+/// A reader's place.
+pub(crate) type Place = Reader<Shown, Known, InOneList>;
+
+/// A place while it reads.
+type Entered = Reading<Shown, Known, InOneList>;
+
+/// What a publisher had published when it told so. Contracts see it as that prefix of its list.
+#[derive(Drop)]
+pub struct Told {
+    pub(crate) history: History,
+}
+
+impl Model for Told {
+    ghost use Rattle.pmg_publish.specs.Publications.{Publications};
+
+    ghost Value = { Publications };
+
+    ghost view = { λ t. t.history };
+}
+
+/// One who reads what is published, and waits for nobody. Contracts see it as the list of publications that it saw last or
+/// was told of.
+#[derive(Drop)]
+pub struct Viewer {
+    place: Option<Place>,
+    history: History,
+}
+
+impl Model for Viewer {
+    ghost use Rattle.std.specs.Prelude.{IfSome};
+    ghost use Rattle.left_right.specs.Sides.{view as known_at};
+    ghost use Rattle.pmg_publish.specs.Publications.{Publications};
+    ghost use Rattle.pmg_publish.specs.Rule.{IsOf};
+
+    ghost Value = { Publications };
+
+    ghost view = { λ v. v.history };
+
+    ghost invariant = { λ v. IfSome v.place (λ p. IsOf v.history.book (known_at p.place)) };
+}
+
+impl Viewer {
+    /// A viewer at this place that has seen this much.
+    pub(crate) fn new(place: Place, history: History) -> Viewer
+        requires { IsOf history.book (known_at place.place) }
+        ensures { result ≡ history }
+    {
+        Viewer {
+            place: Some(place),
+            history,
+        }
+    }
+
+    /// What it saw last or was told of.
+    pub(crate) fn history(&self) -> &History
+        ensures { result.now ≡ self.now }
+    {
+        &self.history
+    }
+
+    /// From now on the viewer sees no less than what it was told of.
+    pub fn learn(&mut self, told: &Told)
+        requires { told.now.book ≡ self.old.book }
+        ensures book { self.new.book ≡ self.old.book }
+        ensures seen { IsPrefix self.old.log self.new.log }
+        ensures told { IsPrefix told.now.log self.new.log }
+        ensures one { (self.new ≡ self.old) ⊎ (self.new ≡ told.now) }
+    {
+        if !self.history.continues(&told.history) {
+            self.history = told.history.again();
+        }
+    }
+
+    /// What is read of the process under the key, in the board that a list of publications makes. The list begins with all
+    /// that this viewer saw before and was told of. Closed where the publisher is closed; NoMemory where a copy fails.
+    pub fn read(&mut self, proc: &Proc, key: &Key) -> Result<Sight, Refusal>
+        ensures book { self.new.book ≡ self.old.book }
+        ensures seen { IsPrefix self.old.log self.new.log }
+        ensures read { IfOk result (IsSight (near_of self.new.log) (far_of self.new.log) proc.now key.now) }
+        ensures err { OnErr result (self.new ≡ self.old) }
+        ensures refusals { IfErr result (λ e. (e ≡ refusals.Closed) ⊎ (e ≡ refusals.NoMemory)) }
+    {
+        let entered = self.enter()?;
+        let shown = entered.get();
+        let sight = sight_of(&shown.board, proc, key);
+        let history = shown.history.again();
+        self.put_back(entered.leave());
+        let sight = sight?;
+        self.history = history;
+        Ok(sight)
+    }
+
+    /// The level of the process in the far store, in the board that a list of publications makes. The list begins with all
+    /// that this viewer saw before and was told of. Closed where the publisher is closed.
+    pub fn level(&mut self, proc: &Proc) -> Result<u64, Refusal>
+        ensures book { self.new.book ≡ self.old.book }
+        ensures seen { IsPrefix self.old.log self.new.log }
+        ensures level { IfOk result (λ n. n ≡ level_at (far_of self.new.log) proc.now) }
+        ensures bound { IfOk result (λ n. n ≤ 4294967295) }
+        ensures err { OnErr result (self.new ≡ self.old) }
+        ensures refusals { IfErr result (λ e. e ≡ refusals.Closed) }
+    {
+        let entered = self.enter()?;
+        let shown = entered.get();
+        let level = shown.board.far().level(proc);
+        let history = shown.history.again();
+        self.put_back(entered.leave());
+        self.history = history;
+        Ok(level)
+    }
+
+    /// Enters what is shown, which goes on from what this viewer saw or was told of.
+    fn enter(&mut self) -> Result<Entered, Refusal>
+        ensures same { self.new ≡ self.old }
+        ensures place { IfOk result (λ r. IsOf self.old.book (known_at r.place)) }
+        ensures book { IfOk result (λ r. r.part.value.history.book ≡ self.old.book) }
+        ensures seen { IfOk result (λ r. IsPrefix self.old.log r.part.value.history.log) }
+        ensures made { IfOk result (λ r. IsMade r.part.value) }
+        ensures refusals { IfErr result (λ e. e ≡ refusals.Closed) }
+    {
+        let Some(place) = self.place.take() else {
+            return Err(Refusal::Closed);
+        };
+        match place.enter_as::<Sees>() {
+            Ok(entered) => {
+                if entered.get().history.continues(&self.history) {
+                    return Ok(entered);
+                }
+                self.put_back(entered.leave());
+                Err(Refusal::Closed)
+            }
+            Err(place) => {
+                self.put_back(place);
+                Err(Refusal::Closed)
+            }
+        }
+    }
+
+    /// Takes its place again.
+    fn put_back(&mut self, place: Place)
+        requires { IsOf self.old.book (known_at place.place) }
+        ensures { self.new ≡ self.old }
+    {
+        self.place = Some(place);
+    }
+}
