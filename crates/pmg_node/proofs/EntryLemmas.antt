@@ -1,0 +1,380 @@
+-- How a node judges who enters a fence, and what comes of an entry.
+use Rattle.std.proofs.Common.{◌≡◌, ℕ, suc, Bool, true, false, ◌||◌, ◌&&◌, ◌==◌, not, cond, nat_lt, nat_le, List, [], ◌∷◌, length, Option, Some, None, is_some, Result, Ok, Err, inl, inr, refl, sym, ap, subst, ◌∙◌, arith}
+use Rattle.std.specs.FinMap as finite
+use Rattle.std.specs.FinSet as set
+use Rattle.std.specs.List.{flat_map, list_all, list_any}
+use Rattle.std.specs.Option.{option_map}
+use Rattle.std.proofs.lemmas.Bool.Decides.{nat_tests}
+use Rattle.pmg_value.specs.CheckOrder.{first_of}
+use Rattle.pmg_value.specs.Names.{is_reserved}
+use Rattle.pmg_value.specs.Signatures.{Signature, FenceName}
+use Rattle.pmg_value.specs.declared.process.Proc.{Proc}
+use Rattle.pmg_value.specs.declared.refusal.Refusal.{Refusal}
+use Rattle.pmg_value.specs.declared.refusal.Refusal.TheVariants as refusals
+use Rattle.pmg_value.specs.Process.{is_client}
+use Rattle.pmg_frame.specs.Fences.{signature, asked_signature}
+use Rattle.pmg_jobinfo.specs.Expansion.{expansion}
+use Rattle.pmg_jobinfo.specs.Jobs.{Jobs, is_registered, is_member, home_of}
+use Rattle.pmg_jobinfo.specs.Refusing.{is_bad}
+use Rattle.pmg_jobinfo.proofs.RuleLemmas.{each_is_meant}
+use Rattle.pmg_dmodex.specs.Levels.{Levels}
+use Rattle.pmg_dmodex.specs.Requests.{Requests}
+use Rattle.pmg_fence.specs.Changes.{next_name, news}
+use Rattle.pmg_fence.specs.Codes.{Known}
+use Rattle.pmg_fence.specs.Kept.{placed_by}
+use Rattle.pmg_fence.specs.declared.change.Change.TheVariants as changes
+use Rattle.pmg_store.specs.declared.board.Board.{Board}
+use Rattle.pmg_node.specs.Acts.{Act, Request, Reply, Done, also, free_cause, list_cause, is_misnamed, list_of, signature_of, signature_cause, cause, request_cause, serves, does}
+use Rattle.pmg_node.specs.Choosing.{announcing, due_by, due_by_request, marked_by_act, sends}
+use Rattle.pmg_node.specs.Codes.{Calls}
+use Rattle.pmg_node.specs.Content.{server_of, IsContent}
+use Rattle.pmg_node.specs.Entries.{part_cause, entry_cause, entered_name}
+use Rattle.pmg_node.specs.Fencing.{fence_after, fence_dues, AreSettledIn}
+use Rattle.pmg_node.specs.Holdings.{Standing, Holding, sealer_of, call_of}
+use Rattle.pmg_node.specs.Owns.{Own, sealed_of}
+use Rattle.pmg_node.specs.Servers.{Server, reply_to, RefusesEntry, IsEntryAccepted}
+use Rattle.pmg_node.proofs.ActLemmas.{refused_reply}
+use Rattle.pmg_node.proofs.CauseFacts.{by_causes, neither_cause, free_is}
+use Rattle.pmg_node.proofs.FenceLemmas.{ChangesFence, Steps, fence_steps}
+use Rattle.pmg_node.proofs.KeptAgain.{enter_differs}
+use Rattle.pmg_node.proofs.SilentLemmas.{act_free}
+
+-- ---- the signature that is asked for
+
+is_beyond : (n : ℕ) → nat_lt 4096 n ≡ not (nat_le n 4096)
+is_beyond n = grind (arith, nat_tests)
+
+module _ (x : Signature) (n : ℕ) where
+  found_by : (a b c : Bool) (g : Signature) → cond a (Err refusals.BadParam) (cond b (Err refusals.BadParam) (cond c (Ok x) (Err refusals.TooMany))) ≡ Ok g → Some g ≡ cond (not c) None (Some x)
+  found_by true b c g e = absurd cc
+  found_by false true c g e = absurd cc
+  found_by false false true g e = let same : x ≡ g = cc in ap Some (sym same)
+  found_by false false false g e = absurd cc
+
+  too_many_by : (a b c : Bool) → cond a (Err refusals.BadParam) (cond b (Err refusals.BadParam) (cond c (Ok x) (Err refusals.TooMany))) ≡ Err refusals.TooMany → None ≡ cond (not c) None (Some x)
+  too_many_by true b c e = absurd cc
+  too_many_by false true c e = absurd cc
+  too_many_by false false true e = absurd cc
+  too_many_by false false false e = refl
+
+pub asked_within : (ps : List Proc) (collect : Bool) (g : Signature) → asked_signature ps collect ≡ Ok g
+    → Some g ≡ cond (nat_lt 4096 (set.len (signature ps collect).participants)) None (Some (signature ps collect))
+unfolding asked_signature
+asked_within ps collect g e =
+    let n = set.len (signature ps collect).participants in
+    found_by (signature ps collect) n (length ps == 0) (not (list_all is_client ps)) (nat_le n 4096) g e ∙ ap (λ b. cond b None (Some (signature ps collect))) (sym (is_beyond n))
+
+pub asked_beyond : (ps : List Proc) (collect : Bool) (e : Refusal) → asked_signature ps collect ≡ Err e → e ≡ refusals.TooMany
+    → None ≡ cond (nat_lt 4096 (set.len (signature ps collect).participants)) None (Some (signature ps collect))
+unfolding asked_signature
+asked_beyond ps collect e is many =
+    let n = set.len (signature ps collect).participants in
+    too_many_by (signature ps collect) n (length ps == 0) (not (list_all is_client ps)) (nat_le n 4096) (is ∙ ap (λ (r : Refusal). Err r) many) ∙ ap (λ b. cond b None (Some (signature ps collect))) (sym (is_beyond n))
+
+-- ---- what is amiss
+
+pub any_or : (f g : Proc → Bool) (xs : List Proc) → (list_any f xs || list_any g xs) ≡ list_any (λ x. f x || g x) xs
+any_or f g [] = refl
+any_or f g (x ∷ xs) = both (f x) (list_any f xs) (g x) (list_any g xs) ∙ ap (λ b. (f x || g x) || b) (any_or f g xs)
+  where
+    both : (a b c d : Bool) → ((a || b) || (c || d)) ≡ ((a || c) || (b || d))
+    both true b c d = refl
+    both false true true d = refl
+    both false true false d = refl
+    both false false c d = refl
+
+bad_whole : (r m reg : Bool) → (((r || m) || false) || (((r || false) || ((reg && false) || false)) || false)) ≡ (r || (m || false))
+bad_whole true m reg = refl
+bad_whole false true reg = refl
+bad_whole false false true = refl
+bad_whole false false false = refl
+
+bad_given : (r m a : Bool) → (((r || m) || false) || (a || false)) ≡ (r || (m || a))
+bad_given true m a = refl
+bad_given false true a = refl
+bad_given false false true = refl
+bad_given false false false = refl
+
+unknown_whole : (u : Bool) → ((u || false) || ((u || false) || false)) ≡ (u || false)
+unknown_whole true = refl
+unknown_whole false = refl
+
+unknown_given : (u a : Bool) → ((u || false) || (a || false)) ≡ (u || a)
+unknown_given true a = refl
+unknown_given false true = refl
+unknown_given false false = refl
+
+alone : (x : Bool) → ((x || false) || false) ≡ x
+alone true = refl
+alone false = refl
+
+pub alone_once : (x : Bool) → (x || false) ≡ x
+alone_once true = refl
+alone_once false = refl
+
+-- it is one of its namespace of whom nothing else is amiss
+member_is : (r reg member a u : Bool) → (r || ((reg && not member) || a)) ≡ false → (not reg || u) ≡ false → member ≡ true
+member_is true reg member a u bad unknown = absurd cc
+member_is false false member a u bad unknown = absurd cc
+member_is false true true a u bad unknown = refl
+member_is false true false a u bad unknown = absurd cc
+
+-- who enters, or one in the list, is none that a list may name
+abbrev pub is_bad_by : Jobs → Proc → List Proc → Bool
+is_bad_by jobs p list = is_reserved p.nspace || (is_misnamed jobs p || list_any (λ q. is_reserved q.nspace || is_bad jobs q) list)
+
+-- or the namespace of one of them is not registered
+abbrev pub is_unknown_by : Jobs → Proc → List Proc → Bool
+is_unknown_by jobs p list = not (is_registered jobs p.nspace) || list_any (λ q. not (is_registered jobs q.nspace)) list
+
+-- or a list that is not empty does not mean who enters
+abbrev pub is_outside_by : Jobs → Proc → List Proc → Bool
+is_outside_by jobs p list = not (length list == 0) && not (set.contains (expansion jobs list) p)
+
+-- the first of the refusals whose cause holds
+abbrev pub entry_chain : Bool → Bool → Bool → Bool → Bool → Bool → Result (Unit {0}) Refusal
+entry_chain a b c d e f =
+    cond a (Err refusals.BadParam)
+    (cond b (Err refusals.UnknownNamespace) (cond c (Err refusals.NotMine) (cond d (Err refusals.Terminated) (cond e (Err refusals.Busy) (cond f (Err refusals.NotAParticipant) (Ok tt))))))
+
+module _ (jobs : Jobs) (id : ℕ) (h : Holding) (p : Proc) where
+  bad_is : (list : List Proc) → entry_cause jobs id h p list refusals.BadParam ≡ is_bad_by jobs p list
+  bad_is [] = bad_whole (is_reserved p.nspace) (is_misnamed jobs p) (is_registered jobs p.nspace)
+  bad_is (q ∷ qs) =
+      bad_given (is_reserved p.nspace) (is_misnamed jobs p) (list_any (λ q. is_reserved q.nspace) (q ∷ qs) || list_any (is_bad jobs) (q ∷ qs))
+      ∙ ap (λ b. is_reserved p.nspace || (is_misnamed jobs p || b)) (any_or (λ q. is_reserved q.nspace) (is_bad jobs) (q ∷ qs))
+
+  unknown_is : (list : List Proc) → entry_cause jobs id h p list refusals.UnknownNamespace ≡ is_unknown_by jobs p list
+  unknown_is [] = unknown_whole (not (is_registered jobs p.nspace))
+  unknown_is (q ∷ qs) = unknown_given (not (is_registered jobs p.nspace)) (list_any (λ q. not (is_registered jobs q.nspace)) (q ∷ qs))
+
+  some_listed : (n : ℕ) → (suc n == 0) ≡ false
+  some_listed n = grind (arith, nat_tests)
+
+  outside_is : (list : List Proc) → is_bad_by jobs p list ≡ false → is_unknown_by jobs p list ≡ false → entry_cause jobs id h p list refusals.NotAParticipant ≡ is_outside_by jobs p list
+  outside_is [] bad unknown =
+      let member = member_is (is_reserved p.nspace) (is_registered jobs p.nspace) (is_member jobs p) false false bad unknown in
+      ap not ((each_is_meant jobs (list_of p []) p).1 (record { nspace = p.nspace; rank = 4294967294 }, inl refl, inl (refl, refl, member)))
+  outside_is (q ∷ qs) bad unknown = ap (λ b. not b && not (set.contains (expansion jobs (q ∷ qs)) p)) (sym (some_listed (length qs)))
+
+  -- who enters is judged in this order
+  pub judged : (list : List Proc) (a b c d e f : Bool) → is_bad_by jobs p list ≡ a → is_unknown_by jobs p list ≡ b → (home_of jobs p == id) ≡ c → (sealer_of h p).ended ≡ d
+      → is_some (call_of h p) ≡ e → entry_cause jobs id h p list refusals.NotAParticipant ≡ f → first_of (entry_cause jobs id h p list) (tt {0}) ≡ entry_chain a b (not c) d e f
+  judged list a b c d e f bad unknown home ended busy outside =
+      λ i. entry_chain ((bad_is list ∙ bad) i) ((unknown_is list ∙ unknown) i) ((alone (not (home_of jobs p == id)) ∙ ap not home) i) ((alone (sealer_of h p).ended ∙ ended) i)
+      ((alone_once (is_some (call_of h p)) ∙ busy) i) (outside i)
+
+  -- and last, whether the list means it
+  pub judged_all : (list : List Proc) (f : Bool) → is_bad_by jobs p list ≡ false → is_unknown_by jobs p list ≡ false → (home_of jobs p == id) ≡ true → (sealer_of h p).ended ≡ false
+      → is_some (call_of h p) ≡ false → is_outside_by jobs p list ≡ f → first_of (entry_cause jobs id h p list) (tt {0}) ≡ cond f (Err refusals.NotAParticipant) (Ok tt)
+  judged_all list f bad unknown home ended busy outside = judged list false false true false false f bad unknown home ended busy (outside_is list bad unknown ∙ outside)
+
+  -- one that is judged so is in no call
+  pub entry_idle : (list : List Proc) → first_of (entry_cause jobs id h p list) (tt {0}) ≡ Ok tt → call_of h p ≡ None
+  entry_idle list is = elim (by_causes (entry_cause jobs id h p list) (tt {0})) [
+    | inl found ↦ absurd (not_both (sym is ∙ found.2))
+    | inr none ↦ (free_is jobs id h p (neither_cause (free_cause jobs id h p) (also (list_cause jobs (list_of p list)) (part_cause jobs p list)) none.1).0).1
+  ]
+    where
+      not_both : {e : Refusal} → Ok (tt {0}) ≡ Err e → ⊥
+      not_both is = cc
+
+  -- ---- and the limits
+
+  abbrev pub then_limits : Result (Unit {0}) Refusal → Bool → Result (Unit {0}) Refusal
+  then_limits (Err e) full = Err e
+  then_limits (Ok u) full = cond full (Err refusals.TooMany) (Ok tt)
+
+  limits_last : (a b c d e f full : Bool)
+      → cond a (Err refusals.BadParam)
+      (cond b (Err refusals.UnknownNamespace)
+      (cond c (Err refusals.NotMine) (cond d (Err refusals.Terminated) (cond e (Err refusals.Busy) (cond f (Err refusals.NotAParticipant) (cond full (Err refusals.TooMany) (Ok (tt {0}))))))))
+      ≡ then_limits (entry_chain a b c d e f) full
+  limits_last true b c d e f full = refl
+  limits_last false true c d e f full = refl
+  limits_last false false true d e f full = refl
+  limits_last false false false true e f full = refl
+  limits_last false false false false true f full = refl
+  limits_last false false false false false true full = refl
+  limits_last false false false false false false full = refl
+
+  never_memory : (a b c d e f : Bool) → entry_chain a b c d e f ≡ Err refusals.NoMemory → ⊥
+  never_memory true b c d e f is = cc
+  never_memory false true c d e f is = cc
+  never_memory false false true d e f is = cc
+  never_memory false false false true e f is = cc
+  never_memory false false false false true f is = cc
+  never_memory false false false false false true is = cc
+  never_memory false false false false false false is = cc
+
+  module _ (list : List Proc) (collect : Bool) where
+    abbrev pub is_full : Bool
+    is_full = signature_cause h (signature_of jobs p list collect) p refusals.TooMany
+
+    entry_first : first_of (cause jobs id h (Act.request (Request.enter p list collect))) (tt {0}) ≡ then_limits (first_of (entry_cause jobs id h p list) tt) is_full
+    unfolding cause request_cause
+    entry_first =
+        limits_last (entry_cause jobs id h p list refusals.BadParam) (entry_cause jobs id h p list refusals.UnknownNamespace) (entry_cause jobs id h p list refusals.NotMine)
+        (entry_cause jobs id h p list refusals.Terminated) (entry_cause jobs id h p list refusals.Busy) (entry_cause jobs id h p list refusals.NotAParticipant) is_full
+
+    pub entry_refused : (e : Refusal) → first_of (entry_cause jobs id h p list) (tt {0}) ≡ Err e → first_of (cause jobs id h (Act.request (Request.enter p list collect))) (tt {0}) ≡ Err e
+    entry_refused e is = entry_first ∙ ap (λ r. then_limits r is_full) is
+
+    pub entry_by : (full : Bool) → first_of (entry_cause jobs id h p list) (tt {0}) ≡ Ok tt → is_full ≡ full
+        → first_of (cause jobs id h (Act.request (Request.enter p list collect))) (tt {0}) ≡ cond full (Err refusals.TooMany) (Ok tt)
+    entry_by full is limits = entry_first ∙ (λ i. then_limits (is i) (limits i))
+
+    pub entry_not_memory : first_of (entry_cause jobs id h p list) (tt {0}) ≡ Err refusals.NoMemory → ⊥
+    entry_not_memory = never_memory (entry_cause jobs id h p list refusals.BadParam) (entry_cause jobs id h p list refusals.UnknownNamespace) (entry_cause jobs id h p list refusals.NotMine)
+        (entry_cause jobs id h p list refusals.Terminated) (entry_cause jobs id h p list refusals.Busy) (entry_cause jobs id h p list refusals.NotAParticipant)
+
+pub some_mapped_is : {A B : Type 0} (f : A → B) (o : Option A) → is_some (option_map f o) ≡ is_some o
+some_mapped_is f None = refl
+some_mapped_is f (Some x) = refl
+
+-- the same, as a node's parts tell
+module _
+    (table : Known)
+    (id : ℕ)
+    (board : Board)
+    (own : Own)
+    (calls : Calls)
+    (held : Requests)
+    (marks : Levels)
+    (s : Server)
+    (view : server_of table id board own calls held marks ≡ s)
+    (jobs : Jobs)
+    (same : jobs ≡ table.jobs)
+    (p : Proc)
+    (list : List Proc) where
+  abbrev parts : Server
+  parts = server_of table id board own calls held marks
+
+  pub judged_now : (a b c d e f : Bool) → is_bad_by jobs p list ≡ a → is_unknown_by jobs p list ≡ b → (home_of jobs p == id) ≡ c → (sealed_of own p).ended ≡ d
+      → is_some (finite.get calls p) ≡ e → entry_cause table.jobs id parts.holding p list refusals.NotAParticipant ≡ f
+      → first_of (entry_cause s.jobs s.id s.holding p list) (tt {0}) ≡ entry_chain a b (not c) d e f
+  judged_now a b c d e f bad unknown home ended busy outside =
+      ap (λ (x : Server). first_of (entry_cause x.jobs x.id x.holding p list) (tt {0})) (sym view)
+      ∙ judged table.jobs id parts.holding p list a b c d e f (ap (λ j. is_bad_by j p list) (sym same) ∙ bad) (ap (λ j. is_unknown_by j p list) (sym same) ∙ unknown)
+      (ap (λ j. home_of j p == id) (sym same) ∙ home) ended busy outside
+
+  pub judged_all_now : (f : Bool) → is_bad_by jobs p list ≡ false → is_unknown_by jobs p list ≡ false → (home_of jobs p == id) ≡ true → (sealed_of own p).ended ≡ false
+      → is_some (finite.get calls p) ≡ false → is_outside_by jobs p list ≡ f → first_of (entry_cause s.jobs s.id s.holding p list) (tt {0}) ≡ cond f (Err refusals.NotAParticipant) (Ok tt)
+  judged_all_now f bad unknown home ended busy outside =
+      ap (λ (x : Server). first_of (entry_cause x.jobs x.id x.holding p list) (tt {0})) (sym view)
+      ∙ judged_all table.jobs id parts.holding p list f (ap (λ j. is_bad_by j p list) (sym same) ∙ bad) (ap (λ j. is_unknown_by j p list) (sym same) ∙ unknown)
+      (ap (λ j. home_of j p == id) (sym same) ∙ home) ended busy (ap (λ j. is_outside_by j p list) (sym same) ∙ outside)
+
+-- ---- the name of the fence
+
+name_none : (b : Bool) (f : FenceName) → cond b None (Some f) ≡ None → b ≡ true
+name_none true f is = refl
+name_none false f is = absurd cc
+
+name_some : (b : Bool) (f name : FenceName) → cond b None (Some f) ≡ Some name → (b ≡ false) × (name ≡ f)
+name_some true f name is = absurd cc
+name_some false f name is = (refl, sym cc)
+
+-- ---- what is replied
+
+abbrev refused_as : Refusal → Result (Unit {0}) Refusal
+refused_as e = Err e
+
+told_refusal : (e : Refusal) (due : Reply) → (e ≡ refusals.NoMemory → ⊥) → due ≡ Reply.refused e → RefusesEntry e due
+told_refusal refusals.BadParam due other is = is
+told_refusal refusals.UnknownNamespace due other is = is
+told_refusal refusals.NotMine due other is = is
+told_refusal refusals.Terminated due other is = is
+told_refusal refusals.Busy due other is = is
+told_refusal refusals.NotAParticipant due other is = is
+told_refusal refusals.Exists due other is = is
+told_refusal refusals.NotFound due other is = is
+told_refusal refusals.OutsideScope due other is = is
+told_refusal refusals.TooMany due other is = is
+told_refusal (refusals.BadFrame fault) due other is = is
+told_refusal refusals.Collision due other is = is
+told_refusal refusals.Stale due other is = is
+told_refusal refusals.Unordered due other is = is
+told_refusal refusals.Closed due other is = is
+told_refusal refusals.NoMemory due other is = absurd (other refl)
+
+module _ (s : Server) (p : Proc) (list : List Proc) (collect : Bool) where
+  abbrev pub enters : Act
+  enters = Act.request (Request.enter p list collect)
+
+  pub entry_told : (e : Refusal) → first_of (entry_cause s.jobs s.id s.holding p list) (tt {0}) ≡ Err e → RefusesEntry e (reply_to s enters)
+  entry_told e is =
+      told_refusal e (reply_to s enters) (λ memory. entry_not_memory s.jobs s.id s.holding p list collect (is ∙ ap refused_as memory))
+      (refused_reply s enters e (entry_refused s.jobs s.id s.holding p list collect e is))
+
+  enters_it : first_of (cause s.jobs s.id s.holding enters) (tt {0}) ≡ Ok tt → IsEntryAccepted (reply_to s enters)
+  unfolding does serves
+  enters_it free = subst IsEntryAccepted (sym (ap (λ (d : Done). d.reply) (act_free s.jobs s.id s.holding enters free))) tt
+
+  -- where only the limits are left to be judged
+  pub entry_accepted : first_of (entry_cause s.jobs s.id s.holding p list) (tt {0}) ≡ Ok tt → IsEntryAccepted (reply_to s enters)
+  entry_accepted is = by_limits (is_full s.jobs s.id s.holding p list collect) refl
+    where
+      by_limits : (full : Bool) → is_full s.jobs s.id s.holding p list collect ≡ full → IsEntryAccepted (reply_to s enters)
+      by_limits true limits = subst IsEntryAccepted (sym (refused_reply s enters refusals.TooMany (entry_by s.jobs s.id s.holding p list collect true is limits))) tt
+      by_limits false limits = enters_it (entry_by s.jobs s.id s.holding p list collect false is limits)
+
+  -- where it passes a limit
+  pub entry_limited : first_of (entry_cause s.jobs s.id s.holding p list) (tt {0}) ≡ Ok tt → entered_name s.jobs s.holding p list collect ≡ None
+      → first_of (cause s.jobs s.id s.holding enters) (tt {0}) ≡ Err refusals.TooMany
+  entry_limited is none =
+      entry_by s.jobs s.id s.holding p list collect true is
+      (name_none (is_full s.jobs s.id s.holding p list collect) (next_name s.holding.table (signature_of s.jobs p list collect) p) none)
+
+  -- ---- what comes of it
+
+  abbrev pub its_name : FenceName
+  its_name = next_name s.holding.table (signature_of s.jobs p list collect) p
+
+  -- and where it passes none
+  pub entry_named : (name : FenceName) → first_of (entry_cause s.jobs s.id s.holding p list) (tt {0}) ≡ Ok tt → entered_name s.jobs s.holding p list collect ≡ Some name
+      → (first_of (cause s.jobs s.id s.holding enters) (tt {0}) ≡ Ok tt) × (name ≡ its_name)
+  entry_named name is there =
+      let found = name_some (is_full s.jobs s.id s.holding p list collect) its_name name there in
+      (entry_by s.jobs s.id s.holding p list collect false is found.0, found.1)
+
+  entry_act : first_of (cause s.jobs s.id s.holding enters) (tt {0}) ≡ Ok tt
+      → ChangesFence s enters its_name (changes.Entered p (sealer_of s.holding p).level) (Reply.entered its_name.instance) (finite.insert s.holding.calls p (Standing.in_fence its_name))
+  unfolding does serves due_by due_by_request marked_by_act
+  entry_act free = record {
+    free = free;
+    done = refl;
+    loud = refl;
+    differs = enter_differs s.jobs s.id s.holding its_name _ _ p;
+    owes = λ left is. ap (λ t. flat_map (announcing s.jobs s.id) (news s.jobs s.id s.holding.table t its_name)) is;
+    asked = λ marks. refl;
+  }
+
+  module _
+      (table : Known)
+      (id : ℕ)
+      (board : Board)
+      (own : Own)
+      (calls : Calls)
+      (held : Requests)
+      (marks : Levels)
+      (view : server_of table id board own calls held marks ≡ s)
+      (kept : IsContent table id (server_of table id board own calls held marks))
+      (free : first_of (cause s.jobs s.id s.holding enters) (tt {0}) ≡ Ok tt)
+      (name : FenceName)
+      (named : name ≡ its_name)
+      (ended : Calls)
+      (table_then : Known)
+      (marks_then : Levels) where
+    pub entry_steps : AreSettledIn name table.jobs id (placed_by table.fences name (changes.Entered p (sealed_of own p).level)) board.near board.far (finite.insert calls p (Standing.in_fence name)) ended
+        → table_then ≡ fence_after table name (changes.Entered p (sealed_of own p).level)
+        → marks_then ≡ (sends (sealed_of own) marks (fence_dues table name (changes.Entered p (sealed_of own p).level))).marks
+        → Steps s enters (Reply.entered its_name.instance) table_then id (server_of table_then id board own ended held marks_then)
+        (sends (sealed_of own) marks (fence_dues table name (changes.Entered p (sealed_of own p).level))).frames
+    entry_steps are table_is marks_are =
+        fence_steps table id board own calls held marks s view kept enters its_name (changes.Entered p (sealer_of s.holding p).level) (Reply.entered its_name.instance)
+        (λ (m : Calls). finite.insert m p (Standing.in_fence its_name)) (entry_act free) name named (changes.Entered p (sealed_of own p).level)
+        (ap (λ (x : Server). changes.Entered p (sealer_of x.holding p).level) view) ended
+        (subst
+        (λ f. AreSettledIn name table.jobs id (placed_by table.fences name (changes.Entered p (sealed_of own p).level)) board.near board.far (finite.insert calls p (Standing.in_fence f)) ended)
+        named are) table_then table_is marks_then marks_are

@@ -1,0 +1,328 @@
+-- Acts that change one fence.
+use Rattle.std.proofs.Common.{◌≡◌, ℕ, zero, suc, Bool, true, false, cond, List, [], ◌∷◌, ◌++◌, take, Option, Some, None, Ok, refl, sym, ap, subst, ◌∙◌}
+use Rattle.std.specs.FinMap as finite
+use Rattle.std.specs.FinMap.{nat_cmp-IsAntisymmetric}
+use Rattle.std.specs.Cmp.{nat_cmp_total}
+use Rattle.std.specs.List.{flat_map}
+use Rattle.std.specs.Option.{option_map, unwrap_or}
+use Rattle.pmg_value.specs.CheckOrder.{first_of}
+use Rattle.pmg_value.specs.Signatures.{FenceName}
+use Rattle.pmg_value.proofs.RowLemmas.{insert_same}
+use Rattle.pmg_frame.specs.FenceOrder.{signature_total}
+use Rattle.pmg_frame.specs.Fences.{FenceAsk, Header, header}
+use Rattle.pmg_frame.proofs.FenceOrderLemmas.{signatures_exact}
+use Rattle.pmg_frame.specs.declared.frame.Frame.{Frame}
+use Rattle.pmg_frame.specs.declared.frame.Frame.TheVariants as frames
+use Rattle.pmg_frame.specs.declared.local.Local.{Local}
+use Rattle.pmg_jobinfo.specs.Jobs.{Jobs}
+use Rattle.pmg_dmodex.specs.Levels.{Levels}
+use Rattle.pmg_dmodex.specs.Requests.{Requests}
+use Rattle.pmg_fence.specs.Changes.{placed, learned, present, news, taken}
+use Rattle.pmg_fence.specs.Codes.{Known, Owns}
+use Rattle.pmg_fence.specs.Kept.{placed_by, IsKept}
+use Rattle.pmg_fence.specs.Tables.{Fences, no_fence, no_series, has_name, series_at, fence_at}
+use Rattle.pmg_fence.specs.TakenBack.{table_back, CanTakeBack}
+use Rattle.pmg_fence.specs.declared.change.Change.{Change}
+use Rattle.pmg_fence.specs.declared.change.Change.TheVariants as changes
+use Rattle.pmg_fence.specs.declared.table.TableBefore.{TableBefore}
+use Rattle.pmg_fence.proofs.KeptLemmas.{kept_waiting}
+use Rattle.pmg_store.specs.declared.board.Board.{Board}
+use Rattle.pmg_node.specs.Acts.{Act, Reply, Done, done_as, cause, is_taken, receives, does}
+use Rattle.pmg_node.specs.Choosing.{Out, announcing, telling_of, due_by, due_by_frame, marked_by_act, sends}
+use Rattle.pmg_node.specs.Codes.{Calls}
+use Rattle.pmg_node.specs.Content.{server_of, IsContent}
+use Rattle.pmg_node.specs.Fencing.{fence_after, fence_dues, AreSettledIn}
+use Rattle.pmg_node.specs.Holdings.{Holding, mapped, with_table, with_calls, settled}
+use Rattle.pmg_node.specs.Kept.{is_in, settle_where, DiffersIn}
+use Rattle.pmg_node.specs.Owns.{Own, sealed_of}
+use Rattle.pmg_node.specs.Sending.{is_quiet, own_header_of}
+use Rattle.pmg_node.specs.Servers.{Server, reply_to, sent_by, after, IsNode}
+use Rattle.pmg_node.specs.Telling.{telling_by, announcing_by}
+use Rattle.pmg_node.specs.declared.due.Due.{Due}
+use Rattle.pmg_node.specs.declared.sent.Sent.{Sent}
+use Rattle.pmg_node.proofs.ActLemmas.{accepted_reply, accepted_after, accepted_sent}
+use Rattle.pmg_node.proofs.FrameLemmas.{deliver_free}
+use Rattle.pmg_node.proofs.ChoosingNews.{present_named, keyed}
+use Rattle.pmg_node.proofs.HeaderNews.{present_lists, telling_alike, news_alike}
+use Rattle.pmg_node.proofs.KeptAgain.{settled_names, placed_differs}
+use Rattle.pmg_node.proofs.KeptSettled.{settled_same}
+use Rattle.pmg_node.proofs.NodeKept.{node_stays}
+
+-- ---- a change that is taken back
+
+-- though its headers were taken
+pub can_take_back : (k : Known) (b : TableBefore) → CanTakeBack k b → CanTakeBack (taken k []) b
+can_take_back k b can owns kept = kept_waiting (table_back k b) owns (take b.waiting []) (can owns (kept_waiting (taken k []) owns k.waiting kept))
+
+-- ---- a change that stays
+
+-- with one fence changed, and with these calls
+abbrev pub with_change : Holding → FenceName → Change → Calls → Holding
+with_change h f change calls = with_calls (with_table h (placed_by h.table f change)) calls
+
+-- The act is accepted and changes the fence, and no call of another one; what is due are the own headers that come to exist.
+pub record ChangesFence (s : Server) (a : Act) (f : FenceName) (change : Change) (reply : Reply) (calls : Calls) : Type 0 where
+  pub free : first_of (cause s.jobs s.id s.holding a) (tt {0}) ≡ Ok tt
+  pub done : does s.jobs s.id s.holding a ≡ done_as reply (with_change s.holding f change calls)
+  pub loud : is_quiet reply ≡ false
+  pub differs : DiffersIn s.jobs s.id f s.holding (with_change s.holding f change calls)
+  pub owes : (left : Holding) → left.table ≡ placed_by s.holding.table f change
+      → due_by s.jobs s.id s.holding a left ≡ flat_map (announcing s.jobs s.id) (news s.jobs s.id s.holding.table (placed_by s.holding.table f change) f)
+  pub asked : (marks : Levels) → marked_by_act marks a ≡ marks
+
+-- What comes of an act: the reply, what the node is then, and the frames that go out.
+pub record Steps (s : Server) (a : Act) (reply : Reply) (table : Known) (id : ℕ) (then : Server) (frames : List Sent) : Type 0 where
+  pub replied : reply_to s a ≡ reply
+  pub done : then ≡ after s a
+  pub sent : frames ≡ sent_by s a
+  pub kept : IsContent table id then
+
+-- Such an act of the node that these parts make, where a fence of that name changes so, and these are the table, the calls and
+-- the marks then.
+module _
+    (table : Known)
+    (id : ℕ)
+    (board : Board)
+    (own : Own)
+    (calls : Calls)
+    (held : Requests)
+    (marks : Levels)
+    (s : Server)
+    (view : server_of table id board own calls held marks ≡ s)
+    (kept : IsContent table id (server_of table id board own calls held marks))
+    (a : Act)
+    (f : FenceName)
+    (change : Change)
+    (reply : Reply)
+    (begin : Calls → Calls)
+    (act : ChangesFence s a f change reply (begin s.holding.calls))
+    (name : FenceName)
+    (named : name ≡ f)
+    (noted : Change)
+    (same : noted ≡ change)
+    (ended : Calls)
+    (are : AreSettledIn name table.jobs id (placed_by table.fences name noted) board.near board.far (begin calls) ended)
+    (table_then : Known)
+    (table_is : table_then ≡ fence_after table name noted)
+    (marks_then : Levels)
+    (marks_are : marks_then ≡ (sends (sealed_of own) marks (fence_dues table name noted)).marks) where
+  abbrev begins : Server
+  begins = server_of table id board own calls held marks
+
+  its_act : ChangesFence begins a f change reply (begin calls)
+  its_act = subst (λ (x : Server). ChangesFence x a f change reply (begin x.holding.calls)) (sym view) act
+
+  abbrev left : Holding
+  left = with_change begins.holding f change ended
+
+  loud : is_quiet (does begins.jobs begins.id begins.holding a).reply ≡ false
+  loud = ap (λ (d : Done). is_quiet d.reply) its_act.done ∙ act.loud
+
+  leaves : settled begins.jobs begins.id (does begins.jobs begins.id begins.holding a).left ≡ left
+  leaves =
+      let g = with_change begins.holding f change (begin calls) in
+      ap (λ (d : Done). settled begins.jobs begins.id d.left) its_act.done
+      ∙ settled_names begins.jobs begins.id f begins.holding g kept.node.server.settled its_act.differs
+      ∙ ap (with_calls g) (sym (are g (λ i. placed_by table.fences (sym named i) (sym same i)) refl refl ∙ (λ i. mapped (settle_where table.jobs id g (is_in (named i))) (begin calls))))
+
+  abbrev dues : List Due
+  dues = fence_dues table f change
+
+  owes : due_by begins.jobs begins.id begins.holding a left ≡ dues
+  owes =
+      its_act.owes left refl
+      ∙ sym (news_alike table.jobs id table.fences (placed_by table.fences f change) f)
+      ∙ ap (λ (n : ℕ). flat_map (announcing_by table.jobs n) (news table.jobs n table.fences (placed_by table.fences f change) f)) (sym kept.same)
+
+  its_done : server_of table_then id board own ended held marks_then ≡ after s a
+  its_done =
+      (λ i. server_of (table_is i) id board own ended held (marks_are i))
+      ∙ (λ i. server_of (fence_after table (named i) (same i)) id board own ended held (sends (sealed_of own) (sym (act.asked marks) i) (fence_dues table (named i) (same i))).marks)
+      ∙ sym (accepted_after begins a its_act.free loud left leaves dues owes)
+      ∙ ap (λ (x : Server). after x a) view
+
+  pub fence_steps : Steps s a reply table_then id (server_of table_then id board own ended held marks_then) (sends (sealed_of own) marks (fence_dues table name noted)).frames
+  fence_steps = record {
+    replied = ap (λ (x : Server). reply_to x a) (sym view) ∙ accepted_reply begins a its_act.free loud left leaves dues owes ∙ ap (λ (d : Done). d.reply) its_act.done;
+    done = its_done;
+    sent = (λ i. (sends (sealed_of own) (sym (act.asked marks) i) (fence_dues table (named i) (same i))).frames)
+        ∙ sym (accepted_sent begins a its_act.free loud left leaves dues owes)
+        ∙ ap (λ (x : Server). sent_by x a) view;
+    kept = record {
+      same = ap (λ (k : Known). k.node) table_is ∙ kept.same;
+      told = ap (λ (k : Known). k.waiting) table_is;
+      node = subst IsNode (sym its_done) (node_stays s a (subst IsNode view kept.node));
+    };
+  }
+
+-- ---- frames
+
+does_taken : (jobs : Jobs) (id : ℕ) (h : Holding) (frame : Frame) → is_taken jobs id frame ≡ true → does jobs id h (Act.deliver frame) ≡ done_as Reply.taken (receives h frame)
+unfolding does
+does_taken jobs id h frame e = ap (λ (b : Bool). cond b (done_as Reply.taken (receives h frame)) (done_as Reply.ignored h)) e
+
+none_mapped : {A B : Type 0} (f : A → B) (o : Option A) → option_map f o ≡ None → o ≡ None
+none_mapped f None e = refl
+none_mapped f (Some x) e = absurd cc
+
+module _ (s : Server) where
+  -- a header
+  header_act : (hd : Header) → is_taken s.jobs s.id (frames.Header hd) ≡ true → ChangesFence s (Act.deliver (frames.Header hd)) hd.name (changes.Told hd) Reply.taken s.holding.calls
+  unfolding receives due_by due_by_frame marked_by_act
+  header_act hd e = record {
+    free = deliver_free s.jobs s.id s.holding (frames.Header hd);
+    done = does_taken s.jobs s.id s.holding (frames.Header hd) e;
+    loud = refl;
+    differs = placed_differs s.jobs s.id s.holding hd.name _ _;
+    owes = λ left is. ap (λ t. flat_map (announcing s.jobs s.id) (news s.jobs s.id s.holding.table t hd.name)) is;
+    asked = λ marks. refl;
+  }
+
+  -- a request for a header that is not there
+  ask_act : (ask : FenceAsk) → is_taken s.jobs s.id (frames.FenceAsk ask) ≡ true → own_header_of s.jobs s.id s.holding ask.name ≡ None
+      → ChangesFence s (Act.deliver (frames.FenceAsk ask)) ask.name changes.Learned Reply.taken s.holding.calls
+  unfolding receives due_by due_by_frame marked_by_act
+  ask_act ask e none = record {
+    free = deliver_free s.jobs s.id s.holding (frames.FenceAsk ask);
+    done = does_taken s.jobs s.id s.holding (frames.FenceAsk ask) e;
+    loud = refl;
+    differs = placed_differs s.jobs s.id s.holding ask.name _ _;
+    owes = λ left is.
+        ap (λ o. telling_of s.jobs s.id ask.node ask.name o (flat_map (announcing s.jobs s.id) (news s.jobs s.id s.holding.table left.table ask.name))) none
+        ∙ ap (λ t. flat_map (announcing s.jobs s.id) (news s.jobs s.id s.holding.table t ask.name)) is;
+    asked = λ marks. refl;
+  }
+
+module _
+    (table : Known)
+    (id : ℕ)
+    (board : Board)
+    (own : Own)
+    (calls : Calls)
+    (held : Requests)
+    (marks : Levels)
+    (s : Server)
+    (view : server_of table id board own calls held marks ≡ s)
+    (kept : IsContent table id (server_of table id board own calls held marks))
+    (name : FenceName)
+    (ended : Calls)
+    (table_then : Known)
+    (marks_then : Levels) where
+  abbrev ends : Server
+  ends = server_of table_then id board own ended held marks_then
+
+  pub header_steps : (hd copy : Header) → name ≡ hd.name → copy ≡ hd → is_taken s.jobs s.id (frames.Header hd) ≡ true
+      → AreSettledIn name table.jobs id (placed_by table.fences name (changes.Told copy)) board.near board.far calls ended
+      → table_then ≡ fence_after table name (changes.Told copy) → marks_then ≡ (sends (sealed_of own) marks (fence_dues table name (changes.Told copy))).marks
+      → Steps s (Act.deliver (frames.Header hd)) Reply.taken table_then id ends (sends (sealed_of own) marks (fence_dues table name (changes.Told copy))).frames
+  header_steps hd copy named copied taken are table_is marks_are =
+      fence_steps table id board own calls held marks s view kept (Act.deliver (frames.Header hd)) hd.name (changes.Told hd) Reply.taken (λ m. m) (header_act s hd taken) name named (changes.Told copy)
+      (ap (λ (x : Header). changes.Told x) copied) ended are table_then table_is marks_then marks_are
+
+  pub ask_steps : (ask : FenceAsk) → name ≡ ask.name → is_taken s.jobs s.id (frames.FenceAsk ask) ≡ true
+      → option_map (header table.node name) (present table.jobs table.node table.fences name) ≡ None
+      → AreSettledIn name table.jobs id (placed_by table.fences name changes.Learned) board.near board.far calls ended
+      → table_then ≡ fence_after table name changes.Learned → marks_then ≡ (sends (sealed_of own) marks (fence_dues table name changes.Learned)).marks
+      → Steps s (Act.deliver (frames.FenceAsk ask)) Reply.taken table_then id ends (sends (sealed_of own) marks (fence_dues table name changes.Learned)).frames
+  ask_steps ask named taken none are table_is marks_are =
+      let not_there =
+      ap (λ (x : Server). present x.jobs x.id x.holding.table ask.name) (sym view)
+      ∙ (λ i. present table.jobs (sym kept.same i) table.fences (sym named i))
+      ∙ none_mapped (header table.node name) (present table.jobs table.node table.fences name) none in
+      fence_steps table id board own calls held marks s view kept (Act.deliver (frames.FenceAsk ask)) ask.name changes.Learned Reply.taken (λ m. m) (ask_act s ask taken not_there) name named changes.Learned
+      refl ended are table_then table_is marks_then marks_are
+
+-- ---- a request for a header that is there
+
+some_mapped : {A B : Type 0} (f : A → B) (o : Option A) (y : B) → Some y ≡ option_map f o → (x : A) × (o ≡ Some x) × (y ≡ f x)
+some_mapped f None y e = absurd cc
+some_mapped f (Some x) y e = (x, refl, cc)
+
+-- a name that is there is learned again
+learned_again : (t : Fences) (f : FenceName) → has_name t f ≡ true → learned t f ≡ t
+unfolding placed has_name series_at fence_at
+learned_again t f there =
+    let found = keyed f.signature f.instance (finite.get t.series f.signature) there in
+    let s = found.0 in
+    let rows : finite.insert s.fences f.instance (unwrap_or (finite.get s.fences f.instance) no_fence) ≡ s.fences =
+    ap (λ o. finite.insert s.fences f.instance (unwrap_or o no_fence)) found.3
+    ∙ insert_same nat_cmp_total nat_cmp-IsAntisymmetric s.fences f.instance found.2 found.3 in
+    let all =
+    ap
+    (λ o. let x = unwrap_or o no_series in
+    finite.insert t.series f.signature (record { counts = x.counts; fences = finite.insert x.fences f.instance (unwrap_or (finite.get x.fences f.instance) no_fence) }))
+    found.1
+    ∙ ap (λ fs. finite.insert t.series f.signature (record { counts = s.counts; fences = fs })) rows
+    ∙ insert_same signature_total signatures_exact t.series f.signature s found.1 in
+    λ i. record { series = all i; ends = t.ends }
+
+module _
+    (table : Known)
+    (id : ℕ)
+    (board : Board)
+    (own : Own)
+    (calls : Calls)
+    (held : Requests)
+    (marks : Levels)
+    (s : Server)
+    (view : server_of table id board own calls held marks ≡ s)
+    (kept : IsContent table id (server_of table id board own calls held marks))
+    (ask : FenceAsk)
+    (its : is_taken s.jobs s.id (frames.FenceAsk ask) ≡ true)
+    (hd : Header)
+    (there : Some hd ≡ option_map (header table.node ask.name) (present table.jobs table.node table.fences ask.name))
+    (marks_then : Levels)
+    (marks_are : marks_then ≡ (sends (sealed_of own) marks (telling_by hd ask.node)).marks) where
+  abbrev was : Server
+  was = server_of table id board own calls held marks
+
+  abbrev asks : Act
+  asks = Act.deliver (frames.FenceAsk ask)
+
+  its_header : (ls : List Local) × (present table.jobs id table.fences ask.name ≡ Some ls) × (hd ≡ header id ask.name ls)
+  its_header = some_mapped (header id ask.name) (present table.jobs id table.fences ask.name) hd
+      (there ∙ (λ i. option_map (header (kept.same i) ask.name) (present table.jobs (kept.same i) table.fences ask.name)))
+
+  known : learned table.fences ask.name ≡ table.fences
+  known = learned_again table.fences ask.name (present_named table.jobs id table.fences ask.name its_header.0 its_header.1)
+
+  does_nothing : does was.jobs was.id was.holding asks ≡ done_as Reply.taken was.holding
+  unfolding receives
+  does_nothing =
+      does_taken was.jobs was.id was.holding (frames.FenceAsk ask) (ap (λ (x : Server). is_taken x.jobs x.id (frames.FenceAsk ask)) view ∙ its)
+      ∙ ap (λ t. done_as Reply.taken (with_table was.holding t)) known
+
+  is_loud : is_quiet (does was.jobs was.id was.holding asks).reply ≡ false
+  is_loud = ap (λ (d : Done). is_quiet d.reply) does_nothing
+
+  stays : settled was.jobs was.id (does was.jobs was.id was.holding asks).left ≡ was.holding
+  stays = ap (λ (d : Done). settled was.jobs was.id d.left) does_nothing ∙ settled_same was.jobs was.id was.holding kept.node.server.settled
+
+  owes_it : due_by was.jobs was.id was.holding asks was.holding ≡ telling_by hd ask.node
+  unfolding due_by due_by_frame
+  owes_it =
+      ap (λ o. telling_of table.jobs id ask.node ask.name o (flat_map (announcing table.jobs id) (news table.jobs id table.fences table.fences ask.name))) its_header.1
+      ∙ sym (telling_alike table.jobs id (header id ask.name its_header.0) ask.node (present_lists table.jobs id table.fences ask.name its_header.0 its_header.1))
+      ∙ ap (λ (h : Header). telling_by h ask.node) (sym its_header.2)
+
+  free_ask : first_of (cause was.jobs was.id was.holding asks) (tt {0}) ≡ Ok tt
+  free_ask = deliver_free was.jobs was.id was.holding (frames.FenceAsk ask)
+
+  told_done : server_of table id board own calls held marks_then ≡ after was asks
+  unfolding marked_by_act
+  told_done =
+      (λ i. server_of table id board own calls held (marks_are i))
+      ∙ sym (accepted_after was asks free_ask is_loud was.holding stays (telling_by hd ask.node) owes_it)
+
+  told_sent : (sends (sealed_of own) marks (telling_by hd ask.node)).frames ≡ sent_by was asks
+  unfolding marked_by_act
+  told_sent = sym (accepted_sent was asks free_ask is_loud was.holding stays (telling_by hd ask.node) owes_it)
+
+  pub told_steps : Steps s asks Reply.taken table id (server_of table id board own calls held marks_then) (sends (sealed_of own) marks (telling_by hd ask.node)).frames
+  told_steps = subst
+      (λ (x : Server). Steps x asks Reply.taken table id (server_of table id board own calls held marks_then) (sends (sealed_of own) marks (telling_by hd ask.node)).frames) view (record {
+        replied = accepted_reply was asks free_ask is_loud was.holding stays (telling_by hd ask.node) owes_it ∙ ap (λ (d : Done). d.reply) does_nothing;
+        done = told_done;
+        sent = told_sent;
+        kept = record { same = kept.same; told = kept.told; node = subst IsNode (sym told_done) (node_stays was asks kept.node) };
+      })

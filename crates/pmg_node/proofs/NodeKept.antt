@@ -1,0 +1,98 @@
+-- What a node keeps stays so.
+use Rattle.std.proofs.Common.{◌≡◌, ℕ, Bool, true, false, cond, Option, Some, None, is_some, refl, ap, ◌∙◌}
+use Rattle.std.specs.FinMap as finite
+use Rattle.std.specs.Ordering.{eq_by_cmp}
+use Rattle.pmg_value.specs.Process.{proc_cmp, is_host}
+use Rattle.pmg_value.specs.declared.process.Proc.{Proc}
+use Rattle.pmg_value.proofs.ProcessOrder.{procs_total}
+use Rattle.pmg_commit.specs.Sealed.{Sealed, sealed_with, ended_with}
+use Rattle.pmg_pset.specs.Changes.{definition, deletion}
+use Rattle.pmg_pset.specs.Sets.{host, changed}
+use Rattle.pmg_frame.specs.declared.frame.Frame.{Frame}
+use Rattle.pmg_frame.specs.declared.frame.Frame.TheVariants as frames
+use Rattle.pmg_jobinfo.specs.Jobs.{Jobs}
+use Rattle.pmg_get.specs.Gets.{Outcome}
+use Rattle.std.specs.Prelude.{nat_lt, if◌then◌else◌}
+use Rattle.pmg_node.specs.Acts.{Act, Request, Reply, done_as, members_of, is_taken, holds_unless, receives, leaves, takes, asks, serves, does, acts}
+use Rattle.pmg_node.specs.Holdings.{Get, Standing, Holding, sealing, sealer_of, call_of, answer_in}
+use Rattle.pmg_node.specs.Servers.{Server, after, HasSealers, IsNode}
+use Rattle.pmg_node.proofs.KeptActs.{server_stays}
+use Rattle.pmg_node.proofs.KeptBasics.{act_cases}
+
+still_there : (h : Holding) (by : Proc) (z : Sealed) (p : Proc) (b : Bool) → is_some (finite.get h.sealers p) ≡ true → is_some (finite.get (cond b h.sealers (finite.insert h.sealers by z)) p) ≡ true
+still_there h by z p true there = there
+still_there h by z p false there =
+    ap is_some (finite.get-insert procs_total h.sealers by z p)
+    ∙ elim (eq_by_cmp proc_cmp p by) as (λ b. is_some (cond b (Some z) (finite.get h.sealers p)) ≡ true) [ true ↦ refl | false ↦ there ]
+
+module _ (jobs : Jobs) (id : ℕ) (h : Holding) (has : HasSealers jobs id h) where
+  abbrev pub Has : Holding → Type 0
+  Has g = HasSealers jobs id g
+
+  sealing_has : (by : Proc) (z : Sealed) → Has (sealing h by z)
+  sealing_has by z p own = still_there h by z p (is_host by) (has p own)
+
+  leave_has : (p : Proc) (c : Option Standing) → Has (leaves h p c).left
+  leave_has p (Some (Standing.in_fence f)) = has
+  leave_has p (Some (Standing.released f gone)) = has
+  leave_has p (Some (Standing.parked get)) = has
+  leave_has p (Some (Standing.answered get outcome)) = has
+  leave_has p None = has
+
+  take_has : (p : Proc) (c : Option Standing) → Has (takes h p c).left
+  take_has p (Some (Standing.in_fence f)) = has
+  take_has p (Some (Standing.released f gone)) = has
+  take_has p (Some (Standing.parked get)) = has
+  take_has p (Some (Standing.answered get outcome)) = has
+  take_has p None = has
+
+  ask_has : (p : Proc) (get : Get) (o : Outcome) → Has (asks h p get o).left
+  ask_has p get Outcome.parks = has
+  ask_has p get (Outcome.found value) = has
+  ask_has p get Outcome.absent = has
+  ask_has p get Outcome.outside = has
+
+  serve_has : (r : Request) → Has (serves jobs id h r).left
+  unfolding serves
+  serve_has (Request.enter p list collect) = has
+  serve_has (Request.leave p) = leave_has p (call_of h p)
+  serve_has (Request.ask p get mode) = ask_has p get (answer_in jobs id h get mode)
+  serve_has (Request.take p) = take_has p (call_of h p)
+  serve_has (Request.terminate p) = sealing_has p (ended_with (sealer_of h p))
+  serve_has (Request.define name list) = sealing_has host (changed h.sets name (definition name (members_of jobs list)).bytes)
+  serve_has (Request.delete name) = sealing_has host (changed h.sets name (deletion name).bytes)
+  serve_has Request.nudge = has
+
+  hold_has : (b : Bool) (node : ℕ) (p : Proc) (level : ℕ) → Has (holds_unless b h node p level)
+  hold_has true node p level = has
+  hold_has false node p level = has
+
+  receive_has : (frame : Frame) → Has (receives h frame)
+  unfolding receives
+  receive_has (frames.Piece c) = has
+  receive_has (frames.Header hd) = has
+  receive_has (frames.FenceAsk a) = has
+  receive_has (frames.RangeAsk a) = has
+  receive_has (frames.DirectAsk a) = hold_has (nat_lt a.level (sealer_of h a.proc).level) a.node a.proc a.level
+
+  deliver_has : (frame : Frame) (b : Bool) → Has (if b then done_as Reply.taken (receives h frame) else done_as Reply.ignored h).left
+  deliver_has frame true = receive_has frame
+  deliver_has frame false = has
+
+  do_has : (a : Act) → Has (does jobs id h a).left
+  unfolding does
+  do_has (Act.request r) = serve_has r
+  do_has (Act.commit p b) = sealing_has p (sealed_with (sealer_of h p) b)
+  do_has (Act.deliver frame) = deliver_has frame (is_taken jobs id frame)
+
+  pub sealers_stay : (a : Act) → Has (acts jobs id h a).left
+  sealers_stay a = act_cases jobs id h a (λ d. Has d.left) (λ free. do_has a) (λ e. has)
+
+-- and so does a node
+pub node_stays : (s : Server) (a : Act) → IsNode s → IsNode (after s a)
+node_stays s a is = record {
+  jobs = is.jobs;
+  node = is.node;
+  server = server_stays s.jobs s.id s.holding a is.server;
+  sealers = sealers_stay s.jobs s.id s.holding is.sealers a;
+}

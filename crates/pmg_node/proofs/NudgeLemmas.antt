@@ -1,0 +1,69 @@
+-- A nudge: what is asked for again, and that nothing else changes.
+use Rattle.std.proofs.Common.{◌≡◌, ℕ, List, [], ◌∷◌, ◌++◌, Some, Ok, refl, ◌∙◌}
+use Rattle.std.specs.FinMap as finite
+use Rattle.std.specs.List.{flat_map}
+use Rattle.std.specs.Option.{option_to_list}
+use Rattle.std.proofs.lemmas.List.{append-nil}
+use Rattle.std.proofs.lemmas.List.Concat.{flat_map-append}
+use Rattle.pmg_value.specs.CheckOrder.{first_of}
+use Rattle.pmg_value.specs.declared.process.Proc.{Proc}
+use Rattle.pmg_jobinfo.specs.Jobs.{Jobs}
+use Rattle.pmg_node.specs.Acts.{Act, Request, Reply, cause, request_cause, serves, does}
+use Rattle.pmg_node.specs.Calls.{target_of, all_targets}
+use Rattle.pmg_node.specs.Choosing.{Out, asking, asking_for, nudging, due_by, due_by_request, marked_by_act, sends}
+use Rattle.pmg_node.specs.Holdings.{Standing, Holding, sealer_of}
+use Rattle.pmg_node.specs.Kept.{IsSettled}
+use Rattle.pmg_node.specs.Servers.{Server, reply_to, sent_by, after}
+use Rattle.pmg_node.specs.declared.due.Due.{Due}
+use Rattle.pmg_node.proofs.ActLemmas.{accepted_reply, accepted_after, accepted_sent}
+use Rattle.pmg_node.proofs.FrameLemmas.{with_marks}
+use Rattle.pmg_node.proofs.KeptSettled.{settled_same}
+
+-- ---- gets that wait
+
+module _ (jobs : Jobs) (id : ℕ) (h : Holding) where
+  one_asked : (s : Standing) → flat_map (asking jobs id h) (option_to_list (target_of s)) ≡ asking_for jobs id h (Some s)
+  one_asked (Standing.in_fence f) = refl
+  one_asked (Standing.released f gone) = refl
+  one_asked (Standing.parked get) = append-nil (asking jobs id h get.target)
+  one_asked (Standing.answered get outcome) = refl
+
+  rows_asked : (rows : List (Proc × Standing))
+      → flat_map (asking jobs id h) (flat_map (λ e. option_to_list (target_of e.1)) rows) ≡ flat_map (λ e. asking_for jobs id h (Some e.1)) rows
+  rows_asked [] = refl
+  rows_asked (e ∷ rows) =
+      flat_map-append (asking jobs id h) (option_to_list (target_of e.1)) (flat_map (λ e. option_to_list (target_of e.1)) rows)
+      ∙ (λ i. one_asked e.1 i ++ rows_asked rows i)
+
+  -- the homes of the processes whose keys gets wait for are asked
+  pub targets_asked : flat_map (asking jobs id h) (all_targets h.calls) ≡ flat_map (λ e. asking_for jobs id h (Some e.1)) (finite.entries h.calls)
+  targets_asked = rows_asked (finite.entries h.calls)
+
+-- ---- the act
+
+-- what goes out
+abbrev pub nudge_out : Server → Out
+nudge_out s = sends (sealer_of s.holding) s.marks (nudging s.jobs s.id s.holding)
+
+module _ (s : Server) (is : IsSettled s.jobs s.id s.holding) where
+  nudge_free : first_of (cause s.jobs s.id s.holding (Act.request Request.nudge)) (tt {0}) ≡ Ok tt
+  unfolding cause request_cause
+  nudge_free = refl
+
+  pub nudge_reply : reply_to s (Act.request Request.nudge) ≡ Reply.done
+  unfolding does serves due_by due_by_request
+  nudge_reply =
+      accepted_reply s (Act.request Request.nudge) nudge_free refl s.holding (settled_same s.jobs s.id s.holding is) (nudging s.jobs s.id s.holding) refl
+
+  pub nudge_after : after s (Act.request Request.nudge) ≡ with_marks (nudge_out s).marks s
+  unfolding does serves due_by due_by_request marked_by_act
+  nudge_after =
+      accepted_after s (Act.request Request.nudge) nudge_free refl s.holding (settled_same s.jobs s.id s.holding is) (nudging s.jobs s.id s.holding) refl
+
+  pub nudge_sent : sent_by s (Act.request Request.nudge) ≡ (nudge_out s).frames
+  unfolding does serves due_by due_by_request marked_by_act
+  nudge_sent =
+      accepted_sent s (Act.request Request.nudge) nudge_free refl s.holding (settled_same s.jobs s.id s.holding is) (nudging s.jobs s.id s.holding) refl
+
+pub nudge_sends : (s old : Server) (dues : List Due) → old ≡ s → dues ≡ nudging s.jobs s.id s.holding → sends (sealer_of old.holding) old.marks dues ≡ nudge_out s
+nudge_sends s old dues same due = λ i. sends (sealer_of (same i).holding) (same i).marks (due i)

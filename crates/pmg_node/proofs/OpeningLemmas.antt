@@ -1,0 +1,39 @@
+-- A new node keeps what a node keeps.
+use Rattle.std.proofs.Common.{◌≡◌, ℕ, Bool, true, false, cond, List, [], ◌∷◌, map, Some, is_some, Result, Ok, inl, inr, refl, sym, ap, ◌∙◌}
+use Rattle.std.specs.BTreeMap.{is_at}
+use Rattle.std.specs.Cmp.{eq_by_cmp_equiv}
+use Rattle.pmg_value.specs.Lists.{In}
+use Rattle.pmg_value.specs.Process.{proc_cmp}
+use Rattle.pmg_value.specs.declared.process.Proc.{Proc}
+use Rattle.pmg_value.proofs.ProcessOrder.{procs_total}
+use Rattle.pmg_value.proofs.RowLemmas.{at_key, get-map_of}
+use Rattle.pmg_commit.specs.Sealed.{fresh}
+use Rattle.pmg_jobinfo.specs.Jobs.{Jobs, AreJobs, is_node}
+use Rattle.pmg_jobinfo.specs.Procs.{procs_at}
+use Rattle.pmg_jobinfo.proofs.ListedLemmas.{own_are_listed}
+use Rattle.pmg_node.specs.Holdings.{new_holding}
+use Rattle.pmg_node.specs.Opening.{new_server}
+use Rattle.pmg_node.specs.Servers.{HasSealers, IsNode}
+use Rattle.pmg_node.proofs.KeptActs.{new_is_server}
+
+-- each of them has its place
+fresh_at : (ps : List Proc) (p : Proc) → In p ps → is_some (at_key proc_cmp p (map (λ p. (p, fresh p)) ps)) ≡ true
+fresh_at [] p i = absurd i
+fresh_at (q ∷ ps) p (inl e) =
+    ap (λ (b : Bool). is_some (cond b (Some (fresh q)) (at_key proc_cmp p (map (λ p. (p, fresh p)) ps)))) (ap (is_at (proc_cmp p)) (sym e) ∙ (eq_by_cmp_equiv procs_total).refl p)
+fresh_at (q ∷ ps) p (inr i) = by_test (is_at (proc_cmp p) q) (fresh_at ps p i)
+  where
+    by_test : (b : Bool) → is_some (at_key proc_cmp p (map (λ p. (p, fresh p)) ps)) ≡ true → is_some (cond b (Some (fresh q)) (at_key proc_cmp p (map (λ p. (p, fresh p)) ps))) ≡ true
+    by_test true h = refl
+    by_test false h = h
+
+new_has : (jobs : Jobs) (id : ℕ) → HasSealers jobs id (new_holding jobs id)
+new_has jobs id p own =
+    ap is_some (get-map_of procs_total (map (λ p. (p, fresh p)) (procs_at jobs id)) p)
+    ∙ fresh_at (procs_at jobs id) p (own_are_listed jobs id p own.0 own.1)
+
+pub new_is_node : (jobs : Jobs) (id : ℕ) → AreJobs jobs → is_node jobs id ≡ true → IsNode (new_server jobs id)
+new_is_node jobs id are is = record { jobs = are; node = is; server = new_is_server jobs id; sealers = new_has jobs id }
+
+pub same_ok : {A E : Type 0} (a b : A) → ◌≡◌ {A = Result A E} (Ok a) (Ok b) → b ≡ a
+same_ok a b e = cc

@@ -1,0 +1,214 @@
+-- Answers as replies, and that no call is due NoMemory.
+use Rattle.std.proofs.Common.{◌≡◌, ℕ, Bool, true, false, cond, Option, Some, None, Result, Ok, Err, refl, sym, ap, subst, ◌∙◌}
+use Rattle.std.specs.Prelude.{if◌then◌else◌, IfOk}
+use Rattle.pmg_value.specs.CheckOrder.{first_of}
+use Rattle.pmg_value.specs.declared.process.Proc.{Proc}
+use Rattle.pmg_value.specs.declared.refusal.Refusal.{Refusal}
+use Rattle.pmg_value.specs.declared.refusal.Refusal.TheVariants as refusals
+use Rattle.pmg_scope.specs.declared.scope.Reach.{Reach}
+use Rattle.pmg_scope.specs.declared.scope.Reach.TheVariants as reach
+use Rattle.pmg_commit.specs.Knowledge.{Contribution}
+use Rattle.pmg_commit.specs.Sealed.{Sealed, ended_with, piece_at}
+use Rattle.pmg_pset.specs.Sets.{host}
+use Rattle.pmg_frame.specs.declared.frame.Frame.{Frame}
+use Rattle.pmg_jobinfo.specs.Jobs.{Jobs}
+use Rattle.pmg_get.specs.Gets.{Outcome}
+use Rattle.pmg_node.specs.Acting.{acted_reply, commit_joins, joins_in, joins_none, SameAnswer}
+use Rattle.pmg_node.specs.Acts.{Act, Request, Reply, Done, done_as, reply_of, cause, request_cause, is_taken, receives, serves, does, ends_as, leaves, takes, over, acts}
+use Rattle.pmg_node.specs.Holdings.{Standing, Holding, sealer_in, sealer_of, call_of}
+use Rattle.pmg_node.specs.Servers.{Server, reply_to, after, reply_in, Refuses, Replies, RefusesEntry, RepliesEntry, IsAnswered, IsEntryAccepted}
+use Rattle.pmg_node.specs.Joining.{Joins, no_joins, seal_joins, act_joins, joins}
+use Rattle.pmg_node.specs.Sending.{is_quiet}
+use Rattle.pmg_node.specs.declared.act.Acted.{Acted}
+use Rattle.pmg_node.specs.declared.committing.Committed.{Committed}
+use Rattle.pmg_node.specs.Replies.{ended_reply}
+use Rattle.pmg_node.proofs.JoiningLemmas.{joins_loud}
+use Rattle.pmg_node.proofs.KeptChanges.{sealer_there}
+use Rattle.pmg_node.proofs.SilentLemmas.{then_answer, acts_by}
+
+-- a refusal that is due is told
+refuses_due : (e : Refusal) (due : Reply) → (due ≡ Reply.refused refusals.NoMemory → ⊥) → due ≡ Reply.refused e → RefusesEntry e due
+refuses_due refusals.NoMemory due never is = absurd (never is)
+refuses_due refusals.BadParam due never is = is
+refuses_due refusals.NotFound due never is = is
+refuses_due refusals.OutsideScope due never is = is
+refuses_due refusals.UnknownNamespace due never is = is
+refuses_due refusals.NotMine due never is = is
+refuses_due refusals.Busy due never is = is
+refuses_due refusals.Terminated due never is = is
+refuses_due refusals.NotAParticipant due never is = is
+refuses_due refusals.TooMany due never is = is
+refuses_due (refusals.BadFrame fault) due never is = is
+refuses_due refusals.Exists due never is = is
+refuses_due refusals.Collision due never is = is
+refuses_due refusals.Stale due never is = is
+refuses_due refusals.Unordered due never is = is
+refuses_due refusals.Closed due never is = is
+
+-- the same answer is the one that is due, which is never NoMemory
+module _ {X : Type 0} (view : X → Reply) (gives : X → Joins) where
+  pub entry_told : (r : Result X Refusal) (q : Result Acted Refusal) (due : Reply) → SameAnswer view gives r q → reply_in view r ≡ due → (due ≡ Reply.refused refusals.NoMemory → ⊥)
+      → RepliesEntry acted_reply q due
+  entry_told (Ok x) (Ok acted) due same is never = sym is ∙ same.0
+  entry_told (Err e) (Err f) due same is never = refuses_due f due never (sym is ∙ ap Reply.refused same)
+  entry_told (Ok x) (Err f) due same is never = absurd same
+  entry_told (Err e) (Ok acted) due same is never = absurd same
+
+  -- and where it is NoMemory, that was the answer
+  pub entry_short : (r : Result X Refusal) (q : Result Acted Refusal) → SameAnswer view gives r q → q ≡ Err refusals.NoMemory → r ≡ Err refusals.NoMemory
+  entry_short (Ok x) (Ok acted) same is = absurd cc
+  entry_short (Err e) (Err f) same is = ap Err same ∙ cc
+  entry_short (Ok x) (Err f) same is = absurd same
+  entry_short (Err e) (Ok acted) same is = absurd same
+
+-- ---- no cause is one of NoMemory
+
+not_short : (e : Refusal) → (e ≡ refusals.NoMemory → ⊥) → (b : Bool) (rest : Result (Unit {0}) Refusal) → (rest ≡ Err refusals.NoMemory → ⊥) → cond b (Err e) rest ≡ Err refusals.NoMemory → ⊥
+not_short e apart true rest never is = apart cc
+not_short e apart false rest never is = never is
+
+abbrev nothing : Result (Unit {0}) Refusal
+nothing = Ok tt
+
+none_short : nothing ≡ Err refusals.NoMemory → ⊥
+none_short is = cc
+
+never_short : (has_cause : Refusal → Bool) → first_of has_cause (tt {0}) ≡ Err refusals.NoMemory → ⊥
+never_short has_cause =
+    not_short refusals.Closed (λ is. cc) (has_cause refusals.Closed) _ (not_short refusals.BadParam (λ is. cc) (has_cause refusals.BadParam) _ (not_short refusals.UnknownNamespace (λ is. cc) (has_cause refusals.UnknownNamespace) _ (not_short refusals.NotMine (λ is. cc) (has_cause refusals.NotMine) _ (not_short refusals.Terminated (λ is. cc) (has_cause refusals.Terminated) _ (not_short refusals.Busy (λ is. cc) (has_cause refusals.Busy) _ (not_short refusals.NotAParticipant (λ is. cc) (has_cause refusals.NotAParticipant) _ (not_short refusals.Exists (λ is. cc) (has_cause refusals.Exists) _ (not_short refusals.NotFound (λ is. cc) (has_cause refusals.NotFound) _ (not_short refusals.OutsideScope (λ is. cc) (has_cause refusals.OutsideScope) _ (not_short refusals.TooMany (λ is. cc) (has_cause refusals.TooMany) _ (none_short)))))))))))
+
+refused_apart : (e f : Refusal) → Reply.refused e ≡ Reply.refused f → e ≡ f
+refused_apart e f is = cc
+
+-- a reply that is refused as NoMemory, where what is done replies nothing like it
+module _ (jobs : Jobs) (id : ℕ) (h : Holding) where
+  over_short : (d : Done) → (d.reply ≡ Reply.refused refusals.NoMemory → ⊥) → (r : Result (Unit {0}) Refusal) → (r ≡ Err refusals.NoMemory → ⊥)
+      → (over jobs id h (then_answer r d)).reply ≡ Reply.refused refusals.NoMemory → ⊥
+  over_short d never (Ok u) other is = never is
+  over_short d never (Err e) other is = other (ap Err (refused_apart e refusals.NoMemory is))
+
+  pub acts_short : (a : Act) → ((does jobs id h a).reply ≡ Reply.refused refusals.NoMemory → ⊥) → (acts jobs id h a).reply ≡ Reply.refused refusals.NoMemory → ⊥
+  acts_short a never is =
+      over_short (does jobs id h a) never (first_of (cause jobs id h a) tt) (never_short (cause jobs id h a)) (ap (λ (d : Done). d.reply) (sym (acts_by jobs id h a)) ∙ is)
+
+  leaves_short : (p : Proc) (c : Option Standing) → (leaves h p c).reply ≡ Reply.refused refusals.NoMemory → ⊥
+  leaves_short p (Some (Standing.in_fence f)) is = cc
+  leaves_short p (Some (Standing.released f gone)) is = cc
+  leaves_short p (Some (Standing.parked get)) is = cc
+  leaves_short p (Some (Standing.answered get outcome)) is = cc
+  leaves_short p None is = cc
+
+  outcome_short : (o : Outcome) → reply_of o ≡ Reply.refused refusals.NoMemory → ⊥
+  outcome_short (Outcome.found value) is = cc
+  outcome_short Outcome.absent is = cc
+  outcome_short Outcome.outside is = cc
+  outcome_short Outcome.parks is = cc
+
+  takes_short : (p : Proc) (c : Option Standing) → (takes h p c).reply ≡ Reply.refused refusals.NoMemory → ⊥
+  takes_short p (Some (Standing.in_fence f)) is = cc
+  takes_short p (Some (Standing.released f gone)) is = cc
+  takes_short p (Some (Standing.parked get)) is = cc
+  takes_short p (Some (Standing.answered get outcome)) is = outcome_short outcome is
+  takes_short p None is = cc
+
+  pub leave_short : (p : Proc) → (acts jobs id h (Act.request (Request.leave p))).reply ≡ Reply.refused refusals.NoMemory → ⊥
+  unfolding does serves
+  leave_short p = acts_short (Act.request (Request.leave p)) (leaves_short p (call_of h p))
+
+  pub take_short : (p : Proc) → (acts jobs id h (Act.request (Request.take p))).reply ≡ Reply.refused refusals.NoMemory → ⊥
+  unfolding does serves
+  take_short p = acts_short (Act.request (Request.take p)) (takes_short p (call_of h p))
+
+  -- what is never refused
+  pub nudge_accepted : IsEntryAccepted (acts jobs id h (Act.request Request.nudge)).reply
+  unfolding cause request_cause does serves
+  nudge_accepted = tt
+
+  pub deliver_accepted : (frame : Frame) → IsEntryAccepted (acts jobs id h (Act.deliver frame)).reply
+  unfolding cause does
+  deliver_accepted frame = by_test (is_taken jobs id frame)
+    where
+      by_test : (b : Bool) → IsEntryAccepted (over jobs id h (Ok (if b then done_as Reply.taken (receives h frame) else done_as Reply.ignored h))).reply
+      by_test true = tt
+      by_test false = tt
+
+-- ---- what is joined
+
+module _ {X : Type 0} (view : X → Reply) (s : Server) (a : Act) where
+  pub nothing_told : (r : Result X Refusal) (q : Result Acted Refusal) → SameAnswer view joins_none r q → joins s.jobs s.id s.holding a ≡ no_joins
+      → IfOk q (λ acted. joins_in acted.joined ≡ joins s.jobs s.id s.holding a)
+  nothing_told (Ok x) (Ok acted) same none = same.1 ∙ sym none
+  nothing_told (Err e) (Err f) same none = tt
+  nothing_told (Ok x) (Err f) same none = tt
+  nothing_told (Err e) (Ok acted) same none = absurd same
+
+module _ (view : Committed → Reply) (s : Server) (a : Act) (p : Proc) (new : Server) (loud : (c : Committed) → is_quiet (view c) ≡ false)
+    (seals : (h : Holding) → act_joins s.holding a h ≡ seal_joins (sealer_of h p) (sealer_of s.holding p).level) where
+  pub sealed_told : (r : Result Committed Refusal) (q : Result Acted Refusal) → SameAnswer view commit_joins r q → Replies view r (reply_to s a) → (IsAnswered r → new ≡ after s a)
+      → IfOk r (λ c. c.near ≡ piece_at (sealer_of new.holding p) (sealer_of s.holding p).level reach.Near)
+      → IfOk r (λ c. c.far ≡ piece_at (sealer_of new.holding p) (sealer_of s.holding p).level reach.Far)
+      → IfOk q (λ acted. joins_in acted.joined ≡ joins s.jobs s.id s.holding a)
+  sealed_told (Ok c) (Ok acted) same due done near far =
+      same.1
+      ∙ (λ i. record { near = Some (near i); far = Some (far i) })
+      ∙ ap (λ (x : Server). seal_joins (sealer_of x.holding p) (sealer_of s.holding p).level) (done tt)
+      ∙ sym (seals (after s a).holding)
+      ∙ sym (joins_loud s.jobs s.id s.holding a (ap is_quiet due ∙ loud c))
+  sealed_told (Err e) (Err f) same due done near far = tt
+  sealed_told (Ok c) (Err f) same due done near far = tt
+  sealed_told (Err e) (Ok acted) same due done near far = absurd same
+
+-- what the process that stands for the group's host sealed are the sets
+host_sets : (h : Holding) → sealer_of h host ≡ h.sets
+unfolding sealer_in
+host_sets h = refl
+
+pub sets_joined : (old new : Holding) (to : Reach) (one : Committed → Contribution) (r : Result Committed Refusal) → IfOk r (λ c. one c ≡ piece_at new.sets old.sets.level to)
+    → IfOk r (λ c. one c ≡ piece_at (sealer_of new host) (sealer_of old host).level to)
+sets_joined old new to one (Ok c) is = is ∙ (λ i. piece_at (sym (host_sets new) i) (sym (host_sets old) i).level to)
+sets_joined old new to one (Err e) is = tt
+
+-- a process that is told its end sealed it
+module _ (s : Server) (p : Proc) where
+  ended_by_act : (n : ℕ) (r : Result (Unit {0}) Refusal)
+      → (over s.jobs s.id s.holding (then_answer r (ends_as s.holding p (ended_with (sealer_of s.holding p))))).reply ≡ Reply.ended n
+      → sealer_of (over s.jobs s.id s.holding (then_answer r (ends_as s.holding p (ended_with (sealer_of s.holding p))))).left p ≡ ended_with (sealer_of s.holding p)
+  ended_by_act n (Ok u) is = sealer_there s.holding p (ended_with (sealer_of s.holding p))
+  ended_by_act n (Err e) is = absurd cc
+
+  end_sealed : (n : ℕ) → reply_to s (Act.request (Request.terminate p)) ≡ Reply.ended n → sealer_of (after s (Act.request (Request.terminate p))).holding p ≡ ended_with (sealer_of s.holding p)
+  unfolding does serves
+  end_sealed n is =
+      let a : Act = Act.request (Request.terminate p) in
+      let r : Result (Unit {0}) Refusal = first_of (cause s.jobs s.id s.holding a) tt in
+      ap (λ (d : Done). sealer_of d.left p) (acts_by s.jobs s.id s.holding a) ∙ ended_by_act n r (ap (λ (d : Done). d.reply) (sym (acts_by s.jobs s.id s.holding a)) ∙ is)
+
+  pub end_joined : (new : Server) (to : Reach) (one : Committed → Contribution) (l : ℕ) (r : Result Committed Refusal) → Replies ended_reply r (reply_to s (Act.request (Request.terminate p)))
+      → (IsAnswered r → new ≡ after s (Act.request (Request.terminate p))) → IfOk r (λ c. one c ≡ piece_at (ended_with (sealer_of s.holding p)) l to)
+      → IfOk r (λ c. one c ≡ piece_at (sealer_of new.holding p) l to)
+  end_joined new to one l (Ok c) due done is =
+      is ∙ ap (λ (z : Sealed). piece_at z l to) (sym (ap (λ (x : Server). sealer_of x.holding p) (done tt) ∙ end_sealed c.level due))
+  end_joined new to one l (Err e) due done is = tt
+
+-- where no allocation failed, a refusal is the one that is due
+entry_refuses : (X : Type 0) (e : Refusal) (due : Reply) → IsAnswered {X = X} (Err e) → RefusesEntry e due → Refuses e due
+entry_refuses X refusals.NoMemory due told is = absurd told
+entry_refuses X refusals.BadParam due told is = is
+entry_refuses X refusals.NotFound due told is = is
+entry_refuses X refusals.OutsideScope due told is = is
+entry_refuses X refusals.UnknownNamespace due told is = is
+entry_refuses X refusals.NotMine due told is = is
+entry_refuses X refusals.Busy due told is = is
+entry_refuses X refusals.Terminated due told is = is
+entry_refuses X refusals.NotAParticipant due told is = is
+entry_refuses X refusals.TooMany due told is = is
+entry_refuses X (refusals.BadFrame fault) due told is = is
+entry_refuses X refusals.Exists due told is = is
+entry_refuses X refusals.Collision due told is = is
+entry_refuses X refusals.Stale due told is = is
+entry_refuses X refusals.Unordered due told is = is
+entry_refuses X refusals.Closed due told is = is
+
+pub entry_answered : {X : Type 0} (view : X → Reply) (r : Result X Refusal) (due : Reply) → RepliesEntry view r due → IsAnswered r → Replies view r due
+entry_answered view (Ok x) due is told = is
+entry_answered {X} view (Err e) due is told = entry_refuses X e due told is

@@ -1,0 +1,157 @@
+use Rattle.std.proofs.Common.{◌++◌, Err, List, sym, ap, subst, append-nil, ◌∙◌}
+use Rattle.std.proofs.lemmas.Result.{err_from_is_err_and}
+use Rattle.pmg_value.specs.Spelling.{spelling}
+use Rattle.pmg_get.specs.declared.view.Mode.{Mode}
+use Rattle.pmg_node.specs.Acts.{Act, Request, also, free_cause, target_cause, reply_of}
+use Rattle.pmg_node.specs.Calls.{get_of}
+use Rattle.pmg_node.specs.Holdings.{answer_in}
+use Rattle.pmg_node.specs.Replies.{asked_reply}
+use Rattle.pmg_node.specs.Servers.{Refuses, IsAccepted, sent_by, after}
+use Rattle.pmg_node.specs.declared.parking.Asked.{Asked}
+use Rattle.pmg_node.specs.declared.sent.Sent.{Sent}
+use Rattle.pmg_node.proofs.ActLemmas.{refused_reply, refused_after, refused_sent}
+use Rattle.pmg_node.proofs.AskLemmas.{ask_free, reserved_named, ask_cause, ask_reply, found_told, refused_told, parks_by, waits_mode, told_after, told_sent}
+use Rattle.pmg_node.proofs.KeptSettled.{parks_waiting}
+use Rattle.pmg_node.proofs.RefusalLemmas.{refused_as, refuses_first}
+use Rattle.pmg_node.proofs.node.Node.ask.Goals as goal
+
+-- ---- the caller or the target is refused
+
+pub returns-in-Err-clause-reply : goal.returns-in-Err-clause-reply
+returns-in-Err-clause-reply c =
+    let s = c.args.self.now in
+    let p = c.args.proc.now in
+    let get = get_of c.args.target.now c.args.key.now in
+    let e = c.in-Err.refusal in
+    let judged = sym c.check_ask.ensures.value ∙ c.in-Err.is in
+    subst (Refuses e) (sym (refused_reply s (Act.request (Request.ask p get c.args.mode)) e (ask_cause s p get c.args.mode (Err e) judged)))
+    (refuses_first (also (free_cause s.jobs s.id s.holding p) (target_cause s.jobs p get)) e judged)
+
+pub returns-in-Err-clause-done : goal.returns-in-Err-clause-done
+returns-in-Err-clause-done c _ =
+    let s = c.args.self.now in
+    let p = c.args.proc.now in
+    let get = get_of c.args.target.now c.args.key.now in
+    let e = c.in-Err.refusal in
+    sym (refused_after s (Act.request (Request.ask p get c.args.mode)) e (ask_cause s p get c.args.mode (Err e) (sym c.check_ask.ensures.value ∙ c.in-Err.is)))
+
+pub returns-in-Err-clause-sent : goal.returns-in-Err-clause-sent
+returns-in-Err-clause-sent c _ =
+    let s = c.args.self.now in
+    let p = c.args.proc.now in
+    let get = get_of c.args.target.now c.args.key.now in
+    let e = c.in-Err.refusal in
+    sym (append-nil c.args.out.now.items)
+    ∙ ap (λ (x : List Sent). c.args.out.now.items ++ x)
+    (sym (refused_sent s (Act.request (Request.ask p get c.args.mode)) e (ask_cause s p get c.args.mode (Err e) (sym c.check_ask.ensures.value ∙ c.in-Err.is))))
+
+-- ---- what the calls that follow take
+
+pub tell-requires-clause-known : goal.tell-requires-clause-known
+tell-requires-clause-known c =
+    let s = c.args.self.now in
+    (ask_free s.jobs s.id s.holding c.args.proc.now (get_of c.args.target.now c.args.key.now) (sym c.check_ask.ensures.value ∙ c.in_default.is)).known
+
+pub tell-requires-clause-named : goal.tell-requires-clause-named
+tell-requires-clause-named c =
+    let s = c.args.self.now in
+    let p = c.args.proc.now in
+    let get = get_of c.args.target.now c.args.key.now in
+    reserved_named s.jobs p get (ask_free s.jobs s.id s.holding p get (sym c.check_ask.ensures.value ∙ c.in_default.is)).named
+
+pub park-requires-clause-parks : goal.park-requires-clause-parks
+park-requires-clause-parks c =
+    let s = c.args.self.now in
+    let get = get_of c.args.target.now c.args.key.now in
+    parks_waiting s.jobs s.id s.holding get c.args.mode
+    (parks_by (answer_in s.jobs s.id s.holding get c.args.mode) (c.in-Ok-Parked.ensures ∙ ap asked_reply c.in-Ok-Parked.field-0-is))
+
+-- ---- the get waits
+
+pub returns-in_err-park-in-Ok-Parked-clause-reply : goal.returns-in_err-park-in-Ok-Parked-clause-reply
+returns-in_err-park-in-Ok-Parked-clause-reply c =
+    let s = c.args.self.now in
+    let get = get_of c.args.target.now c.args.key.now in
+    let free = sym c.check_ask.ensures.value ∙ c.in_default.is in
+    let p = err_from_is_err_and c.from_residual.result c.from_residual.ensures.1 in
+    let due = ask_reply s c.args.proc.now get c.args.mode c.check_ask.ensures.settled free ∙ c.in-Ok-Parked.ensures ∙ ap asked_reply c.in-Ok-Parked.field-0-is in
+    rw (p.1, p.2) (subst IsAccepted (sym due) tt)
+
+pub returns-in_ok-park-in-Ok-Parked-clause-reply : goal.returns-in_ok-park-in-Ok-Parked-clause-reply
+returns-in_ok-park-in-Ok-Parked-clause-reply c =
+    let s = c.args.self.now in
+    let get = get_of c.args.target.now c.args.key.now in
+    let free = sym c.check_ask.ensures.value ∙ c.in_default.is in
+    ask_reply s c.args.proc.now get c.args.mode c.check_ask.ensures.settled free ∙ c.in-Ok-Parked.ensures ∙ ap asked_reply c.in-Ok-Parked.field-0-is
+
+pub returns-in_ok-park-in-Ok-Parked-clause-done : goal.returns-in_ok-park-in-Ok-Parked-clause-done
+returns-in_ok-park-in-Ok-Parked-clause-done c _ =
+    let s = c.args.self.now in
+    let get = get_of c.args.target.now c.args.key.now in
+    let parks = parks_by (answer_in s.jobs s.id s.holding get c.args.mode) (c.in-Ok-Parked.ensures ∙ ap asked_reply c.in-Ok-Parked.field-0-is) in
+    c.in_ok-park-in-Ok-Parked.ensures.ok
+    ∙ ap (λ (m : Mode). after s (Act.request (Request.ask c.args.proc.now get m))) (sym (waits_mode s.jobs s.id s.holding get c.args.mode parks))
+
+pub returns-in_ok-park-in-Ok-Parked-clause-sent : goal.returns-in_ok-park-in-Ok-Parked-clause-sent
+returns-in_ok-park-in-Ok-Parked-clause-sent c _ =
+    let s = c.args.self.now in
+    let get = get_of c.args.target.now c.args.key.now in
+    let parks = parks_by (answer_in s.jobs s.id s.holding get c.args.mode) (c.in-Ok-Parked.ensures ∙ ap asked_reply c.in-Ok-Parked.field-0-is) in
+    c.in_ok-park-in-Ok-Parked.ensures.sent
+    ∙ ap (λ (m : Mode). c.args.out.now.items ++ sent_by s (Act.request (Request.ask c.args.proc.now get m))) (sym (waits_mode s.jobs s.id s.holding get c.args.mode parks))
+
+-- ---- there is nothing, or an allocation fails
+
+pub returns-in-Err-tell-clause-reply : goal.returns-in-Err-tell-clause-reply
+returns-in-Err-tell-clause-reply c =
+    let s = c.args.self.now in
+    let get = get_of c.args.target.now c.args.key.now in
+    let free = sym c.check_ask.ensures.value ∙ c.in_default.is in
+    subst (Refuses c.in-Err-tell.refusal) (sym (ask_reply s c.args.proc.now get c.args.mode c.check_ask.ensures.settled free)) c.in-Err-tell.ensures
+
+pub returns-in-Err-tell-clause-done : goal.returns-in-Err-tell-clause-done
+returns-in-Err-tell-clause-done c answered =
+    let s = c.args.self.now in
+    let get = get_of c.args.target.now c.args.key.now in
+    let e = c.in-Err-tell.refusal in
+    let free = sym c.check_ask.ensures.value ∙ c.in_default.is in
+    let due = refused_as Asked e (reply_of (answer_in s.jobs s.id s.holding get c.args.mode)) answered c.in-Err-tell.ensures in
+    sym (told_after s c.args.proc.now get c.args.mode c.check_ask.ensures.settled free (λ parked. refused_told e (sym due ∙ parked)))
+
+pub returns-in-Err-tell-clause-sent : goal.returns-in-Err-tell-clause-sent
+returns-in-Err-tell-clause-sent c answered =
+    let s = c.args.self.now in
+    let get = get_of c.args.target.now c.args.key.now in
+    let e = c.in-Err-tell.refusal in
+    let free = sym c.check_ask.ensures.value ∙ c.in_default.is in
+    let due = refused_as Asked e (reply_of (answer_in s.jobs s.id s.holding get c.args.mode)) answered c.in-Err-tell.ensures in
+    sym (append-nil c.args.out.now.items)
+    ∙ ap (λ (x : List Sent). c.args.out.now.items ++ x)
+    (sym (told_sent s c.args.proc.now get c.args.mode c.check_ask.ensures.settled free (λ parked. refused_told e (sym due ∙ parked))))
+
+-- ---- the value is found
+
+pub returns-in-Ok-Found-clause-reply : goal.returns-in-Ok-Found-clause-reply
+returns-in-Ok-Found-clause-reply c =
+    let s = c.args.self.now in
+    let get = get_of c.args.target.now c.args.key.now in
+    let free = sym c.check_ask.ensures.value ∙ c.in_default.is in
+    ask_reply s c.args.proc.now get c.args.mode c.check_ask.ensures.settled free ∙ c.in-Ok-Found.ensures ∙ ap asked_reply c.in-Ok-Found.field-0-is
+
+pub returns-in-Ok-Found-clause-done : goal.returns-in-Ok-Found-clause-done
+returns-in-Ok-Found-clause-done c _ =
+    let s = c.args.self.now in
+    let get = get_of c.args.target.now c.args.key.now in
+    let free = sym c.check_ask.ensures.value ∙ c.in_default.is in
+    let found = c.in-Ok-Found.ensures ∙ ap asked_reply c.in-Ok-Found.field-0-is in
+    sym (told_after s c.args.proc.now get c.args.mode c.check_ask.ensures.settled free (λ parked. found_told (spelling c.in-Ok-Found.value) (sym found ∙ parked)))
+
+pub returns-in-Ok-Found-clause-sent : goal.returns-in-Ok-Found-clause-sent
+returns-in-Ok-Found-clause-sent c _ =
+    let s = c.args.self.now in
+    let get = get_of c.args.target.now c.args.key.now in
+    let free = sym c.check_ask.ensures.value ∙ c.in_default.is in
+    let found = c.in-Ok-Found.ensures ∙ ap asked_reply c.in-Ok-Found.field-0-is in
+    sym (append-nil c.args.out.now.items)
+    ∙ ap (λ (x : List Sent). c.args.out.now.items ++ x)
+    (sym (told_sent s c.args.proc.now get c.args.mode c.check_ask.ensures.settled free (λ parked. found_told (spelling c.in-Ok-Found.value) (sym found ∙ parked))))

@@ -1,0 +1,113 @@
+use Rattle.std.proofs.Common.{◌≡◌, List, Err, refl, ap, subst, ◌∙◌, sym}
+use Rattle.std.specs.Prelude.{IfOk}
+use Rattle.std.proofs.lemmas.Result.{err_from_is_err_and}
+use Rattle.pmg_value.specs.declared.refusal.Refusal.TheVariants as refusals
+use Rattle.pmg_value.specs.declared.process.Proc.{Proc}
+use Rattle.pmg_scope.specs.declared.scope.Reach.TheVariants as reach
+use Rattle.pmg_pset.specs.Sets.{host}
+use Rattle.pmg_node.specs.Acting.{acted_reply, joins_in, joins_none, request_of}
+use Rattle.pmg_node.specs.Calls.{get_of}
+use Rattle.pmg_node.specs.Holdings.{sealer_of}
+use Rattle.pmg_node.specs.Joining.{joins}
+use Rattle.pmg_node.specs.Acts.{Act, Request, Reply}
+use Rattle.pmg_node.specs.Replies.{asked_reply, defined_reply, ended_reply, release_reply, taking_reply}
+use Rattle.pmg_node.specs.Servers.{RepliesEntry, reply_in, reply_to}
+use Rattle.pmg_node.specs.declared.act.Request.{Request as AskedRequest}
+use Rattle.pmg_node.proofs.JoiningLemmas.{joins_nothing}
+use Rattle.pmg_node.proofs.ReplyLemmas.{entry_told, entry_short, leave_short, take_short, nudge_accepted, nothing_told, sealed_told, sets_joined, end_joined}
+use Rattle.pmg_node.proofs.node.Node.serve.Goals as goal
+
+pub returns-in_err-nudge-in-Nudge-clause-reply : goal.returns-in_err-nudge-in-Nudge-clause-reply
+returns-in_err-nudge-in-Nudge-clause-reply c =
+    let s = c.args.self.now in
+    let p = err_from_is_err_and c.from_residual.result c.from_residual.ensures.1 in
+    subst (λ (r : AskedRequest). RepliesEntry acted_reply c.from_residual.result (reply_to s (Act.request (request_of r)))) (sym c.in-Nudge.is)
+    (rw (p.1, p.2) (nudge_accepted s.jobs s.id s.holding))
+
+pub returns-in-Leave-clause-reply : goal.returns-in-Leave-clause-reply
+returns-in-Leave-clause-reply c =
+    let s = c.args.self.now in
+    subst (λ (r : AskedRequest). RepliesEntry acted_reply c.released.result (reply_to s (Act.request (request_of r)))) (sym c.in-Leave.is)
+    (entry_told release_reply joins_none c.take_release.result c.released.result (reply_to s (Act.request (Request.leave c.in-Leave.proc))) c.released.ensures c.take_release.ensures.reply
+    (leave_short s.jobs s.id s.holding c.in-Leave.proc))
+
+pub returns-in-Leave-clause-memory : goal.returns-in-Leave-clause-memory
+returns-in-Leave-clause-memory c = λ is.
+    let s = c.args.self.now in
+    absurd (leave_short s.jobs s.id s.holding c.in-Leave.proc
+    (sym c.take_release.ensures.reply ∙ ap (reply_in release_reply) (entry_short release_reply joins_none c.take_release.result c.released.result c.released.ensures is)))
+
+pub returns-in-Take-clause-reply : goal.returns-in-Take-clause-reply
+returns-in-Take-clause-reply c =
+    let s = c.args.self.now in
+    subst (λ (r : AskedRequest). RepliesEntry acted_reply c.taken.result (reply_to s (Act.request (request_of r)))) (sym c.in-Take.is)
+    (entry_told taking_reply joins_none c.take_answer.result c.taken.result (reply_to s (Act.request (Request.take c.in-Take.proc))) c.taken.ensures c.take_answer.ensures.reply
+    (take_short s.jobs s.id s.holding c.in-Take.proc))
+
+pub returns-in-Take-clause-memory : goal.returns-in-Take-clause-memory
+returns-in-Take-clause-memory c = λ is.
+    let s = c.args.self.now in
+    absurd (take_short s.jobs s.id s.holding c.in-Take.proc
+    (sym c.take_answer.ensures.reply ∙ ap (reply_in taking_reply) (entry_short taking_reply joins_none c.take_answer.result c.taken.result c.taken.ensures is)))
+
+pub returns-in-Enter-clause-joined : goal.returns-in-Enter-clause-joined
+returns-in-Enter-clause-joined c =
+    let s = c.args.self.now in
+    let a : Act = Act.request (Request.enter c.in-Enter.proc c.in-Enter.list.items c.in-Enter.collect) in
+    subst (λ (r : AskedRequest). IfOk c.entered.result (λ acted. joins_in acted.joined ≡ joins s.jobs s.id s.holding (Act.request (request_of r)))) (sym c.in-Enter.is)
+    (nothing_told Reply.entered s a c.enter.result c.entered.result c.entered.ensures (joins_nothing s.jobs s.id s.holding a refl))
+
+pub returns-in-Leave-clause-joined : goal.returns-in-Leave-clause-joined
+returns-in-Leave-clause-joined c =
+    let s = c.args.self.now in
+    let a : Act = Act.request (Request.leave c.in-Leave.proc) in
+    subst (λ (r : AskedRequest). IfOk c.released.result (λ acted. joins_in acted.joined ≡ joins s.jobs s.id s.holding (Act.request (request_of r)))) (sym c.in-Leave.is)
+    (nothing_told release_reply s a c.take_release.result c.released.result c.released.ensures (joins_nothing s.jobs s.id s.holding a refl))
+
+pub returns-in-Ask-clause-joined : goal.returns-in-Ask-clause-joined
+returns-in-Ask-clause-joined c =
+    let s = c.args.self.now in
+    let a : Act = Act.request (Request.ask c.in-Ask.proc (get_of c.in-Ask.target c.in-Ask.key) c.in-Ask.mode) in
+    subst (λ (r : AskedRequest). IfOk c.asked.result (λ acted. joins_in acted.joined ≡ joins s.jobs s.id s.holding (Act.request (request_of r)))) (sym c.in-Ask.is)
+    (nothing_told asked_reply s a c.ask.result c.asked.result c.asked.ensures (joins_nothing s.jobs s.id s.holding a refl))
+
+pub returns-in-Take-clause-joined : goal.returns-in-Take-clause-joined
+returns-in-Take-clause-joined c =
+    let s = c.args.self.now in
+    let a : Act = Act.request (Request.take c.in-Take.proc) in
+    subst (λ (r : AskedRequest). IfOk c.taken.result (λ acted. joins_in acted.joined ≡ joins s.jobs s.id s.holding (Act.request (request_of r)))) (sym c.in-Take.is)
+    (nothing_told taking_reply s a c.take_answer.result c.taken.result c.taken.ensures (joins_nothing s.jobs s.id s.holding a refl))
+
+pub returns-in-Terminate-clause-joined : goal.returns-in-Terminate-clause-joined
+returns-in-Terminate-clause-joined c =
+    let s = c.args.self.now in
+    let a : Act = Act.request (Request.terminate c.in-Terminate.proc) in
+    subst (λ (r : AskedRequest). IfOk c.ended.result (λ acted. joins_in acted.joined ≡ joins s.jobs s.id s.holding (Act.request (request_of r)))) (sym c.in-Terminate.is)
+    (sealed_told ended_reply s a c.in-Terminate.proc c.terminate.new.self (λ z. refl) (λ h. refl) c.terminate.result c.ended.result c.ended.ensures c.terminate.ensures.reply c.terminate.ensures.done
+    (end_joined s c.in-Terminate.proc c.terminate.new.self reach.Near (λ z. z.near) (sealer_of s.holding c.in-Terminate.proc).level c.terminate.result c.terminate.ensures.reply c.terminate.ensures.done c.terminate.ensures.near)
+    (end_joined s c.in-Terminate.proc c.terminate.new.self reach.Far (λ z. z.far) (sealer_of s.holding c.in-Terminate.proc).level c.terminate.result c.terminate.ensures.reply c.terminate.ensures.done c.terminate.ensures.far))
+
+pub returns-in-Define-clause-joined : goal.returns-in-Define-clause-joined
+returns-in-Define-clause-joined c =
+    let s = c.args.self.now in
+    let a : Act = Act.request (Request.define c.in-Define.name c.deref-in-Define.result.now) in
+    subst (λ (r : AskedRequest). IfOk c.defined.result (λ acted. joins_in acted.joined ≡ joins s.jobs s.id s.holding (Act.request (request_of r)))) (sym c.in-Define.is)
+    (subst (λ (l : List Proc). IfOk c.defined.result (λ acted. joins_in acted.joined ≡ joins s.jobs s.id s.holding (Act.request (Request.define c.in-Define.name l)))) c.deref-in-Define.ensures.value
+    (sealed_told defined_reply s a host c.define_set.new.self (λ z. refl) (λ h. refl) c.define_set.result c.defined.result c.defined.ensures c.define_set.ensures.reply c.define_set.ensures.done
+    (sets_joined s.holding c.define_set.new.self.holding reach.Near (λ z. z.near) c.define_set.result c.define_set.ensures.near)
+    (sets_joined s.holding c.define_set.new.self.holding reach.Far (λ z. z.far) c.define_set.result c.define_set.ensures.far)))
+
+pub returns-in-Delete-clause-joined : goal.returns-in-Delete-clause-joined
+returns-in-Delete-clause-joined c =
+    let s = c.args.self.now in
+    let a : Act = Act.request (Request.delete c.in-Delete.name) in
+    subst (λ (r : AskedRequest). IfOk c.defined-in-Delete.result (λ acted. joins_in acted.joined ≡ joins s.jobs s.id s.holding (Act.request (request_of r)))) (sym c.in-Delete.is)
+    (sealed_told defined_reply s a host c.delete_set.new.self (λ z. refl) (λ h. refl) c.delete_set.result c.defined-in-Delete.result c.defined-in-Delete.ensures c.delete_set.ensures.reply c.delete_set.ensures.done
+    (sets_joined s.holding c.delete_set.new.self.holding reach.Near (λ z. z.near) c.delete_set.result c.delete_set.ensures.near)
+    (sets_joined s.holding c.delete_set.new.self.holding reach.Far (λ z. z.far) c.delete_set.result c.delete_set.ensures.far))
+
+pub returns-in_ok-nudge-in-Nudge-clause-joined : goal.returns-in_ok-nudge-in-Nudge-clause-joined
+returns-in_ok-nudge-in-Nudge-clause-joined c =
+    let s = c.args.self.now in
+    let a : Act = Act.request Request.nudge in
+    c.alone.ensures.joined ∙ sym (joins_nothing s.jobs s.id s.holding a refl) ∙ ap (λ (r : AskedRequest). joins s.jobs s.id s.holding (Act.request (request_of r))) (sym c.in-Nudge.is)

@@ -1,0 +1,21 @@
+-- What a process's end changes, beside what it is told.
+use Rattle.std.specs.Prelude.{ℕ, [], Option}
+use Rattle.pmg_value.specs.declared.process.Proc.{Proc}
+use Rattle.pmg_commit.specs.Sealed.{ended_with}
+use Rattle.pmg_commit.specs.TakenBack.{end_back}
+use Rattle.pmg_commit.specs.declared.sealer.SealerBefore.{SealerBefore}
+use Rattle.pmg_fence.specs.Changes.{changed, ended_by, taken}
+use Rattle.pmg_fence.specs.Codes.{Known}
+use Rattle.pmg_node.specs.Owns.{Own, sealed_of, with_sealed}
+
+-- the own process ended, which is its last commit
+abbrev pub own_ended : Own → Proc → Own
+own_ended own p = with_sealed own p (ended_with (sealed_of own p))
+
+-- its end is taken back
+abbrev pub own_back : Own → Proc → Option SealerBefore → Own
+own_back own p before = with_sealed own p (end_back (sealed_of own p) before)
+
+-- the process ended after so many commits, and the own headers that came to exist were taken
+abbrev pub table_ended : Known → Proc → ℕ → Known
+table_ended table p last = taken (changed table (ended_by table.fences p last)) []

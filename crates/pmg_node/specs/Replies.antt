@@ -1,0 +1,86 @@
+-- What calls of a node answer, as replies.
+use Rattle.std.specs.Prelude.{Option, Some, None}
+use Rattle.pmg_value.specs.Spelling.{spelling}
+use Rattle.pmg_node.specs.Acts.{Reply, Status, reply_of}
+use Rattle.pmg_node.specs.Holdings.{Standing}
+use Rattle.pmg_node.specs.declared.committing.Committed.{Committed}
+use Rattle.pmg_node.specs.declared.leaving.Release.{Release}
+use Rattle.pmg_node.specs.declared.leaving.Release.TheVariants as releases
+use Rattle.pmg_node.specs.declared.asked.Delivery.{Delivery}
+use Rattle.pmg_node.specs.declared.asked.Delivery.TheVariants as deliveries
+use Rattle.pmg_node.specs.declared.taking.Taking.{Taking}
+use Rattle.pmg_node.specs.declared.taking.Taking.TheVariants as takings
+use Rattle.pmg_node.specs.declared.parking.Asked.{Asked}
+use Rattle.pmg_node.specs.declared.parking.Asked.TheVariants as askings
+use Rattle.pmg_node.specs.declared.status.Status.{Status as ToldStatus}
+use Rattle.pmg_node.specs.declared.status.Status.TheVariants as statuses
+
+-- what a process that leaves a fence is told
+abbrev pub release_reply : Release → Reply
+release_reply releases.Idle = Reply.idle
+release_reply releases.Waiting = Reply.waiting
+release_reply (releases.Released instance gone) = Reply.released instance gone.items
+
+-- what it is told that is not released
+abbrev pub stays_reply : Option Standing → Option Reply
+stays_reply (Some (Standing.released f gone)) = None
+stays_reply (Some (Standing.in_fence f)) = Some Reply.waiting
+stays_reply (Some (Standing.parked get)) = Some Reply.idle
+stays_reply (Some (Standing.answered get outcome)) = Some Reply.idle
+stays_reply None = Some Reply.idle
+
+-- what it is told once its call is over
+abbrev pub released_reply : Option Standing → Reply
+released_reply (Some (Standing.released f gone)) = Reply.released f.instance gone
+released_reply _ = Reply.idle
+
+-- what a process that takes an answer is told
+abbrev pub taking_reply : Taking → Reply
+taking_reply takings.Idle = Reply.idle
+taking_reply takings.Waiting = Reply.waiting
+taking_reply (takings.Found value) = Reply.found (spelling value)
+
+-- what it is told whose get is not answered
+abbrev pub pending_reply : Option Standing → Option Reply
+pending_reply (Some (Standing.answered get outcome)) = None
+pending_reply (Some (Standing.parked get)) = Some Reply.waiting
+pending_reply (Some (Standing.in_fence f)) = Some Reply.idle
+pending_reply (Some (Standing.released f gone)) = Some Reply.idle
+pending_reply None = Some Reply.idle
+
+-- what it is told once its call is over
+abbrev pub answered_reply : Option Standing → Reply
+answered_reply (Some (Standing.answered get outcome)) = reply_of outcome
+answered_reply _ = Reply.idle
+
+-- what becomes of a frame
+abbrev pub delivery_reply : Delivery → Reply
+delivery_reply deliveries.Taken = Reply.taken
+delivery_reply deliveries.Ignored = Reply.ignored
+
+-- what a process that asks for a key is told
+abbrev pub asked_reply : Asked → Reply
+asked_reply (askings.Found value) = Reply.found (spelling value)
+asked_reply askings.Parked = Reply.parked
+
+-- how a process stands
+abbrev pub status_in : ToldStatus → Status
+status_in statuses.Stranger = Status.stranger
+status_in statuses.Idle = Status.idle
+status_in statuses.InFence = Status.in_fence
+status_in statuses.Released = Status.released
+status_in statuses.Parked = Status.parked
+status_in statuses.Answered = Status.answered
+status_in statuses.Ended = Status.ended
+
+-- what comes of a commit
+abbrev pub committed_reply : Committed → Reply
+committed_reply c = Reply.committed c.level
+
+-- what a process that ends is told
+abbrev pub ended_reply : Committed → Reply
+ended_reply c = Reply.ended c.level
+
+-- what comes of a change of the sets
+abbrev pub defined_reply : Committed → Reply
+defined_reply c = Reply.defined c.level

@@ -1,0 +1,89 @@
+-- A node, and its acts with what they send.
+use Rattle.std.specs.Prelude.{◌≡◌, ℕ, List, is_some, true, Result, Ok, Err, refl}
+use Rattle.std.specs.Coded.{Coded, code_by, coded×, coded_ℕ}
+use Rattle.std.specs.FinMap as finite
+use Rattle.pmg_value.specs.declared.process.Proc.{Proc}
+use Rattle.pmg_value.specs.declared.refusal.Refusal.{Refusal}
+use Rattle.pmg_value.specs.declared.refusal.Refusal.TheVariants as refusals
+use Rattle.pmg_jobinfo.specs.Jobs.{Jobs, AreJobs, coded_jobs, is_node}
+use Rattle.pmg_dmodex.specs.Levels.{Levels, coded_levels}
+use Rattle.pmg_node.specs.Acts.{Act, Reply, acts}
+use Rattle.pmg_node.specs.Choosing.{chosen}
+use Rattle.pmg_node.specs.Codes.{coded_holding}
+use Rattle.pmg_node.specs.Holdings.{Holding}
+use Rattle.pmg_node.specs.Kept.{IsOwn, IsServer}
+use Rattle.pmg_node.specs.declared.sent.Sent.{Sent}
+
+-- a node: its group's jobs, its index, what it holds, and its marks
+pub record Server : Type 0 where
+  pub jobs : Jobs
+  pub id : ℕ
+  pub holding : Holding
+  pub marks : Levels
+
+abbrev pub coded_server : Coded Server
+coded_server =
+    code_by (Jobs × (ℕ × (Holding × Levels))) (coded× coded_jobs (coded× coded_ℕ (coded× coded_holding coded_levels))) (λ s. (s.jobs, (s.id, (s.holding, s.marks))))
+    (λ p. record { jobs = p.0; id = p.1.0; holding = p.1.1.0; marks = p.1.1.1 }) (λ _. refl)
+
+-- what it replies to an act, what it sends, and what it is then
+abbrev pub reply_to : Server → Act → Reply
+reply_to s a = (acts s.jobs s.id s.holding a).reply
+
+abbrev pub sent_by : Server → Act → List Sent
+sent_by s a = (chosen s.jobs s.id s.holding s.marks a).frames
+
+abbrev pub after : Server → Act → Server
+after s a = record { jobs = s.jobs; id = s.id; holding = (acts s.jobs s.id s.holding a).left; marks = (chosen s.jobs s.id s.holding s.marks a).marks }
+
+-- the answer as a reply
+abbrev pub reply_in : {X : Type 0} → (X → Reply) → Result X Refusal → Reply
+reply_in view (Ok x) = view x
+reply_in view (Err e) = Reply.refused e
+
+-- no refusal is due
+abbrev pub IsAccepted : Reply → Type 0
+IsAccepted (Reply.refused e) = ⊥
+IsAccepted _ = Unit {0}
+
+-- a refusal is the one that is due; NoMemory is told only where none is
+abbrev pub Refuses : Refusal → Reply → Type 0
+Refuses refusals.NoMemory due = IsAccepted due
+Refuses e due = due ≡ Reply.refused e
+
+-- the answer, seen as a reply, is the one that is due, or an allocation failed that it takes
+abbrev pub Replies : {X : Type 0} → (X → Reply) → Result X Refusal → Reply → Type 0
+Replies view (Ok x) due = due ≡ view x
+Replies view (Err e) due = Refuses e due
+
+-- no refusal is due but TooMany, which an entry comes to know only by its list of participants
+abbrev pub IsEntryAccepted : Reply → Type 0
+IsEntryAccepted (Reply.refused refusals.TooMany) = Unit {0}
+IsEntryAccepted (Reply.refused e) = ⊥
+IsEntryAccepted _ = Unit {0}
+
+abbrev pub RefusesEntry : Refusal → Reply → Type 0
+RefusesEntry refusals.NoMemory due = IsEntryAccepted due
+RefusesEntry e due = due ≡ Reply.refused e
+
+-- the same as Replies, where TooMany may be due though NoMemory is told
+abbrev pub RepliesEntry : {X : Type 0} → (X → Reply) → Result X Refusal → Reply → Type 0
+RepliesEntry view (Ok x) due = due ≡ view x
+RepliesEntry view (Err e) due = RefusesEntry e due
+
+-- no allocation failed that it takes
+abbrev pub IsAnswered : {X : Type 0} → Result X Refusal → Type 0
+IsAnswered (Ok x) = Unit {0}
+IsAnswered (Err refusals.NoMemory) = ⊥
+IsAnswered (Err e) = Unit {0}
+
+-- each own process has its place among those that seal
+abbrev pub HasSealers : Jobs → ℕ → Holding → Type 0
+HasSealers jobs id h = (p : Proc) → IsOwn jobs id p → is_some (finite.get h.sealers p) ≡ true
+
+-- what a node keeps
+pub record IsNode (s : Server) : Type 0 where
+  pub jobs : AreJobs s.jobs
+  pub node : is_node s.jobs s.id ≡ true
+  pub server : IsServer s.jobs s.id s.holding
+  pub sealers : HasSealers s.jobs s.id s.holding

@@ -1,0 +1,112 @@
+//! What is asked of a node, and what it replies, as one call takes and gives it.
+ghost use Rattle.std.specs.Prelude.{◌≡◌, IfOk};
+ghost use Rattle.pmg_node.specs.Acting.{request_of};
+
+use pmg_commit::Piece;
+use pmg_frame::Frame;
+use pmg_get::Mode;
+use pmg_scope::Batch;
+use pmg_value::{Key, Proc, Value, copy_all};
+use std::alloc::AllocError;
+
+/// What a process at home at a node asks of it, or the one who runs the node (PMIx Standard 5.0, PMIx_Fence, PMIx_Get,
+/// PMIx_Finalize, process sets).
+#[derive(Debug, Drop)]
+pub enum Request {
+    /// The process enters its next fence of these participants; whether it collects data.
+    Enter(Proc, Vec<Proc>, bool),
+    /// The process leaves the fence that it is released from.
+    Leave(Proc),
+    /// The process asks for a key of the target.
+    Ask(Proc, Proc, Key, Mode),
+    /// The process takes the answer of the get that it waited for.
+    Take(Proc),
+    /// The process ends.
+    Terminate(Proc),
+    /// A set of these processes is defined.
+    Define(Key, Vec<Proc>),
+    /// The set is deleted.
+    Delete(Key),
+    /// Other nodes are asked again for what is missing.
+    Nudge,
+}
+
+impl Request {
+    /// A copy, the same request.
+    pub fn copy(&self) -> Result<Request, AllocError>
+        ensures { IfOk result (λ r. request_of r ≡ request_of self.now) }
+    {
+        Ok(match self {
+            Request::Enter(proc, list, collect) => {
+                Request::Enter(proc.copy()?, copy_all(list)?, *collect)
+            }
+            Request::Leave(proc) => Request::Leave(proc.copy()?),
+            Request::Ask(proc, target, key, mode) => {
+                Request::Ask(proc.copy()?, target.copy()?, key.copy()?, *mode)
+            }
+            Request::Take(proc) => Request::Take(proc.copy()?),
+            Request::Terminate(proc) => Request::Terminate(proc.copy()?),
+            Request::Define(name, list) => Request::Define(name.copy()?, copy_all(list)?),
+            Request::Delete(name) => Request::Delete(name.copy()?),
+            Request::Nudge => Request::Nudge,
+        })
+    }
+}
+
+/// What is asked of a node.
+#[derive(Debug, Drop)]
+pub enum Act {
+    /// A request.
+    Request(Request),
+    /// The process commits these puts.
+    Commit(Proc, Batch),
+    /// A frame of another node is delivered.
+    Deliver(Frame),
+}
+
+/// What a node replies to an act that it does not refuse.
+#[derive(Debug, Drop)]
+pub enum Reply {
+    /// It is done.
+    Done,
+    /// The commit's number.
+    Committed(u64),
+    /// The instance of the fence that was entered.
+    Entered(u64),
+    /// The process is in no such call.
+    Idle,
+    /// The process waits still.
+    Waiting,
+    /// The process is released from the instance of its fence, from which these participants were gone.
+    Released(u64, Vec<Proc>),
+    /// The value.
+    Found(Value),
+    /// The get waits.
+    Parked,
+    /// The frame is taken.
+    Taken,
+    /// The frame does not concern the node.
+    Ignored,
+    /// The number of the process's last commit, which is its end.
+    Ended(u64),
+    /// The number of the change of the process sets.
+    Defined(u64),
+}
+
+/// What an act joined into the stores of its node.
+#[derive(Debug, Drop)]
+pub struct Joined {
+    /// For reads from the node itself.
+    pub near: Option<Piece>,
+    /// For reads from other nodes.
+    pub far: Option<Piece>,
+}
+
+/// What comes of an act that is not refused.
+#[derive(Debug, Drop)]
+pub struct Acted {
+    /// What is replied.
+    pub reply: Reply,
+    /// What was joined.
+    pub joined: Joined,
+}

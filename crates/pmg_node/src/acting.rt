@@ -1,0 +1,236 @@
+//! One call for all acts of a node.
+ghost use Rattle.std.specs.Prelude.{◌≡◌, ◌++◌, Some, Err, IfOk};
+ghost use Rattle.pmg_value.specs.declared.refusal.Refusal.TheVariants as refusals;
+ghost use Rattle.pmg_node.specs.Acting.{act_of, acted_reply, commit_joins, delivery_joins, joins_in, joins_none, request_of, reply_as, SameAnswer};
+ghost use Rattle.pmg_node.specs.Joining.{frame_joins, joins, no_joins};
+ghost use Rattle.pmg_node.specs.Acts.{Act as ModelAct, Reply as ModelReply};
+ghost use Rattle.pmg_node.specs.Replies.{asked_reply, committed_reply, defined_reply, delivery_reply, ended_reply, release_reply, taking_reply};
+ghost use Rattle.pmg_node.specs.Servers.{reply_to, sent_by, after, IsAnswered, Replies, RepliesEntry};
+
+use crate::act::{Act, Acted, Joined, Reply, Request};
+use crate::asked::Delivery;
+use crate::committing::Committed;
+use crate::leaving::Release;
+use crate::node::Node;
+use crate::parking::Asked;
+use crate::sent::Sent;
+use crate::taking::Taking;
+use pmg_commit::Piece;
+use pmg_frame::Frame;
+use pmg_scope::Batch;
+use pmg_value::{Proc, Refusal};
+use std::alloc::AllocError;
+use std::collections::VecDeque;
+
+/// The reply of an act that joins nothing.
+fn alone(reply: Reply) -> Acted
+    ensures reply { acted_reply result ≡ reply_as reply }
+    ensures joined { joins_in result.joined ≡ no_joins }
+{
+    Acted {
+        reply,
+        joined: Joined {
+            near: None,
+            far: None,
+        },
+    }
+}
+
+/// The reply of an act that joins what a process sealed.
+fn sealed(reply: Reply, near: Piece, far: Piece) -> Acted
+    ensures reply { acted_reply result ≡ reply_as reply }
+    ensures near { result.joined.near ≡ Some near }
+    ensures far { result.joined.far ≡ Some far }
+{
+    Acted {
+        reply,
+        joined: Joined {
+            near: Some(near),
+            far: Some(far),
+        },
+    }
+}
+
+/// The instance that a process entered, as a reply.
+fn entered(answer: Result<u64, Refusal>) -> Result<Acted, Refusal>
+    ensures { SameAnswer ModelReply.entered joins_none answer result }
+{
+    match answer {
+        Ok(instance) => Ok(alone(Reply::Entered(instance))),
+        Err(refusal) => Err(refusal),
+    }
+}
+
+/// What a process that leaves a fence is told, as a reply.
+fn released(answer: Result<Release, Refusal>) -> Result<Acted, Refusal>
+    ensures { SameAnswer release_reply joins_none answer result }
+{
+    match answer {
+        Ok(Release::Idle) => Ok(alone(Reply::Idle)),
+        Ok(Release::Waiting) => Ok(alone(Reply::Waiting)),
+        Ok(Release::Released(instance, gone)) => Ok(alone(Reply::Released(instance, gone))),
+        Err(refusal) => Err(refusal),
+    }
+}
+
+/// What a process that asks for a key is told, as a reply.
+fn asked(answer: Result<Asked, Refusal>) -> Result<Acted, Refusal>
+    ensures { SameAnswer asked_reply joins_none answer result }
+{
+    match answer {
+        Ok(Asked::Found(value)) => Ok(alone(Reply::Found(value))),
+        Ok(Asked::Parked) => Ok(alone(Reply::Parked)),
+        Err(refusal) => Err(refusal),
+    }
+}
+
+/// What a process that takes an answer is told, as a reply.
+fn taken(answer: Result<Taking, Refusal>) -> Result<Acted, Refusal>
+    ensures { SameAnswer taking_reply joins_none answer result }
+{
+    match answer {
+        Ok(Taking::Idle) => Ok(alone(Reply::Idle)),
+        Ok(Taking::Waiting) => Ok(alone(Reply::Waiting)),
+        Ok(Taking::Found(value)) => Ok(alone(Reply::Found(value))),
+        Err(refusal) => Err(refusal),
+    }
+}
+
+/// The number of a commit, as a reply.
+fn committed(answer: Result<Committed, Refusal>) -> Result<Acted, Refusal>
+    ensures { SameAnswer committed_reply commit_joins answer result }
+{
+    match answer {
+        Ok(commit) => Ok(sealed(Reply::Committed(commit.level), commit.near, commit.far)),
+        Err(refusal) => Err(refusal),
+    }
+}
+
+/// The number of a process's end, as a reply.
+fn ended(answer: Result<Committed, Refusal>) -> Result<Acted, Refusal>
+    ensures { SameAnswer ended_reply commit_joins answer result }
+{
+    match answer {
+        Ok(end) => Ok(sealed(Reply::Ended(end.level), end.near, end.far)),
+        Err(refusal) => Err(refusal),
+    }
+}
+
+/// The number of a change of the process sets, as a reply.
+fn defined(answer: Result<Committed, Refusal>) -> Result<Acted, Refusal>
+    ensures { SameAnswer defined_reply commit_joins answer result }
+{
+    match answer {
+        Ok(change) => Ok(sealed(Reply::Defined(change.level), change.near, change.far)),
+        Err(refusal) => Err(refusal),
+    }
+}
+
+/// What becomes of a frame, as a reply.
+fn delivered(delivery: Delivery, joined: Joined) -> Acted
+    ensures reply { acted_reply result ≡ delivery_reply delivery }
+    ensures joined { joins_in result.joined ≡ delivery_joins delivery (joins_in joined) }
+{
+    match delivery {
+        Delivery::Taken => Acted {
+            reply: Reply::Taken,
+            joined,
+        },
+        Delivery::Ignored => alone(Reply::Ignored),
+    }
+}
+
+/// What is joined once the frame is taken: its piece, if it is one.
+fn joined_by(frame: &Frame) -> Result<Joined, AllocError>
+    ensures { IfOk result (λ joined. joins_in joined ≡ frame_joins frame.now) }
+{
+    let far = match frame {
+        Frame::Piece(piece) => Some(piece.copy()?),
+        Frame::Header(_) => None,
+        Frame::FenceAsk(_) => None,
+        Frame::RangeAsk(_) => None,
+        Frame::DirectAsk(_) => None,
+    };
+    Ok(Joined { near: None, far })
+}
+
+impl Node {
+    /// Answers a request.
+    fn serve(&mut self, request: &Request, out: &mut VecDeque<Sent>) -> Result<Acted, Refusal>
+        ensures reply { RepliesEntry acted_reply result (reply_to self.old (ModelAct.request (request_of request.now))) }
+        ensures done { IsAnswered result → self.new ≡ after self.old (ModelAct.request (request_of request.now)) }
+        ensures sent { IsAnswered result → out.new.items ≡ out.old.items ++ sent_by self.old (ModelAct.request (request_of request.now)) }
+        ensures joined { IfOk result (λ acted. joins_in acted.joined
+            ≡ joins self.old.jobs self.old.id self.old.holding (ModelAct.request (request_of request.now))) }
+        ensures memory { result ≡ Err refusals.NoMemory → self.new ≡ self.old }
+        ensures unsent { result ≡ Err refusals.NoMemory → out.new.items ≡ out.old.items }
+    {
+        match request {
+            Request::Enter(proc, list, collect) => entered(self.enter(proc, list, *collect, out)),
+            Request::Leave(proc) => released(self.take_release(proc)),
+            Request::Ask(proc, target, key, mode) => asked(self.ask(proc, target, key, *mode, out)),
+            Request::Take(proc) => taken(self.take_answer(proc)),
+            Request::Terminate(proc) => ended(self.terminate(proc, out)),
+            Request::Define(name, list) => defined(self.define_set(name, list, out)),
+            Request::Delete(name) => defined(self.delete_set(name, out)),
+            Request::Nudge => {
+                self.nudge(out)?;
+                Ok(alone(Reply::Done))
+            }
+        }
+    }
+
+    /// Does what is asked, and puts the frames that go out after those of the list, which the caller lends. Each call of a node is
+    /// one instance of this one, and refused as it is.
+    pub fn act_into(&mut self, act: &Act, out: &mut VecDeque<Sent>) -> Result<Acted, Refusal>
+        ensures reply { RepliesEntry acted_reply result (reply_to self.old (act_of act.now)) }
+        ensures done { IsAnswered result → self.new ≡ after self.old (act_of act.now) }
+        ensures sent { IsAnswered result → out.new.items ≡ out.old.items ++ sent_by self.old (act_of act.now) }
+        ensures joined { IfOk result (λ acted. joins_in acted.joined ≡ joins self.old.jobs self.old.id self.old.holding (act_of act.now)) }
+        ensures memory { result ≡ Err refusals.NoMemory → self.new ≡ self.old }
+        ensures unsent { result ≡ Err refusals.NoMemory → out.new.items ≡ out.old.items }
+    {
+        match act {
+            Act::Request(request) => self.serve(request, out),
+            Act::Commit(proc, batch) => committed(self.commit_joined(proc, batch, out)),
+            Act::Deliver(frame) => {
+                let joined = joined_by(frame)?;
+                let delivery = self.deliver(frame, out)?;
+                Ok(delivered(delivery, joined))
+            }
+        }
+    }
+
+    /// The process commits the batch (PMIx Standard 5.0, PMIx_Commit): the commit's number. Refused as `commit_joined` is.
+    pub fn commit(
+        &mut self,
+        proc: &Proc,
+        batch: &Batch,
+        out: &mut VecDeque<Sent>,
+    ) -> Result<u64, Refusal>
+        ensures reply { Replies ModelReply.committed result (reply_to self.old (ModelAct.commit proc.now batch.now)) }
+        ensures done { IsAnswered result → self.new ≡ after self.old (ModelAct.commit proc.now batch.now) }
+        ensures sent { IsAnswered result → out.new.items ≡ out.old.items ++ sent_by self.old (ModelAct.commit proc.now batch.now) }
+        ensures memory { result ≡ Err refusals.NoMemory → self.new ≡ self.old }
+        ensures unsent { result ≡ Err refusals.NoMemory → out.new.items ≡ out.old.items }
+    {
+        match self.commit_joined(proc, batch, out) {
+            Ok(commit) => Ok(commit.level),
+            Err(refusal) => Err(refusal),
+        }
+    }
+
+    /// Answers a request of a process at home at the node, or of the one who runs it.
+    pub fn request(&mut self, request: &Request, out: &mut VecDeque<Sent>) -> Result<Reply, Refusal>
+        ensures reply { RepliesEntry reply_as result (reply_to self.old (ModelAct.request (request_of request.now))) }
+        ensures done { IsAnswered result → self.new ≡ after self.old (ModelAct.request (request_of request.now)) }
+        ensures sent { IsAnswered result → out.new.items ≡ out.old.items ++ sent_by self.old (ModelAct.request (request_of request.now)) }
+        ensures memory { result ≡ Err refusals.NoMemory → self.new ≡ self.old }
+        ensures unsent { result ≡ Err refusals.NoMemory → out.new.items ≡ out.old.items }
+    {
+        match self.serve(request, out) {
+            Ok(acted) => Ok(acted.reply),
+            Err(refusal) => Err(refusal),
+        }
+    }
+}

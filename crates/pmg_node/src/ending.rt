@@ -1,0 +1,208 @@
+//! A process ends.
+ghost use Rattle.std.specs.Prelude.{◌≡◌, ◌≤◌, ◌++◌, [], true, false, is_some, IfOk, IfSome, OnOk, OnErr};
+ghost use Rattle.std.specs.FinMap as finite;
+ghost use Rattle.std.specs.List.{flat_map};
+ghost use Rattle.pmg_value.specs.Process.{is_host};
+ghost use Rattle.pmg_value.specs.declared.refusal.Refusal.TheVariants as refusals;
+ghost use Rattle.pmg_scope.specs.declared.scope.Reach.TheVariants as reach;
+ghost use Rattle.pmg_commit.specs.Sealed.{ended_with, piece_at};
+ghost use Rattle.pmg_commit.specs.TakenBack.{CanTakeBack as CanTakeSealBack};
+ghost use Rattle.pmg_fence.specs.Changes.{ended_by, news};
+ghost use Rattle.pmg_fence.specs.Tables.{names_of};
+ghost use Rattle.pmg_fence.specs.TakenBack.{table_back, CanTakeBack};
+ghost use Rattle.pmg_node.specs.Acts.{Act, Request};
+ghost use Rattle.pmg_node.specs.Calls.{all_instead};
+ghost use Rattle.pmg_node.specs.Choosing.{announcing};
+ghost use Rattle.pmg_node.specs.Endings.{own_ended, own_back, table_ended};
+ghost use Rattle.pmg_node.specs.Holdings.{sealer_of};
+ghost use Rattle.pmg_node.specs.Owns.{sealed_of};
+ghost use Rattle.pmg_node.specs.Replies.{ended_reply};
+ghost use Rattle.pmg_node.specs.Servers.{reply_to, sent_by, after, IsAnswered, Replies};
+
+use crate::call::Call;
+use crate::calls::Calls;
+use crate::committing::Committed;
+use crate::due::Due;
+use crate::fencing::announce_all;
+use crate::node::Node;
+use crate::own::Own;
+use crate::publishing::{Beside, Published, publish};
+use crate::sent::Sent;
+use pmg_commit::SealerBefore;
+use pmg_fence::{Table, TableBefore};
+use pmg_value::{NodeId, Proc, Refusal};
+use std::alloc::AllocError;
+use std::collections::VecDeque;
+
+/// The process is gone from the fences that it has not entered, as the table tells once it has ended after so many commits: the
+/// own headers that come to exist are due to other nodes. What there was before is told.
+fn end_fences(
+    table: &mut Table,
+    id: NodeId,
+    proc: &Proc,
+    level: u64,
+) -> Result<(TableBefore, Vec<Due>), AllocError>
+    requires node { table.old.node ≡ id }
+    requires waiting { table.old.waiting ≡ [] }
+    requires level { level ≤ 4294967295 }
+    ensures ok { OnOk result (table.new ≡ table_ended table.old proc.now level) }
+    ensures dues { IfOk result (λ r. r.1.items ≡ flat_map (announcing table.old.jobs id)
+        (flat_map (news table.old.jobs id table.old.fences (ended_by table.old.fences proc.now level)) (names_of table.old.fences))) }
+    ensures before { IfOk result (λ r. table_back table.new r.0 ≡ table.old) }
+    ensures fits { IfOk result (λ r. CanTakeBack table.new r.0) }
+    ensures err { OnErr result (table.new ≡ table.old) }
+{
+    let before = table.end(proc, level)?;
+    let headers = table.take_headers();
+    match announce_all(table.registry(), id, headers) {
+        Ok(dues) => Ok((before, dues)),
+        Err(AllocError) => {
+            table.take_back(before);
+            Err(AllocError)
+        }
+    }
+}
+
+/// What there was before a process ended: of what it sealed, if it had not ended, and of fences.
+#[derive(Debug, Drop)]
+struct EndBefore {
+    sealer: Option<SealerBefore>,
+    table: TableBefore,
+}
+
+/// The own process's end is taken back, if it had not ended before.
+#[tactic(auto, unfolding(crate::specs::Holdings::sealer_in))]
+fn take_seal_back(own: &mut Own, proc: &Proc, before: Option<SealerBefore>)
+    requires client { is_host proc.now ≡ false }
+    requires there { is_some (finite.get own.old.sealers proc.now) ≡ true }
+    requires fits { IfSome before (CanTakeSealBack (sealed_of own.old proc.now)) }
+    ensures { own.new ≡ own_back own.old proc.now before }
+{
+    if let Some(before) = before {
+        own.sealers.take_back(proc, before);
+    }
+}
+
+/// The own process ends, and is gone from the fences that it has not entered: what is due by that, and what there was before.
+fn end(
+    own: &mut Own,
+    table: &mut Table,
+    id: NodeId,
+    proc: &Proc,
+) -> Result<(EndBefore, Vec<Due>), AllocError>
+    requires client { is_host proc.now ≡ false }
+    requires there { is_some (finite.get own.old.sealers proc.now) ≡ true }
+    requires live { (sealed_of own.old proc.now).ended ≡ false }
+    requires node { table.old.node ≡ id }
+    requires waiting { table.old.waiting ≡ [] }
+    ensures own { OnOk result (own.new ≡ own_ended own.old proc.now) }
+    ensures table { OnOk result (table.new ≡ table_ended table.old proc.now (ended_with (sealed_of own.old proc.now)).level) }
+    ensures dues { IfOk result (λ r. r.1.items ≡ flat_map (announcing table.old.jobs id)
+        (flat_map (news table.old.jobs id table.old.fences (ended_by table.old.fences proc.now (ended_with (sealed_of own.old proc.now)).level))
+        (names_of table.old.fences))) }
+    ensures own_before { IfOk result (λ r. own_back own.new proc.now r.0.sealer ≡ own.old) }
+    ensures own_fits { IfOk result (λ r. IfSome r.0.sealer (CanTakeSealBack (sealed_of own.new proc.now))) }
+    ensures table_before { IfOk result (λ r. table_back table.new r.0.table ≡ table.old) }
+    ensures table_fits { IfOk result (λ r. CanTakeBack table.new r.0.table) }
+    ensures own_err { OnErr result (own.new ≡ own.old) }
+    ensures table_err { OnErr result (table.new ≡ table.old) }
+{
+    let sealer = own.sealers.end(proc)?;
+    match end_fences(table, id, proc, own.level(proc)) {
+        Ok((table, dues)) => Ok((EndBefore { sealer, table }, dues)),
+        Err(AllocError) => {
+            take_seal_back(own, proc, sealer);
+            Err(AllocError)
+        }
+    }
+}
+
+/// The process's end is kept where it was published; where an allocation failed by then, it is taken back.
+fn keep_end(
+    own: &mut Own,
+    table: &mut Table,
+    proc: &Proc,
+    before: EndBefore,
+    published: Result<Published, AllocError>,
+) -> Result<Published, AllocError>
+    requires client { is_host proc.now ≡ false }
+    requires there { is_some (finite.get own.old.sealers proc.now) ≡ true }
+    requires own_fits { IfSome before.sealer (CanTakeSealBack (sealed_of own.old proc.now)) }
+    requires table_fits { CanTakeBack table.old before.table }
+    ensures same { result ≡ published }
+    ensures own { OnOk result (own.new ≡ own.old) }
+    ensures table { OnOk result (table.new ≡ table.old) }
+    ensures own_err { OnErr result (own.new ≡ own_back own.old proc.now before.sealer) }
+    ensures table_err { OnErr result (table.new ≡ table_back table.old before.table) }
+{
+    match published {
+        Ok(published) => Ok(published),
+        Err(AllocError) => {
+            take_seal_back(own, proc, before.sealer);
+            table.take_back(before.table);
+            Err(AllocError)
+        }
+    }
+}
+
+/// Calls are answered, and the process is in none any more.
+fn end_calls(calls: &mut Calls, answers: Vec<(Proc, Call)>, proc: &Proc)
+    ensures { calls.new ≡ finite.remove (all_instead calls.old answers.items) proc.now }
+{
+    calls.answer(answers);
+    calls.remove(proc);
+}
+
+impl Node {
+    /// The process ends (PMIx Standard 5.0, PMIx_Finalize): that is its last commit, by which others learn of it; it is gone from the
+    /// fences that it has not entered, and in no call any more. Refused as BadParam where the process is none of its namespace, or
+    /// of one whose name begins with `pmix`; as UnknownNamespace; as NotMine where it is at home at another node; as Terminated
+    /// where it has ended; and as NoMemory, and then nothing changes.
+    pub fn terminate(&mut self, proc: &Proc, out: &mut VecDeque<Sent>) -> Result<Committed, Refusal>
+        ensures reply { Replies ended_reply result (reply_to self.old (Act.request (Request.terminate proc.now))) }
+        ensures done { IsAnswered result → self.new ≡ after self.old (Act.request (Request.terminate proc.now)) }
+        ensures sent { IsAnswered result → out.new.items ≡ out.old.items ++ sent_by self.old (Act.request (Request.terminate proc.now)) }
+        ensures memory { result ≡ Err refusals.NoMemory → self.new ≡ self.old }
+        ensures unsent { result ≡ Err refusals.NoMemory → out.new.items ≡ out.old.items }
+        ensures near { IfOk result (λ e. e.near ≡ piece_at (ended_with (sealer_of self.old.holding proc.now))
+            (sealer_of self.old.holding proc.now).level reach.Near) }
+        ensures far { IfOk result (λ e. e.far ≡ piece_at (ended_with (sealer_of self.old.holding proc.now))
+            (sealer_of self.old.holding proc.now).level reach.Far) }
+    {
+        if let Err(refusal) = self.check_caller(proc) {
+            return Err(refusal);
+        }
+        let from = self.own.level(proc);
+        let Ok((before, dues)) = end(&mut self.own, &mut self.table, self.id, proc) else {
+            return Err(Refusal::NoMemory);
+        };
+        let beside = Beside {
+            table: &self.table,
+            id: self.id,
+            own: &self.own,
+            held: &self.held,
+            calls: &self.calls,
+        };
+        let told = publish(
+            &beside,
+            &mut self.board,
+            &mut self.marks,
+            out,
+            proc,
+            from,
+            dues,
+        );
+        let kept = keep_end(&mut self.own, &mut self.table, proc, before, told);
+        let Ok(published) = kept else {
+            return Err(Refusal::NoMemory);
+        };
+        let level = self.own.level(proc);
+        self.held.settle(proc, level);
+        end_calls(&mut self.calls, published.answers, proc);
+        Ok(Committed {
+            level,
+            near: published.near,
+            far: published.far,
+        })
+    }
+}

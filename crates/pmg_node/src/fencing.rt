@@ -1,0 +1,137 @@
+//! A fence changes at a node: its own header is announced where it comes to exist, and whoever can be released is.
+ghost use Rattle.std.specs.Prelude.{◌≡◌, ◌++◌, [], IfOk, OnOk, OnErr};
+ghost use Rattle.std.specs.List.{flat_map};
+ghost use Rattle.pmg_fence.specs.Kept.{placed_by, CanChange};
+ghost use Rattle.pmg_node.specs.Answering.{AreAnswers};
+ghost use Rattle.pmg_node.specs.Choosing.{sends};
+ghost use Rattle.pmg_node.specs.Fencing.{fence_after, fence_dues, AreSettledIn};
+ghost use Rattle.pmg_node.specs.Kept.{is_in};
+ghost use Rattle.pmg_node.specs.Owns.{sealed_of};
+ghost use Rattle.pmg_node.specs.Telling.{telling_by, announcing_by};
+
+use crate::ahead::Ahead;
+use crate::answering::answers_in;
+use crate::call::Call;
+use crate::calls::Calls;
+use crate::due::{Due, hand_out};
+use crate::own::Own;
+use crate::sent::Sent;
+use crate::telling::{announce, tell};
+use pmg_dmodex::Marks;
+use pmg_fence::{Change, Table};
+use pmg_frame::{FenceName, Header};
+use pmg_jobinfo::Registry;
+use pmg_store::Board;
+use pmg_value::{NodeId, Proc};
+use std::alloc::{AllocError, Global};
+use std::collections::VecDeque;
+
+/// What stays as it is while a fence changes.
+#[derive(Clone, Copy)]
+pub(crate) struct Around<'a> {
+    pub(crate) id: NodeId,
+    pub(crate) board: &'a Board,
+    pub(crate) own: &'a Own,
+}
+
+/// The headers are due to each other node of their fences, one after the other.
+pub(crate) fn announce_all(
+    registry: &Registry,
+    id: NodeId,
+    headers: VecDeque<Header>,
+) -> Result<Vec<Due>, AllocError>
+    ensures { IfOk result (λ dues. dues.items ≡ flat_map (announcing_by registry.now id) headers.items) }
+{
+    let mut dues = Vec::new(registry.allocator());
+    for header in headers {
+        announce(registry, id, &header, &mut dues)?;
+    }
+    Ok(dues)
+}
+
+/// The header goes out to the node, and where the fence collects data, the commits of each process that it lists.
+pub(crate) fn tell_node(
+    alloc: Global,
+    own: &Own,
+    marks: &mut Marks,
+    node: NodeId,
+    header: &Header,
+    out: &mut VecDeque<Sent>,
+) -> Result<(), AllocError>
+    ensures marks { OnOk result (marks.new ≡ (sends (sealed_of own.now) marks.old (telling_by header.now node)).marks) }
+    ensures sent { OnOk result (out.new.items ≡ out.old.items ++ (sends (sealed_of own.now) marks.old (telling_by header.now node)).frames) }
+    ensures marks_err { OnErr result (marks.new ≡ marks.old) }
+    ensures unsent { OnErr result (out.new.items ≡ out.old.items) }
+{
+    let mut dues = Vec::new(alloc);
+    tell(&mut dues, node, header)?;
+    hand_out(alloc, own, marks, None, dues, out)?;
+    Ok(())
+}
+
+/// The own headers that have come to exist go out. What calls in the fence come to be answered is told.
+fn send_news(
+    around: &Around<'_>,
+    table: &Table,
+    calls: &Calls,
+    marks: &mut Marks,
+    name: &FenceName,
+    news: VecDeque<Header>,
+    out: &mut VecDeque<Sent>,
+) -> Result<Vec<(Proc, Call)>, AllocError>
+    requires { table.now.node ≡ around.now.id }
+    ensures answers { IfOk result (λ answers. AreAnswers table.now.jobs around.now.id (is_in name.now) table.now.fences
+        around.now.board.now.near around.now.board.now.far calls.now answers.items) }
+    ensures marks { OnOk result (marks.new ≡ (sends (sealed_of around.now.own.now) marks.old
+        (flat_map (announcing_by table.now.jobs around.now.id) news.items)).marks) }
+    ensures sent { OnOk result (out.new.items ≡ out.old.items ++ (sends (sealed_of around.now.own.now) marks.old
+        (flat_map (announcing_by table.now.jobs around.now.id) news.items)).frames) }
+    ensures marks_err { OnErr result (marks.new ≡ marks.old) }
+    ensures unsent { OnErr result (out.new.items ≡ out.old.items) }
+{
+    let ahead = Ahead {
+        board: around.board,
+        near: None,
+        far: None,
+    };
+    let answers = answers_in(table, around.id, &ahead, calls, name)?;
+    let registry = table.registry();
+    let dues = announce_all(registry, around.id, news)?;
+    hand_out(registry.allocator(), around.own, marks, None, dues, out)?;
+    Ok(answers)
+}
+
+/// The fence changes in the table. Its own header is announced where it comes to exist by this, and whoever can be released from
+/// it is. Where an allocation fails, all is as before.
+pub(crate) fn change_fence(
+    around: &Around<'_>,
+    table: &mut Table,
+    calls: &mut Calls,
+    marks: &mut Marks,
+    name: &FenceName,
+    change: Change,
+    out: &mut VecDeque<Sent>,
+) -> Result<(), AllocError>
+    requires node { table.old.node ≡ around.now.id }
+    requires told { table.old.waiting ≡ [] }
+    requires change { CanChange table.old.fences name.now change }
+    ensures table { OnOk result (table.new ≡ fence_after table.old name.now change) }
+    ensures calls { OnOk result (AreSettledIn name.now table.old.jobs around.now.id (placed_by table.old.fences name.now change)
+        around.now.board.now.near around.now.board.now.far calls.old calls.new) }
+    ensures marks { OnOk result (marks.new ≡ (sends (sealed_of around.now.own.now) marks.old (fence_dues table.old name.now change)).marks) }
+    ensures sent { OnOk result (out.new.items ≡ out.old.items
+        ++ (sends (sealed_of around.now.own.now) marks.old (fence_dues table.old name.now change)).frames) }
+    ensures table_err { OnErr result (table.new ≡ table.old) }
+    ensures calls_err { OnErr result (calls.new ≡ calls.old) }
+    ensures marks_err { OnErr result (marks.new ≡ marks.old) }
+    ensures unsent { OnErr result (out.new.items ≡ out.old.items) }
+{
+    let before = table.note(name, change)?;
+    let news = table.take_headers();
+    let Ok(answers) = send_news(around, table, calls, marks, name, news, out) else {
+        table.take_back(before);
+        return Err(AllocError);
+    };
+    calls.answer(answers);
+    Ok(())
+}

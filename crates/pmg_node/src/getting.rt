@@ -1,0 +1,62 @@
+//! A process gets a key of another one.
+ghost use Rattle.std.specs.Prelude.{◌≡◌, false};
+ghost use Rattle.pmg_value.specs.Names.{is_reserved};
+ghost use Rattle.pmg_value.specs.declared.refusal.Refusal.TheVariants as refusals;
+ghost use Rattle.pmg_commit.specs.Data.{read_at};
+ghost use Rattle.pmg_jobinfo.specs.Reserved.{is_general};
+ghost use Rattle.pmg_get.specs.Views.{outcome_of, seen_in};
+ghost use Rattle.pmg_node.specs.Acts.{target_cause};
+ghost use Rattle.pmg_node.specs.Calls.{get_of};
+ghost use Rattle.pmg_node.specs.Holdings.{answer_in, seen_of};
+
+use crate::ahead::Ahead;
+use crate::causes::is_misnamed;
+use crate::node::Node;
+use pmg_get::{Answer, Mode, View, resolve};
+use pmg_value::{Key, Proc};
+
+/// Whether no particular rank is named.
+fn is_general(proc: &Proc) -> bool
+    ensures { result ≡ is_general proc.now }
+{
+    proc.rank.is_wildcard() || proc.rank.is_undef()
+}
+
+impl Node {
+    /// What there is to be seen here of a key that is not reserved.
+    #[tactic(auto, unfolding(crate::specs::Holdings::seen_of))]
+    fn look(&self, target: &Proc, key: &Key) -> View<'_>
+        requires { is_reserved key.now ≡ false }
+        ensures { seen_in result ≡ seen_of self.now.jobs self.now.id (read_at self.now.holding.near target.now) (read_at self.now.holding.far target.now)
+            (get_of target.now key.now) }
+    {
+        let ahead = Ahead {
+            board: &self.board,
+            near: None,
+            far: None,
+        };
+        ahead.look(self.table.registry(), self.id, target, key)
+    }
+
+    /// What a get of a key that is not reserved is answered here.
+    pub(crate) fn answer(&self, target: &Proc, key: &Key, mode: Mode) -> Answer<'_>
+        requires { is_reserved key.now ≡ false }
+        ensures { outcome_of result ≡ answer_in self.now.jobs self.now.id self.now.holding (get_of target.now key.now) mode }
+    {
+        resolve(self.look(target, key), mode)
+    }
+
+    /// Whether a get may not ask for a key of the target, whatever is registered.
+    pub(crate) fn is_bad_target(&self, proc: &Proc, target: &Proc, key: &Key) -> bool
+        ensures { result ≡ target_cause self.now.jobs proc.now (get_of target.now key.now) refusals.BadParam }
+    {
+        let registry = self.table.registry();
+        if target.nspace.is_reserved() {
+            return true;
+        }
+        if key.is_reserved() {
+            return !is_general(target) && is_misnamed(registry, target);
+        }
+        is_general(target) || proc.cmp(target).is_eq() || is_misnamed(registry, target)
+    }
+}

@@ -1,0 +1,152 @@
+//! Another node tells its header of a fence, or asks for one.
+ghost use Rattle.std.specs.Prelude.{◌≡◌, ◌++◌, IfOk, OnOk, OnErr};
+ghost use Rattle.pmg_frame.specs.declared.frame.Frame.TheVariants as frames;
+ghost use Rattle.pmg_jobinfo.specs.Jobs.{is_member};
+ghost use Rattle.std.specs.List.{list_all};
+ghost use Rattle.pmg_frame.specs.Fences.{participants_of};
+ghost use Rattle.pmg_node.specs.Acts.{Act, is_concerned, is_complete, is_taken};
+ghost use Rattle.pmg_node.specs.Replies.{delivery_reply};
+ghost use Rattle.pmg_node.specs.Servers.{reply_to, sent_by, after};
+
+use crate::asked::Delivery;
+use crate::causes::is_member;
+use crate::fencing::{Around, change_fence, tell_node};
+use crate::node::Node;
+use crate::sent::Sent;
+use crate::telling::takes_part;
+use pmg_fence::Change;
+use pmg_frame::{FenceAsk, FenceName, Header};
+use pmg_jobinfo::Registry;
+use std::alloc::AllocError;
+use std::collections::VecDeque;
+
+/// Whether each participant of the fence is one of the group.
+fn are_members(registry: &Registry, name: &FenceName) -> bool
+    ensures { result ≡ list_all (is_member registry.now) (participants_of name.now) }
+{
+    for proc in name.signature().participants() {
+        if !is_member(registry, proc) {
+            return false;
+        }
+    }
+    true
+}
+
+/// Whether the header lists just its node's participants, in their order.
+fn is_complete(registry: &Registry, header: &Header) -> bool
+    ensures { result ≡ is_complete registry.now header.now }
+{
+    let locals = header.locals();
+    let mut count = 0;
+    for proc in header.name().signature().participants() {
+        if !registry.is_home(header.node(), proc) {
+            continue;
+        }
+        if count == locals.len() {
+            return false;
+        }
+        if !locals[count].proc.cmp(proc).is_eq() {
+            return false;
+        }
+        count += 1;
+    }
+    count == locals.len()
+}
+
+impl Node {
+    /// Whether the node has a participant in the fence, and each participant is of the group.
+    fn is_concerned(&self, name: &FenceName) -> bool
+        ensures { result ≡ is_concerned self.now.jobs self.now.id name.now }
+    {
+        let registry = self.table.registry();
+        are_members(registry, name) && takes_part(registry, name, self.id)
+    }
+
+    /// Whether the header comes from another node, is of a fence that concerns this one, and lists its node's participants.
+    #[tactic(auto, unfolding(crate::specs::Acts::is_taken))]
+    fn is_told(&self, header: &Header) -> bool
+        ensures { result ≡ is_taken self.now.jobs self.now.id (frames.Header header.now) }
+    {
+        self.is_peer(header.node())
+            && self.is_concerned(header.name())
+            && is_complete(self.table.registry(), header)
+    }
+
+    /// Whether the request comes from another node, and is for a header of a fence that concerns this one.
+    #[tactic(auto, unfolding(crate::specs::Acts::is_taken))]
+    fn is_asked_for(&self, ask: &FenceAsk) -> bool
+        ensures { result ≡ is_taken self.now.jobs self.now.id (frames.FenceAsk ask.now) }
+    {
+        self.is_peer(ask.node()) && self.is_concerned(ask.name())
+    }
+
+    /// Another node tells its header of a fence.
+    pub(crate) fn deliver_header(
+        &mut self,
+        header: &Header,
+        out: &mut VecDeque<Sent>,
+    ) -> Result<Delivery, AllocError>
+        ensures reply { IfOk result (λ delivery. reply_to self.old (Act.deliver (frames.Header header.now)) ≡ delivery_reply delivery) }
+        ensures ok { OnOk result (self.new ≡ after self.old (Act.deliver (frames.Header header.now))) }
+        ensures sent { OnOk result (out.new.items ≡ out.old.items ++ sent_by self.old (Act.deliver (frames.Header header.now))) }
+        ensures err { OnErr result (self.new ≡ self.old) }
+        ensures unsent { OnErr result (out.new.items ≡ out.old.items) }
+    {
+        if !self.is_told(header) {
+            return Ok(Delivery::Ignored);
+        }
+        let change = Change::Told(header.copy()?);
+        let around = Around {
+            id: self.id,
+            board: &self.board,
+            own: &self.own,
+        };
+        change_fence(
+            &around,
+            &mut self.table,
+            &mut self.calls,
+            &mut self.marks,
+            header.name(),
+            change,
+            out,
+        )?;
+        Ok(Delivery::Taken)
+    }
+
+    /// Another node asks for the own header of a fence: it is told that, once it exists.
+    pub(crate) fn deliver_fence_ask(
+        &mut self,
+        ask: &FenceAsk,
+        out: &mut VecDeque<Sent>,
+    ) -> Result<Delivery, AllocError>
+        ensures reply { IfOk result (λ delivery. reply_to self.old (Act.deliver (frames.FenceAsk ask.now)) ≡ delivery_reply delivery) }
+        ensures ok { OnOk result (self.new ≡ after self.old (Act.deliver (frames.FenceAsk ask.now))) }
+        ensures sent { OnOk result (out.new.items ≡ out.old.items ++ sent_by self.old (Act.deliver (frames.FenceAsk ask.now))) }
+        ensures err { OnErr result (self.new ≡ self.old) }
+        ensures unsent { OnErr result (out.new.items ≡ out.old.items) }
+    {
+        if !self.is_asked_for(ask) {
+            return Ok(Delivery::Ignored);
+        }
+        if let Some(header) = self.table.own_header(ask.name())? {
+            let alloc = self.table.registry().allocator();
+            tell_node(alloc, &self.own, &mut self.marks, ask.node(), &header, out)?;
+            return Ok(Delivery::Taken);
+        }
+        let around = Around {
+            id: self.id,
+            board: &self.board,
+            own: &self.own,
+        };
+        change_fence(
+            &around,
+            &mut self.table,
+            &mut self.calls,
+            &mut self.marks,
+            ask.name(),
+            Change::Learned,
+            out,
+        )?;
+        Ok(Delivery::Taken)
+    }
+}

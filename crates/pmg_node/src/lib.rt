@@ -1,0 +1,53 @@
+//! One server of one node: every call of its processes and every frame of another node is one step of the model.
+#![tactic(auto)]
+
+mod act;
+mod acting;
+mod ahead;
+mod answering;
+mod asked;
+mod call;
+mod calls;
+mod causes;
+mod committing;
+mod delivering;
+mod due;
+mod ending;
+mod entering;
+mod fencing;
+mod getting;
+mod headers;
+mod laws;
+mod leaving;
+mod members;
+mod node;
+mod nudging;
+mod opening;
+mod own;
+mod parking;
+mod pieces;
+mod publishing;
+mod sealers;
+mod sending_laws;
+mod sent;
+mod setting;
+mod status;
+mod taking;
+mod telling;
+mod waiting;
+
+pub use act::{Act, Acted, Joined, Reply, Request};
+pub use asked::Delivery;
+pub use call::{Call, Found};
+pub use committing::Committed;
+pub use laws::node_rules;
+pub use leaving::Release;
+pub use node::Node;
+pub use parking::Asked;
+pub use sending_laws::sending_rules;
+pub use sent::Sent;
+pub use status::Status;
+pub use taking::Taking;
+
+#[cfg(test)]
+mod call_tests;

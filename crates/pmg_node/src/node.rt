@@ -1,0 +1,62 @@
+ghost use Rattle.std.specs.Prelude.{◌≡◌, true};
+ghost use Rattle.pmg_jobinfo.specs.Jobs.{is_node};
+
+use crate::calls::Calls;
+use crate::own::Own;
+use pmg_dmodex::{Marks, Pending};
+use pmg_fence::Table;
+use pmg_jobinfo::Registry;
+use pmg_store::Board;
+use pmg_value::NodeId;
+use std::marker::Model;
+
+/// One server: what it knows of all processes, what its own sealed, which fences they are in, and what other nodes ask for
+/// (PMIx Standard 5.0, PMIx_server_init).
+#[derive(Drop)]
+pub struct Node {
+    pub(crate) id: NodeId,
+    pub(crate) table: Table,
+    pub(crate) board: Board,
+    pub(crate) own: Own,
+    pub(crate) calls: Calls,
+    pub(crate) held: Pending,
+    pub(crate) marks: Marks,
+}
+
+impl Model for Node {
+    ghost use Rattle.pmg_node.specs.Servers as servers;
+    ghost use Rattle.pmg_node.specs.Content.{server_of, IsContent};
+
+    ghost Value = { servers.Server };
+
+    ghost coded = { servers.coded_server };
+
+    ghost view = { λ a. server_of a.table a.id a.board a.own a.calls a.held a.marks };
+
+    ghost invariant = { λ a. IsContent a.table a.id (server_of a.table a.id a.board a.own a.calls a.held a.marks) };
+}
+
+impl Node {
+    /// The node's index.
+    pub fn id(&self) -> NodeId
+        ensures value { result ≡ self.now.id }
+        ensures node { is_node self.now.jobs result ≡ true }
+    {
+        self.id
+    }
+
+    /// The registry of the group.
+    pub fn registry(&self) -> &Registry
+        ensures { result.now ≡ self.now.jobs }
+    {
+        self.table.registry()
+    }
+
+    /// What the node knows of all processes: for reads from its own node, and from other nodes.
+    pub fn board(&self) -> &Board
+        ensures near { result.now.near ≡ self.now.holding.near }
+        ensures far { result.now.far ≡ self.now.holding.far }
+    {
+        &self.board
+    }
+}

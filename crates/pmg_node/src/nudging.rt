@@ -1,0 +1,180 @@
+//! Other nodes are asked again for what is missing.
+ghost use Rattle.std.specs.Prelude.{◌≡◌, ◌&&◌, ◌++◌, ◌==◌, not, IfOk, OnOk, OnErr};
+ghost use Rattle.std.specs.List.{flat_map};
+ghost use Rattle.pmg_commit.specs.Data.{level_at};
+ghost use Rattle.pmg_fence.specs.Tables.{told_of};
+ghost use Rattle.pmg_frame.specs.Fences.{commit_ask};
+ghost use Rattle.pmg_frame.specs.declared.frame.Frame.TheVariants as frames;
+ghost use Rattle.pmg_jobinfo.specs.Jobs.{home_of};
+ghost use Rattle.pmg_node.specs.Acts.{Act, Request, Reply};
+ghost use Rattle.pmg_node.specs.Calls.{all_targets};
+ghost use Rattle.pmg_node.specs.Choosing.{asking, asking_headers, asking_ranges, asking_fence, asking_sets, is_behind, nudging, waited_in};
+ghost use Rattle.pmg_node.specs.Sending.{sent};
+ghost use Rattle.pmg_node.specs.Servers.{reply_to, sent_by, after};
+ghost use Rattle.pmg_node.specs.declared.due.Due.TheVariants as sendings;
+
+use crate::due::{Due, hand_out};
+use crate::node::Node;
+use crate::sent::Sent;
+use crate::telling::peers_in;
+use pmg_frame::{CommitAsk, FenceAsk, FenceName, Frame};
+use pmg_value::{NodeId, Proc};
+use std::alloc::AllocError;
+use std::collections::VecDeque;
+
+impl Node {
+    /// This node's ask for the commits of the process past the level that is known.
+    fn commit_ask(&self, proc: &Proc) -> Result<CommitAsk, AllocError>
+        ensures { IfOk result (λ ask. ask ≡ commit_ask self.now.id proc.now (level_at self.now.holding.far proc.now)) }
+    {
+        let level = self.board.far().level(proc);
+        match CommitAsk::new(self.id, proc.copy()?, level) {
+            Ok(ask) => Ok(ask),
+            Err(_) => Err(AllocError),
+        }
+    }
+
+    /// The node is asked for the commits of the process past the level that is known.
+    fn range_due(&self, to: NodeId, proc: &Proc) -> Result<Due, AllocError>
+        ensures { IfOk result (λ due. due ≡ sendings.Whole (sent to (frames.RangeAsk
+            (commit_ask self.now.id proc.now (level_at self.now.holding.far proc.now))))) }
+    {
+        Ok(Due::Whole(Sent {
+            to,
+            frame: Frame::RangeAsk(self.commit_ask(proc)?),
+        }))
+    }
+
+    /// The home of the process, where that is another node, is asked for its commits past the level that is known, and answers
+    /// once there are some.
+    pub(crate) fn ask_home(&self, target: &Proc, dues: &mut Vec<Due>) -> Result<(), AllocError>
+        ensures { OnOk result (dues.new.items ≡ dues.old.items ++ asking self.now.jobs self.now.id self.now.holding target.now) }
+    {
+        let home = self.table.registry().home_of(target);
+        if home == self.id {
+            return Ok(());
+        }
+        dues.push(Due::Whole(Sent {
+            to: home,
+            frame: Frame::DirectAsk(self.commit_ask(target)?),
+        }))?;
+        Ok(())
+    }
+
+    /// The other nodes whose header of the fence is missing are asked for it.
+    fn ask_headers(&self, name: &FenceName, dues: &mut Vec<Due>) -> Result<(), AllocError>
+        ensures { OnOk result (dues.new.items ≡ dues.old.items ++ asking_headers self.now.jobs self.now.id self.now.holding name.now) }
+    {
+        for node in peers_in(self.table.registry(), self.id, name)? {
+            if self.table.has_header(name, node) {
+                continue;
+            }
+            dues.push(Due::Whole(Sent {
+                to: node,
+                frame: Frame::FenceAsk(FenceAsk::new(self.id, name.copy()?)),
+            }))?;
+        }
+        Ok(())
+    }
+
+    /// Whether the process, of another node, has commits that a header of the fence names and that are missing here.
+    fn is_behind(&self, name: &FenceName, proc: &Proc) -> bool
+        ensures { result ≡ (not (home_of self.now.jobs proc.now == self.now.id) && is_behind (level_at self.now.holding.far proc.now)
+            (told_of self.now.jobs self.now.id self.now.holding.table name.now proc.now)) }
+    {
+        if self.table.registry().is_home(self.id, proc) {
+            return false;
+        }
+        match self.table.told_of(name, proc) {
+            Some(entry) => self.board.far().level(proc) < entry.level,
+            None => false,
+        }
+    }
+
+    /// Of each participant of another node whose commits are missing that a header of the fence names, the home is asked.
+    fn ask_ranges(&self, name: &FenceName, dues: &mut Vec<Due>) -> Result<(), AllocError>
+        ensures { OnOk result (dues.new.items ≡ dues.old.items ++ asking_ranges self.now.jobs self.now.id self.now.holding name.now) }
+    {
+        for proc in name.signature().participants() {
+            if !self.is_behind(name, proc) {
+                continue;
+            }
+            let home = self.table.registry().home_of(proc);
+            dues.push(self.range_due(home, proc)?)?;
+        }
+        Ok(())
+    }
+
+    /// Other nodes are asked for what is missing of the fence: headers, and where it collects data, commits.
+    fn ask_fence(&self, name: &FenceName, dues: &mut Vec<Due>) -> Result<(), AllocError>
+        ensures { OnOk result (dues.new.items ≡ dues.old.items ++ asking_fence self.now.jobs self.now.id self.now.holding name.now) }
+    {
+        self.ask_headers(name, dues)?;
+        if name.signature().collect() {
+            return self.ask_ranges(name, dues);
+        }
+        Ok(())
+    }
+
+    /// The same for each fence in which an own process waits.
+    fn ask_fences(&self, dues: &mut Vec<Due>) -> Result<(), AllocError>
+        ensures { OnOk result (dues.new.items ≡ dues.old.items
+            ++ flat_map (asking_fence self.now.jobs self.now.id self.now.holding) (waited_in self.now.holding)) }
+    {
+        for name in self.calls.waited()? {
+            self.ask_fence(&name, dues)?;
+        }
+        Ok(())
+    }
+
+    /// For each get that waits, the home of the process whose key it waits for is asked.
+    fn ask_homes(&self, dues: &mut Vec<Due>) -> Result<(), AllocError>
+        ensures { OnOk result (dues.new.items ≡ dues.old.items
+            ++ flat_map (asking self.now.jobs self.now.id self.now.holding) (all_targets self.now.holding.calls)) }
+    {
+        for target in self.calls.targets()? {
+            self.ask_home(&target, dues)?;
+        }
+        Ok(())
+    }
+
+    /// Node 0 is asked for changes of the process sets.
+    fn ask_sets(&self, dues: &mut Vec<Due>) -> Result<(), AllocError>
+        ensures { OnOk result (dues.new.items ≡ dues.old.items ++ asking_sets self.now.id self.now.holding) }
+    {
+        if self.id.index() == 0 {
+            return Ok(());
+        }
+        let first = NodeId::new(0).unwrap();
+        let host = Proc::of_host();
+        dues.push(self.range_due(first, &host)?)?;
+        Ok(())
+    }
+
+    /// All that is missing here is asked for.
+    fn ask_all(&self, dues: &mut Vec<Due>) -> Result<(), AllocError>
+        ensures { OnOk result (dues.new.items ≡ dues.old.items ++ nudging self.now.jobs self.now.id self.now.holding) }
+    {
+        self.ask_fences(dues)?;
+        self.ask_homes(dues)?;
+        self.ask_sets(dues)?;
+        Ok(())
+    }
+
+    /// Other nodes are asked again for what is missing (this project's call): for headers of the fences in which own processes
+    /// wait, and for commits that headers of those that collect data name; for commits of the processes whose keys gets wait
+    /// for; and on other nodes than 0 for changes of the process sets. Nothing else changes.
+    pub fn nudge(&mut self, out: &mut VecDeque<Sent>) -> Result<(), AllocError>
+        ensures reply { reply_to self.old (Act.request Request.nudge) ≡ Reply.done }
+        ensures ok { OnOk result (self.new ≡ after self.old (Act.request Request.nudge)) }
+        ensures sent { OnOk result (out.new.items ≡ out.old.items ++ sent_by self.old (Act.request Request.nudge)) }
+        ensures err { OnErr result (self.new ≡ self.old) }
+        ensures unsent { OnErr result (out.new.items ≡ out.old.items) }
+    {
+        let mut dues = Vec::new(self.table.registry().allocator());
+        self.ask_all(&mut dues)?;
+        let alloc = self.table.registry().allocator();
+        hand_out(alloc, &self.own, &mut self.marks, None, dues, out)?;
+        Ok(())
+    }
+}

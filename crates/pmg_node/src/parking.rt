@@ -1,0 +1,159 @@
+//! A process asks for a key.
+ghost use Rattle.std.specs.Prelude.{◌≡◌, ◌&&◌, ◌++◌, not, true, false, Ok, Err, OnOk, OnErr};
+ghost use Rattle.pmg_value.specs.CheckOrder.{first_of};
+ghost use Rattle.pmg_value.specs.Names.{is_reserved};
+ghost use Rattle.pmg_value.specs.declared.refusal.Refusal.TheVariants as refusals;
+ghost use Rattle.pmg_get.specs.Gets.{Outcome};
+ghost use Rattle.pmg_get.specs.Views.{outcome_of};
+ghost use Rattle.pmg_get.specs.declared.view.Mode.{Mode as AskedMode};
+ghost use Rattle.pmg_get.specs.declared.view.Mode.TheVariants as modes;
+ghost use Rattle.pmg_jobinfo.specs.Jobs.{is_registered};
+ghost use Rattle.pmg_jobinfo.specs.Reserved.{is_general};
+ghost use Rattle.pmg_node.specs.Acts.{Act, Request, also, free_cause, target_cause, is_misnamed, reply_of};
+ghost use Rattle.pmg_node.specs.Calls.{get_of};
+ghost use Rattle.pmg_node.specs.Holdings.{answer_in};
+ghost use Rattle.pmg_node.specs.Kept.{IsSettled};
+ghost use Rattle.pmg_node.specs.Replies.{asked_reply};
+ghost use Rattle.pmg_node.specs.Servers.{reply_to, sent_by, after, Replies, IsAnswered};
+
+use crate::call::Call;
+use crate::causes::{is_bad_caller, is_registered};
+use crate::due::{hand_out, take_back};
+use crate::node::Node;
+use crate::sent::Sent;
+use pmg_get::{Answer, Mode};
+use pmg_value::{Key, Proc, Refusal, Value};
+use std::alloc::AllocError;
+use std::collections::VecDeque;
+
+/// What a process that asks for a key is told (PMIx Standard 5.0, PMIx_Get).
+#[derive(Debug, Drop)]
+pub enum Asked {
+    /// The value.
+    Found(Value),
+    /// Its get waits.
+    Parked,
+}
+
+/// What a process is told whose get is answered so.
+fn told(answer: Answer<'_>) -> Result<Asked, Refusal>
+    ensures { Replies asked_reply result (reply_of (outcome_of answer.entry)) }
+{
+    match answer {
+        Answer::Found(value) => Ok(Asked::Found(value.copy()?)),
+        Answer::NotFound => Err(Refusal::NotFound),
+        Answer::OutsideScope => Err(Refusal::OutsideScope),
+        Answer::Park => Ok(Asked::Parked),
+    }
+}
+
+impl Node {
+    /// Judges who asks, and for whose key.
+    fn check_ask(&self, proc: &Proc, target: &Proc, key: &Key) -> Result<(), Refusal>
+        ensures value { result ≡ first_of (also (free_cause self.now.jobs self.now.id self.now.holding proc.now)
+            (target_cause self.now.jobs proc.now (get_of target.now key.now))) tt }
+        ensures settled { IsSettled self.now.jobs self.now.id self.now.holding }
+    {
+        let registry = self.table.registry();
+        if self.is_bad_target(proc, target, key) {
+            return Err(Refusal::BadParam);
+        }
+        if is_registered(registry, &target.nspace) {
+            return self.check_free(proc);
+        }
+        if is_bad_caller(registry, proc) {
+            return Err(Refusal::BadParam);
+        }
+        Err(Refusal::UnknownNamespace)
+    }
+
+    /// What a process is told that asks for a reserved key, which the registry answers.
+    fn tell_reserved(&self, target: &Proc, key: &Key) -> Result<Asked, Refusal>
+        requires reserved { is_reserved key.now ≡ true }
+        requires known { is_registered self.now.jobs target.now.nspace ≡ true }
+        requires named { (not (is_general target.now) && is_misnamed self.now.jobs target.now) ≡ false }
+        ensures { (mode : AskedMode) → Replies asked_reply result
+            (reply_of (answer_in self.now.jobs self.now.id self.now.holding (get_of target.now key.now) mode)) }
+    {
+        match self.table.registry().reserved(self.id, target, key) {
+            Ok(value) => Ok(Asked::Found(value)),
+            Err(refusal) => Err(refusal),
+        }
+    }
+
+    /// What a process is told that asks for a key.
+    fn tell(&self, target: &Proc, key: &Key, mode: Mode) -> Result<Asked, Refusal>
+        requires known { is_registered self.now.jobs target.now.nspace ≡ true }
+        requires named { is_reserved key.now ≡ true → (not (is_general target.now) && is_misnamed self.now.jobs target.now) ≡ false }
+        ensures { Replies asked_reply result (reply_of (answer_in self.now.jobs self.now.id self.now.holding (get_of target.now key.now) mode)) }
+    {
+        if key.is_reserved() {
+            return self.tell_reserved(target, key);
+        }
+        told(self.answer(target, key, mode))
+    }
+
+    /// The process's get, which finds nothing yet, waits, and the target's home is asked.
+    fn park(
+        &mut self,
+        proc: &Proc,
+        target: &Proc,
+        key: &Key,
+        out: &mut VecDeque<Sent>,
+    ) -> Result<(), AllocError>
+        requires free { first_of (also (free_cause self.old.jobs self.old.id self.old.holding proc.now)
+            (target_cause self.old.jobs proc.now (get_of target.now key.now))) (tt {0}) ≡ Ok tt }
+        requires parks { answer_in self.old.jobs self.old.id self.old.holding (get_of target.now key.now) modes.Wait ≡ Outcome.parks }
+        ensures ok { OnOk result (self.new ≡ after self.old (Act.request (Request.ask proc.now (get_of target.now key.now) modes.Wait))) }
+        ensures sent { OnOk result (out.new.items ≡ out.old.items
+            ++ sent_by self.old (Act.request (Request.ask proc.now (get_of target.now key.now) modes.Wait))) }
+        ensures err { OnErr result (self.new ≡ self.old) }
+        ensures unsent { OnErr result (out.new.items ≡ out.old.items) }
+    {
+        let asker = proc.copy()?;
+        let call = Call::Parked(target.copy()?, key.copy()?);
+        let mut dues = Vec::new(self.table.registry().allocator());
+        self.ask_home(target, &mut dues)?;
+        let alloc = self.table.registry().allocator();
+        let handed = hand_out(alloc, &self.own, &mut self.marks, None, dues, out)?;
+        if let Err(AllocError) = self.calls.put(asker, call) {
+            take_back(&mut self.marks, out, handed);
+            return Err(AllocError);
+        }
+        Ok(())
+    }
+
+    /// The process asks for a key of the target (PMIx Standard 5.0, PMIx_Get): it is told the value, or waits until there is
+    /// something to answer, unless the mode is not to wait. Refused as BadParam where a process is none of its namespace, or of
+    /// one whose name begins with `pmix`, and where a key that is not reserved is asked of the caller itself or of no
+    /// particular rank; as UnknownNamespace; as NotMine where the caller is at home at another node; as Terminated; as Busy
+    /// where it is in a call; as NotFound where there is no value, and none is waited for; as OutsideScope where there is one
+    /// that its scope keeps from the process; and as NoMemory.
+    pub fn ask(
+        &mut self,
+        proc: &Proc,
+        target: &Proc,
+        key: &Key,
+        mode: Mode,
+        out: &mut VecDeque<Sent>,
+    ) -> Result<Asked, Refusal>
+        ensures reply { Replies asked_reply result (reply_to self.old (Act.request (Request.ask proc.now (get_of target.now key.now) mode))) }
+        ensures done { IsAnswered result → self.new ≡ after self.old (Act.request (Request.ask proc.now (get_of target.now key.now) mode)) }
+        ensures sent { IsAnswered result → out.new.items ≡ out.old.items
+            ++ sent_by self.old (Act.request (Request.ask proc.now (get_of target.now key.now) mode)) }
+        ensures memory { result ≡ Err refusals.NoMemory → self.new ≡ self.old }
+        ensures unsent { result ≡ Err refusals.NoMemory → out.new.items ≡ out.old.items }
+    {
+        if let Err(refusal) = self.check_ask(proc, target, key) {
+            return Err(refusal);
+        }
+        match self.tell(target, key, mode) {
+            Err(refusal) => Err(refusal),
+            Ok(Asked::Found(value)) => Ok(Asked::Found(value)),
+            Ok(Asked::Parked) => {
+                self.park(proc, target, key, out)?;
+                Ok(Asked::Parked)
+            }
+        }
+    }
+}

@@ -1,0 +1,112 @@
+//! What a process sealed is joined into the stores of its node, and told to the nodes that wait for it.
+ghost use Rattle.std.specs.Prelude.{◌≡◌, ◌<◌, ◌++◌, IfOk, OnOk, OnErr};
+ghost use Rattle.pmg_scope.specs.declared.scope.Reach.TheVariants as reach;
+ghost use Rattle.pmg_commit.specs.Data.{absorbed};
+ghost use Rattle.pmg_commit.specs.Sealed.{piece_at};
+ghost use Rattle.pmg_node.specs.Answered.{ArePlain};
+ghost use Rattle.pmg_node.specs.Answering.{AreAnswers};
+ghost use Rattle.pmg_node.specs.Choosing.{sends};
+ghost use Rattle.pmg_node.specs.Kept.{is_about};
+ghost use Rattle.pmg_node.specs.Owns.{sealed_of};
+ghost use Rattle.pmg_node.specs.Telling.{settling_by};
+
+use crate::ahead::Ahead;
+use crate::answering::answers_about;
+use crate::call::Call;
+use crate::calls::Calls;
+use crate::due::{Due, hand_out, take_back};
+use crate::own::Own;
+use crate::sent::Sent;
+use crate::telling::tell_waiting;
+use pmg_commit::Piece;
+use pmg_dmodex::{Marks, Pending};
+use pmg_fence::Table;
+use pmg_store::Board;
+use pmg_value::{NodeId, Proc};
+use std::alloc::AllocError;
+use std::collections::VecDeque;
+use std::slice;
+
+/// What stays as it is while an own process's commits are published.
+#[derive(Drop)]
+pub(crate) struct Beside<'a> {
+    pub(crate) table: &'a Table,
+    pub(crate) id: NodeId,
+    pub(crate) own: &'a Own,
+    pub(crate) held: &'a Pending,
+    pub(crate) calls: &'a Calls,
+}
+
+/// What comes of a process's commits.
+#[derive(Debug, Drop)]
+pub(crate) struct Published {
+    /// What calls come to be answered.
+    pub(crate) answers: Vec<(Proc, Call)>,
+    /// What was joined for reads from the node itself.
+    pub(crate) near: Piece,
+    /// What was joined for reads from other nodes.
+    pub(crate) far: Piece,
+}
+
+/// What comes to be answered once the process's pieces are joined.
+fn answers_after<'a>(
+    beside: &Beside<'_>,
+    board: &'a Board,
+    near: &'a Piece,
+    far: &'a Piece,
+    proc: &Proc,
+) -> Result<Vec<(Proc, Call)>, AllocError>
+    requires node { beside.now.table.now.node ≡ beside.now.id }
+    requires plain { ArePlain beside.now.calls.now }
+    ensures { IfOk result (λ answers. AreAnswers beside.now.table.now.jobs beside.now.id (is_about proc.now) beside.now.table.now.fences
+        (absorbed board.now.near near.now) (absorbed board.now.far far.now) beside.now.calls.now answers.items) }
+{
+    let near = Some(near);
+    let far = Some(far);
+    let ahead = Ahead { board, near, far };
+    answers_about(beside.table, beside.id, &ahead, beside.calls, proc)
+}
+
+/// What the process sealed after a commit number is joined into the stores, and sent to the nodes that wait for it; after that
+/// these are sent. What comes to be answered is told.
+pub(crate) fn publish(
+    beside: &Beside<'_>,
+    board: &mut Board,
+    marks: &mut Marks,
+    out: &mut VecDeque<Sent>,
+    proc: &Proc,
+    from: u64,
+    mut dues: Vec<Due>,
+) -> Result<Published, AllocError>
+    requires node { beside.now.table.now.node ≡ beside.now.id }
+    requires plain { ArePlain beside.now.calls.now }
+    requires level { from < (sealed_of beside.now.own.now proc.now).level }
+    ensures joined_near { OnOk result (board.new.near ≡ absorbed board.old.near (piece_at (sealed_of beside.now.own.now proc.now) from reach.Near)) }
+    ensures joined_far { OnOk result (board.new.far ≡ absorbed board.old.far (piece_at (sealed_of beside.now.own.now proc.now) from reach.Far)) }
+    ensures marks { OnOk result (marks.new ≡ (sends (sealed_of beside.now.own.now) marks.old
+        (settling_by (sealed_of beside.now.own.now) beside.now.held.now.held proc.now ++ dues.items)).marks) }
+    ensures sent { OnOk result (out.new.items ≡ out.old.items ++ (sends (sealed_of beside.now.own.now) marks.old
+        (settling_by (sealed_of beside.now.own.now) beside.now.held.now.held proc.now ++ dues.items)).frames) }
+    ensures answers { IfOk result (λ published. AreAnswers beside.now.table.now.jobs beside.now.id (is_about proc.now) beside.now.table.now.fences
+        (absorbed board.old.near (piece_at (sealed_of beside.now.own.now proc.now) from reach.Near))
+        (absorbed board.old.far (piece_at (sealed_of beside.now.own.now proc.now) from reach.Far)) beside.now.calls.now published.answers.items) }
+    ensures near { IfOk result (λ published. published.near ≡ piece_at (sealed_of beside.now.own.now proc.now) from reach.Near) }
+    ensures far { IfOk result (λ published. published.far ≡ piece_at (sealed_of beside.now.own.now proc.now) from reach.Far) }
+    ensures near_err { OnErr result (board.new.near ≡ board.old.near) }
+    ensures far_err { OnErr result (board.new.far ≡ board.old.far) }
+    ensures marks_err { OnErr result (marks.new ≡ marks.old) }
+    ensures unsent { OnErr result (out.new.items ≡ out.old.items) }
+{
+    let alloc = beside.table.registry().allocator();
+    let near = beside.own.near_piece(proc, from)?;
+    let far = beside.own.piece(proc, from)?;
+    let answers = answers_after(beside, board, &near, &far, proc)?;
+    let mut all = tell_waiting(alloc, beside.own, beside.held, proc)?;
+    all.append(&mut dues)?;
+    let handed = hand_out(alloc, beside.own, marks, None, all, out)?;
+    if let Err(AllocError) = board.absorb_all(slice::from_ref(&near), slice::from_ref(&far)) {
+        take_back(marks, out, handed);
+        return Err(AllocError);
+    }
+    Ok(Published { answers, near, far })
+}

@@ -1,0 +1,60 @@
+//! How a process stands, which is looked at and changes nothing.
+ghost use Rattle.std.specs.Prelude.{◌≡◌};
+ghost use Rattle.std.specs.Option.{option_map};
+ghost use Rattle.pmg_node.specs.Acts.{status_by, status_of};
+ghost use Rattle.pmg_node.specs.Calls.{standing_of};
+ghost use Rattle.pmg_node.specs.Replies.{status_in};
+
+use crate::call::Call;
+use crate::causes::is_member;
+use crate::node::Node;
+use pmg_value::Proc;
+
+/// How a process stands at a node.
+#[derive(Clone, Copy, Debug, PartialEq, Eq)]
+pub enum Status {
+    /// It is none of the processes at home at the node.
+    Stranger,
+    /// It is in no call.
+    Idle,
+    /// It is in a fence, and not released.
+    InFence,
+    /// It is released from a fence, and has not left it.
+    Released,
+    /// Its get waits.
+    Parked,
+    /// Its get is answered, and it has not taken the answer.
+    Answered,
+    /// It has ended.
+    Ended,
+}
+
+/// How the process of the call stands.
+fn status_by(call: Option<&Call>) -> Status
+    ensures { status_in result ≡ status_by (option_map (λ c. standing_of c.now) call.entry) }
+{
+    match call {
+        None => Status::Idle,
+        Some(Call::InFence(_)) => Status::InFence,
+        Some(Call::Released(..)) => Status::Released,
+        Some(Call::Parked(..)) => Status::Parked,
+        Some(Call::Answered(..)) => Status::Answered,
+    }
+}
+
+impl Node {
+    /// How the process stands. It takes no memory.
+    #[tactic(auto, unfolding(crate::specs::Acts::status_of))]
+    pub fn status(&self, proc: &Proc) -> Status
+        ensures { status_in result ≡ status_of self.now.jobs self.now.id self.now.holding proc.now }
+    {
+        let registry = self.table.registry();
+        if !is_member(registry, proc) || !registry.is_home(self.id, proc) {
+            return Status::Stranger;
+        }
+        if self.own.has_ended(proc) {
+            return Status::Ended;
+        }
+        status_by(self.calls.get(proc))
+    }
+}
