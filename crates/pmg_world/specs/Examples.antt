@@ -1,0 +1,71 @@
+-- Runs of a small group, worked out by hand: what the laws of every run speak of does happen.
+use Rattle.std.specs.Prelude.{ℕ, ◌≡◌, true, false, List, [], ◌∷◌, Some, codes}
+use Rattle.pmg_value.specs.Lists.{In}
+use Rattle.pmg_value.specs.Signatures.{FenceName}
+use Rattle.pmg_value.specs.declared.process.Proc.{Proc}
+use Rattle.pmg_value.specs.declared.refusal.Refusal.TheVariants as refusals
+use Rattle.pmg_frame.specs.Fences.{name_fields, fence_name, participants_of}
+use Rattle.pmg_jobinfo.specs.Jobs.{Jobs, AreJobs, opened, registered}
+use Rattle.pmg_fence.specs.Entering.{same_proc}
+use Rattle.pmg_get.specs.declared.view.Mode.TheVariants as modes
+use Rattle.pmg_node.specs.Acts.{Request, Reply}
+use Rattle.pmg_node.specs.Fitting.{last_fence}
+use Rattle.pmg_node.specs.Holdings.{Get}
+use Rattle.pmg_world.specs.Worlds.{World, Event, Happened, Run, start}
+use Rattle.pmg_world.specs.Laws.{Leaves}
+
+-- two nodes, and a process at each
+abbrev pub two : Jobs
+two = registered (opened (codes "n0" ∷ codes "n1" ∷ [])) (codes "j") (0 ∷ 1 ∷ [])
+
+-- the process at node 0
+abbrev pub j0 : Proc
+j0 = record { nspace = codes "j"; rank = 0 }
+
+-- the process at node 1
+abbrev pub j1 : Proc
+j1 = record { nspace = codes "j"; rank = 1 }
+
+-- the first fence of both that collects data
+abbrev pub meeting : FenceName
+meeting = fence_name (name_fields true 1 (j0 ∷ j1 ∷ []))
+
+-- a key of the process at node 0
+abbrev pub its_key : Get
+its_key = record { target = j0; key = codes "a" }
+
+-- the two nodes
+abbrev pub first_node : ℕ
+first_node = 0
+
+abbrev pub second_node : ℕ
+second_node = 1
+
+-- an event with its reply
+abbrev pub happened : Event → Reply → Happened
+happened event reply = record { event = event; reply = reply }
+
+-- One process ends; the other enters a fence of both that collects data. Its node's header reaches the other node, which tells
+-- its own in turn, and sends the commit that the end was. The process waits for that header, then for the commit that the
+-- header names.
+abbrev pub ends_and_meets : List Happened
+ends_and_meets =
+    happened (Event.request first_node (Request.terminate j0)) (Reply.ended 1)
+    ∷ happened (Event.request second_node (Request.enter j1 (j0 ∷ j1 ∷ []) true)) (Reply.entered 1)
+    ∷ happened (Event.request second_node (Request.leave j1)) Reply.waiting
+    ∷ happened (Event.deliver 1) Reply.taken
+    ∷ happened (Event.deliver 2) Reply.taken
+    ∷ happened (Event.request second_node (Request.leave j1)) Reply.waiting
+    ∷ happened (Event.deliver 3) Reply.taken
+    ∷ []
+
+-- There is such a run, of jobs as every group's are. At its end the process is released from the fence that it entered last, in
+-- which the other one takes part, and is told that this one is gone. Then it gets a key of this one that was never put, and is
+-- told at once that there is none, though it would wait: the end is known. So all that the fence theorem asks for is there.
+unfoldable pub RunOfTwo : Type 0
+RunOfTwo =
+    AreJobs two × (w : World) × Run two (start two) ends_and_meets w
+    × (v : World) × Leaves two w j1 1 (j0 ∷ []) v
+    × (last_fence (w.scripts j1) ≡ Some meeting) × (meeting.signature.collect ≡ true)
+    × In j0 (participants_of meeting) × (same_proc j1 j0 ≡ false)
+    × (u : World) × Run two v (happened (Event.request second_node (Request.ask j1 its_key modes.Wait)) (Reply.refused refusals.NotFound) ∷ []) u

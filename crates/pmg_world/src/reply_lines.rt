@@ -1,0 +1,180 @@
+//! The reply lines of a script, in memory.
+ghost use Rattle.std.specs.Prelude.{◌≡◌, ◌++◌, Bool, codes, decimal, IfOk, OnOk};
+ghost use Rattle.std.specs.List.{flat_map};
+ghost use Rattle.pmg_value.specs.RefusalText.{refusal_text};
+ghost use Rattle.pmg_value.specs.Spelling.{spelling};
+ghost use Rattle.pmg_wire.specs.Fields.{whole_value};
+ghost use Rattle.pmg_node.specs.Acting.{reply_as};
+ghost use Rattle.pmg_node.specs.Acts.{Reply as ModelReply};
+ghost use Rattle.pmg_node.specs.Servers.{reply_in};
+ghost use Rattle.pmg_world.specs.ReplyLines.{proc_text, list_text, found_text, change_text, reply_line, flow_line, members_line};
+
+use pmg_node::Reply;
+use pmg_value::{Proc, Refusal, Value, WatchedWriter, WriteFault, push_number};
+use std::alloc::{AllocError, Global};
+
+/// The line of a reply; whether a set's deletion was asked for.
+pub fn reply_line(
+    alloc: Global,
+    deletes: bool,
+    reply: &Result<Reply, Refusal>,
+) -> Result<Vec<u8>, AllocError>
+    ensures { IfOk result (λ line. line.items ≡ reply_line deletes (reply_in reply_as reply.now)) }
+{
+    match reply {
+        Ok(answer) => answer_line(alloc, deletes, answer),
+        Err(refusal) => refusal_line(alloc, refusal),
+    }
+}
+
+/// The line of a refusal.
+#[tactic(auto, unfolding(crate::specs::ReplyLines::reply_line))]
+pub fn refusal_line(alloc: Global, refusal: &Refusal) -> Result<Vec<u8>, AllocError>
+    ensures { IfOk result (λ line. (deletes : Bool) → line.items ≡ reply_line deletes (ModelReply.refused refusal.now)) }
+{
+    let mut line = line_of(alloc, b"refused ")?;
+    let text = refusal_text(alloc, refusal)?;
+    line.extend_from_slice(&text)?;
+    end_line(&mut line)?;
+    Ok(line)
+}
+
+/// The text of a refusal.
+fn refusal_text(alloc: Global, refusal: &Refusal) -> Result<Vec<u8>, AllocError>
+    ensures { IfOk result (λ text. text.items ≡ refusal_text refusal.now) }
+{
+    let mut writer = WatchedWriter::new(Vec::new(alloc));
+    match refusal.write_text(&mut writer) {
+        Ok(()) => Ok(writer.into_inner()),
+        Err(WriteFault) => Err(AllocError),
+    }
+}
+
+/// The line of a reply that is no refusal.
+#[tactic(auto, unfolding(crate::specs::ReplyLines::reply_line))]
+fn answer_line(alloc: Global, deletes: bool, reply: &Reply) -> Result<Vec<u8>, AllocError>
+    ensures { IfOk result (λ line. line.items ≡ reply_line deletes (reply_as reply.now)) }
+{
+    match reply {
+        Reply::Done => line_of(alloc, b"ok\n"),
+        Reply::Committed(number) => number_line(alloc, b"commit ", *number),
+        Reply::Entered(instance) => number_line(alloc, b"entered ", *instance),
+        Reply::Idle => line_of(alloc, b"idle\n"),
+        Reply::Waiting => line_of(alloc, b"waiting\n"),
+        Reply::Released(instance, gone) => released_line(alloc, *instance, gone),
+        Reply::Found(value) => found_line(alloc, value),
+        Reply::Parked => line_of(alloc, b"parked\n"),
+        Reply::Taken => line_of(alloc, b"delivered 1\n"),
+        Reply::Ignored => line_of(alloc, b"delivered 1\n"),
+        Reply::Ended(number) => number_line(alloc, b"ended ", *number),
+        Reply::Defined(number) => number_line(alloc, change_text(deletes), *number),
+    }
+}
+
+/// What was done with a set.
+fn change_text(deletes: bool) -> &'static [u8]
+    ensures { result.now ≡ change_text deletes }
+{
+    if deletes { b"deleted " } else { b"defined " }
+}
+
+/// A line that begins so.
+fn line_of(alloc: Global, text: &[u8]) -> Result<Vec<u8>, AllocError>
+    ensures { IfOk result (λ line. line.items ≡ text.now) }
+{
+    let mut line = Vec::new(alloc);
+    line.extend_from_slice(text)?;
+    Ok(line)
+}
+
+/// Ends a line.
+fn end_line(line: &mut Vec<u8>) -> Result<(), AllocError>
+    ensures { OnOk result (line.new.items ≡ line.old.items ++ codes "\n") }
+{
+    line.extend_from_slice(b"\n")
+}
+
+/// The line of a number, after these words.
+fn number_line(alloc: Global, words: &[u8], number: u64) -> Result<Vec<u8>, AllocError>
+    ensures { IfOk result (λ line. line.items ≡ words.now ++ (decimal number ++ codes "\n")) }
+{
+    let mut line = line_of(alloc, words)?;
+    push_number(&mut line, number)?;
+    end_line(&mut line)?;
+    Ok(line)
+}
+
+/// The line of a release.
+fn released_line(alloc: Global, instance: u64, gone: &[Proc]) -> Result<Vec<u8>, AllocError>
+    ensures { IfOk result (λ line. line.items ≡ codes "released " ++ (decimal instance ++ (codes " gone " ++ (list_text gone.now ++ codes "\n")))) }
+{
+    let mut line = line_of(alloc, b"released ")?;
+    push_number(&mut line, instance)?;
+    line.extend_from_slice(b" gone ")?;
+    push_list(&mut line, gone)?;
+    end_line(&mut line)?;
+    Ok(line)
+}
+
+/// The line of a value.
+fn found_line(alloc: Global, value: &Value) -> Result<Vec<u8>, AllocError>
+    ensures { IfOk result (λ line. line.items ≡ codes "found " ++ (found_text (whole_value (spelling value.now)) ++ codes "\n")) }
+{
+    let mut line = line_of(alloc, b"found ")?;
+    let text = value.to_text(alloc)?;
+    line.extend_from_slice(&text)?;
+    end_line(&mut line)?;
+    Ok(line)
+}
+
+/// The line that says how many frames were delivered.
+#[tactic(auto, unfolding(crate::specs::ReplyLines::flow_line))]
+pub fn flow_line(alloc: Global, count: u64) -> Result<Vec<u8>, AllocError>
+    ensures { IfOk result (λ line. line.items ≡ flow_line count) }
+{
+    number_line(alloc, b"delivered ", count)
+}
+
+/// The line that tells the members of a set.
+#[tactic(auto, unfolding(crate::specs::ReplyLines::members_line))]
+pub fn members_line(alloc: Global, members: &[Proc]) -> Result<Vec<u8>, AllocError>
+    ensures { IfOk result (λ line. line.items ≡ members_line members.now) }
+{
+    let mut line = line_of(alloc, b"members ")?;
+    push_list(&mut line, members)?;
+    end_line(&mut line)?;
+    Ok(line)
+}
+
+/// Puts a process behind a text.
+#[tactic(auto, unfolding(crate::specs::ReplyLines::proc_text))]
+fn push_proc(text: &mut Vec<u8>, proc: &Proc) -> Result<(), AllocError>
+    ensures { OnOk result (text.new.items ≡ text.old.items ++ proc_text proc.now) }
+{
+    text.extend_from_slice(proc.nspace.as_bytes())?;
+    text.extend_from_slice(b"/")?;
+    push_number(text, u64::from(proc.rank.number()))
+}
+
+/// Puts processes behind a text, with commas between them, or `-` where there is none.
+#[tactic(auto, unfolding(crate::specs::ReplyLines::list_text))]
+fn push_list(text: &mut Vec<u8>, procs: &[Proc]) -> Result<(), AllocError>
+    ensures { OnOk result (text.new.items ≡ text.old.items ++ list_text procs.now) }
+{
+    let Some((first, others)) = procs.split_first() else {
+        return text.extend_from_slice(b"-");
+    };
+    push_proc(text, first)?;
+    push_others(text, others)
+}
+
+/// Puts processes behind a text, with a comma before each.
+fn push_others(text: &mut Vec<u8>, procs: &[Proc]) -> Result<(), AllocError>
+    ensures { OnOk result (text.new.items ≡ text.old.items ++ flat_map (λ p. codes "," ++ proc_text p) procs.now) }
+{
+    for proc in procs {
+        text.extend_from_slice(b",")?;
+        push_proc(text, proc)?;
+    }
+    Ok(())
+}
