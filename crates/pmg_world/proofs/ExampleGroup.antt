@@ -9,12 +9,17 @@ use Rattle.std.specs.Ordering.{nat_cmp, eq_by_cmp}
 use Rattle.std.specs.Option.{IfSome, unwrap_or}
 use Rattle.pmg_value.specs.Lists.{In}
 use Rattle.pmg_value.specs.Process.{proc_cmp}
+use Rattle.pmg_value.specs.declared.process.Proc.{Proc}
 use Rattle.pmg_value.proofs.ProcessOrder.{procs_total, exact_procs}
 use Rattle.pmg_value.proofs.SetOrder.{in_order-from_list}
 use Rattle.pmg_frame.specs.Fences.{participants_of}
 use Rattle.pmg_jobinfo.specs.Jobs.{IsSpace, AreJobs, is_registered, homes_of, is_member, home_of}
 use Rattle.pmg_fence.specs.Entering.{locals_of}
 use Rattle.pmg_world.specs.Examples.{two, j0, j1, meeting}
+
+-- the process of that rank
+abbrev pub ranked : ℕ → Proc
+ranked rank = record { nspace = j0.nspace; rank = rank }
 
 -- ---- homes
 

@@ -16,6 +16,9 @@ pub mod ExampleGroup
 pub mod ExampleTables
 pub mod ExampleNodes
 pub mod ExampleActs
+pub mod ExampleOwed
 pub mod ExampleSteps
 pub mod ExampleRun
 pub mod ExampleGet
+pub mod ExampleCommit
+pub mod ExampleMeeting

@@ -4,6 +4,7 @@ use Rattle.pmg_value.specs.Lists.{In}
 use Rattle.pmg_value.specs.Signatures.{FenceName}
 use Rattle.pmg_value.specs.declared.process.Proc.{Proc}
 use Rattle.pmg_value.specs.declared.refusal.Refusal.TheVariants as refusals
+use Rattle.pmg_scope.specs.declared.scope.Scope.TheVariants as scopes
 use Rattle.pmg_frame.specs.Fences.{name_fields, fence_name, participants_of}
 use Rattle.pmg_jobinfo.specs.Jobs.{Jobs, AreJobs, opened, registered}
 use Rattle.pmg_fence.specs.Entering.{same_proc}
@@ -34,6 +35,10 @@ meeting = fence_name (name_fields true 1 (j0 ∷ j1 ∷ []))
 abbrev pub its_key : Get
 its_key = record { target = j0; key = codes "a" }
 
+-- the value that is put there: one, as a `u8`, in canonical bytes
+abbrev pub its_value : List ℕ
+its_value = 9 ∷ 1 ∷ []
+
 -- the two nodes
 abbrev pub first_node : ℕ
 first_node = 0
@@ -59,13 +64,38 @@ ends_and_meets =
     ∷ happened (Event.deliver 3) Reply.taken
     ∷ []
 
--- There is such a run, of jobs as every group's are. At its end the process is released from the fence that it entered last, in
--- which the other one takes part, and is told that this one is gone. Then it gets a key of this one that was never put, and is
--- told at once that there is none, though it would wait: the end is known. So all that the fence theorem asks for is there.
-unfoldable pub RunOfTwo : Type 0
-RunOfTwo =
-    AreJobs two × (w : World) × Run two (start two) ends_and_meets w
-    × (v : World) × Leaves two w j1 1 (j0 ∷ []) v
+-- Both meet. The one process puts a value for all and commits it, and enters a fence of both that collects data; then the other one
+-- enters. Each node's header reaches the other node. The second process waits for the first one's header, which was sent and not
+-- delivered, then for the commit that the header names, whose piece comes last.
+abbrev pub puts_and_meets : List Happened
+puts_and_meets =
+    happened (Event.put j0 scopes.Global its_key.key its_value) Reply.done
+    ∷ happened (Event.commit first_node j0) (Reply.committed 1)
+    ∷ happened (Event.request first_node (Request.enter j0 (j0 ∷ j1 ∷ []) true)) (Reply.entered 1)
+    ∷ happened (Event.request second_node (Request.enter j1 (j0 ∷ j1 ∷ []) true)) (Reply.entered 1)
+    ∷ happened (Event.request second_node (Request.leave j1)) Reply.waiting
+    ∷ happened (Event.deliver 3) Reply.taken
+    ∷ happened (Event.deliver 1) Reply.taken
+    ∷ happened (Event.request second_node (Request.leave j1)) Reply.waiting
+    ∷ happened (Event.deliver 2) Reply.taken
+    ∷ []
+
+-- There is a run of these events, of jobs as every group's are. At its end the second process is released from the fence that it
+-- entered last, in which the first one takes part, and is told who is gone. Then it gets the key of the first one, waiting if need
+-- be, and is answered so. So all that the fence theorem asks for is there.
+abbrev pub IsReleased : List Happened → List Proc → Reply → Type 0
+IsReleased xs gone answer =
+    AreJobs two × (w : World) × Run two (start two) xs w
+    × (v : World) × Leaves two w j1 1 gone v
     × (last_fence (w.scripts j1) ≡ Some meeting) × (meeting.signature.collect ≡ true)
     × In j0 (participants_of meeting) × (same_proc j1 j0 ≡ false)
-    × (u : World) × Run two v (happened (Event.request second_node (Request.ask j1 its_key modes.Wait)) (Reply.refused refusals.NotFound) ∷ []) u
+    × (u : World) × Run two v (happened (Event.request second_node (Request.ask j1 its_key modes.Wait)) answer ∷ []) u
+
+-- Where the first process ended, it is told to be gone; and that there is no value, which it never put, is told at once, since its end
+-- is known.
+unfoldable pub RunOfTwo : Type 0
+RunOfTwo = IsReleased ends_and_meets (j0 ∷ []) (Reply.refused refusals.NotFound)
+
+-- Where both meet, nobody is gone; and the value is found.
+unfoldable pub RunOfMeeting : Type 0
+RunOfMeeting = IsReleased puts_and_meets [] (Reply.found its_value)

@@ -1,4 +1,4 @@
-ghost use Rattle.pmg_world.specs.Examples.{RunOfTwo};
+ghost use Rattle.pmg_world.specs.Examples.{RunOfTwo, RunOfMeeting};
 ghost use Rattle.pmg_world.specs.Laws.{
   AlwaysGood,
   ScriptsAreTold,
@@ -28,10 +28,12 @@ pub fn every_interleaving()
     ensures gets_rise { GetsRise }
 {}
 
-/// A run of two nodes with a process each, step by step: one process ends; the other enters a fence of both that collects data,
-/// waits for the other node's header, then for the commit that the header names, and is released, told that the one is gone; and
-/// then a get of a key of that one is answered. So the laws of every run speak of releases and of gets that do happen
-/// (PMIx Standard 5.0, PMIx_Fence, PMIX_COLLECT_DATA).
+/// Two runs of two nodes with a process each, step by step. In the first, one process ends; the other enters a fence of both that
+/// collects data, waits for the other node's header, then for the commit that the header names, and is released, told that the
+/// one is gone; and then a get of a key of that one is answered. In the second, the one process puts a value and commits it, and
+/// both enter; the other one waits in the same way, is released, told that nobody is gone, and finds the value. So the laws of
+/// every run speak of releases and of gets that do happen (PMIx Standard 5.0, PMIx_Fence, PMIX_COLLECT_DATA).
 pub fn worked_runs()
     ensures run_of_two { RunOfTwo }
+    ensures run_of_meeting { RunOfMeeting }
 {}

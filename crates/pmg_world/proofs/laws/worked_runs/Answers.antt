@@ -1,5 +1,6 @@
-use Rattle.pmg_world.proofs.ExampleGet as examples
+use Rattle.pmg_world.proofs.ExampleGet as ending
+use Rattle.pmg_world.proofs.ExampleMeeting as meeting
 use Rattle.pmg_world.proofs.laws.worked_runs.Goals as goal
 
 pub returns : goal.returns
-returns c = record { run_of_two = examples.run_of_two }
+returns c = record { run_of_two = ending.run_of_two; run_of_meeting = meeting.run_of_meeting }
