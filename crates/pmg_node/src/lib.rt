@@ -51,3 +51,5 @@ pub use taking::Taking;
 
 #[cfg(test)]
 mod call_tests;
+#[cfg(test)]
+mod tests;
