@@ -2,7 +2,6 @@
 use Rattle.std.proofs.Common.{◌≡◌, is_some, List, [], ◌∷◌, Some, refl}
 use Rattle.pmg_scope.specs.Scripts.{Call, value_at, before, term_key}
 use Rattle.pmg_scope.specs.declared.scope.Reach.TheVariants as reach
-use Rattle.pmg_scope.specs.declared.scope.Scope.TheVariants as scopes
 use Rattle.pmg_frame.specs.declared.frame.Frame.TheVariants as frames
 use Rattle.pmg_frame.specs.declared.local.State.TheVariants as states
 use Rattle.pmg_jobinfo.specs.Expansion.{expansion}

@@ -14,7 +14,6 @@ use Rattle.pmg_frame.specs.Fences.{FenceAsk, header, participants_of}
 use Rattle.pmg_frame.specs.declared.frame.Frame.{Frame}
 use Rattle.pmg_frame.specs.declared.frame.Frame.TheVariants as frames
 use Rattle.pmg_frame.specs.declared.local.Local.{Local}
-use Rattle.pmg_frame.specs.declared.local.State.TheVariants as states
 use Rattle.pmg_jobinfo.specs.Jobs.{home_of}
 use Rattle.pmg_fence.specs.Entering.{same_proc}
 use Rattle.pmg_fence.specs.Tables.{gone_by}

@@ -15,7 +15,7 @@ use Rattle.pmg_world.specs.Worlds.{World, Event, Doing, ActStep, Does, Step, Hap
 use Rattle.pmg_world.specs.Laws.{Good, WasReady, Leaves, ReleasedWhole, ReleasedAlike}
 use Rattle.pmg_world.proofs.Runs.{run_good, always_good}
 use Rattle.pmg_world.proofs.Steps.{step_good}
-use Rattle.pmg_world.proofs.Told.{step_tells}
+use Rattle.pmg_world.proofs.ToldScripts.{step_tells}
 
 -- ---- scripts grow along a run
 

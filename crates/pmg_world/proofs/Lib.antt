@@ -1,6 +1,9 @@
 pub mod LineLemmas
 pub mod ReplayLemmas
-pub mod Told
+pub mod Deliveries
+pub mod Scenes
+pub mod StageSteps
+pub mod ToldScripts
 pub mod Speaking
 pub mod Steps
 pub mod Starting
@@ -22,3 +25,12 @@ pub mod ExampleRun
 pub mod ExampleGet
 pub mod ExampleCommit
 pub mod ExampleMeeting
+pub mod ClientLemmas
+pub mod CauseLemmas
+pub mod ActLemmas
+pub mod GroupLemmas
+pub mod HappenLemmas
+pub mod PutLemmas
+pub mod StartLemmas
+pub mod RunLemmas
+pub mod LedLemmas

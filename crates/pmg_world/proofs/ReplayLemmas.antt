@@ -1,22 +1,20 @@
 -- Doing a script line by line.
-use Rattle.std.proofs.Common.{◌≡◌, ◌∙◌, refl, sym, ap, subst, ℕ, suc, ◌+◌, ◌<◌, ◌≤◌, Bool, true, false, cond, not, ◌&&◌, List, [], ◌∷◌, ◌++◌, length, take, Option, Some, None, Result, Ok, Err, arith, append-nil, append_assoc, length-append, inl, inr}
+use Rattle.std.proofs.Common.{◌≡◌, ◌∙◌, refl, sym, ap, subst, ℕ, ◌+◌, ◌<◌, Bool, true, false, cond, not, List, [], ◌∷◌, ◌++◌, length, take, Option, Some, None, Result, Ok, Err, arith, append-nil, append_assoc, length-append, inl, inr}
 use Rattle.std.specs.List.{list_all}
 use Rattle.std.specs.Io.KnownBytes.{Appends, Consumes, IsAtEnd}
 use Rattle.std.proofs.KnownBytes.{Consumes-trans}
 use Rattle.std.proofs.lemmas.Bool.{and_parts, false≢true}
 use Rattle.pmg_value.specs.declared.refusal.Refusal.TheVariants.{NoMemory, BadFrame}
-use Rattle.pmg_value.specs.declared.refusal.Refusal.TheVariants as refusals
 use Rattle.pmg_value.specs.Written.{AppendsFront}
 use Rattle.pmg_value.proofs.WrittenLemmas.{appends_nothing, appends_then}
 use Rattle.pmg_store.specs.declared.failure.Failure.{Failure}
-use Rattle.pmg_store.specs.declared.failure.Failure.TheVariants as failures
 use Rattle.pmg_store.specs.declared.failure.Failure.TheVariants.{Refused, Read, Write}
 use Rattle.std.specs.Prelude.{IfSome}
 use Rattle.pmg_world.specs.declared.lines.LineFault.{LineFault}
 use Rattle.pmg_world.specs.declared.lines.LineFault.TheVariants as faults
 use Rattle.pmg_world.specs.Lines.{content}
-use Rattle.pmg_world.specs.Reading.{is_end, onto, lines, IsUnended, IsWhole, IsPastLimit, NoLine, NextLine}
-use Rattle.pmg_world.specs.Replays.{joined, no_line, IsCaughtUp, IsTooLong, Plays, IsStopped, IsUnwritten, EndsAs, Replayed, IsGoing, Turned}
+use Rattle.pmg_world.specs.Reading.{is_end, onto, lines, IsUnended, IsWhole, NoLine, NextLine}
+use Rattle.pmg_world.specs.Replays.{joined, no_line, Plays, EndsAs, Replayed, IsGoing}
 use Rattle.pmg_world.specs.declared.playing.Ended.TheVariants as ends
 
 -- ---- the lines of a text

@@ -8,3 +8,11 @@ pub mod Scripts
 pub mod ReplyLines
 pub mod Reading
 pub mod Replays
+pub mod Telling
+pub mod Caching
+pub mod Keeping
+pub mod KeptLaws
+pub mod Accounts
+pub mod Asking
+pub mod Delivering
+pub mod Stages

@@ -5,12 +5,9 @@ use Rattle.pmg_value.specs.RefusalText.{refusal_text}
 use Rattle.pmg_value.specs.Text.{text_of}
 use Rattle.pmg_value.specs.declared.process.Proc.{Proc}
 use Rattle.pmg_value.specs.declared.refusal.Fault.{Fault}
-use Rattle.pmg_value.specs.declared.refusal.Refusal.{Refusal}
 use Rattle.pmg_value.specs.declared.value.Value.{Value}
 use Rattle.pmg_wire.specs.Fields.{whole_value}
-use Rattle.pmg_node.specs.Acting.{reply_as}
 use Rattle.pmg_node.specs.Acts.{Reply}
-use Rattle.pmg_node.specs.declared.act.Reply.{Reply as GivenReply}
 
 -- a process, as `j/2`
 unfoldable pub proc_text : Proc → List ℕ

@@ -1,7 +1,7 @@
 use Rattle.pmg_world.proofs.Leaving.{released_whole, released_alike}
 use Rattle.pmg_world.proofs.Rising.{fence_theorem, gets_rise}
 use Rattle.pmg_world.proofs.Runs.{always_good, one_header}
-use Rattle.pmg_world.proofs.Told.{scripts_are_told}
+use Rattle.pmg_world.proofs.ToldScripts.{scripts_are_told}
 use Rattle.pmg_world.proofs.Turned.{names_were_entered, always_in_turn}
 use Rattle.pmg_world.proofs.laws.every_interleaving.Goals as goal
 

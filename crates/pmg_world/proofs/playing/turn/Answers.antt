@@ -1,10 +1,9 @@
-use Rattle.std.proofs.Common.{◌≡◌, ◌∙◌, ◌<◌, ◌+◌, ℕ, Bool, false, List, [], ◌∷◌, length, Ok, arith, rules, refl, ap, sym, subst}
+use Rattle.std.proofs.Common.{◌≡◌, ◌∙◌, ◌<◌, ℕ, Bool, List, [], ◌∷◌, length, Ok, arith, rules, refl, ap, sym, subst}
 use Rattle.std.specs.Io.KnownBytes.{Appends}
 use Rattle.std.proofs.lemmas.Result.{err_from_is_err_and}
 use Rattle.pmg_value.specs.Written.{AppendsFront}
 use Rattle.pmg_world.specs.Lines.{content}
 use Rattle.pmg_world.specs.Reading.{NextLine}
-use Rattle.pmg_world.specs.Replays.{IsGoing}
 use Rattle.pmg_world.proofs.ReplayLemmas.{going_on, ends_empty, ends_last, ends_over, ends_undone, ends_unwritten}
 use Rattle.pmg_world.proofs.playing.turn.Goals as goal
 

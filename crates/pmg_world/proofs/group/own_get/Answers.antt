@@ -1,0 +1,51 @@
+use Rattle.std.proofs.Common.{false, Ok, Err, refl, sym, ap, ◌∙◌}
+use Rattle.std.specs.Option.{option_map}
+use Rattle.std.proofs.lemmas.Result.{err_from_is_err_and}
+use Rattle.pmg_value.specs.Spelling.{spelling}
+use Rattle.pmg_value.specs.declared.value.Value.{Value}
+use Rattle.pmg_value.specs.declared.refusal.Refusal.TheVariants as refusals
+use Rattle.pmg_get.specs.Gets.{Outcome, found_or}
+use Rattle.pmg_jobinfo.specs.Reserved.{is_general}
+use Rattle.pmg_node.specs.Acts.{Reply, free_cause, reply_of}
+use Rattle.pmg_world.specs.Keeping.{own_answer}
+use Rattle.pmg_world.specs.Worlds.{reply_in}
+use Rattle.pmg_world.proofs.CauseLemmas.{due_bad, due_refused, due_free}
+use Rattle.pmg_world.proofs.GroupLemmas.{not_short}
+use Rattle.pmg_world.proofs.group.own_get.Goals as goal
+
+pub returns-then-is_general : goal.returns-then-is_general
+unfolding own_answer
+returns-then-is_general c = λ u.
+    let s = c.args.node.now in
+    let free = free_cause s.jobs s.id s.holding c.args.proc.now in
+    ap reply_in (sym (due_bad (free refusals.BadParam) (free refusals.UnknownNamespace) (free refusals.NotMine) (free refusals.Terminated) (free refusals.Busy) false _ (is_general c.args.proc.now) (sym c.is_general.ensures ∙ c.if-is_general.true)))
+
+pub returns-in-Err : goal.returns-in-Err
+unfolding own_answer
+returns-in-Err c = λ u.
+    let s = c.args.node.now in
+    let free = free_cause s.jobs s.id s.holding c.args.proc.now in
+    ap reply_in (sym (due_refused (free refusals.BadParam) (free refusals.UnknownNamespace) (free refusals.NotMine) (free refusals.Terminated) (free refusals.Busy) false _ (is_general c.args.proc.now) (sym c.is_general.ensures ∙ c.if-is_general.false) c.in-Err.refusal (sym c.in-Err.ensures)))
+
+pub returns-in_err-copy-in-Some : goal.returns-in_err-copy-in-Some
+returns-in_err-copy-in-Some c = λ is.
+    let p = err_from_is_err_and c.from_residual.result c.from_residual.ensures.1 in
+    not_short c.from_residual.result (p.1 ∙ ap Err p.2) is
+
+pub returns-in_ok-copy-in-Some : goal.returns-in_ok-copy-in-Some
+unfolding own_answer
+returns-in_ok-copy-in-Some c = λ u.
+    let s = c.args.node.now in
+    let free = free_cause s.jobs s.id s.holding c.args.proc.now in
+    let found = sym c.own.ensures ∙ ap (option_map (λ v. spelling v.now)) c.in-Some.is in
+    let due = due_free (free refusals.BadParam) (free refusals.UnknownNamespace) (free refusals.NotMine) (free refusals.Terminated) (free refusals.Busy) false _ (is_general c.args.proc.now) (sym c.is_general.ensures ∙ c.if-is_general.false) (sym c.in_default.ensures ∙ ap Ok refl) in
+    ap (λ (v : Value). Reply.found (spelling v)) c.in_ok-copy-in-Some.ensures ∙ ap reply_in (sym (due ∙ ap (λ o. Ok (reply_of (found_or o Outcome.absent))) found))
+
+pub returns-in-None : goal.returns-in-None
+unfolding own_answer
+returns-in-None c = λ u.
+    let s = c.args.node.now in
+    let free = free_cause s.jobs s.id s.holding c.args.proc.now in
+    let nothing = sym c.own.ensures ∙ ap (option_map (λ v. spelling v.now)) c.in-None.is in
+    let due = due_free (free refusals.BadParam) (free refusals.UnknownNamespace) (free refusals.NotMine) (free refusals.Terminated) (free refusals.Busy) false _ (is_general c.args.proc.now) (sym c.is_general.ensures ∙ c.if-is_general.false) (sym c.in_default.ensures ∙ ap Ok refl) in
+    ap reply_in (sym (due ∙ ap (λ o. Ok (reply_of (found_or o Outcome.absent))) nothing))

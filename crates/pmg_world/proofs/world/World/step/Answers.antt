@@ -1,0 +1,80 @@
+use Rattle.std.proofs.Common.{List, [], ◌∷◌, ◌++◌, refl, sym, ap, subst, ◌∙◌}
+use Rattle.pmg_world.specs.Accounts.{Account, IsLed, account_of}
+use Rattle.pmg_world.specs.declared.event.Told.{Told}
+use Rattle.pmg_world.proofs.LedLemmas.{adds_one, happens_jobs, led_group, led_kept, led_more, led_run, same_account, same_led}
+use Rattle.pmg_world.proofs.world.World.step.Goals as goal
+
+pub invariant_of-self : goal.invariant_of-self
+invariant_of-self c = subst (IsLed c.self.inside.group) (sym c.reserve.ensures.items) c.self.invariant
+
+pub returns-in_err-reserve-clause-run : goal.returns-in_err-reserve-clause-run
+returns-in_err-reserve-clause-run c = led_run c.self.inside.group c.reserve.new.self.items (subst (IsLed c.self.inside.group) (sym c.reserve.ensures.items) c.self.invariant)
+
+pub returns-in_err-reserve-clause-lawful : goal.returns-in_err-reserve-clause-lawful
+returns-in_err-reserve-clause-lawful c = led_kept c.self.inside.group c.reserve.new.self.items (subst (IsLed c.self.inside.group) (sym c.reserve.ensures.items) c.self.invariant)
+
+pub invariant_of-self-in_err-event : goal.invariant_of-self-in_err-event
+invariant_of-self-in_err-event c = subst (IsLed c.self.inside.group) (sym c.reserve.ensures.items) c.self.invariant
+
+pub returns-in_err-event-clause-run : goal.returns-in_err-event-clause-run
+returns-in_err-event-clause-run c = led_run c.self.inside.group c.reserve.new.self.items (subst (IsLed c.self.inside.group) (sym c.reserve.ensures.items) c.self.invariant)
+
+pub returns-in_err-event-clause-lawful : goal.returns-in_err-event-clause-lawful
+returns-in_err-event-clause-lawful c = led_kept c.self.inside.group c.reserve.new.self.items (subst (IsLed c.self.inside.group) (sym c.reserve.ensures.items) c.self.invariant)
+
+pub happen-answer-requires : goal.happen-answer-requires
+happen-answer-requires c = led_group c.self.inside.group c.reserve.new.self.items (subst (IsLed c.self.inside.group) (sym c.reserve.ensures.items) c.self.invariant)
+
+pub invariant_of-self-then-is_short : goal.invariant_of-self-then-is_short
+invariant_of-self-then-is_short c =
+    same_led c.self.inside.group c.happen-answer.new.self c.reserve.new.self.items (c.happen-answer.ensures.memory (c.is_short.ensures.short c.if-is_short.true))
+    (subst (IsLed c.self.inside.group) (sym c.reserve.ensures.items) c.self.invariant)
+
+pub returns-then-is_short-clause-jobs : goal.returns-then-is_short-clause-jobs
+returns-then-is_short-clause-jobs c = (c.happen-answer.ensures.memory (c.is_short.ensures.short c.if-is_short.true)).jobs ∙ ap (λ (a : Account). a.jobs) c.self.view_is
+
+pub returns-then-is_short-clause-err : goal.returns-then-is_short-clause-err
+returns-then-is_short-clause-err c =
+    same_account c.self.inside.group c.happen-answer.new.self c.reserve.new.self.items (c.happen-answer.ensures.memory (c.is_short.ensures.short c.if-is_short.true))
+    ∙ ap (account_of c.self.inside.group) c.reserve.ensures.items ∙ c.self.view_is
+
+pub returns-then-is_short-clause-run : goal.returns-then-is_short-clause-run
+returns-then-is_short-clause-run c =
+    led_run c.happen-answer.new.self c.reserve.new.self.items
+    (same_led c.self.inside.group c.happen-answer.new.self c.reserve.new.self.items (c.happen-answer.ensures.memory (c.is_short.ensures.short c.if-is_short.true))
+    (subst (IsLed c.self.inside.group) (sym c.reserve.ensures.items) c.self.invariant))
+
+pub returns-then-is_short-clause-lawful : goal.returns-then-is_short-clause-lawful
+returns-then-is_short-clause-lawful c =
+    led_kept c.happen-answer.new.self c.reserve.new.self.items
+    (same_led c.self.inside.group c.happen-answer.new.self c.reserve.new.self.items (c.happen-answer.ensures.memory (c.is_short.ensures.short c.if-is_short.true))
+    (subst (IsLed c.self.inside.group) (sym c.reserve.ensures.items) c.self.invariant))
+
+-- the event, with its answer, is told
+led_after : (c : goal.In-Ok) → IsLed c.happen-answer.new.self c.push.new.self.items
+led_after c =
+    let t : Told = record { event = c.in_ok-event.event; answer = c.happen-answer.result } in
+    subst (IsLed c.happen-answer.new.self) (sym c.in-Ok.ensures.items)
+    (led_more c.self.inside.group c.happen-answer.new.self c.reserve.new.self.items t c.happen-answer.result (subst (IsLed c.self.inside.group) (sym c.reserve.ensures.items) c.self.invariant)
+    (c.is_short.ensures.answered c.if-is_short.false) refl c.happen-answer.ensures.step)
+
+pub invariant_of-self-2 : goal.invariant_of-self-2
+invariant_of-self-2 c = led_after c
+
+pub returns-clause-jobs : goal.returns-clause-jobs
+returns-clause-jobs c =
+    let t : Told = record { event = c.in_ok-event.event; answer = c.happen-answer.result } in
+    happens_jobs c.self.inside.group c.reserve.new.self.items t c.happen-answer.result c.happen-answer.new.self (c.is_short.ensures.answered c.if-is_short.false) c.happen-answer.ensures.step
+    ∙ ap (λ (a : Account). a.jobs) c.self.view_is
+
+pub returns-clause-told : goal.returns-clause-told
+returns-clause-told c =
+    let t : Told = record { event = c.in_ok-event.event; answer = c.happen-answer.result } in
+    adds_one c.args.self.now.told c.args.event.now t c.push.new.self.items
+    (c.in-Ok.ensures.items ∙ ap (λ (l : List Told). l ++ t ∷ []) (c.reserve.ensures.items ∙ ap (λ (a : Account). a.told) c.self.view_is)) c.in_ok-event.ensures
+
+pub returns-clause-run : goal.returns-clause-run
+returns-clause-run c = led_run c.happen-answer.new.self c.push.new.self.items (led_after c)
+
+pub returns-clause-lawful : goal.returns-clause-lawful
+returns-clause-lawful c = led_kept c.happen-answer.new.self c.push.new.self.items (led_after c)

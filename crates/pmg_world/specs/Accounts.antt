@@ -1,0 +1,53 @@
+-- What is told of a world in code.
+use Rattle.std.specs.Prelude.{◌≡◌, ℕ, ◌<◌, List, ◌++◌, length, map, slice_index_or, refl}
+use Rattle.std.specs.Coded.{Coded, code_by, coded×, coded_list}
+use Rattle.pmg_jobinfo.specs.Jobs.{Jobs, coded_jobs}
+use Rattle.pmg_node.specs.Servers.{Server, coded_server}
+use Rattle.pmg_node.specs.declared.sent.Sent.{Sent}
+use Rattle.pmg_world.specs.Keeping.{IsNodeOf, Stands}
+use Rattle.pmg_world.specs.KeptLaws.{IsLawful}
+use Rattle.pmg_world.specs.Telling.{event_of, happened_of}
+use Rattle.pmg_world.specs.Worlds.{World, Run, start}
+use Rattle.pmg_world.specs.declared.event.Event.{Event as ToldEvent}
+use Rattle.pmg_world.specs.declared.event.Told.{Told}
+use Rattle.pmg_world.specs.declared.group.Group.{Group}
+
+-- A world in code: the jobs of its group, its nodes in the order of their indexes, all frames ever sent, and all events with their
+-- answers.
+pub record Account : Type 0 where
+  pub jobs : Jobs
+  pub nodes : List Server
+  pub sent : List Sent
+  pub told : List Told
+
+abbrev pub coded_account : Coded Sent → Coded Told → Coded Account
+coded_account coded_sent coded_told =
+    code_by (Jobs × (List Server × (List Sent × List Told))) (coded× coded_jobs (coded× (coded_list coded_server) (coded× (coded_list coded_sent) (coded_list coded_told))))
+    (λ a. (a.jobs, (a.nodes, (a.sent, a.told)))) (λ p. record { jobs = p.0; nodes = p.1.0; sent = p.1.1.0; told = p.1.1.1 }) (λ _. refl)
+
+-- what a group tells, of which this was told
+abbrev pub account_of : Group → List Told → Account
+account_of g told = record { jobs = g.registry; nodes = g.nodes.items; sent = g.sent.items; told = told }
+
+-- the events told lead from the start to a world that the group stands for
+unfoldable pub IsLed : Group → List Told → Type 0
+IsLed g told = (w : World) × Run g.registry (start g.registry) (map happened_of told) w × Stands g w
+
+-- The events told lead from the start to the world; its nodes hold what these hold, and these frames are all that were sent.
+pub record LeadsTo (a : Account) (w : World) : Type 0 where
+  pub run : Run a.jobs (start a.jobs) (map happened_of a.told) w
+  pub count : length a.nodes ≡ length a.jobs.nodes
+  pub nodes : (node : ℕ) (d : Server) → node < length a.nodes → IsNodeOf a.jobs node (w.nodes node) (slice_index_or a.nodes node d)
+  pub sent : a.sent ≡ w.sent
+
+-- what is told is a run of the model
+unfoldable pub IsRun : Account → Type 0
+IsRun a = (w : World) × LeadsTo a w
+
+-- the laws of every run hold of what is told
+unfoldable pub IsKept : Account → Type 0
+IsKept a = IsLawful a.jobs (map happened_of a.told)
+
+-- what was told before, and these events, each once and in their order, each with its answer
+unfoldable pub Adds : List Told → List ToldEvent → List Told → Type 0
+Adds old events new = (more : List Told) × (new ≡ old ++ more) × (map (λ t. event_of t.event) more ≡ map event_of events)

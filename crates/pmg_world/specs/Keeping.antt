@@ -1,0 +1,92 @@
+-- The worlds that a group of nodes in code stands for, and what an event does to them.
+use Rattle.std.specs.Prelude.{◌≡◌, ℕ, ◌<◌, true, false, List, length, Option, Some, None, Result, slice_index_or, if◌then◌else◌}
+use Rattle.std.specs.FinMap as map
+use Rattle.pmg_value.specs.CheckOrder.{first_of}
+use Rattle.pmg_value.specs.Lists.{Each}
+use Rattle.pmg_value.specs.Names.{is_reserved}
+use Rattle.pmg_value.specs.declared.process.Proc.{Proc}
+use Rattle.pmg_value.specs.declared.refusal.Refusal.{Refusal}
+use Rattle.pmg_scope.specs.Cached.{Cached, no_puts, unsealed_of}
+use Rattle.pmg_scope.specs.Scripts.{Script}
+use Rattle.pmg_jobinfo.specs.Jobs.{Jobs, AreJobs, is_node}
+use Rattle.pmg_fence.specs.Rules.{Scripts}
+use Rattle.pmg_get.specs.Gets.{Outcome, found_or}
+use Rattle.pmg_node.specs.Acting.{reply_as}
+use Rattle.pmg_node.specs.Acts.{Request, Reply, reply_of}
+use Rattle.pmg_node.specs.Holdings.{Holding}
+use Rattle.pmg_node.specs.Kept.{IsServer}
+use Rattle.pmg_node.specs.Opening.{new_server}
+use Rattle.pmg_node.specs.Servers.{Server, IsAnswered, reply_in}
+use Rattle.pmg_node.specs.declared.act.Reply.{Reply as GivenReply}
+use Rattle.pmg_world.specs.Caching.{AllCached, cached_by}
+use Rattle.pmg_world.specs.Worlds.{World, Event, Step, cache_of, is_own, own_cause}
+use Rattle.pmg_world.specs.declared.group.Group.{Group}
+
+-- What is kept for a process is its client's cache; the standard's own processes have none, and no put that is not sealed.
+pub record KeepsFor (p : Proc) (c : Cached) (s : Script) : Type 0 where
+  pub client : is_reserved p.nspace ≡ false → c ≡ cache_of s
+  pub none : is_reserved p.nspace ≡ true → c ≡ no_puts
+  pub sealed : is_reserved p.nspace ≡ true → unsealed_of (cache_of s) ≡ unsealed_of no_puts
+
+-- so it is for all processes
+abbrev pub AreCaches : AllCached → Scripts → Type 0
+AreCaches caches scripts = (p : Proc) → KeepsFor p (cached_by caches p) (scripts p)
+
+-- the server is that of the node, and holds this
+pub record IsNodeOf (jobs : Jobs) (node : ℕ) (h : Holding) (s : Server) : Type 0 where
+  pub jobs_same : s.jobs ≡ jobs
+  pub id_same : s.id ≡ node
+  pub holds : s.holding ≡ h
+
+-- the servers are those of all nodes, in their order, and hold this
+pub record AreNodes (jobs : Jobs) (items : List Server) (nodes : ℕ → Holding) : Type 0 where
+  pub count : length items ≡ length jobs.nodes
+  pub each : (node : ℕ) (d : Server) → node < length items → IsNodeOf jobs node (nodes node) (slice_index_or items node d)
+  pub servers : (node : ℕ) → IsServer jobs node (nodes node)
+
+-- The group stands for the world: its nodes hold what they hold there, its clients' caches are those of the scripts, and the frames
+-- are those sent, each to a node of the group.
+pub record Stands (g : Group) (w : World) : Type 0 where
+  pub jobs : AreJobs g.registry
+  pub nodes : AreNodes g.registry g.nodes.items w.nodes
+  pub caches : AreCaches g.caches w.scripts
+  pub sent : g.sent.items ≡ w.sent
+  pub peers : Each (λ s. is_node g.registry s.to ≡ true) g.sent.items
+
+-- two groups that hold the same
+pub record IsSame (old new : Group) : Type 0 where
+  pub jobs : new.registry ≡ old.registry
+  pub nodes : new.nodes.items ≡ old.nodes.items
+  pub caches : new.caches ≡ old.caches
+  pub sent : new.sent.items ≡ old.sent.items
+
+-- it stands for some world
+unfoldable pub IsGroup : Group → Type 0
+IsGroup g = (w : World) × Stands g w
+
+-- what is answered, as a reply
+abbrev pub replied : Result GivenReply Refusal → Reply
+replied answer = reply_in reply_as answer
+
+-- Whatever world the old group stands for: the event leads from it, with that answer, to one that the new group stands for.
+unfoldable pub Happens : Group → Event → Result GivenReply Refusal → Group → Type 0
+Happens old e answer new =
+    IsAnswered answer → (new.registry ≡ old.registry) × ((w : World) → Stands old w → (v : World) × Step old.registry w e (replied answer) v × Stands new v)
+
+-- ---- gets of one's own keys
+
+-- the process and the key, where a process asks for a key of its own that is none of the standard's
+abbrev pub own_key : Request → Option (Proc × List ℕ)
+own_key (Request.ask p get mode) = if is_own p get then Some (p, get.key) else None
+own_key _ = None
+
+-- how a process's get of a key of its own is answered, whose client's cache is this
+unfoldable pub own_answer : Server → Cached → Proc → List ℕ → Result Reply Refusal
+own_answer s c p key = first_of (own_cause s.jobs s.id s.holding p) (reply_of (found_or (map.get c.own key) Outcome.absent))
+
+-- ---- a new group
+
+-- the servers are new ones, of so many nodes
+pub record AreNew (jobs : Jobs) (count : ℕ) (servers : List Server) : Type 0 where
+  pub count_is : length servers ≡ count
+  pub each : (node : ℕ) (d : Server) → node < count → slice_index_or servers node d ≡ new_server jobs node

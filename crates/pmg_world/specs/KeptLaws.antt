@@ -1,0 +1,57 @@
+-- What holds of a list of events with their replies, whatever they are, where they are a run: the laws of every run, of what is told alone.
+use Rattle.std.specs.Prelude.{◌≡◌, ℕ, true, false, List, [], ◌∷◌, ◌++◌, Some, None}
+use Rattle.pmg_value.specs.Lists.{In}
+use Rattle.pmg_value.specs.Signatures.{FenceName}
+use Rattle.pmg_value.specs.declared.process.Proc.{Proc}
+use Rattle.pmg_frame.specs.Fences.{participants_of}
+use Rattle.pmg_jobinfo.specs.Jobs.{Jobs, home_of}
+use Rattle.pmg_fence.specs.Entering.{same_proc, entry}
+use Rattle.pmg_fence.specs.Rules.{Scripts, gone_of}
+use Rattle.pmg_fence.specs.declared.entry.Entry.{Entry}
+use Rattle.pmg_node.specs.Acts.{Request, Reply}
+use Rattle.pmg_node.specs.Fitting.{last_fence}
+use Rattle.pmg_world.specs.Laws.{AnswersRise, answers}
+use Rattle.pmg_world.specs.Worlds.{Event, Happened, scripts_after}
+
+-- the scripts of all processes, as the events tell them
+abbrev pub scripts_told : Jobs → List Happened → Scripts
+scripts_told jobs told = scripts_after jobs (λ _. []) told
+
+-- the process leaves its fence, and is told that this instance is over, with who was gone
+abbrev pub leaves_with : ℕ → Proc → ℕ → List Proc → Happened
+leaves_with node p k gone = record { event = Event.request node (Request.leave p); reply = Reply.released k gone }
+
+-- The fence theorem: a process that was released from a fence that collects data is answered, by each later get of another participant's
+-- keys, what that one's last commit before it entered left, or a later one (PMIx Standard 5.0, PMIx_Fence, PMIX_COLLECT_DATA).
+unfoldable pub KeepsFence : Jobs → List Happened → Type 0
+KeepsFence jobs told =
+    (xs ys : List Happened) (node : ℕ) (p : Proc) (k : ℕ) (gone : List Proc) → told ≡ xs ++ leaves_with node p k gone ∷ ys
+    → (f : FenceName) → last_fence (scripts_told jobs xs p) ≡ Some f → f.signature.collect ≡ true
+    → (q : Proc) → In q (participants_of f) → same_proc p q ≡ false
+    → (e : Entry) × (entry (scripts_told jobs xs q) f ≡ Some e) × AnswersRise jobs (home_of jobs p) (scripts_told jobs told q) e.level (answers p q None ys)
+
+-- Nobody is released before each participant has entered or is gone; and whoever is, is told the fence's instance and the gone.
+unfoldable pub ReleasesWhole : Jobs → List Happened → Type 0
+ReleasesWhole jobs told =
+    (xs ys : List Happened) (node : ℕ) (p : Proc) (k : ℕ) (gone : List Proc) → told ≡ xs ++ leaves_with node p k gone ∷ ys
+    → (f : FenceName) × (last_fence (scripts_told jobs xs p) ≡ Some f) × (k ≡ f.instance) × (gone ≡ gone_of (scripts_told jobs xs) f)
+    × ((q : Proc) → In q (participants_of f) → (e : Entry) × (entry (scripts_told jobs xs q) f ≡ Some e))
+
+-- All who are released from one fence are told the same.
+unfoldable pub ReleasesAlike : Jobs → List Happened → Type 0
+ReleasesAlike jobs told =
+    (xs ys zs : List Happened) (m n : ℕ) (p q : Proc) (k j : ℕ) (gone others : List Proc)
+    → told ≡ xs ++ leaves_with m p k gone ∷ (ys ++ leaves_with n q j others ∷ zs)
+    → last_fence (scripts_told jobs xs p) ≡ last_fence (scripts_told jobs (xs ++ leaves_with m p k gone ∷ ys) q) → (k ≡ j) × (gone ≡ others)
+
+-- What one process is answered about another never falls back.
+unfoldable pub AnswersNeverFall : Jobs → List Happened → Type 0
+AnswersNeverFall jobs told =
+    (p q : Proc) → same_proc p q ≡ false → AnswersRise jobs (home_of jobs p) (scripts_told jobs told q) 0 (answers p q None told)
+
+-- all of that
+pub record IsLawful (jobs : Jobs) (told : List Happened) : Type 0 where
+  pub keeps_fence : KeepsFence jobs told
+  pub releases_whole : ReleasesWhole jobs told
+  pub releases_alike : ReleasesAlike jobs told
+  pub answers_never_fall : AnswersNeverFall jobs told

@@ -1,0 +1,200 @@
+-- What a script does: each line's reply, and what there is after it.
+use Rattle.std.specs.Prelude.{◌≡◌, ℕ, Bool, true, false, not, List, [], ◌∷◌, ◌++◌, length, map, slice_get, Option, Some, None, Result, Ok, Err, if◌then◌else◌}
+use Rattle.std.specs.List.{filter_map}
+use Rattle.pmg_value.specs.CheckOrder.{first_of}
+use Rattle.pmg_value.specs.Names.{is_nspace}
+use Rattle.pmg_value.specs.Plain.{Plain}
+use Rattle.pmg_value.specs.declared.process.Proc.{Proc}
+use Rattle.pmg_value.specs.declared.refusal.Fault.{Fault}
+use Rattle.pmg_value.specs.declared.refusal.Refusal.{Refusal}
+use Rattle.pmg_value.specs.declared.refusal.Refusal.TheVariants as refusals
+use Rattle.pmg_value.specs.declared.value.Value.{Value}
+use Rattle.pmg_value.specs.declared.value.Value.TheVariants as values
+use Rattle.pmg_wire.specs.Fields.{whole_value}
+use Rattle.pmg_store.specs.Dump.{dump}
+use Rattle.pmg_jobinfo.specs.Jobs.{Jobs, is_node, opened, registered}
+use Rattle.pmg_jobinfo.specs.Refusing.{new_cause, register_cause}
+use Rattle.pmg_node.specs.Acts.{Request, Reply, also}
+use Rattle.pmg_node.specs.Members.{members_cause, members_known}
+use Rattle.pmg_node.specs.Servers.{Server}
+use Rattle.pmg_world.specs.Accounts.{Account, IsRun, IsKept}
+use Rattle.pmg_world.specs.Asking.{Asked, asks}
+use Rattle.pmg_world.specs.Delivering.{undelivered}
+use Rattle.pmg_world.specs.ReplyLines.{reply_line, flow_line, members_line}
+use Rattle.pmg_world.specs.Scripts.{Line, said}
+use Rattle.pmg_world.specs.Telling.{event_of, happened_of}
+use Rattle.pmg_world.specs.Worlds.{Event, Happened}
+use Rattle.pmg_world.specs.declared.event.Told.{Told}
+use Rattle.pmg_world.specs.declared.phase.Phase.{Phase}
+use Rattle.pmg_world.specs.declared.phase.Phase.TheVariants as phases
+
+-- ---- replies
+
+-- the line of what was done, where nothing else is told of it
+abbrev pub ok_line : List ℕ
+ok_line = reply_line false Reply.done
+
+abbrev pub refused_line : Refusal → List ℕ
+refused_line e = reply_line false (Reply.refused e)
+
+-- a set's deletion was asked for
+abbrev pub is_deletion : Event → Bool
+is_deletion (Event.request node (Request.delete name)) = true
+is_deletion _ = false
+
+-- the line of an event, with what it was replied
+abbrev pub told_line : Happened → List ℕ
+told_line h = reply_line (is_deletion h.event) h.reply
+
+-- ---- what is asked of the world
+
+-- These events happen, each once and in their order, with these answers. What is told then is a run of the model, and the laws of
+-- every run hold of it.
+pub record Happen (w : Account) (events : List Event) (more : List Told) (v : Account) : Type 0 where
+  pub jobs : v.jobs ≡ w.jobs
+  pub told : v.told ≡ w.told ++ more
+  pub asked : map (λ t. event_of t.event) more ≡ events
+  pub run : IsRun v
+  pub lawful : IsKept v
+
+-- the event happens, and the line is that of its answer
+pub record Answers (w : Account) (e : Event) (text : List ℕ) (v : Account) : Type 0 where
+  pub entry : Told
+  pub happened : Happen w (e ∷ []) (entry ∷ []) v
+  pub line : text ≡ told_line (happened_of entry)
+
+-- all frames are delivered that never were, of those that were sent; the line tells how many
+pub record Flows (w : Account) (text : List ℕ) (v : Account) : Type 0 where
+  pub more : List Told
+  pub happened : Happen w (map Event.deliver (undelivered w.told (length w.sent))) more v
+  pub line : text ≡ flow_line (length more)
+
+-- the node of that index, if the group has one
+abbrev pub node_of : Account → ℕ → Option Server
+node_of w node = if is_node w.jobs node then slice_get w.nodes node else None
+
+-- the process that the element of an array is
+abbrev pub proc_in : Plain → Option Proc
+proc_in (Plain.proc p) = Some p
+proc_in _ = None
+
+-- the processes among the elements
+abbrev pub procs_in : List Plain → List Proc
+procs_in plains = filter_map proc_in plains
+
+abbrev pub procs_of : Result Value Fault → List Proc
+procs_of (Ok (values.Array a)) = procs_in a.plains
+procs_of _ = []
+
+-- the line of a set's members, or of why there are none
+abbrev pub members_told : Result (List ℕ) Refusal → List ℕ
+members_told (Ok bytes) = members_line (procs_of (whole_value bytes))
+members_told (Err e) = refused_line e
+
+-- the members of the set, as the node knows them
+abbrev pub members_at : Option Server → List ℕ → List ℕ
+members_at None name = refused_line refusals.BadParam
+members_at (Some s) name = members_told (first_of (members_cause s.holding.far name) (members_known s.holding.far name))
+
+-- the dump of what the node tells others
+abbrev pub dump_at : Option Server → List ℕ
+dump_at None = refused_line refusals.BadParam
+dump_at (Some s) = dump s.holding.far
+
+-- How the world answers what is asked of it, and what it is then.
+unfoldable pub Performs : Account → Asked → List ℕ → Account → Type 0
+Performs w (Asked.happens e) text v = Answers w e text v
+Performs w Asked.unnamed text v = (text ≡ refused_line refusals.BadParam) × (v ≡ w)
+Performs w Asked.flow text v = Flows w text v
+Performs w (Asked.members node name) text v = (text ≡ members_at (node_of w node) name) × (v ≡ w)
+Performs w (Asked.dump node) text v = (text ≡ dump_at (node_of w node)) × (v ≡ w)
+
+-- ---- the phases of a script
+
+-- the group is opened with the nodes of these names; a refusal ends the script
+abbrev pub Opens : Result Jobs Refusal → List ℕ → Phase → Type 0
+Opens (Ok jobs) text v = (text ≡ ok_line) × (v ≡ phases.Registering jobs)
+Opens (Err e) text v = (text ≡ refused_line e) × (v ≡ phases.Over)
+
+-- the namespace has no name
+abbrev pub unnamed_cause : List ℕ → Refusal → Bool
+unnamed_cause nspace refusals.BadParam = not (is_nspace nspace)
+unnamed_cause nspace _ = false
+
+-- the jobs with the namespace, or why it is not registered
+unfoldable pub with_space : Jobs → List ℕ → List ℕ → Result Jobs Refusal
+with_space jobs nspace homes = first_of (also (unnamed_cause nspace) (register_cause jobs nspace homes)) (registered jobs nspace homes)
+
+-- the namespace is registered; a refusal changes nothing
+abbrev pub Registers : Jobs → Result Jobs Refusal → List ℕ → Phase → Type 0
+Registers jobs (Ok more) text v = (text ≡ ok_line) × (v ≡ phases.Registering more)
+Registers jobs (Err e) text v = (text ≡ refused_line e) × (v ≡ phases.Registering jobs)
+
+-- a world of these jobs in which nothing happened
+pub record IsNew (jobs : Jobs) (w : Account) : Type 0 where
+  pub jobs_are : w.jobs ≡ jobs
+  pub told : w.told ≡ []
+  pub sent : w.sent ≡ []
+  pub run : IsRun w
+
+-- the world answers what the line asks of it
+pub record Runs (w : Account) (line : Line) (text : List ℕ) (v : Account) : Type 0 where
+  pub asked : Asked
+  pub asks : asks w.jobs line ≡ Some asked
+  pub performs : Performs w asked text v
+
+-- nothing is asked of it
+unfoldable pub AsksNothing : Account → Line → Type 0
+AsksNothing w line = asks w.jobs line ≡ None
+
+-- it does so, and runs on
+pub record RunsOn (w : Account) (line : Line) (text : List ℕ) (v : Phase) : Type 0 where
+  pub after : Account
+  pub runs : Runs w line text after
+  pub left : v ≡ phases.Running after
+
+-- a new world does so
+pub record Starts (jobs : Jobs) (line : Line) (text : List ℕ) (v : Phase) : Type 0 where
+  pub world : Account
+  pub is_new : IsNew jobs world
+  pub runs : RunsOn world line text v
+
+-- Before all other lines that say something, one names the nodes.
+unfoldable pub OpensAt : Phase → List (List ℕ) → List ℕ → Phase → Type 0
+OpensAt phases.Fresh names text v = Opens (first_of (new_cause names) (opened names)) text v
+OpensAt _ names text v = ⊥
+
+-- Namespaces are registered before the world runs.
+unfoldable pub RegistersAt : Phase → List ℕ → List ℕ → List ℕ → Phase → Type 0
+RegistersAt (phases.Registering jobs) nspace homes text v = Registers jobs (with_space jobs nspace homes) text v
+RegistersAt _ nspace homes text v = ⊥
+
+-- The first other line starts the world.
+unfoldable pub RunsAt : Phase → Line → List ℕ → Phase → Type 0
+RunsAt (phases.Registering jobs) line text v = Starts jobs line text v
+RunsAt (phases.Running w) line text v = RunsOn w line text v
+RunsAt _ line text v = ⊥
+
+-- what a line does, by what it says
+unfoldable pub Plays : Phase → Line → List ℕ → Phase → Type 0
+Plays s Line.nothing text v = (text ≡ []) × (v ≡ s)
+Plays s (Line.nodes names) text v = OpensAt s names text v
+Plays s (Line.space nspace homes) text v = RegistersAt s nspace homes text v
+Plays s line text v = RunsAt s line text v
+
+abbrev pub PlaysSaid : Phase → Option Line → List ℕ → Phase → Type 0
+PlaysSaid s None text v = ⊥
+PlaysSaid s (Some line) text v = Plays s line text v
+
+-- What a line does, by its content: from one phase, with a reply, to another.
+unfoldable pub PlaysLine : Phase → List ℕ → List ℕ → Phase → Type 0
+PlaysLine s content text v = PlaysSaid s (said content) text v
+
+-- A line is none that has no form of a script's lines, or stands out of its order: nothing is what it does.
+unfoldable pub Stops : Phase → List ℕ → Type 0
+Stops s content = (text : List ℕ) (v : Phase) → PlaysLine s content text v → ⊥
+
+-- No line is done after a refusal of the nodes' names.
+abbrev pub is_over : Phase → Bool
+is_over phases.Over = true
+is_over _ = false

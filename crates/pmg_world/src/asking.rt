@@ -1,0 +1,261 @@
+//! What a line of a script asks of the world, where the names in it are judged.
+ghost use Rattle.std.specs.Prelude.{◌≡◌, ◌&&◌, IfOk, IsTrue, if◌then◌else◌};
+ghost use Rattle.pmg_value.specs.Names.{is_key};
+ghost use Rattle.pmg_value.specs.Spelling.{spelling};
+ghost use Rattle.pmg_jobinfo.specs.Jobs.{home_of};
+ghost use Rattle.pmg_node.specs.Acts.{Request as ModelRequest};
+ghost use Rattle.pmg_node.specs.Calls.{get_of};
+ghost use Rattle.pmg_world.specs.Asking.{Asked as ModelAsked, asked_of, asks, are_named, at_home, if_named, is_named};
+ghost use Rattle.pmg_world.specs.Lines.{ReadsAll};
+ghost use Rattle.pmg_world.specs.Scripts.{line_of};
+ghost use Rattle.pmg_world.specs.Worlds.{Event as ModelEvent};
+
+use crate::event::Event;
+use crate::fields::Named;
+use crate::lines::LineFault;
+use crate::script::Line;
+use pmg_get::Mode;
+use pmg_jobinfo::Registry;
+use pmg_node::Request;
+use pmg_scope::Scope;
+use pmg_value::{Key, Nspace, Proc, Value, is_key_text, is_nspace_name};
+use std::alloc::{AllocError, Global};
+
+/// What a line asks of the world.
+#[derive(Debug, Drop)]
+pub(crate) enum Asked {
+    /// This happens.
+    Event(Event),
+    /// Something that is refused, since a name in the line is none.
+    Unnamed,
+    /// Each frame is delivered that never was.
+    Flow,
+    /// The members of the set are told, as the node knows them.
+    Members(u64, Key),
+    /// The node's dump is told.
+    Dump(u64),
+}
+
+/// Whether the process's namespace has a name.
+fn is_named(proc: &Named<'_>) -> bool
+    ensures { result ≡ is_named proc.now }
+{
+    is_nspace_name(proc.nspace)
+}
+
+/// Whether the namespace of each has a name.
+fn are_named(procs: &[Named<'_>]) -> bool
+    ensures { result ≡ are_named procs.now }
+{
+    for proc in procs {
+        if !is_named(proc) {
+            return false;
+        }
+    }
+    true
+}
+
+/// The process of a name that was judged.
+fn proc_of(alloc: Global, named: &Named<'_>) -> Result<Proc, AllocError>
+    requires { IsTrue (is_named named.now) }
+    ensures { IfOk result (λ p. p ≡ named.now) }
+{
+    let nspace = Nspace::from_name(alloc, named.nspace)?;
+    Ok(Proc {
+        nspace,
+        rank: named.rank,
+    })
+}
+
+/// The processes of names that were judged.
+fn procs_of(alloc: Global, named: &[Named<'_>]) -> Result<Vec<Proc>, AllocError>
+    requires { IsTrue (are_named named.now) }
+    ensures { IfOk result (λ ps. ps.items ≡ named.now) }
+{
+    let mut procs = Vec::with_capacity(alloc, named.len())?;
+    for proc in named {
+        procs.push(proc_of(alloc, proc)?)?;
+    }
+    Ok(procs)
+}
+
+/// The index of the node that the process is at home at.
+fn home_of(registry: &Registry, proc: &Proc) -> u64
+    ensures { result ≡ home_of registry.now proc.now }
+{
+    u64::from(registry.home_of(proc).index())
+}
+
+/// `put NS RANK SCOPE HEX KEY`
+fn ask_put(
+    alloc: Global,
+    proc: &Named<'_>,
+    scope: Scope,
+    value: Value,
+    key: &[u8],
+) -> Result<Asked, AllocError>
+    ensures { IfOk result (λ a. asked_of a
+        ≡ if_named (is_named proc.now && is_key key.now) (ModelEvent.put proc.now scope key.now (spelling value))) }
+{
+    if !is_named(proc) || !is_key_text(key) {
+        return Ok(Asked::Unnamed);
+    }
+    let proc = proc_of(alloc, proc)?;
+    let key = Key::from_text(alloc, key)?;
+    Ok(Asked::Event(Event::Put(proc, scope, key, value)))
+}
+
+/// `commit NS RANK`
+fn ask_commit(alloc: Global, registry: &Registry, proc: &Named<'_>) -> Result<Asked, AllocError>
+    ensures { IfOk result (λ a. asked_of a
+        ≡ if_named (is_named proc.now) (ModelEvent.commit (home_of registry.now proc.now) proc.now)) }
+{
+    if !is_named(proc) {
+        return Ok(Asked::Unnamed);
+    }
+    let proc = proc_of(alloc, proc)?;
+    Ok(Asked::Event(Event::Commit(home_of(registry, &proc), proc)))
+}
+
+/// `enter NS RANK plain` or `collect`, then pairs `NS RANK`
+fn ask_enter(
+    alloc: Global,
+    registry: &Registry,
+    proc: &Named<'_>,
+    collect: bool,
+    list: &[Named<'_>],
+) -> Result<Asked, AllocError>
+    ensures { IfOk result (λ a. asked_of a
+        ≡ if_named (is_named proc.now && are_named list.now) (at_home registry.now proc.now (ModelRequest.enter proc.now list.now collect))) }
+{
+    if !is_named(proc) || !are_named(list) {
+        return Ok(Asked::Unnamed);
+    }
+    let proc = proc_of(alloc, proc)?;
+    let list = procs_of(alloc, list)?;
+    let home = home_of(registry, &proc);
+    let request = Request::Enter(proc, list, collect);
+    Ok(Asked::Event(Event::Request(home, request)))
+}
+
+/// `leave NS RANK`
+fn ask_leave(alloc: Global, registry: &Registry, proc: &Named<'_>) -> Result<Asked, AllocError>
+    ensures { IfOk result (λ a. asked_of a
+        ≡ if_named (is_named proc.now) (at_home registry.now proc.now (ModelRequest.leave proc.now))) }
+{
+    if !is_named(proc) {
+        return Ok(Asked::Unnamed);
+    }
+    let proc = proc_of(alloc, proc)?;
+    let home = home_of(registry, &proc);
+    Ok(Asked::Event(Event::Request(home, Request::Leave(proc))))
+}
+
+/// `get NS RANK wait` or `now`, then `NS RANK KEY`
+fn ask_get(
+    alloc: Global,
+    registry: &Registry,
+    proc: &Named<'_>,
+    mode: Mode,
+    target: &Named<'_>,
+    key: &[u8],
+) -> Result<Asked, AllocError>
+    ensures { IfOk result (λ a. asked_of a
+        ≡ if_named (is_named proc.now && is_named target.now && is_key key.now) (at_home registry.now proc.now (ModelRequest.ask proc.now (get_of target.now key.now) mode))) }
+{
+    if !is_named(proc) || !is_named(target) || !is_key_text(key) {
+        return Ok(Asked::Unnamed);
+    }
+    let proc = proc_of(alloc, proc)?;
+    let target = proc_of(alloc, target)?;
+    let key = Key::from_text(alloc, key)?;
+    let home = home_of(registry, &proc);
+    let request = Request::Ask(proc, target, key, mode);
+    Ok(Asked::Event(Event::Request(home, request)))
+}
+
+/// `take NS RANK`
+fn ask_take(alloc: Global, registry: &Registry, proc: &Named<'_>) -> Result<Asked, AllocError>
+    ensures { IfOk result (λ a. asked_of a
+        ≡ if_named (is_named proc.now) (at_home registry.now proc.now (ModelRequest.take proc.now))) }
+{
+    if !is_named(proc) {
+        return Ok(Asked::Unnamed);
+    }
+    let proc = proc_of(alloc, proc)?;
+    let home = home_of(registry, &proc);
+    Ok(Asked::Event(Event::Request(home, Request::Take(proc))))
+}
+
+/// `end NS RANK`
+fn ask_end(alloc: Global, registry: &Registry, proc: &Named<'_>) -> Result<Asked, AllocError>
+    ensures { IfOk result (λ a. asked_of a
+        ≡ if_named (is_named proc.now) (at_home registry.now proc.now (ModelRequest.terminate proc.now))) }
+{
+    if !is_named(proc) {
+        return Ok(Asked::Unnamed);
+    }
+    let proc = proc_of(alloc, proc)?;
+    let home = home_of(registry, &proc);
+    Ok(Asked::Event(Event::Request(home, Request::Terminate(proc))))
+}
+
+/// `define M`, so many pairs `NS RANK`, `NAME`
+fn ask_define(alloc: Global, list: &[Named<'_>], name: &[u8]) -> Result<Asked, AllocError>
+    ensures { IfOk result (λ a. asked_of a
+        ≡ if_named (are_named list.now && is_key name.now) (ModelEvent.request 0 (ModelRequest.define name.now list.now))) }
+{
+    if !are_named(list) || !is_key_text(name) {
+        return Ok(Asked::Unnamed);
+    }
+    let list = procs_of(alloc, list)?;
+    let name = Key::from_text(alloc, name)?;
+    Ok(Asked::Event(Event::Request(0, Request::Define(name, list))))
+}
+
+/// `delete NAME`
+fn ask_delete(alloc: Global, name: &[u8]) -> Result<Asked, AllocError>
+    ensures { IfOk result (λ a. asked_of a ≡ if_named (is_key name.now) (ModelEvent.request 0 (ModelRequest.delete name.now))) }
+{
+    if !is_key_text(name) {
+        return Ok(Asked::Unnamed);
+    }
+    let name = Key::from_text(alloc, name)?;
+    Ok(Asked::Event(Event::Request(0, Request::Delete(name))))
+}
+
+/// `members NODE NAME`
+fn ask_members(alloc: Global, node: u64, name: &[u8]) -> Result<Asked, AllocError>
+    ensures { IfOk result (λ a. asked_of a ≡ (if is_key name.now then ModelAsked.members node name.now else ModelAsked.unnamed)) }
+{
+    if !is_key_text(name) {
+        return Ok(Asked::Unnamed);
+    }
+    Ok(Asked::Members(node, Key::from_text(alloc, name)?))
+}
+
+/// What the line asks of the world of these jobs. It is malformed where it asks nothing of it.
+#[tactic(auto, unfolding(crate::specs::Asking::asks))]
+pub(crate) fn ask(alloc: Global, registry: &Registry, line: Line<'_>) -> Result<Asked, LineFault>
+    ensures { ReadsAll asked_of result (asks registry.now (line_of line.entry)) }
+{
+    match line {
+        Line::Put(proc, scope, value, key) => Ok(ask_put(alloc, &proc, scope, value, key)?),
+        Line::Commit(proc) => Ok(ask_commit(alloc, registry, &proc)?),
+        Line::Enter(proc, collect, list) => Ok(ask_enter(alloc, registry, &proc, collect, &list)?),
+        Line::Leave(proc) => Ok(ask_leave(alloc, registry, &proc)?),
+        Line::Get(proc, mode, target, key) => {
+            Ok(ask_get(alloc, registry, &proc, mode, &target, key)?)
+        }
+        Line::Take(proc) => Ok(ask_take(alloc, registry, &proc)?),
+        Line::End(proc) => Ok(ask_end(alloc, registry, &proc)?),
+        Line::Define(list, name) => Ok(ask_define(alloc, &list, name)?),
+        Line::Delete(name) => Ok(ask_delete(alloc, name)?),
+        Line::Deliver(frame) => Ok(Asked::Event(Event::Deliver(frame))),
+        Line::Flow => Ok(Asked::Flow),
+        Line::Nudge(node) => Ok(Asked::Event(Event::Request(node, Request::Nudge))),
+        Line::Members(node, name) => Ok(ask_members(alloc, node, name)?),
+        Line::Dump(node) => Ok(Asked::Dump(node)),
+        Line::Nothing | Line::Nodes(_) | Line::Space(_, _) => Err(LineFault::Malformed),
+    }
+}

@@ -1,0 +1,46 @@
+//! What happens in a group, and what it was answered with.
+ghost use Rattle.std.specs.Prelude.{◌≡◌, IfOk};
+ghost use Rattle.pmg_world.specs.Telling.{event_of};
+
+use pmg_node::{Reply, Request};
+use pmg_scope::Scope;
+use pmg_value::{Key, Proc, Refusal, Value};
+use std::alloc::AllocError;
+
+/// What happens in a group. Nodes are named by their indexes.
+#[derive(Debug, Drop)]
+pub enum Event {
+    /// The process puts the value under the key, to be seen as the scope says (PMIx Standard 5.0, PMIx_Put).
+    Put(Proc, Scope, Key, Value),
+    /// At the node, the process commits what it put (PMIx Standard 5.0, PMIx_Commit).
+    Commit(u64, Proc),
+    /// At the node, this is asked for.
+    Request(u64, Request),
+    /// The frame of that number is delivered, among all frames ever sent, from 1.
+    Deliver(u64),
+}
+
+impl Event {
+    /// A copy, the same event.
+    pub fn copy(&self) -> Result<Event, AllocError>
+        ensures { IfOk result (λ e. event_of e ≡ event_of self.now) }
+    {
+        Ok(match self {
+            Event::Put(proc, scope, key, value) => {
+                Event::Put(proc.copy()?, *scope, key.copy()?, value.copy()?)
+            }
+            Event::Commit(node, proc) => Event::Commit(*node, proc.copy()?),
+            Event::Request(node, request) => Event::Request(*node, request.copy()?),
+            Event::Deliver(frame) => Event::Deliver(*frame),
+        })
+    }
+}
+
+/// An event, with its answer.
+#[derive(Debug, Drop)]
+pub struct Told {
+    /// What happened.
+    pub event: Event,
+    /// What it was answered with.
+    pub answer: Result<Reply, Refusal>,
+}

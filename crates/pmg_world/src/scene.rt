@@ -1,0 +1,189 @@
+//! A world that a script plays on, with what was delivered in it.
+ghost use Rattle.std.specs.Prelude.{◌≡◌, ◌<◌, IfOk};
+ghost use Rattle.std.specs.Option.{option_map};
+ghost use Rattle.pmg_value.specs.Spelling.{form, plain_of, plains_of, spelling};
+ghost use Rattle.pmg_value.specs.declared.value.Value.TheVariants as values;
+ghost use Rattle.pmg_wire.specs.Fields.{whole_value};
+ghost use Rattle.pmg_store.specs.Dump.{dump};
+ghost use Rattle.pmg_world.specs.Asking.{asked_of};
+ghost use Rattle.pmg_world.specs.Stages.{Answers, Flows, IsNew, Performs, dump_at, is_deletion, members_at, node_of, proc_in, procs_in, procs_of};
+ghost use Rattle.pmg_world.specs.Telling.{event_of};
+
+use crate::asking::Asked;
+use crate::delivered::Delivered;
+use crate::event::Event;
+use crate::nodes::node_id;
+use crate::reply_lines::{flow_line, members_line, refusal_line, reply_line};
+use crate::world::World;
+use pmg_jobinfo::Registry;
+use pmg_node::{Node, Request};
+use pmg_store::Store;
+use pmg_value::{Array, Key, Proc, Refusal, Value, WatchedWriter};
+use std::alloc::{AllocError, Global};
+use std::marker::Model;
+
+/// A world that runs, and which of its frames were delivered.
+#[derive(Drop)]
+pub(crate) struct Scene {
+    world: World,
+    delivered: Delivered,
+}
+
+impl Model for Scene {
+    ghost use Rattle.pmg_node.specs.contracts.sent.Sent.{the_row as sent_row};
+    ghost use Rattle.pmg_world.specs.Accounts.{Account, coded_account};
+    ghost use Rattle.pmg_world.specs.Delivering.{IsNoted};
+    ghost use Rattle.pmg_world.specs.contracts.event.Told.{the_row as told_row};
+
+    ghost Value = { Account };
+
+    ghost coded = { coded_account sent_row.coded told_row.coded };
+
+    ghost view = { λ a. a.world };
+
+    ghost invariant = { λ a. IsNoted a.world.told a.delivered };
+}
+
+/// Whether the event is a set's deletion.
+fn is_deletion(event: &Event) -> bool
+    ensures { result ≡ is_deletion (event_of event.now) }
+{
+    match event {
+        Event::Request(_, Request::Delete(_)) => true,
+        _ => false,
+    }
+}
+
+/// The process that the item of an array is.
+fn proc_in(item: &Value) -> Option<&Proc>
+    ensures { option_map (λ p. p.now) result ≡ proc_in (plain_of (form item.now)) }
+{
+    match item {
+        Value::Proc(proc) => Some(proc),
+        _ => None,
+    }
+}
+
+/// The processes among the items of an array.
+fn procs_in(alloc: Global, items: &[Value]) -> Result<Vec<Proc>, AllocError>
+    ensures { IfOk result (λ procs. procs.items ≡ procs_in (plains_of items.now)) }
+{
+    let mut procs = Vec::new(alloc);
+    for item in items {
+        if let Some(proc) = proc_in(item) {
+            procs.push(proc.copy()?)?;
+        }
+    }
+    Ok(procs)
+}
+
+/// The processes of an array.
+fn procs_of(alloc: Global, members: &Array) -> Result<Vec<Proc>, AllocError>
+    ensures { IfOk result (λ procs. procs.items ≡ procs_of (whole_value (spelling (values.Array members.now)))) }
+{
+    procs_in(alloc, members.items())
+}
+
+/// The dump of a store.
+fn dump_of(alloc: Global, store: &Store) -> Result<Vec<u8>, AllocError>
+    ensures { IfOk result (λ text. text.items ≡ dump store.now) }
+{
+    let mut writer = WatchedWriter::new(Vec::new(alloc));
+    match store.dump(&mut writer) {
+        Ok(()) => Ok(writer.into_inner()),
+        Err(_) => Err(AllocError),
+    }
+}
+
+impl Scene {
+    /// A world of these jobs, in which nothing happened.
+    pub(crate) fn new(alloc: Global, registry: &Registry) -> Result<Scene, AllocError>
+        ensures { IfOk result (λ scene. IsNew registry.now scene) }
+    {
+        match World::new(registry) {
+            Ok(world) => Ok(Scene {
+                world,
+                delivered: Delivered::new(alloc),
+            }),
+            Err(_) => Err(AllocError),
+        }
+    }
+
+    /// The registry of the group.
+    pub(crate) fn registry(&self) -> &Registry
+        ensures { result.now ≡ self.now.jobs }
+    {
+        self.world.registry()
+    }
+
+    /// What is asked of the world is done, and answered with the text of its reply.
+    #[tactic(auto, unfolding(crate::specs::Stages::Performs))]
+    pub(crate) fn perform(&mut self, alloc: Global, asked: &Asked) -> Result<Vec<u8>, AllocError>
+        ensures { IfOk result (λ text. Performs self.old (asked_of asked.now) text.items self.new) }
+    {
+        match asked {
+            Asked::Event(event) => self.happen(alloc, event),
+            Asked::Unnamed => refusal_line(alloc, &Refusal::BadParam),
+            Asked::Flow => self.flow(alloc),
+            Asked::Members(node, name) => self.members(alloc, *node, name),
+            Asked::Dump(node) => self.dump(alloc, *node),
+        }
+    }
+
+    /// The event happens, and is answered with the line of its reply.
+    fn happen(&mut self, alloc: Global, event: &Event) -> Result<Vec<u8>, AllocError>
+        ensures { IfOk result (λ text. Answers self.old (event_of event.now) text.items self.new) }
+    {
+        self.world.step(event)?;
+        match self.world.events().last() {
+            Some(told) => reply_line(alloc, is_deletion(event), &told.answer),
+            None => unreachable!(),
+        }
+    }
+
+    /// Each frame is delivered that never was.
+    fn flow(&mut self, alloc: Global) -> Result<Vec<u8>, AllocError>
+        ensures { IfOk result (λ text. Flows self.old text.items self.new) }
+    {
+        self.delivered.note(self.world.events())?;
+        let count = self.world.sent().len() as u64;
+        let events = self.delivered.missing(alloc, count)?;
+        match self.world.run(&events) {
+            Ok(()) => flow_line(alloc, events.len() as u64),
+            Err(_) => Err(AllocError),
+        }
+    }
+
+    /// The node of that index, if the group has one.
+    fn node(&self, index: u64) -> Option<&Node>
+        ensures { option_map (λ n. n.now) result ≡ node_of self.now index }
+    {
+        match node_id(self.world.registry(), index) {
+            Some(node) => self.world.node(node),
+            None => None,
+        }
+    }
+
+    /// The members of the set, as the node knows them.
+    fn members(&self, alloc: Global, node: u64, name: &Key) -> Result<Vec<u8>, AllocError>
+        ensures { IfOk result (λ text. text.items ≡ members_at (node_of self.now node) name.now) }
+    {
+        let Some(node) = self.node(node) else {
+            return refusal_line(alloc, &Refusal::BadParam);
+        };
+        match node.set_members(name) {
+            Ok(members) => members_line(alloc, &procs_of(alloc, members)?),
+            Err(refusal) => refusal_line(alloc, &refusal),
+        }
+    }
+
+    /// The dump of what the node tells others.
+    fn dump(&self, alloc: Global, node: u64) -> Result<Vec<u8>, AllocError>
+        ensures { IfOk result (λ text. text.items ≡ dump_at (node_of self.now node)) }
+    {
+        match self.node(node) {
+            Some(node) => dump_of(alloc, node.board().far()),
+            None => refusal_line(alloc, &Refusal::BadParam),
+        }
+    }
+}

@@ -1,0 +1,214 @@
+//! What does the lines of a script, from the names of the nodes on; and whole scripts.
+ghost use Rattle.std.specs.Prelude.{◌≡◌, ◌≢◌, ◌≤◌, ◌+◌, ℕ, List, Ok, Err, IfOk, IfErr, IfSome, IsSome, OnOk, OnErr};
+ghost use Rattle.pmg_store.specs.declared.failure.Failure.TheVariants as failures;
+ghost use Rattle.pmg_store.specs.declared.input.TheConstants.{MOST_READS};
+ghost use Rattle.pmg_value.specs.declared.refusal.Refusal.TheVariants as refusals;
+ghost use Rattle.pmg_world.specs.Replays.{Replayed};
+ghost use Rattle.pmg_world.specs.Scripts.{line_of, texts};
+ghost use Rattle.pmg_world.specs.Stages.{OpensAt, PlaysLine, RegistersAt, Runs, RunsAt, Stops, AsksNothing, is_over, ok_line, refused_line, with_space};
+ghost use Rattle.pmg_world.specs.declared.lines.LineFault.TheVariants as faults;
+ghost use Rattle.pmg_world.specs.declared.phase.Phase.{Phase as AnyPhase};
+ghost use Rattle.pmg_world.specs.declared.phase.Phase.TheVariants as phases;
+
+use crate::asking::ask;
+use crate::lines::LineFault;
+use crate::nodes::nodes_of;
+use crate::phase::Phase;
+use crate::playing::{Ended, Player, play_script};
+use crate::reply_lines::{refusal_line, reply_line};
+use crate::scene::Scene;
+use crate::script::{Line, read_line};
+use pmg_jobinfo::Registry;
+use pmg_node::Reply;
+use pmg_store::{Failure, WatchedReader};
+use pmg_value::{Nspace, Refusal, WatchedWriter, is_nspace_name};
+use std::alloc::{AllocError, Global};
+use std::io::{Read, Write};
+use std::marker::Model;
+
+/// What does the lines of a script: a group of nodes, once they are named.
+#[derive(Drop)]
+pub struct Stage {
+    alloc: Global,
+    phase: Phase,
+}
+
+impl Model for Stage {
+    ghost use Rattle.pmg_world.specs.contracts.phase.Phase.{the_row as phase_row};
+    ghost use Rattle.pmg_world.specs.declared.phase.Phase.{Phase};
+
+    ghost Value = { Phase };
+
+    ghost coded = { phase_row.coded };
+
+    ghost view = { λ a. a.phase };
+}
+
+/// The line of what was done.
+fn ok_line(alloc: Global) -> Result<Vec<u8>, AllocError>
+    ensures { IfOk result (λ line. line.items ≡ ok_line) }
+{
+    reply_line(alloc, false, &Ok(Reply::Done))
+}
+
+/// The line of a refusal; where an allocation failed there is none.
+fn refused(alloc: Global, refusal: Refusal) -> Result<Vec<u8>, LineFault>
+    ensures line { IfOk result (λ line. line.items ≡ refused_line refusal) }
+    ensures memory { IfOk result (λ _. refusal ≢ refusals.NoMemory) }
+    ensures formed { result ≢ Err faults.Malformed }
+{
+    match refusal {
+        Refusal::NoMemory => Err(LineFault::NoMemory),
+        other => Ok(refusal_line(alloc, &other)?),
+    }
+}
+
+/// Registers the namespace, with the homes of its ranks.
+fn register_space(
+    alloc: Global,
+    registry: &mut Registry,
+    nspace: &[u8],
+    homes: &[u64],
+) -> Result<(), Refusal>
+    ensures ok { OnOk result (with_space registry.old nspace.now homes.now ≡ Ok registry.new) }
+    ensures refused { IfErr result (λ e. e ≢ refusals.NoMemory → with_space registry.old nspace.now homes.now ≡ Err e) }
+    ensures err { OnErr result (registry.new ≡ registry.old) }
+{
+    if !is_nspace_name(nspace) {
+        return Err(Refusal::BadParam);
+    }
+    let homes = nodes_of(alloc, registry, homes)?;
+    registry.register(Nspace::from_name(alloc, nspace)?, &homes)
+}
+
+/// Registers the namespace, and answers with the line of that.
+fn space_line(
+    alloc: Global,
+    registry: &mut Registry,
+    nspace: &[u8],
+    homes: &[u64],
+) -> Result<Vec<u8>, LineFault>
+    ensures ok { IfOk result (λ text. RegistersAt (phases.Registering registry.old) nspace.now homes.now text.items (phases.Registering registry.new)) }
+    ensures formed { result ≢ Err faults.Malformed }
+{
+    match register_space(alloc, registry, nspace, homes) {
+        Ok(()) => {}
+        Err(refusal) => return Ok(refused(alloc, refusal)?),
+    }
+    Ok(ok_line(alloc)?)
+}
+
+/// The world answers what the line asks of it.
+fn run_line(alloc: Global, scene: &mut Scene, line: Line<'_>) -> Result<Vec<u8>, LineFault>
+    ensures ok { IfOk result (λ text. Runs scene.old (line_of line.entry) text.items scene.new) }
+    ensures malformed { result ≡ Err faults.Malformed → AsksNothing scene.old (line_of line.entry) }
+{
+    let asked = ask(alloc, scene.registry(), line)?;
+    let text = scene.perform(alloc, &asked)?;
+    Ok(text)
+}
+
+impl Stage {
+    /// No line was done.
+    pub fn new(alloc: Global) -> Stage
+        ensures { result ≡ phases.Fresh }
+    {
+        Stage {
+            alloc,
+            phase: Phase::Fresh,
+        }
+    }
+
+    /// Opens the group with nodes of these names.
+    fn open(&mut self, names: &[&[u8]]) -> Result<Vec<u8>, LineFault>
+        ensures ok { IfOk result (λ text. OpensAt self.old (texts names.now) text.items self.new) }
+        ensures malformed { result ≡ Err faults.Malformed → (text : List ℕ) (v : AnyPhase) → OpensAt self.old (texts names.now) text v → ⊥ }
+    {
+        let Phase::Fresh = &self.phase else {
+            return Err(LineFault::Malformed);
+        };
+        match Registry::new(self.alloc, names) {
+            Ok(registry) => {
+                self.phase = Phase::Registering(registry);
+                Ok(ok_line(self.alloc)?)
+            }
+            Err(refusal) => {
+                let reply = refused(self.alloc, refusal)?;
+                self.phase = Phase::Over;
+                Ok(reply)
+            }
+        }
+    }
+
+    /// Registers a namespace.
+    fn register(&mut self, nspace: &[u8], homes: &[u64]) -> Result<Vec<u8>, LineFault>
+        ensures ok { IfOk result (λ text. RegistersAt self.old nspace.now homes.now text.items self.new) }
+        ensures malformed { result ≡ Err faults.Malformed → (text : List ℕ) (v : AnyPhase) → RegistersAt self.old nspace.now homes.now text v → ⊥ }
+    {
+        match &mut self.phase {
+            Phase::Registering(registry) => space_line(self.alloc, registry, nspace, homes),
+            _ => Err(LineFault::Malformed),
+        }
+    }
+
+    /// Does a line that asks something of the world, and starts it where it does not run.
+    fn run(&mut self, line: Line<'_>) -> Result<Vec<u8>, LineFault>
+        ensures ok { IfOk result (λ text. RunsAt self.old (line_of line.entry) text.items self.new) }
+        ensures malformed { result ≡ Err faults.Malformed → (text : List ℕ) (v : AnyPhase) → RunsAt self.old (line_of line.entry) text v → ⊥ }
+    {
+        match &mut self.phase {
+            Phase::Running(scene) => run_line(self.alloc, scene, line),
+            Phase::Registering(registry) => {
+                let mut scene = Scene::new(self.alloc, registry)?;
+                let text = run_line(self.alloc, &mut scene, line)?;
+                self.phase = Phase::Running(scene);
+                Ok(text)
+            }
+            _ => Err(LineFault::Malformed),
+        }
+    }
+}
+
+impl Player for Stage {
+    ghost plays = { PlaysLine };
+
+    ghost stops = { Stops };
+
+    ghost over = { is_over };
+
+    fn play(&mut self, line: &[u8]) -> Result<Vec<u8>, LineFault> {
+        match read_line(self.alloc, line)? {
+            Line::Nothing => Ok(Vec::new(self.alloc)),
+            Line::Nodes(names) => self.open(&names),
+            Line::Space(nspace, homes) => self.register(nspace, &homes),
+            line => self.run(line),
+        }
+    }
+
+    fn is_over(&self) -> bool {
+        match &self.phase {
+            Phase::Over => true,
+            _ => false,
+        }
+    }
+}
+
+/// Does the lines of a script, and writes their replies, each before the next line is read. It says how the script ended.
+///
+/// The first line that says something names the nodes; where they are refused, the script is over. Namespaces come next, and then
+/// what happens. What a line of no form, and one out of its order, is refused as, and what more than `INPUT_LIMIT` bytes are, is said
+/// at `play_script`.
+pub fn replay<R: Read, W: Write>(
+    alloc: Global,
+    reader: &mut WatchedReader<R>,
+    writer: &mut WatchedWriter<W>,
+) -> Result<Ended, Failure>
+    ensures few { reader.new.reads ≤ reader.old.reads + MOST_READS }
+    ensures replayed { IfSome (R.remaining reader.old.reader) (λ text.
+        Replayed PlaysLine Stops is_over phases.Fresh text (R.remaining reader.new.reader) (W.contents writer.old.writer) (W.contents writer.new.writer) result) }
+    ensures read_fault { IfErr result (λ e. e ≡ failures.Read → IsSome reader.new.failure) }
+    ensures write_fault { IfErr result (λ e. e ≡ failures.Write → IsSome writer.new.failure) }
+{
+    let mut stage = Stage::new(alloc);
+    play_script(alloc, reader, &mut stage, writer)
+}

@@ -1,0 +1,138 @@
+//! The nodes of a group and their clients together, event after event.
+ghost use Rattle.std.specs.Prelude.{◌≡◌, ◌≤◌, true, false, [], ◌∷◌, length, take, IfErr, IfOk, OnErr, OnOk, slice_get};
+ghost use Rattle.std.specs.Option.{option_map};
+ghost use Rattle.pmg_node.specs.Servers.{IsAnswered};
+ghost use Rattle.pmg_value.specs.declared.refusal.Refusal.TheVariants as refusals;
+ghost use Rattle.pmg_world.specs.Accounts.{Adds, IsKept, IsRun};
+
+use crate::event::{Event, Told};
+use crate::group::Group;
+use pmg_jobinfo::Registry;
+use pmg_node::{Node, Reply, Sent};
+use pmg_value::{NodeId, Refusal};
+use std::alloc::AllocError;
+use std::collections::VecDeque;
+use std::marker::Model;
+
+/// A group of nodes with their clients, and all that happened: each event with its answer, and each frame ever sent. Frames arrive
+/// only when they are delivered; they may be delivered in any order, more than once, or never. Whatever happens, what is told is a
+/// run of the model, and the laws of every run hold of it.
+#[derive(Drop)]
+pub struct World {
+    group: Group,
+    told: Vec<Told>,
+}
+
+impl Model for World {
+    ghost use Rattle.pmg_node.specs.contracts.sent.Sent.{the_row as sent_row};
+    ghost use Rattle.pmg_world.specs.Accounts.{Account, account_of, coded_account, IsLed};
+    ghost use Rattle.pmg_world.specs.contracts.event.Told.{the_row as told_row};
+
+    ghost Value = { Account };
+
+    ghost coded = { coded_account sent_row.coded told_row.coded };
+
+    ghost view = { λ a. account_of a.group a.told.items };
+
+    ghost invariant = { λ a. IsLed a.group a.told.items };
+}
+
+/// An allocation failed before all events had happened.
+#[derive(Clone, Copy, Debug, PartialEq, Eq)]
+pub struct RunFailed {
+    /// How many of them happened.
+    pub done: usize,
+}
+
+/// Whether an allocation failed.
+fn is_short(answer: &Result<Reply, Refusal>) -> bool
+    ensures short { result ≡ true → answer.now ≡ Err refusals.NoMemory }
+    ensures answered { result ≡ false → IsAnswered answer.now }
+{
+    match answer {
+        Err(Refusal::NoMemory) => true,
+        _ => false,
+    }
+}
+
+impl World {
+    /// The group at its start: nobody has called, and nothing was sent. Refused as NoMemory alone.
+    pub fn new(registry: &Registry) -> Result<World, Refusal>
+        ensures jobs { IfOk result (λ w. w.jobs ≡ registry.now) }
+        ensures told { IfOk result (λ w. w.told ≡ []) }
+        ensures sent { IfOk result (λ w. w.sent ≡ []) }
+        ensures run { IfOk result IsRun }
+    {
+        let group = Group::new(registry)?;
+        Ok(World {
+            group,
+            told: Vec::new(registry.allocator()),
+        })
+    }
+
+    /// The registry of the group.
+    pub fn registry(&self) -> &Registry
+        ensures { result.now ≡ self.now.jobs }
+    {
+        &self.group.registry
+    }
+
+    /// All that happened, each event with its answer, in their order.
+    pub fn events(&self) -> &[Told]
+        ensures { result.now ≡ self.now.told }
+    {
+        &self.told
+    }
+
+    /// All frames ever sent, each with the node that it was sent to, in their order.
+    pub fn sent(&self) -> &VecDeque<Sent>
+        ensures { result.now.items ≡ self.now.sent }
+    {
+        &self.group.sent
+    }
+
+    /// The node of that index, if the group has one.
+    pub fn node(&self, node: NodeId) -> Option<&Node>
+        ensures { option_map (λ n. n.now) result ≡ slice_get self.now.nodes node }
+    {
+        self.group.nodes.get(node.index() as usize)
+    }
+
+    /// What happens next; its answer is the last of `events`. Where an allocation fails, nothing happened.
+    pub fn step(&mut self, event: &Event) -> Result<(), AllocError>
+        ensures jobs { self.new.jobs ≡ self.old.jobs }
+        ensures told { OnOk result (Adds self.old.told (event.now ∷ []) self.new.told) }
+        ensures err { OnErr result (self.new ≡ self.old) }
+        ensures run { IsRun self.new }
+        ensures lawful { IsKept self.new }
+    {
+        self.told.reserve(1)?;
+        let event = event.copy()?;
+        let answer = self.group.happen(&event);
+        if is_short(&answer) {
+            return Err(AllocError);
+        }
+        match self.told.push(Told { event, answer }) {
+            Ok(()) => Ok(()),
+            Err(_) => unreachable!(),
+        }
+    }
+
+    /// These events happen, one after another. Where an allocation fails, it is told how many of them happened.
+    pub fn run(&mut self, events: &[Event]) -> Result<(), RunFailed>
+        ensures jobs { self.new.jobs ≡ self.old.jobs }
+        ensures told { OnOk result (Adds self.old.told events.now self.new.told) }
+        ensures done { IfErr result (λ e. Adds self.old.told (take e.done events.now) self.new.told) }
+        ensures few { IfErr result (λ e. e.done ≤ length events.now) }
+        ensures run { IsRun self.new }
+        ensures lawful { IsKept self.new }
+    {
+        let _group = &self.group;
+        for done in 0..events.len() {
+            if let Err(AllocError) = self.step(&events[done]) {
+                return Err(RunFailed { done });
+            }
+        }
+        Ok(())
+    }
+}
