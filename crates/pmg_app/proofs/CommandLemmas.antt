@@ -1,7 +1,6 @@
 -- What the words of the command line ask for.
-use Rattle.std.proofs.Common.{◌≡◌, ◌≢◌, ◌⊎◌, ◌∙◌, inl, inr, refl, sym, ap, subst, true, false, ℕ, Option, Some, None, List, [], ◌∷◌, codes, Ok, Err}
-use Rattle.std.specs.Prelude.{IfOk, IfErr, if◌then◌else◌}
-use Rattle.std.specs.Str.{bytes_eq}
+use Rattle.std.proofs.Common.{◌≡◌, ◌≢◌, ◌⊎◌, ◌∙◌, inl, inr, refl, sym, ap, subst, true, Option, Some, None, List, [], ◌∷◌, codes, Ok, Err}
+use Rattle.std.specs.Prelude.{IfOk, IfErr}
 use Rattle.std.specs.declared.result.Result.{Result}
 use Rattle.std.specs.Option.{option_map}
 use Rattle.clap.specs.Simple.{is_simple}
@@ -12,7 +11,7 @@ use Rattle.clap.specs.declared.error.kind.ErrorKind.{ErrorKind}
 use Rattle.clap.specs.declared.error.kind.ErrorKind.TheVariants.{OutOfMemory, DisplayHelp, DisplayVersion, MissingSubcommand}
 use Rattle.clap.proofs.OnLiterals.{clap_on_literals}
 use Rattle.pmg_app.specs.declared.command.Chosen.{Chosen}
-use Rattle.pmg_app.specs.declared.command.Chosen.TheVariants.{Dump, Merge, Shown}
+use Rattle.pmg_app.specs.declared.command.Chosen.TheVariants.{Dump, Merge, Replay, Shown}
 use Rattle.pmg_app.specs.CommandLine.{program, command_in, chosen_of, shown_status, IsChosen}
 
 -- the command line is one of which `clap` says when it takes the words
@@ -40,22 +39,18 @@ shown_is_chosen (Ok chosen) words kind shown memory (inr among) = subst (IsChose
 pub named_is_chosen : (chosen : Chosen) (words : List Text) → fault_of program words ≡ [] → chosen ≡ chosen_of (command_in words) → IsChosen words chosen
 named_is_chosen Dump words none is = (none, sym is)
 named_is_chosen Merge words none is = (none, sym is)
+named_is_chosen Replay words none is = (none, sym is)
 named_is_chosen (Shown status) words none is = inr (none, sym is)
 
 -- where nothing is amiss, the command that is named is asked for
-pub is_dump : {E : Type 0} (result : Result Chosen E) (words : List Text) → fault_of program words ≡ [] → chosen_of (command_in words) ≡ Dump → IfOk result (IsChosen words) → IfOk result (λ chosen. chosen ≡ Dump)
-is_dump (Err e) words none named chosen = tt
-is_dump (Ok Dump) words none named chosen = refl
-is_dump (Ok Merge) words none named chosen = sym chosen.1 ∙ named
-is_dump (Ok (Shown status)) words none named (inl found) = absurd (subst (IsAmong found.0) none found.1)
-is_dump (Ok (Shown status)) words none named (inr is) = sym is.1 ∙ named
-
-pub is_merge : {E : Type 0} (result : Result Chosen E) (words : List Text) → fault_of program words ≡ [] → chosen_of (command_in words) ≡ Merge → IfOk result (IsChosen words) → IfOk result (λ chosen. chosen ≡ Merge)
-is_merge (Err e) words none named chosen = tt
-is_merge (Ok Dump) words none named chosen = sym chosen.1 ∙ named
-is_merge (Ok Merge) words none named chosen = refl
-is_merge (Ok (Shown status)) words none named (inl found) = absurd (subst (IsAmong found.0) none found.1)
-is_merge (Ok (Shown status)) words none named (inr is) = sym is.1 ∙ named
+pub is_command : {E : Type 0} (result : Result Chosen E) (words : List Text) (command : Chosen) → fault_of program words ≡ []
+    → chosen_of (command_in words) ≡ command → IfOk result (IsChosen words) → IfOk result (λ chosen. chosen ≡ command)
+is_command (Err e) words command none named chosen = tt
+is_command (Ok Dump) words command none named chosen = sym chosen.1 ∙ named
+is_command (Ok Merge) words command none named chosen = sym chosen.1 ∙ named
+is_command (Ok Replay) words command none named chosen = sym chosen.1 ∙ named
+is_command (Ok (Shown status)) words command none named (inl found) = absurd (subst (IsAmong found.0) none found.1)
+is_command (Ok (Shown status)) words command none named (inr is) = sym is.1 ∙ named
 
 -- where one thing is found, it is shown
 pub is_shown : {E : Type 0} (result : Result Chosen E) (words : List Text) (kind : ErrorKind) → fault_of program words ≡ kind ∷ [] → IfOk result (IsChosen words)
@@ -63,6 +58,7 @@ pub is_shown : {E : Type 0} (result : Result Chosen E) (words : List Text) (kind
 is_shown (Err e) words kind one chosen = tt
 is_shown (Ok Dump) words kind one chosen = let both : [] ≡ kind ∷ [] = sym chosen.0 ∙ one in cc
 is_shown (Ok Merge) words kind one chosen = let both : [] ≡ kind ∷ [] = sym chosen.0 ∙ one in cc
+is_shown (Ok Replay) words kind one chosen = let both : [] ≡ kind ∷ [] = sym chosen.0 ∙ one in cc
 is_shown (Ok (Shown status)) words kind one (inl found) = elim (subst (IsAmong found.0) one found.1) [
   | inl same ↦ ap Shown (found.2 ∙ ap shown_status same)
   | inr none ↦ absurd none
@@ -78,6 +74,10 @@ pub of_merge : (name : Text) → fault_of program (name ∷ codes "merge" ∷ []
 unfolding clap_on_literals
 of_merge name = refl
 
+pub of_replay : (name : Text) → fault_of program (name ∷ codes "replay" ∷ []) ≡ []
+unfolding clap_on_literals
+of_replay name = refl
+
 pub dump_in : (name : Text) → chosen_of (command_in (name ∷ codes "dump" ∷ [])) ≡ Dump
 unfolding clap_on_literals
 dump_in name = refl
@@ -85,6 +85,10 @@ dump_in name = refl
 pub merge_in : (name : Text) → chosen_of (command_in (name ∷ codes "merge" ∷ [])) ≡ Merge
 unfolding clap_on_literals
 merge_in name = refl
+
+pub replay_in : (name : Text) → chosen_of (command_in (name ∷ codes "replay" ∷ [])) ≡ Replay
+unfolding clap_on_literals
+replay_in name = refl
 
 pub of_help : (name : Text) → fault_of program (name ∷ codes "--help" ∷ []) ≡ DisplayHelp ∷ []
 unfolding clap_on_literals

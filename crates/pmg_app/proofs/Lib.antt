@@ -2,3 +2,4 @@ pub mod CommandLemmas
 pub mod MergeLemmas
 pub mod TextLemmas
 pub mod RunLemmas
+pub mod ScriptLemmas

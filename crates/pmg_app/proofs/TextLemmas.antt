@@ -1,5 +1,5 @@
 -- What `hex` decodes is what the digits spell in pairs.
-use Rattle.std.proofs.Common.{arith, ◌-◌, ◌≡◌, ◌⊎◌, inl, inr, ℕ, suc, ◌++◌, ◌<◌, ◌≤◌, append_assoc, append-nil, drop-cons, drop-drop, get_or, subst, take, drop, ◌==◌, Bool, true, false, cond, ◌&&◌, not, ◌+◌, ◌*◌, ◌%◌, List, [], ◌∷◌, length, Option, Some, None, Result, Ok, Err, unwrap_or, refl, sym, ap, ◌∙◌}
+use Rattle.std.proofs.Common.{arith, ◌-◌, ◌≡◌, inl, inr, ℕ, suc, ◌++◌, ◌<◌, ◌≤◌, append_assoc, append-nil, drop-cons, drop-drop, get_or, subst, take, drop, ◌==◌, Bool, true, false, cond, ◌&&◌, not, ◌+◌, ◌*◌, ◌%◌, List, [], ◌∷◌, length, Option, Some, None, Result, Ok, Err, unwrap_or, refl, sym, ap, ◌∙◌}
 use Rattle.std.specs.Prelude.{is_some}
 use Rattle.std.specs.List.{position, position_or_len}
 use Rattle.std.proofs.lemmas.List.{take-append-drop, take_all, drop_all, length-drop}

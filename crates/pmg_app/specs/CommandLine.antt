@@ -9,13 +9,19 @@ use Rattle.clap.specs.Faults.{fault_of}
 use Rattle.clap.specs.declared.error.kind.ErrorKind.{ErrorKind}
 use Rattle.clap.specs.declared.error.kind.ErrorKind.TheVariants.{DisplayHelp, DisplayVersion}
 use Rattle.pmg_app.specs.declared.command.Chosen.{Chosen}
-use Rattle.pmg_app.specs.declared.command.Chosen.TheVariants.{Dump, Merge, Shown}
+use Rattle.pmg_app.specs.declared.command.Chosen.TheVariants.{Dump, Merge, Replay, Shown}
 
--- The program as `clap` reads it: it has a version, and wants a command, `dump` or `merge`, which takes no words.
+-- the program before its commands: it has a version, and wants a command
+abbrev pub bare_program : App
+bare_program = on_top (λ s. record s { has_version = true; subcommand_required = true }) (new_app (codes "pmixgroup"))
+
+-- one command more, which takes no words
+abbrev pub with_command : App → Text → App
+with_command app name = with_subcommand app (new_shape name)
+
+-- The program as `clap` reads it: its commands are `dump`, `merge` and `replay`.
 abbrev pub program : App
-program =
-    with_subcommand (with_subcommand (on_top (λ s. record s { has_version = true; subcommand_required = true }) (new_app (codes "pmixgroup")))
-    (new_shape (codes "dump"))) (new_shape (codes "merge"))
+program = with_command (with_command (with_command bare_program (codes "dump")) (codes "merge")) (codes "replay")
 
 -- the command that `clap` finds in the words, where it takes them
 abbrev pub command_in : List Text → Option Text
@@ -24,7 +30,10 @@ command_in words = option_map (λ p. p.0) (subcommand_of program words)
 -- the command of a name; of no name, and of another one, there is none, which is a usage fault
 abbrev pub chosen_of : Option Text → Chosen
 chosen_of None = Shown 2
-chosen_of (Some name) = if bytes_eq name (codes "dump") then Dump else if bytes_eq name (codes "merge") then Merge else Shown 2
+chosen_of (Some name) =
+    if bytes_eq name (codes "dump") then Dump
+    else if bytes_eq name (codes "merge") then Merge
+    else if bytes_eq name (codes "replay") then Replay else Shown 2
 
 -- the status of a line that asks for help or the version, and of one that is not understood
 abbrev pub shown_status : ErrorKind → ℕ
@@ -40,10 +49,12 @@ IsNamed words chosen = (fault_of program words ≡ []) × (chosen_of (command_in
 abbrev pub IsChosen : List Text → Chosen → Type 0
 IsChosen words Dump = IsNamed words Dump
 IsChosen words Merge = IsNamed words Merge
+IsChosen words Replay = IsNamed words Replay
 IsChosen words (Shown status) = ((kind : ErrorKind) × IsAmong kind (fault_of program words) × (status ≡ shown_status kind)) ⊎ IsNamed words (Shown status)
 
 -- the status of what was shown is 0 or 2
 abbrev pub HasStatus : Chosen → Type 0
 HasStatus Dump = Unit {0}
 HasStatus Merge = Unit {0}
+HasStatus Replay = Unit {0}
 HasStatus (Shown status) = (status ≡ 0) ⊎ (status ≡ 2)

@@ -48,9 +48,13 @@ failure_line Write = []
 abbrev pub failure_output : Failure → Output
 failure_output failure = record { status = failure_status failure; printed = failure_line failure }
 
+-- a status, with nothing to print
+abbrev pub status_alone : ℕ → Output
+status_alone status = record { status = status; printed = [] }
+
 -- what is left to print once a command's work is done
 abbrev pub outcome_output : {T : Type 0} → Result T Failure → Output
-outcome_output (Ok done) = record { status = 0; printed = [] }
+outcome_output (Ok done) = status_alone 0
 outcome_output (Err failure) = failure_output failure
 
 -- a text is printed with status 0, a failure as such

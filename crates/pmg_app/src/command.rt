@@ -2,7 +2,7 @@
 ghost use Rattle.std.specs.Prelude.{◌≡◌, ◌≢◌, ℕ, List, [], ◌∷◌, codes, map, IfOk, IfErr};
 ghost use Rattle.std.specs.IoError.{error_kind};
 ghost use Rattle.clap.specs.Words.{app_of, fault_of, kind_of, subcommand_name_of};
-ghost use Rattle.pmg_app.specs.CommandLine.{program, chosen_of, shown_status, IsChosen, HasStatus};
+ghost use Rattle.pmg_app.specs.CommandLine.{program, bare_program, with_command, chosen_of, shown_status, IsChosen, HasStatus};
 
 use crate::status::USAGE_FAULT;
 use clap::error::ErrorKind as Kind;
@@ -20,15 +20,11 @@ pub enum Chosen {
     Dump,
     /// The command `merge`.
     Merge,
+    /// The command `replay`.
+    Replay,
     /// Nothing more: help, the version or a usage fault was printed. Holds the status to end with.
     Shown(u8),
 }
-
-const DUMP_EXAMPLE: &str = "\
-Example:
-  $ echo 010100000027016a00000000000000000000000000000000000000010000000100016100000000000000010101 | pmixgroup dump
-  proc j 0 level 1
-    bool:true a";
 
 const PROGRAM_HELP: &str = "\
 Exit status: 0 done, 1 refused input or a read or write fault, 2 usage, 3 no memory.
@@ -38,7 +34,18 @@ Example:
   proc j 0 level 1
     bool:true a";
 
-const MERGE_EXAMPLE: &str = "\
+const DUMP_ABOUT: &str = "Decodes hex-encoded frames from standard input and prints what they tell";
+
+const DUMP_HELP: &str = "\
+Example:
+  $ echo 010100000027016a00000000000000000000000000000000000000010000000100016100000000000000010101 | pmixgroup dump
+  proc j 0 level 1
+    bool:true a";
+
+const MERGE_ABOUT: &str =
+    "Merges several streams of hex-encoded frames, separated by lines --, and prints their dump";
+
+const MERGE_HELP: &str = "\
 A line -- ends a stream.
 
 Example:
@@ -47,6 +54,23 @@ Example:
     u8:2 a
   proc j 1 level 1
     u8:7 b";
+
+const REPLAY_ABOUT: &str =
+    "Does what a script says to a group of servers and their processes, and prints the replies";
+
+const REPLAY_HELP: &str = "\
+A line is one event: what a process calls, or a frame that arrives. docs/SCRIPTS.md lists the lines and their replies.
+
+Exit status: 0 at the script's end; 1 where its nodes are refused, for a line of no such form, more than 67,108,864
+bytes, and a read or write fault; 3 no memory. A refusal of any other line is its reply.
+
+Example:
+  $ printf 'nodes n0\\nspace j 0 0\\nput j 0 local 0907 a\\ncommit j 0\\nget j 1 now j 0 a\\n' | pmixgroup replay
+  ok
+  ok
+  ok
+  commit 1
+  found u8:7";
 
 /// Reads the command line. Help and the version go to standard output, a usage fault to standard error.
 ///
@@ -63,6 +87,7 @@ pub fn choose<R: Print + Eprint + AllocGlobal, S: AsStr>(rt: &R, words: &[S]) ->
     ensures chosen { IfOk result (IsChosen (map S.text words.now)) }
     ensures dump { (name : List ℕ) → map S.text words.now ≡ name ∷ codes "dump" ∷ [] → IfOk result (λ chosen. chosen ≡ Chosen.Dump) }
     ensures merge { (name : List ℕ) → map S.text words.now ≡ name ∷ codes "merge" ∷ [] → IfOk result (λ chosen. chosen ≡ Chosen.Merge) }
+    ensures replay { (name : List ℕ) → map S.text words.now ≡ name ∷ codes "replay" ∷ [] → IfOk result (λ chosen. chosen ≡ Chosen.Replay) }
     ensures help { (name : List ℕ) → map S.text words.now ≡ name ∷ codes "--help" ∷ [] → IfOk result (λ chosen. chosen ≡ Chosen.Shown 0) }
     ensures version { (name : List ℕ) → map S.text words.now ≡ name ∷ codes "--version" ∷ [] → IfOk result (λ chosen. chosen ≡ Chosen.Shown 0) }
     ensures nothing { (name : List ℕ) → map S.text words.now ≡ name ∷ [] → IfOk result (λ chosen. chosen ≡ Chosen.Shown 2) }
@@ -83,6 +108,7 @@ fn chosen_by(matches: &ArgMatches) -> Chosen
     match matches.subcommand_name() {
         Some("dump") => Chosen::Dump,
         Some("merge") => Chosen::Merge,
+        Some("replay") => Chosen::Replay,
         _ => Chosen::Shown(USAGE_FAULT),
     }
 }
@@ -109,25 +135,43 @@ fn status_of(kind: Kind) -> u8
     }
 }
 
+/// The command line: the program with its commands.
 fn command_line<'a>(alloc: Global) -> io::Result<Command<'a>>
     ensures ok { IfOk result (λ command. app_of command ≡ program) }
     ensures err { IfErr result (λ e. error_kind e ≡ ErrorKind.OutOfMemory) }
 {
-    let dump = Command::new(alloc, "dump")
-        .about("Decodes hex-encoded frames from standard input and prints what they tell")
-        .after_help(DUMP_EXAMPLE);
-    let merge = Command::new(alloc, "merge")
-        .about(
-            "Merges several streams of hex-encoded frames, separated by lines --, and prints their dump",
-        )
-        .after_help(MERGE_EXAMPLE);
+    let command = bare_command(alloc)?;
+    let command = with_command(alloc, command, "dump", DUMP_ABOUT, DUMP_HELP)?;
+    let command = with_command(alloc, command, "merge", MERGE_ABOUT, MERGE_HELP)?;
+    let command = with_command(alloc, command, "replay", REPLAY_ABOUT, REPLAY_HELP)?;
+    Ok(command)
+}
+
+/// The program before its commands.
+fn bare_command<'a>(alloc: Global) -> io::Result<Command<'a>>
+    ensures ok { IfOk result (λ command. app_of command ≡ bare_program) }
+    ensures err { IfErr result (λ e. error_kind e ≡ ErrorKind.OutOfMemory) }
+{
     let command = Command::new(alloc, "pmixgroup")
         .bin_name("pmixgroup")?
         .version("0.1.0")
-        .about("The server side of PMIx: what a group of servers knows, as text")
+        .about("The server side of PMIx: what a group of servers does and knows, as text")
         .after_help(PROGRAM_HELP)
-        .subcommand_required(true)
-        .subcommand(dump)?
-        .subcommand(merge)?;
+        .subcommand_required(true);
     Ok(command)
+}
+
+/// One command more, with its help.
+fn with_command<'a>(
+    alloc: Global,
+    command: Command<'a>,
+    name: &'a str,
+    about: &'a str,
+    help: &'a str,
+) -> io::Result<Command<'a>>
+    ensures ok { IfOk result (λ more. app_of more ≡ with_command (app_of command.entry) name.now) }
+    ensures err { IfErr result (λ e. error_kind e ≡ ErrorKind.OutOfMemory) }
+{
+    let added = Command::new(alloc, name).about(about).after_help(help);
+    Ok(command.subcommand(added)?)
 }

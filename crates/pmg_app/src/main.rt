@@ -1,4 +1,4 @@
-//! `pmixgroup`: what the servers of a PMIx group sent to one another, as text.
+//! `pmixgroup`: the servers of a PMIx group, as text: what their frames tell, and what they do as a script says.
 #![tactic(auto)]
 
 ghost use Rattle.std.specs.Prelude.{◌≡◌, ◌≤◌, ◌+◌, ◌↔◌, ℕ, IfOk, IfSome, IsNone, IsTrue};
@@ -9,6 +9,7 @@ ghost use Rattle.pmg_app.specs.CommandLine.{HasStatus};
 ghost use Rattle.pmg_app.specs.Dump.{dump_output};
 ghost use Rattle.pmg_app.specs.Merge.{merge_output};
 ghost use Rattle.pmg_app.specs.Output.{failure_output, Prints, PrintsDue};
+ghost use Rattle.pmg_app.specs.Replay.{PrintsReplies};
 
 mod command;
 mod dump;
@@ -17,9 +18,10 @@ mod dump_tests;
 mod merge;
 #[cfg(test)]
 mod merge_tests;
-mod reporting;
+mod replay;
 #[cfg(test)]
-mod set_tests;
+mod replay_tests;
+mod reporting;
 mod status;
 #[cfg(test)]
 mod tests;
@@ -75,6 +77,9 @@ fn carry_out<R: Read, W: Write>(
     ensures merge { chosen ≡ Chosen.Merge → IfSome (R.remaining reader.old.reader) (λ text.
         PrintsDue (W.contents writer.old.writer) (W.contents writer.new.writer) reader.new.failure writer.new.failure
         result (merge_output text)) }
+    ensures replay { chosen ≡ Chosen.Replay → IfSome (R.remaining reader.old.reader) (λ text.
+        PrintsReplies text (R.remaining reader.new.reader) (W.contents writer.old.writer) (W.contents writer.new.writer)
+        reader.new.failure writer.new.failure result) }
     ensures shown { (status : ℕ) → chosen ≡ Chosen.Shown status
         → (result ≡ status) × (reader.new ≡ reader.old) × (writer.new ≡ writer.old) }
     ensures flushed { IsTrue writer.old.is_flushed → IsNone writer.new.failure
@@ -85,6 +90,7 @@ fn carry_out<R: Read, W: Write>(
     match chosen {
         Chosen::Dump => dump::run_dump(alloc, reader, writer),
         Chosen::Merge => merge::run_merge(alloc, reader, writer),
+        Chosen::Replay => replay::run_replay(alloc, reader, writer),
         Chosen::Shown(status) => status,
     }
 }

@@ -2,7 +2,7 @@
 ghost use Rattle.std.specs.Prelude.{◌≡◌, IsNone, IsSome, IsTrue, OnErr};
 ghost use Rattle.std.specs.Io.KnownBytes.{Appends};
 ghost use Rattle.pmg_value.specs.Written.{AppendsFront, Writes};
-ghost use Rattle.pmg_app.specs.Output.{failure_status, failure_line, refusal_line, stream_line, in_stream, outcome_output, IsStatus, Prints};
+ghost use Rattle.pmg_app.specs.Output.{failure_status, failure_line, refusal_line, stream_line, in_stream, outcome_output, status_alone, IsStatus, Prints};
 
 use crate::status::{DONE, FAILED, NO_MEMORY};
 use pmg_store::Failure;
@@ -22,6 +22,19 @@ pub fn conclude<W: Write>(writer: &mut WatchedWriter<W>, outcome: Result<(), Fai
         Ok(()) => DONE,
         Err(failure) => report(writer, &failure),
     };
+    finish(writer, status)
+}
+
+/// Ends a command that has printed all of its lines: flushes the writer, and answers the status, which is 1 where the
+/// writer has failed.
+pub fn finish<W: Write>(writer: &mut WatchedWriter<W>, status: u8) -> u8
+    requires { IsStatus status }
+    ensures printed { Prints (W.contents writer.old.writer) (W.contents writer.new.writer) writer.new.failure
+        result (status_alone status) }
+    ensures kept { IsSome writer.old.failure → IsSome writer.new.failure }
+    ensures flushed { IsNone writer.new.failure → IsTrue writer.new.is_flushed }
+    ensures status { IsStatus result }
+{
     writer.flush();
     if writer.has_failed() { FAILED } else { status }
 }

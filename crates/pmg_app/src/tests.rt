@@ -33,14 +33,14 @@ impl<'a> Read for FailingReader<'a> {
 
 // Takes at most seven bytes a write, `writes` times, and then fails. Where `flushes` is false, flushing fails.
 #[derive(Drop)]
-struct FailingWriter {
-    held: Vec<u8>,
+pub struct FailingWriter {
+    pub held: Vec<u8>,
     writes: usize,
     flushes: bool,
 }
 
 impl FailingWriter {
-    fn new(alloc: Global, writes: usize, flushes: bool) -> FailingWriter {
+    pub fn new(alloc: Global, writes: usize, flushes: bool) -> FailingWriter {
         FailingWriter {
             held: Vec::new(alloc),
             writes,
@@ -78,7 +78,7 @@ pub fn run_on(alloc: Global, chosen: Chosen, text: &[u8]) -> (u8, Vec<u8>) {
 }
 
 // The same with this writer: the status, and the writer.
-fn run_into(
+pub fn run_into(
     alloc: Global,
     chosen: Chosen,
     text: &[u8],
@@ -91,9 +91,14 @@ fn run_into(
 }
 
 // The same with a reader that fails at the read of that number: the status, how often it was read, and what is printed.
-fn run_failing(alloc: Global, chosen: Chosen, fails_at: usize) -> (u8, usize, Vec<u8>) {
+pub fn run_failing(
+    alloc: Global,
+    chosen: Chosen,
+    text: &[u8],
+    fails_at: usize,
+) -> (u8, usize, Vec<u8>) {
     let mut reader = WatchedReader::new(FailingReader {
-        text: ONE_CONTRIBUTION,
+        text,
         reads: 0,
         fails_at,
     });
@@ -107,6 +112,7 @@ fn words_ask_for_commands_help_and_the_version(rt: HostRuntime) -> io::Result<()
     let cases = [
         ("dump", Chosen::Dump),
         ("merge", Chosen::Merge),
+        ("replay", Chosen::Replay),
         ("help", Chosen::Shown(0)),
         ("-h", Chosen::Shown(0)),
         ("--help", Chosen::Shown(0)),
@@ -165,7 +171,7 @@ fn a_fault_prints_its_line_alone(rt: HostRuntime) {
 
 #[test]
 fn nothing_in_prints_nothing(rt: HostRuntime) {
-    for chosen in [Chosen::Dump, Chosen::Merge] {
+    for chosen in [Chosen::Dump, Chosen::Merge, Chosen::Replay] {
         let (status, printed) = run_on(rt.alloc(), chosen, b"");
         assert_eq!(rt; status, 0);
         assert!(rt; printed.is_empty());
@@ -190,7 +196,12 @@ fn input_without_end_is_refused(rt: HostRuntime) {
 fn a_failing_reader_prints_read_fault_alone(rt: HostRuntime) {
     for chosen in [Chosen::Dump, Chosen::Merge] {
         for fails_at in 1..=10 {
-            let (status, reads, printed) = run_failing(rt.alloc(), chosen, fails_at);
+            let (status, reads, printed) = run_failing(
+                rt.alloc(),
+                chosen,
+                ONE_CONTRIBUTION,
+                fails_at,
+            );
             assert_eq!(rt; status, 1, "at {fails_at}");
             assert_eq!(rt; reads, fails_at);
             assert_eq!(rt;

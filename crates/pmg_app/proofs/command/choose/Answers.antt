@@ -5,8 +5,9 @@ use Rattle.clap.specs.Faults.{fault_of, is_simple_and_free}
 use Rattle.clap.specs.Values.{kind_of}
 use Rattle.clap.specs.Kinds.{HasKind}
 use Rattle.clap.specs.declared.error.kind.ErrorKind.TheVariants.{DisplayHelp, DisplayVersion, MissingSubcommand}
+use Rattle.pmg_app.specs.declared.command.Chosen.TheVariants.{Dump, Merge, Replay}
 use Rattle.pmg_app.specs.CommandLine.{program, command_in, chosen_of}
-use Rattle.pmg_app.proofs.CommandLemmas.{is_simple_program, is_simple_line, name_beside, shown_is_chosen, named_is_chosen, is_dump, is_merge, is_shown, is_wanting, err_where, of_dump, of_merge, dump_in, merge_in, of_help, of_version, of_name}
+use Rattle.pmg_app.proofs.CommandLemmas.{is_simple_program, is_simple_line, name_beside, shown_is_chosen, named_is_chosen, is_command, is_shown, is_wanting, err_where, of_dump, of_merge, of_replay, dump_in, merge_in, replay_in, of_help, of_version, of_name}
 use Rattle.pmg_app.proofs.command.choose.Goals as goal
 
 pub returns-in-Ok-clause-chosen : goal.returns-in-Ok-clause-chosen
@@ -20,12 +21,17 @@ returns-in-Ok-clause-chosen g c =
 pub returns-in-Ok-clause-dump : goal.returns-in-Ok-clause-dump
 returns-in-Ok-clause-dump g c = λ name line.
     let words = map g.S.AsStr.text c.args.words.now in
-    is_dump {E = Unit {0}} (Ok c.chosen_by.result) words (ap (fault_of program) line ∙ of_dump name) (ap (λ ws. chosen_of (command_in ws)) line ∙ dump_in name) (returns-in-Ok-clause-chosen g c)
+    is_command {E = Unit {0}} (Ok c.chosen_by.result) words Dump (ap (fault_of program) line ∙ of_dump name) (ap (λ ws. chosen_of (command_in ws)) line ∙ dump_in name) (returns-in-Ok-clause-chosen g c)
 
 pub returns-in-Ok-clause-merge : goal.returns-in-Ok-clause-merge
 returns-in-Ok-clause-merge g c = λ name line.
     let words = map g.S.AsStr.text c.args.words.now in
-    is_merge {E = Unit {0}} (Ok c.chosen_by.result) words (ap (fault_of program) line ∙ of_merge name) (ap (λ ws. chosen_of (command_in ws)) line ∙ merge_in name) (returns-in-Ok-clause-chosen g c)
+    is_command {E = Unit {0}} (Ok c.chosen_by.result) words Merge (ap (fault_of program) line ∙ of_merge name) (ap (λ ws. chosen_of (command_in ws)) line ∙ merge_in name) (returns-in-Ok-clause-chosen g c)
+
+pub returns-in-Ok-clause-replay : goal.returns-in-Ok-clause-replay
+returns-in-Ok-clause-replay g c = λ name line.
+    let words = map g.S.AsStr.text c.args.words.now in
+    is_command {E = Unit {0}} (Ok c.chosen_by.result) words Replay (ap (fault_of program) line ∙ of_replay name) (ap (λ ws. chosen_of (command_in ws)) line ∙ replay_in name) (returns-in-Ok-clause-chosen g c)
 
 pub returns-in-Ok-clause-help : goal.returns-in-Ok-clause-help
 returns-in-Ok-clause-help g c = λ name line.
@@ -52,12 +58,17 @@ returns-in-Err-clause-chosen g c =
 pub returns-in-Err-clause-dump : goal.returns-in-Err-clause-dump
 returns-in-Err-clause-dump g c = λ name line.
     let words = map g.S.AsStr.text c.args.words.now in
-    is_dump c.show.result words (ap (fault_of program) line ∙ of_dump name) (ap (λ ws. chosen_of (command_in ws)) line ∙ dump_in name) (returns-in-Err-clause-chosen g c)
+    is_command c.show.result words Dump (ap (fault_of program) line ∙ of_dump name) (ap (λ ws. chosen_of (command_in ws)) line ∙ dump_in name) (returns-in-Err-clause-chosen g c)
 
 pub returns-in-Err-clause-merge : goal.returns-in-Err-clause-merge
 returns-in-Err-clause-merge g c = λ name line.
     let words = map g.S.AsStr.text c.args.words.now in
-    is_merge c.show.result words (ap (fault_of program) line ∙ of_merge name) (ap (λ ws. chosen_of (command_in ws)) line ∙ merge_in name) (returns-in-Err-clause-chosen g c)
+    is_command c.show.result words Merge (ap (fault_of program) line ∙ of_merge name) (ap (λ ws. chosen_of (command_in ws)) line ∙ merge_in name) (returns-in-Err-clause-chosen g c)
+
+pub returns-in-Err-clause-replay : goal.returns-in-Err-clause-replay
+returns-in-Err-clause-replay g c = λ name line.
+    let words = map g.S.AsStr.text c.args.words.now in
+    is_command c.show.result words Replay (ap (fault_of program) line ∙ of_replay name) (ap (λ ws. chosen_of (command_in ws)) line ∙ replay_in name) (returns-in-Err-clause-chosen g c)
 
 pub returns-in-Err-clause-help : goal.returns-in-Err-clause-help
 returns-in-Err-clause-help g c = λ name line.
