@@ -3,7 +3,7 @@ use Rattle.std.proofs.Common.{◌≡◌, ℕ, List, Option, Some, None, Result, 
 use Rattle.std.specs.Prelude.{IfErr, IfSome, IsSome}
 use Rattle.pmg_store.specs.declared.failure.Failure.{Failure}
 use Rattle.pmg_store.specs.declared.failure.Failure.TheVariants as failures
-use Rattle.pmg_world.specs.declared.playing.Ended.{Ended}
+use Rattle.pmg_script.specs.declared.playing.Ended.{Ended}
 use Rattle.pmg_app.specs.Output.{Prints}
 use Rattle.pmg_app.specs.Replay.{IsReplayed, PrintsReplies, script_output}
 

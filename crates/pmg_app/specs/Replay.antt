@@ -2,11 +2,11 @@
 use Rattle.std.specs.Prelude.{◌≡◌, ℕ, List, Option, Result, Ok, Err, IfErr, IsSome}
 use Rattle.pmg_store.specs.declared.failure.Failure.{Failure}
 use Rattle.pmg_store.specs.declared.failure.Failure.TheVariants as failures
-use Rattle.pmg_world.specs.Replays.{Replayed}
+use Rattle.pmg_script.specs.Replays.{Replayed}
 use Rattle.pmg_world.specs.Stages.{PlaysLine, Stops, is_over}
 use Rattle.pmg_world.specs.declared.phase.Phase.TheVariants as phases
-use Rattle.pmg_world.specs.declared.playing.Ended.{Ended}
-use Rattle.pmg_world.specs.declared.playing.Ended.TheVariants as ends
+use Rattle.pmg_script.specs.declared.playing.Ended.{Ended}
+use Rattle.pmg_script.specs.declared.playing.Ended.TheVariants as ends
 use Rattle.pmg_app.specs.Output.{Output, Prints, status_alone, failure_output}
 
 -- The first lines of the text were done, from no group at all to what they made of one, and their replies were written; and it ended there.

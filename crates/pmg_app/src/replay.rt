@@ -5,9 +5,10 @@ ghost use Rattle.pmg_app.specs.Replay.{script_output, PrintsReplies};
 
 use crate::reporting::{conclude, finish};
 use crate::status::FAILED;
+use pmg_script::Ended;
 use pmg_store::{Failure, MOST_READS, WatchedReader};
 use pmg_value::WatchedWriter;
-use pmg_world::{Ended, replay};
+use pmg_world::replay;
 use std::alloc::Global;
 use std::io::{Read, Write};
 

@@ -2,13 +2,13 @@
 use Rattle.std.proofs.Common.{◌≡◌, false, List, [], Ok, Err, ap, ◌∙◌}
 use Rattle.pmg_value.specs.CheckOrder.{first_of}
 use Rattle.pmg_value.specs.declared.refusal.Refusal.{Refusal}
-use Rattle.pmg_node.specs.Acts.{Act, Reply, Done, done_as, cause, does, acts}
-use Rattle.pmg_node.specs.Choosing.{Out, due_by, marked_by_act, sends, chosen}
-use Rattle.pmg_node.specs.Holdings.{Holding, sealer_of, settled}
-use Rattle.pmg_node.specs.Sending.{is_quiet}
+use Rattle.pmg_rules.specs.Acts.{Act, Reply, Done, done_as, cause, does, acts}
+use Rattle.pmg_rules.specs.Choosing.{Out, due_by, marked_by_act, sends, chosen}
+use Rattle.pmg_rules.specs.Holdings.{Holding, sealer_of, settled}
+use Rattle.pmg_rules.specs.Sending.{is_quiet}
 use Rattle.pmg_node.specs.Servers.{Server, reply_to, sent_by, after}
-use Rattle.pmg_node.specs.declared.due.Due.{Due}
-use Rattle.pmg_node.specs.declared.sent.Sent.{Sent}
+use Rattle.pmg_rules.specs.declared.due.Due.{Due}
+use Rattle.pmg_rules.specs.declared.sent.Sent.{Sent}
 use Rattle.pmg_node.proofs.SilentLemmas.{act_free, act_refused, refused_silent, sent_as, after_is, sent_none}
 
 -- an act that is refused changes nothing

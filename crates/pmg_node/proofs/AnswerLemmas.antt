@@ -33,15 +33,15 @@ use Rattle.pmg_get.specs.Gets.{Seen, Outcome, resolve}
 use Rattle.pmg_get.specs.declared.view.Mode.TheVariants as modes
 use Rattle.pmg_node.specs.Answered.{ArePlain, standings, outcome_with, answered_by, gets_answered, released_all, released_in, released_with}
 use Rattle.pmg_node.specs.Calls.{get_of, standing_of, asks_on, all_parked_on, waits_in, all_waiting_in, all_waited, all_instead}
-use Rattle.pmg_node.specs.Choosing.{waited}
+use Rattle.pmg_rules.specs.Choosing.{waited}
 use Rattle.pmg_node.specs.Codes.{Calls}
-use Rattle.pmg_node.specs.Holdings.{Get, Standing, Holding, plain_seen, seen_of, answer_in, is_ready_at, settled_by, released_by, settle, mapped}
-use Rattle.pmg_node.specs.Kept.{IsSettled, is_about, is_in, settle_where}
+use Rattle.pmg_rules.specs.Holdings.{Get, Standing, Holding, plain_seen, seen_of, answer_in, is_ready_at, settled_by, released_by, settle, mapped}
+use Rattle.pmg_rules.specs.Kept.{IsSettled, is_about, is_in, settle_where}
 use Rattle.pmg_node.specs.declared.call.Call.{Call}
 use Rattle.pmg_node.proofs.CallLemmas.{answer_for, all_answered}
-use Rattle.pmg_node.proofs.KeptActs.{parked_key}
-use Rattle.pmg_node.proofs.KeptBasics.{entry_listed}
-use Rattle.pmg_node.proofs.SendingLists.{in_flat, flat_in}
+use Rattle.pmg_rules.proofs.KeptActs.{parked_key}
+use Rattle.pmg_rules.proofs.KeptBasics.{entry_listed}
+use Rattle.pmg_rules.proofs.SendingLists.{in_flat, flat_in}
 
 -- ---- the first answer for a process
 

@@ -26,11 +26,11 @@ use Rattle.pmg_get.specs.Gets.{Outcome}
 use Rattle.pmg_get.specs.declared.view.Mode.TheVariants as modes
 use Rattle.pmg_node.specs.Answered.{ArePlain, outcome_with, still_waits, home_ask, asked_for}
 use Rattle.pmg_node.specs.Calls.{get_of, asks_on, all_parked_on}
-use Rattle.pmg_node.specs.Choosing.{asking, asking_again, is_parked_on}
+use Rattle.pmg_rules.specs.Choosing.{asking, asking_again, is_parked_on}
 use Rattle.pmg_node.specs.Codes.{Calls}
-use Rattle.pmg_node.specs.Holdings.{Get, Standing, Holding, answer_in, is_ready_at, settled_by, released_by, mapped}
-use Rattle.pmg_node.specs.Kept.{is_about, settle_where}
-use Rattle.pmg_node.specs.declared.due.Due.{Due}
+use Rattle.pmg_rules.specs.Holdings.{Get, Standing, Holding, answer_in, is_ready_at, settled_by, released_by, mapped}
+use Rattle.pmg_rules.specs.Kept.{is_about, settle_where}
+use Rattle.pmg_rules.specs.declared.due.Due.{Due}
 use Rattle.pmg_node.proofs.AnswerLemmas.{plain_outcome}
 
 -- the calls that f makes, in the order of their processes

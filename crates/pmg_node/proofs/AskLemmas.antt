@@ -22,17 +22,17 @@ use Rattle.pmg_jobinfo.specs.Jobs.{Jobs, is_node, is_registered, is_member, home
 use Rattle.pmg_jobinfo.specs.Refusing.{reserved_cause}
 use Rattle.pmg_jobinfo.specs.Reserved.{is_general, reserved_value}
 use Rattle.pmg_dmodex.specs.Levels.{Levels}
-use Rattle.pmg_node.specs.Acts.{Act, Request, Reply, Done, also, caller_cause, busy_cause, free_cause, target_cause, is_misnamed, cause, request_cause, reply_of, done_as, asks, serves, does, acts}
-use Rattle.pmg_node.specs.Choosing.{Out, asking, asking_for, due_by, due_by_request, marked_by_act, sends, chosen}
-use Rattle.pmg_node.specs.Holdings.{Get, Standing, Holding, sealer_of, call_of, called, answer_in, seen_of, settled}
-use Rattle.pmg_node.specs.Kept.{IsSettled}
-use Rattle.pmg_node.specs.Sending.{is_quiet}
+use Rattle.pmg_rules.specs.Acts.{Act, Request, Reply, Done, also, caller_cause, busy_cause, free_cause, target_cause, is_misnamed, cause, request_cause, reply_of, done_as, asks, serves, does, acts}
+use Rattle.pmg_rules.specs.Choosing.{Out, asking, asking_for, due_by, due_by_request, marked_by_act, sends, chosen}
+use Rattle.pmg_rules.specs.Holdings.{Get, Standing, Holding, sealer_of, call_of, called, answer_in, seen_of, settled}
+use Rattle.pmg_rules.specs.Kept.{IsSettled}
+use Rattle.pmg_rules.specs.Sending.{is_quiet}
 use Rattle.pmg_node.specs.Servers.{Server, Refuses, reply_to, sent_by, after}
-use Rattle.pmg_node.specs.declared.due.Due.{Due}
+use Rattle.pmg_rules.specs.declared.due.Due.{Due}
 use Rattle.pmg_node.proofs.ActLemmas.{accepted_after, accepted_sent}
-use Rattle.pmg_node.proofs.CallFacts.{call-called}
-use Rattle.pmg_node.proofs.CauseFacts.{NoCause, by_causes, neither, neither_cause, free_is}
-use Rattle.pmg_node.proofs.KeptSettled.{settled_same, resolve_parks, parked_settled}
+use Rattle.pmg_rules.proofs.CallFacts.{call-called}
+use Rattle.pmg_rules.proofs.CauseFacts.{NoCause, by_causes, neither, neither_cause, free_is}
+use Rattle.pmg_rules.proofs.KeptSettled.{settled_same, resolve_parks, parked_settled}
 use Rattle.pmg_node.proofs.RefusalLemmas.{fails_as}
 use Rattle.pmg_node.proofs.SilentLemmas.{act_free, none_due, after_is, sent_none}
 

@@ -14,8 +14,8 @@ use Rattle.pmg_value.proofs.RowLemmas.{at_key, same_option, entries_rising, get-
 use Rattle.pmg_fence.specs.Entering.{same_proc}
 use Rattle.pmg_node.specs.Calls.{standing_of, asks_on, all_parked_on, all_instead}
 use Rattle.pmg_node.specs.Codes.{Calls}
-use Rattle.pmg_node.specs.Choosing.{is_parked_on}
-use Rattle.pmg_node.specs.Holdings.{Standing, mapped}
+use Rattle.pmg_rules.specs.Choosing.{is_parked_on}
+use Rattle.pmg_rules.specs.Holdings.{Standing, mapped}
 use Rattle.pmg_node.specs.declared.call.Call.{Call}
 
 -- what is gathered of the rows in their order

@@ -8,12 +8,12 @@ use Rattle.pmg_frame.specs.declared.frame.Frame.{Frame}
 use Rattle.pmg_frame.specs.declared.frame.Frame.TheVariants as frames
 use Rattle.pmg_jobinfo.specs.Jobs.{Jobs, home_of}
 use Rattle.pmg_dmodex.specs.Levels.{Levels}
-use Rattle.pmg_node.specs.Acts.{Act, Reply, done_as, holds_unless, cause, is_known, is_peer, is_taken, receives, does, acts}
-use Rattle.pmg_node.specs.Choosing.{Out, asked_marks, answering, due_by, due_by_frame, marked_by_act, sends, chosen}
-use Rattle.pmg_node.specs.Holdings.{Holding, sealer_of, holding_ask, settled}
-use Rattle.pmg_node.specs.Kept.{IsSettled}
+use Rattle.pmg_rules.specs.Acts.{Act, Reply, done_as, holds_unless, cause, is_known, is_peer, is_taken, receives, does, acts}
+use Rattle.pmg_rules.specs.Choosing.{Out, asked_marks, answering, due_by, due_by_frame, marked_by_act, sends, chosen}
+use Rattle.pmg_rules.specs.Holdings.{Holding, sealer_of, holding_ask, settled}
+use Rattle.pmg_rules.specs.Kept.{IsSettled}
 use Rattle.pmg_node.specs.Servers.{Server}
-use Rattle.pmg_node.proofs.KeptSettled.{settled_same}
+use Rattle.pmg_rules.proofs.KeptSettled.{settled_same}
 use Rattle.pmg_node.proofs.SilentLemmas.{act_free, sent_as, quiet_silent}
 
 pub below_is : (m n : ℕ) → m < n → nat_lt m n ≡ true

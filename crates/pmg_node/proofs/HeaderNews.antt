@@ -13,11 +13,11 @@ use Rattle.pmg_fence.specs.Entering.{lines, told, locals_of}
 use Rattle.pmg_fence.specs.Tables.{Fences, has_name, entry_at, own_header}
 use Rattle.pmg_fence.specs.declared.entry.Entry.{Entry}
 use Rattle.pmg_fence.proofs.LimitLemmas.{lines_procs}
-use Rattle.pmg_node.specs.Choosing.{peers_in, telling, announcing}
-use Rattle.pmg_node.specs.Sending.{sent}
+use Rattle.pmg_rules.specs.Choosing.{peers_in, telling, announcing}
+use Rattle.pmg_rules.specs.Sending.{sent}
 use Rattle.pmg_node.specs.Telling.{telling_by, announcing_by}
-use Rattle.pmg_node.specs.declared.due.Due.{Due}
-use Rattle.pmg_node.specs.declared.due.Due.TheVariants as sendings
+use Rattle.pmg_rules.specs.declared.due.Due.{Due}
+use Rattle.pmg_rules.specs.declared.due.Due.TheVariants as sendings
 
 -- the processes that a header lists
 abbrev pub procs_of : List Local → List Proc

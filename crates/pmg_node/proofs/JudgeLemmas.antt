@@ -5,8 +5,8 @@ use Rattle.pmg_value.specs.declared.process.Proc.{Proc}
 use Rattle.pmg_value.specs.declared.refusal.Refusal.{Refusal}
 use Rattle.pmg_value.specs.declared.refusal.Refusal.TheVariants as refusals
 use Rattle.pmg_jobinfo.specs.Jobs.{Jobs}
-use Rattle.pmg_node.specs.Acts.{caller_cause, free_cause}
-use Rattle.pmg_node.specs.Holdings.{Holding, call_of}
+use Rattle.pmg_rules.specs.Acts.{caller_cause, free_cause}
+use Rattle.pmg_rules.specs.Holdings.{Holding, call_of}
 
 -- whoever may call is refused where it is in a call
 abbrev pub then_busy : Result (Unit {0}) Refusal → Bool → Result (Unit {0}) Refusal

@@ -13,11 +13,11 @@ use Rattle.pmg_frame.specs.declared.frame.Frame.TheVariants as frames
 use Rattle.pmg_jobinfo.specs.Jobs.{Jobs}
 use Rattle.pmg_get.specs.Gets.{Outcome}
 use Rattle.std.specs.Prelude.{nat_lt, if◌then◌else◌}
-use Rattle.pmg_node.specs.Acts.{Act, Request, Reply, done_as, members_of, is_taken, holds_unless, receives, leaves, takes, asks, serves, does, acts}
-use Rattle.pmg_node.specs.Holdings.{Get, Standing, Holding, sealing, sealer_of, call_of, answer_in}
+use Rattle.pmg_rules.specs.Acts.{Act, Request, Reply, done_as, members_of, is_taken, holds_unless, receives, leaves, takes, asks, serves, does, acts}
+use Rattle.pmg_rules.specs.Holdings.{Get, Standing, Holding, sealing, sealer_of, call_of, answer_in}
 use Rattle.pmg_node.specs.Servers.{Server, after, HasSealers, IsNode}
-use Rattle.pmg_node.proofs.KeptActs.{server_stays}
-use Rattle.pmg_node.proofs.KeptBasics.{act_cases}
+use Rattle.pmg_rules.proofs.KeptActs.{server_stays}
+use Rattle.pmg_rules.proofs.KeptBasics.{act_cases}
 
 still_there : (h : Holding) (by : Proc) (z : Sealed) (p : Proc) (b : Bool) → is_some (finite.get h.sealers p) ≡ true → is_some (finite.get (cond b h.sealers (finite.insert h.sealers by z)) p) ≡ true
 still_there h by z p true there = there

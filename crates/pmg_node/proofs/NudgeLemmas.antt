@@ -8,16 +8,16 @@ use Rattle.std.proofs.lemmas.List.Concat.{flat_map-append}
 use Rattle.pmg_value.specs.CheckOrder.{first_of}
 use Rattle.pmg_value.specs.declared.process.Proc.{Proc}
 use Rattle.pmg_jobinfo.specs.Jobs.{Jobs}
-use Rattle.pmg_node.specs.Acts.{Act, Request, Reply, cause, request_cause, serves, does}
+use Rattle.pmg_rules.specs.Acts.{Act, Request, Reply, cause, request_cause, serves, does}
 use Rattle.pmg_node.specs.Calls.{target_of, all_targets}
-use Rattle.pmg_node.specs.Choosing.{Out, asking, asking_for, nudging, due_by, due_by_request, marked_by_act, sends}
-use Rattle.pmg_node.specs.Holdings.{Standing, Holding, sealer_of}
-use Rattle.pmg_node.specs.Kept.{IsSettled}
+use Rattle.pmg_rules.specs.Choosing.{Out, asking, asking_for, nudging, due_by, due_by_request, marked_by_act, sends}
+use Rattle.pmg_rules.specs.Holdings.{Standing, Holding, sealer_of}
+use Rattle.pmg_rules.specs.Kept.{IsSettled}
 use Rattle.pmg_node.specs.Servers.{Server, reply_to, sent_by, after}
-use Rattle.pmg_node.specs.declared.due.Due.{Due}
+use Rattle.pmg_rules.specs.declared.due.Due.{Due}
 use Rattle.pmg_node.proofs.ActLemmas.{accepted_reply, accepted_after, accepted_sent}
 use Rattle.pmg_node.proofs.FrameLemmas.{with_marks}
-use Rattle.pmg_node.proofs.KeptSettled.{settled_same}
+use Rattle.pmg_rules.proofs.KeptSettled.{settled_same}
 
 -- ---- gets that wait
 

@@ -11,10 +11,10 @@ use Rattle.pmg_commit.specs.Sealed.{fresh}
 use Rattle.pmg_jobinfo.specs.Jobs.{Jobs, AreJobs, is_node}
 use Rattle.pmg_jobinfo.specs.Procs.{procs_at}
 use Rattle.pmg_jobinfo.proofs.ListedLemmas.{own_are_listed}
-use Rattle.pmg_node.specs.Holdings.{new_holding}
+use Rattle.pmg_rules.specs.Holdings.{new_holding}
 use Rattle.pmg_node.specs.Opening.{new_server}
 use Rattle.pmg_node.specs.Servers.{HasSealers, IsNode}
-use Rattle.pmg_node.proofs.KeptActs.{new_is_server}
+use Rattle.pmg_rules.proofs.KeptActs.{new_is_server}
 
 -- each of them has its place
 fresh_at : (ps : List Proc) (p : Proc) → In p ps → is_some (at_key proc_cmp p (map (λ p. (p, fresh p)) ps)) ≡ true

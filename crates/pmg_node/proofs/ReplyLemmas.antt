@@ -14,16 +14,16 @@ use Rattle.pmg_frame.specs.declared.frame.Frame.{Frame}
 use Rattle.pmg_jobinfo.specs.Jobs.{Jobs}
 use Rattle.pmg_get.specs.Gets.{Outcome}
 use Rattle.pmg_node.specs.Acting.{acted_reply, commit_joins, joins_in, joins_none, SameAnswer}
-use Rattle.pmg_node.specs.Acts.{Act, Request, Reply, Done, done_as, reply_of, cause, request_cause, is_taken, receives, serves, does, ends_as, leaves, takes, over, acts}
-use Rattle.pmg_node.specs.Holdings.{Standing, Holding, sealer_in, sealer_of, call_of}
+use Rattle.pmg_rules.specs.Acts.{Act, Request, Reply, Done, done_as, reply_of, cause, request_cause, is_taken, receives, serves, does, ends_as, leaves, takes, over, acts}
+use Rattle.pmg_rules.specs.Holdings.{Standing, Holding, sealer_in, sealer_of, call_of}
 use Rattle.pmg_node.specs.Servers.{Server, reply_to, after, reply_in, Refuses, Replies, RefusesEntry, RepliesEntry, IsAnswered, IsEntryAccepted}
 use Rattle.pmg_node.specs.Joining.{Joins, no_joins, seal_joins, act_joins, joins}
-use Rattle.pmg_node.specs.Sending.{is_quiet}
+use Rattle.pmg_rules.specs.Sending.{is_quiet}
 use Rattle.pmg_node.specs.declared.act.Acted.{Acted}
 use Rattle.pmg_node.specs.declared.committing.Committed.{Committed}
 use Rattle.pmg_node.specs.Replies.{ended_reply}
 use Rattle.pmg_node.proofs.JoiningLemmas.{joins_loud}
-use Rattle.pmg_node.proofs.KeptChanges.{sealer_there}
+use Rattle.pmg_rules.proofs.KeptChanges.{sealer_there}
 use Rattle.pmg_node.proofs.SilentLemmas.{then_answer, acts_by}
 
 -- a refusal that is due is told

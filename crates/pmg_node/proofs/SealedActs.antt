@@ -7,21 +7,21 @@ use Rattle.pmg_commit.specs.Data.{absorbed}
 use Rattle.pmg_commit.specs.Knowledge.{Contribution}
 use Rattle.pmg_commit.specs.Sealed.{Sealed, piece_at}
 use Rattle.pmg_dmodex.specs.Levels.{without_below}
-use Rattle.pmg_node.specs.Acts.{Act, Reply, Done, done_as, cause, does}
+use Rattle.pmg_rules.specs.Acts.{Act, Reply, Done, done_as, cause, does}
 use Rattle.pmg_node.specs.Answering.{AreAnswers}
 use Rattle.pmg_node.specs.Calls.{all_instead}
-use Rattle.pmg_node.specs.Choosing.{due_by, marked_by_act, sends, settling}
-use Rattle.pmg_node.specs.Holdings.{Holding, sealer_in, sealer_of, sealers_with, sets_with, sealing, with_calls, settled}
-use Rattle.pmg_node.specs.Kept.{is_about}
+use Rattle.pmg_rules.specs.Choosing.{due_by, marked_by_act, sends, settling}
+use Rattle.pmg_rules.specs.Holdings.{Holding, sealer_in, sealer_of, sealers_with, sets_with, sealing, with_calls, settled}
+use Rattle.pmg_rules.specs.Kept.{is_about}
 use Rattle.pmg_node.specs.Owns.{Own, sealed_of}
-use Rattle.pmg_node.specs.Sending.{is_quiet}
+use Rattle.pmg_rules.specs.Sending.{is_quiet}
 use Rattle.pmg_node.specs.Servers.{Server, IsNode, reply_to, sent_by, after}
 use Rattle.pmg_node.specs.Telling.{settling_by}
 use Rattle.pmg_node.specs.declared.call.Call.{Call}
-use Rattle.pmg_node.specs.declared.due.Due.{Due}
+use Rattle.pmg_rules.specs.declared.due.Due.{Due}
 use Rattle.pmg_node.proofs.ActLemmas.{accepted_reply, accepted_after, accepted_sent}
-use Rattle.pmg_node.proofs.KeptAgain.{settled_on, sealing_differs}
-use Rattle.pmg_node.proofs.KeptChanges.{sealer_there}
+use Rattle.pmg_rules.proofs.KeptAgain.{settled_on, sealing_differs}
+use Rattle.pmg_rules.proofs.KeptChanges.{sealer_there}
 
 -- An act that is not refused, and seals this for the process; after what nodes waited for, more may be due.
 pub record Seals (s : Server) (a : Act) (p : Proc) (z : Sealed) (reply : Reply) (more : (Proc → Sealed) → List Due) : Type 0 where

@@ -7,11 +7,11 @@ use Rattle.pmg_commit.specs.Sealed.{Sealed}
 use Rattle.pmg_frame.specs.declared.frame.Frame.{Frame}
 use Rattle.pmg_frame.specs.declared.frame.Frame.TheVariants as frames
 use Rattle.pmg_dmodex.specs.Levels.{Levels, level_at, with_level}
-use Rattle.pmg_node.specs.Choosing.{frame_for, marked_by, marked_if, sends}
+use Rattle.pmg_rules.specs.Choosing.{frame_for, marked_by, marked_if, sends}
 use Rattle.pmg_node.specs.Marking.{marks_back, AreSet}
-use Rattle.pmg_node.specs.declared.due.Due.{Due}
+use Rattle.pmg_rules.specs.declared.due.Due.{Due}
 use Rattle.pmg_node.specs.declared.due.MarkBefore.{MarkBefore}
-use Rattle.pmg_node.specs.declared.sent.Sent.{Sent}
+use Rattle.pmg_rules.specs.declared.sent.Sent.{Sent}
 use Rattle.pmg_node.proofs.MarkLemmas.{set_back_is, set_stays, back_snoc, each_stays, each_snoc}
 
 -- one more is sent

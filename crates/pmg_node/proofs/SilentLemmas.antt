@@ -5,15 +5,15 @@ use Rattle.pmg_value.specs.declared.process.Proc.{Proc}
 use Rattle.pmg_value.specs.declared.refusal.Refusal.{Refusal}
 use Rattle.pmg_jobinfo.specs.Jobs.{Jobs}
 use Rattle.pmg_dmodex.specs.Levels.{Levels}
-use Rattle.pmg_node.specs.Acts.{Act, Request, Reply, Done, done_as, reply_of, cause, request_cause, caller_cause, serves, does, leaves, takes, over, acts}
-use Rattle.pmg_node.specs.Choosing.{Out, due_by, due_by_request, marked_by_act, sends, chosen}
-use Rattle.pmg_node.specs.Holdings.{Standing, Holding, sealer_of, call_of, uncalled, settled}
-use Rattle.pmg_node.specs.Kept.{IsSettled}
+use Rattle.pmg_rules.specs.Acts.{Act, Request, Reply, Done, done_as, reply_of, cause, request_cause, caller_cause, serves, does, leaves, takes, over, acts}
+use Rattle.pmg_rules.specs.Choosing.{Out, due_by, due_by_request, marked_by_act, sends, chosen}
+use Rattle.pmg_rules.specs.Holdings.{Standing, Holding, sealer_of, call_of, uncalled, settled}
+use Rattle.pmg_rules.specs.Kept.{IsSettled}
 use Rattle.pmg_node.specs.Replies.{stays_reply, released_reply, pending_reply, answered_reply}
-use Rattle.pmg_node.specs.Sending.{is_quiet}
+use Rattle.pmg_rules.specs.Sending.{is_quiet}
 use Rattle.pmg_node.specs.Servers.{Server, sent_by, after}
-use Rattle.pmg_node.proofs.KeptBasics.{removed_some}
-use Rattle.pmg_node.proofs.KeptSettled.{settled_same}
+use Rattle.pmg_rules.proofs.KeptBasics.{removed_some}
+use Rattle.pmg_rules.proofs.KeptSettled.{settled_same}
 
 -- the answer where nothing is refused
 abbrev pub then_answer : {Y : Type 0} → Result (Unit {0}) Refusal → Y → Result Y Refusal

@@ -15,12 +15,12 @@ use Rattle.pmg_get.specs.Gets.{Outcome, resolve}
 use Rattle.pmg_get.specs.declared.view.Mode.TheVariants as modes
 use Rattle.pmg_node.specs.Calls.{get_of, standing_of, outcome_of, all_waiting_in, all_waited}
 use Rattle.pmg_node.specs.Codes.{Calls}
-use Rattle.pmg_node.specs.Holdings.{Get, Standing, plain_seen}
-use Rattle.pmg_node.specs.Sending.{sent}
+use Rattle.pmg_rules.specs.Holdings.{Get, Standing, plain_seen}
+use Rattle.pmg_rules.specs.Sending.{sent}
 use Rattle.pmg_node.specs.declared.call.Call.{Call}
 use Rattle.pmg_node.specs.declared.call.Found.{Found}
-use Rattle.pmg_node.specs.declared.due.Due.{Due}
-use Rattle.pmg_node.specs.declared.due.Due.TheVariants as sendings
+use Rattle.pmg_rules.specs.declared.due.Due.{Due}
+use Rattle.pmg_rules.specs.declared.due.Due.TheVariants as sendings
 
 -- each get that waits is one of a key that is not reserved
 abbrev pub ArePlain : Calls → Type 0

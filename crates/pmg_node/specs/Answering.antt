@@ -5,12 +5,12 @@ use Rattle.pmg_commit.specs.Data.{Data}
 use Rattle.pmg_jobinfo.specs.Jobs.{Jobs}
 use Rattle.pmg_fence.specs.Tables.{Fences}
 use Rattle.pmg_node.specs.Calls.{all_instead}
-use Rattle.pmg_node.specs.Choosing.{asking_again}
+use Rattle.pmg_rules.specs.Choosing.{asking_again}
 use Rattle.pmg_node.specs.Codes.{Calls}
-use Rattle.pmg_node.specs.Holdings.{Standing, Holding, mapped}
-use Rattle.pmg_node.specs.Kept.{is_about, settle_where}
+use Rattle.pmg_rules.specs.Holdings.{Standing, Holding, mapped}
+use Rattle.pmg_rules.specs.Kept.{is_about, settle_where}
 use Rattle.pmg_node.specs.declared.call.Call.{Call}
-use Rattle.pmg_node.specs.declared.due.Due.{Due}
+use Rattle.pmg_rules.specs.declared.due.Due.{Due}
 
 -- The answers, in the place of the calls that they answer, are what comes of the calls where those are settled again of which
 -- the test tells so, with this table and these stores.

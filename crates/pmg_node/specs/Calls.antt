@@ -15,9 +15,9 @@ use Rattle.pmg_frame.specs.FenceOrder.{name_cmp}
 use Rattle.pmg_frame.specs.Fences.{coded_name}
 use Rattle.pmg_fence.specs.Entering.{same_proc}
 use Rattle.pmg_get.specs.Gets.{Outcome}
-use Rattle.pmg_node.specs.Choosing.{waited}
+use Rattle.pmg_rules.specs.Choosing.{waited}
 use Rattle.pmg_node.specs.Codes.{Calls}
-use Rattle.pmg_node.specs.Holdings.{Get, Standing}
+use Rattle.pmg_rules.specs.Holdings.{Get, Standing}
 use Rattle.pmg_node.specs.declared.call.Call.{Call}
 use Rattle.pmg_node.specs.declared.call.Call.TheVariants as calls
 use Rattle.pmg_node.specs.declared.call.Found.{Found}

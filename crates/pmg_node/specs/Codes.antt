@@ -12,7 +12,7 @@ use Rattle.pmg_fence.specs.Codes.{coded_fences}
 use Rattle.pmg_fence.specs.Tables.{Fences}
 use Rattle.pmg_dmodex.specs.Levels.{Levels, coded_levels}
 use Rattle.pmg_get.specs.Gets.{Outcome}
-use Rattle.pmg_node.specs.Holdings.{Get, Standing, Holding}
+use Rattle.pmg_rules.specs.Holdings.{Get, Standing, Holding}
 use Rattle.pmg_node.specs.Sealers.{AllSealed, coded_all_sealed}
 
 abbrev outcome_to : Outcome → List ℕ ⊎ ℕ

@@ -8,8 +8,8 @@ use Rattle.pmg_value.specs.declared.refusal.Refusal.TheVariants as refusals
 use Rattle.pmg_jobinfo.specs.Expansion.{expansion}
 use Rattle.pmg_jobinfo.specs.Jobs.{Jobs}
 use Rattle.pmg_fence.specs.Changes.{next_name}
-use Rattle.pmg_node.specs.Acts.{also, free_cause, list_cause, list_of, signature_of, signature_cause}
-use Rattle.pmg_node.specs.Holdings.{Holding}
+use Rattle.pmg_rules.specs.Acts.{also, free_cause, list_cause, list_of, signature_of, signature_cause}
+use Rattle.pmg_rules.specs.Holdings.{Holding}
 
 -- the caller takes part
 abbrev pub part_cause : Jobs → Proc → List Proc → Refusal → Bool

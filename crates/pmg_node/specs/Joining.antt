@@ -7,10 +7,10 @@ use Rattle.pmg_pset.specs.Sets.{host}
 use Rattle.pmg_frame.specs.declared.frame.Frame.{Frame}
 use Rattle.pmg_frame.specs.declared.frame.Frame.TheVariants as frames
 use Rattle.pmg_jobinfo.specs.Jobs.{Jobs}
-use Rattle.pmg_node.specs.Acts.{Request, Act, acts}
+use Rattle.pmg_rules.specs.Acts.{Request, Act, acts}
 use Rattle.pmg_node.specs.Ahead.{joined}
-use Rattle.pmg_node.specs.Holdings.{Holding, sealer_of}
-use Rattle.pmg_node.specs.Sending.{is_quiet}
+use Rattle.pmg_rules.specs.Holdings.{Holding, sealer_of}
+use Rattle.pmg_rules.specs.Sending.{is_quiet}
 
 -- what is joined for reads from the node itself, and from other nodes
 pub record Joins : Type 0 where

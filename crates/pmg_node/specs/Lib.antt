@@ -1,17 +1,10 @@
 pub mod Sealers
-pub mod Holdings
 pub mod Owns
-pub mod Acts
-pub mod Sending
-pub mod Choosing
 pub mod Marking
 pub mod Telling
 pub mod Answering
 pub mod Ahead
 pub mod Joining
-pub mod Kept
-pub mod Fitting
-pub mod NodeLaws
 pub mod Codes
 pub mod Calls
 pub mod Answered
@@ -22,6 +15,5 @@ pub mod Entries
 pub mod Endings
 pub mod Replies
 pub mod Acting
-pub mod SendingRules
 pub mod Opening
 pub mod Members

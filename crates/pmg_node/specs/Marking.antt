@@ -7,7 +7,7 @@ use Rattle.pmg_value.specs.declared.process.Proc.{Proc}
 use Rattle.pmg_pset.specs.Sets.{host}
 use Rattle.pmg_jobinfo.specs.Jobs.{Jobs}
 use Rattle.pmg_jobinfo.specs.Procs.{procs_at}
-use Rattle.pmg_node.specs.Choosing.{peers}
+use Rattle.pmg_rules.specs.Choosing.{peers}
 use Rattle.pmg_node.specs.declared.due.MarkBefore.{MarkBefore}
 
 -- the marks with what each was before it was set, the one that was set first in front

@@ -1,7 +1,7 @@
 -- A new node.
 use Rattle.std.specs.Prelude.{ℕ}
 use Rattle.pmg_jobinfo.specs.Jobs.{Jobs}
-use Rattle.pmg_node.specs.Holdings.{new_holding}
+use Rattle.pmg_rules.specs.Holdings.{new_holding}
 use Rattle.pmg_node.specs.Marking.{new_marks}
 use Rattle.pmg_node.specs.Servers.{Server}
 

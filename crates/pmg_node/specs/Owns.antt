@@ -4,7 +4,7 @@ use Rattle.std.specs.Coded.{Coded, code_by, coded×}
 use Rattle.std.specs.FinMap as finite
 use Rattle.pmg_value.specs.declared.process.Proc.{Proc}
 use Rattle.pmg_commit.specs.Sealed.{Sealed, coded_sealed}
-use Rattle.pmg_node.specs.Holdings.{sealer_in}
+use Rattle.pmg_rules.specs.Holdings.{sealer_in}
 use Rattle.pmg_node.specs.Sealers.{AllSealed, coded_all_sealed}
 
 -- what own processes sealed, and what the one that stands for the group's host did

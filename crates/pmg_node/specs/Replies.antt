@@ -1,8 +1,8 @@
 -- What calls of a node answer, as replies.
 use Rattle.std.specs.Prelude.{Option, Some, None}
 use Rattle.pmg_value.specs.Spelling.{spelling}
-use Rattle.pmg_node.specs.Acts.{Reply, Status, reply_of}
-use Rattle.pmg_node.specs.Holdings.{Standing}
+use Rattle.pmg_rules.specs.Acts.{Reply, Status, reply_of}
+use Rattle.pmg_rules.specs.Holdings.{Standing}
 use Rattle.pmg_node.specs.declared.committing.Committed.{Committed}
 use Rattle.pmg_node.specs.declared.leaving.Release.{Release}
 use Rattle.pmg_node.specs.declared.leaving.Release.TheVariants as releases

@@ -7,12 +7,12 @@ use Rattle.pmg_value.specs.declared.refusal.Refusal.{Refusal}
 use Rattle.pmg_value.specs.declared.refusal.Refusal.TheVariants as refusals
 use Rattle.pmg_jobinfo.specs.Jobs.{Jobs, AreJobs, coded_jobs, is_node}
 use Rattle.pmg_dmodex.specs.Levels.{Levels, coded_levels}
-use Rattle.pmg_node.specs.Acts.{Act, Reply, acts}
-use Rattle.pmg_node.specs.Choosing.{chosen}
+use Rattle.pmg_rules.specs.Acts.{Act, Reply, acts}
+use Rattle.pmg_rules.specs.Choosing.{chosen}
 use Rattle.pmg_node.specs.Codes.{coded_holding}
-use Rattle.pmg_node.specs.Holdings.{Holding}
-use Rattle.pmg_node.specs.Kept.{IsOwn, IsServer}
-use Rattle.pmg_node.specs.declared.sent.Sent.{Sent}
+use Rattle.pmg_rules.specs.Holdings.{Holding}
+use Rattle.pmg_rules.specs.Kept.{IsOwn, IsServer}
+use Rattle.pmg_rules.specs.declared.sent.Sent.{Sent}
 
 -- a node: its group's jobs, its index, what it holds, and its marks
 pub record Server : Type 0 where

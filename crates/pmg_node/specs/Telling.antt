@@ -9,10 +9,10 @@ use Rattle.pmg_frame.specs.declared.frame.Frame.TheVariants as frames
 use Rattle.pmg_frame.specs.declared.local.Local.{Local}
 use Rattle.pmg_jobinfo.specs.Jobs.{Jobs}
 use Rattle.pmg_dmodex.specs.Levels.{Levels, levels_of, below}
-use Rattle.pmg_node.specs.Choosing.{peers, peers_in}
-use Rattle.pmg_node.specs.Sending.{sent}
-use Rattle.pmg_node.specs.declared.due.Due.{Due}
-use Rattle.pmg_node.specs.declared.due.Due.TheVariants as sendings
+use Rattle.pmg_rules.specs.Choosing.{peers, peers_in}
+use Rattle.pmg_rules.specs.Sending.{sent}
+use Rattle.pmg_rules.specs.declared.due.Due.{Due}
+use Rattle.pmg_rules.specs.declared.due.Due.TheVariants as sendings
 
 -- the commits of the processes that a header lists
 abbrev pub pieces_by : ℕ → List Local → List Due

@@ -7,7 +7,7 @@ ghost use Rattle.pmg_commit.specs.Data.{level_at, read_at};
 ghost use Rattle.pmg_get.specs.Views.{seen_in};
 ghost use Rattle.pmg_node.specs.Ahead.{joined, near_of, far_of};
 ghost use Rattle.pmg_node.specs.Calls.{get_of};
-ghost use Rattle.pmg_node.specs.Holdings.{plain_seen};
+ghost use Rattle.pmg_rules.specs.Holdings.{plain_seen};
 
 use pmg_commit::Piece;
 use pmg_get::View;

@@ -8,17 +8,16 @@ ghost use Rattle.pmg_node.specs.Ahead.{near_of, far_of};
 ghost use Rattle.pmg_node.specs.Answered.{ArePlain, standings, outcome_with, found_as, gets_answered, still_waits, home_ask, asked_for, released_all, released_in, released_with};
 ghost use Rattle.pmg_node.specs.Answering.{AreAnswers, AreAskedAgain};
 ghost use Rattle.pmg_node.specs.Calls.{get_of};
-ghost use Rattle.pmg_node.specs.Kept.{is_about, is_in};
+ghost use Rattle.pmg_rules.specs.Kept.{is_about, is_in};
 
 use crate::ahead::Ahead;
 use crate::call::{Call, Found};
 use crate::calls::Calls;
-use crate::due::Due;
-use crate::sent::Sent;
 use pmg_fence::Table;
 use pmg_frame::{CommitAsk, FenceName, Frame};
 use pmg_get::{Answer, Mode, resolve};
 use pmg_jobinfo::Registry;
+use pmg_rules::{Due, Sent};
 use pmg_value::{Key, NodeId, Proc, copy_all};
 use std::alloc::AllocError;
 

@@ -2,16 +2,16 @@
 ghost use Rattle.std.specs.Prelude.{◌≡◌, ◌++◌, ◌&&◌, ◌==◌, IfOk, OnOk, OnErr};
 ghost use Rattle.pmg_jobinfo.specs.Jobs.{home_of};
 ghost use Rattle.pmg_frame.specs.declared.frame.Frame.TheVariants as frames;
-ghost use Rattle.pmg_node.specs.Acts.{Act, is_known, is_peer};
+ghost use Rattle.pmg_rules.specs.Acts.{Act, is_known, is_peer};
 ghost use Rattle.pmg_node.specs.Replies.{delivery_reply};
 ghost use Rattle.pmg_node.specs.Servers.{reply_to, sent_by, after};
 
 use crate::causes::is_member;
 use crate::due::{hand_out, take_back};
 use crate::node::Node;
-use crate::sent::Sent;
 use crate::telling::answer_commits;
 use pmg_frame::CommitAsk;
+use pmg_rules::Sent;
 use pmg_value::{NodeId, Proc};
 use std::alloc::AllocError;
 use std::collections::VecDeque;

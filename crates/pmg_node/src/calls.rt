@@ -5,7 +5,7 @@ ghost use Rattle.std.specs.FinSet as set;
 ghost use Rattle.std.specs.List.{flat_map};
 ghost use Rattle.std.specs.Option.{option_map, option_to_list};
 ghost use Rattle.pmg_value.specs.Rows.{changed_at};
-ghost use Rattle.pmg_node.specs.Choosing.{waited};
+ghost use Rattle.pmg_rules.specs.Choosing.{waited};
 ghost use Rattle.pmg_node.specs.Calls.{all_waited, standing_of, key_on, target_of, is_waiting_in, all_parked_on, all_targets, all_waiting_in};
 ghost use Rattle.pmg_node.specs.Calls.{all_instead};
 

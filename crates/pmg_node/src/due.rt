@@ -2,26 +2,17 @@
 ghost use Rattle.std.specs.Prelude.{◌≡◌, ◌++◌, true, is_some, length, take, IfOk, OnOk, OnErr};
 ghost use Rattle.std.specs.Option.{option_map, option_to_list};
 ghost use Rattle.pmg_dmodex.specs.Levels.{level_at, with_level};
-ghost use Rattle.pmg_node.specs.Choosing.{asked_marks, frame_for, marked, marked_if, sends};
+ghost use Rattle.pmg_rules.specs.Choosing.{asked_marks, frame_for, marked, marked_if, sends};
 ghost use Rattle.pmg_node.specs.Owns.{sealed_of};
 ghost use Rattle.pmg_node.specs.Marking.{marks_back, AreSet};
 
 use crate::own::Own;
-use crate::sent::Sent;
 use pmg_dmodex::Marks;
 use pmg_frame::{CommitAsk, Frame};
+use pmg_rules::{Due, Sent};
 use pmg_value::{NodeId, Proc};
 use std::alloc::{AllocError, Global};
 use std::collections::VecDeque;
-
-/// What is to be sent.
-#[derive(Debug, Drop)]
-pub(crate) enum Due {
-    /// A frame.
-    Whole(Sent),
-    /// To the node, the commits of an own process that it was not sent yet.
-    Rest(NodeId, Proc),
-}
 
 /// A mark as it was before it was set.
 #[derive(Debug, Drop)]

@@ -10,11 +10,11 @@ ghost use Rattle.pmg_commit.specs.TakenBack.{CanTakeBack as CanTakeSealBack};
 ghost use Rattle.pmg_fence.specs.Changes.{ended_by, news};
 ghost use Rattle.pmg_fence.specs.Tables.{names_of};
 ghost use Rattle.pmg_fence.specs.TakenBack.{table_back, CanTakeBack};
-ghost use Rattle.pmg_node.specs.Acts.{Act, Request};
+ghost use Rattle.pmg_rules.specs.Acts.{Act, Request};
 ghost use Rattle.pmg_node.specs.Calls.{all_instead};
-ghost use Rattle.pmg_node.specs.Choosing.{announcing};
+ghost use Rattle.pmg_rules.specs.Choosing.{announcing};
 ghost use Rattle.pmg_node.specs.Endings.{own_ended, own_back, table_ended};
-ghost use Rattle.pmg_node.specs.Holdings.{sealer_of};
+ghost use Rattle.pmg_rules.specs.Holdings.{sealer_of};
 ghost use Rattle.pmg_node.specs.Owns.{sealed_of};
 ghost use Rattle.pmg_node.specs.Replies.{ended_reply};
 ghost use Rattle.pmg_node.specs.Servers.{reply_to, sent_by, after, IsAnswered, Replies};
@@ -22,14 +22,13 @@ ghost use Rattle.pmg_node.specs.Servers.{reply_to, sent_by, after, IsAnswered, R
 use crate::call::Call;
 use crate::calls::Calls;
 use crate::committing::Committed;
-use crate::due::Due;
 use crate::fencing::announce_all;
 use crate::node::Node;
 use crate::own::Own;
 use crate::publishing::{Beside, Published, publish};
-use crate::sent::Sent;
 use pmg_commit::SealerBefore;
 use pmg_fence::{Table, TableBefore};
+use pmg_rules::{Due, Sent};
 use pmg_value::{NodeId, Proc, Refusal};
 use std::alloc::AllocError;
 use std::collections::VecDeque;
@@ -71,7 +70,7 @@ struct EndBefore {
 }
 
 /// The own process's end is taken back, if it had not ended before.
-#[tactic(auto, unfolding(crate::specs::Holdings::sealer_in))]
+#[tactic(auto, unfolding(pmg_rules::specs::Holdings::sealer_in))]
 fn take_seal_back(own: &mut Own, proc: &Proc, before: Option<SealerBefore>)
     requires client { is_host proc.now ≡ false }
     requires there { is_some (finite.get own.old.sealers proc.now) ≡ true }

@@ -5,9 +5,9 @@ ghost use Rattle.pmg_value.specs.declared.refusal.Refusal.TheVariants as refusal
 ghost use Rattle.pmg_commit.specs.Data.{read_at};
 ghost use Rattle.pmg_jobinfo.specs.Reserved.{is_general};
 ghost use Rattle.pmg_get.specs.Views.{outcome_of, seen_in};
-ghost use Rattle.pmg_node.specs.Acts.{target_cause};
+ghost use Rattle.pmg_rules.specs.Acts.{target_cause};
 ghost use Rattle.pmg_node.specs.Calls.{get_of};
-ghost use Rattle.pmg_node.specs.Holdings.{answer_in, seen_of};
+ghost use Rattle.pmg_rules.specs.Holdings.{answer_in, seen_of};
 
 use crate::ahead::Ahead;
 use crate::causes::is_misnamed;
@@ -24,7 +24,7 @@ fn is_general(proc: &Proc) -> bool
 
 impl Node {
     /// What there is to be seen here of a key that is not reserved.
-    #[tactic(auto, unfolding(crate::specs::Holdings::seen_of))]
+    #[tactic(auto, unfolding(pmg_rules::specs::Holdings::seen_of))]
     fn look(&self, target: &Proc, key: &Key) -> View<'_>
         requires { is_reserved key.now ≡ false }
         ensures { seen_in result ≡ seen_of self.now.jobs self.now.id (read_at self.now.holding.near target.now) (read_at self.now.holding.far target.now)

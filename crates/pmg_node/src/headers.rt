@@ -4,7 +4,7 @@ ghost use Rattle.pmg_frame.specs.declared.frame.Frame.TheVariants as frames;
 ghost use Rattle.pmg_jobinfo.specs.Jobs.{is_member};
 ghost use Rattle.std.specs.List.{list_all};
 ghost use Rattle.pmg_frame.specs.Fences.{participants_of};
-ghost use Rattle.pmg_node.specs.Acts.{Act, is_concerned, is_complete, is_taken};
+ghost use Rattle.pmg_rules.specs.Acts.{Act, is_concerned, is_complete, is_taken};
 ghost use Rattle.pmg_node.specs.Replies.{delivery_reply};
 ghost use Rattle.pmg_node.specs.Servers.{reply_to, sent_by, after};
 
@@ -12,11 +12,11 @@ use crate::asked::Delivery;
 use crate::causes::is_member;
 use crate::fencing::{Around, change_fence, tell_node};
 use crate::node::Node;
-use crate::sent::Sent;
 use crate::telling::takes_part;
 use pmg_fence::Change;
 use pmg_frame::{FenceAsk, FenceName, Header};
 use pmg_jobinfo::Registry;
+use pmg_rules::Sent;
 use std::alloc::AllocError;
 use std::collections::VecDeque;
 
@@ -63,7 +63,7 @@ impl Node {
     }
 
     /// Whether the header comes from another node, is of a fence that concerns this one, and lists its node's participants.
-    #[tactic(auto, unfolding(crate::specs::Acts::is_taken))]
+    #[tactic(auto, unfolding(pmg_rules::specs::Acts::is_taken))]
     fn is_told(&self, header: &Header) -> bool
         ensures { result ≡ is_taken self.now.jobs self.now.id (frames.Header header.now) }
     {
@@ -73,7 +73,7 @@ impl Node {
     }
 
     /// Whether the request comes from another node, and is for a header of a fence that concerns this one.
-    #[tactic(auto, unfolding(crate::specs::Acts::is_taken))]
+    #[tactic(auto, unfolding(pmg_rules::specs::Acts::is_taken))]
     fn is_asked_for(&self, ask: &FenceAsk) -> bool
         ensures { result ≡ is_taken self.now.jobs self.now.id (frames.FenceAsk ask.now) }
     {

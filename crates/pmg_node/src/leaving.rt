@@ -1,7 +1,7 @@
 //! A process leaves a fence that it is released from.
 ghost use Rattle.std.specs.Prelude.{◌≡◌, []};
 ghost use Rattle.std.specs.Option.{option_map};
-ghost use Rattle.pmg_node.specs.Acts.{Act, Request};
+ghost use Rattle.pmg_rules.specs.Acts.{Act, Request};
 ghost use Rattle.pmg_node.specs.Calls.{standing_of};
 ghost use Rattle.pmg_node.specs.Replies.{release_reply, released_reply, stays_reply};
 ghost use Rattle.pmg_node.specs.Servers.{reply_in, reply_to, sent_by, after};

@@ -38,7 +38,7 @@ impl Model for Own {
 
 impl Own {
     /// How many commits the process made; of the one that stands for the group's host, how many changes of the sets.
-    #[tactic(auto, unfolding(crate::specs::Holdings::sealer_in))]
+    #[tactic(auto, unfolding(pmg_rules::specs::Holdings::sealer_in))]
     pub(crate) fn level(&self, proc: &Proc) -> u64
         ensures value { result ≡ (sealed_of self.now proc.now).level }
         ensures bound { result ≤ 4294967295 }
@@ -50,7 +50,7 @@ impl Own {
     }
 
     /// Whether the process, which is not the one that stands for the group's host, has ended.
-    #[tactic(auto, unfolding(crate::specs::Holdings::sealer_in))]
+    #[tactic(auto, unfolding(pmg_rules::specs::Holdings::sealer_in))]
     pub(crate) fn has_ended(&self, proc: &Proc) -> bool
         requires { is_host proc.now ≡ false }
         ensures { result ≡ (sealed_of self.now proc.now).ended }
@@ -59,7 +59,7 @@ impl Own {
     }
 
     /// What the process's commits above a number sealed for the other processes on its node.
-    #[tactic(auto, unfolding(crate::specs::Holdings::sealer_in))]
+    #[tactic(auto, unfolding(pmg_rules::specs::Holdings::sealer_in))]
     pub(crate) fn near_piece(&self, proc: &Proc, from: u64) -> Result<Piece, AllocError>
         requires { from < (sealed_of self.now proc.now).level }
         ensures { IfOk result (λ c. c ≡ piece_at (sealed_of self.now proc.now) from reach.Near) }
@@ -77,7 +77,7 @@ impl Own {
     }
 
     /// What the process's commits above a number sealed for processes on other nodes.
-    #[tactic(auto, unfolding(crate::specs::Holdings::sealer_in))]
+    #[tactic(auto, unfolding(pmg_rules::specs::Holdings::sealer_in))]
     pub(crate) fn piece(&self, proc: &Proc, from: u64) -> Result<Piece, AllocError>
         requires { from < (sealed_of self.now proc.now).level }
         ensures { IfOk result (λ c. c ≡ piece_at (sealed_of self.now proc.now) from reach.Far) }
@@ -95,7 +95,7 @@ impl Own {
     }
 
     /// The process's next commit seals the batch; what there was before is told.
-    #[tactic(auto, unfolding(crate::specs::Holdings::sealer_in))]
+    #[tactic(auto, unfolding(pmg_rules::specs::Holdings::sealer_in))]
     pub(crate) fn commit(&mut self, proc: &Proc, batch: &Batch) -> Result<SealerBefore, Refusal>
         requires client { is_host proc.now ≡ false }
         requires own { is_some (finite.get self.old.sealers proc.now) ≡ true }
@@ -108,7 +108,7 @@ impl Own {
     }
 
     /// The process's last commit is taken back.
-    #[tactic(auto, unfolding(crate::specs::Holdings::sealer_in))]
+    #[tactic(auto, unfolding(pmg_rules::specs::Holdings::sealer_in))]
     pub(crate) fn take_back(&mut self, proc: &Proc, before: SealerBefore)
         requires client { is_host proc.now ≡ false }
         requires own { is_some (finite.get self.old.sealers proc.now) ≡ true }

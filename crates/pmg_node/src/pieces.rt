@@ -1,9 +1,9 @@
 //! A piece of a process of another node comes.
 ghost use Rattle.std.specs.Prelude.{◌≡◌, ◌++◌, true, IfOk, OnOk, OnErr};
 ghost use Rattle.pmg_frame.specs.declared.frame.Frame.TheVariants as frames;
-ghost use Rattle.pmg_node.specs.Acts.{Act, is_taken};
+ghost use Rattle.pmg_rules.specs.Acts.{Act, is_taken};
 ghost use Rattle.pmg_node.specs.Calls.{all_instead};
-ghost use Rattle.pmg_node.specs.Choosing.{due_by};
+ghost use Rattle.pmg_rules.specs.Choosing.{due_by};
 ghost use Rattle.pmg_node.specs.Replies.{delivery_reply};
 ghost use Rattle.pmg_node.specs.Servers.{reply_to, sent_by, after};
 
@@ -11,17 +11,17 @@ use crate::ahead::Ahead;
 use crate::answering::{answers_about, asks_again};
 use crate::asked::Delivery;
 use crate::call::Call;
-use crate::due::{Due, hand_out, take_back};
+use crate::due::{hand_out, take_back};
 use crate::node::Node;
-use crate::sent::Sent;
 use pmg_commit::Piece;
+use pmg_rules::{Due, Sent};
 use pmg_value::Proc;
 use std::alloc::AllocError;
 use std::collections::VecDeque;
 
 impl Node {
     /// Whether the piece is of a process that is not at home at this node.
-    #[tactic(auto, unfolding(crate::specs::Acts::is_taken))]
+    #[tactic(auto, unfolding(pmg_rules::specs::Acts::is_taken))]
     fn is_foreign(&self, piece: &Piece) -> bool
         ensures { result ≡ is_taken self.now.jobs self.now.id (frames.Piece piece.now) }
     {

@@ -1,7 +1,7 @@
 //! How a process stands, which is looked at and changes nothing.
 ghost use Rattle.std.specs.Prelude.{◌≡◌};
 ghost use Rattle.std.specs.Option.{option_map};
-ghost use Rattle.pmg_node.specs.Acts.{status_by, status_of};
+ghost use Rattle.pmg_rules.specs.Acts.{status_by, status_of};
 ghost use Rattle.pmg_node.specs.Calls.{standing_of};
 ghost use Rattle.pmg_node.specs.Replies.{status_in};
 
@@ -44,7 +44,7 @@ fn status_by(call: Option<&Call>) -> Status
 
 impl Node {
     /// How the process stands. It takes no memory.
-    #[tactic(auto, unfolding(crate::specs::Acts::status_of))]
+    #[tactic(auto, unfolding(pmg_rules::specs::Acts::status_of))]
     pub fn status(&self, proc: &Proc) -> Status
         ensures { status_in result ≡ status_of self.now.jobs self.now.id self.now.holding proc.now }
     {

@@ -1,7 +1,7 @@
 //! A process takes the answer of the get that it waited for.
 ghost use Rattle.std.specs.Prelude.{◌≡◌, []};
 ghost use Rattle.std.specs.Option.{option_map};
-ghost use Rattle.pmg_node.specs.Acts.{Act, Request, reply_of};
+ghost use Rattle.pmg_rules.specs.Acts.{Act, Request, reply_of};
 ghost use Rattle.pmg_node.specs.Calls.{standing_of, outcome_of};
 ghost use Rattle.pmg_node.specs.Replies.{taking_reply, answered_reply, pending_reply};
 ghost use Rattle.pmg_node.specs.Servers.{reply_in, reply_to, sent_by, after};

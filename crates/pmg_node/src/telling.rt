@@ -3,16 +3,15 @@ ghost use Rattle.std.specs.Prelude.{◌≡◌, ◌<◌, ◌==◌, ◌++◌, ℕ,
 ghost use Rattle.std.specs.List.{flat_map, list_any};
 ghost use Rattle.pmg_jobinfo.specs.Jobs.{AreJobs, home_of};
 ghost use Rattle.pmg_frame.specs.Fences.{participants_of};
-ghost use Rattle.pmg_node.specs.Choosing.{peers, peers_in};
+ghost use Rattle.pmg_rules.specs.Choosing.{peers, peers_in};
 ghost use Rattle.pmg_node.specs.Telling.{telling_by, announcing_by, answering_by, pieces_by, settling_by, spread_by};
 ghost use Rattle.pmg_node.specs.Owns.{sealed_of};
 
-use crate::due::Due;
 use crate::own::Own;
-use crate::sent::Sent;
 use pmg_dmodex::Pending;
 use pmg_frame::{FenceName, Frame, Header};
 use pmg_jobinfo::Registry;
+use pmg_rules::{Due, Sent};
 use pmg_value::{NodeId, Proc};
 use std::alloc::{AllocError, Global};
 

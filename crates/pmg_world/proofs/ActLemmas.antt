@@ -7,16 +7,16 @@ use Rattle.pmg_value.specs.Lists.{Each}
 use Rattle.pmg_value.specs.declared.refusal.Refusal.{Refusal}
 use Rattle.pmg_value.specs.declared.refusal.Refusal.TheVariants as refusals
 use Rattle.pmg_jobinfo.specs.Jobs.{Jobs, AreJobs, is_node}
-use Rattle.pmg_node.specs.Acts.{Act, Reply, is_peer}
-use Rattle.pmg_node.specs.Holdings.{Holding}
-use Rattle.pmg_node.specs.Kept.{IsServer}
-use Rattle.pmg_node.specs.Sending.{NodeStep}
+use Rattle.pmg_rules.specs.Acts.{Act, Reply, is_peer}
+use Rattle.pmg_rules.specs.Holdings.{Holding}
+use Rattle.pmg_rules.specs.Kept.{IsServer}
+use Rattle.pmg_rules.specs.Sending.{NodeStep}
 use Rattle.pmg_node.specs.Servers.{Server, IsAnswered, RepliesEntry, after, reply_in, reply_to, sent_by}
-use Rattle.pmg_node.specs.declared.sent.Sent.{Sent}
-use Rattle.pmg_node.proofs.ChoosingSteps.{chosen_is_step}
-use Rattle.pmg_node.proofs.KeptActs.{server_stays}
+use Rattle.pmg_rules.specs.declared.sent.Sent.{Sent}
+use Rattle.pmg_rules.proofs.ChoosingSteps.{chosen_is_step}
+use Rattle.pmg_rules.proofs.KeptActs.{server_stays}
 use Rattle.pmg_world.specs.Keeping.{IsNodeOf, AreNodes}
-use Rattle.pmg_world.specs.Worlds.{changed_at}
+use Rattle.pmg_runs.specs.Worlds.{changed_at}
 
 -- an answer that is no failed allocation is the one that is due
 pub answered_due : {X : Type 0} (view : X → Reply) (answer : Result X Refusal) (due : Reply) → RepliesEntry view answer due → IsAnswered answer → reply_in view answer ≡ due

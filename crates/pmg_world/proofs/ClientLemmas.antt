@@ -18,12 +18,12 @@ use Rattle.pmg_jobinfo.specs.Jobs.{Jobs}
 use Rattle.pmg_fence.specs.Entering.{same_proc}
 use Rattle.pmg_fence.specs.Rules.{Scripts}
 use Rattle.pmg_scope.specs.Scripts.{last_put}
-use Rattle.pmg_node.specs.Acts.{Request, Act, said_by, says, members_of, signature_of}
-use Rattle.pmg_node.specs.Fitting.{unless_refused, with_said}
+use Rattle.pmg_rules.specs.Acts.{Request, Act, said_by, says, members_of, signature_of}
+use Rattle.pmg_rules.specs.Fitting.{unless_refused, with_said}
 use Rattle.pmg_world.specs.Caching.{AllCached, cached_by}
 use Rattle.pmg_world.specs.Keeping.{KeepsFor, AreCaches}
-use Rattle.pmg_world.specs.Worlds.{cache_from, cache_of}
-use Rattle.pmg_world.proofs.Speaking.{cache_fits}
+use Rattle.pmg_runs.specs.Worlds.{cache_from, cache_of}
+use Rattle.pmg_runs.proofs.Speaking.{cache_fits}
 
 cache_both : (c : Cached) (s t : Script) → cache_from c (s ++ t) ≡ cache_from (cache_from c s) t
 cache_both c [] t = refl

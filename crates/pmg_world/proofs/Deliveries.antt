@@ -8,7 +8,7 @@ use Rattle.std.proofs.lemmas.List.FromFn.{filter_of_map_range_with_len_more}
 use Rattle.std.proofs.lemmas.List.Folds.{list_any-append}
 use Rattle.pmg_world.specs.Delivering.{IsNoted, delivers, missing, undelivered, was_delivered}
 use Rattle.pmg_world.specs.Telling.{event_of}
-use Rattle.pmg_world.specs.Worlds.{Event}
+use Rattle.pmg_runs.specs.Worlds.{Event}
 use Rattle.pmg_world.specs.declared.delivered.Delivered.{Delivered}
 use Rattle.pmg_world.specs.declared.event.Event.{Event as ToldEvent}
 use Rattle.pmg_world.specs.declared.event.Event.TheVariants as events

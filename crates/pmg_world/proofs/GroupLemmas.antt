@@ -9,20 +9,20 @@ use Rattle.pmg_value.specs.declared.refusal.Refusal.TheVariants as refusals
 use Rattle.pmg_jobinfo.specs.Jobs.{Jobs, AreJobs, is_node, home_of}
 use Rattle.pmg_fence.specs.Rules.{Scripts}
 use Rattle.pmg_node.specs.Acting.{reply_as}
-use Rattle.pmg_node.specs.Acts.{Act, Reply, Said, says}
-use Rattle.pmg_node.specs.Fitting.{is_refusal, unless_refused}
-use Rattle.pmg_node.specs.Sending.{NodeStep}
+use Rattle.pmg_rules.specs.Acts.{Act, Reply, Said, says}
+use Rattle.pmg_rules.specs.Fitting.{is_refusal, unless_refused}
+use Rattle.pmg_rules.specs.Sending.{NodeStep}
 use Rattle.pmg_node.specs.Servers.{Server, IsAnswered, RepliesEntry, after, reply_to, sent_by}
 use Rattle.pmg_node.specs.declared.act.Reply.{Reply as GivenReply}
 use Rattle.pmg_node.specs.declared.act.Reply.TheVariants as replies
-use Rattle.pmg_node.specs.declared.sent.Sent.{Sent}
+use Rattle.pmg_rules.specs.declared.sent.Sent.{Sent}
 use Rattle.pmg_world.specs.Keeping.{AreCaches, AreNodes, IsNodeOf, IsSame, IsGroup, Stands, Happens, replied}
-use Rattle.pmg_world.specs.Worlds.{World, Event, Doing, Does, Step, changed_at, doing, numbered, reply_in}
+use Rattle.pmg_runs.specs.Worlds.{World, Event, Doing, Does, Step, changed_at, doing, numbered, reply_in}
 use Rattle.pmg_world.specs.declared.group.Group.{Group}
 use Rattle.pmg_world.proofs.ActLemmas.{answered_due, act_steps, act_keeps, act_peers}
-use Rattle.pmg_world.proofs.Speaking.{numbered_is}
-use Rattle.pmg_world.proofs.Steps.{each_both}
-use Rattle.pmg_node.proofs.KeptBasics.{home_is_node}
+use Rattle.pmg_runs.proofs.Speaking.{numbered_is}
+use Rattle.pmg_runs.proofs.Steps.{each_both}
+use Rattle.pmg_rules.proofs.KeptBasics.{home_is_node}
 
 -- the event leads from the world, with that reply, to one that the group stands for
 pub record LeadsOn (jobs : Jobs) (w : World) (e : Event) (r : Reply) (g : Group) : Type 0 where

@@ -13,12 +13,12 @@ use Rattle.pmg_jobinfo.specs.Jobs.{Jobs, is_node}
 use Rattle.pmg_jobinfo.specs.Reserved.{is_general}
 use Rattle.pmg_get.specs.Gets.{Outcome, found_or, resolve}
 use Rattle.pmg_get.specs.declared.view.Mode.{Mode}
-use Rattle.pmg_node.specs.Acts.{Request, Act, Reply, is_misnamed, reply_of}
-use Rattle.pmg_node.specs.Holdings.{Get, Holding}
+use Rattle.pmg_rules.specs.Acts.{Request, Act, Reply, is_misnamed, reply_of}
+use Rattle.pmg_rules.specs.Holdings.{Get, Holding}
 use Rattle.pmg_node.specs.Servers.{Server}
-use Rattle.pmg_node.specs.declared.sent.Sent.{Sent}
+use Rattle.pmg_rules.specs.declared.sent.Sent.{Sent}
 use Rattle.pmg_world.specs.Keeping.{KeepsFor, IsNodeOf, own_key, own_answer}
-use Rattle.pmg_world.specs.Worlds.{World, Event, Doing, doing, requests, own_get, own_cause, is_own, puts, not_there, nth, numbered, delivers, cache_of}
+use Rattle.pmg_runs.specs.Worlds.{World, Event, Doing, doing, requests, own_get, own_cause, is_own, puts, not_there, nth, numbered, delivers, cache_of}
 use Rattle.pmg_world.proofs.CauseLemmas.{first_bad}
 use Rattle.pmg_world.proofs.ClientLemmas.{own_is}
 

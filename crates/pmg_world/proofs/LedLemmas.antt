@@ -10,7 +10,7 @@ use Rattle.pmg_node.specs.declared.act.Reply.{Reply as GivenReply}
 use Rattle.pmg_world.specs.Accounts.{Adds, IsKept, IsLed, IsRun, account_of}
 use Rattle.pmg_world.specs.Keeping.{AreCaches, Happens, IsGroup, IsSame, Stands, replied}
 use Rattle.pmg_world.specs.Telling.{event_of, happened_of}
-use Rattle.pmg_world.specs.Worlds.{World, Happened, Run, Step, start}
+use Rattle.pmg_runs.specs.Worlds.{World, Happened, Run, Step, start}
 use Rattle.pmg_world.specs.declared.event.Event.{Event as ToldEvent}
 use Rattle.pmg_world.specs.declared.event.Told.{Told}
 use Rattle.pmg_world.specs.declared.group.Group.{Group}

@@ -10,18 +10,18 @@ use Rattle.pmg_scope.specs.Cached.{put_cause, with_put}
 use Rattle.pmg_scope.specs.Scripts.{Call}
 use Rattle.pmg_scope.specs.declared.scope.Scope.{Scope}
 use Rattle.pmg_jobinfo.specs.Jobs.{Jobs, home_of}
-use Rattle.pmg_node.specs.Acts.{Reply, also, free_cause, is_misnamed, said_by}
-use Rattle.pmg_node.specs.Holdings.{Holding}
+use Rattle.pmg_rules.specs.Acts.{Reply, also, free_cause, is_misnamed, said_by}
+use Rattle.pmg_rules.specs.Holdings.{Holding}
 use Rattle.pmg_node.specs.Servers.{Server}
 use Rattle.pmg_world.specs.Caching.{AllCached, cached_by}
 use Rattle.pmg_world.specs.Keeping.{AreCaches, IsNodeOf, Stands}
-use Rattle.pmg_world.specs.Worlds.{World, Event, Doing, Does, cache_of, reply_in}
+use Rattle.pmg_runs.specs.Worlds.{World, Event, Doing, Does, cache_of, reply_in}
 use Rattle.pmg_world.specs.declared.group.Group.{Group}
 use Rattle.pmg_world.proofs.CauseLemmas.{due_bad, due_refused, due_free, first_bad, same_error}
 use Rattle.pmg_world.proofs.ClientLemmas.{put_kept}
 use Rattle.pmg_world.proofs.GroupLemmas.{LeadsOn, refused_stays, stands_with}
 use Rattle.pmg_world.proofs.HappenLemmas.{put_is}
-use Rattle.pmg_node.specs.Fitting.{with_said}
+use Rattle.pmg_rules.specs.Fitting.{with_said}
 
 -- who calls is judged at the node
 pub free_at : (jobs : Jobs) (node : ℕ) (h : Holding) (s : Server) (p : Proc) (x : Result (Unit {0}) Refusal) → IsNodeOf jobs node h s → x ≡ first_of (free_cause s.jobs s.id s.holding p) tt

@@ -3,13 +3,13 @@ use Rattle.std.proofs.Common.{◌≡◌, List, [], ◌∷◌, ◌++◌, None, re
 use Rattle.pmg_jobinfo.specs.Jobs.{Jobs, AreJobs, home_of}
 use Rattle.pmg_fence.specs.Entering.{entry}
 use Rattle.pmg_fence.specs.Rules.{Scripts, gone_of}
-use Rattle.pmg_node.specs.Fitting.{last_fence}
+use Rattle.pmg_rules.specs.Fitting.{last_fence}
 use Rattle.pmg_world.specs.KeptLaws.{scripts_told, leaves_with, KeepsFence, ReleasesWhole, ReleasesAlike, AnswersNeverFall, IsLawful}
-use Rattle.pmg_world.specs.Laws.{AnswersRise, answers}
-use Rattle.pmg_world.specs.Worlds.{World, Happened, Step, Run, start}
-use Rattle.pmg_world.proofs.Leaving.{released_whole, released_alike}
-use Rattle.pmg_world.proofs.Rising.{fence_theorem, gets_rise}
-use Rattle.pmg_world.proofs.ToldScripts.{scripts_are_told}
+use Rattle.pmg_runs.specs.Laws.{AnswersRise, answers}
+use Rattle.pmg_runs.specs.Worlds.{World, Happened, Step, Run, start}
+use Rattle.pmg_runs.proofs.Leaving.{released_whole, released_alike}
+use Rattle.pmg_runs.proofs.Rising.{fence_theorem, gets_rise}
+use Rattle.pmg_runs.proofs.ToldScripts.{scripts_are_told}
 
 -- ---- runs in parts
 

@@ -15,7 +15,7 @@ use Rattle.pmg_world.specs.Delivering.{IsNoted, missing, was_delivered}
 use Rattle.pmg_world.specs.ReplyLines.{flow_line, reply_line}
 use Rattle.pmg_world.specs.Stages.{Answers, Flows, is_deletion, proc_in, procs_in}
 use Rattle.pmg_world.specs.Telling.{event_of}
-use Rattle.pmg_world.specs.Worlds.{Event}
+use Rattle.pmg_runs.specs.Worlds.{Event}
 use Rattle.pmg_world.specs.declared.delivered.Delivered.{Delivered}
 use Rattle.pmg_world.specs.declared.event.Event.{Event as ToldEvent}
 use Rattle.pmg_world.specs.declared.event.Told.{Told}

@@ -10,18 +10,18 @@ use Rattle.pmg_value.specs.declared.refusal.Refusal.{Refusal}
 use Rattle.pmg_value.specs.declared.refusal.Refusal.TheVariants as refusals
 use Rattle.pmg_jobinfo.specs.Jobs.{Jobs, is_node, opened, registered}
 use Rattle.pmg_jobinfo.specs.Refusing.{new_cause, register_cause}
-use Rattle.pmg_node.specs.Acts.{also}
+use Rattle.pmg_rules.specs.Acts.{also}
 use Rattle.pmg_world.specs.Accounts.{Account}
 use Rattle.pmg_world.specs.Asking.{asks}
-use Rattle.pmg_world.specs.Lines.{Fails as NotRead}
-use Rattle.pmg_world.specs.Scripts.{Line, line_of, said}
+use Rattle.pmg_script.specs.Lines.{Fails as NotRead}
+use Rattle.pmg_script.specs.Scripts.{Line, line_of, said}
 use Rattle.pmg_world.specs.Stages.{AsksNothing, IsNew, Opens, OpensAt, Plays, PlaysLine, PlaysSaid, RegistersAt, Runs, RunsAt, RunsOn, Stops, ok_line, refused_line, unnamed_cause, with_space}
-use Rattle.pmg_world.specs.declared.lines.LineFault.{LineFault}
-use Rattle.pmg_world.specs.declared.lines.LineFault.TheVariants as faults
+use Rattle.pmg_script.specs.declared.lines.LineFault.{LineFault}
+use Rattle.pmg_script.specs.declared.lines.LineFault.TheVariants as faults
 use Rattle.pmg_world.specs.declared.phase.Phase.{Phase}
 use Rattle.pmg_world.specs.declared.phase.Phase.TheVariants as phases
-use Rattle.pmg_world.specs.declared.script.Line.{Line as SaidLine}
-use Rattle.pmg_world.specs.declared.script.Line.TheVariants as said_lines
+use Rattle.pmg_script.specs.declared.script.Line.{Line as SaidLine}
+use Rattle.pmg_script.specs.declared.script.Line.TheVariants as said_lines
 
 -- ---- what fails
 

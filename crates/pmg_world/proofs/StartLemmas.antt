@@ -13,10 +13,10 @@ use Rattle.pmg_scope.specs.Cached.{Cached, no_puts}
 use Rattle.pmg_jobinfo.specs.Jobs.{Jobs, AreJobs, is_node}
 use Rattle.pmg_node.specs.Opening.{new_server}
 use Rattle.pmg_node.specs.Servers.{Server}
-use Rattle.pmg_node.specs.declared.sent.Sent.{Sent}
-use Rattle.pmg_node.proofs.KeptActs.{new_is_server}
+use Rattle.pmg_rules.specs.declared.sent.Sent.{Sent}
+use Rattle.pmg_rules.proofs.KeptActs.{new_is_server}
 use Rattle.pmg_world.specs.Keeping.{AreNew, Stands}
-use Rattle.pmg_world.specs.Worlds.{start, cache_of}
+use Rattle.pmg_runs.specs.Worlds.{start, cache_of}
 use Rattle.pmg_world.specs.declared.group.Group.{Group}
 
 -- some server

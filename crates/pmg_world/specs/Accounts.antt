@@ -3,11 +3,11 @@ use Rattle.std.specs.Prelude.{◌≡◌, ℕ, ◌<◌, List, ◌++◌, length, m
 use Rattle.std.specs.Coded.{Coded, code_by, coded×, coded_list}
 use Rattle.pmg_jobinfo.specs.Jobs.{Jobs, coded_jobs}
 use Rattle.pmg_node.specs.Servers.{Server, coded_server}
-use Rattle.pmg_node.specs.declared.sent.Sent.{Sent}
+use Rattle.pmg_rules.specs.declared.sent.Sent.{Sent}
 use Rattle.pmg_world.specs.Keeping.{IsNodeOf, Stands}
 use Rattle.pmg_world.specs.KeptLaws.{IsLawful}
 use Rattle.pmg_world.specs.Telling.{event_of, happened_of}
-use Rattle.pmg_world.specs.Worlds.{World, Run, start}
+use Rattle.pmg_runs.specs.Worlds.{World, Run, start}
 use Rattle.pmg_world.specs.declared.event.Event.{Event as ToldEvent}
 use Rattle.pmg_world.specs.declared.event.Told.{Told}
 use Rattle.pmg_world.specs.declared.group.Group.{Group}

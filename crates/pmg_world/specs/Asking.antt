@@ -5,11 +5,11 @@ use Rattle.pmg_value.specs.Names.{is_nspace, is_key}
 use Rattle.pmg_value.specs.Spelling.{spelling}
 use Rattle.pmg_value.specs.declared.process.Proc.{Proc}
 use Rattle.pmg_jobinfo.specs.Jobs.{Jobs, home_of}
-use Rattle.pmg_node.specs.Acts.{Request}
+use Rattle.pmg_rules.specs.Acts.{Request}
 use Rattle.pmg_node.specs.Calls.{get_of}
-use Rattle.pmg_world.specs.Scripts.{Line}
+use Rattle.pmg_script.specs.Scripts.{Line}
 use Rattle.pmg_world.specs.Telling.{event_of}
-use Rattle.pmg_world.specs.Worlds.{Event}
+use Rattle.pmg_runs.specs.Worlds.{Event}
 use Rattle.pmg_world.specs.declared.asking.Asked.{Asked as AskedFor}
 use Rattle.pmg_world.specs.declared.asking.Asked.TheVariants as asked
 

@@ -12,14 +12,14 @@ use Rattle.pmg_jobinfo.specs.Jobs.{Jobs, AreJobs, is_node}
 use Rattle.pmg_fence.specs.Rules.{Scripts}
 use Rattle.pmg_get.specs.Gets.{Outcome, found_or}
 use Rattle.pmg_node.specs.Acting.{reply_as}
-use Rattle.pmg_node.specs.Acts.{Request, Reply, reply_of}
-use Rattle.pmg_node.specs.Holdings.{Holding}
-use Rattle.pmg_node.specs.Kept.{IsServer}
+use Rattle.pmg_rules.specs.Acts.{Request, Reply, reply_of}
+use Rattle.pmg_rules.specs.Holdings.{Holding}
+use Rattle.pmg_rules.specs.Kept.{IsServer}
 use Rattle.pmg_node.specs.Opening.{new_server}
 use Rattle.pmg_node.specs.Servers.{Server, IsAnswered, reply_in}
 use Rattle.pmg_node.specs.declared.act.Reply.{Reply as GivenReply}
 use Rattle.pmg_world.specs.Caching.{AllCached, cached_by}
-use Rattle.pmg_world.specs.Worlds.{World, Event, Step, cache_of, is_own, own_cause}
+use Rattle.pmg_runs.specs.Worlds.{World, Event, Step, cache_of, is_own, own_cause}
 use Rattle.pmg_world.specs.declared.group.Group.{Group}
 
 -- What is kept for a process is its client's cache; the standard's own processes have none, and no put that is not sealed.

@@ -8,10 +8,10 @@ use Rattle.pmg_jobinfo.specs.Jobs.{Jobs, home_of}
 use Rattle.pmg_fence.specs.Entering.{same_proc, entry}
 use Rattle.pmg_fence.specs.Rules.{Scripts, gone_of}
 use Rattle.pmg_fence.specs.declared.entry.Entry.{Entry}
-use Rattle.pmg_node.specs.Acts.{Request, Reply}
-use Rattle.pmg_node.specs.Fitting.{last_fence}
-use Rattle.pmg_world.specs.Laws.{AnswersRise, answers}
-use Rattle.pmg_world.specs.Worlds.{Event, Happened, scripts_after}
+use Rattle.pmg_rules.specs.Acts.{Request, Reply}
+use Rattle.pmg_rules.specs.Fitting.{last_fence}
+use Rattle.pmg_runs.specs.Laws.{AnswersRise, answers}
+use Rattle.pmg_runs.specs.Worlds.{Event, Happened, scripts_after}
 
 -- the scripts of all processes, as the events tell them
 abbrev pub scripts_told : Jobs → List Happened → Scripts

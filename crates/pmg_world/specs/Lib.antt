@@ -1,13 +1,4 @@
-pub mod Worlds
-pub mod Laws
-pub mod Turns
-pub mod Examples
-pub mod Lines
-pub mod Fields
-pub mod Scripts
 pub mod ReplyLines
-pub mod Reading
-pub mod Replays
 pub mod Telling
 pub mod Caching
 pub mod Keeping

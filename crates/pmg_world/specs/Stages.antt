@@ -14,16 +14,16 @@ use Rattle.pmg_wire.specs.Fields.{whole_value}
 use Rattle.pmg_store.specs.Dump.{dump}
 use Rattle.pmg_jobinfo.specs.Jobs.{Jobs, is_node, opened, registered}
 use Rattle.pmg_jobinfo.specs.Refusing.{new_cause, register_cause}
-use Rattle.pmg_node.specs.Acts.{Request, Reply, also}
+use Rattle.pmg_rules.specs.Acts.{Request, Reply, also}
 use Rattle.pmg_node.specs.Members.{members_cause, members_known}
 use Rattle.pmg_node.specs.Servers.{Server}
 use Rattle.pmg_world.specs.Accounts.{Account, IsRun, IsKept}
 use Rattle.pmg_world.specs.Asking.{Asked, asks}
 use Rattle.pmg_world.specs.Delivering.{undelivered}
 use Rattle.pmg_world.specs.ReplyLines.{reply_line, flow_line, members_line}
-use Rattle.pmg_world.specs.Scripts.{Line, said}
+use Rattle.pmg_script.specs.Scripts.{Line, said}
 use Rattle.pmg_world.specs.Telling.{event_of, happened_of}
-use Rattle.pmg_world.specs.Worlds.{Event, Happened}
+use Rattle.pmg_runs.specs.Worlds.{Event, Happened}
 use Rattle.pmg_world.specs.declared.event.Told.{Told}
 use Rattle.pmg_world.specs.declared.phase.Phase.{Phase}
 use Rattle.pmg_world.specs.declared.phase.Phase.TheVariants as phases

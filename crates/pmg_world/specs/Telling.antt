@@ -2,7 +2,7 @@
 use Rattle.pmg_value.specs.Spelling.{spelling}
 use Rattle.pmg_node.specs.Acting.{request_of, reply_as}
 use Rattle.pmg_node.specs.Servers.{reply_in}
-use Rattle.pmg_world.specs.Worlds.{Event, Happened}
+use Rattle.pmg_runs.specs.Worlds.{Event, Happened}
 use Rattle.pmg_world.specs.declared.event.Event.{Event as ToldEvent}
 use Rattle.pmg_world.specs.declared.event.Event.TheVariants as events
 use Rattle.pmg_world.specs.declared.event.Told.{Told}

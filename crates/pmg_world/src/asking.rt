@@ -3,21 +3,19 @@ ghost use Rattle.std.specs.Prelude.{◌≡◌, ◌&&◌, IfOk, IsTrue, if◌then
 ghost use Rattle.pmg_value.specs.Names.{is_key};
 ghost use Rattle.pmg_value.specs.Spelling.{spelling};
 ghost use Rattle.pmg_jobinfo.specs.Jobs.{home_of};
-ghost use Rattle.pmg_node.specs.Acts.{Request as ModelRequest};
+ghost use Rattle.pmg_rules.specs.Acts.{Request as ModelRequest};
 ghost use Rattle.pmg_node.specs.Calls.{get_of};
 ghost use Rattle.pmg_world.specs.Asking.{Asked as ModelAsked, asked_of, asks, are_named, at_home, if_named, is_named};
-ghost use Rattle.pmg_world.specs.Lines.{ReadsAll};
-ghost use Rattle.pmg_world.specs.Scripts.{line_of};
-ghost use Rattle.pmg_world.specs.Worlds.{Event as ModelEvent};
+ghost use Rattle.pmg_script.specs.Lines.{ReadsAll};
+ghost use Rattle.pmg_script.specs.Scripts.{line_of};
+ghost use Rattle.pmg_runs.specs.Worlds.{Event as ModelEvent};
 
 use crate::event::Event;
-use crate::fields::Named;
-use crate::lines::LineFault;
-use crate::script::Line;
 use pmg_get::Mode;
 use pmg_jobinfo::Registry;
 use pmg_node::Request;
 use pmg_scope::Scope;
+use pmg_script::{Line, LineFault, Named};
 use pmg_value::{Key, Nspace, Proc, Value, is_key_text, is_nspace_name};
 use std::alloc::{AllocError, Global};
 

@@ -3,7 +3,7 @@ ghost use Rattle.std.specs.Prelude.{◌≡◌, ◌<◌, ◌+◌, ◌||◌, ℕ, 
 ghost use Rattle.std.specs.FinSet as set;
 ghost use Rattle.pmg_world.specs.Delivering.{IsNoted, delivers, is_number, missing};
 ghost use Rattle.pmg_world.specs.Telling.{event_of};
-ghost use Rattle.pmg_world.specs.Worlds.{Event as ModelEvent};
+ghost use Rattle.pmg_runs.specs.Worlds.{Event as ModelEvent};
 ghost use Rattle.pmg_world.specs.declared.event.Told.{Told as AnyTold};
 
 use crate::event::{Event, Told};

@@ -13,13 +13,14 @@ ghost use Rattle.pmg_node.specs.Servers.{Server, IsAnswered, RepliesEntry, after
 ghost use Rattle.pmg_world.specs.Caching.{cached_by};
 ghost use Rattle.pmg_world.specs.Keeping.{AreNew, Happens, IsGroup, IsSame, Stands, own_answer, own_key, replied};
 ghost use Rattle.pmg_world.specs.Telling.{event_of};
-ghost use Rattle.pmg_world.specs.Worlds.{Event as ModelEvent, reply_in, start};
+ghost use Rattle.pmg_runs.specs.Worlds.{Event as ModelEvent, reply_in, start};
 ghost use Rattle.pmg_world.specs.declared.group.Group.{Group as GroupOf};
 
 use crate::caches::Caches;
 use crate::event::Event;
 use pmg_jobinfo::Registry;
-use pmg_node::{Act, Node, Reply, Request, Sent};
+use pmg_node::{Act, Node, Reply, Request};
+use pmg_rules::Sent;
 use pmg_scope::{Reach, Scope, includes};
 use pmg_value::{Key, NodeId, Proc, Refusal, Value};
 use std::alloc::AllocError;

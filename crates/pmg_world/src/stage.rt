@@ -3,23 +3,21 @@ ghost use Rattle.std.specs.Prelude.{◌≡◌, ◌≢◌, ◌≤◌, ◌+◌, �
 ghost use Rattle.pmg_store.specs.declared.failure.Failure.TheVariants as failures;
 ghost use Rattle.pmg_store.specs.declared.input.TheConstants.{MOST_READS};
 ghost use Rattle.pmg_value.specs.declared.refusal.Refusal.TheVariants as refusals;
-ghost use Rattle.pmg_world.specs.Replays.{Replayed};
-ghost use Rattle.pmg_world.specs.Scripts.{line_of, texts};
+ghost use Rattle.pmg_script.specs.Replays.{Replayed};
+ghost use Rattle.pmg_script.specs.Scripts.{line_of, texts};
 ghost use Rattle.pmg_world.specs.Stages.{OpensAt, PlaysLine, RegistersAt, Runs, RunsAt, Stops, AsksNothing, is_over, ok_line, refused_line, with_space};
-ghost use Rattle.pmg_world.specs.declared.lines.LineFault.TheVariants as faults;
+ghost use Rattle.pmg_script.specs.declared.lines.LineFault.TheVariants as faults;
 ghost use Rattle.pmg_world.specs.declared.phase.Phase.{Phase as AnyPhase};
 ghost use Rattle.pmg_world.specs.declared.phase.Phase.TheVariants as phases;
 
 use crate::asking::ask;
-use crate::lines::LineFault;
 use crate::nodes::nodes_of;
 use crate::phase::Phase;
-use crate::playing::{Ended, Player, play_script};
 use crate::reply_lines::{refusal_line, reply_line};
 use crate::scene::Scene;
-use crate::script::{Line, read_line};
 use pmg_jobinfo::Registry;
 use pmg_node::Reply;
+use pmg_script::{Ended, Line, LineFault, Player, play_script, read_line};
 use pmg_store::{Failure, WatchedReader};
 use pmg_value::{Nspace, Refusal, WatchedWriter, is_nspace_name};
 use std::alloc::{AllocError, Global};

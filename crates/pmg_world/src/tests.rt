@@ -2,7 +2,8 @@
 mod faults;
 mod rows;
 
-use crate::{Ended, replay};
+use crate::replay;
+use pmg_script::Ended;
 use pmg_store::{Failure, WatchedReader};
 use pmg_value::{Refusal, WatchedWriter};
 use std::alloc::{AllocError, Global};

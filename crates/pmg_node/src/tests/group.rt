@@ -1,7 +1,8 @@
 //! The nodes of a group, and scripts of what they do, line by line.
 use crate::tests::text::{put, put_answer, put_sent};
 use crate::tests::words::{batch, frame, key, number, process, processes, word, words_of};
-use crate::{Act, Node, Reply, Request, Sent, Status};
+use crate::{Act, Node, Reply, Request, Status};
+use pmg_rules::Sent;
 use pmg_get::Mode;
 use pmg_jobinfo::Registry;
 use pmg_value::{NodeId, Nspace, Refusal, WatchedWriter};

@@ -1,5 +1,6 @@
 //! What a node replies and sends, as text: one line for the reply, and one for each frame.
-use crate::{Reply, Sent};
+use crate::Reply;
+use pmg_rules::Sent;
 use pmg_commit::Piece;
 use pmg_frame::{CommitAsk, FenceName, Frame, Header, Local, State};
 use pmg_value::{Proc, Refusal, push_number};

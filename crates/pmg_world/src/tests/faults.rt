@@ -1,6 +1,7 @@
 //! How scripts end that do not come to their end.
 use super::{is_no_memory, played, rows, texts_of};
-use crate::{Ended, replay};
+use crate::replay;
+use pmg_script::Ended;
 use pmg_store::{Failure, WatchedReader};
 use pmg_value::{Cause, Refusal, WatchedWriter};
 use std::alloc::{AllocError, Global};

@@ -2,9 +2,9 @@ use Rattle.std.proofs.Common.{List, ◌++◌, refl, sym, ap, ◌∙◌}
 use Rattle.std.specs.Option.{option_to_list}
 use Rattle.std.proofs.lemmas.List.{append_assoc, append-nil}
 use Rattle.pmg_dmodex.specs.Levels.{Levels}
-use Rattle.pmg_node.specs.Choosing.{frame_for, marked_if, sends}
+use Rattle.pmg_rules.specs.Choosing.{frame_for, marked_if, sends}
 use Rattle.pmg_node.specs.Owns.{sealed_of}
-use Rattle.pmg_node.specs.declared.sent.Sent.{Sent}
+use Rattle.pmg_rules.specs.declared.sent.Sent.{Sent}
 use Rattle.pmg_node.proofs.SendLemmas.{sends_frames, sends_marks}
 use Rattle.pmg_node.proofs.due.send_each.Goals as goal
 

@@ -1,5 +1,5 @@
 use Rattle.std.proofs.Common.{◌≡◌, ◌++◌}
-use Rattle.pmg_node.specs.Choosing.{sends}
+use Rattle.pmg_rules.specs.Choosing.{sends}
 use Rattle.pmg_node.specs.Marking.{marks_back, AreSet}
 use Rattle.pmg_node.specs.Owns.{sealed_of}
 use Rattle.pmg_node.proofs.due.send_each.Given as goal

@@ -1,6 +1,6 @@
 use Rattle.std.proofs.Common.{refl, sym, ap, ◌∙◌}
 use Rattle.pmg_dmodex.specs.Levels.{with_level}
-use Rattle.pmg_node.specs.Choosing.{marked_by}
+use Rattle.pmg_rules.specs.Choosing.{marked_by}
 use Rattle.pmg_node.proofs.SendLemmas.{no_piece}
 use Rattle.pmg_node.proofs.due.set_mark.Goals as goal
 

@@ -6,7 +6,7 @@ use Rattle.pmg_commit.specs.Sealed.{Sealed, end_of, ended_with}
 use Rattle.pmg_commit.specs.TakenBack.{CanTakeBack as CanTakeSealBack}
 use Rattle.pmg_fence.specs.Changes.{ended_by, news}
 use Rattle.pmg_fence.specs.Tables.{names_of}
-use Rattle.pmg_node.specs.Choosing.{announcing}
+use Rattle.pmg_rules.specs.Choosing.{announcing}
 use Rattle.pmg_node.specs.Endings.{own_ended, table_ended}
 use Rattle.pmg_node.specs.Owns.{Own, sealed_of}
 use Rattle.pmg_node.specs.Sealers.{AllSealed, sealed_by}

@@ -6,9 +6,9 @@ use Rattle.pmg_value.specs.declared.value.Value.{Value}
 use Rattle.pmg_value.specs.declared.refusal.Refusal.TheVariants as refusals
 use Rattle.pmg_get.specs.Gets.{Outcome, found_or}
 use Rattle.pmg_jobinfo.specs.Reserved.{is_general}
-use Rattle.pmg_node.specs.Acts.{Reply, free_cause, reply_of}
+use Rattle.pmg_rules.specs.Acts.{Reply, free_cause, reply_of}
 use Rattle.pmg_world.specs.Keeping.{own_answer}
-use Rattle.pmg_world.specs.Worlds.{reply_in}
+use Rattle.pmg_runs.specs.Worlds.{reply_in}
 use Rattle.pmg_world.proofs.CauseLemmas.{due_bad, due_refused, due_free}
 use Rattle.pmg_world.proofs.GroupLemmas.{not_short}
 use Rattle.pmg_world.proofs.group.own_get.Goals as goal

@@ -2,7 +2,7 @@ use Rattle.std.proofs.Common.{◌∙◌, ap, sym}
 use Rattle.std.proofs.lemmas.Result.{err_from_is_err_and}
 use Rattle.pmg_jobinfo.specs.Jobs.{Jobs}
 use Rattle.pmg_world.specs.Asking.{asked_of, asks}
-use Rattle.pmg_world.specs.Scripts.{line_of}
+use Rattle.pmg_script.specs.Scripts.{line_of}
 use Rattle.pmg_world.specs.Stages.{AsksNothing}
 use Rattle.pmg_world.proofs.StageSteps.{not_read, same_fault}
 use Rattle.pmg_world.proofs.stage.run_line.Goals as goal

@@ -2,7 +2,7 @@ use Rattle.std.proofs.Common.{ap, ◌∙◌}
 use Rattle.std.specs.FinSet as set
 use Rattle.std.specs.List.{flat_map}
 use Rattle.pmg_node.specs.Calls.{standing_of}
-use Rattle.pmg_node.specs.Choosing.{waited}
+use Rattle.pmg_rules.specs.Choosing.{waited}
 use Rattle.pmg_node.proofs.CallLemmas.{gathered_rows}
 use Rattle.pmg_node.proofs.NameLemmas.{put_names, put_names-empty}
 use Rattle.pmg_node.proofs.calls.Calls.names.Goals as goal

@@ -4,7 +4,7 @@ use Rattle.std.specs.FinSet as set
 use Rattle.std.specs.List.{flat_map}
 use Rattle.pmg_frame.specs.FenceOrder.{name_cmp}
 use Rattle.pmg_node.specs.Calls.{standing_of}
-use Rattle.pmg_node.specs.Choosing.{waited}
+use Rattle.pmg_rules.specs.Choosing.{waited}
 use Rattle.pmg_node.proofs.NameLemmas.{put_names}
 use Rattle.pmg_node.proofs.calls.Calls.names.Given as goal
 

@@ -2,7 +2,7 @@ use Rattle.std.proofs.Common.{◌≡◌, refl, sym, ap, subst, ◌∙◌}
 use Rattle.std.specs.Prelude.{IfOk}
 use Rattle.std.proofs.lemmas.Result.{err_from_is_err_and}
 use Rattle.pmg_node.specs.Acting.{act_of, acted_reply, delivery_joins, joins_in}
-use Rattle.pmg_node.specs.Acts.{Act}
+use Rattle.pmg_rules.specs.Acts.{Act}
 use Rattle.pmg_node.specs.Joining.{Joins, joins}
 use Rattle.pmg_node.specs.Replies.{committed_reply}
 use Rattle.pmg_node.specs.Servers.{RepliesEntry, reply_to}

@@ -1,7 +1,7 @@
 use Rattle.std.proofs.Common.{sym, ap, ◌∙◌}
 use Rattle.std.proofs.lemmas.Result.{IfOk-weaker}
 use Rattle.pmg_frame.specs.declared.frame.Frame.TheVariants as frames
-use Rattle.pmg_node.specs.Acts.{Act, is_taken}
+use Rattle.pmg_rules.specs.Acts.{Act, is_taken}
 use Rattle.pmg_node.specs.Calls.{all_instead}
 use Rattle.pmg_node.specs.Content.{server_of}
 use Rattle.pmg_node.specs.Servers.{Server, after}

@@ -2,16 +2,16 @@ use Rattle.std.proofs.Common.{◌++◌, Err, List, sym, ap, subst, append-nil, �
 use Rattle.std.proofs.lemmas.Result.{err_from_is_err_and}
 use Rattle.pmg_value.specs.Spelling.{spelling}
 use Rattle.pmg_get.specs.declared.view.Mode.{Mode}
-use Rattle.pmg_node.specs.Acts.{Act, Request, also, free_cause, target_cause, reply_of}
+use Rattle.pmg_rules.specs.Acts.{Act, Request, also, free_cause, target_cause, reply_of}
 use Rattle.pmg_node.specs.Calls.{get_of}
-use Rattle.pmg_node.specs.Holdings.{answer_in}
+use Rattle.pmg_rules.specs.Holdings.{answer_in}
 use Rattle.pmg_node.specs.Replies.{asked_reply}
 use Rattle.pmg_node.specs.Servers.{Refuses, IsAccepted, sent_by, after}
 use Rattle.pmg_node.specs.declared.parking.Asked.{Asked}
-use Rattle.pmg_node.specs.declared.sent.Sent.{Sent}
+use Rattle.pmg_rules.specs.declared.sent.Sent.{Sent}
 use Rattle.pmg_node.proofs.ActLemmas.{refused_reply, refused_after, refused_sent}
 use Rattle.pmg_node.proofs.AskLemmas.{ask_free, reserved_named, ask_cause, ask_reply, found_told, refused_told, parks_by, waits_mode, told_after, told_sent}
-use Rattle.pmg_node.proofs.KeptSettled.{parks_waiting}
+use Rattle.pmg_rules.proofs.KeptSettled.{parks_waiting}
 use Rattle.pmg_node.proofs.RefusalLemmas.{refused_as, refuses_first}
 use Rattle.pmg_node.proofs.node.Node.ask.Goals as goal
 

@@ -2,8 +2,8 @@ use Rattle.std.proofs.Common.{◌≡◌, nat_lt, true, false, sym, ap, ◌∙◌
 use Rattle.std.proofs.lemmas.Result.{IfOk-weaker}
 use Rattle.pmg_commit.specs.Data.{absorbed, level_at}
 use Rattle.pmg_frame.specs.declared.frame.Frame.TheVariants as frames
-use Rattle.pmg_node.specs.Acts.{Act, is_taken}
-use Rattle.pmg_node.specs.Choosing.{due_by}
+use Rattle.pmg_rules.specs.Acts.{Act, is_taken}
+use Rattle.pmg_rules.specs.Choosing.{due_by}
 use Rattle.pmg_node.specs.Content.{server_of}
 use Rattle.pmg_node.specs.Servers.{Server, after}
 use Rattle.pmg_node.proofs.FrameLemmas.{below_is, not_below_is}

@@ -2,16 +2,16 @@ use Rattle.std.proofs.Common.{◌≡◌, nat_lt, Bool, true, false, List, ◌++�
 use Rattle.pmg_frame.specs.declared.frame.Frame.{Frame}
 use Rattle.pmg_frame.specs.declared.frame.Frame.TheVariants as frames
 use Rattle.pmg_dmodex.specs.Levels.{Levels}
-use Rattle.pmg_node.specs.Acts.{Act, Done, holds_unless}
-use Rattle.pmg_node.specs.Choosing.{Out, asked_marks, sends}
+use Rattle.pmg_rules.specs.Acts.{Act, Done, holds_unless}
+use Rattle.pmg_rules.specs.Choosing.{Out, asked_marks, sends}
 use Rattle.pmg_node.specs.Content.{server_of}
 use Rattle.pmg_dmodex.specs.Requests.{Requests, holding}
-use Rattle.pmg_node.specs.Holdings.{sealer_of}
+use Rattle.pmg_rules.specs.Holdings.{sealer_of}
 use Rattle.pmg_node.specs.Owns.{sealed_of}
 use Rattle.pmg_node.specs.Servers.{Server, IsNode}
 use Rattle.pmg_node.specs.Telling.{answering_by}
-use Rattle.pmg_node.specs.declared.due.Due.{Due}
-use Rattle.pmg_node.specs.declared.sent.Sent.{Sent}
+use Rattle.pmg_rules.specs.declared.due.Due.{Due}
+use Rattle.pmg_rules.specs.declared.sent.Sent.{Sent}
 use Rattle.pmg_node.proofs.FrameLemmas.{below_is, not_below_is, direct_taken, with_marks, waits_for, range_out, ignored_is, ignored_silent, direct_is, direct_sent}
 use Rattle.pmg_node.proofs.NodeKept.{node_stays}
 use Rattle.pmg_node.proofs.SilentLemmas.{after_is, sent_none}

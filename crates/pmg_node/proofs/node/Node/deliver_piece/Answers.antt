@@ -1,12 +1,12 @@
 use Rattle.std.proofs.Common.{List, ◌++◌, sym, ap, subst, append-nil, ◌∙◌}
 use Rattle.pmg_frame.specs.declared.frame.Frame.{Frame}
 use Rattle.pmg_frame.specs.declared.frame.Frame.TheVariants as frames
-use Rattle.pmg_node.specs.Acts.{Act, Done}
-use Rattle.pmg_node.specs.Choosing.{sends}
+use Rattle.pmg_rules.specs.Acts.{Act, Done}
+use Rattle.pmg_rules.specs.Choosing.{sends}
 use Rattle.pmg_node.specs.Content.{server_of}
-use Rattle.pmg_node.specs.Holdings.{sealer_of}
+use Rattle.pmg_rules.specs.Holdings.{sealer_of}
 use Rattle.pmg_node.specs.Servers.{Server, IsNode}
-use Rattle.pmg_node.specs.declared.sent.Sent.{Sent}
+use Rattle.pmg_rules.specs.declared.sent.Sent.{Sent}
 use Rattle.pmg_node.proofs.FrameLemmas.{ignored_is, ignored_silent}
 use Rattle.pmg_node.proofs.NodeKept.{node_stays}
 use Rattle.pmg_node.proofs.PieceLemmas.{piece_reply, piece_sent, piece_moved}

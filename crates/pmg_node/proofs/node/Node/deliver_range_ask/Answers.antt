@@ -2,13 +2,13 @@ use Rattle.std.proofs.Common.{◌≡◌, List, ◌++◌, Some, sym, ap, subst, a
 use Rattle.pmg_frame.specs.declared.frame.Frame.{Frame}
 use Rattle.pmg_frame.specs.declared.frame.Frame.TheVariants as frames
 use Rattle.pmg_dmodex.specs.Levels.{Levels}
-use Rattle.pmg_node.specs.Acts.{Act, Done}
-use Rattle.pmg_node.specs.Choosing.{Out, asked_marks, sends}
+use Rattle.pmg_rules.specs.Acts.{Act, Done}
+use Rattle.pmg_rules.specs.Choosing.{Out, asked_marks, sends}
 use Rattle.pmg_node.specs.Owns.{sealed_of}
 use Rattle.pmg_node.specs.Servers.{Server, IsNode}
 use Rattle.pmg_node.specs.Telling.{answering_by}
-use Rattle.pmg_node.specs.declared.due.Due.{Due}
-use Rattle.pmg_node.specs.declared.sent.Sent.{Sent}
+use Rattle.pmg_rules.specs.declared.due.Due.{Due}
+use Rattle.pmg_rules.specs.declared.sent.Sent.{Sent}
 use Rattle.pmg_node.proofs.FrameLemmas.{range_taken, with_marks, range_out, ignored_is, ignored_silent, range_is, range_sent}
 use Rattle.pmg_node.proofs.SilentLemmas.{after_is, sent_none}
 use Rattle.pmg_node.proofs.node.Node.deliver_range_ask.Goals as goal

@@ -1,8 +1,8 @@
 use Rattle.std.proofs.Common.{List, ◌++◌, sym, ap, subst, ◌∙◌}
-use Rattle.pmg_node.specs.Choosing.{Out, nudging}
+use Rattle.pmg_rules.specs.Choosing.{Out, nudging}
 use Rattle.pmg_node.specs.Servers.{IsNode}
-use Rattle.pmg_node.specs.declared.due.Due.{Due}
-use Rattle.pmg_node.specs.declared.sent.Sent.{Sent}
+use Rattle.pmg_rules.specs.declared.due.Due.{Due}
+use Rattle.pmg_rules.specs.declared.sent.Sent.{Sent}
 use Rattle.pmg_node.proofs.FrameLemmas.{with_marks}
 use Rattle.pmg_node.proofs.NudgeLemmas.{nudge_sends, nudge_reply, nudge_after, nudge_sent}
 use Rattle.pmg_node.proofs.node.Node.nudge.Goals as goal

@@ -1,14 +1,14 @@
 use Rattle.std.proofs.Common.{List, ◌++◌, sym, ap, subst, ◌∙◌}
 use Rattle.std.specs.FinMap as finite
 use Rattle.pmg_get.specs.declared.view.Mode.TheVariants as modes
-use Rattle.pmg_node.specs.Acts.{Act, Request}
+use Rattle.pmg_rules.specs.Acts.{Act, Request}
 use Rattle.pmg_node.specs.Calls.{get_of}
-use Rattle.pmg_node.specs.Choosing.{Out, asking}
+use Rattle.pmg_rules.specs.Choosing.{Out, asking}
 use Rattle.pmg_node.specs.Content.{server_of}
-use Rattle.pmg_node.specs.Holdings.{Standing}
+use Rattle.pmg_rules.specs.Holdings.{Standing}
 use Rattle.pmg_node.specs.Servers.{IsNode}
-use Rattle.pmg_node.specs.declared.due.Due.{Due}
-use Rattle.pmg_node.specs.declared.sent.Sent.{Sent}
+use Rattle.pmg_rules.specs.declared.due.Due.{Due}
+use Rattle.pmg_rules.specs.declared.sent.Sent.{Sent}
 use Rattle.pmg_node.proofs.AskLemmas.{park_sends, park_moved, parks_sent}
 use Rattle.pmg_node.proofs.NodeKept.{node_stays}
 use Rattle.pmg_node.proofs.node.Node.park.Goals as goal

@@ -7,9 +7,9 @@ use Rattle.pmg_scope.specs.declared.scope.Reach.TheVariants as reach
 use Rattle.pmg_pset.specs.Sets.{host}
 use Rattle.pmg_node.specs.Acting.{acted_reply, joins_in, joins_none, request_of}
 use Rattle.pmg_node.specs.Calls.{get_of}
-use Rattle.pmg_node.specs.Holdings.{sealer_of}
+use Rattle.pmg_rules.specs.Holdings.{sealer_of}
 use Rattle.pmg_node.specs.Joining.{joins}
-use Rattle.pmg_node.specs.Acts.{Act, Request, Reply}
+use Rattle.pmg_rules.specs.Acts.{Act, Request, Reply}
 use Rattle.pmg_node.specs.Replies.{asked_reply, defined_reply, ended_reply, release_reply, taking_reply}
 use Rattle.pmg_node.specs.Servers.{RepliesEntry, reply_in, reply_to}
 use Rattle.pmg_node.specs.declared.act.Request.{Request as AskedRequest}

@@ -6,13 +6,13 @@ use Rattle.pmg_scope.specs.declared.scope.Reach.TheVariants as reach
 use Rattle.pmg_commit.specs.Sealed.{ended_with, piece_at}
 use Rattle.pmg_fence.specs.Codes.{Known}
 use Rattle.pmg_dmodex.specs.Requests.{Requests}
-use Rattle.pmg_node.specs.Acts.{Act, Request, Reply, caller_cause}
+use Rattle.pmg_rules.specs.Acts.{Act, Request, Reply, caller_cause}
 use Rattle.pmg_node.specs.Content.{server_of}
 use Rattle.pmg_node.specs.Endings.{own_ended, table_ended}
-use Rattle.pmg_node.specs.Holdings.{sealer_of}
+use Rattle.pmg_rules.specs.Holdings.{sealer_of}
 use Rattle.pmg_node.specs.Owns.{Own, sealed_of}
 use Rattle.pmg_node.specs.Servers.{Server, IsNode, reply_to, sent_by, after}
-use Rattle.pmg_node.specs.declared.sent.Sent.{Sent}
+use Rattle.pmg_rules.specs.declared.sent.Sent.{Sent}
 use Rattle.pmg_node.specs.Answered.{ArePlain}
 use Rattle.pmg_node.proofs.AnswerLemmas.{plain_calls}
 use Rattle.pmg_node.proofs.ActLemmas.{refused_after, refused_sent}

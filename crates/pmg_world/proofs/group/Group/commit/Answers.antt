@@ -5,12 +5,12 @@ use Rattle.pmg_value.specs.declared.refusal.Refusal.{Refusal}
 use Rattle.pmg_value.specs.declared.refusal.Refusal.TheVariants as refusals
 use Rattle.pmg_scope.specs.Cached.{after_commit, unsealed_of}
 use Rattle.pmg_value.specs.Rows.{changed_at}
-use Rattle.pmg_node.specs.Acts.{Act, says}
-use Rattle.pmg_node.specs.Fitting.{is_refusal, unless_refused}
+use Rattle.pmg_rules.specs.Acts.{Act, says}
+use Rattle.pmg_rules.specs.Fitting.{is_refusal, unless_refused}
 use Rattle.pmg_node.specs.declared.act.Reply.{Reply as GivenReply}
 use Rattle.pmg_world.specs.Caching.{AllCached, cached_by}
 use Rattle.pmg_world.specs.Keeping.{AreCaches, replied}
-use Rattle.pmg_world.specs.Worlds.{Doing, Event, cache_of}
+use Rattle.pmg_runs.specs.Worlds.{Doing, Event, cache_of}
 use Rattle.pmg_world.specs.declared.group.Group.{Group}
 use Rattle.pmg_world.proofs.ClientLemmas.{commit_seals, unsealed_is}
 use Rattle.pmg_world.proofs.GroupLemmas.{acts_on, happens_by, inside_is_node, no_refusal, outside_is_none, refused_stays, short_happens}

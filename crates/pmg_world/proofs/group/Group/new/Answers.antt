@@ -1,7 +1,7 @@
 use Rattle.std.proofs.Common.{length, sym, subst}
 use Rattle.pmg_jobinfo.specs.Jobs.{Jobs, AreJobs}
 use Rattle.pmg_world.specs.Keeping.{AreNew, Stands}
-use Rattle.pmg_world.specs.Worlds.{start}
+use Rattle.pmg_runs.specs.Worlds.{start}
 use Rattle.pmg_world.specs.declared.group.Group.{Group}
 use Rattle.pmg_world.proofs.StartLemmas.{starts}
 use Rattle.pmg_world.proofs.group.Group.new.Goals as goal

@@ -9,7 +9,7 @@ use Rattle.pmg_node.specs.declared.act.Reply.TheVariants as replies
 use Rattle.pmg_scope.specs.Cached.{put_cause, with_put}
 use Rattle.pmg_world.specs.Caching.{AllCached, cached_by}
 use Rattle.pmg_world.specs.Keeping.{Happens}
-use Rattle.pmg_world.specs.Worlds.{Event}
+use Rattle.pmg_runs.specs.Worlds.{Event}
 use Rattle.pmg_world.specs.declared.group.Group.{Group}
 use Rattle.pmg_world.proofs.CauseLemmas.{fails_due}
 use Rattle.pmg_world.proofs.GroupLemmas.{happens_by, not_short, short_happens, node_there}

@@ -4,11 +4,11 @@ use Rattle.std.proofs.lemmas.Bool.Decides.{nat_tests}
 use Rattle.std.proofs.lemmas.Result.{err_from_is_err_and}
 use Rattle.pmg_value.specs.declared.refusal.Refusal.TheVariants as refusals
 use Rattle.pmg_node.specs.Acting.{request_of}
-use Rattle.pmg_node.specs.Acts.{Act, says}
-use Rattle.pmg_node.specs.Fitting.{is_refusal, unless_refused}
+use Rattle.pmg_rules.specs.Acts.{Act, says}
+use Rattle.pmg_rules.specs.Fitting.{is_refusal, unless_refused}
 use Rattle.pmg_world.specs.Caching.{AllCached, cached_by}
 use Rattle.pmg_world.specs.Keeping.{AreCaches, replied}
-use Rattle.pmg_world.specs.Worlds.{Doing, Event, reply_in}
+use Rattle.pmg_runs.specs.Worlds.{Doing, Event, reply_in}
 use Rattle.pmg_world.proofs.ClientLemmas.{request_keeps}
 use Rattle.pmg_world.proofs.GroupLemmas.{acts_on, happens_by, inside_is_node, node_there, outside_is_none, refused_stays, says_nothing, short_happens, stays}
 use Rattle.pmg_world.proofs.HappenLemmas.{at_node_is, own_answer_is, own_due, own_is_due, request_nowhere, request_there}

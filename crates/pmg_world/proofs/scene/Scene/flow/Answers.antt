@@ -4,7 +4,7 @@ use Rattle.pmg_world.specs.Accounts.{Account, Adds}
 use Rattle.pmg_world.specs.Delivering.{IsNoted, missing}
 use Rattle.pmg_world.specs.ReplyLines.{flow_line}
 use Rattle.pmg_world.specs.Stages.{Flows}
-use Rattle.pmg_world.specs.Worlds.{Event}
+use Rattle.pmg_runs.specs.Worlds.{Event}
 use Rattle.pmg_world.specs.declared.event.Event.{Event as ToldEvent}
 use Rattle.pmg_world.specs.declared.event.Told.{Told}
 use Rattle.pmg_world.proofs.Scenes.{noted_after, flows_all}

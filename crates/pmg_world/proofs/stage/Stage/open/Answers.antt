@@ -2,7 +2,7 @@ use Rattle.std.proofs.Common.{◌∙◌, sym}
 use Rattle.pmg_value.specs.CheckOrder.{first_of}
 use Rattle.pmg_jobinfo.specs.Jobs.{opened}
 use Rattle.pmg_jobinfo.specs.Refusing.{new_cause}
-use Rattle.pmg_world.specs.Scripts.{texts}
+use Rattle.pmg_script.specs.Scripts.{texts}
 use Rattle.pmg_world.proofs.StageSteps.{opens_there, refused_there, not_fresh, refuses}
 use Rattle.pmg_world.proofs.stage.Stage.open.Goals as goal
 

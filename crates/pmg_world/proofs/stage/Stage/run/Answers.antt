@@ -1,6 +1,6 @@
 use Rattle.std.proofs.Common.{◌∙◌, ap, sym, Err}
 use Rattle.std.proofs.lemmas.Result.{err_from_is_err_and, IfOk-weaker}
-use Rattle.pmg_world.specs.Scripts.{line_of}
+use Rattle.pmg_script.specs.Scripts.{line_of}
 use Rattle.pmg_world.specs.Stages.{Runs, RunsAt}
 use Rattle.pmg_world.specs.declared.phase.Phase.TheVariants as phases
 use Rattle.pmg_world.proofs.StageSteps.{runs_there, starts_there, nothing_runs, nothing_starts, closed, same_fault}

@@ -1,8 +1,8 @@
 use Rattle.std.proofs.Common.{◌∙◌, ap, sym, Some, List, ℕ, Bor}
 use Rattle.std.proofs.lemmas.Result.{err_from_is_err_and, IfOk-weaker}
-use Rattle.pmg_world.specs.Scripts.{Line, line_of, said, texts}
+use Rattle.pmg_script.specs.Scripts.{Line, line_of, said, texts}
 use Rattle.pmg_world.specs.Stages.{OpensAt, PlaysLine, RegistersAt, RunsAt}
-use Rattle.pmg_world.specs.declared.script.Line.{Line as SaidLine}
+use Rattle.pmg_script.specs.declared.script.Line.{Line as SaidLine}
 use Rattle.pmg_world.proofs.StageSteps.{not_read, same_fault, plays_nothing, plays_nodes, plays_space, plays_other, stops_unread, stops_nodes, stops_space, stops_other}
 use Rattle.pmg_world.proofs.stage.StagePlayer.play.Goals as goal
 

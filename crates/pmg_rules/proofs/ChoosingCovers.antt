@@ -1,0 +1,372 @@
+-- What each act makes due covers what it changed.
+use Rattle.std.proofs.Common.{◌≡◌, ℕ, suc, ◌<◌, ◌≤◌, Bool, true, false, List, [], ◌∷◌, ◌++◌, Option, Some, None, inl, refl, sym, ap, subst, ◌∙◌, arith}
+use Rattle.std.specs.Prelude.{if◌then◌else◌, nat_lt}
+use Rattle.std.specs.FinMap as finite
+use Rattle.std.specs.FinMap.{nat_cmp-IsAntisymmetric}
+use Rattle.std.specs.List.{flat_map}
+use Rattle.std.proofs.lemmas.Bool.{false≢true, lt-ltb}
+use Rattle.pmg_value.specs.Lists.{In}
+use Rattle.pmg_value.specs.Signatures.{Signature, FenceName}
+use Rattle.pmg_value.specs.declared.process.Proc.{Proc}
+use Rattle.pmg_value.proofs.ListLemmas.{in_append_left, in_append_right, in_map}
+use Rattle.pmg_scope.specs.Cached.{Unsealed}
+use Rattle.pmg_commit.specs.Knowledge.{Contribution}
+use Rattle.pmg_commit.specs.Sealed.{Sealed}
+use Rattle.pmg_frame.specs.Fences.{FenceAsk, CommitAsk, header}
+use Rattle.pmg_frame.specs.declared.frame.Frame.{Frame}
+use Rattle.pmg_frame.specs.declared.frame.Frame.TheVariants as frames
+use Rattle.pmg_frame.specs.declared.local.Local.{Local}
+use Rattle.pmg_jobinfo.specs.Jobs.{Jobs}
+use Rattle.pmg_fence.specs.Changes.{news, present, placed, ended_by, fence_entered, fence_told, next_name}
+use Rattle.pmg_fence.specs.Tables.{Numbers, Fence, series_at, fence_at, has_name, count_of, names_of}
+use Rattle.pmg_fence.proofs.HeaderLemmas.{by_proc, in_filter}
+use Rattle.pmg_dmodex.specs.Levels.{levels_of, level_at as held_at, below}
+use Rattle.pmg_rules.specs.Acts.{Request, Act, leaves, takes, asks, enters_fence, holds_unless, receives}
+use Rattle.pmg_rules.specs.Choosing.{announcing, piece_due, settling, answering, asking_for, telling_of, nudging, due_by_frame}
+use Rattle.pmg_rules.specs.declared.due.Due.{Due}
+use Rattle.pmg_rules.specs.declared.due.Due.TheVariants as sendings
+use Rattle.pmg_rules.specs.Holdings.{Get, Standing, Holding, sealer_of, call_of, with_table, called, uncalled, sealing, settled}
+use Rattle.pmg_rules.specs.Kept.{Holds}
+use Rattle.pmg_rules.specs.Sending.{sent, own_header_of, asked_by}
+use Rattle.pmg_rules.proofs.KeptBasics.{put_cases, removed_some, entry_listed}
+use Rattle.pmg_rules.proofs.KeptChanges.{settled_some, settle_parked, sealer_other}
+use Rattle.pmg_rules.proofs.SendingLists.{in_flat}
+use Rattle.pmg_rules.proofs.SendingOwed.{Covers}
+use Rattle.pmg_rules.proofs.ChoosingNews.{by_name, present_named, present_other, news_has, name_listed}
+
+-- an act that asks for nothing
+pub record IsPlain (a : Act) : Type 0 where
+  pub frames : (frame : Frame) → a ≡ Act.deliver frame → ⊥
+  pub nudges : a ≡ Act.request Request.nudge → ⊥
+
+-- whether it is a nudge
+abbrev pub is_nudge : Request → Bool
+is_nudge Request.nudge = true
+is_nudge _ = false
+
+module _ (jobs : Jobs) (id : ℕ) (old : Holding) (holds : Holds jobs id old) where
+  -- what stays as it was
+  pub record Stays (new : Holding) : Type 0 where
+    pub headers : (f : FenceName) → own_header_of jobs id new f ≡ own_header_of jobs id old f
+    pub sealers : (p : Proc) → sealer_of new p ≡ sealer_of old p
+    pub gets : (p : Proc) (get : Get) → call_of new p ≡ Some (Standing.parked get) → call_of old p ≡ None → ⊥
+
+  pub no_header : (new : Holding) (f : FenceName) (locals : List Local) → own_header_of jobs id new f ≡ own_header_of jobs id old f → own_header_of jobs id new f ≡ Some locals → own_header_of jobs id old f ≡ None → ⊥
+  no_header new f locals same now before = cc
+
+  pub no_piece : (new : Holding) (p : Proc) (node level : ℕ) → sealer_of new p ≡ sealer_of old p → held_at old.held p node ≡ Some level → level < (sealer_of new p).level → ⊥
+  no_piece new p node level same held less =
+      let less_old : level < (sealer_of old p).level = subst (λ (z : Sealed). level < z.level) same less in
+      let known : (sealer_of old p).level ≤ level = holds.levels p node level held in
+      omega (arith, less_old, known)
+
+  -- a get that waits once calls are settled
+  was_parked : (h : Holding) (p : Proc) (get : Get) → call_of (settled jobs id h) p ≡ Some (Standing.parked get) → call_of h p ≡ Some (Standing.parked get)
+  was_parked h p get e = let was = settled_some jobs id h p (Standing.parked get) e in was.1 ∙ ap Some (settle_parked jobs id h was.0 get was.2).0
+
+  not_none : (p : Proc) (s : Standing) → call_of old p ≡ Some s → call_of old p ≡ None → ⊥
+  not_none p s there none = cc
+
+  -- an act that leaves all that as it was owes nothing
+  pub idle_covers : (a : Act) (new : Holding) (dues : List Due) → Stays new → IsPlain a → Covers jobs id old a new dues
+  idle_covers a new dues stays plain = record {
+    headers = λ f locals now before d i. absurd (no_header new f locals (stays.headers f) now before);
+    pieces = λ p node level held less. absurd (no_piece new p node level (stays.sealers p) held less);
+    gets = λ p get before now d i. absurd (stays.gets p get now before);
+    asked_header = λ ask locals is taken there. absurd (plain.frames (frames.FenceAsk ask) is);
+    asked_piece = λ ask frame is asked taken less. absurd (plain.frames frame is);
+    nudged = λ is d i. absurd (plain.nudges is);
+  }
+
+  -- once one fence has changed its news cover the own headers
+  pub placed_headers : (new : Holding) (f : FenceName) (fence : Fence) (counts : Numbers) → new.table ≡ placed old.table f fence counts → (g : FenceName) (locals : List Local)
+      → own_header_of jobs id new g ≡ Some locals → own_header_of jobs id old g ≡ None → (d : Due) → In d (announcing jobs id (header id g locals)) → In d (flat_map (announcing jobs id) (news jobs id old.table new.table f))
+  placed_headers new f fence counts is g locals now before d i =
+      in_flat (announcing jobs id) (news jobs id old.table new.table f) (header id g locals) d
+      (by_name g f
+      (λ same. subst (λ x. In (header id g locals) (news jobs id old.table new.table x)) same (news_has jobs id old.table new.table g locals now before))
+      (λ other. absurd (no_header new g locals (ap (λ t. present jobs id t g) is ∙ present_other jobs id old.table f fence counts g other) now before)))
+      i
+
+  -- after a commit the nodes that waited are sent it
+  settling_covers : (p : Proc) (z : Sealed) (new : Holding) → ((q : Proc) → sealer_of new q ≡ sealer_of (sealing old p z) q) → (q : Proc) (node level : ℕ) → held_at old.held q node ≡ Some level
+      → level < (sealer_of new q).level → In (piece_due new q node level) (settling old new p)
+  settling_covers p z new same q node level held less =
+      by_proc q p
+      (λ is. subst (λ x. held_at old.held x node ≡ Some level → level < (sealer_of new x).level → In (piece_due new x node level) (settling old new p)) (sym is) listed held less)
+      (λ other. absurd (no_piece new q node level (same q ∙ sealer_other old p z q other) held less))
+    where
+      listed : held_at old.held p node ≡ Some level → level < (sealer_of new p).level → In (piece_due new p node level) (settling old new p)
+      listed there below_it =
+          in_map (λ (e : ℕ × ℕ). piece_due new p e.0 e.1) (below (sealer_of new p).level (levels_of old.held p)) (node, level)
+          (in_filter (λ (e : ℕ × ℕ). nat_lt e.1 (sealer_of new p).level) (finite.entries (levels_of old.held p)) (node, level)
+          (entry_listed nat_cmp-IsAntisymmetric (levels_of old.held p) node level there) (lt-ltb level (sealer_of new p).level below_it))
+
+  -- ---- requests
+
+  pub plain_request : (r : Request) → is_nudge r ≡ false → IsPlain (Act.request r)
+  plain_request r other = record { frames = λ frame is. absurd (not_frame frame is); nudges = λ is. false≢true (sym other ∙ ap is_nudge (same_request r Request.nudge is)) }
+    where
+      not_frame : (frame : Frame) → Act.request r ≡ Act.deliver frame → ⊥
+      not_frame frame is = cc
+
+      same_request : (one two : Request) → Act.request one ≡ Act.request two → one ≡ two
+      same_request one two is = cc
+
+  pub plain_commit : (p : Proc) (b : Unsealed) → IsPlain (Act.commit p b)
+  plain_commit p b = record { frames = λ frame is. absurd (not_frame frame is); nudges = λ is. absurd (not_request is) }
+    where
+      not_frame : (frame : Frame) → Act.commit p b ≡ Act.deliver frame → ⊥
+      not_frame frame is = cc
+
+      not_request : Act.commit p b ≡ Act.request Request.nudge → ⊥
+      not_request is = cc
+
+  -- the gets that wait are those of the calls as they were
+  pub same_calls : (h : Holding) → ((p : Proc) (get : Get) → call_of h p ≡ Some (Standing.parked get) → call_of old p ≡ Some (Standing.parked get))
+      → (p : Proc) (get : Get) → call_of (settled jobs id h) p ≡ Some (Standing.parked get) → call_of old p ≡ None → ⊥
+  same_calls h was p get now none = not_none p (Standing.parked get) (was p get (was_parked h p get now)) none
+
+  -- nothing but calls changed, and no get came to wait
+  pub calls_stay : (h : Holding) → h.table ≡ old.table → ((p : Proc) → sealer_of h p ≡ sealer_of old p)
+      → ((p : Proc) (get : Get) → call_of h p ≡ Some (Standing.parked get) → call_of old p ≡ Some (Standing.parked get)) → Stays (settled jobs id h)
+  calls_stay h table sealers was = record {
+    headers = λ f. ap (λ t. present jobs id t f) table;
+    sealers = sealers;
+    gets = same_calls h was;
+  }
+
+  pub old_stays : Stays old
+  old_stays = record { headers = λ f. refl; sealers = λ p. refl; gets = λ p get now none. not_none p (Standing.parked get) now none }
+
+  pub same_stays : Stays (settled jobs id old)
+  same_stays = calls_stay old refl (λ p. refl) (λ p get e. e)
+
+  left_stays : (p : Proc) → Stays (settled jobs id (uncalled old p))
+  left_stays p = calls_stay (uncalled old p) refl (λ q. refl) (λ q get e. removed_some old.calls p q (Standing.parked get) e)
+
+  pub leave_stays : (p : Proc) (s : Option Standing) → Stays (settled jobs id (leaves old p s).left)
+  leave_stays p None = same_stays
+  leave_stays p (Some (Standing.in_fence f)) = same_stays
+  leave_stays p (Some (Standing.released f gone)) = left_stays p
+  leave_stays p (Some (Standing.parked get)) = same_stays
+  leave_stays p (Some (Standing.answered get outcome)) = same_stays
+
+  pub take_stays : (p : Proc) (s : Option Standing) → Stays (settled jobs id (takes old p s).left)
+  take_stays p None = same_stays
+  take_stays p (Some (Standing.in_fence f)) = same_stays
+  take_stays p (Some (Standing.released f gone)) = same_stays
+  take_stays p (Some (Standing.parked get)) = same_stays
+  take_stays p (Some (Standing.answered get outcome)) = left_stays p
+
+  -- the get that comes to wait, where it is this one
+  newly_parked : (p : Proc) (s : Standing) (h : Holding) → h.calls ≡ finite.insert old.calls p s → (q : Proc) (get : Get) → call_of (settled jobs id h) q ≡ Some (Standing.parked get)
+      → call_of old q ≡ None → (q ≡ p) × (s ≡ Standing.parked get)
+  newly_parked p s h calls q get now none =
+      put_cases old.calls p q s (Standing.parked get) (ap (λ m. finite.get m q) (sym calls) ∙ was_parked h q get now) (λ same is. (same, is)) (λ there. absurd (not_none q (Standing.parked get) there none))
+
+  pub enter_covers : (a : Act) → IsPlain a → (p : Proc) (g : Signature)
+      → let new = settled jobs id (enters_fence old p g).left in Covers jobs id old a new (flat_map (announcing jobs id) (news jobs id old.table new.table (next_name old.table g p)))
+  enter_covers a plain p g =
+      let h = (enters_fence old p g).left in
+      let new = settled jobs id h in
+      let f = next_name old.table g p in
+      let fence = fence_entered (fence_at old.table f) p (sealer_of old p).level in
+      record {
+        headers = placed_headers new f fence (finite.insert (series_at old.table g).counts p (suc (count_of old.table g p))) refl;
+        pieces = λ q node level held less. absurd (no_piece new q node level refl held less);
+        gets = λ q get before now d i. absurd (not_get f get (newly_parked p (Standing.in_fence f) h refl q get now before).1);
+        asked_header = λ ask locals is taken there. absurd (plain.frames (frames.FenceAsk ask) is);
+        asked_piece = λ ask frame is asked taken less. absurd (plain.frames frame is);
+        nudged = λ is d i. absurd (plain.nudges is);
+      }
+    where
+      not_get : (f : FenceName) (get : Get) → Standing.in_fence f ≡ Standing.parked get → ⊥
+      not_get f get is = cc
+
+  pub park_covers : (a : Act) → IsPlain a → (p : Proc) (get : Get)
+      → let new = settled jobs id (called old p (Standing.parked get)) in Covers jobs id old a new (asking_for jobs id new (call_of new p))
+  park_covers a plain p get =
+      let h = called old p (Standing.parked get) in
+      let new = settled jobs id h in
+      record {
+        headers = λ f locals now before d i. absurd (no_header new f locals refl now before);
+        pieces = λ q node level held less. absurd (no_piece new q node level refl held less);
+        gets = λ q other before now d i.
+            let same = (newly_parked p (Standing.parked get) h refl q other now before).0 in
+            subst (λ o. In d (asking_for jobs id new o)) (sym (ap (call_of new) (sym same) ∙ now)) i;
+        asked_header = λ ask locals is taken there. absurd (plain.frames (frames.FenceAsk ask) is);
+        asked_piece = λ ask frame is asked taken less. absurd (plain.frames frame is);
+        nudged = λ is d i. absurd (plain.nudges is);
+      }
+
+  pub commit_covers : (a : Act) → IsPlain a → (p : Proc) (z : Sealed) → let new = settled jobs id (sealing old p z) in Covers jobs id old a new (settling old new p)
+  commit_covers a plain p z =
+      let new = settled jobs id (sealing old p z) in
+      record {
+        headers = λ f locals now before d i. absurd (no_header new f locals refl now before);
+        pieces = settling_covers p z new (λ q. refl);
+        gets = λ q get before now d i. absurd (same_calls (sealing old p z) (λ x g e. e) q get now before);
+        asked_header = λ ask locals is taken there. absurd (plain.frames (frames.FenceAsk ask) is);
+        asked_piece = λ ask frame is asked taken less. absurd (plain.frames frame is);
+        nudged = λ is d i. absurd (plain.nudges is);
+      }
+
+  -- what is due first may be followed by more
+  pub more_covers : (a : Act) → IsPlain a → (new : Holding) (first rest : List Due) → Covers jobs id old a new first → Covers jobs id old a new (first ++ rest)
+  more_covers a plain new first rest covers = record {
+    headers = λ f locals now before d i. in_append_left first rest d (covers.headers f locals now before d i);
+    pieces = λ p node level held less. in_append_left first rest _ (covers.pieces p node level held less);
+    gets = λ p get before now d i. in_append_left first rest d (covers.gets p get before now d i);
+    asked_header = λ ask locals is taken there. absurd (plain.frames (frames.FenceAsk ask) is);
+    asked_piece = λ ask frame is asked taken less. absurd (plain.frames frame is);
+    nudged = λ is d i. absurd (plain.nudges is);
+  }
+
+  pub end_covers : (a : Act) → IsPlain a → (p : Proc) (z : Sealed)
+      → let new = settled jobs id (uncalled (with_table (sealing old p z) (ended_by old.table p z.level)) p) in
+      Covers jobs id old a new (settling old new p ++ flat_map (announcing jobs id) (flat_map (news jobs id old.table new.table) (names_of old.table)))
+  unfolding has_name series_at
+  end_covers a plain p z =
+      let h = uncalled (with_table (sealing old p z) (ended_by old.table p z.level)) p in
+      let new = settled jobs id h in
+      let told = flat_map (news jobs id old.table new.table) (names_of old.table) in
+      record {
+        headers = λ f locals now before d i.
+            in_append_right (settling old new p) (flat_map (announcing jobs id) told) d
+            (in_flat (announcing jobs id) told (header id f locals) d
+            (in_flat (news jobs id old.table new.table) (names_of old.table) f (header id f locals) (name_listed old.table f (present_named jobs id new.table f locals now))
+            (news_has jobs id old.table new.table f locals now before)) i);
+        pieces = λ q node level held less.
+            in_append_left (settling old new p) (flat_map (announcing jobs id) told) _ (settling_covers p z new (λ x. refl) q node level held less);
+        gets = λ q get before now d i. absurd (same_calls h (λ x g e. removed_some old.calls p x (Standing.parked g) e) q get now before);
+        asked_header = λ ask locals is taken there. absurd (plain.frames (frames.FenceAsk ask) is);
+        asked_piece = λ ask frame is asked taken less. absurd (plain.frames frame is);
+        nudged = λ is d i. absurd (plain.nudges is);
+      }
+
+  pub nudge_covers : (a : Act) → ((frame : Frame) → a ≡ Act.deliver frame → ⊥) → Covers jobs id old a (settled jobs id old) (nudging jobs id (settled jobs id old))
+  nudge_covers a plain =
+      let new = settled jobs id old in
+      record {
+        headers = λ f locals now before d i. absurd (no_header new f locals refl now before);
+        pieces = λ q node level held less. absurd (no_piece new q node level refl held less);
+        gets = λ q get before now d i. absurd (same_stays.gets q get now before);
+        asked_header = λ ask locals is taken there. absurd (plain (frames.FenceAsk ask) is);
+        asked_piece = λ ask frame is asked taken less. absurd (plain frame is);
+        nudged = λ is d i. i;
+      }
+
+  -- ---- frames
+
+  pub not_nudge : (frame : Frame) → Act.deliver frame ≡ Act.request Request.nudge → ⊥
+  not_nudge frame is = cc
+
+  pub one_frame : (x y : Frame) → Act.deliver x ≡ Act.deliver y → x ≡ y
+  one_frame x y is = cc
+
+  -- a frame that is no request
+  idle_frame : (frame : Frame) (new : Holding) (dues : List Due) → Stays new → ((ask : FenceAsk) → frame ≡ frames.FenceAsk ask → ⊥) → (asked_by (Act.deliver frame) ≡ None)
+      → Covers jobs id old (Act.deliver frame) new dues
+  idle_frame frame new dues stays no_ask none = record {
+    headers = λ f locals now before d i. absurd (no_header new f locals (stays.headers f) now before);
+    pieces = λ p node level held less. absurd (no_piece new p node level (stays.sealers p) held less);
+    gets = λ p get before now d i. absurd (stays.gets p get now before);
+    asked_header = λ ask locals is taken there. absurd (no_ask ask (one_frame frame (frames.FenceAsk ask) is));
+    asked_piece = λ ask other is asked taken less. absurd (not_asked ask asked);
+    nudged = λ is d i. absurd (not_nudge frame is);
+  }
+    where
+      not_asked : (ask : CommitAsk) → asked_by (Act.deliver frame) ≡ Some ask → ⊥
+      not_asked ask asked = cc
+
+  -- a header, or a name
+  placed_covers : (frame : Frame) (f : FenceName) (fence : Fence) (counts : Numbers) → let new = settled jobs id (with_table old (placed old.table f fence counts)) in (dues : List Due)
+      → ((g : FenceName) (locals : List Local) → own_header_of jobs id new g ≡ Some locals → own_header_of jobs id old g ≡ None
+      → (d : Due) → In d (announcing jobs id (header id g locals)) → In d dues)
+      → ((ask : FenceAsk) (locals : List Local) → frame ≡ frames.FenceAsk ask → own_header_of jobs id old ask.name ≡ Some locals → In (sendings.Whole (sent ask.node (frames.Header (header id ask.name locals)))) dues)
+      → (asked_by (Act.deliver frame) ≡ None) → Covers jobs id old (Act.deliver frame) new dues
+  placed_covers frame f fence counts dues heads asks none =
+      let h = with_table old (placed old.table f fence counts) in
+      let new = settled jobs id h in
+      record {
+        headers = heads;
+        pieces = λ p node level held less. absurd (no_piece new p node level refl held less);
+        gets = λ p get before now d i. absurd (same_calls h (λ x g e. e) p get now before);
+        asked_header = λ ask locals is taken there. asks ask locals (one_frame frame (frames.FenceAsk ask) is) there;
+        asked_piece = λ ask other is asked taken less. absurd (not_asked ask asked);
+        nudged = λ is d i. absurd (not_nudge frame is);
+      }
+    where
+      not_asked : (ask : CommitAsk) → asked_by (Act.deliver frame) ≡ Some ask → ⊥
+      not_asked ask asked = cc
+
+  fence_ask_covers : (a : FenceAsk) (fence : Fence) (counts : Numbers) → let new = settled jobs id (with_table old (placed old.table a.name fence counts)) in
+      Covers jobs id old (Act.deliver (frames.FenceAsk a)) new (telling_of jobs id a.node a.name (own_header_of jobs id old a.name) (flat_map (announcing jobs id) (news jobs id old.table new.table a.name)))
+  fence_ask_covers a fence counts =
+      let new = settled jobs id (with_table old (placed old.table a.name fence counts)) in
+      let others = flat_map (announcing jobs id) (news jobs id old.table new.table a.name) in
+      placed_covers (frames.FenceAsk a) a.name fence counts (telling_of jobs id a.node a.name (own_header_of jobs id old a.name) others)
+      (λ g locals now before d i.
+      by_name g a.name
+      (λ same. subst (λ o. In d (telling_of jobs id a.node a.name o others)) (sym (ap (own_header_of jobs id old) (sym same) ∙ before))
+      (placed_headers new a.name fence counts refl g locals now before d i))
+      (λ other. absurd (no_header new g locals (present_other jobs id old.table a.name fence counts g other) now before)))
+      (λ ask locals is there. there_told ask (one_ask ask is) locals there others)
+      refl
+    where
+      one_ask : (ask : FenceAsk) → frames.FenceAsk a ≡ frames.FenceAsk ask → a ≡ ask
+      one_ask ask is = cc
+
+      there_told : (ask : FenceAsk) → a ≡ ask → (locals : List Local) → own_header_of jobs id old ask.name ≡ Some locals → (others : List Due)
+          → In (sendings.Whole (sent ask.node (frames.Header (header id ask.name locals)))) (telling_of jobs id a.node a.name (own_header_of jobs id old a.name) others)
+      there_told ask same locals there others =
+          subst (λ (x : FenceAsk). In (sendings.Whole (sent ask.node (frames.Header (header id ask.name locals)))) (telling_of jobs id x.node x.name (own_header_of jobs id old x.name) others)) (sym same)
+          (subst (λ o. In (sendings.Whole (sent ask.node (frames.Header (header id ask.name locals)))) (telling_of jobs id ask.node ask.name o others)) (sym there) (inl refl))
+
+  commit_ask_covers : (frame : Frame) (a : CommitAsk) (new : Holding) → Stays new → asked_by (Act.deliver frame) ≡ Some a → ((ask : FenceAsk) → frame ≡ frames.FenceAsk ask → ⊥)
+      → Covers jobs id old (Act.deliver frame) new (answering new a.node a.proc a.level)
+  commit_ask_covers frame a new stays is_ask no_ask = record {
+    headers = λ f locals now before d i. absurd (no_header new f locals (stays.headers f) now before);
+    pieces = λ p node level held less. absurd (no_piece new p node level (stays.sealers p) held less);
+    gets = λ p get before now d i. absurd (stays.gets p get now before);
+    asked_header = λ ask locals is taken there. absurd (no_ask ask (one_frame frame (frames.FenceAsk ask) is));
+    asked_piece = λ ask other is asked taken less.
+        subst (λ (x : CommitAsk). In (piece_due new ask.proc ask.node ask.level) (answering new x.node x.proc x.level)) (one_ask ask (sym asked ∙ is_ask))
+        (subst (λ b. In (piece_due new ask.proc ask.node ask.level) (if b then piece_due new ask.proc ask.node ask.level ∷ [] else [])) (sym (lt-ltb ask.level (sealer_of new ask.proc).level less)) (inl refl));
+    nudged = λ is d i. absurd (not_nudge frame is);
+  }
+    where
+      one_ask : (ask : CommitAsk) → Some ask ≡ Some a → ask ≡ a
+      one_ask ask same = cc
+
+  unless_stays : (b : Bool) (node : ℕ) (p : Proc) (level : ℕ) → Stays (settled jobs id (holds_unless b old node p level))
+  unless_stays true node p level = same_stays
+  unless_stays false node p level = calls_stay (holds_unless false old node p level) refl (λ q. refl) (λ q get e. e)
+
+  pub frame_covers : (frame : Frame) → let new = settled jobs id (receives old frame) in Covers jobs id old (Act.deliver frame) new (due_by_frame jobs id old frame new)
+  unfolding receives due_by_frame
+  frame_covers (frames.Piece c) =
+      idle_frame (frames.Piece c) _ _ (calls_stay (receives old (frames.Piece c)) refl (λ p. refl) (λ p get e. e)) (λ ask is. absurd (not_ask c ask is)) refl
+    where
+      not_ask : (c : Contribution) (ask : FenceAsk) → frames.Piece c ≡ frames.FenceAsk ask → ⊥
+      not_ask c ask is = cc
+  frame_covers (frames.Header hd) =
+      let fence = fence_told (fence_at old.table hd.name) hd.node hd.locals in
+      let counts = (series_at old.table hd.name.signature).counts in
+      let new = settled jobs id (with_table old (placed old.table hd.name fence counts)) in
+      placed_covers (frames.Header hd) hd.name fence counts _ (placed_headers new hd.name fence counts refl) (λ ask locals is there. absurd (not_ask ask is)) refl
+    where
+      not_ask : (ask : FenceAsk) → frames.Header hd ≡ frames.FenceAsk ask → ⊥
+      not_ask ask is = cc
+  frame_covers (frames.FenceAsk a) = fence_ask_covers a (fence_at old.table a.name) (series_at old.table a.name.signature).counts
+  frame_covers (frames.RangeAsk a) = commit_ask_covers (frames.RangeAsk a) a (settled jobs id old) same_stays refl (λ ask is. not_ask ask is)
+    where
+      not_ask : (ask : FenceAsk) → frames.RangeAsk a ≡ frames.FenceAsk ask → ⊥
+      not_ask ask is = cc
+  frame_covers (frames.DirectAsk a) =
+      commit_ask_covers (frames.DirectAsk a) a (settled jobs id (holds_unless (nat_lt a.level (sealer_of old a.proc).level) old a.node a.proc a.level))
+      (unless_stays (nat_lt a.level (sealer_of old a.proc).level) a.node a.proc a.level) refl (λ ask is. not_ask ask is)
+    where
+      not_ask : (ask : FenceAsk) → frames.DirectAsk a ≡ frames.FenceAsk ask → ⊥
+      not_ask ask is = cc

@@ -1,0 +1,305 @@
+-- What each change of a content keeps.
+use Rattle.std.proofs.Common.{◌≡◌, ℕ, ◌≤◌, Bool, true, false, cond, List, Option, Some, None, is_some, inl, inr, ◌⊎◌, refl, sym, ap, subst, ◌∙◌}
+use Rattle.std.specs.Prelude.{if◌then◌else◌, nat_le, filter}
+use Rattle.std.specs.FinMap as finite
+use Rattle.std.specs.FinMap.{nat_cmp-IsAntisymmetric}
+use Rattle.std.specs.FinSet as set
+use Rattle.std.specs.Option.{option_map, unwrap_or}
+use Rattle.std.specs.Ordering.{nat_cmp, eq_by_cmp}
+use Rattle.std.specs.Cmp.{Equal-is, nat_cmp_total}
+use Rattle.std.proofs.lemmas.Bool.{false≢true, leb-true}
+use Rattle.pmg_value.specs.Process.{proc_cmp, is_host}
+use Rattle.pmg_value.specs.Signatures.{FenceName}
+use Rattle.pmg_value.specs.declared.process.Proc.{Proc}
+use Rattle.pmg_value.proofs.ProcessOrder.{procs_total, exact_procs}
+use Rattle.pmg_value.proofs.RowLemmas.{get-map_of}
+use Rattle.pmg_commit.specs.Data.{Data}
+use Rattle.pmg_commit.specs.Sealed.{Sealed, fresh}
+use Rattle.pmg_fence.specs.Entering.{same_proc}
+use Rattle.pmg_fence.specs.Tables.{Numbers, Fence, Fences, has_name}
+use Rattle.pmg_fence.specs.Changes.{placed}
+use Rattle.pmg_fence.proofs.EntryLemmas.{proc_itself}
+use Rattle.pmg_fence.proofs.Trees.{get_put}
+use Rattle.pmg_fence.proofs.IndexLemmas.{each_row}
+use Rattle.pmg_fence.proofs.HeaderLemmas.{by_proc, filter_in}
+use Rattle.pmg_fence.proofs.TableLemmas.{same_name, name_exact, name-placed}
+use Rattle.pmg_dmodex.specs.Levels.{Levels, NodeLevels, levels_of, level_at as held_at, with_level, without_below, not_below}
+use Rattle.pmg_dmodex.specs.Requests.{least}
+use Rattle.pmg_get.specs.Gets.{Outcome}
+use Rattle.pmg_jobinfo.specs.Jobs.{Jobs, is_member, home_of}
+use Rattle.pmg_rules.specs.Acts.{is_peer, is_concerned}
+use Rattle.pmg_rules.specs.Holdings.{Get, Standing, Holding, sealer_in, sealer_of, call_of, is_ready_at, with_far, with_table, called, uncalled, sealing, holding_ask, settled_by, released_by, settle, settled}
+use Rattle.pmg_rules.specs.Kept.{IsOwn, Holds}
+use Rattle.pmg_rules.proofs.KeptBasics.{lookup_row, put_cases, removed_some, put_other, get-mapped, mapped_some, host_is}
+
+-- ---- what is settled
+
+-- the call of a process, once calls are settled
+pub settled_call : (jobs : Jobs) (id : ℕ) (h : Holding) (p : Proc) → call_of (settled jobs id h) p ≡ option_map (settle jobs id h) (call_of h p)
+settled_call jobs id h p = get-mapped (settle jobs id h) h.calls p
+
+pub settled_some : (jobs : Jobs) (id : ℕ) (h : Holding) (p : Proc) (s : Standing) → call_of (settled jobs id h) p ≡ Some s → (t : Standing) × (call_of h p ≡ Some t) × (settle jobs id h t ≡ s)
+settled_some jobs id h p s e = mapped_some (settle jobs id h) (call_of h p) s (sym (settled_call jobs id h p) ∙ e)
+
+still_fence : (b : Bool) (g f : FenceName) (gone : List Proc) → released_by b g gone ≡ Standing.in_fence f → (g ≡ f) × (b ≡ false)
+still_fence true g f gone e = absurd cc
+still_fence false g f gone e = (cc, refl)
+
+not_fence : (get : Get) (o : Outcome) (f : FenceName) → settled_by get o ≡ Standing.in_fence f → ⊥
+not_fence get Outcome.parks f e = cc
+not_fence get (Outcome.found value) f e = cc
+not_fence get Outcome.absent f e = cc
+not_fence get Outcome.outside f e = cc
+
+not_parked : (b : Bool) (g : FenceName) (gone : List Proc) (get : Get) → released_by b g gone ≡ Standing.parked get → ⊥
+not_parked true g gone get e = cc
+not_parked false g gone get e = cc
+
+still_parked : (get other : Get) (o : Outcome) → settled_by get o ≡ Standing.parked other → (get ≡ other) × (o ≡ Outcome.parks)
+still_parked get other Outcome.parks e = (cc, refl)
+still_parked get other (Outcome.found value) e = absurd cc
+still_parked get other Outcome.absent e = absurd cc
+still_parked get other Outcome.outside e = absurd cc
+
+-- who is in a fence once calls are settled was in it before, and it is not ready
+pub settle_fence : (jobs : Jobs) (id : ℕ) (h : Holding) (t : Standing) (f : FenceName) → settle jobs id h t ≡ Standing.in_fence f → (t ≡ Standing.in_fence f) × (is_ready_at jobs id h f ≡ false)
+settle_fence jobs id h (Standing.in_fence g) f e = let still = still_fence _ g f _ e in (ap Standing.in_fence still.0, ap (is_ready_at jobs id h) (sym still.0) ∙ still.1)
+settle_fence jobs id h (Standing.released g gone) f e = absurd cc
+settle_fence jobs id h (Standing.parked get) f e = absurd (not_fence get _ f e)
+settle_fence jobs id h (Standing.answered get outcome) f e = absurd cc
+
+-- and a get that waits then waited before, and parks
+pub settle_parked : (jobs : Jobs) (id : ℕ) (h : Holding) (t : Standing) (get : Get) → settle jobs id h t ≡ Standing.parked get
+    → (t ≡ Standing.parked get) × (settle jobs id h (Standing.parked get) ≡ Standing.parked get)
+settle_parked jobs id h (Standing.in_fence g) get e = absurd (not_parked _ g _ get e)
+settle_parked jobs id h (Standing.released g gone) get e = absurd cc
+settle_parked jobs id h (Standing.parked other) get e =
+    let same : other ≡ get = (still_parked other get _ e).0 in
+    (ap Standing.parked same, ap (λ g. settle jobs id h (Standing.parked g)) (sym same) ∙ e)
+settle_parked jobs id h (Standing.answered other outcome) get e = absurd cc
+
+-- ---- what own processes sealed
+
+-- what a process sealed, by whether it stands for the host
+by_host : Sealed → finite.FinMap proc_cmp Sealed → Proc → Bool → Sealed
+by_host sets sealers q b = if b then sets else unwrap_or (finite.get sealers q) (fresh q)
+
+module _ (h : Holding) (p : Proc) (z : Sealed) where
+  -- the same after a commit, by whether the one whose commit it is stands for the host
+  after_by : Proc → Bool → Bool → Sealed
+  after_by q b c = by_host (if c then z else h.sets) (if c then h.sealers else finite.insert h.sealers p z) q b
+
+  there_by : (b : Bool) → after_by p b b ≡ z
+  unfolding by_host after_by
+  there_by true = refl
+  there_by false = ap (λ o. unwrap_or o (fresh p)) (get_put procs_total exact_procs h.sealers p z)
+
+  -- what the process sealed is that
+  pub sealer_there : sealer_of (sealing h p z) p ≡ z
+  unfolding sealer_in by_host after_by
+  sealer_there = there_by (is_host p)
+
+  other_by : (q : Proc) → same_proc q p ≡ false → (b c : Bool) → is_host q ≡ b → is_host p ≡ c → after_by q b c ≡ by_host h.sets h.sealers q b
+  unfolding by_host after_by
+  other_by q other true true e g = absurd (false≢true (sym other ∙ ap (λ x. same_proc x p) (host_is q e ∙ sym (host_is p g)) ∙ proc_itself p))
+  other_by q other true false e g = refl
+  other_by q other false true e g = refl
+  other_by q other false false e g = ap (λ o. unwrap_or o (fresh q)) (put_other h.sealers p q z other)
+
+  -- what another one sealed is as it was
+  pub sealer_other : (q : Proc) → same_proc q p ≡ false → sealer_of (sealing h p z) q ≡ sealer_of h q
+  unfolding sealer_in by_host after_by
+  sealer_other q other = other_by q other (is_host q) (is_host p) refl refl
+
+-- ---- nodes that wait
+
+filtered_level : (level : ℕ) (m : NodeLevels) (node n : ℕ) → finite.get (not_below level m) node ≡ Some n → (finite.get m node ≡ Some n) × (level ≤ n)
+filtered_level level m node n e =
+    let found = lookup_row nat_cmp-IsAntisymmetric (filter (λ e. nat_le level e.1) (finite.entries m)) node n (sym (get-map_of nat_cmp_total (filter (λ e. nat_le level e.1) (finite.entries m)) node) ∙ e) in
+    let row = filter_in (λ e. nat_le level e.1) (finite.entries m) (node, n) found in
+    (each_row nat_cmp_total m (node, n) row.0, leb-true level n row.1)
+
+nothing_there : (o : Option NodeLevels) (node n : ℕ) → is_some o ≡ false → finite.get (unwrap_or o finite.empty) node ≡ Some n → ⊥
+nothing_there None node n none e = absurd (none_some (sym (finite.get-empty nat_cmp node) ∙ e))
+  where
+    none_some : {x : ℕ} → None ≡ Some x → ⊥
+    none_some is = cc
+nothing_there (Some m) node n none e = false≢true (sym none)
+
+without_by : (levels : Levels) (p : Proc) (level : ℕ) (q : Proc) (node n : ℕ) (b : Bool) → finite.contains_key levels p ≡ b
+    → held_at (if b then finite.insert levels p (not_below level (levels_of levels p)) else levels) q node ≡ Some n → (held_at levels q node ≡ Some n) × (q ≡ p → level ≤ n)
+without_by levels p level q node n false none e =
+    (e, λ same. absurd (nothing_there (finite.get levels p) node n none (ap (λ x. held_at levels x node) (sym same) ∙ e)))
+without_by levels p level q node n true some e =
+    by_proc q p
+    (λ same.
+    let kept = filtered_level level (levels_of levels p) node n
+    (sym (ap (λ (x : Proc). held_at (finite.insert levels p (not_below level (levels_of levels p))) x node) same
+    ∙ ap (λ (o : Option NodeLevels). finite.get (unwrap_or o finite.empty) node) (get_put procs_total exact_procs levels p (not_below level (levels_of levels p)))) ∙ e) in
+    (ap (λ x. held_at levels x node) same ∙ kept.0, λ _. kept.1))
+    (λ other. (
+      sym (ap (λ (o : Option NodeLevels). finite.get (unwrap_or o finite.empty) node) (put_other levels p q (not_below level (levels_of levels p)) other)) ∙ e,
+      λ same. absurd (false≢true (sym other ∙ ap (λ x. same_proc x p) same ∙ proc_itself p)),
+    ))
+
+-- who waits still waited before, and where it is the process that came to a level, for more than that
+pub without_some : (levels : Levels) (p : Proc) (level : ℕ) (q : Proc) (node n : ℕ) → held_at (without_below levels p level) q node ≡ Some n
+    → (held_at levels q node ≡ Some n) × (q ≡ p → level ≤ n)
+without_some levels p level q node n e = without_by levels p level q node n (finite.contains_key levels p) refl e
+
+at_node : (m : NodeLevels) (node other n l : ℕ) → finite.get (finite.insert m node l) other ≡ Some n → ((other ≡ node) × (l ≡ n)) ⊎ (finite.get m other ≡ Some n)
+at_node m node other n l e = by_test (eq_by_cmp nat_cmp other node) refl (sym (finite.get-insert nat_cmp_total m node l other) ∙ e)
+  where
+    by_test : (b : Bool) → eq_by_cmp nat_cmp other node ≡ b → cond b (Some l) (finite.get m other) ≡ Some n → ((other ≡ node) × (l ≡ n)) ⊎ (finite.get m other ≡ Some n)
+    by_test true t is = inl (nat_cmp-IsAntisymmetric other node ((Equal-is _).0 t), cc)
+    by_test false t is = inr is
+
+-- who waits once a node waits is that node, or waited before
+pub with_level_some : (levels : Levels) (p : Proc) (node l : ℕ) (q : Proc) (other n : ℕ) {P : Type 0} → held_at (with_level levels p node l) q other ≡ Some n
+    → (q ≡ p → other ≡ node → l ≡ n → P) → (held_at levels q other ≡ Some n → P) → P
+with_level_some levels p node l q other n {P} e here there =
+    by_proc q p
+    (λ same. elim (at_node (levels_of levels p) node other n l
+    (sym (ap (λ (x : Proc). held_at (with_level levels p node l) x other) same
+    ∙ ap (λ (o : Option NodeLevels). finite.get (unwrap_or o finite.empty) other) (get_put procs_total exact_procs levels p (finite.insert (levels_of levels p) node l))) ∙ e)) [
+      | inl is ↦ here same is.0 is.1
+      | inr is ↦ there (ap (λ x. held_at levels x other) same ∙ is)
+    ])
+    (λ apart. there (sym (ap (λ (o : Option NodeLevels). finite.get (unwrap_or o finite.empty) other) (put_other levels p q (finite.insert (levels_of levels p) node l) apart)) ∙ e))
+
+-- ---- what is kept
+
+module _ (jobs : Jobs) (id : ℕ) (h : Holding) (holds : Holds jobs id h) where
+  -- calls that are settled are of the same processes
+  pub settled_holds : Holds jobs id (settled jobs id h)
+  settled_holds = record {
+    sealers = holds.sealers;
+    callers = λ p s e. let was = settled_some jobs id h p s e in holds.callers p was.0 was.1;
+    targets = λ p get e. let was = settled_some jobs id h p (Standing.parked get) e in holds.targets p get (was.1 ∙ ap Some (settle_parked jobs id h was.0 get was.2).0);
+    homes = holds.homes;
+    askers = holds.askers;
+    levels = holds.levels;
+    names = holds.names;
+    there = λ p f e. let was = settled_some jobs id h p (Standing.in_fence f) e in holds.there p f (was.1 ∙ ap Some (settle_fence jobs id h was.0 f was.2).0);
+    parts = λ p f e. let was = settled_some jobs id h p (Standing.in_fence f) e in holds.parts p f (was.1 ∙ ap Some (settle_fence jobs id h was.0 f was.2).0);
+  }
+
+  -- a process comes to be in a call
+  pub called_holds : (p : Proc) (s : Standing) → IsOwn jobs id p → ((get : Get) → s ≡ Standing.parked get → is_member jobs get.target ≡ true)
+      → ((f : FenceName) → s ≡ Standing.in_fence f → (has_name h.table f ≡ true) × (set.contains f.signature.participants p ≡ true)) → Holds jobs id (called h p s)
+  called_holds p s own target fence = record {
+    sealers = holds.sealers;
+    callers = λ q t e. put_cases h.calls p q s t e (λ same is. subst (IsOwn jobs id) (sym same) own) (holds.callers q t);
+    targets = λ q get e. put_cases h.calls p q s (Standing.parked get) e (λ same is. target get is) (holds.targets q get);
+    homes = holds.homes;
+    askers = holds.askers;
+    levels = holds.levels;
+    names = holds.names;
+    there = λ q f e. put_cases h.calls p q s (Standing.in_fence f) e (λ same is. (fence f is).0) (holds.there q f);
+    parts = λ q f e. put_cases h.calls p q s (Standing.in_fence f) e (λ same is. subst (λ x. set.contains f.signature.participants x ≡ true) (sym same) (fence f is).1) (holds.parts q f);
+  }
+
+  -- a process is in its call no more
+  pub uncalled_holds : (p : Proc) → Holds jobs id (uncalled h p)
+  uncalled_holds p = record {
+    sealers = holds.sealers;
+    callers = λ q s e. holds.callers q s (removed_some h.calls p q s e);
+    targets = λ q get e. holds.targets q get (removed_some h.calls p q (Standing.parked get) e);
+    homes = holds.homes;
+    askers = holds.askers;
+    levels = holds.levels;
+    names = holds.names;
+    there = λ q f e. holds.there q f (removed_some h.calls p q (Standing.in_fence f) e);
+    parts = λ q f e. holds.parts q f (removed_some h.calls p q (Standing.in_fence f) e);
+  }
+
+  -- more is known
+  pub far_holds : (far : Data) → Holds jobs id (with_far h far)
+  far_holds far = record {
+    sealers = holds.sealers;
+    callers = holds.callers;
+    targets = holds.targets;
+    homes = holds.homes;
+    askers = holds.askers;
+    levels = holds.levels;
+    names = holds.names;
+    there = holds.there;
+    parts = holds.parts;
+  }
+
+  -- a name comes, of a fence of the group and of the node
+  pub table_holds : (t : Fences) → ((f : FenceName) → has_name t f ≡ true → is_concerned jobs id f ≡ true) → ((f : FenceName) → has_name h.table f ≡ true → has_name t f ≡ true)
+      → Holds jobs id (with_table h t)
+  table_holds t concerned more = record {
+    sealers = holds.sealers;
+    callers = holds.callers;
+    targets = holds.targets;
+    homes = holds.homes;
+    askers = holds.askers;
+    levels = holds.levels;
+    names = concerned;
+    there = λ p f e. more f (holds.there p f e);
+    parts = holds.parts;
+  }
+
+  -- a commit
+  pub sealing_holds : (p : Proc) (z : Sealed) → z.proc ≡ p → Holds jobs id (sealing h p z)
+  sealing_holds p z its = record {
+    sealers = λ q. by_proc q p
+        (λ same. ap (λ x. (sealer_of (sealing h p z) x).proc) same ∙ ap (λ (y : Sealed). y.proc) (sealer_there h p z) ∙ its ∙ sym same)
+        (λ other. ap (λ (y : Sealed). y.proc) (sealer_other h p z q other) ∙ holds.sealers q);
+    callers = holds.callers;
+    targets = holds.targets;
+    homes = λ q node n e. holds.homes q node n (without_some h.held p z.level q node n e).0;
+    askers = λ q node n e. holds.askers q node n (without_some h.held p z.level q node n e).0;
+    levels = λ q node n e.
+        let was = without_some h.held p z.level q node n e in
+        by_proc q p
+        (λ same. subst (λ (y : Sealed). y.level ≤ n) (sym (ap (sealer_of (sealing h p z)) same ∙ sealer_there h p z)) (was.1 same))
+        (λ other. subst (λ (y : Sealed). y.level ≤ n) (sym (sealer_other h p z q other)) (holds.levels q node n was.0));
+    names = holds.names;
+    there = holds.there;
+    parts = holds.parts;
+  }
+
+  -- a node comes to wait
+  pub asked_holds : (node : ℕ) (p : Proc) (level : ℕ) → home_of jobs p ≡ id → is_peer jobs id node ≡ true → (sealer_of h p).level ≤ level → Holds jobs id (holding_ask h node p level)
+  asked_holds node p level home peer known =
+      let l = least (held_at h.held p node) level in
+      record {
+        sealers = holds.sealers;
+        callers = holds.callers;
+        targets = holds.targets;
+        homes = λ q other n e. with_level_some h.held p node l q other n e (λ same at is. ap (home_of jobs) same ∙ home) (holds.homes q other n);
+        askers = λ q other n e. with_level_some h.held p node l q other n e (λ same at is. ap (is_peer jobs id) at ∙ peer) (holds.askers q other n);
+        levels = λ q other n e. with_level_some h.held p node l q other n e
+            (λ same at is. subst (λ x. (sealer_of h x).level ≤ n) (sym same) (subst (λ k. (sealer_of h p).level ≤ k) is (least_level (held_at h.held p node) (holds.levels p node) refl)))
+            (holds.levels q other n);
+        names = holds.names;
+        there = holds.there;
+        parts = holds.parts;
+      }
+    where
+      least_by : (b : Bool) (m n k : ℕ) → k ≤ m → k ≤ n → k ≤ (if b then m else n)
+      least_by true m n k one two = one
+      least_by false m n k one two = two
+
+      least_level : (o : Option ℕ) → ((m : ℕ) → o ≡ Some m → (sealer_of h p).level ≤ m) → o ≡ o → (sealer_of h p).level ≤ least o level
+      least_level None each is = known
+      least_level (Some m) each is = least_by (nat_le m level) m level (sealer_of h p).level (each m refl) known
+
+-- a fence has changed, one of the group and of the node
+pub placed_holds : (jobs : Jobs) (id : ℕ) (h : Holding) → Holds jobs id h → (f : FenceName) (fence : Fence) (counts : Numbers) → is_concerned jobs id f ≡ true
+    → Holds jobs id (with_table h (placed h.table f fence counts))
+placed_holds jobs id h holds f fence counts concerned =
+    table_holds jobs id h holds (placed h.table f fence counts)
+    (λ x e. by_name x (same_name x f) refl (sym (name-placed h.table f fence counts x) ∙ e))
+    (λ x e. name-placed h.table f fence counts x ∙ more (same_name x f) (has_name h.table x) e)
+  where
+    by_name : (x : FenceName) (b : Bool) → same_name x f ≡ b → cond b true (has_name h.table x) ≡ true → is_concerned jobs id x ≡ true
+    by_name x true t e = ap (is_concerned jobs id) (name_exact x f t) ∙ concerned
+    by_name x false t e = holds.names x e
+
+    more : (b c : Bool) → c ≡ true → cond b true c ≡ true
+    more true c e = refl
+    more false c e = e

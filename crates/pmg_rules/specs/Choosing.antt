@@ -1,0 +1,203 @@
+-- Which frames this program sends, and in which order.
+use Rattle.std.specs.Prelude.{ℕ, Bool, false, ◌&&◌, ◌==◌, not, nat_lt, List, [], ◌∷◌, ◌++◌, map, length, Option, Some, None, is_none, if◌then◌else◌}
+use Rattle.std.specs.FinMap as finite
+use Rattle.std.specs.FinSet as set
+use Rattle.std.specs.List.{filter, flat_map, list_any}
+use Rattle.std.specs.Option.{unwrap_or, option_to_list}
+use Rattle.pmg_value.specs.InOrder.{in_order}
+use Rattle.pmg_value.specs.Signatures.{FenceName}
+use Rattle.pmg_value.specs.declared.process.Proc.{Proc}
+use Rattle.pmg_scope.specs.declared.scope.Reach.TheVariants as reach
+use Rattle.pmg_commit.specs.Data.{level_at}
+use Rattle.pmg_commit.specs.Sealed.{Sealed, piece_at}
+use Rattle.pmg_pset.specs.Sets.{host}
+use Rattle.pmg_frame.specs.FenceOrder.{name_cmp}
+use Rattle.pmg_frame.specs.Fences.{CommitAsk, Header, header, fence_ask, commit_ask, participants_of}
+use Rattle.pmg_frame.specs.declared.frame.Frame.{Frame}
+use Rattle.pmg_frame.specs.declared.frame.Frame.TheVariants as frames
+use Rattle.pmg_frame.specs.declared.local.Local.{Local}
+use Rattle.pmg_jobinfo.specs.Expansion.{ranks}
+use Rattle.pmg_jobinfo.specs.Jobs.{Jobs, home_of}
+use Rattle.pmg_fence.specs.Changes.{next_name, news}
+use Rattle.pmg_fence.specs.Entering.{locals_of, same_proc}
+use Rattle.pmg_fence.specs.Tables.{header_at, told_of, names_of}
+use Rattle.pmg_fence.specs.declared.entry.Entry.{Entry}
+use Rattle.pmg_dmodex.specs.Levels.{Levels, levels_of, level_at as mark_at, with_level, below}
+use Rattle.pmg_rules.specs.Acts.{Request, Act, signature_of, acts}
+use Rattle.pmg_rules.specs.Holdings.{Standing, Holding, sealer_of, call_of}
+use Rattle.pmg_rules.specs.Sending.{sent, own_header_of, piece_from, asked_by, is_quiet}
+use Rattle.pmg_rules.specs.declared.due.Due.{Due}
+use Rattle.pmg_rules.specs.declared.due.Due.TheVariants as sendings
+use Rattle.pmg_rules.specs.declared.sent.Sent.{Sent}
+
+-- the nodes of the group but this one, rising
+abbrev pub peers : Jobs → ℕ → List ℕ
+peers jobs id = filter (λ m. not (m == id)) (ranks (length jobs.nodes))
+
+-- those of them that have a participant in the fence
+abbrev pub peers_in : Jobs → ℕ → FenceName → List ℕ
+peers_in jobs id f = filter (λ m. list_any (λ q. home_of jobs q == m) (participants_of f)) (peers jobs id)
+
+-- one node is told a header of this node, and where the fence collects data, the commits of its own participants
+abbrev pub telling : Jobs → ℕ → Header → ℕ → List Due
+telling jobs id hd node =
+    sendings.Whole (sent node (frames.Header hd)) ∷ (if hd.name.signature.collect then map (sendings.Rest node) (locals_of jobs hd.name id) else [])
+
+-- each other node of the fence is told
+abbrev pub announcing : Jobs → ℕ → Header → List Due
+announcing jobs id hd = flat_map (telling jobs id hd) (peers_in jobs id hd.name)
+
+-- the process's commits above a level go to the node
+abbrev pub piece_due : Holding → Proc → ℕ → ℕ → Due
+piece_due h p node from = sendings.Whole (sent node (piece_from h p from))
+
+-- the nodes that waited for the process's next commit are sent it
+abbrev pub settling : Holding → Holding → Proc → List Due
+settling old new p = map (λ e. piece_due new p e.0 e.1) (below (sealer_of new p).level (levels_of old.held p))
+
+-- a node asks for commits: it is sent what there is
+abbrev pub answering : Holding → ℕ → Proc → ℕ → List Due
+answering new node p level = if nat_lt level (sealer_of new p).level then piece_due new p node level ∷ [] else []
+
+-- a node asks for a header: it is told, where the header was there; else each node is, where it comes to exist
+abbrev pub telling_of : Jobs → ℕ → ℕ → FenceName → Option (List Local) → List Due → List Due
+telling_of jobs id node f (Some locals) others = telling jobs id (header id f locals) node
+telling_of jobs id node f None others = others
+
+-- the home of the process, where that is another node, is asked for its commits past the level that is known
+abbrev pub asking : Jobs → ℕ → Holding → Proc → List Due
+asking jobs id h q =
+    if home_of jobs q == id then [] else sendings.Whole (sent (home_of jobs q) (frames.DirectAsk (commit_ask id q (level_at h.far q)))) ∷ []
+
+abbrev pub asking_for : Jobs → ℕ → Holding → Option Standing → List Due
+asking_for jobs id h (Some (Standing.parked get)) = asking jobs id h get.target
+asking_for jobs id h _ = []
+
+-- a get that waits for the process's key
+abbrev pub is_parked_on : Proc → Standing → Bool
+is_parked_on q (Standing.parked get) = same_proc q get.target
+is_parked_on q _ = false
+
+-- for each get that waits for the process's key, its home is asked
+abbrev pub asking_again : Jobs → ℕ → Holding → Proc → List Due
+asking_again jobs id h q = flat_map (λ e. if is_parked_on q e.1 then asking jobs id h q else []) (finite.entries h.calls)
+
+-- ---- what is sent at a nudge
+
+abbrev pub waited : Standing → List FenceName
+waited (Standing.in_fence f) = f ∷ []
+waited _ = []
+
+-- the fences in which own processes wait, in the order of their names
+abbrev pub waited_in : Holding → List FenceName
+waited_in h = in_order (set.from_list {R = name_cmp} (flat_map (λ e. waited e.1) (finite.entries h.calls)))
+
+-- the other nodes whose header is missing are asked for it
+abbrev pub asking_headers : Jobs → ℕ → Holding → FenceName → List Due
+asking_headers jobs id h f =
+    map (λ m. sendings.Whole (sent m (frames.FenceAsk (fence_ask id f)))) (filter (λ m. is_none (header_at jobs id h.table f m)) (peers_in jobs id f))
+
+abbrev pub is_behind : ℕ → Option Entry → Bool
+is_behind level None = false
+is_behind level (Some e) = nat_lt level e.level
+
+-- of each participant of another node whose commits are missing that a header names, the home is asked for them
+abbrev pub asking_ranges : Jobs → ℕ → Holding → FenceName → List Due
+asking_ranges jobs id h f =
+    map (λ q. sendings.Whole (sent (home_of jobs q) (frames.RangeAsk (commit_ask id q (level_at h.far q)))))
+    (filter (λ q. not (home_of jobs q == id) && is_behind (level_at h.far q) (told_of jobs id h.table f q)) (participants_of f))
+
+abbrev pub asking_fence : Jobs → ℕ → Holding → FenceName → List Due
+asking_fence jobs id h f = asking_headers jobs id h f ++ (if f.signature.collect then asking_ranges jobs id h f else [])
+
+-- node 0 is asked for changes of the process sets
+abbrev pub asking_sets : ℕ → Holding → List Due
+asking_sets id h = if id == 0 then [] else sendings.Whole (sent 0 (frames.RangeAsk (commit_ask id host (level_at h.far host)))) ∷ []
+
+abbrev pub nudging : Jobs → ℕ → Holding → List Due
+nudging jobs id h =
+    flat_map (asking_fence jobs id h) (waited_in h) ++ (flat_map (λ e. asking_for jobs id h (Some e.1)) (finite.entries h.calls) ++ asking_sets id h)
+
+-- ---- what is due after each act
+
+-- the sets go whole to each other node, after what nodes waited for
+abbrev pub spreading : Jobs → ℕ → Holding → Holding → List Due
+spreading jobs id old new = settling old new host ++ map (λ m. piece_due new host m 0) (peers jobs id)
+
+unfoldable pub due_by_request : Jobs → ℕ → Holding → Request → Holding → List Due
+due_by_request jobs id old (Request.enter p list collect) new =
+    flat_map (announcing jobs id) (news jobs id old.table new.table (next_name old.table (signature_of jobs p list collect) p))
+due_by_request jobs id old (Request.leave p) new = []
+due_by_request jobs id old (Request.ask p get mode) new = asking_for jobs id new (call_of new p)
+due_by_request jobs id old (Request.take p) new = []
+due_by_request jobs id old (Request.terminate p) new =
+    settling old new p ++ flat_map (announcing jobs id) (flat_map (news jobs id old.table new.table) (names_of old.table))
+due_by_request jobs id old (Request.define name list) new = spreading jobs id old new
+due_by_request jobs id old (Request.delete name) new = spreading jobs id old new
+due_by_request jobs id old Request.nudge new = nudging jobs id new
+
+unfoldable pub due_by_frame : Jobs → ℕ → Holding → Frame → Holding → List Due
+due_by_frame jobs id old (frames.Piece c) new = if nat_lt (level_at old.far c.proc) (level_at new.far c.proc) then asking_again jobs id new c.proc else []
+due_by_frame jobs id old (frames.Header hd) new = flat_map (announcing jobs id) (news jobs id old.table new.table hd.name)
+due_by_frame jobs id old (frames.FenceAsk a) new =
+    telling_of jobs id a.node a.name (own_header_of jobs id old a.name) (flat_map (announcing jobs id) (news jobs id old.table new.table a.name))
+due_by_frame jobs id old (frames.RangeAsk a) new = answering new a.node a.proc a.level
+due_by_frame jobs id old (frames.DirectAsk a) new = answering new a.node a.proc a.level
+
+-- what is due once the act took the node from old to new
+unfoldable pub due_by : Jobs → ℕ → Holding → Act → Holding → List Due
+due_by jobs id old (Act.request r) new = due_by_request jobs id old r new
+due_by jobs id old (Act.commit p b) new = settling old new p
+due_by jobs id old (Act.deliver frame) new = due_by_frame jobs id old frame new
+
+-- ---- marks: to which level each node was sent an own process's commits, or said that it knows them
+
+abbrev pub mark_of : Levels → ℕ → Proc → ℕ
+mark_of marks node p = unwrap_or (mark_at marks p node) 0
+
+-- a piece that is sent sets its receiver's mark to its end
+abbrev pub marked_by : Levels → ℕ → Frame → Levels
+marked_by marks to (frames.Piece c) = with_level marks c.proc to c.to
+marked_by marks to (frames.Header hd) = marks
+marked_by marks to (frames.FenceAsk a) = marks
+marked_by marks to (frames.RangeAsk a) = marks
+marked_by marks to (frames.DirectAsk a) = marks
+
+abbrev pub marked : Levels → Sent → Levels
+marked marks s = marked_by marks s.to s.frame
+
+-- a node that asks for commits says what it knows
+abbrev pub asked_marks : Levels → Option CommitAsk → Levels
+asked_marks marks None = marks
+asked_marks marks (Some a) = with_level marks a.proc a.node a.level
+
+unfoldable pub marked_by_act : Levels → Act → Levels
+marked_by_act marks a = asked_marks marks (asked_by a)
+
+-- what goes out, and the marks then
+pub record Out : Type 0 where
+  pub frames : List Sent
+  pub marks : Levels
+
+-- the frame that is sent for what is due, if any, where this is what each process sealed: what a node has already is not sent
+abbrev pub frame_for : (Proc → Sealed) → Levels → Due → Option Sent
+frame_for sealer marks (sendings.Whole s) = Some s
+frame_for sealer marks (sendings.Rest node p) =
+    if nat_lt (mark_of marks node p) (sealer p).level then Some (sent node (frames.Piece (piece_at (sealer p) (mark_of marks node p) reach.Far))) else None
+
+abbrev pub marked_if : Levels → Option Sent → Levels
+marked_if marks None = marks
+marked_if marks (Some s) = marked marks s
+
+-- what goes out, one after the other
+unfoldable pub sends : (Proc → Sealed) → Levels → List Due → Out
+sends sealer marks [] = record { frames = []; marks = marks }
+sends sealer marks (d ∷ ds) =
+    let out = sends sealer (marked_if marks (frame_for sealer marks d)) ds in
+    record { frames = option_to_list (frame_for sealer marks d) ++ out.frames; marks = out.marks }
+
+-- What an act sends, and the marks then: nothing where it is refused or ignored.
+unfoldable pub chosen : Jobs → ℕ → Holding → Levels → Act → Out
+chosen jobs id old marks a =
+    if is_quiet (acts jobs id old a).reply then record { frames = []; marks = marks }
+    else sends (sealer_of (acts jobs id old a).left) (marked_by_act marks a) (due_by jobs id old a (acts jobs id old a).left)

@@ -1,0 +1,105 @@
+-- What a node's content keeps, whatever is done.
+use Rattle.std.specs.Prelude.{◌≡◌, ℕ, ◌≤◌, Bool, true, false, Some, if◌then◌else◌}
+use Rattle.std.specs.FinSet as set
+use Rattle.std.specs.Ordering.{eq_by_cmp}
+use Rattle.pmg_value.specs.Signatures.{FenceName}
+use Rattle.pmg_value.specs.declared.process.Proc.{Proc}
+use Rattle.pmg_commit.specs.Data.{known}
+use Rattle.pmg_frame.specs.FenceOrder.{name_cmp}
+use Rattle.pmg_jobinfo.specs.Jobs.{Jobs, is_member, home_of}
+use Rattle.pmg_fence.specs.Entering.{same_proc}
+use Rattle.pmg_fence.specs.Tables.{has_name, told_of}
+use Rattle.pmg_dmodex.specs.Levels.{level_at as held_at}
+use Rattle.pmg_get.specs.Gets.{Outcome}
+use Rattle.pmg_get.specs.declared.view.Mode.TheVariants as modes
+use Rattle.pmg_rules.specs.Acts.{Act, is_peer, is_concerned, acts}
+use Rattle.pmg_rules.specs.Holdings.{Get, Standing, Holding, new_holding, sealer_of, call_of, is_ready_at, answer_in, mapped, settle, settled, with_calls}
+
+-- Whoever is in a fence is in one that is not ready, and a get waits only while there is nothing to answer.
+pub record IsSettled (jobs : Jobs) (id : ℕ) (h : Holding) : Type 0 where
+  pub fences : (p : Proc) (f : FenceName) → call_of h p ≡ Some (Standing.in_fence f) → is_ready_at jobs id h f ≡ false
+  pub gets : (p : Proc) (get : Get) → call_of h p ≡ Some (Standing.parked get) → answer_in jobs id h get modes.Wait ≡ Outcome.parks
+
+-- a process of the group, at home at the node
+abbrev pub IsOwn : Jobs → ℕ → Proc → Type 0
+IsOwn jobs id p = (is_member jobs p ≡ true) × (home_of jobs p ≡ id)
+
+-- What a content is made of, without any script: what is kept as sealed by a process is its own; who is in a call is a process
+-- of the group, at home at the node; a get waits for a key of a process of the group; who waits for a process's next commit is
+-- another node, the process is at home at this one, and its commits are all known there; each fence whose name is there is one
+-- of processes of the group, some of them at home at the node; and who is in a fence takes part in one whose name is there.
+pub record Holds (jobs : Jobs) (id : ℕ) (h : Holding) : Type 0 where
+  pub sealers : (p : Proc) → (sealer_of h p).proc ≡ p
+  pub callers : (p : Proc) (standing : Standing) → call_of h p ≡ Some standing → IsOwn jobs id p
+  pub targets : (p : Proc) (get : Get) → call_of h p ≡ Some (Standing.parked get) → is_member jobs get.target ≡ true
+  pub homes : (p : Proc) (node level : ℕ) → held_at h.held p node ≡ Some level → home_of jobs p ≡ id
+  pub askers : (p : Proc) (node level : ℕ) → held_at h.held p node ≡ Some level → is_peer jobs id node ≡ true
+  pub levels : (p : Proc) (node level : ℕ) → held_at h.held p node ≡ Some level → (sealer_of h p).level ≤ level
+  pub names : (f : FenceName) → has_name h.table f ≡ true → is_concerned jobs id f ≡ true
+  pub there : (p : Proc) (f : FenceName) → call_of h p ≡ Some (Standing.in_fence f) → has_name h.table f ≡ true
+  pub parts : (p : Proc) (f : FenceName) → call_of h p ≡ Some (Standing.in_fence f) → set.contains f.signature.participants p ≡ true
+
+-- what a node holds
+pub record IsServer (jobs : Jobs) (id : ℕ) (h : Holding) : Type 0 where
+  pub settled : IsSettled jobs id h
+  pub holds : Holds jobs id h
+
+-- a new node holds that
+abbrev pub NewIsServer : Type 0
+NewIsServer = (jobs : Jobs) (id : ℕ) → IsServer jobs id (new_holding jobs id)
+
+-- and so it does after each act
+abbrev pub ServerStays : Type 0
+ServerStays = (jobs : Jobs) (id : ℕ) (h : Holding) (a : Act) → IsServer jobs id h → IsServer jobs id (acts jobs id h a).left
+
+-- to settle what is settled changes nothing
+abbrev pub SettledSame : Type 0
+SettledSame = (jobs : Jobs) (id : ℕ) (h : Holding) → IsSettled jobs id h → settled jobs id h ≡ h
+
+-- ---- which calls are looked at again
+
+-- a get of a key of the process, or a fence in which it takes part
+abbrev pub is_about : Proc → Standing → Bool
+is_about q (Standing.in_fence f) = set.contains f.signature.participants q
+is_about q (Standing.released f gone) = false
+is_about q (Standing.parked get) = same_proc get.target q
+is_about q (Standing.answered get outcome) = false
+
+-- the fence
+abbrev pub is_in : FenceName → Standing → Bool
+is_in f (Standing.in_fence g) = eq_by_cmp name_cmp g f
+is_in f (Standing.released g gone) = false
+is_in f (Standing.parked get) = false
+is_in f (Standing.answered get outcome) = false
+
+-- settled again where the test tells so
+abbrev pub settle_where : Jobs → ℕ → Holding → (Standing → Bool) → Standing → Standing
+settle_where jobs id h looks standing = if looks standing then settle jobs id h standing else standing
+
+-- Two contents that know the same of all processes but one, and are told the same of fences in which it takes no part; each
+-- other call of the second is one of the first.
+pub record DiffersAt (jobs : Jobs) (id : ℕ) (q : Proc) (h g : Holding) : Type 0 where
+  pub calls : (p : Proc) (standing : Standing) → call_of g p ≡ Some standing → is_about q standing ≡ false → call_of h p ≡ Some standing
+  pub near : (p : Proc) → same_proc p q ≡ false → known g.near p ≡ known h.near p
+  pub far : (p : Proc) → same_proc p q ≡ false → known g.far p ≡ known h.far p
+  pub told : (f : FenceName) (p : Proc) → set.contains f.signature.participants q ≡ false → told_of jobs id g.table f p ≡ told_of jobs id h.table f p
+
+-- Two contents that know the same of all processes, and are told the same of all fences but one; each other call of the second
+-- is one of the first.
+pub record DiffersIn (jobs : Jobs) (id : ℕ) (f : FenceName) (h g : Holding) : Type 0 where
+  pub calls : (p : Proc) (standing : Standing) → call_of g p ≡ Some standing → is_in f standing ≡ false → call_of h p ≡ Some standing
+  pub near : g.near ≡ h.near
+  pub far : g.far ≡ h.far
+  pub told : (x : FenceName) (p : Proc) → eq_by_cmp name_cmp x f ≡ false → told_of jobs id g.table x p ≡ told_of jobs id h.table x p
+
+-- where more is known of one process, gets of its keys and fences in which it takes part are looked at again
+abbrev pub SettledOn : Type 0
+SettledOn =
+    (jobs : Jobs) (id : ℕ) (q : Proc) (h g : Holding) → IsSettled jobs id h → DiffersAt jobs id q h g
+    → settled jobs id g ≡ with_calls g (mapped (settle_where jobs id g (is_about q)) g.calls)
+
+-- where one fence changed, who is in it is looked at again
+abbrev pub SettledNames : Type 0
+SettledNames =
+    (jobs : Jobs) (id : ℕ) (f : FenceName) (h g : Holding) → IsSettled jobs id h → DiffersIn jobs id f h g
+    → settled jobs id g ≡ with_calls g (mapped (settle_where jobs id g (is_in f)) g.calls)

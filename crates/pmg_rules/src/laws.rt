@@ -1,0 +1,27 @@
+ghost use Rattle.pmg_rules.specs.NodeLaws.{
+  ActsFit,
+  ParkedWait,
+  AnswersStay,
+  AnsweredHave,
+  ReadyFrees,
+  FreedByReady,
+  FreedStays,
+  ReleasedWhereReady,
+  HeldStayOwn,
+};
+
+/// The rules of every act of a node. Whatever scripts its content fits, after the act it fits them with the calls added that the
+/// act says. A get waits exactly where it has no answer. A process in a fence is released exactly where the fence is ready, and
+/// stays so until it leaves or ends. Each node that waits for a process's next commit is another one of the group, and the
+/// process is at home here.
+pub fn node_rules()
+    ensures acts_fit { ActsFit }
+    ensures parked_wait { ParkedWait }
+    ensures answers_stay { AnswersStay }
+    ensures answered_have { AnsweredHave }
+    ensures ready_frees { ReadyFrees }
+    ensures freed_by_ready { FreedByReady }
+    ensures freed_stays { FreedStays }
+    ensures released_where_ready { ReleasedWhereReady }
+    ensures held_stay_own { HeldStayOwn }
+{}

@@ -1,0 +1,252 @@
+-- What holds of names and turns holds after each step.
+use Rattle.std.proofs.Common.{◌≡◌, ℕ, Bool, true, false, ◌==◌, cond, List, [], ◌∷◌, Option, Some, None, Result, inl, inr, refl, sym, ap, subst, ◌∙◌, arith}
+use Rattle.std.proofs.lemmas.Bool.{false≢true}
+use Rattle.std.proofs.lemmas.Bool.Decides.{nat_tests}
+use Rattle.pmg_value.specs.Lists.{Each}
+use Rattle.pmg_value.specs.Signatures.{FenceName}
+use Rattle.pmg_value.specs.declared.process.Proc.{Proc}
+use Rattle.pmg_value.specs.declared.refusal.Refusal.{Refusal}
+use Rattle.pmg_scope.specs.Cached.{unsealed_of}
+use Rattle.pmg_scope.specs.Scripts.{Call, Script}
+use Rattle.pmg_jobinfo.specs.Jobs.{Jobs, AreJobs, is_node, home_of}
+use Rattle.pmg_fence.specs.Changes.{next_name}
+use Rattle.pmg_fence.specs.Rules.{Scripts, Grows}
+use Rattle.pmg_fence.specs.Tables.{has_name}
+use Rattle.pmg_fence.proofs.EntryLemmas.{puts}
+use Rattle.pmg_fence.proofs.StepLemmas.{no_names}
+use Rattle.pmg_get.specs.declared.view.Mode.{Mode}
+use Rattle.pmg_rules.specs.Acts.{Request, Act, Reply, Done, Said, signature_of, cause, does, serves, over, said_by, says}
+use Rattle.pmg_rules.specs.Fitting.{Fits, FitsAct, is_refusal, unless_refused, with_said}
+use Rattle.pmg_rules.specs.Holdings.{Get, Standing, Holding, sealer_of, call_of, settled}
+use Rattle.pmg_rules.specs.Sending.{Allowed}
+use Rattle.pmg_rules.specs.declared.sent.Sent.{Sent}
+use Rattle.pmg_rules.proofs.CauseFacts.{NoCause, by_causes}
+use Rattle.pmg_rules.proofs.Moving.{Moves, StaysOrMoves, does_call}
+use Rattle.pmg_rules.proofs.Reading.{grows_unless}
+use Rattle.pmg_rules.proofs.Settling.{settled_in_fence}
+use Rattle.pmg_runs.specs.Worlds.{World, Event, Doing, Does, Happened, Run, start, numbered, delivers, not_there, requests, own_get, is_own, cache_of, reply_in, doing}
+use Rattle.pmg_runs.specs.Laws.{Good, FreedRight}
+use Rattle.pmg_runs.specs.Turns.{NamesEntered, AreNamed, ArePast, IsInTurn, Turned, NamesWereEntered, AlwaysInTurn}
+use Rattle.pmg_runs.proofs.Naming.{ActNames, NamesAfter, does_names, name_kept, name_entered, name_of_entry, entered_grown, names_grown, allowed_named}
+use Rattle.pmg_runs.proofs.Speaking.{DoingFits, IsPut, numbered_is, doing_fits}
+use Rattle.pmg_runs.proofs.Starting.{new_call, start_good}
+use Rattle.pmg_runs.proofs.Steps.{act_world, left_by, scripts_by, world_by, scripts_grow, act_good, each_node, each_both, each_still, step_good}
+use Rattle.pmg_runs.proofs.Turning.{PastBy, EntersSame, enters_said, past_more, turn_more, settled_past, does_past, does_turn, away_past}
+
+-- ---- names after an act
+
+entry_named : (jobs : Jobs) (n : ℕ) (h : Holding) (p : Proc) (list : List Proc) (collect : Bool)
+    → has_name (does jobs n h (Act.request (Request.enter p list collect))).left.table (next_name h.table (signature_of jobs p list collect) p) ≡ true
+unfolding does serves
+entry_named jobs n h p list collect = name_of_entry h.table (signature_of jobs p list collect) p (sealer_of h p).level
+
+in_fence_named : (jobs : Jobs) (n : ℕ) (h : Holding) (a : Act) (p : Proc) (f : FenceName) (c : Option Standing) → StaysOrMoves jobs n h p a c
+    → ((call_of h p ≡ Some (Standing.in_fence f)) → has_name (does jobs n h a).left.table f ≡ true) → c ≡ Some (Standing.in_fence f) → has_name (does jobs n h a).left.table f ≡ true
+in_fence_named jobs n h a p f c (inl same) kept e = kept (sym same ∙ e)
+in_fence_named jobs n h a p f c (inr (Moves.entering list collect is was now)) kept e =
+    subst (λ x. has_name (does jobs n h x).left.table f ≡ true) (sym is) (subst (λ x. has_name (does jobs n h (Act.request (Request.enter p list collect))).left.table x ≡ true) same (entry_named jobs n h p list collect))
+  where
+    same : next_name h.table (signature_of jobs p list collect) p ≡ f
+    same = let both : Some (Standing.in_fence (next_name h.table (signature_of jobs p list collect) p)) ≡ Some (Standing.in_fence f) = sym now ∙ e in cc
+in_fence_named jobs n h a p f c (inr (Moves.parking get mode is was answer now)) kept e = absurd (elsewhere (sym now ∙ e))
+  where
+    elsewhere : Some (Standing.parked get) ≡ Some (Standing.in_fence f) → ⊥
+    elsewhere z = cc
+in_fence_named jobs n h a p f c (inr (Moves.leaving x gone is was now)) kept e = absurd (elsewhere (sym now ∙ e))
+  where
+    elsewhere : None ≡ Some (Standing.in_fence f) → ⊥
+    elsewhere z = cc
+in_fence_named jobs n h a p f c (inr (Moves.taking get outcome is was now)) kept e = absurd (elsewhere (sym now ∙ e))
+  where
+    elsewhere : None ≡ Some (Standing.in_fence f) → ⊥
+    elsewhere z = cc
+in_fence_named jobs n h a p f c (inr (Moves.ending is now)) kept e = absurd (elsewhere (sym now ∙ e))
+  where
+    elsewhere : None ≡ Some (Standing.in_fence f) → ⊥
+    elsewhere z = cc
+
+does_named : (jobs : Jobs) (scripts : Scripts) (n : ℕ) (h : Holding) → Fits jobs scripts n h → AreNamed scripts h → (a : Act) → NoCause (cause jobs n h a) → ActNames scripts a
+    → AreNamed (unless_refused (is_refusal (does jobs n h a).reply) scripts (says jobs a)) (settled jobs n (does jobs n h a).left)
+does_named jobs scripts n h fits named a none names =
+    let d = (does jobs n h a).left in
+    let grown = unless_refused (is_refusal (does jobs n h a).reply) scripts (says jobs a) in
+    let after : NamesAfter grown h.table d.table = does_names jobs scripts n h fits a none names in
+    record {
+      names = λ f has. name_entered scripts grown h.table d.table f (grows_unless (is_refusal (does jobs n h a).reply) scripts (says jobs a)) after named.names has;
+      calls = λ p f e.
+          in_fence_named jobs n h a p f (call_of d p) (does_call jobs n h p a none) (λ was. name_kept grown h.table d.table f after (named.calls p f was)) (settled_in_fence jobs n d p f e).0;
+    }
+
+named_grown : (scripts grown : Scripts) (h : Holding) → Grows scripts grown → AreNamed scripts h → AreNamed grown h
+named_grown scripts grown h grows named = record { names = λ f has. entered_grown scripts grown f grows (named.names f has); calls = named.calls }
+
+-- ---- an act
+
+module _ (jobs : Jobs) (are : AreJobs jobs) (w : World) (good : Good jobs w) (turned : Turned jobs w) (n : ℕ) (a : Act) (fit : FitsAct jobs w.scripts a) (names : ActNames w.scripts a) where
+  abbrev grown : Scripts
+  grown = scripts_by jobs are w good n a fit
+
+  abbrev left_now : Holding
+  left_now = left_by jobs are w good n a fit
+
+  grows : Grows w.scripts grown
+  grows = scripts_grow jobs are w good n a fit
+
+  -- what holds where nothing is done, and after what is done and settled, holds after the act
+  by_act : (P : Scripts → Holding → Type 0) → P w.scripts (w.nodes n)
+      → (NoCause (cause jobs n (w.nodes n) a) → P (unless_refused (is_refusal (does jobs n (w.nodes n) a).reply) w.scripts (says jobs a)) (settled jobs n (does jobs n (w.nodes n) a).left)) → P grown left_now
+  by_act P still done = elim (by_causes (cause jobs n (w.nodes n) a) (does jobs n (w.nodes n) a)) [
+    | inl found ↦
+        subst (λ (x : Result Done Refusal). P (unless_refused (is_refusal (over jobs n (w.nodes n) x).reply) w.scripts (says jobs a)) (over jobs n (w.nodes n) x).left) (sym found.2) still
+    | inr free ↦
+        subst (λ (x : Result Done Refusal). P (unless_refused (is_refusal (over jobs n (w.nodes n) x).reply) w.scripts (says jobs a)) (over jobs n (w.nodes n) x).left) (sym free.0) (done free.1)
+  ]
+
+  left_named : AreNamed grown left_now
+  left_named = by_act AreNamed (turned.named n) (λ none. does_named jobs w.scripts n (w.nodes n) (good.fits n) (turned.named n) a none names)
+
+  left_free : FreedRight grown left_now → (p : Proc) → n ≡ home_of jobs p → PastBy grown (call_of left_now p) p
+  left_free freed p at =
+      let past : PastBy w.scripts (call_of (w.nodes n) p) p = subst (λ k. PastBy w.scripts (call_of (w.nodes k) p) p) (sym at) (turned.past p) in
+      by_act (λ s g. FreedRight s g → PastBy s (call_of g p) p) (λ still. past) (λ none free.
+      settled_past jobs n (does jobs n (w.nodes n) a).left (unless_refused (is_refusal (does jobs n (w.nodes n) a).reply) w.scripts (says jobs a)) p free
+      (does_past jobs w.scripts n (w.nodes n) (good.fits n) p a none past)) freed
+
+  others_past : (p : Proc) → (home_of jobs p ≡ n → ⊥) → ArePast grown (w.nodes (home_of jobs p)) p
+  others_past p away =
+      by_act (λ s g. PastBy s (call_of (w.nodes (home_of jobs p)) p) p) (turned.past p) (λ none.
+      away_past jobs w.scripts n (w.nodes n) (good.fits n) p a none away (call_of (w.nodes (home_of jobs p)) p) (turned.past p))
+
+  turns : (p : Proc) → IsInTurn grown p
+  turns p =
+      by_act (λ s g. IsInTurn s p) (turned.turn p) (λ none.
+      does_turn jobs w.scripts n (w.nodes n) (good.fits n) p a none (λ home. subst (λ k. PastBy w.scripts (call_of (w.nodes k) p) p) home (turned.past p)) (turned.turn p))
+
+  pub act_turned : (out : List Sent) → Good jobs (world_by jobs are w good n a fit out) → Each (λ s. Allowed jobs n left_now s.frame) out → Turned jobs (world_by jobs are w good n a fit out)
+  act_turned out after allowed = record {
+    named = each_node (λ m h. AreNamed grown h) w.nodes n left_now left_named (λ m away. named_grown w.scripts grown (w.nodes m) grows (turned.named m));
+    past = λ p. each_node (λ k h. k ≡ home_of jobs p → PastBy grown (call_of h p) p) w.nodes n left_now (λ at. left_free freed p at)
+        (λ k away at. subst (λ x. PastBy grown (call_of (w.nodes x) p) p) (sym at) (others_past p (λ home. away (at ∙ home)))) (home_of jobs p) refl;
+    turn = turns;
+    frames = each_both (λ s. NamesEntered grown s.frame) w.sent out
+        (each_still (λ s. NamesEntered w.scripts s.frame) (λ s. NamesEntered grown s.frame) w.sent (λ s. names_grown w.scripts grown grows s.frame) turned.frames)
+        (each_still (λ s. Allowed jobs n left_now s.frame) (λ s. NamesEntered grown s.frame) out (λ s. allowed_named jobs grown n left_now left_named s.frame) allowed);
+  }
+    where
+      is_itself : (n == n) ≡ true
+      is_itself = grind (arith, nat_tests)
+
+      freed : FreedRight grown left_now
+      freed = subst (λ b. FreedRight grown (cond b left_now (w.nodes n))) is_itself (after.freed n)
+
+-- ---- a put
+
+put_turned : (jobs : Jobs) (w : World) → Turned jobs w → (said : Said) → IsPut jobs w said → Turned jobs (record { scripts = with_said w.scripts (Some said); nodes = w.nodes; sent = w.sent })
+put_turned jobs w turned said put =
+    subst (λ (x : Said). Turned jobs (record { scripts = with_said w.scripts (Some x); nodes = w.nodes; sent = w.sent })) (sym put.is) so
+  where
+    calls : Script
+    calls = Call.put put.scope put.key put.value ∷ []
+
+    after : Scripts
+    after = with_said w.scripts (said_by put.proc calls)
+
+    more : Grows w.scripts after
+    more = grows_unless false w.scripts (said_by put.proc calls)
+
+    often : (p : Proc) → EntersSame w.scripts after p
+    often p g = enters_said w.scripts put.proc calls g (puts put.scope put.key put.value, tt) p
+
+    so : Turned jobs (record { scripts = after; nodes = w.nodes; sent = w.sent })
+    so = record {
+      named = λ m. named_grown w.scripts after (w.nodes m) more (turned.named m);
+      past = λ p. past_more w.scripts after more p (call_of (w.nodes (home_of jobs p)) p) (call_of (w.nodes (home_of jobs p)) p) (often p) (λ f e. e) (turned.past p);
+      turn = λ p. turn_more w.scripts after more p (often p) (turned.turn p);
+      frames = each_still (λ s. NamesEntered w.scripts s.frame) (λ s. NamesEntered after s.frame) w.sent (λ s. names_grown w.scripts after more s.frame) turned.frames;
+    }
+
+-- ---- a step
+
+-- what a doing names was entered
+abbrev pub DoingNames : World → Doing → Type 0
+DoingNames w (Doing.at_node node a) = ActNames w.scripts a
+DoingNames w (Doing.by_cache answer said) = Unit {0}
+
+if_node_names : (w : World) (b : Bool) (d : Doing) → DoingNames w d → DoingNames w (cond b d not_there)
+if_node_names w true d names = names
+if_node_names w false d names = tt
+
+ask_names : (jobs : Jobs) (w : World) (node : ℕ) (p : Proc) (get : Get) (mode : Mode) (b : Bool)
+    → DoingNames w (cond b (own_get jobs w node p get.key mode) (Doing.at_node node (Act.request (Request.ask p get mode))))
+ask_names jobs w node p get mode true = tt
+ask_names jobs w node p get mode false = tt
+
+requests_name : (jobs : Jobs) (w : World) (node : ℕ) (r : Request) → DoingNames w (requests jobs w node r)
+requests_name jobs w node (Request.enter p list collect) = tt
+requests_name jobs w node (Request.leave p) = tt
+requests_name jobs w node (Request.ask p get mode) = ask_names jobs w node p get mode (is_own p get)
+requests_name jobs w node (Request.take p) = tt
+requests_name jobs w node (Request.terminate p) = tt
+requests_name jobs w node (Request.define name list) = tt
+requests_name jobs w node (Request.delete name) = tt
+requests_name jobs w node Request.nudge = tt
+
+delivers_name : (w : World) → Each (λ s. NamesEntered w.scripts s.frame) w.sent → (i : ℕ) (o : Option Sent) → numbered w.sent i ≡ o → DoingNames w (delivers o)
+delivers_name w frames i None is = tt
+delivers_name w frames i (Some s) is = numbered_is (λ s. NamesEntered w.scripts s.frame) w.sent i s frames is
+
+doing_names : (jobs : Jobs) (w : World) → Turned jobs w → (e : Event) → DoingNames w (doing jobs w e)
+unfolding doing
+doing_names jobs w turned (Event.put p scope key value) = tt
+doing_names jobs w turned (Event.commit node p) = if_node_names w (is_node jobs node) (Doing.at_node node (Act.commit p (unsealed_of (cache_of (w.scripts p))))) tt
+doing_names jobs w turned (Event.request node r) = if_node_names w (is_node jobs node) (requests jobs w node r) (requests_name jobs w node r)
+doing_names jobs w turned (Event.deliver i) = delivers_name w turned.frames i (numbered w.sent i) refl
+
+cache_turned : (jobs : Jobs) (w : World) → Turned jobs w → (answer : Result Reply Refusal) (o : Option Said) → DoingFits jobs w (Doing.by_cache answer o) → (refused : Bool) → is_refusal (reply_in answer) ≡ refused
+    → Turned jobs (record { scripts = unless_refused refused w.scripts o; nodes = w.nodes; sent = w.sent })
+cache_turned jobs w turned answer None fits true is = turned
+cache_turned jobs w turned answer None fits false is = turned
+cache_turned jobs w turned answer (Some said) fits true is = turned
+cache_turned jobs w turned answer (Some said) (inl refused) false is = absurd (false≢true (sym is ∙ refused))
+cache_turned jobs w turned answer (Some said) (inr put) false is = put_turned jobs w turned said put
+
+does_turned : (jobs : Jobs) → AreJobs jobs → (w : World) → Good jobs w → Turned jobs w → (d : Doing) → DoingFits jobs w d → DoingNames w d → (r : Reply) (v : World) → Does jobs w d r v → Turned jobs v
+does_turned jobs are w good turned (Doing.at_node n a) fit names r v step =
+    let allowed = subst (λ h. Each (λ s. Allowed jobs n h s.frame) step.out) step.step.left step.step.allowed in
+    subst (Turned jobs) (sym (act_world jobs are w good n a fit r v step))
+    (act_turned jobs are w good turned n a fit names step.out (act_good jobs are w good n a fit step.out allowed) allowed)
+does_turned jobs are w good turned (Doing.by_cache answer o) fit names r v step =
+    subst (Turned jobs) (sym (step.left ∙ ap (λ (x : Reply). record { scripts = unless_refused (is_refusal x) w.scripts o; nodes = w.nodes; sent = w.sent }) step.replied))
+    (cache_turned jobs w turned answer o fit (is_refusal (reply_in answer)) refl)
+
+-- ---- a run
+
+start_turned : (jobs : Jobs) → Turned jobs (start jobs)
+start_turned jobs = record {
+  named = λ m. record {
+    names = λ f has. absurd (false≢true (sym (no_names f) ∙ has));
+    calls = λ p f e. absurd (nowhere (sym (new_call p) ∙ e));
+  };
+  past = λ p g k pos le. absurd (omega (arith, pos, le));
+  turn = λ p g k pos lt. absurd (omega (arith, pos, lt));
+  frames = tt;
+}
+  where
+    nowhere : {f : FenceName} → None ≡ Some (Standing.in_fence f) → ⊥
+    nowhere e = cc
+
+run_turned : (jobs : Jobs) → AreJobs jobs → (xs : List Happened) (w v : World) → Good jobs w → Turned jobs w → Run jobs w xs v → Turned jobs v
+unfolding Run
+run_turned jobs are [] w v good turned run = subst (Turned jobs) (sym run) turned
+run_turned jobs are (x ∷ xs) w v good turned run =
+    run_turned jobs are xs run.0 v (step_good jobs are w good x.event x.reply run.0 run.1)
+    (does_turned jobs are w good turned (doing jobs w x.event) (doing_fits jobs w good x.event) (doing_names jobs w turned x.event) x.reply run.0 run.1) run.2
+
+always_turned : (jobs : Jobs) → AreJobs jobs → (xs : List Happened) (w : World) → Run jobs (start jobs) xs w → Turned jobs w
+always_turned jobs are xs w run = run_turned jobs are xs (start jobs) w (start_good jobs) (start_turned jobs) run
+
+pub names_were_entered : NamesWereEntered
+names_were_entered jobs are xs w run node f has = ((always_turned jobs are xs w run).named node).names f has
+
+pub always_in_turn : AlwaysInTurn
+always_in_turn jobs are xs w run p = (always_turned jobs are xs w run).turn p

@@ -1,0 +1,4 @@
+pub mod Worlds
+pub mod Laws
+pub mod Turns
+pub mod Examples

@@ -1,0 +1,39 @@
+ghost use Rattle.pmg_runs.specs.Examples.{RunOfTwo, RunOfMeeting};
+ghost use Rattle.pmg_runs.specs.Laws.{
+  AlwaysGood,
+  ScriptsAreTold,
+  OneHeader,
+  FenceTheorem,
+  ReleasedWhole,
+  ReleasedAlike,
+  GetsRise,
+};
+ghost use Rattle.pmg_runs.specs.Turns.{NamesWereEntered, AlwaysInTurn};
+
+/// What holds over every interleaving of the steps of a group, whatever frames are delivered, when, how often, or never. What
+/// each node holds fits the scripts of all processes, which are those that the events tell. Of one fence each node sends one
+/// header, and each fence whose name a node has was entered. No process runs past a fence that is not over. Nobody is released
+/// from a fence before each participant has entered or is gone, and all who are released are told the same. Who was released
+/// from a fence that collects data is answered what each participant had sealed before it entered, or something later; and what
+/// one process is answered about another never falls back.
+pub fn every_interleaving()
+    ensures always_good { AlwaysGood }
+    ensures scripts_are_told { ScriptsAreTold }
+    ensures one_header { OneHeader }
+    ensures names_were_entered { NamesWereEntered }
+    ensures always_in_turn { AlwaysInTurn }
+    ensures fence_theorem { FenceTheorem }
+    ensures released_whole { ReleasedWhole }
+    ensures released_alike { ReleasedAlike }
+    ensures gets_rise { GetsRise }
+{}
+
+/// Two runs of two nodes with a process each, step by step. In the first, one process ends; the other enters a fence of both that
+/// collects data, waits for the other node's header, then for the commit that the header names, and is released, told that the
+/// one is gone; and then a get of a key of that one is answered. In the second, the one process puts a value and commits it, and
+/// both enter; the other one waits in the same way, is released, told that nobody is gone, and finds the value. So the laws of
+/// every run speak of releases and of gets that do happen (PMIx Standard 5.0, PMIx_Fence, PMIX_COLLECT_DATA).
+pub fn worked_runs()
+    ensures run_of_two { RunOfTwo }
+    ensures run_of_meeting { RunOfMeeting }
+{}

@@ -1,0 +1,5 @@
+pub mod Lines
+pub mod Fields
+pub mod Scripts
+pub mod Reading
+pub mod Replays

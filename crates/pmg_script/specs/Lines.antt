@@ -1,0 +1,80 @@
+-- The lines of a script, and the words of a line.
+use Rattle.std.specs.Prelude.{◌≡◌, ℕ, suc, ◌-◌, ◌==◌, Bool, ◌&&◌, nat_le, List, [], length, take, drop, slice_index, Option, Some, None, Result, Ok, Err, if◌then◌else◌}
+use Rattle.std.specs.List.{list_any, position, slice_split}
+use Rattle.pmg_script.specs.declared.lines.LineFault.{LineFault}
+use Rattle.pmg_script.specs.declared.lines.LineFault.TheVariants as faults
+
+-- ---- lines
+
+-- so many bytes before its end the line has this byte
+abbrev pub has_byte : ℕ → ℕ → List ℕ → Bool
+has_byte back byte line = nat_le back (length line) && (slice_index line (length line - back) == byte)
+
+-- what a line holds: all of it but the LF that ends it, and a CR before that
+unfoldable pub content : List ℕ → List ℕ
+content line =
+    if has_byte 1 10 line then (if has_byte 2 13 line then take (length line - 2) line else take (length line - 1) line) else line
+
+-- ---- words
+
+abbrev pub is_blank : ℕ → Bool
+is_blank byte = byte == 32
+
+-- What is left of a line after some of its words: what stands after the blank that ended the last of them; nothing, where
+-- that one ended the line.
+abbrev pub Left : Type 0
+Left = Option (List ℕ)
+
+-- the word before the blank, and what is left after it
+abbrev pub parted : List ℕ → Option ℕ → List ℕ × Left
+parted text None = (text, None)
+parted text (Some at) = (take at text, Some (drop (suc at) text))
+
+abbrev pub unless_empty : List ℕ × Left → Option (List ℕ × Left)
+unless_empty part = if length part.0 == 0 then None else Some part
+
+-- the next word, which is not empty
+unfoldable pub read_word : Left → Option (List ℕ × Left)
+read_word None = None
+read_word (Some text) = unless_empty (parted text (position is_blank text))
+
+-- nothing is left
+abbrev pub read_end : Left → Option (Unit {0})
+read_end None = Some tt
+read_end (Some text) = None
+
+abbrev pub is_empty : List ℕ → Bool
+is_empty word = length word == 0
+
+-- all words that are left, none of which is empty
+unfoldable pub read_words : Left → Option (List (List ℕ))
+read_words None = Some []
+read_words (Some text) = if list_any is_empty (slice_split is_blank text) then None else Some (slice_split is_blank text)
+
+-- one step of reading, then the next
+infixl 10 ◌>>=◌
+abbrev pub ◌>>=◌ : {A B : Type 0} → Option A → (A → Option B) → Option B
+None >>= next = None
+(Some x) >>= next = next x
+
+-- the next word, as what it says
+abbrev pub read_as : {A : Type 0} → (List ℕ → Option A) → Left → Option (A × Left)
+read_as says left = do
+  word ← read_word left
+  x ← says word.0
+  Some (x, word.1)
+
+-- Reading fails so: the line has no such form, or an allocation failed, which no definition says.
+abbrev pub Fails : {Y : Type 0} → LineFault → Option Y → Type 0
+Fails faults.Malformed read = read ≡ None
+Fails faults.NoMemory read = Unit {0}
+
+-- What a reader of words answered, seen by view, and what it left of the line, are what reading gives.
+abbrev pub Reads : {X Y : Type 0} → (X → Y) → Result X LineFault → Left → Option (Y × Left) → Type 0
+Reads view (Ok x) new read = read ≡ Some (view x, new)
+Reads view (Err e) new read = Fails e read
+
+-- What a reader of all that is left answered, seen by view, is what reading gives.
+abbrev pub ReadsAll : {X Y : Type 0} → (X → Y) → Result X LineFault → Option Y → Type 0
+ReadsAll view (Ok x) read = read ≡ Some (view x)
+ReadsAll view (Err e) read = Fails e read

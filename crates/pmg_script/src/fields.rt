@@ -1,0 +1,253 @@
+//! What the words of a line say.
+ghost use Rattle.std.specs.Prelude.{◌≡◌, true};
+ghost use Rattle.std.specs.Char.{is_ascii_digit};
+ghost use Rattle.std.specs.List.{list_all};
+ghost use Rattle.pmg_script.specs.Lines.{Reads, ReadsAll, read_as, read_words};
+ghost use Rattle.pmg_script.specs.Scripts.{texts};
+ghost use Rattle.pmg_script.specs.Fields.{value_of, bounded, number_in, rank_in, scope_in, collect_in, mode_in, value_in, read_proc, read_procs, all_numbers, all_procs};
+ghost use Rattle.std.specs.Result.{result_ok};
+ghost use Rattle.pmg_wire.specs.Fields.{whole_value};
+
+use crate::lines::{LineFault, Words};
+use pmg_get::Mode;
+use pmg_scope::Scope;
+use pmg_value::{Rank, Refusal, Value};
+use pmg_wire::value_from_bytes;
+use std::alloc::Global;
+use std::marker::Model;
+
+/// A process as a line names it: the bytes that name its namespace, whatever they are, and its rank.
+#[derive(Debug, Drop)]
+pub struct Named<'a> {
+    pub nspace: &'a [u8],
+    pub rank: Rank,
+}
+
+impl<'a> Model for Named<'a> {
+    ghost use Rattle.pmg_value.specs.Process.{coded_proc};
+    ghost use Rattle.pmg_value.specs.declared.process.Proc.{Proc};
+
+    ghost Value = { Proc };
+
+    ghost coded = { coded_proc };
+
+    ghost view = { λ a. record { nspace = a.nspace.now; rank = a.rank } };
+}
+
+/// A number, which is digits alone.
+#[tactic(auto, unfolding(crate::specs::Fields::number_in))]
+pub fn number_of(word: &[u8]) -> Result<u64, LineFault>
+    ensures { ReadsAll (λ n. n) result (number_in word.now) }
+{
+    if !are_digits(word) {
+        return Err(LineFault::Malformed);
+    }
+    Ok(value_of(word))
+}
+
+fn are_digits(word: &[u8]) -> bool
+    ensures { result ≡ list_all is_ascii_digit word.now }
+{
+    word.iter().all(|byte| byte.is_ascii_digit())
+}
+
+/// The number that the digits write; of a greater one than 64 bits hold, the greatest of these.
+fn value_of(digits: &[u8]) -> u64
+    requires { list_all is_ascii_digit digits.now ≡ true }
+    ensures { result ≡ bounded (value_of digits.now) }
+{
+    let mut value = 0u64;
+    for digit in digits {
+        value = value
+            .saturating_mul(10)
+            .saturating_add(u64::from(*digit - b'0'));
+    }
+    value
+}
+
+/// A rank: a number of 32 bits, or `*` for all ranks.
+#[tactic(auto, unfolding(crate::specs::Fields::rank_in))]
+fn rank_of(word: &[u8]) -> Result<Rank, LineFault>
+    ensures { ReadsAll (λ r. r) result (rank_in word.now) }
+{
+    if word == b"*".as_slice() {
+        return Ok(Rank::WILDCARD);
+    }
+    let number = number_of(word)?;
+    if number > u64::from(u32::MAX) {
+        return Err(LineFault::Malformed);
+    }
+    Ok(Rank::new(number as u32))
+}
+
+/// A scope.
+#[tactic(auto, unfolding(crate::specs::Fields::scope_in))]
+fn scope_of(word: &[u8]) -> Result<Scope, LineFault>
+    ensures { ReadsAll (λ s. s) result (scope_in word.now) }
+{
+    if word == b"internal".as_slice() {
+        Ok(Scope::Internal)
+    } else if word == b"local".as_slice() {
+        Ok(Scope::Local)
+    } else if word == b"remote".as_slice() {
+        Ok(Scope::Remote)
+    } else if word == b"global".as_slice() {
+        Ok(Scope::Global)
+    } else if word == b"undef".as_slice() {
+        Ok(Scope::Undef)
+    } else {
+        Err(LineFault::Malformed)
+    }
+}
+
+/// Whether a fence collects data.
+#[tactic(auto, unfolding(crate::specs::Fields::collect_in))]
+fn collect_of(word: &[u8]) -> Result<bool, LineFault>
+    ensures { ReadsAll (λ c. c) result (collect_in word.now) }
+{
+    if word == b"plain".as_slice() {
+        Ok(false)
+    } else if word == b"collect".as_slice() {
+        Ok(true)
+    } else {
+        Err(LineFault::Malformed)
+    }
+}
+
+/// Whether a get waits.
+#[tactic(auto, unfolding(crate::specs::Fields::mode_in))]
+fn mode_of(word: &[u8]) -> Result<Mode, LineFault>
+    ensures { ReadsAll (λ m. m) result (mode_in word.now) }
+{
+    if word == b"wait".as_slice() {
+        Ok(Mode::Wait)
+    } else if word == b"now".as_slice() {
+        Ok(Mode::Now)
+    } else {
+        Err(LineFault::Malformed)
+    }
+}
+
+/// A value, by its canonical bytes in hexadecimal.
+#[tactic(auto, unfolding(crate::specs::Fields::value_in))]
+fn value_by_hex(alloc: Global, word: &[u8]) -> Result<Value, LineFault>
+    ensures { ReadsAll (λ v. v) result (value_in word.now) }
+{
+    match hex::decode(alloc, word) {
+        Ok(bytes) => value_by_bytes(alloc, &bytes),
+        Err(hex::FromHexError::OutOfMemory) => Err(LineFault::NoMemory),
+        Err(_) => Err(LineFault::Malformed),
+    }
+}
+
+/// A value, by its canonical bytes.
+fn value_by_bytes(alloc: Global, bytes: &[u8]) -> Result<Value, LineFault>
+    ensures { ReadsAll (λ v. v) result (result_ok (whole_value bytes.now)) }
+{
+    match value_from_bytes(alloc, bytes) {
+        Ok(value) => Ok(value),
+        Err(Refusal::NoMemory) => Err(LineFault::NoMemory),
+        Err(_) => Err(LineFault::Malformed),
+    }
+}
+
+impl<'a> Words<'a> {
+    /// The next word, which is a number.
+    pub fn number(&mut self) -> Result<u64, LineFault>
+        ensures { Reads (λ n. n) result self.new (read_as number_in self.old) }
+    {
+        let word = self.word()?;
+        number_of(word)
+    }
+
+    /// The next word, which is a scope.
+    pub fn scope(&mut self) -> Result<Scope, LineFault>
+        ensures { Reads (λ s. s) result self.new (read_as scope_in self.old) }
+    {
+        let word = self.word()?;
+        scope_of(word)
+    }
+
+    /// The next word, which says whether a fence collects data.
+    pub fn collect(&mut self) -> Result<bool, LineFault>
+        ensures { Reads (λ c. c) result self.new (read_as collect_in self.old) }
+    {
+        let word = self.word()?;
+        collect_of(word)
+    }
+
+    /// The next word, which says whether a get waits.
+    pub fn mode(&mut self) -> Result<Mode, LineFault>
+        ensures { Reads (λ m. m) result self.new (read_as mode_in self.old) }
+    {
+        let word = self.word()?;
+        mode_of(word)
+    }
+
+    /// The next word, which is a value in hexadecimal.
+    pub fn value(&mut self, alloc: Global) -> Result<Value, LineFault>
+        ensures { Reads (λ v. v) result self.new (read_as value_in self.old) }
+    {
+        let word = self.word()?;
+        value_by_hex(alloc, word)
+    }
+
+    /// The next two words, which name a process.
+    #[tactic(auto, unfolding(crate::specs::Fields::read_proc))]
+    pub fn proc(&mut self) -> Result<Named<'a>, LineFault>
+        ensures { Reads (λ p. p) result self.new (read_proc self.old) }
+    {
+        let nspace = self.word()?;
+        let word = self.word()?;
+        let rank = rank_of(word)?;
+        Ok(Named { nspace, rank })
+    }
+
+    /// So many processes.
+    pub fn procs(&mut self, alloc: Global, count: u64) -> Result<Vec<Named<'a>>, LineFault>
+        ensures { Reads (λ ps. ps.items) result self.new (read_procs count self.old) }
+    {
+        let mut procs = Vec::new(alloc);
+        for _ in 0..count {
+            let proc = self.proc()?;
+            procs.push(proc)?;
+        }
+        Ok(procs)
+    }
+
+    /// All words that are left.
+    pub fn all_words(&mut self, alloc: Global) -> Result<Vec<&'a [u8]>, LineFault>
+        ensures { ReadsAll (λ words. texts words.items) result (read_words self.old) }
+    {
+        let mut words = Vec::new(alloc);
+        while !self.is_at_end() {
+            let word = self.word()?;
+            words.push(word)?;
+        }
+        Ok(words)
+    }
+
+    /// All that is left, as numbers.
+    pub fn all_numbers(&mut self, alloc: Global) -> Result<Vec<u64>, LineFault>
+        ensures { ReadsAll (λ ns. ns.items) result (all_numbers self.old) }
+    {
+        let mut numbers = Vec::new(alloc);
+        while !self.is_at_end() {
+            let number = self.number()?;
+            numbers.push(number)?;
+        }
+        Ok(numbers)
+    }
+
+    /// All that is left, as processes.
+    pub fn all_procs(&mut self, alloc: Global) -> Result<Vec<Named<'a>>, LineFault>
+        ensures { ReadsAll (λ ps. ps.items) result (all_procs self.old) }
+    {
+        let mut procs = Vec::new(alloc);
+        while !self.is_at_end() {
+            let proc = self.proc()?;
+            procs.push(proc)?;
+        }
+        Ok(procs)
+    }
+}

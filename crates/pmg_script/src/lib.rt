@@ -1,0 +1,20 @@
+//! Scripts: the lines that say what happens in a group, how they are read, and how they are done one by one.
+#![tactic(auto)]
+
+mod fields;
+mod lines;
+#[cfg(test)]
+mod malformed_tests;
+mod playing;
+#[cfg(test)]
+mod playing_tests;
+mod reading;
+mod script;
+#[cfg(test)]
+mod script_tests;
+
+pub use fields::Named;
+pub use lines::{LineFault, Words, content};
+pub use playing::{Ended, Player, play_script};
+pub use reading::next_line;
+pub use script::{Line, read_line};

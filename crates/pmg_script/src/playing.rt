@@ -1,0 +1,124 @@
+//! Doing a script line by line, each reply written before the next line is read.
+ghost use Rattle.std.specs.Prelude.{◌≡◌, ◌≤◌, ◌+◌, ℕ, Bool, List, Option, IfErr, IfOk, IfSome, IsSome};
+ghost use Rattle.pmg_store.specs.declared.input.TheConstants.{INPUT_LIMIT, MOST_READS};
+ghost use Rattle.pmg_store.specs.declared.failure.Failure.TheVariants as failures;
+ghost use Rattle.pmg_value.specs.declared.refusal.Refusal.TheVariants as refusals;
+ghost use Rattle.pmg_script.specs.Replays.{Replayed, IsGoing, Turned, CountsTurn, no_line};
+ghost use Rattle.pmg_script.specs.declared.lines.LineFault.TheVariants as faults;
+
+use crate::lines::{LineFault, content};
+use crate::reading::next_line;
+use pmg_store::{Failure, INPUT_LIMIT, MOST_READS, WatchedReader};
+use pmg_value::{Cause, Refusal, WatchedWriter};
+use std::alloc::Global;
+use std::io::{Read, Write};
+
+/// How a script ended that was no fault.
+#[derive(Clone, Copy, Debug, PartialEq, Eq)]
+pub enum Ended {
+    /// Each of its lines was done.
+    AtEnd,
+    /// A line was done after which no other is.
+    Over,
+}
+
+/// What does the lines of a script, one after another.
+pub trait Player {
+    /// How a line is answered, by its content: from one state, with a text, to another state.
+    ghost plays: { Self → List ℕ → List ℕ → Self → Type 0 };
+
+    /// Which lines are none.
+    ghost stops: { Self → List ℕ → Type 0 };
+
+    /// After which states no line is done.
+    ghost over: { Self → Bool };
+
+    /// Does a line, by its content, and answers with the text of its reply. A line is malformed that has no form of a script's lines,
+    /// and so is one that stands out of order.
+    fn play(&mut self, line: &[u8]) -> Result<Vec<u8>, LineFault>
+        ensures ok { IfOk result (λ text. plays self.old line.now text.items self.new) }
+        ensures malformed { result ≡ Err faults.Malformed → stops self.old line.now };
+
+    /// Whether no other line is done.
+    fn is_over(&self) -> bool
+        ensures { result ≡ over self.now };
+}
+
+/// The refusal of a line that begins at this byte of the script.
+fn no_line(offset: usize) -> Failure
+    ensures { result ≡ failures.Refused (refusals.BadFrame (no_line offset)) }
+{
+    Failure::Refused(Refusal::bad_frame(offset as u64, Cause::Script))
+}
+
+/// Why a line that begins at this byte was not done.
+fn failure_of(fault: LineFault, offset: usize) -> Failure
+    ensures malformed { fault ≡ faults.Malformed → result ≡ failures.Refused (refusals.BadFrame (no_line offset)) }
+    ensures memory { fault ≡ faults.NoMemory → result ≡ failures.Refused refusals.NoMemory }
+{
+    match fault {
+        LineFault::Malformed => no_line(offset),
+        LineFault::NoMemory => Failure::Refused(Refusal::NoMemory),
+    }
+}
+
+/// Does the next line, which begins at this byte of the script, and writes its reply.
+fn turn<P: Player, R: Read, W: Write>(
+    alloc: Global,
+    reader: &mut WatchedReader<R>,
+    offset: &mut usize,
+    player: &mut P,
+    writer: &mut WatchedWriter<W>,
+) -> Result<Option<Ended>, Failure>
+    requires within { offset.old ≤ INPUT_LIMIT }
+    ensures few { CountsTurn reader.old.reads reader.new.reads offset.old offset.new result }
+    ensures turned { (start : P) (text : List ℕ) (first : Option (List ℕ))
+        → IsGoing P.plays P.stops P.over start text (R.remaining reader.old.reader) first (W.contents writer.old.writer) player.old offset.old
+        → Turned P.plays P.stops P.over start text (R.remaining reader.new.reader) first (W.contents writer.new.writer) player.new offset.new result }
+    ensures read_fault { IfErr result (λ e. e ≡ failures.Read → IsSome reader.new.failure) }
+    ensures write_fault { IfErr result (λ e. e ≡ failures.Write → IsSome writer.new.failure) }
+{
+    let mut line = Vec::new(alloc);
+    let is_ended = next_line(reader, *offset, &mut line)?;
+    if line.is_empty() {
+        return Ok(Some(Ended::AtEnd));
+    }
+    let reply = match player.play(content(&line)) {
+        Ok(reply) => reply,
+        Err(fault) => return Err(failure_of(fault, *offset)),
+    };
+    writer.put_text(&reply)?;
+    if player.is_over() {
+        return Ok(Some(Ended::Over));
+    }
+    if !is_ended {
+        return Ok(Some(Ended::AtEnd));
+    }
+    *offset += line.len();
+    Ok(None)
+}
+
+/// Does the lines of a script, and says how it ended.
+///
+/// A reply is written before the next line is read. A line that is none ends the script, as `BadFrame` with the cause Script at its first
+/// byte; so does the limit of `INPUT_LIMIT` bytes, once the lines before it are done. The reader is read at most 67,108,865 times.
+pub fn play_script<P: Player, R: Read, W: Write>(
+    alloc: Global,
+    reader: &mut WatchedReader<R>,
+    player: &mut P,
+    writer: &mut WatchedWriter<W>,
+) -> Result<Ended, Failure>
+    ensures few { reader.new.reads ≤ reader.old.reads + MOST_READS }
+    ensures replayed { IfSome (R.remaining reader.old.reader) (λ text.
+        Replayed P.plays P.stops P.over player.old text (R.remaining reader.new.reader) (W.contents writer.old.writer) (W.contents writer.new.writer) result) }
+    ensures read_fault { IfErr result (λ e. e ≡ failures.Read → IsSome reader.new.failure) }
+    ensures write_fault { IfErr result (λ e. e ≡ failures.Write → IsSome writer.new.failure) }
+{
+    let mut offset = 0;
+    for _ in 0..MOST_READS {
+        if let Some(ended) = turn(alloc, reader, &mut offset, player, writer)? {
+            return Ok(ended);
+        }
+    }
+    unreachable!()
+}

@@ -1,0 +1,41 @@
+//! Reading a script line by line.
+ghost use Rattle.std.specs.Prelude.{◌≡◌, ◌+◌, ◌≤◌, [], length, IfErr, IsSome};
+ghost use Rattle.pmg_store.specs.declared.input.TheConstants.{INPUT_LIMIT};
+ghost use Rattle.pmg_store.specs.declared.failure.Failure.TheVariants as failures;
+ghost use Rattle.pmg_script.specs.Reading.{NextLine, CountsReads};
+
+use crate::lines::LF;
+use pmg_store::{Failure, INPUT_LIMIT, MOST_READS, WatchedReader, too_long};
+use std::io::Read;
+
+/// Reads the next line of a script, which begins at this byte of it, and says whether an LF ends it; the LF stays in the line.
+///
+/// A script of more than `INPUT_LIMIT` bytes is refused as `BadFrame` with the cause Input at the limit. Any error of the reader is a
+/// read fault. The line then holds what was read of it.
+pub fn next_line<R: Read>(
+    reader: &mut WatchedReader<R>,
+    start: usize,
+    line: &mut Vec<u8>,
+) -> Result<bool, Failure>
+    requires within { start ≤ INPUT_LIMIT }
+    requires empty { line.old.items ≡ [] }
+    ensures line { NextLine start (R.remaining reader.old.reader) (R.remaining reader.new.reader) line.new.items result }
+    ensures few { CountsReads reader.old.reads reader.new.reads (length line.new.items) result }
+    ensures within { start + length line.new.items ≤ INPUT_LIMIT }
+    ensures read_fault { IfErr result (λ e. e ≡ failures.Read → IsSome reader.new.failure) }
+{
+    let mut byte = [0u8; 1];
+    for _ in start..MOST_READS {
+        if reader.read(&mut byte)? == 0 {
+            return Ok(false);
+        }
+        if start + line.len() == INPUT_LIMIT {
+            return Err(too_long());
+        }
+        line.push(byte[0])?;
+        if byte[0] == LF {
+            return Ok(true);
+        }
+    }
+    unreachable!()
+}

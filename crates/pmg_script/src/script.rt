@@ -1,0 +1,269 @@
+//! What the lines of a script say.
+ghost use Rattle.std.specs.Prelude.{◌≡◌};
+ghost use Rattle.pmg_script.specs.Lines.{ReadsAll};
+ghost use Rattle.pmg_script.specs.Scripts.{line_of, nodes_in, space_in, put_in, enter_in, get_in, define_in, delete_in, members_in, proc_in, number_alone, alone, said_by, said};
+ghost use Rattle.pmg_script.specs.Scripts.{Line as ScriptLine};
+
+use crate::fields::Named;
+use crate::lines::{LineFault, Words};
+use pmg_get::Mode;
+use pmg_scope::Scope;
+use pmg_value::Value;
+use std::alloc::Global;
+
+/// A line of a script. A namespace, a key and the name of a set are the bytes that stand there, whatever they are.
+#[derive(Debug, Drop)]
+pub enum Line<'a> {
+    /// Nothing stands in the line.
+    Nothing,
+    /// The group's nodes have these names.
+    Nodes(Vec<&'a [u8]>),
+    /// The namespace is registered, with the home of each rank.
+    Space(&'a [u8], Vec<u64>),
+    /// The process puts the value under the key.
+    Put(Named<'a>, Scope, Value, &'a [u8]),
+    /// The process commits.
+    Commit(Named<'a>),
+    /// The process enters its next fence of these participants; whether it collects data.
+    Enter(Named<'a>, bool, Vec<Named<'a>>),
+    /// The process leaves the fence that it is released from.
+    Leave(Named<'a>),
+    /// The process asks for a key of the target.
+    Get(Named<'a>, Mode, Named<'a>, &'a [u8]),
+    /// The process takes the answer of the get that it waited for.
+    Take(Named<'a>),
+    /// The process ends.
+    End(Named<'a>),
+    /// A set of these processes is defined.
+    Define(Vec<Named<'a>>, &'a [u8]),
+    /// The set is deleted.
+    Delete(&'a [u8]),
+    /// The frame of that number is delivered.
+    Deliver(u64),
+    /// Each frame is delivered that never was.
+    Flow,
+    /// The node asks other nodes again for what is missing.
+    Nudge(u64),
+    /// The members of a set are told, as the node knows them.
+    Members(u64, &'a [u8]),
+    /// The node's dump is told.
+    Dump(u64),
+}
+
+/// What the content of a line says. It is malformed where it has no form that lines have.
+#[tactic(auto, unfolding(crate::specs::Scripts::said))]
+pub fn read_line<'a>(alloc: Global, text: &'a [u8]) -> Result<Line<'a>, LineFault>
+    ensures { ReadsAll line_of result (said text.now) }
+{
+    if text.is_empty() {
+        return Ok(Line::Nothing);
+    }
+    let mut words = Words::of(text);
+    let word = words.word()?;
+    read_rest(alloc, word, &mut words)
+}
+
+/// What a line says that begins with the word.
+#[tactic(auto, unfolding(crate::specs::Scripts::said_by))]
+fn read_rest<'a>(alloc: Global, word: &[u8], words: &mut Words<'a>) -> Result<Line<'a>, LineFault>
+    ensures { ReadsAll line_of result (said_by word.now words.old) }
+{
+    if word == b"put".as_slice() {
+        read_put(alloc, words)
+    } else if word == b"commit".as_slice() {
+        read_commit(words)
+    } else if word == b"enter".as_slice() {
+        read_enter(alloc, words)
+    } else if word == b"leave".as_slice() {
+        read_leave(words)
+    } else if word == b"get".as_slice() {
+        read_get(words)
+    } else if word == b"take".as_slice() {
+        read_take(words)
+    } else if word == b"end".as_slice() {
+        read_end(words)
+    } else if word == b"deliver".as_slice() {
+        read_deliver(words)
+    } else if word == b"flow".as_slice() {
+        read_flow(words)
+    } else if word == b"nudge".as_slice() {
+        read_nudge(words)
+    } else if word == b"define".as_slice() {
+        read_define(alloc, words)
+    } else if word == b"delete".as_slice() {
+        read_delete(words)
+    } else if word == b"members".as_slice() {
+        read_members(words)
+    } else if word == b"dump".as_slice() {
+        read_dump(words)
+    } else if word == b"nodes".as_slice() {
+        read_nodes(alloc, words)
+    } else if word == b"space".as_slice() {
+        read_space(alloc, words)
+    } else {
+        Err(LineFault::Malformed)
+    }
+}
+
+/// `nodes NAME ..`
+#[tactic(auto, unfolding(crate::specs::Scripts::nodes_in))]
+fn read_nodes<'a>(alloc: Global, words: &mut Words<'a>) -> Result<Line<'a>, LineFault>
+    ensures { ReadsAll line_of result (nodes_in words.old) }
+{
+    let names = words.all_words(alloc)?;
+    Ok(Line::Nodes(names))
+}
+
+/// `space NS NODE ..`
+#[tactic(auto, unfolding(crate::specs::Scripts::space_in))]
+fn read_space<'a>(alloc: Global, words: &mut Words<'a>) -> Result<Line<'a>, LineFault>
+    ensures { ReadsAll line_of result (space_in words.old) }
+{
+    let nspace = words.word()?;
+    let homes = words.all_numbers(alloc)?;
+    Ok(Line::Space(nspace, homes))
+}
+
+/// `put NS RANK SCOPE HEX KEY`
+#[tactic(auto, unfolding(crate::specs::Scripts::put_in))]
+fn read_put<'a>(alloc: Global, words: &mut Words<'a>) -> Result<Line<'a>, LineFault>
+    ensures { ReadsAll line_of result (put_in words.old) }
+{
+    let proc = words.proc()?;
+    let scope = words.scope()?;
+    let value = words.value(alloc)?;
+    let key = words.rest()?;
+    Ok(Line::Put(proc, scope, value, key))
+}
+
+/// `enter NS RANK plain` or `collect`, then pairs `NS RANK`
+#[tactic(auto, unfolding(crate::specs::Scripts::enter_in))]
+fn read_enter<'a>(alloc: Global, words: &mut Words<'a>) -> Result<Line<'a>, LineFault>
+    ensures { ReadsAll line_of result (enter_in words.old) }
+{
+    let proc = words.proc()?;
+    let collect = words.collect()?;
+    let list = words.all_procs(alloc)?;
+    Ok(Line::Enter(proc, collect, list))
+}
+
+/// `get NS RANK wait` or `now`, then `NS RANK KEY`
+#[tactic(auto, unfolding(crate::specs::Scripts::get_in))]
+fn read_get<'a>(words: &mut Words<'a>) -> Result<Line<'a>, LineFault>
+    ensures { ReadsAll line_of result (get_in words.old) }
+{
+    let proc = words.proc()?;
+    let mode = words.mode()?;
+    let target = words.proc()?;
+    let key = words.rest()?;
+    Ok(Line::Get(proc, mode, target, key))
+}
+
+/// `define M`, so many pairs `NS RANK`, `NAME`
+#[tactic(auto, unfolding(crate::specs::Scripts::define_in))]
+fn read_define<'a>(alloc: Global, words: &mut Words<'a>) -> Result<Line<'a>, LineFault>
+    ensures { ReadsAll line_of result (define_in words.old) }
+{
+    let count = words.number()?;
+    let list = words.procs(alloc, count)?;
+    let name = words.rest()?;
+    Ok(Line::Define(list, name))
+}
+
+/// `delete NAME`
+#[tactic(auto, unfolding(crate::specs::Scripts::delete_in))]
+fn read_delete<'a>(words: &mut Words<'a>) -> Result<Line<'a>, LineFault>
+    ensures { ReadsAll line_of result (delete_in words.old) }
+{
+    let name = words.rest()?;
+    Ok(Line::Delete(name))
+}
+
+/// `members NODE NAME`
+#[tactic(auto, unfolding(crate::specs::Scripts::members_in))]
+fn read_members<'a>(words: &mut Words<'a>) -> Result<Line<'a>, LineFault>
+    ensures { ReadsAll line_of result (members_in words.old) }
+{
+    let node = words.number()?;
+    let name = words.rest()?;
+    Ok(Line::Members(node, name))
+}
+
+/// `flow`
+#[tactic(auto, unfolding(crate::specs::Scripts::alone))]
+fn read_flow<'a>(words: &mut Words<'a>) -> Result<Line<'a>, LineFault>
+    ensures { ReadsAll line_of result (alone ScriptLine.flow words.old) }
+{
+    words.end()?;
+    Ok(Line::Flow)
+}
+
+/// `commit NS RANK`
+#[tactic(auto, unfolding(crate::specs::Scripts::proc_in))]
+fn read_commit<'a>(words: &mut Words<'a>) -> Result<Line<'a>, LineFault>
+    ensures { ReadsAll line_of result (proc_in ScriptLine.commit words.old) }
+{
+    let proc = words.proc()?;
+    words.end()?;
+    Ok(Line::Commit(proc))
+}
+
+/// `leave NS RANK`
+#[tactic(auto, unfolding(crate::specs::Scripts::proc_in))]
+fn read_leave<'a>(words: &mut Words<'a>) -> Result<Line<'a>, LineFault>
+    ensures { ReadsAll line_of result (proc_in ScriptLine.leave words.old) }
+{
+    let proc = words.proc()?;
+    words.end()?;
+    Ok(Line::Leave(proc))
+}
+
+/// `take NS RANK`
+#[tactic(auto, unfolding(crate::specs::Scripts::proc_in))]
+fn read_take<'a>(words: &mut Words<'a>) -> Result<Line<'a>, LineFault>
+    ensures { ReadsAll line_of result (proc_in ScriptLine.take words.old) }
+{
+    let proc = words.proc()?;
+    words.end()?;
+    Ok(Line::Take(proc))
+}
+
+/// `end NS RANK`
+#[tactic(auto, unfolding(crate::specs::Scripts::proc_in))]
+fn read_end<'a>(words: &mut Words<'a>) -> Result<Line<'a>, LineFault>
+    ensures { ReadsAll line_of result (proc_in ScriptLine.end words.old) }
+{
+    let proc = words.proc()?;
+    words.end()?;
+    Ok(Line::End(proc))
+}
+
+/// `deliver I`
+#[tactic(auto, unfolding(crate::specs::Scripts::number_alone))]
+fn read_deliver<'a>(words: &mut Words<'a>) -> Result<Line<'a>, LineFault>
+    ensures { ReadsAll line_of result (number_alone ScriptLine.deliver words.old) }
+{
+    let frame = words.number()?;
+    words.end()?;
+    Ok(Line::Deliver(frame))
+}
+
+/// `nudge NODE`
+#[tactic(auto, unfolding(crate::specs::Scripts::number_alone))]
+fn read_nudge<'a>(words: &mut Words<'a>) -> Result<Line<'a>, LineFault>
+    ensures { ReadsAll line_of result (number_alone ScriptLine.nudge words.old) }
+{
+    let node = words.number()?;
+    words.end()?;
+    Ok(Line::Nudge(node))
+}
+
+/// `dump NODE`
+#[tactic(auto, unfolding(crate::specs::Scripts::number_alone))]
+fn read_dump<'a>(words: &mut Words<'a>) -> Result<Line<'a>, LineFault>
+    ensures { ReadsAll line_of result (number_alone ScriptLine.dump words.old) }
+{
+    let node = words.number()?;
+    words.end()?;
+    Ok(Line::Dump(node))
+}

@@ -1,6 +1,0 @@
-use Rattle.pmg_world.proofs.ExampleGet as ending
-use Rattle.pmg_world.proofs.ExampleMeeting as meeting
-use Rattle.pmg_world.proofs.laws.worked_runs.Goals as goal
-
-pub returns : goal.returns
-returns c = record { run_of_two = ending.run_of_two; run_of_meeting = meeting.run_of_meeting }
