@@ -30,7 +30,7 @@ pub(crate) struct Scene {
 }
 
 impl Model for Scene {
-    ghost use Rattle.pmg_node.specs.contracts.sent.Sent.{the_row as sent_row};
+    ghost use Rattle.pmg_rules.specs.contracts.sent.Sent.{the_row as sent_row};
     ghost use Rattle.pmg_world.specs.Accounts.{Account, coded_account};
     ghost use Rattle.pmg_world.specs.Delivering.{IsNoted};
     ghost use Rattle.pmg_world.specs.contracts.event.Told.{the_row as told_row};

@@ -25,7 +25,7 @@ pub struct World {
 }
 
 impl Model for World {
-    ghost use Rattle.pmg_node.specs.contracts.sent.Sent.{the_row as sent_row};
+    ghost use Rattle.pmg_rules.specs.contracts.sent.Sent.{the_row as sent_row};
     ghost use Rattle.pmg_world.specs.Accounts.{Account, account_of, coded_account, IsLed};
     ghost use Rattle.pmg_world.specs.contracts.event.Told.{the_row as told_row};
 
