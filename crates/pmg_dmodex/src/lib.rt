@@ -10,5 +10,3 @@ pub use marks::Marks;
 pub use parked::Parked;
 pub use pending::Pending;
 
-#[cfg(test)]
-mod tests;

@@ -21,12 +21,12 @@ use Rattle.pmg_rules.specs.Acts.{Act, Reply, Done, cause, does, caller_cause, bu
 use Rattle.pmg_rules.specs.Choosing.{due_by, marked_by_act, settling}
 use Rattle.pmg_rules.specs.Holdings.{Holding, sealer_in, sealer_of, sealers_with, sets_with, call_of}
 use Rattle.pmg_rules.specs.Kept.{IsOwn}
-use Rattle.pmg_node.specs.Owns.{Own, sealed_of, with_sealed}
-use Rattle.pmg_node.specs.Sealers.{sealed_by}
+use Rattle.pmg_holding.specs.Owns.{Own, sealed_of, with_sealed}
+use Rattle.pmg_holding.specs.Sealers.{sealed_by}
 use Rattle.pmg_node.specs.Servers.{Server, IsNode, IsAccepted, reply_to}
 use Rattle.pmg_rules.proofs.CauseFacts.{NoCause, by_causes, neither_cause}
 use Rattle.pmg_rules.proofs.KeptBasics.{act_free, caller_is}
-use Rattle.pmg_node.proofs.MarkLemmas.{inserted_again}
+use Rattle.pmg_holding.proofs.MarkLemmas.{inserted_again}
 use Rattle.pmg_node.proofs.FailLemmas.{fails_due}
 use Rattle.pmg_node.proofs.SealedActs.{Seals}
 

@@ -30,9 +30,9 @@ use Rattle.pmg_pset.proofs.SetLemmas.{refused_alike, made_alike}
 use Rattle.pmg_rules.specs.Acts.{Act, Request, Reply, Done, members_of, no_cause, cause, request_cause, does, serves}
 use Rattle.pmg_rules.specs.Choosing.{due_by, due_by_request, marked_by_act}
 use Rattle.pmg_rules.specs.Holdings.{Holding, sealer_in}
-use Rattle.pmg_node.specs.Owns.{Own, with_sets}
+use Rattle.pmg_holding.specs.Owns.{Own, with_sets}
 use Rattle.pmg_node.specs.Servers.{Server, IsNode, IsAccepted, reply_to}
-use Rattle.pmg_node.specs.Telling.{spread_by}
+use Rattle.pmg_holding.specs.Telling.{spread_by}
 use Rattle.pmg_rules.proofs.CauseFacts.{neither}
 use Rattle.pmg_node.proofs.EntryLemmas.{any_or, alone_once}
 use Rattle.pmg_rules.proofs.KeptBasics.{act_free}

@@ -24,29 +24,29 @@ use Rattle.pmg_fence.specs.Tables.{Fences, names_of}
 use Rattle.pmg_jobinfo.specs.Jobs.{Jobs}
 use Rattle.pmg_dmodex.specs.Levels.{Levels, without_below}
 use Rattle.pmg_rules.specs.Acts.{Act, Request, Reply, Done, is_misnamed, caller_cause, request_cause, cause, serves, does, acts}
-use Rattle.pmg_node.specs.Answering.{AreAnswers}
-use Rattle.pmg_node.specs.Calls.{all_instead}
+use Rattle.pmg_holding.specs.Answering.{AreAnswers}
+use Rattle.pmg_holding.specs.Calls.{all_instead}
 use Rattle.pmg_rules.specs.Choosing.{Out, announcing, due_by, due_by_request, marked_by_act, sends}
-use Rattle.pmg_node.specs.Codes.{Calls}
+use Rattle.pmg_holding.specs.Codes.{Calls}
 use Rattle.pmg_node.specs.Endings.{own_ended, own_back}
 use Rattle.pmg_rules.specs.Holdings.{Standing, Holding, sealer_in, sealer_of, with_table, with_calls, uncalled, sealing, mapped, settled}
 use Rattle.pmg_rules.specs.Kept.{IsOwn, IsServer, is_about, settle_where}
-use Rattle.pmg_node.specs.Owns.{Own, sealed_of, with_sealed}
+use Rattle.pmg_holding.specs.Owns.{Own, sealed_of, with_sealed}
 use Rattle.pmg_rules.specs.Sending.{is_quiet}
-use Rattle.pmg_node.specs.Sealers.{AllSealed, sealed_by}
+use Rattle.pmg_holding.specs.Sealers.{AllSealed, sealed_by}
 use Rattle.pmg_node.specs.Servers.{Server, IsAccepted, Refuses, reply_to, sent_by, after}
-use Rattle.pmg_node.specs.Telling.{announcing_by, settling_by}
-use Rattle.pmg_node.specs.declared.call.Call.{Call}
+use Rattle.pmg_holding.specs.Telling.{announcing_by, settling_by}
+use Rattle.pmg_holding.specs.declared.call.Call.{Call}
 use Rattle.pmg_rules.specs.declared.due.Due.{Due}
 use Rattle.pmg_rules.specs.declared.sent.Sent.{Sent}
 use Rattle.pmg_node.proofs.ActLemmas.{refused_reply, accepted_reply, accepted_after, accepted_sent}
-use Rattle.pmg_node.proofs.CallLemmas.{get-mapped}
+use Rattle.pmg_holding.proofs.CallLemmas.{get-mapped}
 use Rattle.pmg_rules.proofs.CauseFacts.{neither, by_causes}
 use Rattle.pmg_node.proofs.HeaderNews.{news_alike}
 use Rattle.pmg_rules.proofs.KeptAgain.{settled_on, end_differs}
 use Rattle.pmg_rules.proofs.KeptBasics.{caller_is, host_is}
 use Rattle.pmg_node.proofs.RefusalLemmas.{refuses_first}
-use Rattle.pmg_node.proofs.SealerLemmas.{sealed-insert}
+use Rattle.pmg_holding.proofs.SealerLemmas.{sealed-insert}
 use Rattle.pmg_node.proofs.SilentLemmas.{act_free}
 
 -- ---- what one process sealed, and back

@@ -26,12 +26,12 @@ use Rattle.pmg_fence.specs.declared.change.Change.TheVariants as changes
 use Rattle.pmg_store.specs.declared.board.Board.{Board}
 use Rattle.pmg_rules.specs.Acts.{Act, Request, Reply, Done, also, free_cause, list_cause, is_misnamed, list_of, signature_of, signature_cause, cause, request_cause, serves, does}
 use Rattle.pmg_rules.specs.Choosing.{announcing, due_by, due_by_request, marked_by_act, sends}
-use Rattle.pmg_node.specs.Codes.{Calls}
+use Rattle.pmg_holding.specs.Codes.{Calls}
 use Rattle.pmg_node.specs.Content.{server_of, IsContent}
 use Rattle.pmg_node.specs.Entries.{part_cause, entry_cause, entered_name}
 use Rattle.pmg_node.specs.Fencing.{fence_after, fence_dues, AreSettledIn}
 use Rattle.pmg_rules.specs.Holdings.{Standing, Holding, sealer_of, call_of}
-use Rattle.pmg_node.specs.Owns.{Own, sealed_of}
+use Rattle.pmg_holding.specs.Owns.{Own, sealed_of}
 use Rattle.pmg_node.specs.Servers.{Server, reply_to, RefusesEntry, IsEntryAccepted}
 use Rattle.pmg_node.proofs.ActLemmas.{refused_reply}
 use Rattle.pmg_rules.proofs.CauseFacts.{by_causes, neither_cause, free_is}

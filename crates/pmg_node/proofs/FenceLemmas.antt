@@ -29,15 +29,15 @@ use Rattle.pmg_fence.proofs.KeptLemmas.{kept_waiting}
 use Rattle.pmg_store.specs.declared.board.Board.{Board}
 use Rattle.pmg_rules.specs.Acts.{Act, Reply, Done, done_as, cause, is_taken, receives, does}
 use Rattle.pmg_rules.specs.Choosing.{Out, announcing, telling_of, due_by, due_by_frame, marked_by_act, sends}
-use Rattle.pmg_node.specs.Codes.{Calls}
+use Rattle.pmg_holding.specs.Codes.{Calls}
 use Rattle.pmg_node.specs.Content.{server_of, IsContent}
 use Rattle.pmg_node.specs.Fencing.{fence_after, fence_dues, AreSettledIn}
 use Rattle.pmg_rules.specs.Holdings.{Holding, mapped, with_table, with_calls, settled}
 use Rattle.pmg_rules.specs.Kept.{is_in, settle_where, DiffersIn}
-use Rattle.pmg_node.specs.Owns.{Own, sealed_of}
+use Rattle.pmg_holding.specs.Owns.{Own, sealed_of}
 use Rattle.pmg_rules.specs.Sending.{is_quiet, own_header_of}
 use Rattle.pmg_node.specs.Servers.{Server, reply_to, sent_by, after, IsNode}
-use Rattle.pmg_node.specs.Telling.{telling_by, announcing_by}
+use Rattle.pmg_holding.specs.Telling.{telling_by, announcing_by}
 use Rattle.pmg_rules.specs.declared.due.Due.{Due}
 use Rattle.pmg_rules.specs.declared.sent.Sent.{Sent}
 use Rattle.pmg_node.proofs.ActLemmas.{accepted_reply, accepted_after, accepted_sent}

@@ -15,7 +15,7 @@ use Rattle.pmg_fence.specs.declared.entry.Entry.{Entry}
 use Rattle.pmg_fence.proofs.LimitLemmas.{lines_procs}
 use Rattle.pmg_rules.specs.Choosing.{peers_in, telling, announcing}
 use Rattle.pmg_rules.specs.Sending.{sent}
-use Rattle.pmg_node.specs.Telling.{telling_by, announcing_by}
+use Rattle.pmg_holding.specs.Telling.{telling_by, announcing_by}
 use Rattle.pmg_rules.specs.declared.due.Due.{Due}
 use Rattle.pmg_rules.specs.declared.due.Due.TheVariants as sendings
 

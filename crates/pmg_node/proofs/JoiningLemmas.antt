@@ -14,7 +14,7 @@ use Rattle.pmg_frame.specs.declared.frame.Frame.TheVariants as frames
 use Rattle.pmg_jobinfo.specs.Jobs.{Jobs}
 use Rattle.pmg_get.specs.Gets.{Outcome}
 use Rattle.pmg_rules.specs.Acts.{Request, Act, Reply, Done, done_as, cause, is_taken, members_of, holds_unless, leaves, takes, asks, serves, receives, does, over, acts}
-use Rattle.pmg_node.specs.Ahead.{joined}
+use Rattle.pmg_holding.specs.Ahead.{joined}
 use Rattle.pmg_rules.specs.Holdings.{Standing, Get, Holding, sealer_of, call_of, sealing, answer_in, settled}
 use Rattle.pmg_node.specs.Acting.{delivery_joins}
 use Rattle.pmg_node.specs.Joining.{Joins, no_joins, frame_joins, act_joins, joins}

@@ -1,8 +1,3 @@
-pub mod SealerLemmas
-pub mod MarkLemmas
-pub mod SendLemmas
-pub mod PeerLemmas
-pub mod PublishLemmas
 pub mod JudgeLemmas
 pub mod SilentLemmas
 pub mod ActLemmas
@@ -20,13 +15,9 @@ pub mod CommitLemmas
 pub mod EntryLemmas
 pub mod SettingLemmas
 pub mod DefineLemmas
-pub mod CallLemmas
 pub mod RefusalLemmas
 pub mod EndLemmas
-pub mod NameLemmas
 pub mod OpeningLemmas
-pub mod AnswerLemmas
-pub mod AskAgain
 pub mod AskLemmas
 pub mod NudgeLemmas
 pub mod MemberLemmas

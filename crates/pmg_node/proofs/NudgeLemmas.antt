@@ -9,7 +9,7 @@ use Rattle.pmg_value.specs.CheckOrder.{first_of}
 use Rattle.pmg_value.specs.declared.process.Proc.{Proc}
 use Rattle.pmg_jobinfo.specs.Jobs.{Jobs}
 use Rattle.pmg_rules.specs.Acts.{Act, Request, Reply, cause, request_cause, serves, does}
-use Rattle.pmg_node.specs.Calls.{target_of, all_targets}
+use Rattle.pmg_holding.specs.Calls.{target_of, all_targets}
 use Rattle.pmg_rules.specs.Choosing.{Out, asking, asking_for, nudging, due_by, due_by_request, marked_by_act, sends}
 use Rattle.pmg_rules.specs.Holdings.{Standing, Holding, sealer_of}
 use Rattle.pmg_rules.specs.Kept.{IsSettled}

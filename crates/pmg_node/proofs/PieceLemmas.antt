@@ -8,15 +8,15 @@ use Rattle.pmg_frame.specs.declared.frame.Frame.TheVariants as frames
 use Rattle.pmg_jobinfo.specs.Jobs.{Jobs}
 use Rattle.pmg_dmodex.specs.Levels.{Levels}
 use Rattle.pmg_rules.specs.Acts.{Act, Reply, Done, done_as, is_taken, receives, acts}
-use Rattle.pmg_node.specs.Answering.{AreAnswers, AreAskedAgain}
-use Rattle.pmg_node.specs.Calls.{all_instead}
+use Rattle.pmg_holding.specs.Answering.{AreAnswers, AreAskedAgain}
+use Rattle.pmg_holding.specs.Calls.{all_instead}
 use Rattle.pmg_rules.specs.Choosing.{Out, asking_again, due_by, due_by_frame, marked_by_act, sends, chosen}
-use Rattle.pmg_node.specs.Codes.{Calls}
+use Rattle.pmg_holding.specs.Codes.{Calls}
 use Rattle.pmg_rules.specs.Holdings.{Standing, Holding, sealer_of, with_far, with_calls, mapped, settle, settled}
 use Rattle.pmg_rules.specs.Kept.{IsSettled, is_about, settle_where}
 use Rattle.pmg_rules.specs.Sending.{is_quiet}
 use Rattle.pmg_node.specs.Servers.{Server, reply_to, sent_by, after}
-use Rattle.pmg_node.specs.declared.call.Call.{Call}
+use Rattle.pmg_holding.specs.declared.call.Call.{Call}
 use Rattle.pmg_rules.specs.declared.due.Due.{Due}
 use Rattle.pmg_rules.specs.declared.sent.Sent.{Sent}
 use Rattle.pmg_node.proofs.FrameLemmas.{deliver_by}

@@ -8,16 +8,16 @@ use Rattle.pmg_commit.specs.Knowledge.{Contribution}
 use Rattle.pmg_commit.specs.Sealed.{Sealed, piece_at}
 use Rattle.pmg_dmodex.specs.Levels.{without_below}
 use Rattle.pmg_rules.specs.Acts.{Act, Reply, Done, done_as, cause, does}
-use Rattle.pmg_node.specs.Answering.{AreAnswers}
-use Rattle.pmg_node.specs.Calls.{all_instead}
+use Rattle.pmg_holding.specs.Answering.{AreAnswers}
+use Rattle.pmg_holding.specs.Calls.{all_instead}
 use Rattle.pmg_rules.specs.Choosing.{due_by, marked_by_act, sends, settling}
 use Rattle.pmg_rules.specs.Holdings.{Holding, sealer_in, sealer_of, sealers_with, sets_with, sealing, with_calls, settled}
 use Rattle.pmg_rules.specs.Kept.{is_about}
-use Rattle.pmg_node.specs.Owns.{Own, sealed_of}
+use Rattle.pmg_holding.specs.Owns.{Own, sealed_of}
 use Rattle.pmg_rules.specs.Sending.{is_quiet}
 use Rattle.pmg_node.specs.Servers.{Server, IsNode, reply_to, sent_by, after}
-use Rattle.pmg_node.specs.Telling.{settling_by}
-use Rattle.pmg_node.specs.declared.call.Call.{Call}
+use Rattle.pmg_holding.specs.Telling.{settling_by}
+use Rattle.pmg_holding.specs.declared.call.Call.{Call}
 use Rattle.pmg_rules.specs.declared.due.Due.{Due}
 use Rattle.pmg_node.proofs.ActLemmas.{accepted_reply, accepted_after, accepted_sent}
 use Rattle.pmg_rules.proofs.KeptAgain.{settled_on, sealing_differs}

@@ -14,9 +14,9 @@ use Rattle.pmg_pset.proofs.SetLemmas.{refused_alike, made_alike}
 use Rattle.pmg_rules.specs.Acts.{Act, Request, Reply, Done, also, node_cause, name_cause, cause, request_cause, does, serves}
 use Rattle.pmg_rules.specs.Choosing.{due_by, due_by_request, marked_by_act}
 use Rattle.pmg_rules.specs.Holdings.{Holding, sealer_in}
-use Rattle.pmg_node.specs.Owns.{Own, sealed_of, with_sets}
+use Rattle.pmg_holding.specs.Owns.{Own, sealed_of, with_sets}
 use Rattle.pmg_node.specs.Servers.{Server, IsNode, IsAccepted, reply_to}
-use Rattle.pmg_node.specs.Telling.{spread_by}
+use Rattle.pmg_holding.specs.Telling.{spread_by}
 use Rattle.pmg_rules.proofs.KeptBasics.{act_free}
 use Rattle.pmg_node.proofs.FailLemmas.{fails_due}
 use Rattle.pmg_node.proofs.SealedActs.{Seals}

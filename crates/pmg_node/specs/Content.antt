@@ -4,8 +4,8 @@ use Rattle.pmg_store.specs.declared.board.Board.{Board}
 use Rattle.pmg_fence.specs.Codes.{Known}
 use Rattle.pmg_dmodex.specs.Levels.{Levels}
 use Rattle.pmg_dmodex.specs.Requests.{Requests}
-use Rattle.pmg_node.specs.Codes.{Calls}
-use Rattle.pmg_node.specs.Owns.{Own}
+use Rattle.pmg_holding.specs.Codes.{Calls}
+use Rattle.pmg_holding.specs.Owns.{Own}
 use Rattle.pmg_node.specs.Servers.{Server, IsNode}
 
 -- the node that these parts make

@@ -6,7 +6,7 @@ use Rattle.pmg_commit.specs.TakenBack.{end_back}
 use Rattle.pmg_commit.specs.declared.sealer.SealerBefore.{SealerBefore}
 use Rattle.pmg_fence.specs.Changes.{changed, ended_by, taken}
 use Rattle.pmg_fence.specs.Codes.{Known}
-use Rattle.pmg_node.specs.Owns.{Own, sealed_of, with_sealed}
+use Rattle.pmg_holding.specs.Owns.{Own, sealed_of, with_sealed}
 
 -- the own process ended, which is its last commit
 abbrev pub own_ended : Own → Proc → Own

@@ -9,10 +9,10 @@ use Rattle.pmg_fence.specs.Codes.{Known}
 use Rattle.pmg_fence.specs.Kept.{placed_by}
 use Rattle.pmg_fence.specs.Tables.{Fences}
 use Rattle.pmg_fence.specs.declared.change.Change.{Change}
-use Rattle.pmg_node.specs.Codes.{Calls}
+use Rattle.pmg_holding.specs.Codes.{Calls}
 use Rattle.pmg_rules.specs.Holdings.{Holding, mapped}
 use Rattle.pmg_rules.specs.Kept.{is_in, settle_where}
-use Rattle.pmg_node.specs.Telling.{announcing_by}
+use Rattle.pmg_holding.specs.Telling.{announcing_by}
 use Rattle.pmg_rules.specs.declared.due.Due.{Due}
 
 -- the table, once the fence has changed and the own headers that came to exist are taken

@@ -8,7 +8,7 @@ use Rattle.pmg_frame.specs.declared.frame.Frame.{Frame}
 use Rattle.pmg_frame.specs.declared.frame.Frame.TheVariants as frames
 use Rattle.pmg_jobinfo.specs.Jobs.{Jobs}
 use Rattle.pmg_rules.specs.Acts.{Request, Act, acts}
-use Rattle.pmg_node.specs.Ahead.{joined}
+use Rattle.pmg_holding.specs.Ahead.{joined}
 use Rattle.pmg_rules.specs.Holdings.{Holding, sealer_of}
 use Rattle.pmg_rules.specs.Sending.{is_quiet}
 

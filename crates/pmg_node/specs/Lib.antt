@@ -1,13 +1,4 @@
-pub mod Sealers
-pub mod Owns
-pub mod Marking
-pub mod Telling
-pub mod Answering
-pub mod Ahead
 pub mod Joining
-pub mod Codes
-pub mod Calls
-pub mod Answered
 pub mod Servers
 pub mod Content
 pub mod Fencing

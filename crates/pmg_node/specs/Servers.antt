@@ -9,7 +9,7 @@ use Rattle.pmg_jobinfo.specs.Jobs.{Jobs, AreJobs, coded_jobs, is_node}
 use Rattle.pmg_dmodex.specs.Levels.{Levels, coded_levels}
 use Rattle.pmg_rules.specs.Acts.{Act, Reply, acts}
 use Rattle.pmg_rules.specs.Choosing.{chosen}
-use Rattle.pmg_node.specs.Codes.{coded_holding}
+use Rattle.pmg_holding.specs.Codes.{coded_holding}
 use Rattle.pmg_rules.specs.Holdings.{Holding}
 use Rattle.pmg_rules.specs.Kept.{IsOwn, IsServer}
 use Rattle.pmg_rules.specs.declared.sent.Sent.{Sent}

@@ -7,10 +7,9 @@ ghost use Rattle.pmg_node.specs.Replies.{delivery_reply};
 ghost use Rattle.pmg_node.specs.Servers.{reply_to, sent_by, after};
 
 use crate::causes::is_member;
-use crate::due::{hand_out, take_back};
 use crate::node::Node;
-use crate::telling::answer_commits;
 use pmg_frame::CommitAsk;
+use pmg_holding::{answer_commits, hand_out, take_back};
 use pmg_rules::Sent;
 use pmg_value::{NodeId, Proc};
 use std::alloc::AllocError;

@@ -2,23 +2,17 @@
 ghost use Rattle.std.specs.Prelude.{◌≡◌, ◌++◌, [], IfOk, OnOk, OnErr};
 ghost use Rattle.std.specs.List.{flat_map};
 ghost use Rattle.pmg_fence.specs.Kept.{placed_by, CanChange};
-ghost use Rattle.pmg_node.specs.Answering.{AreAnswers};
+ghost use Rattle.pmg_holding.specs.Answering.{AreAnswers};
 ghost use Rattle.pmg_rules.specs.Choosing.{sends};
 ghost use Rattle.pmg_node.specs.Fencing.{fence_after, fence_dues, AreSettledIn};
 ghost use Rattle.pmg_rules.specs.Kept.{is_in};
-ghost use Rattle.pmg_node.specs.Owns.{sealed_of};
-ghost use Rattle.pmg_node.specs.Telling.{telling_by, announcing_by};
+ghost use Rattle.pmg_holding.specs.Owns.{sealed_of};
+ghost use Rattle.pmg_holding.specs.Telling.{telling_by, announcing_by};
 
-use crate::ahead::Ahead;
-use crate::answering::answers_in;
-use crate::call::Call;
-use crate::calls::Calls;
-use crate::due::hand_out;
-use crate::own::Own;
-use crate::telling::{announce, tell};
 use pmg_dmodex::Marks;
 use pmg_fence::{Change, Table};
 use pmg_frame::{FenceName, Header};
+use pmg_holding::{Ahead, Call, Calls, Own, announce, answers_in, hand_out, tell};
 use pmg_jobinfo::Registry;
 use pmg_rules::{Due, Sent};
 use pmg_store::Board;

@@ -6,13 +6,13 @@ ghost use Rattle.pmg_commit.specs.Data.{read_at};
 ghost use Rattle.pmg_jobinfo.specs.Reserved.{is_general};
 ghost use Rattle.pmg_get.specs.Views.{outcome_of, seen_in};
 ghost use Rattle.pmg_rules.specs.Acts.{target_cause};
-ghost use Rattle.pmg_node.specs.Calls.{get_of};
+ghost use Rattle.pmg_holding.specs.Calls.{get_of};
 ghost use Rattle.pmg_rules.specs.Holdings.{answer_in, seen_of};
 
-use crate::ahead::Ahead;
 use crate::causes::is_misnamed;
 use crate::node::Node;
 use pmg_get::{Answer, Mode, View, resolve};
+use pmg_holding::Ahead;
 use pmg_value::{Key, Proc};
 
 /// Whether no particular rank is named.

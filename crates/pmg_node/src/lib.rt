@@ -3,15 +3,10 @@
 
 mod act;
 mod acting;
-mod ahead;
-mod answering;
 mod asked;
-mod call;
-mod calls;
 mod causes;
 mod committing;
 mod delivering;
-mod due;
 mod ending;
 mod entering;
 mod fencing;
@@ -23,20 +18,15 @@ mod members;
 mod node;
 mod nudging;
 mod opening;
-mod own;
 mod parking;
 mod pieces;
 mod publishing;
-mod sealers;
 mod setting;
 mod status;
 mod taking;
-mod telling;
-mod waiting;
 
 pub use act::{Act, Acted, Joined, Reply, Request};
 pub use asked::Delivery;
-pub use call::{Call, Found};
 pub use committing::Committed;
 pub use laws::joining_rules;
 pub use leaving::Release;
@@ -45,7 +35,3 @@ pub use parking::Asked;
 pub use status::Status;
 pub use taking::Taking;
 
-#[cfg(test)]
-mod call_tests;
-#[cfg(test)]
-mod tests;

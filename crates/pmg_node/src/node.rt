@@ -1,10 +1,9 @@
 ghost use Rattle.std.specs.Prelude.{◌≡◌, true};
 ghost use Rattle.pmg_jobinfo.specs.Jobs.{is_node};
 
-use crate::calls::Calls;
-use crate::own::Own;
 use pmg_dmodex::{Marks, Pending};
 use pmg_fence::Table;
+use pmg_holding::{Calls, Own};
 use pmg_jobinfo::Registry;
 use pmg_store::Board;
 use pmg_value::NodeId;

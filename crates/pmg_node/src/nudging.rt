@@ -7,16 +7,15 @@ ghost use Rattle.pmg_frame.specs.Fences.{commit_ask};
 ghost use Rattle.pmg_frame.specs.declared.frame.Frame.TheVariants as frames;
 ghost use Rattle.pmg_jobinfo.specs.Jobs.{home_of};
 ghost use Rattle.pmg_rules.specs.Acts.{Act, Request, Reply};
-ghost use Rattle.pmg_node.specs.Calls.{all_targets};
+ghost use Rattle.pmg_holding.specs.Calls.{all_targets};
 ghost use Rattle.pmg_rules.specs.Choosing.{asking, asking_headers, asking_ranges, asking_fence, asking_sets, is_behind, nudging, waited_in};
 ghost use Rattle.pmg_rules.specs.Sending.{sent};
 ghost use Rattle.pmg_node.specs.Servers.{reply_to, sent_by, after};
 ghost use Rattle.pmg_rules.specs.declared.due.Due.TheVariants as sendings;
 
-use crate::due::hand_out;
 use crate::node::Node;
-use crate::telling::peers_in;
 use pmg_frame::{CommitAsk, FenceAsk, FenceName, Frame};
+use pmg_holding::{hand_out, peers_in};
 use pmg_rules::{Due, Sent};
 use pmg_value::{NodeId, Proc};
 use std::alloc::AllocError;

@@ -2,18 +2,15 @@
 ghost use Rattle.std.specs.Prelude.{◌≡◌, ◌++◌, true, IfOk, OnOk, OnErr};
 ghost use Rattle.pmg_frame.specs.declared.frame.Frame.TheVariants as frames;
 ghost use Rattle.pmg_rules.specs.Acts.{Act, is_taken};
-ghost use Rattle.pmg_node.specs.Calls.{all_instead};
+ghost use Rattle.pmg_holding.specs.Calls.{all_instead};
 ghost use Rattle.pmg_rules.specs.Choosing.{due_by};
 ghost use Rattle.pmg_node.specs.Replies.{delivery_reply};
 ghost use Rattle.pmg_node.specs.Servers.{reply_to, sent_by, after};
 
-use crate::ahead::Ahead;
-use crate::answering::{answers_about, asks_again};
 use crate::asked::Delivery;
-use crate::call::Call;
-use crate::due::{hand_out, take_back};
 use crate::node::Node;
 use pmg_commit::Piece;
+use pmg_holding::{Ahead, Call, answers_about, asks_again, hand_out, take_back};
 use pmg_rules::{Due, Sent};
 use pmg_value::Proc;
 use std::alloc::AllocError;

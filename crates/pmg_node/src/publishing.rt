@@ -3,23 +3,17 @@ ghost use Rattle.std.specs.Prelude.{◌≡◌, ◌<◌, ◌++◌, IfOk, OnOk, On
 ghost use Rattle.pmg_scope.specs.declared.scope.Reach.TheVariants as reach;
 ghost use Rattle.pmg_commit.specs.Data.{absorbed};
 ghost use Rattle.pmg_commit.specs.Sealed.{piece_at};
-ghost use Rattle.pmg_node.specs.Answered.{ArePlain};
-ghost use Rattle.pmg_node.specs.Answering.{AreAnswers};
+ghost use Rattle.pmg_holding.specs.Answered.{ArePlain};
+ghost use Rattle.pmg_holding.specs.Answering.{AreAnswers};
 ghost use Rattle.pmg_rules.specs.Choosing.{sends};
 ghost use Rattle.pmg_rules.specs.Kept.{is_about};
-ghost use Rattle.pmg_node.specs.Owns.{sealed_of};
-ghost use Rattle.pmg_node.specs.Telling.{settling_by};
+ghost use Rattle.pmg_holding.specs.Owns.{sealed_of};
+ghost use Rattle.pmg_holding.specs.Telling.{settling_by};
 
-use crate::ahead::Ahead;
-use crate::answering::answers_about;
-use crate::call::Call;
-use crate::calls::Calls;
-use crate::due::{hand_out, take_back};
-use crate::own::Own;
-use crate::telling::tell_waiting;
 use pmg_commit::Piece;
 use pmg_dmodex::{Marks, Pending};
 use pmg_fence::Table;
+use pmg_holding::{Ahead, Call, Calls, Own, answers_about, hand_out, take_back, tell_waiting};
 use pmg_rules::{Due, Sent};
 use pmg_store::Board;
 use pmg_value::{NodeId, Proc};

@@ -2,12 +2,12 @@
 ghost use Rattle.std.specs.Prelude.{◌≡◌};
 ghost use Rattle.std.specs.Option.{option_map};
 ghost use Rattle.pmg_rules.specs.Acts.{status_by, status_of};
-ghost use Rattle.pmg_node.specs.Calls.{standing_of};
+ghost use Rattle.pmg_holding.specs.Calls.{standing_of};
 ghost use Rattle.pmg_node.specs.Replies.{status_in};
 
-use crate::call::Call;
 use crate::causes::is_member;
 use crate::node::Node;
+use pmg_holding::Call;
 use pmg_value::Proc;
 
 /// How a process stands at a node.

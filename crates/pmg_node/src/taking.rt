@@ -2,12 +2,12 @@
 ghost use Rattle.std.specs.Prelude.{◌≡◌, []};
 ghost use Rattle.std.specs.Option.{option_map};
 ghost use Rattle.pmg_rules.specs.Acts.{Act, Request, reply_of};
-ghost use Rattle.pmg_node.specs.Calls.{standing_of, outcome_of};
+ghost use Rattle.pmg_holding.specs.Calls.{standing_of, outcome_of};
 ghost use Rattle.pmg_node.specs.Replies.{taking_reply, answered_reply, pending_reply};
 ghost use Rattle.pmg_node.specs.Servers.{reply_in, reply_to, sent_by, after};
 
-use crate::call::{Call, Found};
 use crate::node::Node;
+use pmg_holding::{Call, Found};
 use pmg_value::{Proc, Refusal, Value};
 
 /// What a process that takes an answer is told (PMIx Standard 5.0, PMIx_Get).

@@ -9,5 +9,3 @@ pub use laws::set_rules;
 pub use members::{MAX_MEMBERS, members_in};
 pub use sets::Sets;
 
-#[cfg(test)]
-mod tests;

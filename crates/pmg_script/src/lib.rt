@@ -3,15 +3,9 @@
 
 mod fields;
 mod lines;
-#[cfg(test)]
-mod malformed_tests;
 mod playing;
-#[cfg(test)]
-mod playing_tests;
 mod reading;
 mod script;
-#[cfg(test)]
-mod script_tests;
 
 pub use fields::Named;
 pub use lines::{LineFault, Words, content};

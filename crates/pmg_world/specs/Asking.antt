@@ -6,7 +6,7 @@ use Rattle.pmg_value.specs.Spelling.{spelling}
 use Rattle.pmg_value.specs.declared.process.Proc.{Proc}
 use Rattle.pmg_jobinfo.specs.Jobs.{Jobs, home_of}
 use Rattle.pmg_rules.specs.Acts.{Request}
-use Rattle.pmg_node.specs.Calls.{get_of}
+use Rattle.pmg_holding.specs.Calls.{get_of}
 use Rattle.pmg_script.specs.Scripts.{Line}
 use Rattle.pmg_world.specs.Telling.{event_of}
 use Rattle.pmg_runs.specs.Worlds.{Event}
@@ -45,8 +45,11 @@ if_named names e = if names then Asked.happens e else Asked.unnamed
 abbrev pub at_home : Jobs → Proc → Request → Event
 at_home jobs p r = Event.request (home_of jobs p) r
 
--- What a line asks; nothing is asked of the world by a line that names nodes or registers a namespace, and by an empty one. Sets are
--- changed at node 0.
+-- the node at which the process sets are defined and deleted
+abbrev pub sets_node : ℕ
+sets_node = 0
+
+-- What a line asks; nothing is asked of the world by a line that names nodes or registers a namespace, and by an empty one.
 unfoldable pub asks : Jobs → Line → Option Asked
 asks jobs (Line.put p scope value key) = Some (if_named (is_named p && is_key key) (Event.put p scope key (spelling value)))
 asks jobs (Line.commit p) = Some (if_named (is_named p) (Event.commit (home_of jobs p) p))
@@ -55,8 +58,8 @@ asks jobs (Line.leave p) = Some (if_named (is_named p) (at_home jobs p (Request.
 asks jobs (Line.get p mode target key) = Some (if_named (is_named p && is_named target && is_key key) (at_home jobs p (Request.ask p (get_of target key) mode)))
 asks jobs (Line.take p) = Some (if_named (is_named p) (at_home jobs p (Request.take p)))
 asks jobs (Line.end p) = Some (if_named (is_named p) (at_home jobs p (Request.terminate p)))
-asks jobs (Line.define list name) = Some (if_named (are_named list && is_key name) (Event.request 0 (Request.define name list)))
-asks jobs (Line.delete name) = Some (if_named (is_key name) (Event.request 0 (Request.delete name)))
+asks jobs (Line.define list name) = Some (if_named (are_named list && is_key name) (Event.request sets_node (Request.define name list)))
+asks jobs (Line.delete name) = Some (if_named (is_key name) (Event.request sets_node (Request.delete name)))
 asks jobs (Line.deliver frame) = Some (Asked.happens (Event.deliver frame))
 asks jobs Line.flow = Some Asked.flow
 asks jobs (Line.nudge node) = Some (Asked.happens (Event.request node Request.nudge))

@@ -4,8 +4,8 @@ ghost use Rattle.pmg_value.specs.Names.{is_key};
 ghost use Rattle.pmg_value.specs.Spelling.{spelling};
 ghost use Rattle.pmg_jobinfo.specs.Jobs.{home_of};
 ghost use Rattle.pmg_rules.specs.Acts.{Request as ModelRequest};
-ghost use Rattle.pmg_node.specs.Calls.{get_of};
-ghost use Rattle.pmg_world.specs.Asking.{Asked as ModelAsked, asked_of, asks, are_named, at_home, if_named, is_named};
+ghost use Rattle.pmg_holding.specs.Calls.{get_of};
+ghost use Rattle.pmg_world.specs.Asking.{Asked as ModelAsked, asked_of, asks, are_named, at_home, if_named, is_named, sets_node};
 ghost use Rattle.pmg_script.specs.Lines.{ReadsAll};
 ghost use Rattle.pmg_script.specs.Scripts.{line_of};
 ghost use Rattle.pmg_runs.specs.Worlds.{Event as ModelEvent};
@@ -201,7 +201,7 @@ fn ask_end(alloc: Global, registry: &Registry, proc: &Named<'_>) -> Result<Asked
 /// `define M`, so many pairs `NS RANK`, `NAME`
 fn ask_define(alloc: Global, list: &[Named<'_>], name: &[u8]) -> Result<Asked, AllocError>
     ensures { IfOk result (λ a. asked_of a
-        ≡ if_named (are_named list.now && is_key name.now) (ModelEvent.request 0 (ModelRequest.define name.now list.now))) }
+        ≡ if_named (are_named list.now && is_key name.now) (ModelEvent.request sets_node (ModelRequest.define name.now list.now))) }
 {
     if !are_named(list) || !is_key_text(name) {
         return Ok(Asked::Unnamed);
@@ -213,7 +213,7 @@ fn ask_define(alloc: Global, list: &[Named<'_>], name: &[u8]) -> Result<Asked, A
 
 /// `delete NAME`
 fn ask_delete(alloc: Global, name: &[u8]) -> Result<Asked, AllocError>
-    ensures { IfOk result (λ a. asked_of a ≡ if_named (is_key name.now) (ModelEvent.request 0 (ModelRequest.delete name.now))) }
+    ensures { IfOk result (λ a. asked_of a ≡ if_named (is_key name.now) (ModelEvent.request sets_node (ModelRequest.delete name.now))) }
 {
     if !is_key_text(name) {
         return Ok(Asked::Unnamed);

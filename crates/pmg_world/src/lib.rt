@@ -9,15 +9,9 @@ mod group;
 mod nodes;
 mod phase;
 mod reply_lines;
-#[cfg(test)]
-mod reply_tests;
 mod scene;
 mod stage;
-#[cfg(test)]
-mod tests;
 mod world;
-#[cfg(test)]
-mod world_tests;
 
 pub use event::{Event, Told};
 pub use reply_lines::{flow_line, members_line, refusal_line, reply_line};

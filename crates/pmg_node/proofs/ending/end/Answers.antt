@@ -8,8 +8,8 @@ use Rattle.pmg_fence.specs.Changes.{ended_by, news}
 use Rattle.pmg_fence.specs.Tables.{names_of}
 use Rattle.pmg_rules.specs.Choosing.{announcing}
 use Rattle.pmg_node.specs.Endings.{own_ended, table_ended}
-use Rattle.pmg_node.specs.Owns.{Own, sealed_of}
-use Rattle.pmg_node.specs.Sealers.{AllSealed, sealed_by}
+use Rattle.pmg_holding.specs.Owns.{Own, sealed_of}
+use Rattle.pmg_holding.specs.Sealers.{AllSealed, sealed_by}
 use Rattle.pmg_node.proofs.EndLemmas.{client_sealed, put_there, own_ends, own_returns, own_ended_level}
 use Rattle.pmg_node.proofs.ending.end.Goals as goal
 

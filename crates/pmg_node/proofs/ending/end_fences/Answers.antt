@@ -6,7 +6,7 @@ use Rattle.pmg_fence.specs.Codes.{Known}
 use Rattle.pmg_fence.specs.Tables.{names_of}
 use Rattle.pmg_fence.specs.TakenBack.{CanTakeBack}
 use Rattle.pmg_fence.proofs.UndoLemmas.{taken_fits}
-use Rattle.pmg_node.specs.Telling.{announcing_by}
+use Rattle.pmg_holding.specs.Telling.{announcing_by}
 use Rattle.pmg_node.proofs.EndLemmas.{announced}
 use Rattle.pmg_node.proofs.ending.end_fences.Goals as goal
 

@@ -4,10 +4,10 @@ use Rattle.pmg_value.proofs.ProcessOrder.{procs_total, exact_procs}
 use Rattle.pmg_value.proofs.RowLemmas.{remove_inserted}
 use Rattle.pmg_fence.specs.Kept.{placed_by}
 use Rattle.pmg_fence.specs.declared.change.Change.TheVariants as changes
-use Rattle.pmg_node.specs.Codes.{Calls}
+use Rattle.pmg_holding.specs.Codes.{Calls}
 use Rattle.pmg_rules.specs.Holdings.{Standing, mapped}
 use Rattle.pmg_rules.specs.Kept.{is_in, settle_where}
-use Rattle.pmg_node.specs.Owns.{sealed_of}
+use Rattle.pmg_holding.specs.Owns.{sealed_of}
 use Rattle.pmg_node.proofs.entering.enter_fence.Goals as goal
 
 pub returns-in-Err-clause-calls_err : goal.returns-in-Err-clause-calls_err

@@ -3,7 +3,7 @@ use Rattle.pmg_fence.specs.Changes.{taken}
 use Rattle.pmg_fence.specs.Codes.{Known}
 use Rattle.pmg_fence.specs.Kept.{placed_by}
 use Rattle.pmg_fence.specs.TakenBack.{CanTakeBack}
-use Rattle.pmg_node.specs.Answering.{AreAnswers}
+use Rattle.pmg_holding.specs.Answering.{AreAnswers}
 use Rattle.pmg_node.specs.Fencing.{fence_after}
 use Rattle.pmg_rules.specs.Kept.{is_in}
 use Rattle.pmg_node.proofs.FenceLemmas.{can_take_back}

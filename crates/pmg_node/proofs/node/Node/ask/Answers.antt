@@ -3,7 +3,7 @@ use Rattle.std.proofs.lemmas.Result.{err_from_is_err_and}
 use Rattle.pmg_value.specs.Spelling.{spelling}
 use Rattle.pmg_get.specs.declared.view.Mode.{Mode}
 use Rattle.pmg_rules.specs.Acts.{Act, Request, also, free_cause, target_cause, reply_of}
-use Rattle.pmg_node.specs.Calls.{get_of}
+use Rattle.pmg_holding.specs.Calls.{get_of}
 use Rattle.pmg_rules.specs.Holdings.{answer_in}
 use Rattle.pmg_node.specs.Replies.{asked_reply}
 use Rattle.pmg_node.specs.Servers.{Refuses, IsAccepted, sent_by, after}

@@ -1,6 +1,6 @@
 use Rattle.std.proofs.Common.{List, ◌++◌, append_assoc, ap, ◌∙◌}
 use Rattle.std.specs.List.{flat_map}
-use Rattle.pmg_node.specs.Calls.{all_targets}
+use Rattle.pmg_holding.specs.Calls.{all_targets}
 use Rattle.pmg_rules.specs.Choosing.{asking, asking_fence, asking_sets, waited_in}
 use Rattle.pmg_rules.specs.declared.due.Due.{Due}
 use Rattle.pmg_node.proofs.NudgeLemmas.{targets_asked}

@@ -7,7 +7,7 @@ use Rattle.pmg_rules.specs.Choosing.{due_by}
 use Rattle.pmg_node.specs.Content.{server_of}
 use Rattle.pmg_node.specs.Servers.{Server, after}
 use Rattle.pmg_node.proofs.FrameLemmas.{below_is, not_below_is}
-use Rattle.pmg_node.proofs.AnswerLemmas.{plain_calls}
+use Rattle.pmg_holding.proofs.AnswerLemmas.{plain_calls}
 use Rattle.pmg_node.proofs.PieceLemmas.{piece_asks, piece_quiet}
 use Rattle.pmg_node.proofs.node.Node.asks_after.Goals as goal
 

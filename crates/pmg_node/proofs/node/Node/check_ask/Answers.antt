@@ -1,6 +1,6 @@
 use Rattle.std.proofs.Common.{◌≡◌, true, sym, ap, subst, ◌∙◌}
 use Rattle.pmg_jobinfo.specs.Jobs.{Jobs, is_registered}
-use Rattle.pmg_node.specs.Calls.{get_of}
+use Rattle.pmg_holding.specs.Calls.{get_of}
 use Rattle.pmg_node.specs.Servers.{Server, IsNode}
 use Rattle.pmg_node.proofs.AskLemmas.{ask_bad, ask_known}
 use Rattle.pmg_node.proofs.node.Node.check_ask.Goals as goal

@@ -8,17 +8,17 @@ use Rattle.pmg_commit.specs.TakenBack.{sealer_back}
 use Rattle.pmg_dmodex.specs.Levels.{without_below}
 use Rattle.pmg_dmodex.specs.Requests.{Requests}
 use Rattle.pmg_rules.specs.Acts.{Act, Reply, cause, free_cause}
-use Rattle.pmg_node.specs.Answered.{ArePlain}
+use Rattle.pmg_holding.specs.Answered.{ArePlain}
 use Rattle.pmg_rules.specs.Choosing.{sends}
 use Rattle.pmg_node.specs.Content.{server_of}
 use Rattle.pmg_rules.specs.Holdings.{sealer_of, sealers_with, sets_with}
-use Rattle.pmg_node.specs.Owns.{Own, sealed_of}
+use Rattle.pmg_holding.specs.Owns.{Own, sealed_of}
 use Rattle.pmg_node.specs.Replies.{committed_reply}
 use Rattle.pmg_node.specs.Servers.{Server, IsNode, reply_to, sent_by, after}
-use Rattle.pmg_node.specs.Telling.{settling_by}
+use Rattle.pmg_holding.specs.Telling.{settling_by}
 use Rattle.pmg_rules.specs.declared.due.Due.{Due}
 use Rattle.pmg_rules.specs.declared.sent.Sent.{Sent}
-use Rattle.pmg_node.proofs.AnswerLemmas.{plain_calls}
+use Rattle.pmg_holding.proofs.AnswerLemmas.{plain_calls}
 use Rattle.pmg_node.proofs.CommitLemmas.{free_own, free_client, commit_barred, commit_over, commit_free, commit_accepted, commit_seals, client_put, client_sets, level_rises, still_own, own_back}
 use Rattle.pmg_node.proofs.NodeKept.{node_stays}
 use Rattle.pmg_node.proofs.FailLemmas.{erred_reply, erred_after, erred_sent}

@@ -14,14 +14,14 @@ use Rattle.pmg_pset.specs.Sets.{host, changed}
 use Rattle.pmg_rules.specs.Acts.{Act, Request, Reply, cause}
 use Rattle.pmg_node.specs.Content.{server_of}
 use Rattle.pmg_rules.specs.Holdings.{sealers_with, sets_with}
-use Rattle.pmg_node.specs.Owns.{Own, sealed_of}
+use Rattle.pmg_holding.specs.Owns.{Own, sealed_of}
 use Rattle.pmg_node.specs.Replies.{defined_reply}
 use Rattle.pmg_node.specs.Servers.{Server, IsNode, reply_to, sent_by, after}
-use Rattle.pmg_node.specs.Telling.{spread_by}
+use Rattle.pmg_holding.specs.Telling.{spread_by}
 use Rattle.pmg_rules.specs.declared.due.Due.{Due}
 use Rattle.pmg_rules.specs.declared.sent.Sent.{Sent}
-use Rattle.pmg_node.specs.Answered.{ArePlain}
-use Rattle.pmg_node.proofs.AnswerLemmas.{plain_calls}
+use Rattle.pmg_holding.specs.Answered.{ArePlain}
+use Rattle.pmg_holding.proofs.AnswerLemmas.{plain_calls}
 use Rattle.pmg_node.proofs.NodeKept.{node_stays}
 use Rattle.pmg_node.proofs.FailLemmas.{erred_reply, erred_after, erred_sent}
 use Rattle.pmg_node.proofs.SealedActs.{Seals, IsPublished, published_reply, published_after, published_sent}

@@ -7,9 +7,9 @@ use Rattle.pmg_rules.specs.Choosing.{Out, asked_marks, sends}
 use Rattle.pmg_node.specs.Content.{server_of}
 use Rattle.pmg_dmodex.specs.Requests.{Requests, holding}
 use Rattle.pmg_rules.specs.Holdings.{sealer_of}
-use Rattle.pmg_node.specs.Owns.{sealed_of}
+use Rattle.pmg_holding.specs.Owns.{sealed_of}
 use Rattle.pmg_node.specs.Servers.{Server, IsNode}
-use Rattle.pmg_node.specs.Telling.{answering_by}
+use Rattle.pmg_holding.specs.Telling.{answering_by}
 use Rattle.pmg_rules.specs.declared.due.Due.{Due}
 use Rattle.pmg_rules.specs.declared.sent.Sent.{Sent}
 use Rattle.pmg_node.proofs.FrameLemmas.{below_is, not_below_is, direct_taken, with_marks, waits_for, range_out, ignored_is, ignored_silent, direct_is, direct_sent}

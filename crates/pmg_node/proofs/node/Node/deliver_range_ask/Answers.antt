@@ -4,9 +4,9 @@ use Rattle.pmg_frame.specs.declared.frame.Frame.TheVariants as frames
 use Rattle.pmg_dmodex.specs.Levels.{Levels}
 use Rattle.pmg_rules.specs.Acts.{Act, Done}
 use Rattle.pmg_rules.specs.Choosing.{Out, asked_marks, sends}
-use Rattle.pmg_node.specs.Owns.{sealed_of}
+use Rattle.pmg_holding.specs.Owns.{sealed_of}
 use Rattle.pmg_node.specs.Servers.{Server, IsNode}
-use Rattle.pmg_node.specs.Telling.{answering_by}
+use Rattle.pmg_holding.specs.Telling.{answering_by}
 use Rattle.pmg_rules.specs.declared.due.Due.{Due}
 use Rattle.pmg_rules.specs.declared.sent.Sent.{Sent}
 use Rattle.pmg_node.proofs.FrameLemmas.{range_taken, with_marks, range_out, ignored_is, ignored_silent, range_is, range_sent}

@@ -7,11 +7,11 @@ use Rattle.pmg_commit.specs.Sealed.{fresh}
 use Rattle.pmg_pset.specs.Sets.{host}
 use Rattle.pmg_jobinfo.specs.Procs.{procs_at}
 use Rattle.pmg_jobinfo.proofs.ListedLemmas.{listed_can_commit}
-use Rattle.pmg_node.specs.Marking.{zeros}
-use Rattle.pmg_node.specs.Sealers.{with_fresh}
+use Rattle.pmg_holding.specs.Marking.{zeros}
+use Rattle.pmg_holding.specs.Sealers.{with_fresh}
 use Rattle.pmg_node.specs.Servers.{IsNode}
 use Rattle.pmg_node.proofs.OpeningLemmas.{new_is_node, same_ok}
-use Rattle.pmg_node.proofs.SealerLemmas.{fresh_is}
+use Rattle.pmg_holding.proofs.SealerLemmas.{fresh_is}
 use Rattle.pmg_node.proofs.node.Node.new.Goals as goal
 
 pub fresh_sealers-requires : goal.fresh_sealers-requires

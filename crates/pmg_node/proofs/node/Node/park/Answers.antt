@@ -2,7 +2,7 @@ use Rattle.std.proofs.Common.{List, ◌++◌, sym, ap, subst, ◌∙◌}
 use Rattle.std.specs.FinMap as finite
 use Rattle.pmg_get.specs.declared.view.Mode.TheVariants as modes
 use Rattle.pmg_rules.specs.Acts.{Act, Request}
-use Rattle.pmg_node.specs.Calls.{get_of}
+use Rattle.pmg_holding.specs.Calls.{get_of}
 use Rattle.pmg_rules.specs.Choosing.{Out, asking}
 use Rattle.pmg_node.specs.Content.{server_of}
 use Rattle.pmg_rules.specs.Holdings.{Standing}

@@ -6,7 +6,7 @@ use Rattle.pmg_value.specs.declared.process.Proc.{Proc}
 use Rattle.pmg_scope.specs.declared.scope.Reach.TheVariants as reach
 use Rattle.pmg_pset.specs.Sets.{host}
 use Rattle.pmg_node.specs.Acting.{acted_reply, joins_in, joins_none, request_of}
-use Rattle.pmg_node.specs.Calls.{get_of}
+use Rattle.pmg_holding.specs.Calls.{get_of}
 use Rattle.pmg_rules.specs.Holdings.{sealer_of}
 use Rattle.pmg_node.specs.Joining.{joins}
 use Rattle.pmg_rules.specs.Acts.{Act, Request, Reply}

@@ -10,11 +10,11 @@ use Rattle.pmg_rules.specs.Acts.{Act, Request, Reply, caller_cause}
 use Rattle.pmg_node.specs.Content.{server_of}
 use Rattle.pmg_node.specs.Endings.{own_ended, table_ended}
 use Rattle.pmg_rules.specs.Holdings.{sealer_of}
-use Rattle.pmg_node.specs.Owns.{Own, sealed_of}
+use Rattle.pmg_holding.specs.Owns.{Own, sealed_of}
 use Rattle.pmg_node.specs.Servers.{Server, IsNode, reply_to, sent_by, after}
 use Rattle.pmg_rules.specs.declared.sent.Sent.{Sent}
-use Rattle.pmg_node.specs.Answered.{ArePlain}
-use Rattle.pmg_node.proofs.AnswerLemmas.{plain_calls}
+use Rattle.pmg_holding.specs.Answered.{ArePlain}
+use Rattle.pmg_holding.proofs.AnswerLemmas.{plain_calls}
 use Rattle.pmg_node.proofs.ActLemmas.{refused_after, refused_sent}
 use Rattle.pmg_node.proofs.EndLemmas.{put_there, own_ended_level, may_end, end_refused, end_refuses, end_accepted, level_rises, piece_is, ended_reply, ended_sent, ended_after}
 use Rattle.pmg_node.proofs.NodeKept.{node_stays}

@@ -1,0 +1,9 @@
+pub mod SealerLemmas
+pub mod MarkLemmas
+pub mod SendLemmas
+pub mod PeerLemmas
+pub mod PublishLemmas
+pub mod CallLemmas
+pub mod NameLemmas
+pub mod AnswerLemmas
+pub mod AskAgain

@@ -1,0 +1,82 @@
+-- What each call that waits comes to be answered, call by call.
+use Rattle.std.specs.Prelude.{◌≡◌, ℕ, Bool, true, false, List, [], ◌∷◌, map, Option, Some, None, if◌then◌else◌}
+use Rattle.std.specs.FinMap as finite
+use Rattle.std.specs.FinSet as set
+use Rattle.std.specs.List.{flat_map}
+use Rattle.pmg_value.specs.Names.{is_reserved}
+use Rattle.pmg_value.specs.Signatures.{FenceName}
+use Rattle.pmg_value.specs.declared.process.Proc.{Proc}
+use Rattle.pmg_commit.specs.Data.{Data, read_at, level_at}
+use Rattle.pmg_frame.specs.Fences.{commit_ask}
+use Rattle.pmg_frame.specs.declared.frame.Frame.TheVariants as frames
+use Rattle.pmg_jobinfo.specs.Jobs.{Jobs, home_of}
+use Rattle.pmg_fence.specs.Tables.{Fences, is_ready, gone_by}
+use Rattle.pmg_get.specs.Gets.{Outcome, resolve}
+use Rattle.pmg_get.specs.declared.view.Mode.TheVariants as modes
+use Rattle.pmg_holding.specs.Calls.{get_of, standing_of, outcome_of, all_waiting_in, all_waited}
+use Rattle.pmg_holding.specs.Codes.{Calls}
+use Rattle.pmg_rules.specs.Holdings.{Get, Standing, plain_seen}
+use Rattle.pmg_rules.specs.Sending.{sent}
+use Rattle.pmg_holding.specs.declared.call.Call.{Call}
+use Rattle.pmg_holding.specs.declared.call.Found.{Found}
+use Rattle.pmg_rules.specs.declared.due.Due.{Due}
+use Rattle.pmg_rules.specs.declared.due.Due.TheVariants as sendings
+
+-- each get that waits is one of a key that is not reserved
+abbrev pub ArePlain : Calls → Type 0
+ArePlain all = (p : Proc) (get : Get) → finite.get all p ≡ Some (Standing.parked get) → is_reserved get.key ≡ false
+
+-- each process with the call that it comes to be in
+abbrev pub standings : List (Proc × Call) → List (Proc × Standing)
+standings answers = map (λ e. (e.0, standing_of e.1)) answers
+
+-- ---- gets
+
+-- what a get of a key that is not reserved is answered with these stores
+abbrev pub outcome_with : Jobs → ℕ → Data → Data → Get → Outcome
+outcome_with jobs id near far get = resolve (plain_seen jobs id (read_at near get.target) (read_at far get.target) get) modes.Wait
+
+-- what was found; where nothing was, the get waits still
+abbrev pub found_as : Option Found → Outcome
+found_as None = Outcome.parks
+found_as (Some found) = outcome_of found
+
+-- the process's get is answered so, unless it waits still
+abbrev pub answered_by : Proc → Get → Outcome → List (Proc × Standing)
+answered_by p get Outcome.parks = []
+answered_by p get (Outcome.found value) = (p, Standing.answered get (Outcome.found value)) ∷ []
+answered_by p get Outcome.absent = (p, Standing.answered get Outcome.absent) ∷ []
+answered_by p get Outcome.outside = (p, Standing.answered get Outcome.outside) ∷ []
+
+-- of these gets of the target's keys, those that are answered
+abbrev pub gets_answered : Jobs → ℕ → Data → Data → Proc → List (Proc × List ℕ) → List (Proc × Standing)
+gets_answered jobs id near far target asks = flat_map (λ e. answered_by e.0 (get_of target e.1) (outcome_with jobs id near far (get_of target e.1))) asks
+
+abbrev pub still_waits : Outcome → Bool
+still_waits Outcome.parks = true
+still_waits (Outcome.found value) = false
+still_waits Outcome.absent = false
+still_waits Outcome.outside = false
+
+-- the process's home is asked for its commits, at the level that is known
+abbrev pub home_ask : Jobs → ℕ → Data → Proc → Due
+home_ask jobs id far q = sendings.Whole (sent (home_of jobs q) (frames.DirectAsk (commit_ask id q (level_at far q))))
+
+-- it is asked once for each of these gets of its keys that waits still
+abbrev pub asked_for : Jobs → ℕ → Data → Data → Proc → List (Proc × List ℕ) → List Due
+asked_for jobs id near far q asks = flat_map (λ e. if still_waits (outcome_with jobs id near far (get_of q e.1)) then home_ask jobs id far q ∷ [] else []) asks
+
+-- ---- fences
+
+-- these processes are released from the fence, with those that are gone
+abbrev pub released_all : FenceName → List Proc → List Proc → List (Proc × Standing)
+released_all f gone procs = map (λ p. (p, Standing.released f gone)) procs
+
+-- whoever waits in the fence is released, where it is ready
+abbrev pub released_in : Jobs → ℕ → Fences → Data → Calls → FenceName → List (Proc × Standing)
+released_in jobs id table far all f = if is_ready jobs id table f (level_at far) then released_all f (gone_by jobs id table f) (all_waiting_in all f) else []
+
+-- and so in each fence in which the process takes part
+abbrev pub released_with : Jobs → ℕ → Fences → Data → Calls → Proc → List (Proc × Standing)
+released_with jobs id table far all q =
+    flat_map (λ f. if set.contains f.signature.participants q then released_in jobs id table far all f else []) (all_waited all)

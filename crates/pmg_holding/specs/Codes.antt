@@ -1,0 +1,79 @@
+-- What a node holds, as a model's value.
+use Rattle.std.proofs.Common.{◌≡◌, ◌⊎◌, ℕ, zero, suc, List, inl, inr, refl}
+use Rattle.std.specs.Coded.{Coded, code_by, coded×, coded⊎, coded_ℕ, coded_list}
+use Rattle.std.specs.FinMap as finite
+use Rattle.pmg_value.specs.Process.{proc_cmp, coded_proc}
+use Rattle.pmg_value.specs.Signatures.{FenceName}
+use Rattle.pmg_value.specs.declared.process.Proc.{Proc}
+use Rattle.pmg_commit.specs.Data.{Data, coded_data}
+use Rattle.pmg_commit.specs.Sealed.{Sealed, coded_sealed}
+use Rattle.pmg_frame.specs.Fences.{coded_name}
+use Rattle.pmg_fence.specs.Codes.{coded_fences}
+use Rattle.pmg_fence.specs.Tables.{Fences}
+use Rattle.pmg_dmodex.specs.Levels.{Levels, coded_levels}
+use Rattle.pmg_get.specs.Gets.{Outcome}
+use Rattle.pmg_rules.specs.Holdings.{Get, Standing, Holding}
+use Rattle.pmg_holding.specs.Sealers.{AllSealed, coded_all_sealed}
+
+abbrev outcome_to : Outcome → List ℕ ⊎ ℕ
+outcome_to (Outcome.found value) = inl value
+outcome_to Outcome.absent = inr 0
+outcome_to Outcome.outside = inr 1
+outcome_to Outcome.parks = inr 2
+
+abbrev outcome_from : List ℕ ⊎ ℕ → Outcome
+outcome_from (inl value) = Outcome.found value
+outcome_from (inr zero) = Outcome.absent
+outcome_from (inr (suc zero)) = Outcome.outside
+outcome_from (inr (suc (suc n))) = Outcome.parks
+
+pub outcome_back : (o : Outcome) → outcome_from (outcome_to o) ≡ o
+outcome_back (Outcome.found value) = refl
+outcome_back Outcome.absent = refl
+outcome_back Outcome.outside = refl
+outcome_back Outcome.parks = refl
+
+abbrev pub coded_outcome : Coded Outcome
+coded_outcome = code_by (List ℕ ⊎ ℕ) (coded⊎ (coded_list coded_ℕ) coded_ℕ) outcome_to outcome_from outcome_back
+
+abbrev pub coded_get : Coded Get
+coded_get = code_by (Proc × List ℕ) (coded× coded_proc (coded_list coded_ℕ)) (λ g. (g.target, g.key)) (λ p. record { target = p.0; key = p.1 }) (λ _. refl)
+
+abbrev pub StandingCode : Type 0
+StandingCode = (FenceName ⊎ (FenceName × List Proc)) ⊎ (Get ⊎ (Get × Outcome))
+
+abbrev standing_to : Standing → StandingCode
+standing_to (Standing.in_fence f) = inl (inl f)
+standing_to (Standing.released f gone) = inl (inr (f, gone))
+standing_to (Standing.parked get) = inr (inl get)
+standing_to (Standing.answered get outcome) = inr (inr (get, outcome))
+
+abbrev standing_from : StandingCode → Standing
+standing_from (inl (inl f)) = Standing.in_fence f
+standing_from (inl (inr p)) = Standing.released p.0 p.1
+standing_from (inr (inl get)) = Standing.parked get
+standing_from (inr (inr p)) = Standing.answered p.0 p.1
+
+pub standing_back : (s : Standing) → standing_from (standing_to s) ≡ s
+standing_back (Standing.in_fence f) = refl
+standing_back (Standing.released f gone) = refl
+standing_back (Standing.parked get) = refl
+standing_back (Standing.answered get outcome) = refl
+
+abbrev pub coded_standing : Coded Standing
+coded_standing =
+    code_by StandingCode (coded⊎ (coded⊎ coded_name (coded× coded_name (coded_list coded_proc))) (coded⊎ coded_get (coded× coded_get coded_outcome))) standing_to standing_from standing_back
+
+-- the calls that own processes are in
+abbrev pub Calls : Type 0
+Calls = finite.FinMap proc_cmp Standing
+
+abbrev pub coded_calls : Coded Calls
+coded_calls = finite.code coded_proc coded_standing
+
+abbrev pub coded_holding : Coded Holding
+coded_holding =
+    code_by (Data × (Data × (AllSealed × (Sealed × (Fences × (Calls × Levels))))))
+    (coded× coded_data (coded× coded_data (coded× coded_all_sealed (coded× coded_sealed (coded× coded_fences (coded× coded_calls coded_levels))))))
+    (λ h. (h.near, (h.far, (h.sealers, (h.sets, (h.table, (h.calls, h.held)))))))
+    (λ p. record { near = p.0; far = p.1.0; sealers = p.1.1.0; sets = p.1.1.1.0; table = p.1.1.1.1.0; calls = p.1.1.1.1.1.0; held = p.1.1.1.1.1.1 }) (λ _. refl)

@@ -1,0 +1,9 @@
+pub mod Sealers
+pub mod Owns
+pub mod Marking
+pub mod Telling
+pub mod Answering
+pub mod Ahead
+pub mod Codes
+pub mod Calls
+pub mod Answered

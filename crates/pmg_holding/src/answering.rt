@@ -1,0 +1,229 @@
+//! What calls come to be answered.
+ghost use Rattle.std.specs.Prelude.{◌≡◌, ◌++◌, IfOk, OnOk};
+ghost use Rattle.std.specs.List.{flat_map};
+ghost use Rattle.pmg_commit.specs.Data.{level_at};
+ghost use Rattle.pmg_fence.specs.Tables.{is_ready};
+ghost use Rattle.pmg_get.specs.Views.{outcome_of};
+ghost use Rattle.pmg_holding.specs.Ahead.{near_of, far_of};
+ghost use Rattle.pmg_holding.specs.Answered.{ArePlain, standings, outcome_with, found_as, gets_answered, still_waits, home_ask, asked_for, released_all, released_in, released_with};
+ghost use Rattle.pmg_holding.specs.Answering.{AreAnswers, AreAskedAgain};
+ghost use Rattle.pmg_holding.specs.Calls.{get_of};
+ghost use Rattle.pmg_rules.specs.Kept.{is_about, is_in};
+
+use crate::ahead::Ahead;
+use crate::call::{Call, Found};
+use crate::calls::Calls;
+use pmg_fence::Table;
+use pmg_frame::{CommitAsk, FenceName, Frame};
+use pmg_get::{Answer, Mode, resolve};
+use pmg_jobinfo::Registry;
+use pmg_rules::{Due, Sent};
+use pmg_value::{Key, NodeId, Proc, copy_all};
+use std::alloc::AllocError;
+
+/// What a get that waited finds, unless it waits still.
+fn found(answer: Answer<'_>) -> Result<Option<Found>, AllocError>
+    ensures { IfOk result (λ found. found_as found ≡ outcome_of answer.entry) }
+{
+    match answer {
+        Answer::Found(value) => Ok(Some(Found::Value(value.copy()?))),
+        Answer::NotFound => Ok(Some(Found::NotFound)),
+        Answer::OutsideScope => Ok(Some(Found::OutsideScope)),
+        Answer::Park => Ok(None),
+    }
+}
+
+/// What a get of the target's key finds once the stores are so, unless it waits still.
+fn find(
+    registry: &Registry,
+    id: NodeId,
+    ahead: &Ahead<'_>,
+    target: &Proc,
+    key: &Key,
+) -> Result<Option<Found>, AllocError>
+    ensures { IfOk result (λ found. found_as found ≡ outcome_with registry.now id (near_of ahead.now) (far_of ahead.now) (get_of target.now key.now)) }
+{
+    found(resolve(ahead.look(registry, id, target, key), Mode::Wait))
+}
+
+/// Which of the gets of the target's keys come to be answered, and how.
+fn answer_gets(
+    registry: &Registry,
+    id: NodeId,
+    ahead: &Ahead<'_>,
+    target: &Proc,
+    asks: Vec<(Proc, Key)>,
+    answers: &mut Vec<(Proc, Call)>,
+) -> Result<(), AllocError>
+    ensures { OnOk result (standings answers.new.items
+        ≡ standings answers.old.items ++ gets_answered registry.now id (near_of ahead.now) (far_of ahead.now) target.now asks.items) }
+{
+    for (asker, key) in asks {
+        let Some(found) = find(registry, id, ahead, target, &key)? else {
+            continue;
+        };
+        answers.push((asker, Call::Answered(target.copy()?, key, found)))?;
+    }
+    Ok(())
+}
+
+/// Whether the fence is ready once the stores are so.
+fn is_ready(table: &Table, ahead: &Ahead<'_>, name: &FenceName) -> bool
+    ensures { result ≡ is_ready table.now.jobs table.now.node table.now.fences name.now (level_at (far_of ahead.now)) }
+{
+    table.ready(name, |proc| ahead.far_level(proc))
+}
+
+/// The processes are released from the fence, with those that are gone.
+fn release_all(
+    name: &FenceName,
+    gone: &Vec<Proc>,
+    procs: Vec<Proc>,
+    answers: &mut Vec<(Proc, Call)>,
+) -> Result<(), AllocError>
+    ensures { OnOk result (standings answers.new.items ≡ standings answers.old.items ++ released_all name.now gone.now.items procs.items) }
+{
+    for proc in procs {
+        answers.push((proc, Call::Released(name.copy()?, copy_all(gone)?)))?;
+    }
+    Ok(())
+}
+
+/// Whoever waits in the fence comes to be released, if it is ready.
+fn release_in(
+    table: &Table,
+    ahead: &Ahead<'_>,
+    calls: &Calls,
+    name: &FenceName,
+    answers: &mut Vec<(Proc, Call)>,
+) -> Result<(), AllocError>
+    ensures { OnOk result (standings answers.new.items
+        ≡ standings answers.old.items ++ released_in table.now.jobs table.now.node table.now.fences (far_of ahead.now) calls.now name.now) }
+{
+    if !is_ready(table, ahead, name) {
+        return Ok(());
+    }
+    let gone = table.release(name)?;
+    release_all(name, &gone, calls.waiting_in(name)?, answers)
+}
+
+/// Whoever waits in a ready fence in which the process takes part comes to be released.
+fn release_with(
+    table: &Table,
+    ahead: &Ahead<'_>,
+    calls: &Calls,
+    proc: &Proc,
+    answers: &mut Vec<(Proc, Call)>,
+) -> Result<(), AllocError>
+    ensures { OnOk result (standings answers.new.items
+        ≡ standings answers.old.items ++ released_with table.now.jobs table.now.node table.now.fences (far_of ahead.now) calls.now proc.now) }
+{
+    for name in calls.waited()? {
+        if name.signature().contains(proc) {
+            release_in(table, ahead, calls, &name, answers)?;
+        }
+    }
+    Ok(())
+}
+
+/// What calls come to be answered once the stores are so: gets of the process's keys, and fences in which it takes part.
+pub fn answers_about(
+    table: &Table,
+    id: NodeId,
+    ahead: &Ahead<'_>,
+    calls: &Calls,
+    proc: &Proc,
+) -> Result<Vec<(Proc, Call)>, AllocError>
+    requires node { table.now.node ≡ id }
+    requires plain { ArePlain calls.now }
+    ensures { IfOk result (λ answers. AreAnswers table.now.jobs id (is_about proc.now) table.now.fences (near_of ahead.now) (far_of ahead.now) calls.now answers.items) }
+{
+    let registry = table.registry();
+    let mut answers = Vec::new(registry.allocator());
+    let asks = calls.parked_on(proc)?;
+    answer_gets(registry, id, ahead, proc, asks, &mut answers)?;
+    release_with(table, ahead, calls, proc, &mut answers)?;
+    Ok(answers)
+}
+
+/// What calls in the fence come to be answered.
+pub fn answers_in(
+    table: &Table,
+    id: NodeId,
+    ahead: &Ahead<'_>,
+    calls: &Calls,
+    name: &FenceName,
+) -> Result<Vec<(Proc, Call)>, AllocError>
+    requires { table.now.node ≡ id }
+    ensures { IfOk result (λ answers. AreAnswers table.now.jobs id (is_in name.now) table.now.fences (near_of ahead.now) (far_of ahead.now) calls.now answers.items) }
+{
+    let mut answers = Vec::new(table.registry().allocator());
+    release_in(table, ahead, calls, name, &mut answers)?;
+    Ok(answers)
+}
+
+/// Whether a get of the target's key waits still once the stores are so.
+fn still_waits(registry: &Registry, id: NodeId, ahead: &Ahead<'_>, target: &Proc, key: &Key) -> bool
+    ensures { result ≡ still_waits (outcome_with registry.now id (near_of ahead.now) (far_of ahead.now) (get_of target.now key.now)) }
+{
+    matches!(
+        resolve(ahead.look(registry, id, target, key), Mode::Wait),
+        Answer::Park
+    )
+}
+
+/// The process's home is asked for its commits, at the level that is known once the stores are so.
+fn home_ask(
+    registry: &Registry,
+    id: NodeId,
+    ahead: &Ahead<'_>,
+    proc: &Proc,
+) -> Result<Due, AllocError>
+    ensures { IfOk result (λ due. due ≡ home_ask registry.now id (far_of ahead.now) proc.now) }
+{
+    let Ok(ask) = CommitAsk::new(id, proc.copy()?, ahead.far_level(proc)) else {
+        return Err(AllocError);
+    };
+    Ok(Due::Whole(Sent {
+        to: registry.home_of(proc),
+        frame: Frame::DirectAsk(ask),
+    }))
+}
+
+/// The process's home is asked once for each of the gets of its keys that waits still.
+fn ask_for(
+    registry: &Registry,
+    id: NodeId,
+    ahead: &Ahead<'_>,
+    proc: &Proc,
+    asks: Vec<(Proc, Key)>,
+) -> Result<Vec<Due>, AllocError>
+    ensures { IfOk result (λ dues. dues.items ≡ asked_for registry.now id (near_of ahead.now) (far_of ahead.now) proc.now asks.items) }
+{
+    let mut dues = Vec::new(registry.allocator());
+    for (_, key) in asks {
+        if still_waits(registry, id, ahead, proc, &key) {
+            dues.push(home_ask(registry, id, ahead, proc)?)?;
+        }
+    }
+    Ok(dues)
+}
+
+/// For each get of the process's keys that will wait still once the stores are so, the process's home is asked.
+pub fn asks_again(
+    table: &Table,
+    id: NodeId,
+    ahead: &Ahead<'_>,
+    calls: &Calls,
+    proc: &Proc,
+) -> Result<Vec<Due>, AllocError>
+    requires node { table.now.node ≡ id }
+    requires plain { ArePlain calls.now }
+    ensures { IfOk result (λ dues. AreAskedAgain table.now.jobs id proc.now table.now.fences (near_of ahead.now) (far_of ahead.now) calls.now dues.items) }
+{
+    let registry = table.registry();
+    if registry.is_home(id, proc) {
+        return Ok(Vec::new(registry.allocator()));
+    }
+    ask_for(registry, id, ahead, proc, calls.parked_on(proc)?)
+}

@@ -1,0 +1,23 @@
+//! What a node holds of its own processes, and what becomes due: their commits, the calls that they are in, the answers that
+//! come with a change, and the frames to be sent with the marks of what each other node has.
+#![tactic(auto)]
+
+mod ahead;
+mod answering;
+mod call;
+mod calls;
+mod due;
+mod own;
+mod sealers;
+mod telling;
+mod waiting;
+
+pub use ahead::Ahead;
+pub use answering::{answers_about, answers_in, asks_again};
+pub use call::{Call, Found};
+pub use calls::Calls;
+pub use due::{Handed, MarkBefore, hand_out, take_back};
+pub use own::Own;
+pub use sealers::Sealers;
+pub use telling::{announce, answer_commits, peers, peers_in, spread, takes_part, tell, tell_waiting};
+pub use waiting::Names;

@@ -1,0 +1,156 @@
+ghost use Rattle.std.specs.Prelude.{◌≡◌, ◌<◌, ◌≤◌, true, false, is_some, IfOk, OnOk, OnErr};
+ghost use Rattle.std.specs.FinMap as finite;
+ghost use Rattle.pmg_value.specs.Answers.{Gives};
+ghost use Rattle.pmg_value.specs.CheckOrder.{first_of};
+ghost use Rattle.pmg_value.specs.Process.{is_host};
+ghost use Rattle.pmg_commit.specs.Sealed.{sealed_with, commit_answer, piece_at};
+ghost use Rattle.pmg_commit.specs.TakenBack.{sealer_back, CanTakeBack};
+ghost use Rattle.pmg_pset.specs.Members.{each_once, proc_bytes, no_members};
+ghost use Rattle.pmg_pset.specs.Refusing.{define_cause, delete_cause};
+ghost use Rattle.pmg_pset.specs.Sets.{changed, AreSetsBack};
+ghost use Rattle.pmg_scope.specs.declared.scope.Reach.TheVariants as reach;
+ghost use Rattle.pmg_holding.specs.Owns.{sealed_of, with_sealed, with_sets};
+
+use crate::sealers::Sealers;
+use pmg_commit::{Piece, SealerBefore};
+use pmg_pset::Sets;
+use pmg_scope::{Batch, Reach};
+use pmg_value::{Key, Proc, Refusal};
+use std::alloc::AllocError;
+use std::marker::Model;
+
+/// What a node's own processes sealed, and the process sets.
+#[derive(Drop)]
+pub struct Own {
+    pub sealers: Sealers,
+    pub sets: Sets,
+}
+
+impl Model for Own {
+    ghost use Rattle.pmg_holding.specs.Owns as owns;
+
+    ghost Value = { owns.Own };
+
+    ghost coded = { owns.coded_own };
+
+    ghost view = { λ a. record { sealers = a.sealers; sets = a.sets } };
+}
+
+impl Own {
+    /// How many commits the process made; of the one that stands for the group's host, how many changes of the sets.
+    #[tactic(auto, unfolding(pmg_rules::specs::Holdings::sealer_in))]
+    pub fn level(&self, proc: &Proc) -> u64
+        ensures value { result ≡ (sealed_of self.now proc.now).level }
+        ensures bound { result ≤ 4294967295 }
+    {
+        if proc.is_host() {
+            return self.sets.level();
+        }
+        self.sealers.level(proc)
+    }
+
+    /// Whether the process, which is not the one that stands for the group's host, has ended.
+    #[tactic(auto, unfolding(pmg_rules::specs::Holdings::sealer_in))]
+    pub fn has_ended(&self, proc: &Proc) -> bool
+        requires { is_host proc.now ≡ false }
+        ensures { result ≡ (sealed_of self.now proc.now).ended }
+    {
+        self.sealers.has_ended(proc)
+    }
+
+    /// What the process's commits above a number sealed for the other processes on its node.
+    #[tactic(auto, unfolding(pmg_rules::specs::Holdings::sealer_in))]
+    pub fn near_piece(&self, proc: &Proc, from: u64) -> Result<Piece, AllocError>
+        requires { from < (sealed_of self.now proc.now).level }
+        ensures { IfOk result (λ c. c ≡ piece_at (sealed_of self.now proc.now) from reach.Near) }
+    {
+        let piece = if proc.is_host() {
+            self.sets.piece_from(from)
+        } else {
+            self.sealers.piece(proc, from, Reach::Near)
+        };
+        match piece {
+            Ok(piece) => Ok(piece),
+            Err(Refusal::NoMemory) => Err(AllocError),
+            Err(_) => Err(AllocError),
+        }
+    }
+
+    /// What the process's commits above a number sealed for processes on other nodes.
+    #[tactic(auto, unfolding(pmg_rules::specs::Holdings::sealer_in))]
+    pub fn piece(&self, proc: &Proc, from: u64) -> Result<Piece, AllocError>
+        requires { from < (sealed_of self.now proc.now).level }
+        ensures { IfOk result (λ c. c ≡ piece_at (sealed_of self.now proc.now) from reach.Far) }
+    {
+        let piece = if proc.is_host() {
+            self.sets.piece_from(from)
+        } else {
+            self.sealers.piece(proc, from, Reach::Far)
+        };
+        match piece {
+            Ok(piece) => Ok(piece),
+            Err(Refusal::NoMemory) => Err(AllocError),
+            Err(_) => Err(AllocError),
+        }
+    }
+
+    /// The process's next commit seals the batch; what there was before is told.
+    #[tactic(auto, unfolding(pmg_rules::specs::Holdings::sealer_in))]
+    pub fn commit(&mut self, proc: &Proc, batch: &Batch) -> Result<SealerBefore, Refusal>
+        requires client { is_host proc.now ≡ false }
+        requires own { is_some (finite.get self.old.sealers proc.now) ≡ true }
+        ensures before { Gives (λ b. sealer_back (sealed_of self.new proc.now) b) result (commit_answer (sealed_of self.old proc.now) batch.now) }
+        ensures fits { IfOk result (λ b. CanTakeBack (sealed_of self.new proc.now) b) }
+        ensures ok { OnOk result (self.new ≡ with_sealed self.old proc.now (sealed_with (sealed_of self.old proc.now) batch.now)) }
+        ensures err { OnErr result (self.new ≡ self.old) }
+    {
+        self.sealers.commit(proc, batch)
+    }
+
+    /// The process's last commit is taken back.
+    #[tactic(auto, unfolding(pmg_rules::specs::Holdings::sealer_in))]
+    pub fn take_back(&mut self, proc: &Proc, before: SealerBefore)
+        requires client { is_host proc.now ≡ false }
+        requires own { is_some (finite.get self.old.sealers proc.now) ≡ true }
+        requires fits { CanTakeBack (sealed_of self.old proc.now) before }
+        ensures { self.new ≡ with_sealed self.old proc.now (sealer_back (sealed_of self.old proc.now) before) }
+    {
+        self.sealers.take_back(proc, before);
+    }
+
+    /// How many changes of the sets were made.
+    pub fn sets_level(&self) -> u64
+        ensures value { result ≡ self.now.sets.level }
+        ensures bound { result ≤ 4294967295 }
+    {
+        self.sets.level()
+    }
+
+    /// Defines the set of these processes; what there was before is told.
+    pub fn define(&mut self, name: &Key, members: Vec<Proc>) -> Result<SealerBefore, Refusal>
+        ensures before { Gives (λ b. sealer_back self.new.sets b) result (first_of (define_cause self.old.sets name.now members.items) self.old.sets) }
+        ensures fits { IfOk result (λ b. AreSetsBack self.new.sets b) }
+        ensures ok { OnOk result (self.new ≡ with_sets self.old (changed self.old.sets name.now (proc_bytes (each_once members.items)))) }
+        ensures err { OnErr result (self.new ≡ self.old) }
+    {
+        self.sets.put_set(name, members)
+    }
+
+    /// Deletes the set of that name; what there was before is told.
+    pub fn delete(&mut self, name: &Key) -> Result<SealerBefore, Refusal>
+        ensures before { Gives (λ b. sealer_back self.new.sets b) result (first_of (delete_cause self.old.sets name.now) self.old.sets) }
+        ensures fits { IfOk result (λ b. AreSetsBack self.new.sets b) }
+        ensures ok { OnOk result (self.new ≡ with_sets self.old (changed self.old.sets name.now no_members)) }
+        ensures err { OnErr result (self.new ≡ self.old) }
+    {
+        self.sets.remove_set(name)
+    }
+
+    /// The last change of the sets is taken back.
+    pub fn take_sets_back(&mut self, before: SealerBefore)
+        requires { AreSetsBack self.old.sets before }
+        ensures { self.new ≡ with_sets self.old (sealer_back self.old.sets before) }
+    {
+        self.sets.take_back(before);
+    }
+}

@@ -1,0 +1,159 @@
+//! What a node replies and sends, as text: one line for the reply, and one for each frame.
+use pmg_commit::Piece;
+use pmg_frame::{CommitAsk, FenceName, Frame, Header, Local, State};
+use pmg_node::Reply;
+use pmg_rules::Sent;
+use pmg_value::{Proc, Refusal, push_number};
+use std::alloc::{AllocError, Global};
+
+/// Puts the word after the text.
+pub(crate) fn put(text: &mut Vec<u8>, word: &str) -> Result<(), AllocError> {
+    text.extend_from_slice(word.as_bytes())
+}
+
+// The word, and the number after it.
+fn put_with(text: &mut Vec<u8>, word: &str, number: u64) -> Result<(), AllocError> {
+    put(text, word)?;
+    push_number(text, number)
+}
+
+// The namespace, and the rank right after it.
+fn put_proc(text: &mut Vec<u8>, proc: &Proc) -> Result<(), AllocError> {
+    text.extend_from_slice(proc.nspace.as_bytes())?;
+    push_number(text, u64::from(proc.rank.number()))
+}
+
+// A blank before each of the processes.
+fn put_procs(text: &mut Vec<u8>, procs: &[Proc]) -> Result<(), AllocError> {
+    for proc in procs {
+        put(text, " ")?;
+        put_proc(text, proc)?;
+    }
+    Ok(())
+}
+
+// The keys and values of the piece, each with the number of its commit.
+fn put_entries(text: &mut Vec<u8>, piece: &Piece, alloc: Global) -> Result<(), AllocError> {
+    for entry in piece.entries() {
+        put(text, " ")?;
+        text.extend_from_slice(entry.key.as_bytes())?;
+        put(text, "=")?;
+        text.extend_from_slice(&entry.value.to_text(alloc)?)?;
+        put_with(text, "@", entry.number)?;
+    }
+    Ok(())
+}
+
+/// The commits of the piece, and its entries.
+pub(crate) fn put_piece(
+    text: &mut Vec<u8>,
+    piece: &Piece,
+    alloc: Global,
+) -> Result<(), AllocError> {
+    put(text, "piece ")?;
+    put_proc(text, piece.proc())?;
+    put_with(text, " ", piece.from())?;
+    put_with(text, "..", piece.to())?;
+    put_entries(text, piece, alloc)
+}
+
+// Whether the fence collects data, its instance and its participants.
+fn put_name(text: &mut Vec<u8>, name: &FenceName) -> Result<(), AllocError> {
+    let word = if name.signature().collect() {
+        " collect "
+    } else {
+        " plain "
+    };
+    put_with(text, word, name.instance())?;
+    put_procs(text, name.signature().participants())
+}
+
+fn put_local(text: &mut Vec<u8>, local: &Local) -> Result<(), AllocError> {
+    put(text, ", ")?;
+    put_proc(text, &local.proc)?;
+    match local.state {
+        State::Entered => put_with(text, " entered ", local.level),
+        State::Gone => put_with(text, " gone ", local.level),
+    }
+}
+
+fn put_header(text: &mut Vec<u8>, header: &Header) -> Result<(), AllocError> {
+    put_with(text, "header ", u64::from(header.node().index()))?;
+    put_name(text, header.name())?;
+    for local in header.locals() {
+        put_local(text, local)?;
+    }
+    Ok(())
+}
+
+// The ask's kind, the node that asks, and the commits that it knows.
+fn put_ask(text: &mut Vec<u8>, kind: &str, ask: &CommitAsk) -> Result<(), AllocError> {
+    put_with(text, kind, u64::from(ask.node().index()))?;
+    put(text, " ")?;
+    put_proc(text, ask.proc())?;
+    put_with(text, " ", ask.level())
+}
+
+fn put_frame(text: &mut Vec<u8>, frame: &Frame, alloc: Global) -> Result<(), AllocError> {
+    match frame {
+        Frame::Piece(piece) => put_piece(text, piece, alloc),
+        Frame::Header(header) => put_header(text, header),
+        Frame::FenceAsk(ask) => {
+            put_with(text, "fence ask ", u64::from(ask.node().index()))?;
+            put_name(text, ask.name())
+        }
+        Frame::RangeAsk(ask) => put_ask(text, "range ask ", ask),
+        Frame::DirectAsk(ask) => put_ask(text, "direct ask ", ask),
+    }
+}
+
+// The number of the instance, and who is gone.
+fn put_release(text: &mut Vec<u8>, instance: u64, gone: &[Proc]) -> Result<(), AllocError> {
+    put_with(text, "released ", instance)?;
+    put(text, " gone")?;
+    if gone.is_empty() {
+        return put(text, " -");
+    }
+    put_procs(text, gone)
+}
+
+fn put_reply(text: &mut Vec<u8>, reply: &Reply, alloc: Global) -> Result<(), AllocError> {
+    match reply {
+        Reply::Done => put(text, "ok"),
+        Reply::Committed(number) => put_with(text, "commit ", *number),
+        Reply::Entered(instance) => put_with(text, "entered ", *instance),
+        Reply::Idle => put(text, "idle"),
+        Reply::Waiting => put(text, "waiting"),
+        Reply::Released(instance, gone) => put_release(text, *instance, gone),
+        Reply::Found(value) => {
+            put(text, "found ")?;
+            text.extend_from_slice(&value.to_text(alloc)?)
+        }
+        Reply::Parked => put(text, "parked"),
+        Reply::Taken => put(text, "taken"),
+        Reply::Ignored => put(text, "ignored"),
+        Reply::Ended(number) => put_with(text, "ended ", *number),
+        Reply::Defined(number) => put_with(text, "defined ", *number),
+    }
+}
+
+/// The line of a reply, or of a refusal by its name.
+pub(crate) fn put_answer(
+    text: &mut Vec<u8>,
+    answer: &Result<Reply, Refusal>,
+    alloc: Global,
+) -> Result<(), AllocError> {
+    match answer {
+        Ok(reply) => put_reply(text, reply, alloc)?,
+        Err(refusal) => put(text, refusal.name())?,
+    }
+    put(text, "\n")
+}
+
+/// The line of a frame, which begins with the node that it goes to.
+pub(crate) fn put_sent(text: &mut Vec<u8>, sent: &Sent, alloc: Global) -> Result<(), AllocError> {
+    put_with(text, "to ", u64::from(sent.to.index()))?;
+    put(text, ": ")?;
+    put_frame(text, &sent.frame, alloc)?;
+    put(text, "\n")
+}
