@@ -10,3 +10,5 @@ pub use marks::Marks;
 pub use parked::Parked;
 pub use pending::Pending;
 
+#[cfg(test)]
+mod tests;

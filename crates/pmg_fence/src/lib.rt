@@ -19,3 +19,5 @@ pub use entry::Entry;
 pub use laws::{call_rules, entry_rules, header_rules, table_rules};
 pub use table::{Table, TableBefore};
 
+#[cfg(test)]
+mod tests;

@@ -25,3 +25,7 @@ pub use reading::get_frame;
 pub use signature::{MAX_PARTICIPANTS, Signature};
 pub use stream::{Fed, Stream};
 
+#[cfg(test)]
+mod kind_tests;
+#[cfg(test)]
+mod tests;

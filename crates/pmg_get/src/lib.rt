@@ -7,3 +7,5 @@ mod view;
 pub use answer::{Answer, resolve};
 pub use view::{Mode, View};
 
+#[cfg(test)]
+mod tests;

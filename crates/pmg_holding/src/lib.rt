@@ -19,5 +19,7 @@ pub use calls::Calls;
 pub use due::{Handed, MarkBefore, hand_out, take_back};
 pub use own::Own;
 pub use sealers::Sealers;
-pub use telling::{announce, answer_commits, peers, peers_in, spread, takes_part, tell, tell_waiting};
+pub use telling::{
+    announce, answer_commits, peers, peers_in, spread, takes_part, tell, tell_waiting,
+};
 pub use waiting::Names;

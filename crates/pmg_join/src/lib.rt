@@ -24,3 +24,5 @@ pub use pair_join::PairJoin;
 pub use range_set::RangeSet;
 pub use ranges::{Ranges, Span};
 
+#[cfg(test)]
+mod tests;

@@ -13,3 +13,5 @@ pub use places::{make_place, pop_place};
 pub use readings::{level_alone, read_alone};
 pub use track::Track;
 
+#[cfg(test)]
+mod tests;

@@ -34,4 +34,3 @@ pub use node::Node;
 pub use parking::Asked;
 pub use status::Status;
 pub use taking::Taking;
-

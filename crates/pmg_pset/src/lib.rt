@@ -9,3 +9,5 @@ pub use laws::set_rules;
 pub use members::{MAX_MEMBERS, members_in};
 pub use sets::Sets;
 
+#[cfg(test)]
+mod tests;

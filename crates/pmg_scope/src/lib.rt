@@ -15,3 +15,5 @@ pub use laws::{cache_rules, script_examples, script_rules};
 pub use scope::{Reach, Scope, includes};
 pub use sizes::{MAX_CACHE_SIZE, MAX_KEYS, row_size};
 
+#[cfg(test)]
+mod cache_tests;

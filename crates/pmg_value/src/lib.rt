@@ -27,3 +27,9 @@ pub use refusal::{Cause, Fault, Refusal};
 pub use value::{MAX_VALUE_SIZE, Value};
 pub use written::{WatchedWriter, WriteFault, push_number};
 
+#[cfg(test)]
+mod names_tests;
+#[cfg(test)]
+mod tests;
+#[cfg(test)]
+mod value_tests;

@@ -1,5 +1,5 @@
 //! What no clause says: that arrays are made, copied and printed where there is memory.
-use pmg_value::{
+use crate::{
     Array, MAX_VALUE_SIZE, Nspace, Octets, Proc, Rank, Refusal, Text, Value, WatchedWriter,
     WriteFault,
 };
@@ -123,6 +123,16 @@ fn arrays_are_ordered_by_their_bytes(rt: HostRuntime) -> Result<(), Refusal> {
         assert_eq!(rt; array.cmp(&other), *want);
     }
     Ok(())
+}
+
+// What the call gives, asked again where memory ran out.
+macro_rules! again {
+    ($call:expr) => {
+        match $call {
+            Err(Refusal::NoMemory) => $call,
+            answer => answer,
+        }
+    };
 }
 
 #[test]

@@ -1,11 +1,21 @@
 //! What no clause says: that each call gives its answer where there is memory, and gives it when it is called
 //! again after memory ran out; and what caches hold after some puts, found by hand.
-use pmg_scope::{
+use crate::{
     Batch, Cache, Reach, Scope, cache_rules, includes, row_size, script_examples, script_rules,
 };
 use pmg_value::{Key, Refusal, Value};
 use std::alloc::Global;
 use std::process::Abort;
+
+// The answer, asked for a second time where memory ran out.
+macro_rules! again {
+    ($call:expr) => {
+        match $call {
+            Err(Refusal::NoMemory) => $call,
+            answer => answer,
+        }
+    };
+}
 
 // The length of the longest string, which counts for 1,048,576 bytes as a value.
 const LONGEST: usize = 1_048_571;

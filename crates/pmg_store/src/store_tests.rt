@@ -1,5 +1,5 @@
 //! What no clause says: that calls succeed, and what stores of some pieces hold.
-use pmg_store::Store;
+use crate::Store;
 use pmg_commit::{Piece, PieceEntry};
 use pmg_join::{Join, join_all, join_of_many, join_rules};
 use pmg_value::{Key, Nspace, Proc, Rank, Refusal, Value};

@@ -1,5 +1,5 @@
 //! What no clause says: that streams are dumped, and what is left where a reader, a writer or memory fails.
-use pmg_store::{
+use crate::{
     Board, Failure, MAX_STREAMS, Store, WatchedReader, dump_stream, merge_inputs, merge_streams,
     store_of_stream,
 };

@@ -1,9 +1,19 @@
 //! What no clause says: that each call gives its answer where there is memory, and gives it when it is called again
 //! after an allocation failed; and what waits after some requests, found by hand.
-use pmg_dmodex::{Marks, Parked, Pending};
+use crate::{Marks, Parked, Pending};
 use pmg_value::{Key, NodeId, Nspace, Proc, Rank, Refusal};
 use std::alloc::{AllocError, Global};
 use std::process::Abort;
+
+// The answer, asked for a second time where an allocation failed.
+macro_rules! again {
+    ($call:expr) => {
+        match $call {
+            Err(AllocError) => $call,
+            answer => answer,
+        }
+    };
+}
 
 fn proc_of(alloc: Global, rank: u32) -> Result<Proc, Refusal> {
     let nspace = match Nspace::read(alloc, b"j") {
@@ -15,7 +25,7 @@ fn proc_of(alloc: Global, rank: u32) -> Result<Proc, Refusal> {
 
 fn hold(pending: &mut Pending, node: u32, proc: &Proc, level: u64) -> Result<(), Refusal> {
     let node = NodeId::new(node)?;
-    once_more!(pending.hold(node, proc, level))?;
+    again!(pending.hold(node, proc, level))?;
     Ok(())
 }
 
@@ -26,7 +36,7 @@ fn are_due(
     level: u64,
     expected: &[(u32, u64)],
 ) -> Result<bool, Refusal> {
-    let due = once_more!(pending.due(proc, level))?;
+    let due = again!(pending.due(proc, level))?;
     if due.len() != expected.len() {
         return Ok(false);
     }
@@ -43,8 +53,8 @@ fn the_greatest_ask_counts(rt: HostRuntime) -> Result<(), Refusal> {
     let alloc = rt.alloc();
     let (zero, one) = (proc_of(alloc, 0)?, proc_of(alloc, 1)?);
     let mut pending = Pending::new(alloc);
-    once_more!(pending.ask(&zero, 3))?;
-    once_more!(pending.ask(&zero, 2))?;
+    again!(pending.ask(&zero, 3))?;
+    again!(pending.ask(&zero, 2))?;
     assert!(rt; pending.asked(&zero) == Some(3));
     assert!(rt; pending.asked(&one) == None);
     Ok(())
@@ -55,7 +65,7 @@ fn an_answered_ask_is_gone(rt: HostRuntime) -> Result<(), Refusal> {
     let alloc = rt.alloc();
     let zero = proc_of(alloc, 0)?;
     let mut pending = Pending::new(alloc);
-    once_more!(pending.ask(&zero, 3))?;
+    again!(pending.ask(&zero, 3))?;
     pending.settle(&zero, 3);
     assert!(rt; pending.asked(&zero) == Some(3));
     pending.settle(&zero, 4);
@@ -98,8 +108,8 @@ fn a_copy_waits_by_itself(rt: HostRuntime) -> Result<(), Refusal> {
     let zero = proc_of(alloc, 0)?;
     let mut pending = Pending::new(alloc);
     hold(&mut pending, 1, &zero, 0)?;
-    once_more!(pending.ask(&zero, 7))?;
-    let copy = once_more!(pending.copy())?;
+    again!(pending.ask(&zero, 7))?;
+    let copy = again!(pending.copy())?;
     pending.settle(&zero, 8);
     assert!(rt; are_due(&copy, &zero, 1, &[(1, 0)])?);
     assert!(rt; copy.asked(&zero) == Some(7));
@@ -113,9 +123,9 @@ fn a_mark_is_set_up_and_down(rt: HostRuntime) -> Result<(), Refusal> {
     let one = NodeId::new(1)?;
     let mut marks = Marks::new(alloc);
     assert!(rt; marks.from(one, &zero) == 0);
-    once_more!(marks.set(one, &zero, 7))?;
+    again!(marks.set(one, &zero, 7))?;
     assert!(rt; marks.from(one, &zero) == 7);
-    once_more!(marks.set(one, &zero, 4))?;
+    again!(marks.set(one, &zero, 4))?;
     assert!(rt; marks.from(one, &zero) == 4);
     Ok(())
 }
@@ -126,10 +136,10 @@ fn other_marks_stay(rt: HostRuntime) -> Result<(), Refusal> {
     let (zero, one) = (proc_of(alloc, 0)?, proc_of(alloc, 1)?);
     let (first, second) = (NodeId::new(1)?, NodeId::new(2)?);
     let mut marks = Marks::new(alloc);
-    once_more!(marks.set(first, &zero, 7))?;
-    let copy = once_more!(marks.copy())?;
-    once_more!(marks.set(second, &zero, 8))?;
-    once_more!(marks.set(first, &one, 9))?;
+    again!(marks.set(first, &zero, 7))?;
+    let copy = again!(marks.copy())?;
+    again!(marks.set(second, &zero, 8))?;
+    again!(marks.set(first, &one, 9))?;
     assert!(rt; marks.from(first, &zero) == 7);
     assert!(rt; copy.from(second, &zero) == 0);
     assert!(rt; copy.from(first, &zero) == 7);
@@ -148,15 +158,15 @@ fn two_ask(alloc: Global, text: &[u8]) -> Result<Parked, Refusal> {
     let key = key_of(alloc, text)?;
     let target = proc_of(alloc, 1)?;
     let mut parked = Parked::new(alloc);
-    once_more!(parked.park(&target, &proc_of(alloc, 2)?, &key))?;
-    once_more!(parked.park(&target, &proc_of(alloc, 0)?, &key))?;
+    again!(parked.park(&target, &proc_of(alloc, 2)?, &key))?;
+    again!(parked.park(&target, &proc_of(alloc, 0)?, &key))?;
     Ok(parked)
 }
 
 // The ranks of those who ask for a key of the process, as digits.
 fn askers(alloc: Global, parked: &Parked, target: &Proc) -> Result<Vec<u8>, Refusal> {
-    let gets = once_more!(parked.on(target))?;
-    let mut ranks = once_more!(Vec::with_capacity(alloc, gets.len()))?;
+    let gets = again!(parked.on(target))?;
+    let mut ranks = again!(Vec::with_capacity(alloc, gets.len()))?;
     for (asker, _) in gets.iter() {
         ranks.push(b'0' + (asker.rank.number() % 10) as u8)?;
     }
@@ -180,8 +190,8 @@ fn an_asker_waits_for_its_last_key(rt: HostRuntime) -> Result<(), Refusal> {
     let alloc = rt.alloc();
     let mut parked = two_ask(alloc, b"a")?;
     let (zero, one) = (proc_of(alloc, 0)?, proc_of(alloc, 1)?);
-    let copy = once_more!(parked.copy())?;
-    once_more!(parked.park(&one, &zero, &key_of(alloc, b"b")?))?;
+    let copy = again!(parked.copy())?;
+    again!(parked.park(&one, &zero, &key_of(alloc, b"b")?))?;
     assert!(rt;
         parked
             .get(&one, &zero)

@@ -1,18 +1,28 @@
 //! What no clause says of stores that keep lanes: that they hold what a plain list of pieces does, and that they are as
 //! they were where memory ran out, whichever allocation was refused.
 use crate::plain::Plain;
-use pmg_store::{Board, Failure, Store};
+use crate::{Board, Failure, Store};
 use pmg_commit::{Piece, PieceEntry};
 use pmg_value::{Key, Nspace, Proc, Rank, Refusal, Value, WatchedWriter};
 use std::alloc::{AllocError, Global};
 
+// The answer, asked for a second time where there was none.
+macro_rules! again {
+    ($call:expr) => {
+        match $call {
+            Err(_) => $call,
+            answer => answer,
+        }
+    };
+}
+
 fn proc(alloc: Global, rank: u32) -> Result<Proc, Refusal> {
-    let nspace = once_more!(Nspace::read(alloc, b"j"))?;
+    let nspace = again!(Nspace::read(alloc, b"j"))?;
     Ok(Proc::new(nspace, Rank::new(rank)))
 }
 
 fn key(alloc: Global, name: &[u8]) -> Result<Key, Refusal> {
-    once_more!(Key::read(alloc, name))
+    again!(Key::read(alloc, name))
 }
 
 // A piece of the process of that rank, with small numbers under the keys, each of that commit.
@@ -24,7 +34,7 @@ fn piece(
     number: u64,
     values: &[(&[u8; 1], u8)],
 ) -> Result<Piece, Refusal> {
-    let mut entries = once_more!(Vec::with_capacity(alloc, values.len()))?;
+    let mut entries = again!(Vec::with_capacity(alloc, values.len()))?;
     for (name, value) in values {
         entries.push(PieceEntry {
             key: key(alloc, *name)?,
@@ -42,7 +52,7 @@ fn dump_once(alloc: Global, store: &Store) -> Result<Vec<u8>, Failure> {
 }
 
 fn dump_of(alloc: Global, store: &Store) -> Result<Vec<u8>, Failure> {
-    once_more!(dump_once(alloc, store))
+    again!(dump_once(alloc, store))
 }
 
 // Takes the piece. Where memory ran out, the dump is as it was before, and the piece is taken then.
@@ -119,7 +129,7 @@ fn joined_by_two(alloc: Global) -> Result<(Vec<u8>, Vec<u8>), Failure> {
     let mut outer = store_of(alloc, &pieces, &[0, 2])?;
     let before = dump_of(alloc, &outer)?;
     let mut second = store_of(alloc, &pieces, &[1])?;
-    let copy = once_more!(outer.copy())?;
+    let copy = again!(outer.copy())?;
     if !join_again(alloc, &mut second, copy)? || !join_again(alloc, &mut outer, second)? {
         return Ok((before, Vec::new(alloc)));
     }
@@ -253,7 +263,7 @@ fn is_same(alloc: Global, store: &Store, plain: &Plain) -> Result<bool, Failure>
             return Ok(false);
         }
     }
-    Ok(dump_of(alloc, store)? == once_more!(plain.dump(&procs, &keys))?)
+    Ok(dump_of(alloc, store)? == again!(plain.dump(&procs, &keys))?)
 }
 
 // How many of the drawn pieces were taken with both saying the same: each piece goes to one of two stores, which are
@@ -272,7 +282,7 @@ fn drawn_alike(alloc: Global, count: usize) -> Result<usize, Failure> {
         } else {
             absorb_again(alloc, &mut second, &next)?
         } && absorb_again(alloc, &mut both, &next)?;
-        once_more!(plain.absorb(&next))?;
+        again!(plain.absorb(&next))?;
         if !left_as_it_was || !is_same(alloc, &both, &plain)? {
             return Ok(done);
         }
@@ -298,7 +308,7 @@ fn processes_are_told_in_their_order(rt: HostRuntime) -> Result<(), Failure> {
         ],
         &[0, 1],
     )?;
-    let procs = once_more!(store.processes())?;
+    let procs = again!(store.processes())?;
     let ranks = [0, 2];
     assert_eq!(rt; procs.len(), 2);
     for i in 0..2 {
@@ -309,9 +319,9 @@ fn processes_are_told_in_their_order(rt: HostRuntime) -> Result<(), Failure> {
 
 // A process whose first commit is its end.
 fn ended(alloc: Global) -> Result<(bool, bool), Failure> {
-    let mut entries = once_more!(Vec::with_capacity(alloc, 1))?;
+    let mut entries = again!(Vec::with_capacity(alloc, 1))?;
     entries.push(PieceEntry {
-        key: once_more!(Key::read_any(alloc, b"pmix.term"))?,
+        key: again!(Key::read_any(alloc, b"pmix.term"))?,
         number: 1,
         value: Value::Bool(true),
     })?;

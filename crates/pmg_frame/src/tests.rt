@@ -1,11 +1,21 @@
 //! What no clause says: that each call gives its answer where there is memory, and gives it when it is called
 //! again after memory ran out; and frames and faults of which bytes and offset were found by hand.
-use pmg_frame::{Fed, Frame, Stream, get_frame};
+use crate::{Fed, Frame, Stream, get_frame};
 use bytes::BytesMut;
 use pmg_value::{Cause, Fault, Refusal, Value};
 use pmg_wire::Cursor;
 use std::alloc::Global;
 use std::process::Abort;
+
+// The answer, asked for a second time where memory ran out.
+macro_rules! again {
+    ($call:expr) => {
+        match $call {
+            Err(Refusal::NoMemory) => $call,
+            answer => answer,
+        }
+    };
+}
 
 // The first commit of the process j 0: true under the key a.
 const PIECE: [u8; 45] = [

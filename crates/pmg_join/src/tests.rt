@@ -1,15 +1,25 @@
 //! What no clause says: that each call succeeds where there is memory, and when it is called again after memory ran
 //! out, with all as it was before; and what some joins give, found by hand.
-use pmg_join::{
+use crate::{
     Element, GrowSet, Join, MapJoin, MaxU64, PairJoin, RangeSet, Span, join_all, join_of_many,
     join_rules,
 };
 use pmg_value::{Key, Nspace, Proc, Rank, Refusal};
 use std::alloc::{AllocError, Global};
 
+// The answer, asked for a second time where there was none.
+macro_rules! again {
+    ($call:expr) => {
+        match $call {
+            Err(_) => $call,
+            answer => answer,
+        }
+    };
+}
+
 // A copy, asked for a second time where memory ran out.
 fn copy_of<J: Join>(part: &J) -> Result<J, AllocError> {
-    once_more!(part.copy())
+    again!(part.copy())
 }
 
 // Joins the other into this one: what was handed back, where memory ran out.
@@ -39,7 +49,7 @@ fn try_join_all<J: Join>(alloc: Global, first: &J, second: &J) -> Result<J, Allo
 }
 
 fn all_joined<J: Join>(alloc: Global, first: &J, second: &J) -> Result<J, AllocError> {
-    once_more!(try_join_all(alloc, first, second))
+    again!(try_join_all(alloc, first, second))
 }
 
 fn insert_again<T: Element>(set: &mut GrowSet<T>, element: T) -> Result<(), AllocError> {
@@ -52,7 +62,7 @@ fn insert_again<T: Element>(set: &mut GrowSet<T>, element: T) -> Result<(), Allo
 }
 
 fn element_again<T: Element>(element: &T) -> Result<T, AllocError> {
-    once_more!(element.copy())
+    again!(element.copy())
 }
 
 // The set of the two.
@@ -79,11 +89,11 @@ fn put_again<K: Element, J: Join>(
 }
 
 fn key_of(alloc: Global, text: &[u8]) -> Result<Key, Refusal> {
-    once_more!(Key::read(alloc, text))
+    again!(Key::read(alloc, text))
 }
 
 fn proc_of(alloc: Global, rank: u32) -> Result<Proc, Refusal> {
-    let nspace = once_more!(Nspace::read(alloc, b"j"))?;
+    let nspace = again!(Nspace::read(alloc, b"j"))?;
     Ok(Proc::new(nspace, Rank::new(rank)))
 }
 
@@ -106,7 +116,7 @@ fn try_show(alloc: Global, set: &RangeSet) -> Result<Vec<u8>, AllocError> {
 
 // The numbers below 10, and the level.
 fn shown(alloc: Global, set: &RangeSet) -> Result<Vec<u8>, AllocError> {
-    once_more!(try_show(alloc, set))
+    again!(try_show(alloc, set))
 }
 
 // What the set shows with one more range. Where memory ran out, it shows what it did before.
@@ -155,7 +165,7 @@ fn pairs_join_side_by_side(rt: HostRuntime) -> Result<(), AllocError> {
 // What a set shows after each of the ranges.
 fn played(alloc: Global, spans: &[Span]) -> Result<Vec<u8>, AllocError> {
     let mut set = RangeSet::new(alloc);
-    let mut text = once_more!(Vec::with_capacity(alloc, 100))?;
+    let mut text = again!(Vec::with_capacity(alloc, 100))?;
     for span in spans {
         let now = added(alloc, &mut set, span.from, span.to)?;
         text.extend_from_slice(&now)?;

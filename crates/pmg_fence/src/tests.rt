@@ -1,11 +1,21 @@
 //! What no clause says: that each call gives its answer where there is memory, and gives it when it is called again after
 //! an allocation failed; and whole fences over tables whose headers are handed across, with answers found by hand.
-use pmg_fence::{Table, call_rules, entry_rules, header_rules, table_rules};
+use crate::{Table, call_rules, entry_rules, header_rules, table_rules};
 use pmg_frame::{FenceName, Header, Signature};
 use pmg_jobinfo::Registry;
 use pmg_value::{NodeId, Nspace, Proc, Rank, Refusal};
 use std::alloc::{AllocError, Global};
 use std::process::Abort;
+
+// The answer, asked for a second time where an allocation failed.
+macro_rules! again {
+    ($call:expr) => {
+        match $call {
+            Err(Refusal::NoMemory) => $call,
+            answer => answer,
+        }
+    };
+}
 
 // The same of a call that has no other refusal.
 macro_rules! again_in {

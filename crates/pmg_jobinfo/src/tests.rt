@@ -1,6 +1,6 @@
 //! What no clause says: that each call gives its answer where there is memory, gives it when it is called again
 //! after memory ran out, and leaves the registry as it was where it is refused.
-use pmg_jobinfo::Registry;
+use crate::Registry;
 use pmg_scope::Reach;
 use pmg_value::{Key, NodeId, Nspace, Proc, Rank, Refusal, Value, push_number};
 use std::alloc::Global;
@@ -11,6 +11,16 @@ const WILDCARD: u32 = 4294967294;
 
 // The number of PMIX_RANK_UNDEF.
 const UNDEF: u32 = 4294967295;
+
+// The answer, asked for a second time where memory ran out.
+macro_rules! again {
+    ($call:expr) => {
+        match $call {
+            Err(Refusal::NoMemory) => $call,
+            answer => answer,
+        }
+    };
+}
 
 // The two nodes of most tests.
 const TWO_NODES: [&[u8]; 2] = [b"n0", b"n1"];

@@ -1,6 +1,6 @@
 //! What no clause says: that each call gives its answer where there is memory, and gives it when it is called again
 //! after memory ran out; and what sets hold after some changes, found by hand.
-use pmg_pset::{MAX_MEMBERS, Sets, members_in, set_rules};
+use crate::{MAX_MEMBERS, Sets, members_in, set_rules};
 use pmg_value::{Array, Key, Nspace, Proc, Rank, Refusal, Value};
 use std::alloc::Global;
 use std::process::Abort;
@@ -10,6 +10,16 @@ const WILDCARD: u32 = 4294967294;
 
 // The number of PMIX_RANK_UNDEF.
 const UNDEF: u32 = 4294967295;
+
+// The answer, asked for a second time where memory ran out.
+macro_rules! again {
+    ($call:expr) => {
+        match $call {
+            Err(Refusal::NoMemory) => $call,
+            answer => answer,
+        }
+    };
+}
 
 fn key_of(alloc: Global, name: &[u8]) -> Result<Key, Refusal> {
     again!(Key::read_any(alloc, name))

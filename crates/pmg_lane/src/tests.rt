@@ -1,13 +1,23 @@
 //! What no clause says: that calls succeed where there is memory, and when they are called again after memory ran out,
 //! with all as it was before; and what lanes of some pieces hold, found by hand.
-use pmg_lane::Lane;
+use crate::Lane;
 use pmg_commit::{Piece, PieceEntry, best_of};
 use pmg_join::{Join, join_of_many, join_rules};
 use pmg_value::{Key, Nspace, Proc, Rank, Refusal, Value};
 use std::alloc::{AllocError, Global};
 
+// The answer, asked for a second time where there was none.
+macro_rules! again {
+    ($call:expr) => {
+        match $call {
+            Err(_) => $call,
+            answer => answer,
+        }
+    };
+}
+
 fn key(alloc: Global, name: &[u8]) -> Result<Key, Refusal> {
-    once_more!(Key::read(alloc, name))
+    again!(Key::read(alloc, name))
 }
 
 fn entry(alloc: Global, name: &[u8], number: u64, value: u8) -> Result<PieceEntry, Refusal> {
@@ -27,8 +37,8 @@ fn piece(
     number: u64,
     value: u8,
 ) -> Result<Piece, Refusal> {
-    let who = Proc::new(once_more!(Nspace::read(alloc, b"j"))?, Rank::new(0));
-    let mut entries = once_more!(Vec::with_capacity(alloc, 1))?;
+    let who = Proc::new(again!(Nspace::read(alloc, b"j"))?, Rank::new(0));
+    let mut entries = again!(Vec::with_capacity(alloc, 1))?;
     entries.push(entry(alloc, name, number, value)?)?;
     Piece::new(who, from, to, entries)
 }
@@ -141,10 +151,10 @@ fn lanes_join_to_what_both_took(rt: HostRuntime) -> Result<(), Refusal> {
     let pieces = three(alloc)?;
     let early = lane_of(alloc, &pieces, &[1, 0])?;
     let mut late = lane_of(alloc, &pieces, &[2])?;
-    join_again(&mut late, once_more!(early.copy())?)?;
+    join_again(&mut late, again!(early.copy())?)?;
     join_again(&mut late, early)?;
     assert_eq!(rt; seen(alloc, &late)?, (3, Some(3), Some(2)));
-    let copy = once_more!(Join::copy(&late))?;
+    let copy = again!(Join::copy(&late))?;
     assert_eq!(rt; seen(alloc, &copy)?, (3, Some(3), Some(2)));
     Ok(())
 }
@@ -202,7 +212,7 @@ fn lanes_hold_what_a_list_of_pieces_does(rt: HostRuntime) -> Result<(), Refusal>
     let a = key(alloc, b"a")?;
     let b = key(alloc, b"b")?;
     let mut lane = Lane::new(alloc);
-    let mut pieces = once_more!(Vec::with_capacity(alloc, 60))?;
+    let mut pieces = again!(Vec::with_capacity(alloc, 60))?;
     let mut number = 7u64;
     for _ in 0..60 {
         number = number

@@ -1,8 +1,18 @@
 //! What no clause says of names, processes, values and refusals: that each call gives its answer where there
 //! is memory, and gives it when it is called again after memory ran out.
-use pmg_value::{Cause, Fault, Key, NodeId, Nspace, Proc, Rank, Refusal, Value, WatchedWriter};
+use crate::{Cause, Fault, Key, NodeId, Nspace, Proc, Rank, Refusal, Value, WatchedWriter};
 use std::alloc::Global;
 use std::process::Abort;
+
+// The answer, asked for a second time where memory ran out.
+macro_rules! again {
+    ($call:expr) => {
+        match $call {
+            Err(Refusal::NoMemory) => $call,
+            answer => answer,
+        }
+    };
+}
 
 fn name_of(alloc: Global, text: &[u8]) -> Result<Nspace, Refusal> {
     again!(Nspace::read_any(alloc, text))

@@ -1,10 +1,20 @@
 //! Headers and asks of which the bytes were written by hand: they are read and spelled, and each broken form of
 //! them is refused with its cause where it stands.
-use pmg_frame::{CommitAsk, Fed, FenceAsk, FenceName, Frame, Header, Local, Signature, State, Stream};
+use crate::{CommitAsk, Fed, FenceAsk, FenceName, Frame, Header, Local, Signature, State, Stream};
 use bytes::BytesMut;
 use pmg_value::{Cause, Fault, NodeId, Nspace, Proc, Rank, Refusal};
 use std::alloc::Global;
 use std::process::Abort;
+
+// The answer, asked for a second time where memory ran out.
+macro_rules! again {
+    ($call:expr) => {
+        match $call {
+            Err(Refusal::NoMemory) => $call,
+            answer => answer,
+        }
+    };
+}
 
 // Node 0 tells of a collecting fence of j 0 and j 1, its first: j 0 has entered at level 1.
 const HEADER: [u8; 54] = [

@@ -1,9 +1,19 @@
 //! What no clause says: that each call gives its answer where there is memory, and gives it when it is called
 //! again after memory ran out; and what pieces of worked scripts hold.
-use pmg_commit::Sealer;
+use crate::Sealer;
 use pmg_scope::{Batch, Cache, Reach, Scope};
 use pmg_value::{Key, Nspace, Proc, Rank, Refusal, Value};
 use std::alloc::Global;
+
+// The answer, asked for a second time where memory ran out.
+macro_rules! again {
+    ($call:expr) => {
+        match $call {
+            Err(Refusal::NoMemory) => $call,
+            answer => answer,
+        }
+    };
+}
 
 fn sealer_of(alloc: Global, nspace: &[u8], rank: u32) -> Result<Sealer, Refusal> {
     let name = again!(Nspace::read_any(alloc, nspace))?;

@@ -1,5 +1,5 @@
 //! What no clause says: that calls succeed, and which contributions a frame can hold.
-use pmg_commit::{Piece, PieceEntry, best_of};
+use crate::{Piece, PieceEntry, best_of};
 use pmg_value::{Key, Nspace, Proc, Rank, Refusal, Value};
 use std::alloc::Global;
 

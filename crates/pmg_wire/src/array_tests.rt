@@ -1,5 +1,5 @@
 //! What no clause says: the bytes and the text of arrays, both ways, and their faults.
-use pmg_wire::{Cursor, get_value, put_value};
+use crate::{Cursor, get_value, put_value};
 use bytes::BytesMut;
 use pmg_value::{Cause, Fault, MAX_BLOB_LEN, MAX_VALUE_SIZE, Refusal, Value};
 use std::alloc::Global;
