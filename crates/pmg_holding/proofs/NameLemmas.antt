@@ -4,6 +4,7 @@ use Rattle.std.specs.FinSet as set
 use Rattle.std.specs.List.{list_any}
 use Rattle.std.specs.Option.{option_to_list}
 use Rattle.std.specs.Ordering.{eq_by_cmp}
+use Rattle.std.specs.Cmp.{Equal-is}
 use Rattle.pmg_value.specs.Signatures.{FenceName}
 use Rattle.pmg_frame.specs.FenceOrder.{name_cmp, name_total}
 use Rattle.pmg_frame.proofs.FenceOrderLemmas.{names_exact}
@@ -42,3 +43,13 @@ pub put_more : (s new all : Names) (o : Option FenceName) (here rest left : List
     → new ≡ put_names s (option_to_list o) → put_names new rest ≡ all
 put_more s new all None here rest left so_far next is put = ap (λ t. put_names t rest) put ∙ ap (λ fs. put_names s (fs ++ rest)) is ∙ ap (put_names s) (sym next) ∙ so_far
 put_more s new all (Some f) here rest left so_far next is put = ap (λ t. put_names t rest) put ∙ ap (λ fs. put_names s (fs ++ rest)) is ∙ ap (put_names s) (sym next) ∙ so_far
+
+-- to put a name among them that is there changes nothing
+within : (b there : Bool) → (b ≡ true → there ≡ true) → there ≡ b || there
+within true there is = is refl
+within false there is = refl
+
+pub put_again : (s : Names) (f : FenceName) → set.contains s f ≡ true → s ≡ set.insert s f
+put_again s f there = set.same_set name_total names_exact s (set.insert s f) (λ g.
+    within (eq_by_cmp name_cmp g f) (set.contains s g) (λ tied. ap (λ h. set.contains s h) (names_exact g f ((Equal-is _).0 tied)) ∙ there)
+    ∙ sym (set.contains-insert name_total s f g))

@@ -171,7 +171,7 @@ impl Calls {
         let mut names = Names::new(self.alloc);
         for (_, call) in self.rows.iter() {
             if let Some(name) = waited(call) {
-                names.insert(name.copy()?)?;
+                names.insert(name)?;
             }
         }
         Ok(names)

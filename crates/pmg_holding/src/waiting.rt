@@ -38,12 +38,14 @@ impl Names {
         }
     }
 
-    /// Puts the name among them.
-    pub fn insert(&mut self, name: FenceName) -> Result<(), AllocError>
-        ensures ok { OnOk result (self.new ≡ set.insert self.old name) }
+    /// Puts the name among them. It is copied where it is not there yet.
+    pub fn insert(&mut self, name: &FenceName) -> Result<(), AllocError>
+        ensures ok { OnOk result (self.new ≡ set.insert self.old name.now) }
         ensures err { OnErr result (self.new ≡ self.old) }
     {
-        self.items.insert(name)?;
+        if !self.items.contains(name) {
+            self.items.insert(name.copy()?)?;
+        }
         Ok(())
     }
 
