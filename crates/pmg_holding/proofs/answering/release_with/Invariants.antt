@@ -10,4 +10,4 @@ abbrev pub invariant-loop-name : goal.invariant-loop-name
 invariant-loop-name l =
     standings l.answers.items
     ≡ standings l.fn.answers.items
-    ++ flat_map (λ f. if set.contains f.signature.participants l.fn.proc then released_in l.fn.table.jobs l.fn.table.node l.fn.table.fences (far_of l.fn.ahead) l.fn.calls f else []) l.yielded
+    ++ flat_map (λ f. if set.contains f.now.signature.participants l.fn.proc then released_in l.fn.table.jobs l.fn.table.node l.fn.table.fences (far_of l.fn.ahead) l.fn.calls f.now else []) l.yielded
