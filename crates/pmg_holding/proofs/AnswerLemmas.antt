@@ -32,12 +32,12 @@ use Rattle.pmg_fence.proofs.IndexLemmas.{each_row}
 use Rattle.pmg_get.specs.Gets.{Seen, Outcome, resolve}
 use Rattle.pmg_get.specs.declared.view.Mode.TheVariants as modes
 use Rattle.pmg_holding.specs.Answered.{ArePlain, standings, outcome_with, answered_by, gets_answered, released_all, released_in, released_with}
-use Rattle.pmg_holding.specs.Calls.{get_of, standing_of, asks_on, all_parked_on, waits_in, all_waiting_in, all_waited, all_instead}
+use Rattle.pmg_holding.specs.Calls.{get_of, standing_by, asks_on, all_parked_on, waits_in, all_waiting_in, all_waited, all_instead}
 use Rattle.pmg_rules.specs.Choosing.{waited}
 use Rattle.pmg_holding.specs.Codes.{Calls}
 use Rattle.pmg_rules.specs.Holdings.{Get, Standing, Holding, plain_seen, seen_of, answer_in, is_ready_at, settled_by, released_by, settle, mapped}
 use Rattle.pmg_rules.specs.Kept.{IsSettled, is_about, is_in, settle_where}
-use Rattle.pmg_holding.specs.declared.call.Call.{Call}
+use Rattle.pmg_holding.specs.declared.call.Settled.{Settled}
 use Rattle.pmg_holding.proofs.CallLemmas.{answer_for, all_answered}
 use Rattle.pmg_rules.proofs.KeptActs.{parked_key}
 use Rattle.pmg_rules.proofs.KeptBasics.{entry_listed}
@@ -45,20 +45,20 @@ use Rattle.pmg_rules.proofs.SendingLists.{in_flat, flat_in}
 
 -- ---- the first answer for a process
 
-first_in : (q : Proc) (answers : List (Proc × Call)) (x : Standing) → answer_for q answers ≡ Some x → In (q, x) (standings answers)
+first_in : (q : Proc) (answers : List (Proc × Settled)) (x : Standing) → answer_for q answers ≡ Some x → In (q, x) (standings answers)
 first_in q [] x e = absurd cc
 first_in q (a ∷ answers) x e = by_test (same_proc q a.0) refl e (first_in q answers x)
   where
-    by_test : (b : Bool) → same_proc q a.0 ≡ b → cond b (Some (standing_of a.1)) (answer_for q answers) ≡ Some x → (answer_for q answers ≡ Some x → In (q, x) (standings answers))
-        → In (q, x) ((a.0, standing_of a.1) ∷ standings answers)
+    by_test : (b : Bool) → same_proc q a.0 ≡ b → cond b (Some (standing_by a.1)) (answer_for q answers) ≡ Some x → (answer_for q answers ≡ Some x → In (q, x) (standings answers))
+        → In (q, x) ((a.0, standing_by a.1) ∷ standings answers)
     by_test true t is rest = inl (λ i. (tied q a.0 t i, sym (some_is is) i))
     by_test false t is rest = inr (rest is)
 
-none_in : (q : Proc) (answers : List (Proc × Call)) (x : Standing) → answer_for q answers ≡ None → In (q, x) (standings answers) → ⊥
+none_in : (q : Proc) (answers : List (Proc × Settled)) (x : Standing) → answer_for q answers ≡ None → In (q, x) (standings answers) → ⊥
 none_in q [] x e i = i
 none_in q (a ∷ answers) x e i = by_test (same_proc q a.0) refl e i (none_in q answers x)
   where
-    by_test : (b : Bool) → same_proc q a.0 ≡ b → cond b (Some (standing_of a.1)) (answer_for q answers) ≡ None → In (q, x) ((a.0, standing_of a.1) ∷ standings answers)
+    by_test : (b : Bool) → same_proc q a.0 ≡ b → cond b (Some (standing_by a.1)) (answer_for q answers) ≡ None → In (q, x) ((a.0, standing_by a.1) ∷ standings answers)
         → (answer_for q answers ≡ None → In (q, x) (standings answers) → ⊥) → ⊥
     by_test true t is j rest = cc
     by_test false t is (inl same) rest = false≢true (sym t ∙ ap (λ (r : Proc × Standing). same_proc q r.0) (sym same) ∙ proc_itself q)
@@ -66,7 +66,7 @@ none_in q (a ∷ answers) x e i = by_test (same_proc q a.0) refl e i (none_in q 
 
 -- Where each answer is what f makes of the call that it answers, and each call that has none is one that f leaves, the calls with
 -- the answers in their place are those that f makes.
-pub answers_are : (f : Standing → Standing) (m : Calls) (answers : List (Proc × Call))
+pub answers_are : (f : Standing → Standing) (m : Calls) (answers : List (Proc × Settled))
     → ((p : Proc) (s x : Standing) → In (p, x) (standings answers) → finite.get m p ≡ Some s → x ≡ f s)
     → ((p : Proc) (s : Standing) → finite.get m p ≡ Some s → (f s ≡ s) ⊎ In (p, f s) (standings answers)) → all_instead m answers ≡ mapped f m
 answers_are f m answers right all = all_answered f m answers (λ p s e. by_answer p s e (answer_for p answers) refl)
@@ -203,7 +203,7 @@ module _ (jobs : Jobs) (id : ℕ) (h : Holding) (all : Calls) where
         by_ready false ready = inl (looked (Standing.in_fence f) t ∙ ap (λ b. released_by b f (gone_by jobs id h.table f)) ready)
 
   -- what calls in a fence are answered
-  pub answers_in_are : (f : FenceName) (answers : List (Proc × Call)) → standings answers ≡ released_in jobs id h.table h.far all f
+  pub answers_in_are : (f : FenceName) (answers : List (Proc × Settled)) → standings answers ≡ released_in jobs id h.table h.far all f
       → all_instead all answers ≡ mapped (settle_where jobs id h (is_in f)) all
   answers_in_are f answers told = answers_are (settle_where jobs id h (is_in f)) all answers
       (λ p s x i e. released_right (is_in f) f p s x (name_itself f) (subst (In (p, x)) told i) e) by_call
@@ -281,7 +281,7 @@ module _ (jobs : Jobs) (id : ℕ) (h : Holding) (all : Calls) where
         ]
 
     -- what calls are answered once more is known of the process
-    pub answers_about_are : (answers : List (Proc × Call)) → standings answers ≡ got ++ freed → all_instead all answers ≡ mapped (settle_where jobs id h (is_about q)) all
+    pub answers_about_are : (answers : List (Proc × Settled)) → standings answers ≡ got ++ freed → all_instead all answers ≡ mapped (settle_where jobs id h (is_about q)) all
     answers_about_are answers told = answers_are (settle_where jobs id h (is_about q)) all answers right by_call
       where
         right : (p : Proc) (s x : Standing) → In (p, x) (standings answers) → finite.get all p ≡ Some s → x ≡ settle_where jobs id h (is_about q) s

@@ -12,11 +12,12 @@ use Rattle.pmg_value.specs.declared.process.Proc.{Proc}
 use Rattle.pmg_value.proofs.ProcessOrder.{procs_total, exact_procs}
 use Rattle.pmg_value.proofs.RowLemmas.{at_key, same_option, entries_rising, get-rows_of, get-map_of}
 use Rattle.pmg_fence.specs.Entering.{same_proc}
-use Rattle.pmg_holding.specs.Calls.{standing_of, asks_on, all_parked_on, all_instead}
+use Rattle.pmg_holding.specs.Calls.{standing_of, standing_by, asks_on, all_parked_on, all_instead}
 use Rattle.pmg_holding.specs.Codes.{Calls}
 use Rattle.pmg_rules.specs.Choosing.{is_parked_on}
 use Rattle.pmg_rules.specs.Holdings.{Standing, mapped}
 use Rattle.pmg_holding.specs.declared.call.Call.{Call}
+use Rattle.pmg_holding.specs.declared.call.Settled.{Settled}
 
 -- what is gathered of the rows in their order
 pub gathered_rows : {A : Type 0} (f : Proc × Standing → List A) (rows : List (Proc × Call)) (m : Calls) → AreRising proc_cmp rows → rows_of standing_of rows ≡ m
@@ -55,15 +56,15 @@ module _ {A : Type 0} (x : List A) (q : Proc) where
 
 -- ---- answers
 
-pub instead-push : (m : Calls) (answers : List (Proc × Call)) (p : Proc) (c : Call)
-    → all_instead m (answers ++ (p, c) ∷ []) ≡ all_instead (changed_at m p (standing_of c)) answers
+pub instead-push : (m : Calls) (answers : List (Proc × Settled)) (p : Proc) (c : Settled)
+    → all_instead m (answers ++ (p, c) ∷ []) ≡ all_instead (changed_at m p (standing_by c)) answers
 instead-push m [] p c = refl
-instead-push m (e ∷ es) p c = ap (λ (t : Calls). changed_at t e.0 (standing_of e.1)) (instead-push m es p c)
+instead-push m (e ∷ es) p c = ap (λ (t : Calls). changed_at t e.0 (standing_by e.1)) (instead-push m es p c)
 
 -- the first of the answers for the process
-abbrev pub answer_for : Proc → List (Proc × Call) → Option Standing
+abbrev pub answer_for : Proc → List (Proc × Settled) → Option Standing
 answer_for p [] = None
-answer_for p (e ∷ es) = cond (same_proc p e.0) (Some (standing_of e.1)) (answer_for p es)
+answer_for p (e ∷ es) = cond (same_proc p e.0) (Some (standing_by e.1)) (answer_for p es)
 
 given_there : (b : Bool) (x y : Standing) (o : Option Standing) → (b ≡ true → o ≡ Some y) → cond b (Some x) o ≡ cond b (option_map (λ _. x) o) o
 given_there true x y o e = ap (option_map (λ _. x)) (sym (e refl))
@@ -91,18 +92,18 @@ first_wins true x a None = refl
 first_wins true x a (Some s) = refl
 first_wins false x a o = refl
 
-pub get-instead : (m : Calls) (answers : List (Proc × Call)) (q : Proc) → finite.get (all_instead m answers) q ≡ option_map (λ s. unwrap_or (answer_for q answers) s) (finite.get m q)
+pub get-instead : (m : Calls) (answers : List (Proc × Settled)) (q : Proc) → finite.get (all_instead m answers) q ≡ option_map (λ s. unwrap_or (answer_for q answers) s) (finite.get m q)
 get-instead m [] q = sym (same_option (finite.get m q))
 get-instead m (e ∷ es) q =
-    get-changed (all_instead m es) e.0 q (standing_of e.1)
-    ∙ ap (λ o. cond (same_proc q e.0) (option_map (λ _. standing_of e.1) o) o) (get-instead m es q)
-    ∙ first_wins (same_proc q e.0) (standing_of e.1) (answer_for q es) (finite.get m q)
+    get-changed (all_instead m es) e.0 q (standing_by e.1)
+    ∙ ap (λ o. cond (same_proc q e.0) (option_map (λ _. standing_by e.1) o) o) (get-instead m es q)
+    ∙ first_wins (same_proc q e.0) (standing_by e.1) (answer_for q es) (finite.get m q)
 
 same_rows_list : (rows : List (Proc × Standing)) → map (λ e. (e.0, e.1)) rows ≡ rows
 same_rows_list [] = refl
 same_rows_list (e ∷ rows) = ap (λ es. e ∷ es) (same_rows_list rows)
 
-at_entries : (m : Calls) (q : Proc) → at_key proc_cmp q (finite.entries m) ≡ finite.get m q
+pub at_entries : (m : Calls) (q : Proc) → at_key proc_cmp q (finite.entries m) ≡ finite.get m q
 at_entries m q =
     sym (get-map_of procs_total (finite.entries m) q)
     ∙ finite.get-from_entries procs_total (map (λ e. (e.0, e.1)) (finite.entries m)) q
@@ -119,7 +120,7 @@ alike (Some s) g f same = ap Some (same s refl)
 
 -- where the first answer for each process is what f makes of its call, and f leaves the others, the calls with the answers in
 -- their place are those that f makes
-pub all_answered : (f : Standing → Standing) (m : Calls) (answers : List (Proc × Call))
+pub all_answered : (f : Standing → Standing) (m : Calls) (answers : List (Proc × Settled))
     → ((q : Proc) (s : Standing) → finite.get m q ≡ Some s → unwrap_or (answer_for q answers) s ≡ f s) → all_instead m answers ≡ mapped f m
 all_answered f m answers same = finite.same_map procs_total exact_procs (all_instead m answers) (mapped f m) (λ q.
     get-instead m answers q

@@ -4,6 +4,8 @@ pub mod SendLemmas
 pub mod PeerLemmas
 pub mod PublishLemmas
 pub mod CallLemmas
-pub mod NameLemmas
+pub mod PickLemmas
+pub mod WaiterLemmas
+pub mod CallIndex
 pub mod AnswerLemmas
 pub mod AskAgain

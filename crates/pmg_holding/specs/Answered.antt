@@ -13,11 +13,11 @@ use Rattle.pmg_jobinfo.specs.Jobs.{Jobs, home_of}
 use Rattle.pmg_fence.specs.Tables.{Fences, is_ready, gone_by}
 use Rattle.pmg_get.specs.Gets.{Outcome, resolve}
 use Rattle.pmg_get.specs.declared.view.Mode.TheVariants as modes
-use Rattle.pmg_holding.specs.Calls.{get_of, standing_of, outcome_of, all_waiting_in, all_waited}
+use Rattle.pmg_holding.specs.Calls.{get_of, standing_by, outcome_of, all_waiting_in, all_waited}
 use Rattle.pmg_holding.specs.Codes.{Calls}
 use Rattle.pmg_rules.specs.Holdings.{Get, Standing, plain_seen}
 use Rattle.pmg_rules.specs.Sending.{sent}
-use Rattle.pmg_holding.specs.declared.call.Call.{Call}
+use Rattle.pmg_holding.specs.declared.call.Settled.{Settled}
 use Rattle.pmg_holding.specs.declared.call.Found.{Found}
 use Rattle.pmg_rules.specs.declared.due.Due.{Due}
 use Rattle.pmg_rules.specs.declared.due.Due.TheVariants as sendings
@@ -27,8 +27,8 @@ abbrev pub ArePlain : Calls → Type 0
 ArePlain all = (p : Proc) (get : Get) → finite.get all p ≡ Some (Standing.parked get) → is_reserved get.key ≡ false
 
 -- each process with the call that it comes to be in
-abbrev pub standings : List (Proc × Call) → List (Proc × Standing)
-standings answers = map (λ e. (e.0, standing_of e.1)) answers
+abbrev pub standings : List (Proc × Settled) → List (Proc × Standing)
+standings answers = map (λ e. (e.0, standing_by e.1)) answers
 
 -- ---- gets
 

@@ -9,12 +9,12 @@ use Rattle.pmg_rules.specs.Choosing.{asking_again}
 use Rattle.pmg_holding.specs.Codes.{Calls}
 use Rattle.pmg_rules.specs.Holdings.{Standing, Holding, mapped}
 use Rattle.pmg_rules.specs.Kept.{is_about, settle_where}
-use Rattle.pmg_holding.specs.declared.call.Call.{Call}
+use Rattle.pmg_holding.specs.declared.call.Settled.{Settled}
 use Rattle.pmg_rules.specs.declared.due.Due.{Due}
 
 -- The answers, in the place of the calls that they answer, are what comes of the calls where those are settled again of which
 -- the test tells so, with this table and these stores.
-abbrev pub AreAnswers : Jobs → ℕ → (Standing → Bool) → Fences → Data → Data → Calls → List (Proc × Call) → Type 0
+abbrev pub AreAnswers : Jobs → ℕ → (Standing → Bool) → Fences → Data → Data → Calls → List (Proc × Settled) → Type 0
 AreAnswers jobs id looks table near far all answers =
     (h : Holding) → h.table ≡ table → h.near ≡ near → h.far ≡ far → all_instead all answers ≡ mapped (settle_where jobs id h looks) all
 

@@ -1,6 +1,5 @@
 -- The calls that own processes are in, as a node keeps them.
 use Rattle.std.specs.Prelude.{ℕ, Bool, false, List, [], ◌∷◌, Option, Some, None, if◌then◌else◌}
-use Rattle.std.specs.Coded.{Coded}
 use Rattle.std.specs.FinMap as finite
 use Rattle.std.specs.FinSet as set
 use Rattle.std.specs.List.{flat_map}
@@ -12,7 +11,6 @@ use Rattle.pmg_value.specs.Signatures.{FenceName}
 use Rattle.pmg_value.specs.Spelling.{spelling}
 use Rattle.pmg_value.specs.declared.process.Proc.{Proc}
 use Rattle.pmg_frame.specs.FenceOrder.{name_cmp}
-use Rattle.pmg_frame.specs.Fences.{coded_name}
 use Rattle.pmg_fence.specs.Entering.{same_proc}
 use Rattle.pmg_get.specs.Gets.{Outcome}
 use Rattle.pmg_rules.specs.Choosing.{waited}
@@ -20,6 +18,8 @@ use Rattle.pmg_holding.specs.Codes.{Calls}
 use Rattle.pmg_rules.specs.Holdings.{Get, Standing}
 use Rattle.pmg_holding.specs.declared.call.Call.{Call}
 use Rattle.pmg_holding.specs.declared.call.Call.TheVariants as calls
+use Rattle.pmg_holding.specs.declared.call.Settled.{Settled}
+use Rattle.pmg_holding.specs.declared.call.Settled.TheVariants as settlings
 use Rattle.pmg_holding.specs.declared.call.Found.{Found}
 use Rattle.pmg_holding.specs.declared.call.Found.TheVariants as founds
 
@@ -40,12 +40,10 @@ standing_of (calls.Released f gone) = Standing.released f gone.items
 standing_of (calls.Parked target key) = Standing.parked (get_of target key)
 standing_of (calls.Answered target key found) = Standing.answered (get_of target key) (outcome_of found)
 
--- names of fences
-abbrev pub Names : Type 0
-Names = set.FinSet name_cmp
-
-abbrev pub coded_names : Coded Names
-coded_names = set.code coded_name
+-- what a call that waited came to, as the call that its process is in
+abbrev pub standing_by : Settled → Standing
+standing_by (settlings.Released f gone) = Standing.released f gone.items
+standing_by (settlings.Answered target key found) = Standing.answered (get_of target key) (outcome_of found)
 
 -- ---- who waits for what
 
@@ -95,6 +93,6 @@ all_waited all = in_order (set.from_list {R = name_cmp} (flat_map (λ e. waited 
 
 -- the calls, with these in the place of those that the processes are in, where they are in one: of several for one process the
 -- first counts
-abbrev pub all_instead : Calls → List (Proc × Call) → Calls
+abbrev pub all_instead : Calls → List (Proc × Settled) → Calls
 all_instead all [] = all
-all_instead all (e ∷ es) = changed_at (all_instead all es) e.0 (standing_of e.1)
+all_instead all (e ∷ es) = changed_at (all_instead all es) e.0 (standing_by e.1)

@@ -7,3 +7,5 @@ pub mod Ahead
 pub mod Codes
 pub mod Calls
 pub mod Answered
+pub mod Waiters
+pub mod Waiting

@@ -11,7 +11,7 @@ ghost use Rattle.pmg_holding.specs.Calls.{get_of};
 ghost use Rattle.pmg_rules.specs.Kept.{is_about, is_in};
 
 use crate::ahead::Ahead;
-use crate::call::{Call, Found};
+use crate::call::{Found, Settled};
 use crate::calls::Calls;
 use pmg_fence::Table;
 use pmg_frame::{CommitAsk, FenceName, Frame};
@@ -53,7 +53,7 @@ fn answer_gets(
     ahead: &Ahead<'_>,
     target: &Proc,
     asks: Vec<(Proc, Key)>,
-    answers: &mut Vec<(Proc, Call)>,
+    answers: &mut Vec<(Proc, Settled)>,
 ) -> Result<(), AllocError>
     ensures { OnOk result (standings answers.new.items
         ≡ standings answers.old.items ++ gets_answered registry.now id (near_of ahead.now) (far_of ahead.now) target.now asks.items) }
@@ -62,7 +62,7 @@ fn answer_gets(
         let Some(found) = find(registry, id, ahead, target, &key)? else {
             continue;
         };
-        answers.push((asker, Call::Answered(target.copy()?, key, found)))?;
+        answers.push((asker, Settled::Answered(target.copy()?, key, found)))?;
     }
     Ok(())
 }
@@ -79,12 +79,12 @@ fn release_all(
     name: &FenceName,
     gone: &Vec<Proc>,
     procs: Vec<Proc>,
-    answers: &mut Vec<(Proc, Call)>,
+    answers: &mut Vec<(Proc, Settled)>,
 ) -> Result<(), AllocError>
     ensures { OnOk result (standings answers.new.items ≡ standings answers.old.items ++ released_all name.now gone.now.items procs.items) }
 {
     for proc in procs {
-        answers.push((proc, Call::Released(name.copy()?, copy_all(gone)?)))?;
+        answers.push((proc, Settled::Released(name.copy()?, copy_all(gone)?)))?;
     }
     Ok(())
 }
@@ -95,7 +95,7 @@ fn release_in(
     ahead: &Ahead<'_>,
     calls: &Calls,
     name: &FenceName,
-    answers: &mut Vec<(Proc, Call)>,
+    answers: &mut Vec<(Proc, Settled)>,
 ) -> Result<(), AllocError>
     ensures { OnOk result (standings answers.new.items
         ≡ standings answers.old.items ++ released_in table.now.jobs table.now.node table.now.fences (far_of ahead.now) calls.now name.now) }
@@ -113,14 +113,14 @@ fn release_with(
     ahead: &Ahead<'_>,
     calls: &Calls,
     proc: &Proc,
-    answers: &mut Vec<(Proc, Call)>,
+    answers: &mut Vec<(Proc, Settled)>,
 ) -> Result<(), AllocError>
     ensures { OnOk result (standings answers.new.items
         ≡ standings answers.old.items ++ released_with table.now.jobs table.now.node table.now.fences (far_of ahead.now) calls.now proc.now) }
 {
     for name in calls.waited()? {
         if name.signature().contains(proc) {
-            release_in(table, ahead, calls, &name, answers)?;
+            release_in(table, ahead, calls, name, answers)?;
         }
     }
     Ok(())
@@ -133,7 +133,7 @@ pub fn answers_about(
     ahead: &Ahead<'_>,
     calls: &Calls,
     proc: &Proc,
-) -> Result<Vec<(Proc, Call)>, AllocError>
+) -> Result<Vec<(Proc, Settled)>, AllocError>
     requires node { table.now.node ≡ id }
     requires plain { ArePlain calls.now }
     ensures { IfOk result (λ answers. AreAnswers table.now.jobs id (is_about proc.now) table.now.fences (near_of ahead.now) (far_of ahead.now) calls.now answers.items) }
@@ -153,7 +153,7 @@ pub fn answers_in(
     ahead: &Ahead<'_>,
     calls: &Calls,
     name: &FenceName,
-) -> Result<Vec<(Proc, Call)>, AllocError>
+) -> Result<Vec<(Proc, Settled)>, AllocError>
     requires { table.now.node ≡ id }
     ensures { IfOk result (λ answers. AreAnswers table.now.jobs id (is_in name.now) table.now.fences (near_of ahead.now) (far_of ahead.now) calls.now answers.items) }
 {

@@ -1,51 +1,20 @@
 //! The calls that own processes are in.
-ghost use Rattle.std.specs.Prelude.{◌≡◌, IfOk, OnOk, OnErr};
+ghost use Rattle.std.specs.Prelude.{◌≡◌, None, map, IfErr, IfOk, OnOk, OnErr};
 ghost use Rattle.std.specs.FinMap as finite;
-ghost use Rattle.std.specs.FinSet as set;
-ghost use Rattle.std.specs.List.{flat_map};
-ghost use Rattle.std.specs.Option.{option_map, option_to_list};
-ghost use Rattle.pmg_value.specs.Rows.{changed_at};
-ghost use Rattle.pmg_rules.specs.Choosing.{waited};
-ghost use Rattle.pmg_holding.specs.Calls.{all_waited, standing_of, key_on, target_of, is_waiting_in, all_parked_on, all_targets, all_waiting_in};
+ghost use Rattle.std.specs.Option.{option_map, unwrap_or};
+ghost use Rattle.pmg_value.specs.Process.{proc_cmp};
+ghost use Rattle.pmg_value.specs.Rows.{changed_at, rows_of};
+ghost use Rattle.pmg_holding.specs.Calls.{all_waited, standing_of, standing_by, target_of, all_parked_on, all_targets, all_waiting_in};
 ghost use Rattle.pmg_holding.specs.Calls.{all_instead};
 
-use crate::call::Call;
-use crate::waiting::Names;
+use crate::call::{Call, Settled};
+use crate::waiting::Waiting;
 use pmg_frame::FenceName;
 use pmg_value::{Key, Proc};
 use std::alloc::{AllocError, Global};
 use std::collections::BTreeMap;
 use std::marker::Model;
 use std::mem;
-
-/// The key of the process that the call waits for, if it does.
-fn key_on<'a>(call: &'a Call, target: &Proc) -> Option<&'a Key>
-    ensures { option_map (λ key. key.now) result ≡ key_on target.now (standing_of call.now) }
-{
-    match call {
-        Call::Parked(parked, key) => {
-            if !target.cmp(parked).is_eq() {
-                return None;
-            }
-            Some(key)
-        }
-        Call::InFence(_) => None,
-        Call::Released(..) => None,
-        Call::Answered(..) => None,
-    }
-}
-
-/// The fence that the call is in, if it is in one and not released.
-fn waited(call: &Call) -> Option<&FenceName>
-    ensures { option_to_list (option_map (λ f. f.now) result) ≡ waited (standing_of call.now) }
-{
-    match call {
-        Call::InFence(name) => Some(name),
-        Call::Released(..) => None,
-        Call::Parked(..) => None,
-        Call::Answered(..) => None,
-    }
-}
 
 /// The process whose key the call waits for, if it does.
 fn target_of(call: &Call) -> Option<&Proc>
@@ -59,16 +28,29 @@ fn target_of(call: &Call) -> Option<&Proc>
     }
 }
 
-/// Whether the call is one in the fence, and not released.
-fn is_waiting_in(call: &Call, name: &FenceName) -> bool
-    ensures { result ≡ is_waiting_in name.now (standing_of call.now) }
+/// Puts the call of the process among the others. Where an allocation fails, it is given back, and nothing changes.
+fn put_row(rows: &mut BTreeMap<Proc, Call>, proc: Proc, call: Call) -> Result<(), (Proc, Call)>
+    ensures ok { OnOk result (rows_of {R = proc_cmp} standing_of rows.new.entries
+        ≡ finite.insert (rows_of standing_of rows.old.entries) proc (standing_of call)) }
+    ensures err { OnErr result (rows_of {R = proc_cmp} standing_of rows.new.entries ≡ rows_of standing_of rows.old.entries) }
+    ensures back { IfErr result (λ row. row ≡ (proc, call)) }
 {
-    match call {
-        Call::InFence(fence) => name.cmp(fence).is_eq(),
-        Call::Released(..) => false,
-        Call::Parked(..) => false,
-        Call::Answered(..) => false,
+    match rows.insert(proc, call) {
+        Ok(_) => Ok(()),
+        Err(failed) => Err(failed.value),
     }
+}
+
+/// Puts another call in the place of the one that the process is in, if it is in one, and gives back what is left.
+fn change_row(rows: &mut BTreeMap<Proc, Call>, proc: &Proc, mut call: Call) -> Call
+    ensures rows { rows_of {R = proc_cmp} standing_of rows.new.entries
+        ≡ changed_at (rows_of standing_of rows.old.entries) proc.now (standing_of call) }
+    ensures left { standing_of result ≡ unwrap_or (finite.get (rows_of {R = proc_cmp} standing_of rows.old.entries) proc.now) (standing_of call) }
+{
+    if let Some(kept) = rows.get_mut(proc) {
+        mem::swap(kept, &mut call);
+    }
+    call
 }
 
 /// The calls that own processes are in, one each.
@@ -76,6 +58,7 @@ fn is_waiting_in(call: &Call, name: &FenceName) -> bool
 pub struct Calls {
     alloc: Global,
     rows: BTreeMap<Proc, Call>,
+    waiting: Waiting,
 }
 
 impl Model for Calls {
@@ -88,6 +71,10 @@ impl Model for Calls {
     ghost coded = { codes.coded_calls };
 
     ghost view = { λ a. rows_of standing_of a.rows.entries };
+
+    ghost use Rattle.pmg_holding.specs.Waiting.{IsIndex};
+
+    ghost invariant = { λ a. IsIndex (rows_of standing_of a.rows.entries) a.waiting };
 }
 
 impl Calls {
@@ -98,6 +85,7 @@ impl Calls {
         Calls {
             alloc,
             rows: BTreeMap::new(alloc),
+            waiting: Waiting::new(alloc),
         }
     }
 
@@ -108,12 +96,17 @@ impl Calls {
         self.rows.get(proc)
     }
 
-    /// The process is in the call.
+    /// The process, which is in none, is in the call.
     pub fn put(&mut self, proc: Proc, call: Call) -> Result<(), AllocError>
+        requires { finite.get self.old proc ≡ None }
         ensures ok { OnOk result (self.new ≡ finite.insert self.old proc (standing_of call)) }
         ensures err { OnErr result (self.new ≡ self.old) }
     {
-        let _ = self.rows.insert(proc, call)?;
+        self.waiting.add(&proc, &call)?;
+        if let Err((proc, call)) = put_row(&mut self.rows, proc, call) {
+            self.waiting.take_back(proc, call);
+            return Err(AllocError);
+        }
         Ok(())
     }
 
@@ -122,20 +115,18 @@ impl Calls {
         ensures call { option_map standing_of result ≡ finite.get self.old proc.now }
         ensures rest { self.new ≡ finite.remove self.old proc.now }
     {
-        self.rows.remove(proc)
+        let call = self.rows.remove(proc);
+        if let Some(call) = &call {
+            self.waiting.remove(proc, call);
+        }
+        call
     }
 
     /// The processes whose gets wait for a key of the target, and the keys, in the order of the processes.
     pub fn parked_on(&self, target: &Proc) -> Result<Vec<(Proc, Key)>, AllocError>
         ensures { IfOk result (λ asks. asks.items ≡ all_parked_on self.now target.now) }
     {
-        let mut asks = Vec::new(self.alloc);
-        for (asker, call) in self.rows.iter() {
-            if let Some(key) = key_on(call, target) {
-                asks.push((asker.copy()?, key.copy()?))?;
-            }
-        }
-        Ok(asks)
+        self.waiting.gets.on(target)
     }
 
     /// For each get that waits, the process whose key it waits for, in the order of the processes that wait.
@@ -155,60 +146,39 @@ impl Calls {
     pub fn waiting_in(&self, name: &FenceName) -> Result<Vec<Proc>, AllocError>
         ensures { IfOk result (λ procs. procs.items ≡ all_waiting_in self.now name.now) }
     {
-        let mut procs = Vec::new(self.alloc);
-        for (proc, call) in self.rows.iter() {
-            if is_waiting_in(call, name) {
-                procs.push(proc.copy()?)?;
-            }
-        }
-        Ok(procs)
-    }
-
-    /// The fences in which processes are and are not released.
-    fn names(&self) -> Result<Names, AllocError>
-        ensures { IfOk result (λ names. names ≡ set.from_list (flat_map (λ e. waited e.1) (finite.entries self.now))) }
-    {
-        let mut names = Names::new(self.alloc);
-        for (_, call) in self.rows.iter() {
-            if let Some(name) = waited(call) {
-                names.insert(name)?;
-            }
-        }
-        Ok(names)
+        self.waiting.fences.list(name)
     }
 
     /// The fences in which processes are and are not released, in the order of their names.
-    pub fn waited(&self) -> Result<Vec<FenceName>, AllocError>
-        ensures { IfOk result (λ names. names.items ≡ all_waited self.now) }
+    pub fn waited(&self) -> Result<Vec<&FenceName>, AllocError>
+        ensures { IfOk result (λ names. map (λ f. f.now) names.items ≡ all_waited self.now) }
     {
-        let names = self.names()?;
-        names.list()
+        self.waiting.fences.names()
     }
 
-    /// Puts another call in the place of the one that the process is in, if it is in one, and gives back what is left.
-    fn change(&mut self, proc: &Proc, mut call: Call) -> Call
-        ensures { self.new ≡ changed_at self.old proc.now (standing_of call) }
+    /// What the call of the process came to comes in the place of the call, if it is in one, and what is left is given back.
+    fn settle(&mut self, proc: &Proc, settled: Settled) -> Call
+        ensures { self.new ≡ changed_at self.old proc.now (standing_by settled) }
     {
-        if let Some(kept) = self.rows.get_mut(proc) {
-            mem::swap(kept, &mut call);
-        }
-        call
+        let left = change_row(&mut self.rows, proc, Call::settled(settled));
+        self.waiting.remove(proc, &left);
+        left
     }
 
     /// The same, and what is left is dropped.
-    fn replace(&mut self, proc: &Proc, call: Call)
-        ensures { self.new ≡ changed_at self.old proc.now (standing_of call) }
+    fn replace(&mut self, proc: &Proc, settled: Settled)
+        ensures { self.new ≡ changed_at self.old proc.now (standing_by settled) }
     {
-        let _ = self.change(proc, call);
+        let _ = self.settle(proc, settled);
     }
 
     /// Calls are answered: each of these comes in the place of the one that its process is in. It takes no memory.
-    pub fn answer(&mut self, answers: Vec<(Proc, Call)>)
+    pub fn answer(&mut self, answers: Vec<(Proc, Settled)>)
         ensures { self.new ≡ all_instead self.old answers.items }
     {
         let mut answers = answers;
-        while let Some((proc, call)) = answers.pop() {
-            self.replace(&proc, call);
+        while let Some((proc, settled)) = answers.pop() {
+            self.replace(&proc, settled);
         }
     }
 }

@@ -14,7 +14,7 @@ mod waiting;
 
 pub use ahead::Ahead;
 pub use answering::{answers_about, answers_in, asks_again};
-pub use call::{Call, Found};
+pub use call::{Call, Found, Settled};
 pub use calls::Calls;
 pub use due::{Handed, MarkBefore, hand_out, take_back};
 pub use own::Own;
@@ -22,4 +22,3 @@ pub use sealers::Sealers;
 pub use telling::{
     announce, answer_commits, peers, peers_in, spread, takes_part, tell, tell_waiting,
 };
-pub use waiting::Names;

@@ -36,7 +36,7 @@ use Rattle.pmg_rules.specs.Sending.{is_quiet}
 use Rattle.pmg_holding.specs.Sealers.{AllSealed, sealed_by}
 use Rattle.pmg_node.specs.Servers.{Server, IsAccepted, Refuses, reply_to, sent_by, after}
 use Rattle.pmg_holding.specs.Telling.{announcing_by, settling_by}
-use Rattle.pmg_holding.specs.declared.call.Call.{Call}
+use Rattle.pmg_holding.specs.declared.call.Settled.{Settled}
 use Rattle.pmg_rules.specs.declared.due.Due.{Due}
 use Rattle.pmg_rules.specs.declared.sent.Sent.{Sent}
 use Rattle.pmg_node.proofs.ActLemmas.{refused_reply, accepted_reply, accepted_after, accepted_sent}
@@ -233,7 +233,7 @@ module _ (s : Server) (p : Proc) (free : first_of (caller_cause s.jobs s.id s.ho
   is_free = free
 
   module _
-      (answers : List (Proc × Call))
+      (answers : List (Proc × Settled))
       (are : AreAnswers s.jobs s.id (is_about p) (ended_by s.holding.table p z.level) (absorbed s.holding.near (piece_at z (sealer_of s.holding p).level reach.Near))
       (absorbed s.holding.far (piece_at z (sealer_of s.holding p).level reach.Far)) s.holding.calls answers) where
     abbrev left : Holding
@@ -286,7 +286,7 @@ module _
     (own : Own)
     (table : Fences)
     (from : ℕ)
-    (answers : List (Proc × Call))
+    (answers : List (Proc × Settled))
     (dues : List Due)
     (same_jobs : jobs ≡ s.jobs)
     (same_own : own ≡ own_ended (own_in s.holding) p)

@@ -16,7 +16,7 @@ use Rattle.pmg_rules.specs.Holdings.{Standing, Holding, sealer_of, with_far, wit
 use Rattle.pmg_rules.specs.Kept.{IsSettled, is_about, settle_where}
 use Rattle.pmg_rules.specs.Sending.{is_quiet}
 use Rattle.pmg_node.specs.Servers.{Server, reply_to, sent_by, after}
-use Rattle.pmg_holding.specs.declared.call.Call.{Call}
+use Rattle.pmg_holding.specs.declared.call.Settled.{Settled}
 use Rattle.pmg_rules.specs.declared.due.Due.{Due}
 use Rattle.pmg_rules.specs.declared.sent.Sent.{Sent}
 use Rattle.pmg_node.proofs.FrameLemmas.{deliver_by}
@@ -77,7 +77,7 @@ module _ (s : Server) (c : Contribution) (taken : is_taken s.jobs s.id (frames.P
     looks_alike q same = ap (λ (p : Proc). mapped (settle_where s.jobs s.id grown (is_about p)) s.holding.calls) same ∙ sym calls_are
 
     -- what is answered
-    pub piece_answers : (q : Proc) → q ≡ c.proc → (answers : List (Proc × Call))
+    pub piece_answers : (q : Proc) → q ≡ c.proc → (answers : List (Proc × Settled))
         → AreAnswers s.jobs s.id (is_about q) s.holding.table s.holding.near (absorbed s.holding.far c) s.holding.calls answers → all_instead s.holding.calls answers ≡ (after s a).holding.calls
     piece_answers q same answers are = are grown refl refl refl ∙ looks_alike q same
 
@@ -101,7 +101,7 @@ module _ (s : Server) (c : Contribution) (taken : is_taken s.jobs s.id (frames.P
       ∙ ap (λ (h : Holding). due_by s.jobs s.id s.holding a h) (sym left_is)
 
 -- the node once the piece is taken, where its parts are so
-pub piece_moved : (s t : Server) (c : Contribution) → t ≡ s → is_taken s.jobs s.id (frames.Piece c) ≡ true → (near far : Data) (calls : Calls) (marks : Levels) (answers : List (Proc × Call)) (dues : List Due)
+pub piece_moved : (s t : Server) (c : Contribution) → t ≡ s → is_taken s.jobs s.id (frames.Piece c) ≡ true → (near far : Data) (calls : Calls) (marks : Levels) (answers : List (Proc × Settled)) (dues : List Due)
     → near ≡ t.holding.near → far ≡ absorbed t.holding.far c → calls ≡ all_instead t.holding.calls answers → marks ≡ (sends (sealer_of t.holding) t.marks dues).marks
     → all_instead s.holding.calls answers ≡ (after s (Act.deliver (frames.Piece c))).holding.calls → dues ≡ due_by s.jobs s.id s.holding (Act.deliver (frames.Piece c)) (after s (Act.deliver (frames.Piece c))).holding
     → record {

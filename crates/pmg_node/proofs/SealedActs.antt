@@ -17,7 +17,7 @@ use Rattle.pmg_holding.specs.Owns.{Own, sealed_of}
 use Rattle.pmg_rules.specs.Sending.{is_quiet}
 use Rattle.pmg_node.specs.Servers.{Server, IsNode, reply_to, sent_by, after}
 use Rattle.pmg_holding.specs.Telling.{settling_by}
-use Rattle.pmg_holding.specs.declared.call.Call.{Call}
+use Rattle.pmg_holding.specs.declared.call.Settled.{Settled}
 use Rattle.pmg_rules.specs.declared.due.Due.{Due}
 use Rattle.pmg_node.proofs.ActLemmas.{accepted_reply, accepted_after, accepted_sent}
 use Rattle.pmg_rules.proofs.KeptAgain.{settled_on, sealing_differs}
@@ -45,7 +45,7 @@ abbrev pub far_piece : Server → Proc → Sealed → Contribution
 far_piece s p z = piece_at z (sealer_of s.holding p).level reach.Far
 
 -- A node that is the same but for what comes of the process's next commit, which sealed this.
-pub record IsSealing (s : Server) (p : Proc) (z : Sealed) (answers : List (Proc × Call)) (more : (Proc → Sealed) → List Due) (new : Server) : Type 0 where
+pub record IsSealing (s : Server) (p : Proc) (z : Sealed) (answers : List (Proc × Settled)) (more : (Proc → Sealed) → List Due) (new : Server) : Type 0 where
   pub jobs : new.jobs ≡ s.jobs
   pub id : new.id ≡ s.id
   pub near : new.holding.near ≡ absorbed s.holding.near (near_piece s p z)
@@ -57,7 +57,7 @@ pub record IsSealing (s : Server) (p : Proc) (z : Sealed) (answers : List (Proc 
   pub held : new.holding.held ≡ without_below s.holding.held p z.level
   pub marks : new.marks ≡ (sends (sealer_of new.holding) s.marks (told_on s p more (sealer_of new.holding))).marks
 
-module _ (s : Server) (a : Act) (p : Proc) (z : Sealed) (reply : Reply) (more : (Proc → Sealed) → List Due) (seals : Seals s a p z reply more) (answers : List (Proc × Call))
+module _ (s : Server) (a : Act) (p : Proc) (z : Sealed) (reply : Reply) (more : (Proc → Sealed) → List Due) (seals : Seals s a p z reply more) (answers : List (Proc × Settled))
     (are : AreAnswers s.jobs s.id (is_about p) s.holding.table (absorbed s.holding.near (near_piece s p z)) (absorbed s.holding.far (far_piece s p z)) s.holding.calls answers) where
   abbrev left : Holding
   left = with_calls (sealing s.holding p z) (all_instead s.holding.calls answers)
@@ -107,7 +107,7 @@ module _ (s : Server) (a : Act) (p : Proc) (z : Sealed) (reply : Reply) (more : 
 -- ---- what publishing leaves
 
 -- A node that is the same but for what was published of the process's next commit, where own processes sealed this.
-pub record IsPublished (s : Server) (p : Proc) (own : Own) (from : ℕ) (answers : List (Proc × Call)) (dues : List Due) (new : Server) : Type 0 where
+pub record IsPublished (s : Server) (p : Proc) (own : Own) (from : ℕ) (answers : List (Proc × Settled)) (dues : List Due) (new : Server) : Type 0 where
   pub jobs : new.jobs ≡ s.jobs
   pub id : new.id ≡ s.id
   pub near : new.holding.near ≡ absorbed s.holding.near (piece_at (sealed_of own p) from reach.Near)
@@ -123,7 +123,7 @@ pub record IsPublished (s : Server) (p : Proc) (own : Own) (from : ℕ) (answers
 
 module _ (s : Server) (a : Act) (p : Proc) (z : Sealed) (reply : Reply) (more : (Proc → Sealed) → List Due) (seals : Seals s a p z reply more)
     (own : Own) (sealers : own.sealers ≡ sealers_with s.holding p z) (sets : own.sets ≡ sets_with s.holding p z) (from : ℕ) (last : from ≡ (sealer_of s.holding p).level)
-    (answers : List (Proc × Call)) (new : Server) (is : IsPublished s p own from answers (more (sealed_of own)) new) where
+    (answers : List (Proc × Settled)) (new : Server) (is : IsPublished s p own from answers (more (sealed_of own)) new) where
   pub now_sealed : sealed_of own p ≡ z
   now_sealed = (λ i. sealer_in (sets i) (sealers i) p) ∙ sealer_there s.holding p z
 

@@ -25,7 +25,7 @@ use crate::node::Node;
 use crate::publishing::{Beside, Published, publish};
 use pmg_commit::SealerBefore;
 use pmg_fence::{Table, TableBefore};
-use pmg_holding::{Call, Calls, Own};
+use pmg_holding::{Calls, Own, Settled};
 use pmg_rules::{Due, Sent};
 use pmg_value::{NodeId, Proc, Refusal};
 use std::alloc::AllocError;
@@ -143,7 +143,7 @@ fn keep_end(
 }
 
 /// Calls are answered, and the process is in none any more.
-fn end_calls(calls: &mut Calls, answers: Vec<(Proc, Call)>, proc: &Proc)
+fn end_calls(calls: &mut Calls, answers: Vec<(Proc, Settled)>, proc: &Proc)
     ensures { calls.new ≡ finite.remove (all_instead calls.old answers.items) proc.now }
 {
     calls.answer(answers);

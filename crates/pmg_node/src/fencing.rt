@@ -12,7 +12,7 @@ ghost use Rattle.pmg_holding.specs.Telling.{telling_by, announcing_by};
 use pmg_dmodex::Marks;
 use pmg_fence::{Change, Table};
 use pmg_frame::{FenceName, Header};
-use pmg_holding::{Ahead, Call, Calls, Own, announce, answers_in, hand_out, tell};
+use pmg_holding::{Ahead, Calls, Own, Settled, announce, answers_in, hand_out, tell};
 use pmg_jobinfo::Registry;
 use pmg_rules::{Due, Sent};
 use pmg_store::Board;
@@ -72,7 +72,7 @@ fn send_news(
     name: &FenceName,
     news: VecDeque<Header>,
     out: &mut VecDeque<Sent>,
-) -> Result<Vec<(Proc, Call)>, AllocError>
+) -> Result<Vec<(Proc, Settled)>, AllocError>
     requires { table.now.node ≡ around.now.id }
     ensures answers { IfOk result (λ answers. AreAnswers table.now.jobs around.now.id (is_in name.now) table.now.fences
         around.now.board.now.near around.now.board.now.far calls.now answers.items) }

@@ -121,7 +121,7 @@ impl Node {
             ++ flat_map (asking_fence self.now.jobs self.now.id self.now.holding) (waited_in self.now.holding)) }
     {
         for name in self.calls.waited()? {
-            self.ask_fence(&name, dues)?;
+            self.ask_fence(name, dues)?;
         }
         Ok(())
     }

@@ -10,7 +10,7 @@ ghost use Rattle.pmg_node.specs.Servers.{reply_to, sent_by, after};
 use crate::asked::Delivery;
 use crate::node::Node;
 use pmg_commit::Piece;
-use pmg_holding::{Ahead, Call, answers_about, asks_again, hand_out, take_back};
+use pmg_holding::{Ahead, Settled, answers_about, asks_again, hand_out, take_back};
 use pmg_rules::{Due, Sent};
 use pmg_value::Proc;
 use std::alloc::AllocError;
@@ -26,7 +26,7 @@ impl Node {
     }
 
     /// What calls come to be answered once the piece is taken.
-    fn answers_to<'a>(&'a self, piece: &'a Piece) -> Result<Vec<(Proc, Call)>, AllocError>
+    fn answers_to<'a>(&'a self, piece: &'a Piece) -> Result<Vec<(Proc, Settled)>, AllocError>
         requires { is_taken self.now.jobs self.now.id (frames.Piece piece.now) ≡ true }
         ensures { IfOk result (λ answers. all_instead self.now.holding.calls answers.items
             ≡ (after self.now (Act.deliver (frames.Piece piece.now))).holding.calls) }

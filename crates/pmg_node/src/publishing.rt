@@ -13,7 +13,7 @@ ghost use Rattle.pmg_holding.specs.Telling.{settling_by};
 use pmg_commit::Piece;
 use pmg_dmodex::{Marks, Pending};
 use pmg_fence::Table;
-use pmg_holding::{Ahead, Call, Calls, Own, answers_about, hand_out, take_back, tell_waiting};
+use pmg_holding::{Ahead, Calls, Own, Settled, answers_about, hand_out, take_back, tell_waiting};
 use pmg_rules::{Due, Sent};
 use pmg_store::Board;
 use pmg_value::{NodeId, Proc};
@@ -35,7 +35,7 @@ pub(crate) struct Beside<'a> {
 #[derive(Debug, Drop)]
 pub(crate) struct Published {
     /// What calls come to be answered.
-    pub(crate) answers: Vec<(Proc, Call)>,
+    pub(crate) answers: Vec<(Proc, Settled)>,
     /// What was joined for reads from the node itself.
     pub(crate) near: Piece,
     /// What was joined for reads from other nodes.
@@ -49,7 +49,7 @@ fn answers_after<'a>(
     near: &'a Piece,
     far: &'a Piece,
     proc: &Proc,
-) -> Result<Vec<(Proc, Call)>, AllocError>
+) -> Result<Vec<(Proc, Settled)>, AllocError>
     requires node { beside.now.table.now.node ≡ beside.now.id }
     requires plain { ArePlain beside.now.calls.now }
     ensures { IfOk result (λ answers. AreAnswers beside.now.table.now.jobs beside.now.id (is_about proc.now) beside.now.table.now.fences

@@ -1,6 +1,6 @@
 //! What no clause says of the calls of processes: that all that is kept is given where there is memory.
 use pmg_frame::{FenceName, Signature};
-use pmg_holding::{Call, Calls, Found};
+use pmg_holding::{Call, Calls, Found, Settled};
 use pmg_value::{Key, Nspace, Proc, Rank, Refusal};
 use std::alloc::Global;
 use std::process::Abort;
@@ -17,13 +17,33 @@ fn name(alloc: Global, collect: bool) -> Result<FenceName, Refusal> {
     FenceName::new(Signature::new(list, collect)?, 1)
 }
 
+fn begin(calls: &mut Calls, proc: Proc, call: Call) -> Result<(), Refusal> {
+    if calls.get(&proc).is_some() {
+        return Err(Refusal::Busy);
+    }
+    calls.put(proc, call)?;
+    Ok(())
+}
+
 // The get of process 1 waits for a key of process 2; the others are in a fence each.
 fn three_calls(alloc: Global) -> Result<Calls, Refusal> {
     let mut calls = Calls::new(alloc);
-    calls.put(process(alloc, 0)?, Call::InFence(name(alloc, true)?))?;
+    begin(
+        &mut calls,
+        process(alloc, 0)?,
+        Call::InFence(name(alloc, true)?),
+    )?;
     let key = Key::read(alloc, b"k")?;
-    calls.put(process(alloc, 1)?, Call::Parked(process(alloc, 2)?, key))?;
-    calls.put(process(alloc, 2)?, Call::InFence(name(alloc, false)?))?;
+    begin(
+        &mut calls,
+        process(alloc, 1)?,
+        Call::Parked(process(alloc, 2)?, key),
+    )?;
+    begin(
+        &mut calls,
+        process(alloc, 2)?,
+        Call::InFence(name(alloc, false)?),
+    )?;
     Ok(calls)
 }
 
@@ -38,12 +58,12 @@ fn sizes(calls: &Calls, alloc: Global) -> Result<[usize; 4], Refusal> {
 }
 
 // Process 0 is released, and the get of process 1 is answered.
-fn answers(alloc: Global) -> Result<Vec<(Proc, Call)>, Refusal> {
+fn answers(alloc: Global) -> Result<Vec<(Proc, Settled)>, Refusal> {
     let mut answers = Vec::new(alloc);
-    let released = Call::Released(name(alloc, true)?, Vec::new(alloc));
+    let released = Settled::Released(name(alloc, true)?, Vec::new(alloc));
     answers.push((process(alloc, 0)?, released))?;
     let key = Key::read(alloc, b"k")?;
-    let answered = Call::Answered(process(alloc, 2)?, key, Found::NotFound);
+    let answered = Settled::Answered(process(alloc, 2)?, key, Found::NotFound);
     answers.push((process(alloc, 1)?, answered))?;
     Ok(answers)
 }

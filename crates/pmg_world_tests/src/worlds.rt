@@ -53,11 +53,16 @@ fn lines(alloc: Global, world: &World) -> Result<Vec<u8>, Refusal> {
     Ok(text)
 }
 
-// What these events are answered with, from the start on.
+// What these events are answered with, from the start on. Where an allocation fails, the world stands after the events that it
+// tells of, and the others happen then.
 fn answers(alloc: Global, events: &[Event]) -> Result<Vec<u8>, Refusal> {
     let mut world = World::new(&registry(alloc)?)?;
-    if world.run(events).is_err() {
-        return Err(Refusal::NoMemory);
+    if let Err(failed) = world.run(events) {
+        let told = world.events().len();
+        let left = events.get(told..).unwrap_or(events);
+        if told != failed.done || world.run(left).is_err() {
+            return Ok(Vec::new(alloc));
+        }
     }
     lines(alloc, &world)
 }

@@ -178,13 +178,38 @@ impl Group {
         }
     }
 
+    // All that is seen of the node: what is known to other nodes, how each process stands, and what was sent.
+    fn seen(&self, at: usize) -> Result<Vec<u8>, Refusal> {
+        let Some(node) = self.nodes.get(at) else {
+            return Err(Refusal::BadParam);
+        };
+        let mut text = dump_lines(self.alloc, node)?;
+        for proc in ["j0", "j1", "j2", "j3"] {
+            text.extend_from_slice(&status_line(self.alloc, node, proc)?)?;
+        }
+        for sent in self.sent.iter() {
+            put_sent(&mut text, sent, self.alloc)?;
+        }
+        Ok(text)
+    }
+
     // The node does the act: the reply, or why it is refused.
-    fn answer(&mut self, at: usize, act: &Act) -> Result<Reply, Refusal> {
+    fn act_once(&mut self, at: usize, act: &Act) -> Result<Reply, Refusal> {
         let Some(node) = self.nodes.get_mut(at) else {
             return Err(Refusal::BadParam);
         };
-        let acted = again!(node.act_into(act, &mut self.sent))?;
+        let acted = node.act_into(act, &mut self.sent)?;
         Ok(acted.reply)
+    }
+
+    // The same. Where an allocation fails, nothing that is seen may change, and the act is asked for again.
+    fn answer(&mut self, at: usize, act: &Act) -> Result<Reply, Refusal> {
+        let before = again!(self.seen(at))?;
+        let answer = self.act_once(at, act);
+        if !matches!(answer, Err(Refusal::NoMemory)) || again!(self.seen(at))? != before {
+            return answer;
+        }
+        self.act_once(at, act)
     }
 
     // The lines of the answer, and of the frames that were sent after so many.

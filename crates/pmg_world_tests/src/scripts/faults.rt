@@ -231,7 +231,7 @@ fn random_script(alloc: Global, count: usize) -> Result<Vec<u8>, AllocError> {
 
 #[test]
 fn replies_do_not_depend_on_how_a_script_is_read(rt: HostRuntime) -> Result<(), AllocError> {
-    let script = random_script(rt.alloc(), 2000)?;
+    let script = random_script(rt.alloc(), 10_000)?;
     let whole = played(rt.alloc(), &script);
     let left = script.as_slice();
     let mut reader = WatchedReader::new(Slow { left, fails_at: 0 });

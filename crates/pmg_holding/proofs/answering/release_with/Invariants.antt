@@ -1,4 +1,4 @@
-use Rattle.std.proofs.Common.{◌≡◌, ◌++◌, []}
+use Rattle.std.proofs.Common.{◌≡◌, ◌++◌, [], map}
 use Rattle.std.specs.Prelude.{if◌then◌else◌}
 use Rattle.std.specs.FinSet as set
 use Rattle.std.specs.List.{flat_map}
@@ -10,4 +10,4 @@ abbrev pub invariant-loop-name : goal.invariant-loop-name
 invariant-loop-name l =
     standings l.answers.items
     ≡ standings l.fn.answers.items
-    ++ flat_map (λ f. if set.contains f.signature.participants l.fn.proc then released_in l.fn.table.jobs l.fn.table.node l.fn.table.fences (far_of l.fn.ahead) l.fn.calls f else []) l.yielded
+    ++ flat_map (λ f. if set.contains f.signature.participants l.fn.proc then released_in l.fn.table.jobs l.fn.table.node l.fn.table.fences (far_of l.fn.ahead) l.fn.calls f else []) (map (λ f. f.now) l.yielded)

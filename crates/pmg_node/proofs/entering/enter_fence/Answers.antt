@@ -10,6 +10,9 @@ use Rattle.pmg_rules.specs.Kept.{is_in, settle_where}
 use Rattle.pmg_holding.specs.Owns.{sealed_of}
 use Rattle.pmg_node.proofs.entering.enter_fence.Goals as goal
 
+pub put-requires : goal.put-requires
+put-requires c = ap (finite.get c.args.calls.now) c.in_ok-copy-2.ensures ∙ c.requires.free
+
 pub returns-in-Err-clause-calls_err : goal.returns-in-Err-clause-calls_err
 returns-in-Err-clause-calls_err c =
     let calls = c.args.calls.now in

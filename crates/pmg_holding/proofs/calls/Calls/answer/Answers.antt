@@ -8,7 +8,7 @@ pub loop-proc-preserved : goal.loop-proc-preserved
 loop-proc-preserved c =
     let answers = c.pop.new.self.items in
     ap (λ (m : Calls). all_instead m answers) c.replace.ensures
-    ∙ sym (instead-push c.loop-proc.self answers c.in-Some.proc c.in-Some.call)
+    ∙ sym (instead-push c.loop-proc.self answers c.in-Some.proc c.in-Some.settled)
     ∙ ap (all_instead c.loop-proc.self) (sym c.in-Some.ensures.items)
     ∙ c.loop-proc.invariant
 
@@ -16,6 +16,6 @@ pub loop-proc-preserved-in-Some : goal.loop-proc-preserved-in-Some
 loop-proc-preserved-in-Some c =
     let answers = c.pop.new.self.items in
     ap (λ (m : Calls). all_instead m answers) c.replace.ensures
-    ∙ sym (instead-push c.loop-proc.self answers c.in-Some.proc c.in-Some.call)
+    ∙ sym (instead-push c.loop-proc.self answers c.in-Some.proc c.in-Some.settled)
     ∙ ap (all_instead c.loop-proc.self) (sym c.in-Some.ensures.items)
     ∙ c.loop-proc.invariant

@@ -1,11 +1,10 @@
-use Rattle.std.proofs.Common.{◌++◌, ◌∙◌}
-use Rattle.std.specs.List.{flat_map}
-use Rattle.pmg_holding.specs.Calls.{standing_of, asks_on}
-use Rattle.pmg_holding.proofs.CallLemmas.{gathered_rows}
+use Rattle.std.proofs.Common.{ap, subst, ◌∙◌}
+use Rattle.std.proofs.lemmas.Result.{IfOk-weaker}
+use Rattle.pmg_holding.specs.Calls.{all_parked_on}
+use Rattle.pmg_holding.specs.Codes.{Calls}
+use Rattle.pmg_holding.proofs.CallIndex.{gets_listed}
 use Rattle.pmg_holding.proofs.calls.Calls.parked_on.Goals as goal
 
-pub loop-asker-init : goal.loop-asker-init
-loop-asker-init c =
-    let start = c.into_iter-asker-iterator.ensures.into_iter_gives ∙ c.iter-asker-items.ensures.rest in
-    (λ i. c.new-asks.ensures.items i ++ flat_map (λ e. asks_on c.args.target.now (e.0, standing_of e.1)) (start i))
-    ∙ gathered_rows (asks_on c.args.target.now) c.self.inside.rows.entries c.args.self.now c.iter-asker-items.ensures.ordered c.self.view_is
+pub returns : goal.returns
+returns c = IfOk-weaker c.on.result _ _
+    (λ gets is. is ∙ gets_listed _ c.self.inside.waiting c.self.invariant c.args.target.now ∙ ap (λ (all : Calls). all_parked_on all c.args.target.now) c.self.view_is) c.on.ensures

@@ -1,12 +1,27 @@
-use Rattle.std.proofs.Common.{ap, ◌∙◌}
+use Rattle.std.proofs.Common.{ap, sym, subst, ◌∙◌}
 use Rattle.std.specs.FinMap as finite
-use Rattle.pmg_value.proofs.ProcessOrder.{procs_total, exact_procs}
-use Rattle.pmg_value.proofs.RowLemmas.{rows_with}
+use Rattle.pmg_value.specs.Rows.{rows_of}
 use Rattle.pmg_holding.specs.Calls.{standing_of}
 use Rattle.pmg_holding.specs.Codes.{Calls}
+use Rattle.pmg_holding.specs.Waiting.{IsIndex, with_call, without_call}
+use Rattle.pmg_holding.proofs.CallIndex.{index_put, index_back}
 use Rattle.pmg_holding.proofs.calls.Calls.put.Goals as goal
 
-pub returns-clause-ok : goal.returns-clause-ok
-returns-clause-ok c =
-    rows_with procs_total exact_procs standing_of c.self.inside.rows.entries c.insert.new.self.entries c.args.proc c.args.call (c.in_ok-insert.ensures).updates.0
-    ∙ ap (λ (m : Calls). finite.insert m c.args.proc (standing_of c.args.call)) c.self.view_is
+pub invariant_of-self-in_default : goal.invariant_of-self-in_default
+invariant_of-self-in_default c =
+    let p = c.args.proc in
+    let s = standing_of c.args.call in
+    let old : Calls = rows_of standing_of c.self.inside.rows.entries in
+    let free = ap (λ (m : Calls). finite.get m p) c.self.view_is ∙ c.requires in
+    subst (λ (m : Calls). IsIndex m c.add.new.self) (sym c.in_default.ensures.ok)
+    (subst (IsIndex (finite.insert old p s)) (sym c.in_ok-add.ensures.ok) (index_put old c.self.inside.waiting c.self.invariant p s free))
+
+pub invariant_of-self-in-Err : goal.invariant_of-self-in-Err
+invariant_of-self-in-Err c =
+    let p = c.args.proc in
+    let s = standing_of c.args.call in
+    let old : Calls = rows_of standing_of c.self.inside.rows.entries in
+    let free = ap (λ (m : Calls). finite.get m p) c.self.view_is ∙ c.requires in
+    let taken = c.take_back.ensures ∙ (λ i. without_call (c.in_ok-add.ensures.ok i) (c.in-Err.ensures.back i).0 (standing_of (c.in-Err.ensures.back i).1)) in
+    subst (λ (m : Calls). IsIndex m c.take_back.new.self) (sym c.in-Err.ensures.err)
+    (subst (IsIndex old) (sym taken) (index_back old c.self.inside.waiting c.self.invariant p s free))

@@ -5,13 +5,22 @@ use Rattle.pmg_rules.specs.Acts.{Act, Request}
 use Rattle.pmg_holding.specs.Calls.{get_of}
 use Rattle.pmg_rules.specs.Choosing.{Out, asking}
 use Rattle.pmg_node.specs.Content.{server_of}
-use Rattle.pmg_rules.specs.Holdings.{Standing}
-use Rattle.pmg_node.specs.Servers.{IsNode}
+use Rattle.pmg_rules.specs.Holdings.{Standing, call_of}
+use Rattle.pmg_node.specs.Servers.{IsNode, Server}
 use Rattle.pmg_rules.specs.declared.due.Due.{Due}
 use Rattle.pmg_rules.specs.declared.sent.Sent.{Sent}
-use Rattle.pmg_node.proofs.AskLemmas.{park_sends, park_moved, parks_sent}
+use Rattle.pmg_node.proofs.AskLemmas.{ask_free, park_sends, park_moved, parks_sent}
 use Rattle.pmg_node.proofs.NodeKept.{node_stays}
 use Rattle.pmg_node.proofs.node.Node.park.Goals as goal
+
+pub put-requires : goal.put-requires
+put-requires c =
+    let s = c.args.self.now in
+    let p = c.args.proc.now in
+    let get = get_of c.args.target.now c.args.key.now in
+    ap (finite.get c.self.inside.calls) c.in_ok-asker.ensures
+    ∙ ap (λ (x : Server). call_of x.holding p) c.self.view_is
+    ∙ (ask_free s.jobs s.id s.holding p get c.requires.free).idle
 
 pub invariant_of-self-in_default : goal.invariant_of-self-in_default
 invariant_of-self-in_default c =
