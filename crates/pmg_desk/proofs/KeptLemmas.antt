@@ -1,0 +1,106 @@
+-- What an act leaves under the lock.
+use Rattle.std.proofs.Common.{◌≡◌, ◌⊎◌, inl, inr, ℕ, List, [], All, Option, Some, None, Result, Ok, Err, ◌+◌, length, refl, sym, ap, subst, ◌∙◌}
+use Rattle.std.specs.Prelude.{IfSome, IfOk, IfErr, OnErr}
+use Rattle.logbook.specs.Pages.{Book}
+use Rattle.pmg_value.specs.declared.refusal.Refusal.{Refusal}
+use Rattle.pmg_value.specs.declared.refusal.Refusal.TheVariants as refusals
+use Rattle.pmg_rules.specs.declared.sent.Sent.{Sent}
+use Rattle.pmg_node.specs.Acting.{act_of, reply_as}
+use Rattle.pmg_node.specs.Opening.{new_server}
+use Rattle.pmg_node.specs.Servers.{Server, after, reply_in}
+use Rattle.pmg_node.specs.declared.act.Act.{Act}
+use Rattle.pmg_node.specs.declared.act.Reply.{Reply}
+use Rattle.pmg_publish.specs.Publications.{Publications, Published}
+use Rattle.pmg_desk.specs.declared.journal.Journal.{Journal}
+use Rattle.pmg_desk.specs.declared.state.Parts.{Parts}
+use Rattle.pmg_desk.specs.declared.state.Twice.{Twice}
+use Rattle.pmg_desk.specs.Journals.{IsJournal, start_of, told_in}
+use Rattle.pmg_desk.specs.Replays.{Happening, IsReplay, published_over}
+use Rattle.pmg_desk.specs.States.{GoesOn, IsAt, IsKept, IsLive}
+use Rattle.pmg_desk.proofs.ReplayLemmas.{live_on, live_taken, published_on, replay_on}
+
+module _ (p q : Parts) (kept : IsKept p) (at : IsAt p q) (viewers : q.viewers.items ≡ p.viewers.items) where
+  start_same : start_of p.journal ≡ start_of q.journal
+  start_same = λ i. new_server (sym at.registry i) (sym at.node i)
+
+  viewers_still : All (λ (v : Publications). v.book ≡ q.publisher.book) q.viewers.items
+  viewers_still =
+      subst (λ (b : Book). All (λ (v : Publications). v.book ≡ b) q.viewers.items) (sym at.book)
+      (subst (All (λ (v : Publications). v.book ≡ p.publisher.book)) (sym viewers) kept.viewers)
+
+  -- after one act more
+  pub kept_on : (a : Act) (answer : Result Reply Refusal) → GoesOn p.node a answer (told_in p.journal) p.outbox.items p.publisher.log q.node (told_in q.journal) q.outbox.items q.publisher.log
+      → IsKept q
+  kept_on a answer goes = by_node p.node refl goes
+    where
+      live_at : (s : Server) → p.node ≡ Some s → IsLive (start_of p.journal) (told_in p.journal) p.taken p.outbox.items s
+      live_at s is = subst (λ (n : Option Server). IfSome n (IsLive (start_of p.journal) (told_in p.journal) p.taken p.outbox.items)) is kept.live
+
+      by_node : (n : Option Server) → p.node ≡ n → GoesOn n a answer (told_in p.journal) p.outbox.items p.publisher.log q.node (told_in q.journal) q.outbox.items q.publisher.log → IsKept q
+      by_node None is none = absurd none
+      by_node (Some s) is moves =
+          let live = live_at s is in
+          let replay = replay_on (start_of p.journal) (told_in p.journal) p.taken p.outbox.items s live (act_of a) (reply_in reply_as answer) (told_in q.journal) moves.event kept.journal moves.steps.0 in
+          let shown = published_on (start_of p.journal) (told_in p.journal) p.taken p.outbox.items s live (act_of a) (reply_in reply_as answer) (told_in q.journal) moves.event p.publisher.log kept.published in
+          let lives = live_on (start_of p.journal) (told_in p.journal) p.taken p.outbox.items s live (act_of a) (reply_in reply_as answer) (told_in q.journal) moves.event in
+          record {
+            journal = subst (λ (x : Server). IsReplay x (told_in q.journal)) start_same replay;
+            published = moves.published ∙ shown ∙ ap (λ (x : Server). published_over x (told_in q.journal)) start_same;
+            live = subst (λ (n : Option Server). IfSome n (IsLive (start_of q.journal) (told_in q.journal) q.taken q.outbox.items)) (sym moves.steps.1)
+                (subst (λ (x : Server). IsLive x (told_in q.journal) q.taken q.outbox.items (after s (act_of a))) start_same
+                (subst (λ (t : ℕ). IsLive (start_of p.journal) (told_in q.journal) t q.outbox.items (after s (act_of a))) (sym at.taken)
+                (subst (λ (out : List Sent). IsLive (start_of p.journal) (told_in q.journal) p.taken out (after s (act_of a))) (sym moves.outbox) lives)));
+            viewers = viewers_still;
+          }
+
+  -- where nothing happened, or the node was given up
+  pub kept_still : told_in q.journal ≡ told_in p.journal → q.publisher.log ≡ p.publisher.log → (q.node ≡ None) ⊎ ((q.node ≡ p.node) × (q.outbox.items ≡ p.outbox.items)) → IsKept q
+  kept_still events log ends = record {
+    journal = subst (λ (x : Server). IsReplay x (told_in q.journal)) start_same (subst (IsReplay (start_of p.journal)) (sym events) kept.journal);
+    published = log ∙ kept.published ∙ ap (published_over (start_of p.journal)) (sym events) ∙ ap (λ (x : Server). published_over x (told_in q.journal)) start_same;
+    live = by_end ends;
+    viewers = viewers_still;
+  }
+    where
+      by_end : (q.node ≡ None) ⊎ ((q.node ≡ p.node) × (q.outbox.items ≡ p.outbox.items)) → IfSome q.node (IsLive (start_of q.journal) (told_in q.journal) q.taken q.outbox.items)
+      by_end (inl none) = subst (λ (n : Option Server). IfSome n (IsLive (start_of q.journal) (told_in q.journal) q.taken q.outbox.items)) (sym none) tt
+      by_end (inr same) =
+          subst (λ (n : Option Server). IfSome n (IsLive (start_of q.journal) (told_in q.journal) q.taken q.outbox.items)) (sym same.0)
+          (subst (λ (x : Server). IfSome p.node (IsLive x (told_in q.journal) q.taken q.outbox.items)) start_same
+          (subst (λ (es : List Happening). IfSome p.node (IsLive (start_of p.journal) es q.taken q.outbox.items)) (sym events)
+          (subst (λ (t : ℕ). IfSome p.node (IsLive (start_of p.journal) (told_in p.journal) t q.outbox.items)) (sym at.taken)
+          (subst (λ (out : List Sent). IfSome p.node (IsLive (start_of p.journal) (told_in p.journal) p.taken out)) (sym same.1) kept.live))))
+
+  -- after an act, whatever comes of it
+  pub kept_after : (a : Act) (r : Result Twice Refusal)
+      → IfOk r (λ t. GoesOn p.node a t.told (told_in p.journal) p.outbox.items p.publisher.log q.node (told_in q.journal) q.outbox.items q.publisher.log)
+      → OnErr r (told_in q.journal ≡ told_in p.journal) → OnErr r (q.publisher.log ≡ p.publisher.log)
+      → (r ≡ Err refusals.NoMemory → (q.node ≡ None) ⊎ ((q.node ≡ p.node) × (q.outbox.items ≡ p.outbox.items) × (q.publisher ≡ p.publisher)))
+      → (r ≡ Err refusals.Closed → (p.node ≡ None) × (q.node ≡ p.node) × (q.outbox.items ≡ p.outbox.items) × (q.publisher ≡ p.publisher))
+      → IfErr r (λ e. (e ≡ refusals.NoMemory) ⊎ (e ≡ refusals.Closed)) → IsKept q
+  kept_after a (Ok t) goes events log memory closed which = kept_on a t.told goes
+  kept_after a (Err e) goes events log memory closed (inl is) = kept_still events log (ends (memory (λ i. Err (is i))))
+    where
+      ends : (q.node ≡ None) ⊎ ((q.node ≡ p.node) × (q.outbox.items ≡ p.outbox.items) × (q.publisher ≡ p.publisher)) → (q.node ≡ None) ⊎ ((q.node ≡ p.node) × (q.outbox.items ≡ p.outbox.items))
+      ends (inl none) = inl none
+      ends (inr same) = inr (same.0, same.1)
+  kept_after a (Err e) goes events log memory closed (inr is) = let shut = closed (λ i. Err (is i)) in kept_still events log (inr (shut.1, shut.2))
+
+-- once all frames of the outbox are taken
+pub kept_taken : (p q : Parts) → IsKept p → q.node ≡ p.node → q.journal ≡ p.journal → q.publisher ≡ p.publisher → q.viewers ≡ p.viewers → q.outbox.items ≡ []
+    → q.taken ≡ p.taken + length p.outbox.items → IsKept q
+kept_taken p q kept node journal publisher viewers out taken = record {
+  journal = subst IsJournal (sym journal) kept.journal;
+  published = ap (λ (x : Published). x.log) publisher ∙ kept.published ∙ ap (λ (j : Journal). published_over (start_of j) (told_in j)) (sym journal);
+  live = subst (λ (n : Option Server). IfSome n (IsLive (start_of q.journal) (told_in q.journal) q.taken q.outbox.items)) (sym node)
+      (subst (λ (j : Journal). IfSome p.node (IsLive (start_of j) (told_in j) q.taken q.outbox.items)) (sym journal)
+      (subst (λ (out : List Sent). IfSome p.node (IsLive (start_of p.journal) (told_in p.journal) q.taken out)) (sym out)
+      (subst (λ (t : ℕ). IfSome p.node (IsLive (start_of p.journal) (told_in p.journal) t [])) (sym taken) (by_node p.node kept.live))));
+  viewers = subst (λ (x : Published). All (λ (v : Publications). v.book ≡ x.book) q.viewers.items) (sym publisher)
+      (subst (λ vs. All (λ (v : Publications). v.book ≡ p.publisher.book) vs) (λ i. (sym viewers i).items) kept.viewers);
+}
+  where
+    by_node : (n : Option Server) → IfSome n (IsLive (start_of p.journal) (told_in p.journal) p.taken p.outbox.items)
+        → IfSome n (IsLive (start_of p.journal) (told_in p.journal) (p.taken + length p.outbox.items) [])
+    by_node None live = tt
+    by_node (Some s) live = live_taken (start_of p.journal) (told_in p.journal) p.taken p.outbox.items s live

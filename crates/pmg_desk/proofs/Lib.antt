@@ -1,0 +1,3 @@
+mod ReplayLemmas
+mod OpenLemmas
+mod KeptLemmas

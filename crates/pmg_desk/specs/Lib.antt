@@ -1,0 +1,4 @@
+pub mod Replays
+pub mod Journals
+pub mod States
+pub mod Telling

@@ -1,0 +1,57 @@
+-- What lies under the lock of a desk.
+use Rattle.std.specs.Prelude.{◌≡◌, ℕ, ◌≤◌, List, [], ◌∷◌, ◌++◌, length, drop, All, Option, Some, None, IfSome, Result}
+use Rattle.pmg_value.specs.declared.refusal.Refusal.{Refusal}
+use Rattle.pmg_rules.specs.declared.sent.Sent.{Sent}
+use Rattle.pmg_node.specs.Acting.{act_of, reply_as}
+use Rattle.pmg_node.specs.Servers.{Server, after, reply_in, reply_to, sent_by}
+use Rattle.pmg_node.specs.declared.act.Act.{Act}
+use Rattle.pmg_node.specs.declared.act.Reply.{Reply}
+use Rattle.pmg_publish.specs.Publications.{Publications}
+use Rattle.pmg_publish.specs.declared.counting.Publication.{Publication}
+use Rattle.pmg_desk.specs.declared.state.Parts.{Parts}
+use Rattle.pmg_desk.specs.Journals.{IsJournal, happened, start_of, told_in}
+use Rattle.pmg_desk.specs.Replays.{Happening, after_all, published_by, published_over, sent_over}
+
+-- The node is the one that the replay leaves, and its outbox what the replay sent without the frames that were taken.
+pub record IsLive (start : Server) (es : List Happening) (taken : ℕ) (outbox : List Sent) (node : Server) : Type 0 where
+  pub node_is : node ≡ after_all start es
+  pub outbox_is : outbox ≡ drop taken (sent_over start es)
+  pub bound : taken ≤ length (sent_over start es)
+
+-- What is kept: the journal is a replay, what is published is what it published, and while there is a node it is the replay's.
+pub record IsKept (p : Parts) : Type 0 where
+  pub journal : IsJournal p.journal
+  pub published : p.publisher.log ≡ published_over (start_of p.journal) (told_in p.journal)
+  pub live : IfSome p.node (IsLive (start_of p.journal) (told_in p.journal) p.taken p.outbox.items)
+  pub viewers : All (λ (v : Publications). v.book ≡ p.publisher.book) p.viewers.items
+
+-- the same desk: its node's index and group, its publisher's book, and the frames that were taken
+pub record IsAt (p q : Parts) : Type 0 where
+  pub node : q.journal.node ≡ p.journal.node
+  pub registry : q.journal.registry ≡ p.journal.registry
+  pub book : q.publisher.book ≡ p.publisher.book
+  pub taken : q.taken ≡ p.taken
+
+-- nothing happened
+pub record IsSame (p q : Parts) : Type 0 where
+  pub node : q.node ≡ p.node
+  pub outbox : q.outbox.items ≡ p.outbox.items
+  pub publisher : q.publisher ≡ p.publisher
+
+-- the act is answered so, and leads the node there
+abbrev pub Steps : Server → Act → Result Reply Refusal → Option Server → Type 0
+Steps s a answer node = (reply_to s (act_of a) ≡ reply_in reply_as answer) × (node ≡ Some (after s (act_of a)))
+
+-- Of an open desk: the act is answered so and leads the node there; the journal has it at its end, what is sent goes after the frames of
+-- the outbox, and what is joined is published.
+pub record MovesOn (s : Server) (a : Act) (answer : Result Reply Refusal) (es : List Happening) (out : List Sent) (log : List Publication)
+    (node : Option Server) (es' : List Happening) (out' : List Sent) (log' : List Publication) : Type 0 where
+  pub steps : Steps s a answer node
+  pub event : es' ≡ es ++ happened a answer ∷ []
+  pub outbox : out' ≡ out ++ sent_by s (act_of a)
+  pub published : log' ≡ log ++ published_by s (act_of a) ∷ []
+
+abbrev pub GoesOn : Option Server → Act → Result Reply Refusal → List Happening → List Sent → List Publication → Option Server → List Happening → List Sent
+    → List Publication → Type 0
+GoesOn None a answer es out log left es' out' log' = ⊥
+GoesOn (Some s) a answer es out log left es' out' log' = MovesOn s a answer es out log left es' out' log'

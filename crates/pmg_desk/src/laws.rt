@@ -1,0 +1,2 @@
+//! What lies under the lock of a node.
+pub use crate::state::{Parts, State, Twice};

@@ -1,0 +1,379 @@
+//! What lies under the lock of a desk.
+ghost use Rattle.std.specs.Prelude.{◌≡◌, ◌⊎◌, ◌+◌, ◌==◌, ◌∷◌, ◌++◌, [], not, true, is_none, is_some, length, IfOk, IfErr, IfSome, IsNone, IsOkUnless, IsSome, OnErr, OnOk, Some, None, Err};
+ghost use Rattle.std.specs.Option.{option_map};
+ghost use mathlib.Core.List.{IsPrefix};
+ghost use Rattle.pmg_value.specs.declared.refusal.Refusal.TheVariants as refusals;
+ghost use Rattle.pmg_jobinfo.specs.Jobs.{is_node};
+ghost use Rattle.pmg_rules.specs.Acts.{status_of};
+ghost use Rattle.pmg_node.specs.Acting.{act_of, joins_in, reply_as};
+ghost use Rattle.pmg_node.specs.Joining.{joins};
+ghost use Rattle.pmg_node.specs.Opening.{new_server};
+ghost use Rattle.pmg_node.specs.Replies.{status_in};
+ghost use Rattle.pmg_node.specs.Servers.{after, reply_in, reply_to, sent_by};
+ghost use Rattle.pmg_desk.specs.Journals.{IsEvent, IsJournal, happened, is_memory, start_of, told_in};
+ghost use Rattle.pmg_desk.specs.Replays.{publication_of, published_over};
+ghost use Rattle.pmg_desk.specs.States.{GoesOn, IsAt, IsSame, Steps};
+ghost use Rattle.pmg_desk.specs.Telling.{IsToldOf};
+
+use crate::journal::{Event, Journal, copy_of_answer};
+use pmg_jobinfo::Registry;
+use pmg_node::{Act, Joined, Node, Reply, Status};
+use pmg_publish::{MAX_VIEWERS, Publisher, Told, Viewer, publisher};
+use pmg_rules::Sent;
+use pmg_value::{NodeId, Proc, Refusal};
+use std::alloc::AllocError;
+use std::collections::VecDeque;
+use std::marker::Model;
+use std::mem;
+use std::sync::Wait;
+
+/// The parts of a state.
+pub struct Parts {
+    /// The node; none where the desk is closed.
+    pub node: Option<Node>,
+    /// What happened at the node.
+    pub journal: Journal,
+    /// The frames that were not taken yet.
+    pub outbox: VecDeque<Sent>,
+    /// How many frames were taken.
+    pub taken: u64,
+    /// Who publishes what the node joins.
+    pub publisher: Publisher,
+    /// The viewers that no client has yet.
+    pub viewers: Vec<Viewer>,
+}
+
+/// A node with its journal and the publisher of its board. It is not dropped: end it by `into_journal`.
+pub struct State {
+    parts: Parts,
+}
+
+impl Model for State {
+    ghost use Rattle.pmg_desk.specs.States.{IsKept};
+    ghost use Rattle.pmg_desk.specs.declared.state.Parts.{Parts};
+    ghost use Rattle.pmg_desk.specs.contracts.state.Parts.{the_row as parts_row};
+
+    ghost Value = { Parts };
+
+    ghost coded = { parts_row.coded };
+
+    ghost view = { λ s. s.parts };
+
+    ghost invariant = { λ s. IsKept s.parts };
+}
+
+/// The answer to an act, for who asked and for its transcript.
+#[derive(Debug, Drop)]
+pub struct Twice {
+    /// For who asked.
+    pub told: Result<Reply, Refusal>,
+    /// For its transcript.
+    pub kept: Result<Reply, Refusal>,
+}
+
+/// What a node answers to an act, and what it joined.
+#[derive(Debug, Drop)]
+struct Done {
+    told: Result<Reply, Refusal>,
+    joined: Joined,
+}
+
+/// Whether an allocation failed.
+fn is_memory(refusal: Refusal) -> bool
+    ensures { result ≡ is_memory refusal }
+{
+    matches!(refusal, Refusal::NoMemory)
+}
+
+/// Does the act. What is sent goes after the frames of the outbox. Refused as NoMemory alone, and then nothing happened.
+fn done_by(node: &mut Node, act: &Act, outbox: &mut VecDeque<Sent>) -> Result<Done, Refusal>
+    ensures reply { IfOk result (λ d. reply_to node.old (act_of act.now) ≡ reply_in reply_as d.told) }
+    ensures kind { IfOk result (λ d. IsEvent d.told) }
+    ensures joined { IfOk result (λ d. joins_in d.joined ≡ joins node.old.jobs node.old.id node.old.holding (act_of act.now)) }
+    ensures done { OnOk result (node.new ≡ after node.old (act_of act.now)) }
+    ensures sent { OnOk result (outbox.new.items ≡ outbox.old.items ++ sent_by node.old (act_of act.now)) }
+    ensures err { OnErr result ((node.new ≡ node.old) × (outbox.new.items ≡ outbox.old.items)) }
+    ensures memory { IsOkUnless result refusals.NoMemory }
+{
+    match node.act_into(act, outbox) {
+        Ok(acted) => Ok(Done {
+            told: Ok(acted.reply),
+            joined: acted.joined,
+        }),
+        Err(refusal) if is_memory(refusal) => Err(Refusal::NoMemory),
+        Err(refusal) => Ok(Done {
+            told: Err(refusal),
+            joined: Joined {
+                near: None,
+                far: None,
+            },
+        }),
+    }
+}
+
+/// Publishes what was joined.
+fn publish<R: Wait>(publisher: &mut Publisher, rt: &R, joined: &Joined) -> Result<(), Refusal>
+    ensures book { publisher.new.book ≡ publisher.old.book }
+    ensures ok { OnOk result (publisher.new.log ≡ publisher.old.log ++ publication_of (joins_in joined.now) ∷ []) }
+    ensures err { OnErr result (publisher.new.log ≡ publisher.old.log) }
+{
+    publisher.publish(rt, joined.near.as_slice(), joined.far.as_slice())
+}
+
+/// Two copies of the answer.
+fn two_copies(
+    answer: &Result<Reply, Refusal>,
+) -> Result<(Result<Reply, Refusal>, Result<Reply, Refusal>), AllocError>
+    ensures first { IfOk result (λ copies. reply_in reply_as copies.0 ≡ reply_in reply_as answer.now) }
+    ensures second { IfOk result (λ copies. reply_in reply_as copies.1 ≡ reply_in reply_as answer.now) }
+{
+    Ok((copy_of_answer(answer)?, copy_of_answer(answer)?))
+}
+
+/// Copies the answer and publishes what was joined.
+fn publish_done<R: Wait>(
+    publisher: &mut Publisher,
+    rt: &R,
+    done: Done,
+) -> Option<(Result<Reply, Refusal>, Twice)>
+    ensures noted { IfSome result (λ r. reply_in reply_as r.0 ≡ reply_in reply_as done.told) }
+    ensures told { IfSome result (λ r. r.1.told ≡ done.told) }
+    ensures kept { IfSome result (λ r. reply_in reply_as r.1.kept ≡ reply_in reply_as done.told) }
+    ensures book { publisher.new.book ≡ publisher.old.book }
+    ensures some { IsSome result → publisher.new.log ≡ publisher.old.log ++ publication_of (joins_in done.joined) ∷ [] }
+    ensures none { IsNone result → publisher.new.log ≡ publisher.old.log }
+{
+    let Done { told, joined } = done;
+    let Ok((noted, kept)) = two_copies(&told) else {
+        return None;
+    };
+    match publish(publisher, rt, &joined) {
+        Ok(()) => Some((noted, Twice { told, kept })),
+        Err(_) => None,
+    }
+}
+
+/// Does the act of the node, if there is one, writes it into the journal with its answer, and publishes what it joined. An allocation
+/// that fails before the act changes nothing; after it the node is given up, and journal and published store stand.
+fn happen_in<R: Wait>(
+    node: &mut Option<Node>,
+    journal: &mut Journal,
+    outbox: &mut VecDeque<Sent>,
+    publisher: &mut Publisher,
+    rt: &R,
+    act: &Act,
+) -> Result<Twice, Refusal>
+    ensures ok { IfOk result (λ t. GoesOn node.old act.now t.told (told_in journal.old) outbox.old.items publisher.old.log
+        node.new (told_in journal.new) outbox.new.items publisher.new.log) }
+    ensures kind { IfOk result (λ t. IsEvent t.told) }
+    ensures copy { IfOk result (λ t. reply_in reply_as t.kept ≡ reply_in reply_as t.told) }
+    ensures events { OnErr result (told_in journal.new ≡ told_in journal.old) }
+    ensures log { OnErr result (publisher.new.log ≡ publisher.old.log) }
+    ensures memory { result ≡ Err refusals.NoMemory → (node.new ≡ None) ⊎ ((node.new ≡ node.old) × (outbox.new.items ≡ outbox.old.items) × (publisher.new ≡ publisher.old)) }
+    ensures shut { node.old ≡ None → result ≡ Err refusals.Closed }
+    ensures closed { result ≡ Err refusals.Closed → (node.old ≡ None) × (node.new ≡ node.old) × (outbox.new.items ≡ outbox.old.items) × (publisher.new ≡ publisher.old) }
+    ensures err { IfErr result (λ e. (e ≡ refusals.NoMemory) ⊎ (e ≡ refusals.Closed)) }
+    ensures index { journal.new.node ≡ journal.old.node }
+    ensures registry { journal.new.registry ≡ journal.old.registry }
+    ensures book { publisher.new.book ≡ publisher.old.book }
+{
+    let Some(whole) = node else {
+        return Err(Refusal::Closed);
+    };
+    let event = journal.place_for(act)?;
+    let done = done_by(whole, act, outbox)?;
+    let Some((noted, twice)) = publish_done(publisher, rt, done) else {
+        *node = None;
+        return Err(Refusal::NoMemory);
+    };
+    journal.events.push_reserved(Event {
+        act: event,
+        answer: noted,
+    });
+    Ok(twice)
+}
+
+impl State {
+    /// A new node of the group, of that index, of which nothing is told yet. Refused as NoMemory alone.
+    pub fn new<R: Wait>(rt: &R, id: NodeId, registry: Registry) -> Result<State, Refusal>
+        requires { is_node registry id ≡ true }
+        ensures node { IfOk result (λ s. s.node ≡ Some (new_server registry id)) }
+        ensures events { IfOk result (λ s. s.journal.events.items ≡ []) }
+        ensures index { IfOk result (λ s. s.journal.node ≡ id) }
+        ensures registry { IfOk result (λ s. s.journal.registry ≡ registry) }
+    {
+        let alloc = registry.allocator();
+        let node = Node::new(id, registry.copy()?)?;
+        let count = registry.procs_at(id)?.len();
+        if count > MAX_VIEWERS {
+            return Err(Refusal::TooMany);
+        }
+        let (publisher, viewers) = publisher(rt, alloc, count)?;
+        let journal = Journal {
+            node: id,
+            registry,
+            events: Vec::new(alloc),
+        };
+        let parts = Parts {
+            node: Some(node),
+            journal,
+            outbox: VecDeque::new(alloc),
+            taken: 0,
+            publisher,
+            viewers,
+        };
+        Ok(State { parts })
+    }
+
+    /// Does the act, writes it into the journal with its answer, and publishes what it joined. Closed where the node was given
+    /// up. NoMemory before the act changes nothing; after it the node is given up, and journal and published store stand.
+    fn happen<R: Wait>(&mut self, rt: &R, act: &Act) -> Result<Twice, Refusal>
+        ensures event { IfOk result (λ t. told_in self.new.journal ≡ told_in self.old.journal ++ happened act.now t.told ∷ []) }
+        ensures step { IfOk result (λ t. IfSome self.old.node (λ s. Steps s act.now t.told self.new.node)) }
+        ensures kind { IfOk result (λ t. IsEvent t.told) }
+        ensures copy { IfOk result (λ t. reply_in reply_as t.kept ≡ reply_in reply_as t.told) }
+        ensures err { IfErr result (λ e. (e ≡ refusals.NoMemory) ⊎ (e ≡ refusals.Closed)) }
+        ensures none { OnErr result (told_in self.new.journal ≡ told_in self.old.journal) }
+        ensures memory { result ≡ Err refusals.NoMemory → (self.new.node ≡ None) ⊎ IsSame self.old self.new }
+        ensures shut { self.old.node ≡ None → result ≡ Err refusals.Closed }
+        ensures closed { result ≡ Err refusals.Closed → (self.old.node ≡ None) × IsSame self.old self.new }
+        ensures place { IsAt self.old self.new }
+    {
+        let Parts {
+            node,
+            journal,
+            outbox,
+            taken: _,
+            publisher,
+            viewers: _,
+        } = &mut self.parts;
+        happen_in(node, journal, outbox, publisher, rt, act)
+    }
+
+    /// Does the act, writes it into the journal with its answer, and publishes what it joined. Closed where the node was given
+    /// up. NoMemory before the act changes nothing; after it the node is given up, and journal and published store stand.
+    pub fn act<R: Wait>(&mut self, rt: &R, act: &Act) -> Result<Reply, Refusal>
+        ensures event { IsEvent result → told_in self.new.journal ≡ told_in self.old.journal ++ happened act.now result ∷ [] }
+        ensures step { IsEvent result → IfSome self.old.node (λ s. Steps s act.now result self.new.node) }
+        ensures none { result ≡ Err refusals.NoMemory → told_in self.new.journal ≡ told_in self.old.journal }
+        ensures memory { result ≡ Err refusals.NoMemory → (self.new.node ≡ None) ⊎ IsSame self.old self.new }
+        ensures shut { self.old.node ≡ None → result ≡ Err refusals.Closed }
+        ensures closed { result ≡ Err refusals.Closed → (self.old.node ≡ None) × IsSame self.old self.new }
+        ensures place { IsAt self.old self.new }
+    {
+        match self.happen(rt, act) {
+            Ok(twice) => twice.told,
+            Err(refusal) => Err(refusal),
+        }
+    }
+
+    /// The same for a client, whose viewer is told of what was published.
+    pub fn act_for<R: Wait>(
+        &mut self,
+        rt: &R,
+        act: &Act,
+        viewer: &mut Viewer,
+    ) -> Result<Twice, Refusal>
+        requires { viewer.old.book ≡ self.old.publisher.book }
+        ensures told { IfOk result (λ t. IsToldOf self.old.journal.registry self.old.journal.node (happened act.now t.told) viewer.new.log) }
+        ensures copy { IfOk result (λ t. reply_in reply_as t.kept ≡ reply_in reply_as t.told) }
+        ensures kind { IfOk result (λ t. IsEvent t.told) }
+        ensures seen { IsPrefix viewer.old.log viewer.new.log }
+        ensures book { viewer.new.book ≡ viewer.old.book }
+        ensures place { IsAt self.old self.new }
+    {
+        let twice = self.happen(rt, act)?;
+        viewer.learn(&self.tell());
+        Ok(twice)
+    }
+
+    /// What was published so far.
+    pub fn tell(&self) -> Told
+        ensures told { result ≡ record { book = self.now.publisher.book; log = self.now.publisher.log } }
+        ensures journal { IsJournal self.now.journal }
+        ensures published { result.log ≡ published_over (start_of self.now.journal) (told_in self.now.journal) }
+    {
+        self.parts.publisher.tell()
+    }
+
+    /// Whether the node was given up.
+    pub fn is_closed(&self) -> bool
+        ensures { result ≡ is_none self.now.node }
+    {
+        self.parts.node.is_none()
+    }
+
+    /// How the process stands; none where the node was given up. It is no event.
+    pub fn status(&self, proc: &Proc) -> Option<Status>
+        ensures { option_map status_in result ≡ option_map (λ s. status_of s.jobs s.id s.holding proc.now) self.now.node }
+    {
+        match &self.parts.node {
+            Some(node) => Some(node.status(proc)),
+            None => None,
+        }
+    }
+
+    /// Whether there are frames to be taken.
+    pub fn has_frames(&self) -> bool
+        ensures { result ≡ not (length self.now.outbox.items == 0) }
+    {
+        !self.parts.outbox.is_empty()
+    }
+
+    /// The frames that were sent and not taken. Refused as Closed where the node was given up, and as TooMany where more than
+    /// 2^64 - 1 frames would be taken in all; then none is taken.
+    pub fn take_frames(&mut self) -> Result<VecDeque<Sent>, Refusal>
+        ensures frames { IfOk result (λ frames. frames.items ≡ self.old.outbox.items) }
+        ensures rest { OnOk result (self.new.outbox.items ≡ []) }
+        ensures taken { IfOk result (λ frames. self.new.taken ≡ self.old.taken + length frames.items) }
+        ensures err { OnErr result (self.new ≡ self.old) }
+        ensures shut { self.old.node ≡ None → result ≡ Err refusals.Closed }
+        ensures node { self.new.node ≡ self.old.node }
+        ensures journal { self.new.journal ≡ self.old.journal }
+        ensures publisher { self.new.publisher ≡ self.old.publisher }
+    {
+        let parts = &mut self.parts;
+        if parts.node.is_none() {
+            return Err(Refusal::Closed);
+        }
+        let Some(taken) = parts.taken.checked_add(parts.outbox.len() as u64) else {
+            return Err(Refusal::TooMany);
+        };
+        parts.taken = taken;
+        let empty = VecDeque::new(parts.journal.registry.allocator());
+        Ok(mem::replace(&mut parts.outbox, empty))
+    }
+
+    /// Gives up the node. Journal and published store stand.
+    pub fn close(&mut self)
+        ensures { self.new ≡ record self.old { node = None } }
+    {
+        self.parts.node = None;
+    }
+
+    /// A viewer for one of the processes at home at the node, as long as one is left: there are as many as these processes.
+    pub fn take_viewer(&mut self) -> Option<Viewer>
+        ensures book { IfSome result (λ v. v.book ≡ self.old.publisher.book) }
+        ensures place { IsAt self.old self.new }
+    {
+        self.parts.viewers.pop()
+    }
+
+    /// Ends the state: the journal.
+    pub fn into_journal<R: Wait>(self, rt: &R) -> Journal
+        ensures journal { result ≡ self.journal }
+        ensures replay { IsJournal result }
+    {
+        let State { parts } = self;
+        let Parts {
+            node: _,
+            journal,
+            outbox: _,
+            taken: _,
+            publisher,
+            viewers: _,
+        } = parts;
+        publisher.close(rt);
+        journal
+    }
+}
