@@ -1,6 +1,6 @@
 -- The index of calls: it stays one where a call comes, ends or is answered, and lists who waits.
 use Rattle.std.proofs.Common.{◌≡◌, ℕ, Bool, true, false, ◌||◌, ◌&&◌, not, cond, List, [], ◌∷◌, ◌++◌, Option, Some, None, is_some, inl, inr, refl, sym, ap, subst, ◌∙◌}
-use Rattle.std.specs.Prelude.{if◌then◌else◌, ◌==◌}
+use Rattle.std.specs.Prelude.{◌==◌}
 use Rattle.std.specs.FinMap as finite
 use Rattle.std.specs.FinSet as set
 use Rattle.std.specs.Cmp.{Equal-is}
@@ -38,7 +38,7 @@ use Rattle.pmg_holding.specs.declared.waiting.Waiting.{Waiting}
 use Rattle.pmg_holding.proofs.CallLemmas.{at_entries}
 use Rattle.pmg_holding.proofs.PickLemmas.{picked, picks, picks_rise, at_picks, any_key}
 use Rattle.pmg_rules.specs.Choosing.{waited}
-use Rattle.pmg_rules.specs.Holdings.{Get, Standing}
+use Rattle.pmg_rules.specs.Holdings.{Standing}
 use Rattle.pmg_rules.proofs.KeptBasics.{entry_listed}
 use Rattle.pmg_rules.proofs.SendingLists.{in_flat, flat_in}
 

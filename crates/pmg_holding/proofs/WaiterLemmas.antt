@@ -1,5 +1,5 @@
 -- Who waits in fences, in memory.
-use Rattle.std.proofs.Common.{◌≡◌, ℕ, Bool, true, false, ◌||◌, ◌&&◌, not, cond, List, Option, Some, None, is_some, refl, sym, ap, ◌∙◌}
+use Rattle.std.proofs.Common.{◌≡◌, ℕ, Bool, true, false, ◌&&◌, not, cond, List, Option, Some, None, is_some, refl, sym, ap, ◌∙◌}
 use Rattle.std.specs.Prelude.{◌==◌, ◌-◌, []}
 use Rattle.std.specs.BTreeMap.{is_at}
 use Rattle.std.specs.BTreeSet as tree
@@ -23,7 +23,7 @@ use Rattle.pmg_value.proofs.RowLemmas.{at_key, get-map_of, insert_same, rows_wit
 use Rattle.pmg_value.proofs.SetOrder.{in_order-from_list}
 use Rattle.pmg_frame.specs.FenceOrder.{name_cmp, name_total}
 use Rattle.pmg_frame.proofs.FenceOrderLemmas.{names_exact}
-use Rattle.pmg_holding.specs.Waiters.{Procs, Waiters, waiters_in, waiting_too, left_in, waiting_less}
+use Rattle.pmg_holding.specs.Waiters.{Procs, Waiters, waiters_in, waiting_too, waiting_less}
 
 cond_not : (a b x : Bool) → a ≡ b → cond a false x ≡ (not b && x)
 cond_not true b x e = ap (λ c. not c && x) e

@@ -3,7 +3,7 @@ use Rattle.std.specs.FinMap as finite
 use Rattle.pmg_value.specs.Rows.{rows_of}
 use Rattle.pmg_holding.specs.Calls.{standing_of}
 use Rattle.pmg_holding.specs.Codes.{Calls}
-use Rattle.pmg_holding.specs.Waiting.{IsIndex, with_call, without_call}
+use Rattle.pmg_holding.specs.Waiting.{IsIndex, without_call}
 use Rattle.pmg_holding.proofs.CallIndex.{index_put, index_back}
 use Rattle.pmg_holding.proofs.calls.Calls.put.Goals as goal
 

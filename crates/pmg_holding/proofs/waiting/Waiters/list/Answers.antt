@@ -1,12 +1,8 @@
 use Rattle.std.proofs.Common.{Option, sym, ap, ◌∙◌}
-use Rattle.std.specs.FinMap as finite
 use Rattle.std.specs.FinSet as set
 use Rattle.std.specs.Option.{unwrap_or}
 use Rattle.std.proofs.lemmas.Result.{IfOk-weaker}
 use Rattle.pmg_value.specs.InOrder.{in_order}
-use Rattle.pmg_value.specs.Process.{proc_cmp}
-use Rattle.pmg_value.proofs.ProcessOrder.{procs_total, exact_procs}
-use Rattle.pmg_value.proofs.SetOrder.{in_order-from_list}
 use Rattle.pmg_holding.specs.Waiters.{Procs}
 use Rattle.pmg_holding.proofs.WaiterLemmas.{nobody_in_order}
 use Rattle.pmg_holding.proofs.waiting.Waiters.list.Goals as goal
