@@ -8,7 +8,6 @@ use Rattle.pmg_rules.specs.Holdings.{Holding, sealer_of, settled}
 use Rattle.pmg_rules.specs.Sending.{is_quiet}
 use Rattle.pmg_node.specs.Servers.{Server, reply_to, sent_by, after}
 use Rattle.pmg_rules.specs.declared.due.Due.{Due}
-use Rattle.pmg_rules.specs.declared.sent.Sent.{Sent}
 use Rattle.pmg_node.proofs.SilentLemmas.{act_free, act_refused, refused_silent, sent_as, after_is, sent_none}
 
 -- an act that is refused changes nothing

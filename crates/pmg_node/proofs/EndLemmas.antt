@@ -1,5 +1,5 @@
 -- A process's end.
-use Rattle.std.proofs.Common.{◌≡◌, ◌<◌, ℕ, arith, suc, Bool, true, false, cond, List, [], ◌∷◌, ◌++◌, Option, Some, None, is_some, Result, Ok, Err, inl, inr, refl, sym, ap, subst, ◌∙◌}
+use Rattle.std.proofs.Common.{◌≡◌, ◌<◌, ℕ, arith, suc, Bool, true, false, cond, List, [], ◌∷◌, ◌++◌, Option, Some, None, is_some, Ok, Err, inl, inr, refl, sym, ap, subst, ◌∙◌}
 use Rattle.std.specs.FinMap as finite
 use Rattle.std.specs.Cmp.{Equal-is, eq_by_cmp_equiv}
 use Rattle.std.specs.List.{flat_map}
@@ -7,7 +7,7 @@ use Rattle.std.specs.Option.{option_map, unwrap_or}
 use Rattle.std.proofs.lemmas.List.Concat.{flat_map-append}
 use Rattle.pmg_value.specs.CheckOrder.{first_of}
 use Rattle.pmg_value.specs.Names.{is_reserved}
-use Rattle.pmg_value.specs.Process.{proc_cmp, is_host}
+use Rattle.pmg_value.specs.Process.{is_host}
 use Rattle.pmg_value.specs.Signatures.{FenceName}
 use Rattle.pmg_value.specs.declared.process.Proc.{Proc}
 use Rattle.pmg_value.specs.declared.refusal.Refusal.{Refusal}
@@ -23,7 +23,7 @@ use Rattle.pmg_fence.specs.Entering.{same_proc}
 use Rattle.pmg_fence.specs.Tables.{Fences, names_of}
 use Rattle.pmg_jobinfo.specs.Jobs.{Jobs}
 use Rattle.pmg_dmodex.specs.Levels.{Levels, without_below}
-use Rattle.pmg_rules.specs.Acts.{Act, Request, Reply, Done, is_misnamed, caller_cause, request_cause, cause, serves, does, acts}
+use Rattle.pmg_rules.specs.Acts.{Act, Request, Reply, Done, is_misnamed, caller_cause, request_cause, cause, serves, does}
 use Rattle.pmg_holding.specs.Answering.{AreAnswers}
 use Rattle.pmg_holding.specs.Calls.{all_instead}
 use Rattle.pmg_rules.specs.Choosing.{Out, announcing, due_by, due_by_request, marked_by_act, sends}
@@ -38,7 +38,6 @@ use Rattle.pmg_node.specs.Servers.{Server, IsAccepted, Refuses, reply_to, sent_b
 use Rattle.pmg_holding.specs.Telling.{announcing_by, settling_by}
 use Rattle.pmg_holding.specs.declared.call.Settled.{Settled}
 use Rattle.pmg_rules.specs.declared.due.Due.{Due}
-use Rattle.pmg_rules.specs.declared.sent.Sent.{Sent}
 use Rattle.pmg_node.proofs.ActLemmas.{refused_reply, accepted_reply, accepted_after, accepted_sent}
 use Rattle.pmg_holding.proofs.CallLemmas.{get-mapped}
 use Rattle.pmg_rules.proofs.CauseFacts.{neither, by_causes}

@@ -1,5 +1,5 @@
 -- Acts that change one fence.
-use Rattle.std.proofs.Common.{◌≡◌, ℕ, zero, suc, Bool, true, false, cond, List, [], ◌∷◌, ◌++◌, take, Option, Some, None, Ok, refl, sym, ap, subst, ◌∙◌}
+use Rattle.std.proofs.Common.{◌≡◌, ℕ, Bool, true, false, cond, List, [], take, Option, Some, None, Ok, refl, sym, ap, subst, ◌∙◌}
 use Rattle.std.specs.FinMap as finite
 use Rattle.std.specs.FinMap.{nat_cmp-IsAntisymmetric}
 use Rattle.std.specs.Cmp.{nat_cmp_total}
@@ -18,8 +18,8 @@ use Rattle.pmg_jobinfo.specs.Jobs.{Jobs}
 use Rattle.pmg_dmodex.specs.Levels.{Levels}
 use Rattle.pmg_dmodex.specs.Requests.{Requests}
 use Rattle.pmg_fence.specs.Changes.{placed, learned, present, news, taken}
-use Rattle.pmg_fence.specs.Codes.{Known, Owns}
-use Rattle.pmg_fence.specs.Kept.{placed_by, IsKept}
+use Rattle.pmg_fence.specs.Codes.{Known}
+use Rattle.pmg_fence.specs.Kept.{placed_by}
 use Rattle.pmg_fence.specs.Tables.{Fences, no_fence, no_series, has_name, series_at, fence_at}
 use Rattle.pmg_fence.specs.TakenBack.{table_back, CanTakeBack}
 use Rattle.pmg_fence.specs.declared.change.Change.{Change}
@@ -28,7 +28,7 @@ use Rattle.pmg_fence.specs.declared.table.TableBefore.{TableBefore}
 use Rattle.pmg_fence.proofs.KeptLemmas.{kept_waiting}
 use Rattle.pmg_store.specs.declared.board.Board.{Board}
 use Rattle.pmg_rules.specs.Acts.{Act, Reply, Done, done_as, cause, is_taken, receives, does}
-use Rattle.pmg_rules.specs.Choosing.{Out, announcing, telling_of, due_by, due_by_frame, marked_by_act, sends}
+use Rattle.pmg_rules.specs.Choosing.{announcing, telling_of, due_by, due_by_frame, marked_by_act, sends}
 use Rattle.pmg_holding.specs.Codes.{Calls}
 use Rattle.pmg_node.specs.Content.{server_of, IsContent}
 use Rattle.pmg_node.specs.Fencing.{fence_after, fence_dues, AreSettledIn}

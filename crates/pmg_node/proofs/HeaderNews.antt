@@ -9,7 +9,7 @@ use Rattle.pmg_frame.specs.declared.frame.Frame.TheVariants as frames
 use Rattle.pmg_frame.specs.declared.local.Local.{Local}
 use Rattle.pmg_jobinfo.specs.Jobs.{Jobs}
 use Rattle.pmg_fence.specs.Changes.{present, newly, news}
-use Rattle.pmg_fence.specs.Entering.{lines, told, locals_of}
+use Rattle.pmg_fence.specs.Entering.{told, locals_of}
 use Rattle.pmg_fence.specs.Tables.{Fences, has_name, entry_at, own_header}
 use Rattle.pmg_fence.specs.declared.entry.Entry.{Entry}
 use Rattle.pmg_fence.proofs.LimitLemmas.{lines_procs}

@@ -1,6 +1,5 @@
 -- Pieces that are taken.
 use Rattle.std.proofs.Common.{◌≡◌, ℕ, nat_lt, Bool, true, false, cond, List, [], refl, sym, ap, ◌∙◌}
-use Rattle.std.specs.Prelude.{if◌then◌else◌}
 use Rattle.pmg_value.specs.declared.process.Proc.{Proc}
 use Rattle.pmg_commit.specs.Data.{Data, absorbed, level_at}
 use Rattle.pmg_commit.specs.Knowledge.{Contribution}
@@ -18,7 +17,6 @@ use Rattle.pmg_rules.specs.Sending.{is_quiet}
 use Rattle.pmg_node.specs.Servers.{Server, reply_to, sent_by, after}
 use Rattle.pmg_holding.specs.declared.call.Settled.{Settled}
 use Rattle.pmg_rules.specs.declared.due.Due.{Due}
-use Rattle.pmg_rules.specs.declared.sent.Sent.{Sent}
 use Rattle.pmg_node.proofs.FrameLemmas.{deliver_by}
 use Rattle.pmg_rules.proofs.KeptAgain.{settled_on, piece_differs}
 use Rattle.pmg_node.proofs.SilentLemmas.{sent_as}

@@ -1,8 +1,8 @@
-use Rattle.std.proofs.Common.{◌≡◌, suc, true, false, is_some, sym, ap, subst, ◌∙◌}
+use Rattle.std.proofs.Common.{is_some, sym, ap, subst, ◌∙◌}
 use Rattle.std.specs.FinMap as finite
 use Rattle.std.specs.Prelude.{IfSome}
 use Rattle.std.specs.List.{flat_map}
-use Rattle.pmg_commit.specs.Sealed.{Sealed, end_of, ended_with}
+use Rattle.pmg_commit.specs.Sealed.{Sealed, end_of}
 use Rattle.pmg_commit.specs.TakenBack.{CanTakeBack as CanTakeSealBack}
 use Rattle.pmg_fence.specs.Changes.{ended_by, news}
 use Rattle.pmg_fence.specs.Tables.{names_of}

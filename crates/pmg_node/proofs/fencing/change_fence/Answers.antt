@@ -1,7 +1,6 @@
 use Rattle.std.proofs.Common.{◌≡◌, [], sym, ap, subst, ◌∙◌}
 use Rattle.pmg_fence.specs.Changes.{taken}
 use Rattle.pmg_fence.specs.Codes.{Known}
-use Rattle.pmg_fence.specs.Kept.{placed_by}
 use Rattle.pmg_fence.specs.TakenBack.{CanTakeBack}
 use Rattle.pmg_holding.specs.Answering.{AreAnswers}
 use Rattle.pmg_node.specs.Fencing.{fence_after}

@@ -1,4 +1,4 @@
-use Rattle.std.proofs.Common.{◌≡◌, ◌++◌, subst, ◌∙◌}
+use Rattle.std.proofs.Common.{◌++◌, subst, ◌∙◌}
 use Rattle.pmg_value.specs.declared.process.Proc.{Proc}
 use Rattle.pmg_scope.specs.declared.scope.Reach.TheVariants as reach
 use Rattle.pmg_commit.specs.Data.{absorbed}

@@ -1,7 +1,4 @@
 use Rattle.std.proofs.Common.{is_some, true, false, refl, sym, ap, ◌∙◌}
-use Rattle.std.specs.Prelude.{◌==◌}
-use Rattle.pmg_jobinfo.specs.Jobs.{home_of}
-use Rattle.pmg_node.specs.Servers.{Server}
 use Rattle.pmg_node.proofs.EntryLemmas.{some_mapped_is, judged_now, judged_all_now}
 use Rattle.pmg_node.proofs.node.Node.check_entry.Goals as goal
 

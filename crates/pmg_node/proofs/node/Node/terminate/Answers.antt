@@ -1,4 +1,4 @@
-use Rattle.std.proofs.Common.{◌≡◌, suc, true, false, is_some, List, ◌++◌, Ok, sym, ap, subst, append-nil, ◌∙◌}
+use Rattle.std.proofs.Common.{◌≡◌, is_some, List, ◌++◌, Ok, sym, ap, subst, append-nil, ◌∙◌}
 use Rattle.std.specs.FinMap as finite
 use Rattle.std.proofs.lemmas.Result.{IfOk-at_ok}
 use Rattle.pmg_value.specs.CheckOrder.{first_of}
@@ -8,7 +8,7 @@ use Rattle.pmg_fence.specs.Codes.{Known}
 use Rattle.pmg_dmodex.specs.Requests.{Requests}
 use Rattle.pmg_rules.specs.Acts.{Act, Request, Reply, caller_cause}
 use Rattle.pmg_node.specs.Content.{server_of}
-use Rattle.pmg_node.specs.Endings.{own_ended, table_ended}
+use Rattle.pmg_node.specs.Endings.{table_ended}
 use Rattle.pmg_rules.specs.Holdings.{sealer_of}
 use Rattle.pmg_holding.specs.Owns.{Own, sealed_of}
 use Rattle.pmg_node.specs.Servers.{Server, IsNode, reply_to, sent_by, after}
