@@ -1,3 +1,4 @@
 mod ReplayLemmas
 mod OpenLemmas
 mod KeptLemmas
+mod BoardLemmas

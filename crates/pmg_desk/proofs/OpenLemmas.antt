@@ -90,16 +90,18 @@ module _ (jobs : Jobs) (id : ℕ) (h : Holding) where
   there_open causes refusals.Closed none is = cc
   there_open causes e none is = tt
 
-  first_open : (causes : Refusal → Bool) (d : Done) (es : List Refusal) → causes refusals.Closed ≡ false → IsOpen d.reply → IsOpen (over jobs id h (first_in es causes d)).reply
-  first_open causes d [] none done = done
-  first_open causes d (e ∷ es) none done = by_test (causes e) refl (first_open causes d es none done)
+  -- what holds of each refusal that has a cause, and of the reply where nothing is refused, holds of the reply to the act
+  over_first : (P : Reply → Type 0) → (d : Done) (es : List Refusal) (causes : Refusal → Bool) → ((e : Refusal) → causes e ≡ true → P (Reply.refused e)) → P d.reply
+      → P (over jobs id h (first_in es causes d)).reply
+  over_first P d [] causes refused done = done
+  over_first P d (e ∷ es) causes refused done = by_test (causes e) refl (over_first P d es causes refused done)
     where
-      by_test : (b : Bool) → causes e ≡ b → IsOpen (over jobs id h (first_in es causes d)).reply → IsOpen (over jobs id h (cond b (Err e) (first_in es causes d))).reply
-      by_test true is rest = there_open causes e none is
+      by_test : (b : Bool) → causes e ≡ b → P (over jobs id h (first_in es causes d)).reply → P (over jobs id h (cond b (Err e) (first_in es causes d))).reply
+      by_test true is rest = refused e is
       by_test false is rest = rest
 
   pub acts_open : (a : Act) → IsOpen (acts jobs id h a).reply
-  acts_open a = first_open (cause jobs id h a) (does jobs id h a) check_order (no_cause a) (does_open a)
+  acts_open a = over_first IsOpen (does jobs id h a) check_order (cause jobs id h a) (λ e is. there_open (cause jobs id h a) e (no_cause a) is) (does_open a)
 
 -- the answer of an act is an event, where no allocation failed
 pub event_by : (s : Server) (a : Act) (e : Refusal) → IsAnswered {X = Acted} (Err e) → reply_to s a ≡ Reply.refused e → IsEvent {X = GivenReply} (Err e)

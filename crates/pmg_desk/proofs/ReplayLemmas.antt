@@ -80,5 +80,8 @@ live_taken start es taken out s live = record {
 -- what is known that begins with what was published
 pub told_of : (jobs : Jobs) (id : ℕ) (es more : List Happening) (e : Happening) (log known : List Publication) → more ≡ es ++ e ∷ [] → IsReplay (new_server jobs id) more
     → log ≡ published_over (new_server jobs id) more → IsPrefix log known → IsToldOf jobs id e known
-told_of jobs id es more e log known is replay shown prefix =
-    (es, subst (IsReplay (new_server jobs id)) is replay, subst (λ (ps : List Publication). IsPrefix ps known) (shown ∙ ap (published_over (new_server jobs id)) is) prefix)
+told_of jobs id es more e log known is replay shown prefix = record {
+  es = es;
+  replay = subst (IsReplay (new_server jobs id)) is replay;
+  is_known = subst (λ (ps : List Publication). IsPrefix ps known) (shown ∙ ap (published_over (new_server jobs id)) is) prefix;
+}

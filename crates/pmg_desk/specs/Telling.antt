@@ -7,6 +7,7 @@ use Rattle.pmg_publish.specs.declared.counting.Publication.{Publication}
 use Rattle.pmg_desk.specs.Replays.{Happening, IsReplay, published_over}
 
 -- What is known begins with what some journal of the node published, which is a replay and ends with this.
-abbrev pub IsToldOf : Jobs → ℕ → Happening → List Publication → Type 0
-IsToldOf jobs id e known =
-    (es : List Happening) × IsReplay (new_server jobs id) (es ++ e ∷ []) × IsPrefix (published_over (new_server jobs id) (es ++ e ∷ [])) known
+pub record IsToldOf (jobs : Jobs) (id : ℕ) (e : Happening) (known : List Publication) : Type 0 where
+  pub es : List Happening
+  pub replay : IsReplay (new_server jobs id) (es ++ e ∷ [])
+  pub is_known : IsPrefix (published_over (new_server jobs id) (es ++ e ∷ [])) known

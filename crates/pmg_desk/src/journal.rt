@@ -1,7 +1,8 @@
 //! What happened at a node, one event after the other.
-ghost use Rattle.std.specs.Prelude.{◌≡◌, ◌<◌, IfOk, OnOk, vec_capacity, vec_len};
+ghost use Rattle.std.specs.Prelude.{◌≡◌, ◌<◌, ◌∷◌, ◌++◌, [], IfOk, OnOk, vec_capacity, vec_len};
 ghost use Rattle.pmg_node.specs.Acting.{act_of, reply_as};
 ghost use Rattle.pmg_node.specs.Servers.{reply_in};
+ghost use Rattle.pmg_desk.specs.Journals.{happened, told_in};
 
 use pmg_jobinfo::Registry;
 use pmg_node::{Act, Reply};
@@ -82,5 +83,15 @@ impl Journal {
     {
         self.events.reserve(1)?;
         copy_of_act(act)
+    }
+
+    /// The act happened, and was answered so; there is a place for it.
+    pub(crate) fn note(&mut self, act: Act, answer: Result<Reply, Refusal>)
+        requires place { vec_len self.old.events < vec_capacity self.old.events }
+        ensures node { self.new.node ≡ self.old.node }
+        ensures registry { self.new.registry ≡ self.old.registry }
+        ensures events { told_in self.new ≡ told_in self.old ++ happened act answer ∷ [] }
+    {
+        self.events.push_reserved(Event { act, answer });
     }
 }

@@ -4,7 +4,9 @@ ghost use Rattle.std.specs.Option.{option_map};
 ghost use mathlib.Core.List.{IsPrefix};
 ghost use Rattle.pmg_value.specs.declared.refusal.Refusal.TheVariants as refusals;
 ghost use Rattle.pmg_jobinfo.specs.Jobs.{is_node};
-ghost use Rattle.pmg_rules.specs.Acts.{status_of};
+ghost use Rattle.pmg_store.specs.Dump.{dump};
+ghost use Rattle.pmg_value.specs.CheckOrder.{first_of};
+ghost use Rattle.pmg_rules.specs.Acts.{caller_cause, status_of};
 ghost use Rattle.pmg_node.specs.Acting.{act_of, joins_in, reply_as};
 ghost use Rattle.pmg_node.specs.Joining.{joins};
 ghost use Rattle.pmg_node.specs.Opening.{new_server};
@@ -15,13 +17,14 @@ ghost use Rattle.pmg_desk.specs.Replays.{publication_of, published_over};
 ghost use Rattle.pmg_desk.specs.States.{GoesOn, IsAt, IsSame, Steps};
 ghost use Rattle.pmg_desk.specs.Telling.{IsToldOf};
 
-use crate::journal::{Event, Journal, copy_of_answer};
+use crate::journal::{Journal, copy_of_answer};
 use pmg_jobinfo::Registry;
 use pmg_node::{Act, Joined, Node, Reply, Status};
 use pmg_publish::{MAX_VIEWERS, Publisher, Told, Viewer, publisher};
 use pmg_rules::Sent;
-use pmg_value::{NodeId, Proc, Refusal};
-use std::alloc::AllocError;
+use pmg_store::Store;
+use pmg_value::{NodeId, Proc, Refusal, WatchedWriter};
+use std::alloc::{AllocError, Global};
 use std::collections::VecDeque;
 use std::marker::Model;
 use std::mem;
@@ -186,11 +189,27 @@ fn happen_in<R: Wait>(
         *node = None;
         return Err(Refusal::NoMemory);
     };
-    journal.events.push_reserved(Event {
-        act: event,
-        answer: noted,
-    });
+    journal.note(event, noted);
     Ok(twice)
+}
+
+/// All frames of the outbox, which has none then.
+fn emptied(outbox: &mut VecDeque<Sent>, alloc: Global) -> VecDeque<Sent>
+    ensures frames { result.items ≡ outbox.old.items }
+    ensures rest { outbox.new.items ≡ [] }
+{
+    mem::replace(outbox, VecDeque::new(alloc))
+}
+
+/// The dump of a store.
+fn dump_of(alloc: Global, store: &Store) -> Result<Vec<u8>, AllocError>
+    ensures { IfOk result (λ text. text.items ≡ dump store.now) }
+{
+    let mut writer = WatchedWriter::new(Vec::new(alloc));
+    match store.dump(&mut writer) {
+        Ok(()) => Ok(writer.into_inner()),
+        Err(_) => Err(AllocError),
+    }
 }
 
 impl State {
@@ -278,6 +297,7 @@ impl State {
         ensures told { IfOk result (λ t. IsToldOf self.old.journal.registry self.old.journal.node (happened act.now t.told) viewer.new.log) }
         ensures copy { IfOk result (λ t. reply_in reply_as t.kept ≡ reply_in reply_as t.told) }
         ensures kind { IfOk result (λ t. IsEvent t.told) }
+        ensures err { IfErr result (λ e. (e ≡ refusals.NoMemory) ⊎ (e ≡ refusals.Closed)) }
         ensures seen { IsPrefix viewer.old.log viewer.new.log }
         ensures book { viewer.new.book ≡ viewer.old.book }
         ensures place { IsAt self.old self.new }
@@ -303,6 +323,17 @@ impl State {
         self.parts.node.is_none()
     }
 
+    /// Judges who calls: a process of the group, at home at the node, that has not ended; none where the node was given up. It is no
+    /// event.
+    pub fn check_caller(&self, proc: &Proc) -> Option<Result<(), Refusal>>
+        ensures { result ≡ option_map (λ s. first_of (caller_cause s.jobs s.id s.holding proc.now) tt) self.now.node }
+    {
+        match &self.parts.node {
+            Some(node) => Some(node.check_caller(proc)),
+            None => None,
+        }
+    }
+
     /// How the process stands; none where the node was given up. It is no event.
     pub fn status(&self, proc: &Proc) -> Option<Status>
         ensures { option_map status_in result ≡ option_map (λ s. status_of s.jobs s.id s.holding proc.now) self.now.node }
@@ -310,6 +341,19 @@ impl State {
         match &self.parts.node {
             Some(node) => Some(node.status(proc)),
             None => None,
+        }
+    }
+
+    /// What other nodes may know of all processes, as text; none where the node was given up.
+    pub fn far_dump(&self) -> Result<Option<Vec<u8>>, AllocError>
+        ensures { IfOk result (λ text. option_map (λ t. t.items) text ≡ option_map (λ s. dump s.holding.far) self.now.node) }
+    {
+        match &self.parts.node {
+            Some(node) => Ok(Some(dump_of(
+                self.parts.journal.registry.allocator(),
+                node.board().far(),
+            )?)),
+            None => Ok(None),
         }
     }
 
@@ -340,8 +384,7 @@ impl State {
             return Err(Refusal::TooMany);
         };
         parts.taken = taken;
-        let empty = VecDeque::new(parts.journal.registry.allocator());
-        Ok(mem::replace(&mut parts.outbox, empty))
+        Ok(emptied(&mut parts.outbox, parts.journal.registry.allocator()))
     }
 
     /// Gives up the node. Journal and published store stand.

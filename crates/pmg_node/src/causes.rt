@@ -11,7 +11,7 @@ use pmg_jobinfo::Registry;
 use pmg_value::{Nspace, Proc, Refusal};
 
 /// Whether the namespace is registered.
-pub(crate) fn is_registered(registry: &Registry, nspace: &Nspace) -> bool
+pub fn is_registered(registry: &Registry, nspace: &Nspace) -> bool
     ensures { result ≡ is_registered registry.now nspace.now }
 {
     registry.homes(nspace).is_some()
@@ -44,7 +44,7 @@ pub(crate) fn is_bad_caller(registry: &Registry, proc: &Proc) -> bool
 
 impl Node {
     /// Judges who calls: a process of the group, at home at this node, that has not ended.
-    pub(crate) fn check_caller(&self, proc: &Proc) -> Result<(), Refusal>
+    pub fn check_caller(&self, proc: &Proc) -> Result<(), Refusal>
         ensures { result ≡ first_of (caller_cause self.now.jobs self.now.id self.now.holding proc.now) tt }
     {
         let registry = self.table.registry();

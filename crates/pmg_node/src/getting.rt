@@ -13,6 +13,7 @@ use crate::causes::is_misnamed;
 use crate::node::Node;
 use pmg_get::{Answer, Mode, View, resolve};
 use pmg_holding::Ahead;
+use pmg_jobinfo::Registry;
 use pmg_value::{Key, Proc};
 
 /// Whether no particular rank is named.
@@ -20,6 +21,19 @@ fn is_general(proc: &Proc) -> bool
     ensures { result ≡ is_general proc.now }
 {
     proc.rank.is_wildcard() || proc.rank.is_undef()
+}
+
+/// Whether a get may not ask for a key of the target, whatever is registered.
+pub fn is_bad_target(registry: &Registry, proc: &Proc, target: &Proc, key: &Key) -> bool
+    ensures { result ≡ target_cause registry.now proc.now (get_of target.now key.now) refusals.BadParam }
+{
+    if target.nspace.is_reserved() {
+        return true;
+    }
+    if key.is_reserved() {
+        return !is_general(target) && is_misnamed(registry, target);
+    }
+    is_general(target) || proc.cmp(target).is_eq() || is_misnamed(registry, target)
 }
 
 impl Node {
@@ -44,19 +58,5 @@ impl Node {
         ensures { outcome_of result ≡ answer_in self.now.jobs self.now.id self.now.holding (get_of target.now key.now) mode }
     {
         resolve(self.look(target, key), mode)
-    }
-
-    /// Whether a get may not ask for a key of the target, whatever is registered.
-    pub(crate) fn is_bad_target(&self, proc: &Proc, target: &Proc, key: &Key) -> bool
-        ensures { result ≡ target_cause self.now.jobs proc.now (get_of target.now key.now) refusals.BadParam }
-    {
-        let registry = self.table.registry();
-        if target.nspace.is_reserved() {
-            return true;
-        }
-        if key.is_reserved() {
-            return !is_general(target) && is_misnamed(registry, target);
-        }
-        is_general(target) || proc.cmp(target).is_eq() || is_misnamed(registry, target)
     }
 }

@@ -27,7 +27,9 @@ mod taking;
 
 pub use act::{Act, Acted, Joined, Reply, Request};
 pub use asked::Delivery;
+pub use causes::is_registered;
 pub use committing::Committed;
+pub use getting::is_bad_target;
 pub use laws::joining_rules;
 pub use leaving::Release;
 pub use node::Node;

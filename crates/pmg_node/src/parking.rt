@@ -17,6 +17,7 @@ ghost use Rattle.pmg_node.specs.Replies.{asked_reply};
 ghost use Rattle.pmg_node.specs.Servers.{reply_to, sent_by, after, Replies, IsAnswered};
 
 use crate::causes::{is_bad_caller, is_registered};
+use crate::getting::is_bad_target;
 use crate::node::Node;
 use pmg_get::{Answer, Mode};
 use pmg_holding::{Call, hand_out, take_back};
@@ -54,7 +55,7 @@ impl Node {
         ensures settled { IsSettled self.now.jobs self.now.id self.now.holding }
     {
         let registry = self.table.registry();
-        if self.is_bad_target(proc, target, key) {
+        if is_bad_target(registry, proc, target, key) {
             return Err(Refusal::BadParam);
         }
         if is_registered(registry, &target.nspace) {

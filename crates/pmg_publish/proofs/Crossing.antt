@@ -27,25 +27,25 @@ use Rattle.pmg_publish.specs.contracts.shown.Issue as Issue
 use Rattle.pmg_publish.specs.contracts.viewer.Viewer as Viewer
 use Rattle.pmg_publish.specs.contracts.publishing.Publisher as Publisher
 
-nspace_send : IsSend Nspace.the_row
+pub nspace_send : IsSend Nspace.the_row
 nspace_send = search (Bytes.the_send, sendable, owners) depth 40
 
-nspace_sync : IsSync Nspace.the_row
+pub nspace_sync : IsSync Nspace.the_row
 nspace_sync = search (Bytes.the_sync, sendable, owners) depth 40
 
-key_send : IsSend Key.the_row
+pub key_send : IsSend Key.the_row
 key_send = search (Bytes.the_send, sendable, owners) depth 40
 
 key_sync : IsSync Key.the_row
 key_sync = search (Bytes.the_sync, sendable, owners) depth 40
 
-proc_send : IsSend Proc.the_row
+pub proc_send : IsSend Proc.the_row
 proc_send = search (nspace_send, sendable) depth 40
 
-proc_sync : IsSync Proc.the_row
+pub proc_sync : IsSync Proc.the_row
 proc_sync = search (nspace_sync, sendable) depth 40
 
-value_send : IsSend Value.the_row
+pub value_send : IsSend Value.the_row
 value_send = search (values, Bytes.the_send, proc_send, sendable, owners) depth 60 fits 20000
 
 value_sync : IsSync Value.the_row
@@ -75,13 +75,13 @@ board_send = search (store_send, sendable) depth 40
 pub board_sync : IsSync (Board.the_field).row
 board_sync = search (store_sync, sendable) depth 40
 
-piece_send : IsSend Piece.the_row
+pub piece_send : IsSend Piece.the_row
 piece_send = search (values, value_send, Bytes.the_send, key_send, proc_send, sendable, owners) depth 60 fits 20000
 
-history_send : IsSend (History.the_field).row
+pub history_send : IsSend (History.the_field).row
 history_send = search (Seen.the_send, sendable) depth 40
 
-history_sync : IsSync (History.the_field).row
+pub history_sync : IsSync (History.the_field).row
 history_sync = search (Seen.the_sync, sendable) depth 40
 
 shown_send : IsSend Shown.the_row

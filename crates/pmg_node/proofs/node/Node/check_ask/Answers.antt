@@ -1,5 +1,7 @@
-use Rattle.std.proofs.Common.{◌≡◌, true, sym, ap, subst, ◌∙◌}
+use Rattle.std.proofs.Common.{◌≡◌, true, false, sym, ap, subst, ◌∙◌}
+use Rattle.pmg_value.specs.declared.refusal.Refusal.TheVariants as refusals
 use Rattle.pmg_jobinfo.specs.Jobs.{Jobs, is_registered}
+use Rattle.pmg_rules.specs.Acts.{target_cause}
 use Rattle.pmg_holding.specs.Calls.{get_of}
 use Rattle.pmg_node.specs.Servers.{Server, IsNode}
 use Rattle.pmg_node.proofs.AskLemmas.{ask_bad, ask_known}
@@ -8,7 +10,13 @@ use Rattle.pmg_node.proofs.node.Node.check_ask.Goals as goal
 pub returns-then-is_bad_target-clause-value : goal.returns-then-is_bad_target-clause-value
 returns-then-is_bad_target-clause-value c =
     let s = c.args.self.now in
-    sym (ask_bad s.jobs s.id s.holding c.args.proc.now (get_of c.args.target.now c.args.key.now) (sym c.is_bad_target.ensures ∙ c.if-is_bad_target.true))
+    let get = get_of c.args.target.now c.args.key.now in
+    let bad : target_cause s.jobs c.args.proc.now get refusals.BadParam ≡ true =
+    ap (λ (x : Server). target_cause x.jobs c.args.proc.now get refusals.BadParam) (sym c.self.view_is)
+    ∙ ap (λ (j : Jobs). target_cause j c.args.proc.now get refusals.BadParam) (sym c.registry-registry.ensures)
+    ∙ sym c.is_bad_target.ensures
+    ∙ c.if-is_bad_target.true in
+    sym (ask_bad s.jobs s.id s.holding c.args.proc.now get bad)
 
 pub returns-then-is_bad_target-clause-settled : goal.returns-then-is_bad_target-clause-settled
 returns-then-is_bad_target-clause-settled c = (subst IsNode c.self.view_is c.self.invariant.node).server.settled
@@ -22,8 +30,13 @@ returns-then-is_registered-clause-value c =
     ∙ ap (λ (j : Jobs). is_registered j space) (sym c.registry-registry.ensures)
     ∙ sym c.is_registered.ensures
     ∙ c.if-is_registered.true in
-    c.check_free.ensures
-    ∙ sym (ask_known s.jobs s.id s.holding c.args.proc.now (get_of c.args.target.now c.args.key.now) (sym c.is_bad_target.ensures ∙ c.if-is_bad_target.false) known)
+    let get = get_of c.args.target.now c.args.key.now in
+    let good : target_cause s.jobs c.args.proc.now get refusals.BadParam ≡ false =
+    ap (λ (x : Server). target_cause x.jobs c.args.proc.now get refusals.BadParam) (sym c.self.view_is)
+    ∙ ap (λ (j : Jobs). target_cause j c.args.proc.now get refusals.BadParam) (sym c.registry-registry.ensures)
+    ∙ sym c.is_bad_target.ensures
+    ∙ c.if-is_bad_target.false in
+    c.check_free.ensures ∙ sym (ask_known s.jobs s.id s.holding c.args.proc.now get good known)
 
 pub returns-then-is_registered-clause-settled : goal.returns-then-is_registered-clause-settled
 returns-then-is_registered-clause-settled c = (subst IsNode c.self.view_is c.self.invariant.node).server.settled

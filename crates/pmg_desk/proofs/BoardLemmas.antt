@@ -1,0 +1,63 @@
+-- What a replay publishes makes the stores of the node that it leaves.
+use Rattle.std.proofs.Common.{◌≡◌, ℕ, List, [], ◌∷◌, ◌++◌, Option, Some, None, refl, sym, ap, subst, ◌∙◌}
+use Rattle.std.specs.Option.{option_to_list}
+use Rattle.std.proofs.lemmas.List.{append-nil, append_assoc}
+use Rattle.std.specs.FinMap as finite
+use Rattle.pmg_commit.specs.Data.{Data, absorbed, join_data, of_contribution}
+use Rattle.pmg_commit.specs.Knowledge.{Contribution}
+use Rattle.pmg_jobinfo.specs.Jobs.{Jobs}
+use Rattle.pmg_store.specs.Pieces.{data_of}
+use Rattle.pmg_store.proofs.Converging.{joined_to_nothing, nothing_joined}
+use Rattle.pmg_holding.specs.Ahead.{joined}
+use Rattle.pmg_rules.specs.Acts.{Act}
+use Rattle.pmg_publish.proofs.Steps.{far-more, near-more}
+use Rattle.pmg_publish.specs.Publications.{far_of, near_of}
+use Rattle.pmg_publish.specs.declared.counting.Publication.{Publication}
+use Rattle.pmg_node.proofs.JoiningLemmas.{joins_are_all}
+use Rattle.pmg_node.specs.Joining.{Joins, joins}
+use Rattle.pmg_node.specs.Opening.{new_server}
+use Rattle.pmg_node.specs.Servers.{Server, after}
+use Rattle.pmg_desk.specs.Boards.{PublishesWhatIsHeld}
+use Rattle.pmg_desk.specs.Replays.{Happening, after_all, published_by, published_over}
+
+-- what is joined, as a list of at most one
+joined_is : (d : Data) (o : Option Contribution) → join_data d (data_of (option_to_list o)) ≡ joined d o
+joined_is d None = nothing_joined d
+joined_is d (Some c) = ap (join_data d) (joined_to_nothing (of_contribution c))
+
+module _ (s : Server) (a : Act) (log : List Publication) where
+  near_on : near_of log ≡ s.holding.near → near_of (log ++ published_by s a ∷ []) ≡ (after s a).holding.near
+  near_on is =
+      near-more log (option_to_list (joins s.jobs s.id s.holding a).near) (option_to_list (joins s.jobs s.id s.holding a).far)
+      ∙ joined_is (near_of log) (joins s.jobs s.id s.holding a).near ∙ ap (λ (d : Data). joined d (joins s.jobs s.id s.holding a).near) is
+      ∙ sym (joins_are_all s.jobs s.id s.holding a).0
+
+  far_on : far_of log ≡ s.holding.far → far_of (log ++ published_by s a ∷ []) ≡ (after s a).holding.far
+  far_on is =
+      far-more log (option_to_list (joins s.jobs s.id s.holding a).near) (option_to_list (joins s.jobs s.id s.holding a).far)
+      ∙ joined_is (far_of log) (joins s.jobs s.id s.holding a).far ∙ ap (λ (d : Data). joined d (joins s.jobs s.id s.holding a).far) is
+      ∙ sym (joins_are_all s.jobs s.id s.holding a).1
+
+near_over : (s : Server) (es : List Happening) (log : List Publication) → near_of log ≡ s.holding.near → near_of (log ++ published_over s es) ≡ (after_all s es).holding.near
+near_over s [] log is = ap near_of (append-nil log) ∙ is
+near_over s (e ∷ es) log is =
+    ap near_of (sym (append_assoc log (published_by s e.act ∷ []) (published_over (after s e.act) es)))
+    ∙ near_over (after s e.act) es (log ++ published_by s e.act ∷ []) (near_on s e.act log is)
+
+far_over : (s : Server) (es : List Happening) (log : List Publication) → far_of log ≡ s.holding.far → far_of (log ++ published_over s es) ≡ (after_all s es).holding.far
+far_over s [] log is = ap far_of (append-nil log) ∙ is
+far_over s (e ∷ es) log is =
+    ap far_of (sym (append_assoc log (published_by s e.act ∷ []) (published_over (after s e.act) es)))
+    ∙ far_over (after s e.act) es (log ++ published_by s e.act ∷ []) (far_on s e.act log is)
+
+none_near : near_of [] ≡ finite.empty
+unfolding near_of
+none_near = refl
+
+none_far : far_of [] ≡ finite.empty
+unfolding far_of
+none_far = refl
+
+pub publishes_what_is_held : PublishesWhatIsHeld
+publishes_what_is_held jobs id es =
+    (near_over (new_server jobs id) es [] none_near, far_over (new_server jobs id) es [] none_far)
