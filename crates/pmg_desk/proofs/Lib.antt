@@ -1,4 +1,15 @@
 mod ReplayLemmas
 mod OpenLemmas
 mod KeptLemmas
+mod KindLemmas
+mod TakeLemmas
+pub mod Crossing
+mod NoteLemmas
+mod OwnLemmas
+mod ReadLemmas
+mod GetLemmas
+mod PlaceLemmas
+mod ReadyLemmas
 mod BoardLemmas
+mod SeenLemmas
+mod ClientLemmas

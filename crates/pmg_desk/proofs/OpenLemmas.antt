@@ -91,7 +91,7 @@ module _ (jobs : Jobs) (id : ℕ) (h : Holding) where
   there_open causes e none is = tt
 
   -- what holds of each refusal that has a cause, and of the reply where nothing is refused, holds of the reply to the act
-  over_first : (P : Reply → Type 0) → (d : Done) (es : List Refusal) (causes : Refusal → Bool) → ((e : Refusal) → causes e ≡ true → P (Reply.refused e)) → P d.reply
+  pub over_first : (P : Reply → Type 0) → (d : Done) (es : List Refusal) (causes : Refusal → Bool) → ((e : Refusal) → causes e ≡ true → P (Reply.refused e)) → P d.reply
       → P (over jobs id h (first_in es causes d)).reply
   over_first P d [] causes refused done = done
   over_first P d (e ∷ es) causes refused done = by_test (causes e) refl (over_first P d es causes refused done)

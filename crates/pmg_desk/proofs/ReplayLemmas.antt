@@ -85,3 +85,8 @@ told_of jobs id es more e log known is replay shown prefix = record {
   replay = subst (IsReplay (new_server jobs id)) is replay;
   is_known = subst (λ (ps : List Publication). IsPrefix ps known) (shown ∙ ap (published_over (new_server jobs id)) is) prefix;
 }
+
+-- the last reply is the one that the server gives to the last act
+pub last_is : (s : Server) (es : List Happening) (a : Act) (r : Reply) → IsReplay s (es ++ happening a r ∷ []) → reply_to (after_all s es) a ≡ r
+last_is s [] a r replay = replay.0
+last_is s (e ∷ es) a r replay = last_is (after s e.act) es a r replay.1

@@ -2,4 +2,10 @@ pub mod Replays
 pub mod Journals
 pub mod States
 pub mod Telling
+pub mod Places
+pub mod Transcripts
+pub mod Clients
+pub mod Reading
+pub mod Kinds
 pub mod Boards
+pub mod Answered

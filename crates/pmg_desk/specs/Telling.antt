@@ -1,13 +1,28 @@
 -- What a viewer was told of a journal.
-use Rattle.std.specs.Prelude.{ℕ, List, [], ◌∷◌, ◌++◌}
+use Rattle.std.specs.Prelude.{◌≡◌, ℕ, true, List, [], ◌∷◌, ◌++◌}
 use mathlib.Core.List.{IsPrefix}
+use Rattle.pmg_value.specs.Signatures.{FenceName}
+use Rattle.pmg_value.specs.declared.process.Proc.{Proc}
 use Rattle.pmg_jobinfo.specs.Jobs.{Jobs}
+use Rattle.pmg_fence.specs.Tables.{gone_by}
+use Rattle.pmg_rules.specs.Holdings.{is_ready_at}
 use Rattle.pmg_node.specs.Opening.{new_server}
 use Rattle.pmg_publish.specs.declared.counting.Publication.{Publication}
-use Rattle.pmg_desk.specs.Replays.{Happening, IsReplay, published_over}
+use Rattle.pmg_desk.specs.Replays.{Happening, IsReplay, after_all, published_over}
 
 -- What is known begins with what some journal of the node published, which is a replay and ends with this.
 pub record IsToldOf (jobs : Jobs) (id : ℕ) (e : Happening) (known : List Publication) : Type 0 where
   pub es : List Happening
   pub replay : IsReplay (new_server jobs id) (es ++ e ∷ [])
   pub is_known : IsPrefix (published_over (new_server jobs id) (es ++ e ∷ [])) known
+
+-- At some time of a journal of the node, which is a replay, the fence was ready there, with those that were gone by then; and all is known that
+-- was published until then.
+pub record WasReady (jobs : Jobs) (id instance : ℕ) (gone : List Proc) (known : List Publication) : Type 0 where
+  pub es : List Happening
+  pub fence : FenceName
+  pub replay : IsReplay (new_server jobs id) es
+  pub ready : is_ready_at jobs id (after_all (new_server jobs id) es).holding fence ≡ true
+  pub of_instance : fence.instance ≡ instance
+  pub gone_then : gone ≡ gone_by jobs id (after_all (new_server jobs id) es).holding.table fence
+  pub is_known : IsPrefix (published_over (new_server jobs id) es) known

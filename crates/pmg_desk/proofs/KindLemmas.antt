@@ -1,0 +1,128 @@
+-- Each act is given a reply of its kind.
+use Rattle.std.specs.Prelude.{if◌then◌else◌, IfOk, IfSome}
+use Rattle.std.proofs.Common.{◌≡◌, ℕ, Bool, true, false, cond, List, [], ◌∷◌, ◌++◌, Option, Some, None, Result, Ok, Err, refl, subst}
+use Rattle.pmg_value.specs.CheckOrder.{check_order, first_in}
+use Rattle.pmg_value.specs.declared.process.Proc.{Proc}
+use Rattle.pmg_value.specs.declared.refusal.Refusal.{Refusal}
+use Rattle.pmg_value.specs.declared.refusal.Refusal.TheVariants as refusals
+use Rattle.pmg_jobinfo.specs.Jobs.{Jobs}
+use Rattle.pmg_frame.specs.declared.frame.Frame.{Frame}
+use Rattle.pmg_get.specs.Gets.{Outcome}
+use Rattle.pmg_get.specs.declared.view.Mode.{Mode}
+use Rattle.pmg_rules.specs.Acts.{Act, Done, Reply, Request, acts, asks, cause, does, done_as, is_taken, leaves, over, receives, serves, takes}
+use Rattle.pmg_rules.specs.Holdings.{Get, Holding, Standing, answer_in, call_of}
+use Rattle.pmg_node.specs.Acting.{act_of, reply_as}
+use Rattle.pmg_node.specs.Opening.{new_server}
+use Rattle.pmg_node.specs.Servers.{Server, after, reply_in, reply_to}
+use Rattle.pmg_node.specs.declared.act.Act.{Act as GivenAct}
+use Rattle.pmg_node.specs.declared.act.Reply.{Reply as GivenReply}
+use Rattle.pmg_node.specs.declared.act.Reply.TheVariants as replies
+use Rattle.pmg_publish.specs.declared.counting.Publication.{Publication}
+use Rattle.pmg_desk.specs.Journals.{IsEvent}
+use Rattle.pmg_desk.specs.Kinds.{IsChange, IsDefined, IsKind, IsReplyTo, OrRefused, Tell}
+use Rattle.pmg_desk.specs.Replays.{Happening, IsReplay, after_all, happening}
+use Rattle.pmg_desk.specs.States.{Steps}
+use Rattle.pmg_desk.specs.Telling.{IsToldOf}
+use Rattle.pmg_desk.proofs.OpenLemmas.{over_first}
+use Rattle.pmg_desk.proofs.ReplayLemmas.{last_is}
+
+refused_kind : (a : Act) (e : Refusal) → IsKind a (Reply.refused e)
+refused_kind a e = tt
+
+module _ (jobs : Jobs) (id : ℕ) (h : Holding) where
+  leaves_kind : (p : Proc) (c : Option Standing) → IsKind (Act.request (Request.leave p)) (leaves h p c).reply
+  leaves_kind p None = tt
+  leaves_kind p (Some (Standing.in_fence f)) = tt
+  leaves_kind p (Some (Standing.released f gone)) = tt
+  leaves_kind p (Some (Standing.parked get)) = tt
+  leaves_kind p (Some (Standing.answered get outcome)) = tt
+
+  takes_kind : (p : Proc) (c : Option Standing) → IsKind (Act.request (Request.take p)) (takes h p c).reply
+  takes_kind p None = tt
+  takes_kind p (Some (Standing.in_fence f)) = tt
+  takes_kind p (Some (Standing.released f gone)) = tt
+  takes_kind p (Some (Standing.parked get)) = tt
+  takes_kind p (Some (Standing.answered get (Outcome.found value))) = tt
+  takes_kind p (Some (Standing.answered get Outcome.absent)) = tt
+  takes_kind p (Some (Standing.answered get Outcome.outside)) = tt
+  takes_kind p (Some (Standing.answered get Outcome.parks)) = tt
+
+  asks_kind : (p : Proc) (get : Get) (mode : Mode) (o : Outcome) → IsKind (Act.request (Request.ask p get mode)) (asks h p get o).reply
+  asks_kind p get mode (Outcome.found value) = tt
+  asks_kind p get mode Outcome.absent = tt
+  asks_kind p get mode Outcome.outside = tt
+  asks_kind p get mode Outcome.parks = tt
+
+  serves_kind : (r : Request) → IsKind (Act.request r) (serves jobs id h r).reply
+  unfolding serves
+  serves_kind (Request.enter p list collect) = tt
+  serves_kind (Request.leave p) = leaves_kind p (call_of h p)
+  serves_kind (Request.ask p get mode) = asks_kind p get mode (answer_in jobs id h get mode)
+  serves_kind (Request.take p) = takes_kind p (call_of h p)
+  serves_kind (Request.terminate p) = tt
+  serves_kind (Request.define name list) = tt
+  serves_kind (Request.delete name) = tt
+  serves_kind Request.nudge = tt
+
+  delivers_kind : (frame : Frame) (b : Bool) → IsKind (Act.deliver frame) (cond b (done_as Reply.taken (receives h frame)) (done_as Reply.ignored h)).reply
+  delivers_kind frame true = tt
+  delivers_kind frame false = tt
+
+  does_kind : (a : Act) → IsKind a (does jobs id h a).reply
+  unfolding does
+  does_kind (Act.request r) = serves_kind r
+  does_kind (Act.commit p b) = tt
+  does_kind (Act.deliver frame) = delivers_kind frame (is_taken jobs id frame)
+
+  acts_kind : (a : Act) → IsKind a (acts jobs id h a).reply
+  acts_kind a = over_first jobs id h (IsKind a) (does jobs id h a) check_order (cause jobs id h a) (λ e is. refused_kind a e) (does_kind a)
+
+-- a reply that some server gives to an act is of its kind
+pub kind_of : (a : Act) (r : Reply) → IsReplyTo a r → IsKind a r
+kind_of a r some = subst (IsKind a) some.is (acts_kind some.server.jobs some.server.id some.server.holding a)
+
+-- what a viewer was told of ends with a reply that a server gave
+pub told_reply : (jobs : Jobs) (id : ℕ) (a : Act) (r : Reply) (known : List Publication) → IsToldOf jobs id (happening a r) known → IsReplyTo a r
+told_reply jobs id a r known told = record { server = after_all (new_server jobs id) told.es; is = last_is (new_server jobs id) told.es a r told.replay }
+
+-- a reply of code is no refusal
+pub plain : (P : Reply → Type 0) (r : GivenReply) → OrRefused P (reply_as r) → P (reply_as r)
+plain P replies.Done such = such
+plain P (replies.Committed number) such = such
+plain P (replies.Entered instance) such = such
+plain P replies.Idle such = such
+plain P replies.Waiting such = such
+plain P (replies.Released instance gone) such = such
+plain P (replies.Found value) such = such
+plain P replies.Parked such = such
+plain P replies.Taken such = such
+plain P replies.Ignored such = such
+plain P (replies.Ended number) such = such
+plain P (replies.Defined number) such = such
+
+-- so what is answered to an act is of its kind, unless it is refused
+pub answer_kind : (a : Act) (r : Result GivenReply Refusal) → (IsEvent r → IsReplyTo a (reply_in reply_as r)) → IfOk r (λ x. Tell a (reply_as x))
+answer_kind a (Ok x) told = plain (Tell a) x (kind_of a (reply_as x) (told tt))
+answer_kind a (Err e) told = tt
+
+pub told_kind : (jobs : Jobs) (id : ℕ) (a : Act) (r : Result GivenReply Refusal) (known : List Publication) → (IsEvent r → IsToldOf jobs id (happening a (reply_in reply_as r)) known)
+    → IfOk r (λ x. Tell a (reply_as x))
+told_kind jobs id a r known told = answer_kind a r (λ event. told_reply jobs id a (reply_in reply_as r) known (told event))
+
+-- a change of the process sets is told its number
+pub change_kind : (q : Request) (r : Result GivenReply Refusal) → IsChange q → IfOk r (λ x. Tell (Act.request q) (reply_as x)) → IfOk r (λ x. IsDefined (reply_as x))
+change_kind q (Err e) change kind = tt
+change_kind (Request.define name list) (Ok x) change kind = kind
+change_kind (Request.delete name) (Ok x) change kind = kind
+change_kind (Request.enter p list collect) (Ok x) change kind = absurd change
+change_kind (Request.leave p) (Ok x) change kind = absurd change
+change_kind (Request.ask p get mode) (Ok x) change kind = absurd change
+change_kind (Request.take p) (Ok x) change kind = absurd change
+change_kind (Request.terminate p) (Ok x) change kind = absurd change
+change_kind Request.nudge (Ok x) change kind = absurd change
+
+-- what an open desk answered is what its node replied
+pub replied : (node left : Option Server) (a : GivenAct) (r : Result GivenReply Refusal) → (IsEvent r → IfSome node (λ s. Steps s a r left)) → (node ≡ None → r ≡ Err refusals.Closed) → IsEvent r
+    → IsReplyTo (act_of a) (reply_in reply_as r)
+replied None left a r step shut event = absurd (subst IsEvent (shut refl) event)
+replied (Some s) left a r step shut event = record { server = s; is = (step event).0 }

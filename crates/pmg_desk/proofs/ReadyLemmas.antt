@@ -1,0 +1,149 @@
+-- Whoever is released was so at a time when its fence was ready.
+use Rattle.std.specs.Prelude.{IfOk}
+use Rattle.std.proofs.Common.{◌≡◌, ◌⊎◌, inl, inr, ℕ, true, List, [], ◌∷◌, ◌++◌, Option, Some, None, Result, Ok, Err, refl, sym, ap, subst, ◌∙◌}
+use Rattle.std.proofs.lemmas.List.{append_assoc}
+use Rattle.std.specs.FinMap as finite
+use mathlib.Core.List.{IsPrefix}
+use Rattle.pmg_value.specs.CheckOrder.{check_order}
+use Rattle.pmg_value.specs.Process.{proc_cmp}
+use Rattle.pmg_value.specs.Signatures.{FenceName}
+use Rattle.pmg_value.specs.declared.process.Proc.{Proc}
+use Rattle.pmg_value.specs.declared.refusal.Refusal.{Refusal}
+use Rattle.pmg_jobinfo.specs.Jobs.{Jobs}
+use Rattle.pmg_fence.specs.Tables.{gone_by}
+use Rattle.pmg_rules.proofs.AfterActs.{freed_by_ready}
+use Rattle.pmg_rules.specs.Acts.{Act, Reply, Request, cause, does, leaves, serves}
+use Rattle.pmg_rules.specs.Holdings.{Standing, Holding, call_of, is_ready_at}
+use Rattle.pmg_node.specs.Opening.{new_server}
+use Rattle.pmg_node.specs.Replies.{release_reply}
+use Rattle.pmg_node.specs.Servers.{Server, after, reply_in, reply_to}
+use Rattle.pmg_node.specs.declared.leaving.Release.{Release}
+use Rattle.pmg_node.specs.declared.leaving.Release.TheVariants as releases
+use Rattle.pmg_publish.specs.declared.counting.Publication.{Publication}
+use Rattle.pmg_desk.specs.Clients.{Client, KnowsReady, Tells}
+use Rattle.pmg_desk.specs.Journals.{IsEvent}
+use Rattle.pmg_desk.specs.Replays.{Happening, IsReplay, after_all, happening, published_by, published_over}
+use Rattle.pmg_desk.specs.Telling.{IsToldOf, WasReady}
+use Rattle.pmg_desk.proofs.OpenLemmas.{over_first}
+use Rattle.pmg_desk.proofs.ReplayLemmas.{last_is}
+use Rattle.pmg_publish.proofs.Prefixes.{prefix_trans}
+
+module _ (p : Proc) (f : FenceName) (gone : List Proc) where
+  abbrev IsReleased : Server → Type 0
+  IsReleased s = call_of s.holding p ≡ Some (Standing.released f gone)
+
+  abbrev IsReadyThen : Server → Type 0
+  IsReadyThen s = (is_ready_at s.jobs s.id s.holding f ≡ true) × (gone ≡ gone_by s.jobs s.id s.holding.table f)
+
+  -- at some time on the way it was ready, unless the process was released already
+  since : (s : Server) (es : List Happening) → IsReleased (after_all s es)
+      → IsReleased s ⊎ ((one : List Happening) × (two : List Happening) × (es ≡ one ++ two) × IsReadyThen (after_all s one))
+  since s [] is = inl is
+  since s (e ∷ es) is = later (since (after s e.act) es is)
+    where
+      first : IsReleased s ⊎ IsReadyThen (after s e.act) → IsReleased s ⊎ ((one : List Happening) × (two : List Happening) × (e ∷ es ≡ one ++ two) × IsReadyThen (after_all s one))
+      first (inl old) = inl old
+      first (inr ready) = inr (e ∷ [], es, refl, ready)
+
+      later : IsReleased (after s e.act) ⊎ ((one : List Happening) × (two : List Happening) × (es ≡ one ++ two) × IsReadyThen (after_all (after s e.act) one))
+          → IsReleased s ⊎ ((one : List Happening) × (two : List Happening) × (e ∷ es ≡ one ++ two) × IsReadyThen (after_all s one))
+      later (inl old) = first (freed_by_ready s.jobs s.id s.holding e.act p f gone old)
+      later (inr (one, two, is, ready)) = inr (e ∷ one, two, ap (λ (xs : List Happening). e ∷ xs) is, ready)
+
+released_call : (h : Holding) (p : Proc) (n : ℕ) (gone : List Proc) (c : Option Standing) → (leaves h p c).reply ≡ Reply.released n gone
+    → (f : FenceName) × (c ≡ Some (Standing.released f gone)) × (f.instance ≡ n)
+released_call h p n gone None is = cc
+released_call h p n gone (Some (Standing.in_fence f)) is = cc
+released_call h p n gone (Some (Standing.parked get)) is = cc
+released_call h p n gone (Some (Standing.answered get outcome)) is = cc
+released_call h p n gone (Some (Standing.released f left)) is =
+    (f, ap (λ (r : Reply). Some (Standing.released f (gone_in r))) is, ap instance_in is)
+  where
+    gone_in : Reply → List Proc
+    gone_in (Reply.released m xs) = xs
+    gone_in r = []
+
+    instance_in : Reply → ℕ
+    instance_in (Reply.released m xs) = m
+    instance_in r = 0
+
+-- who is told so was released
+released_by : (s : Server) (p : Proc) (n : ℕ) (gone : List Proc) → reply_to s (Act.request (Request.leave p)) ≡ Reply.released n gone
+    → (f : FenceName) × (call_of s.holding p ≡ Some (Standing.released f gone)) × (f.instance ≡ n)
+unfolding does serves
+released_by s p n gone =
+    over_first s.jobs s.id s.holding (λ (r : Reply). r ≡ Reply.released n gone → (f : FenceName) × (call_of s.holding p ≡ Some (Standing.released f gone)) × (f.instance ≡ n))
+    (does s.jobs s.id s.holding (Act.request (Request.leave p))) check_order (cause s.jobs s.id s.holding (Act.request (Request.leave p))) (λ e due is. cc)
+    (released_call s.holding p n gone (call_of s.holding p))
+
+published_first : (s : Server) (one two : List Happening) → IsPrefix (published_over s one) (published_over s (one ++ two))
+published_first s [] two = (published_over s two, refl)
+published_first s (e ∷ one) two =
+    let rest = published_first (after s e.act) one two in (rest.0, ap (λ (ps : List Publication). published_by s e.act ∷ ps) rest.1)
+
+jobs_same : (s : Server) (es : List Happening) → (after_all s es).jobs ≡ s.jobs
+jobs_same s [] = refl
+jobs_same s (e ∷ es) = jobs_same (after s e.act) es
+
+id_same : (s : Server) (es : List Happening) → (after_all s es).id ≡ s.id
+id_same s [] = refl
+id_same s (e ∷ es) = id_same (after s e.act) es
+
+replay_first : (s : Server) (one two : List Happening) → IsReplay s (one ++ two) → IsReplay s one
+replay_first s [] two replay = tt
+replay_first s (e ∷ one) two replay = (replay.0, replay_first (after s e.act) one two replay.1)
+
+-- so the client's viewer knows of a time when its fence was ready
+pub ready_told : (jobs : Jobs) (id : ℕ) (p : Proc) (n : ℕ) (gone : List Proc) (known : List Publication)
+    → IsToldOf jobs id (happening (Act.request (Request.leave p)) (Reply.released n gone)) known → WasReady jobs id n gone known
+ready_told jobs id p n gone known told = at_first (released_by (after_all start es) p n gone (last_is start es leave (Reply.released n gone) replay))
+  where
+    start : Server
+    start = new_server jobs id
+
+    leave : Act
+    leave = Act.request (Request.leave p)
+
+    es : List Happening
+    es = told.es
+
+    replay : IsReplay start (es ++ happening leave (Reply.released n gone) ∷ [])
+    replay = told.replay
+
+    shown : IsPrefix (published_over start (es ++ happening leave (Reply.released n gone) ∷ [])) known
+    shown = told.is_known
+
+    nobody : (f : FenceName) → IsReleased p f gone start → ⊥
+    nobody f is = by_none (sym (finite.get-empty proc_cmp p) ∙ is)
+      where
+        by_none : None ≡ Some (Standing.released f gone) → ⊥
+        by_none same = cc
+
+    made : (f : FenceName) → f.instance ≡ n → (one two : List Happening) → es ≡ one ++ two → IsReadyThen p f gone (after_all start one) → WasReady jobs id n gone known
+    made f same one two is ready =
+        let whole : es ++ happening leave (Reply.released n gone) ∷ [] ≡ one ++ (two ++ happening leave (Reply.released n gone) ∷ []) =
+        (λ i. is i ++ happening leave (Reply.released n gone) ∷ []) ∙ append_assoc one two (happening leave (Reply.released n gone) ∷ []) in
+        record {
+          es = one;
+          fence = f;
+          replay = replay_first start one (two ++ happening leave (Reply.released n gone) ∷ []) (subst (IsReplay start) whole replay);
+          ready = (λ i. is_ready_at (sym (jobs_same start one) i) (sym (id_same start one) i) (after_all start one).holding f) ∙ ready.0;
+          of_instance = same;
+          gone_then = ready.1 ∙ (λ i. gone_by (jobs_same start one i) (id_same start one i) (after_all start one).holding.table f);
+          is_known = prefix_trans (published_over start one) _ known (published_first start one (two ++ happening leave (Reply.released n gone) ∷ []))
+              (subst (λ (xs : List Happening). IsPrefix (published_over start xs) known) whole shown);
+        }
+
+    at_first : (f : FenceName) × (call_of (after_all start es).holding p ≡ Some (Standing.released f gone)) × (f.instance ≡ n) → WasReady jobs id n gone known
+    at_first (f, is, same) = by_way (since p f gone start es is)
+      where
+        by_way : IsReleased p f gone start ⊎ ((one : List Happening) × (two : List Happening) × (es ≡ one ++ two) × IsReadyThen p f gone (after_all start one)) → WasReady jobs id n gone known
+        by_way (inl old) = absurd (nobody f old)
+        by_way (inr (one, two, way, ready)) = made f same one two way ready
+
+-- who is answered so knows it
+pub ready_known : (d : Client) (p : Proc) (r : Result Release Refusal) → (IsEvent r → Tells d (Act.request (Request.leave p)) (reply_in release_reply r)) → IfOk r (KnowsReady d)
+ready_known d p (Err e) told = tt
+ready_known d p (Ok releases.Idle) told = tt
+ready_known d p (Ok releases.Waiting) told = tt
+ready_known d p (Ok (releases.Released instance gone)) told = ready_told d.jobs d.node p instance gone.items d.viewer.log (told tt)

@@ -1,0 +1,109 @@
+-- What a taking is told: no get stands as answered before there is something to answer.
+use Rattle.std.specs.Prelude.{IfOk}
+use Rattle.std.specs.FinMap as finite
+use Rattle.std.specs.Option.{option_map}
+use Rattle.std.proofs.Common.{◌≡◌, inl, inr, ℕ, Bool, true, false, List, [], ◌∷◌, Option, Some, None, Result, Ok, Err, sym, subst, ◌∙◌}
+use Rattle.pmg_value.specs.CheckOrder.{check_order}
+use Rattle.pmg_value.specs.Process.{proc_cmp}
+use Rattle.pmg_value.specs.Signatures.{FenceName}
+use Rattle.pmg_value.specs.declared.process.Proc.{Proc}
+use Rattle.pmg_value.specs.declared.refusal.Refusal.{Refusal}
+use Rattle.pmg_jobinfo.specs.Jobs.{Jobs}
+use Rattle.pmg_get.specs.Gets.{Outcome}
+use Rattle.pmg_get.specs.declared.view.Mode.TheVariants as modes
+use Rattle.pmg_rules.proofs.AfterActs.{after_act}
+use Rattle.pmg_rules.proofs.CallFacts.{call-settled}
+use Rattle.pmg_rules.proofs.Moving.{Moves, StaysOrMoves, does_call}
+use Rattle.pmg_rules.specs.Acts.{Act, Reply, Request, cause, does, serves, takes}
+use Rattle.pmg_rules.specs.Holdings.{Get, Holding, Standing, answer_in, call_of, released_by, settle, settled, settled_by}
+use Rattle.pmg_node.specs.Acting.{reply_as}
+use Rattle.pmg_node.specs.Opening.{new_server}
+use Rattle.pmg_node.specs.Servers.{Server, after, reply_in, reply_to}
+use Rattle.pmg_node.specs.declared.act.Reply.{Reply as GivenReply}
+use Rattle.pmg_publish.specs.declared.counting.Publication.{Publication}
+use Rattle.pmg_desk.specs.Journals.{IsEvent}
+use Rattle.pmg_desk.specs.Kinds.{IsTaking, OrRefused}
+use Rattle.pmg_desk.specs.Replays.{Happening, after_all, happening}
+use Rattle.pmg_desk.specs.Telling.{IsToldOf}
+use Rattle.pmg_desk.proofs.KindLemmas.{plain}
+use Rattle.pmg_desk.proofs.OpenLemmas.{over_first}
+use Rattle.pmg_desk.proofs.ReplayLemmas.{last_is}
+
+-- whatever is answered has an outcome that is told
+abbrev HasOutcome : Option Standing → Type 0
+HasOutcome (Some (Standing.answered get Outcome.parks)) = ⊥
+HasOutcome c = Unit {0}
+
+abbrev HaveOutcomes : Holding → Type 0
+HaveOutcomes h = (p : Proc) → HasOutcome (call_of h p)
+
+released_has : (b : Bool) (f : FenceName) (gone : List Proc) → HasOutcome (Some (released_by b f gone))
+released_has true f gone = tt
+released_has false f gone = tt
+
+settled_has : (get : Get) (o : Outcome) → HasOutcome (Some (settled_by get o))
+settled_has get Outcome.parks = tt
+settled_has get (Outcome.found value) = tt
+settled_has get Outcome.absent = tt
+settled_has get Outcome.outside = tt
+
+module _ (jobs : Jobs) (id : ℕ) (h : Holding) where
+  settle_has : (c : Option Standing) → HasOutcome c → HasOutcome (option_map (settle jobs id h) c)
+  settle_has None has = tt
+  settle_has (Some (Standing.in_fence f)) has = released_has _ f _
+  settle_has (Some (Standing.released f gone)) has = tt
+  settle_has (Some (Standing.parked get)) has = settled_has get (answer_in jobs id h get modes.Wait)
+  settle_has (Some (Standing.answered get outcome)) has = has
+
+  moved_has : (p : Proc) (a : Act) (c : Option Standing) → HasOutcome (call_of h p) → StaysOrMoves jobs id h p a c → HasOutcome c
+  moved_has p a c has (inl same) = subst HasOutcome (sym same) has
+  moved_has p a c has (inr (Moves.entering list collect is was now)) = subst HasOutcome (sym now) tt
+  moved_has p a c has (inr (Moves.parking get mode is was answer now)) = subst HasOutcome (sym now) tt
+  moved_has p a c has (inr (Moves.leaving x others is was now)) = subst HasOutcome (sym now) tt
+  moved_has p a c has (inr (Moves.taking get outcome is was now)) = subst HasOutcome (sym now) tt
+  moved_has p a c has (inr (Moves.ending is now)) = subst HasOutcome (sym now) tt
+
+outcomes_stay : (s : Server) (a : Act) → HaveOutcomes s.holding → HaveOutcomes (after s a).holding
+outcomes_stay s a have =
+    after_act s.jobs s.id s.holding a HaveOutcomes have (λ none p.
+    subst HasOutcome (sym (call-settled s.jobs s.id (does s.jobs s.id s.holding a).left p))
+    (settle_has s.jobs s.id (does s.jobs s.id s.holding a).left (call_of (does s.jobs s.id s.holding a).left p)
+    (moved_has s.jobs s.id s.holding p a (call_of (does s.jobs s.id s.holding a).left p) (have p) (does_call s.jobs s.id s.holding p a none))))
+
+outcomes_after : (s : Server) (es : List Happening) → HaveOutcomes s.holding → HaveOutcomes (after_all s es).holding
+outcomes_after s [] have = have
+outcomes_after s (e ∷ es) have = outcomes_after (after s e.act) es (outcomes_stay s e.act have)
+
+nobody_asked : (jobs : Jobs) (id : ℕ) → HaveOutcomes (new_server jobs id).holding
+nobody_asked jobs id p = subst HasOutcome (sym (finite.get-empty proc_cmp p)) tt
+
+takes_told : (h : Holding) (p : Proc) (c : Option Standing) → HasOutcome c → OrRefused IsTaking (takes h p c).reply
+takes_told h p None has = tt
+takes_told h p (Some (Standing.in_fence f)) has = tt
+takes_told h p (Some (Standing.released f gone)) has = tt
+takes_told h p (Some (Standing.parked get)) has = tt
+takes_told h p (Some (Standing.answered get (Outcome.found value))) has = tt
+takes_told h p (Some (Standing.answered get Outcome.absent)) has = tt
+takes_told h p (Some (Standing.answered get Outcome.outside)) has = tt
+takes_told h p (Some (Standing.answered get Outcome.parks)) has = absurd has
+
+taking_told : (s : Server) (p : Proc) → HaveOutcomes s.holding → OrRefused IsTaking (reply_to s (Act.request (Request.take p)))
+unfolding does serves
+taking_told s p have =
+    over_first s.jobs s.id s.holding (OrRefused IsTaking) (does s.jobs s.id s.holding (Act.request (Request.take p))) check_order (cause s.jobs s.id s.holding (Act.request (Request.take p))) (λ e due. tt)
+    (takes_told s.holding p (call_of s.holding p) (have p))
+
+-- so who takes is told a value, or that there is none yet
+pub told_taking : (jobs : Jobs) (id : ℕ) (p : Proc) (r : Result GivenReply Refusal) (known : List Publication)
+    → (IsEvent r → IsToldOf jobs id (happening (Act.request (Request.take p)) (reply_in reply_as r)) known) → IfOk r (λ x. IsTaking (reply_as x))
+told_taking jobs id p (Err e) known told = tt
+told_taking jobs id p (Ok x) known told = plain IsTaking x (subst (OrRefused IsTaking) is (taking_told (after_all start it.es) p (outcomes_after start it.es (nobody_asked jobs id))))
+  where
+    start : Server
+    start = new_server jobs id
+
+    it : IsToldOf jobs id (happening (Act.request (Request.take p)) (reply_as x)) known
+    it = told tt
+
+    is : reply_to (after_all start it.es) (Act.request (Request.take p)) ≡ reply_as x
+    is = last_is start it.es (Act.request (Request.take p)) (reply_as x) it.replay

@@ -1,0 +1,14 @@
+use Rattle.pmg_rules.specs.Acts.{Act, Request}
+use Rattle.pmg_node.specs.Acting.{reply_as}
+use Rattle.pmg_node.specs.Replies.{release_reply}
+use Rattle.pmg_desk.proofs.ClientLemmas.{same_told}
+use Rattle.pmg_desk.proofs.KindLemmas.{told_kind}
+use Rattle.pmg_desk.proofs.ReadyLemmas.{ready_known}
+use Rattle.pmg_desk.proofs.client.Client.leave.Goals as goal
+
+pub release_by-requires : goal.release_by-requires
+release_by-requires g c = told_kind _ _ (Act.request (Request.leave _)) c.request.result _ c.request.ensures.told
+
+pub returns-clause-ready : goal.returns-clause-ready
+returns-clause-ready g c =
+    ready_known c.request.new.self _ c.release_by.result (same_told release_reply reply_as _ _ (Act.request (Request.leave _)) _ c.release_by.result c.request.result c.release_by.ensures c.request.ensures.told)

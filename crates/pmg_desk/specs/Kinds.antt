@@ -1,0 +1,79 @@
+-- Which replies an act may be given.
+use Rattle.std.specs.Prelude.{◌≡◌}
+use Rattle.pmg_rules.specs.Acts.{Act, Reply, Request}
+use Rattle.pmg_node.specs.Servers.{Server, reply_to}
+
+abbrev pub IsCommitted : Reply → Type 0
+IsCommitted (Reply.committed number) = Unit {0}
+IsCommitted _ = ⊥
+
+abbrev pub IsEntered : Reply → Type 0
+IsEntered (Reply.entered instance) = Unit {0}
+IsEntered _ = ⊥
+
+abbrev pub IsRelease : Reply → Type 0
+IsRelease Reply.idle = Unit {0}
+IsRelease Reply.waiting = Unit {0}
+IsRelease (Reply.released instance gone) = Unit {0}
+IsRelease _ = ⊥
+
+abbrev pub IsAsked : Reply → Type 0
+IsAsked (Reply.found value) = Unit {0}
+IsAsked Reply.parked = Unit {0}
+IsAsked _ = ⊥
+
+abbrev pub IsTaking : Reply → Type 0
+IsTaking Reply.idle = Unit {0}
+IsTaking Reply.waiting = Unit {0}
+IsTaking (Reply.found value) = Unit {0}
+IsTaking _ = ⊥
+
+abbrev pub IsEnded : Reply → Type 0
+IsEnded (Reply.ended number) = Unit {0}
+IsEnded _ = ⊥
+
+abbrev pub IsDefined : Reply → Type 0
+IsDefined (Reply.defined number) = Unit {0}
+IsDefined _ = ⊥
+
+abbrev pub IsDelivery : Reply → Type 0
+IsDelivery Reply.taken = Unit {0}
+IsDelivery Reply.ignored = Unit {0}
+IsDelivery _ = ⊥
+
+abbrev pub IsDone : Reply → Type 0
+IsDone Reply.done = Unit {0}
+IsDone _ = ⊥
+
+-- What an act of this kind is told, where it is not refused. What a taking is told hangs on what was asked before it.
+abbrev pub Tell : Act → Reply → Type 0
+Tell (Act.request (Request.enter p list collect)) r = IsEntered r
+Tell (Act.request (Request.leave p)) r = IsRelease r
+Tell (Act.request (Request.ask p get mode)) r = IsAsked r
+Tell (Act.request (Request.take p)) r = Unit {0}
+Tell (Act.request (Request.terminate p)) r = IsEnded r
+Tell (Act.request (Request.define name list)) r = IsDefined r
+Tell (Act.request (Request.delete name)) r = IsDefined r
+Tell (Act.request Request.nudge) r = IsDone r
+Tell (Act.commit p b) r = IsCommitted r
+Tell (Act.deliver frame) r = IsDelivery r
+
+-- a refusal, or such a reply
+abbrev pub OrRefused : (Reply → Type 0) → Reply → Type 0
+OrRefused P (Reply.refused e) = Unit {0}
+OrRefused P r = P r
+
+-- a refusal, or what an act of this kind is told otherwise
+abbrev pub IsKind : Act → Reply → Type 0
+IsKind a r = OrRefused (Tell a) r
+
+-- the reply is one that some server gives to the act
+pub record IsReplyTo (a : Act) (r : Reply) : Type 0 where
+  pub server : Server
+  pub is : reply_to server a ≡ r
+
+-- a change of the process sets
+abbrev pub IsChange : Request → Type 0
+IsChange (Request.define name list) = Unit {0}
+IsChange (Request.delete name) = Unit {0}
+IsChange r = ⊥

@@ -1,0 +1,74 @@
+-- What a client reads and waits for nobody.
+use Rattle.std.specs.Prelude.{◌≡◌, ◌⊎◌, ℕ, Bool, false, true, ◌&&◌, ◌||◌, not, List, Option, Result, Ok, Err, if◌then◌else◌}
+use Rattle.std.specs.FinMap as finite
+use Rattle.std.specs.Option.{option_map}
+use Rattle.pmg_value.specs.CheckOrder.{first_of}
+use Rattle.pmg_value.specs.Names.{is_reserved}
+use Rattle.pmg_value.specs.Spelling.{spelling}
+use Rattle.pmg_value.specs.declared.process.Proc.{Proc}
+use Rattle.pmg_value.specs.declared.refusal.Refusal.{Refusal}
+use Rattle.pmg_value.specs.declared.refusal.Refusal.TheVariants as refusals
+use Rattle.pmg_value.specs.declared.value.Value.{Value}
+use Rattle.pmg_commit.specs.Data.{Data, read_at}
+use Rattle.pmg_fence.specs.Entering.{same_proc}
+use Rattle.pmg_jobinfo.specs.Jobs.{Jobs}
+use Rattle.pmg_jobinfo.specs.Reserved.{reserved_value}
+use Rattle.pmg_get.specs.Gets.{Outcome, Seen, resolve}
+use Rattle.pmg_get.specs.declared.view.Mode.TheVariants as modes
+use Rattle.pmg_publish.specs.Publications.{near_of, far_of}
+use Rattle.pmg_rules.specs.Acts.{Act, Reply, Request, reply_of, target_cause}
+use Rattle.pmg_rules.specs.Holdings.{Get, seen_of}
+use Rattle.pmg_desk.specs.Clients.{Client, Tells, is_waiting, proc_of, puts_of}
+
+-- the key is one of the process's own, and none of the standard's
+abbrev pub is_own : Proc → Get → Bool
+is_own p get = same_proc p get.target && not (is_reserved get.key)
+
+-- whose key is read, where it is none of its own; and no call of it waits
+abbrev pub now_cause : Client → Get → Refusal → Bool
+now_cause c get refusals.Busy = is_waiting c
+now_cause c get e = not (is_own (proc_of c) get) && target_cause c.jobs (proc_of c) get e
+
+-- what there is to be seen of a reserved key: what the group tells
+abbrev pub reserved_seen : Jobs → ℕ → Get → Seen
+reserved_seen jobs id get = Seen.reserved (option_map spelling (reserved_value jobs id get.target get.key))
+
+-- what there is to be seen of the key: what it put itself, or what these stores and the group tell
+abbrev pub seen_by : Client → Data → Data → Get → Seen
+seen_by c near far get =
+    if is_own (proc_of c) get then Seen.own (finite.get (puts_of c).own get.key) else seen_of c.jobs c.node (read_at near get.target) (read_at far get.target) get
+
+-- the answer is the one that is due; the viewer may be closed, and an allocation may fail
+abbrev pub IsDue : Result Value Refusal → Reply → Type 0
+IsDue (Ok value) due = due ≡ Reply.found (spelling value)
+IsDue (Err refusals.NoMemory) due = Unit {0}
+IsDue (Err refusals.Closed) due = Unit {0}
+IsDue (Err e) due = due ≡ Reply.refused e
+
+abbrev pub Reads : Client → Client → Get → Result Value Refusal → Result Unit Refusal → Type 0
+Reads c d get result (Err e) = result ≡ Err e
+Reads c d get result (Ok _) = IsDue result (reply_of (resolve (seen_by c (near_of d.viewer.log) (far_of d.viewer.log) get) modes.Now))
+
+-- What is read: a refusal where there is a cause, else what a get that waits for nobody is answered in the board that the list of
+-- publications makes which the viewer knows afterwards.
+abbrev pub IsReadNow : Client → Client → Get → Result Value Refusal → Type 0
+IsReadNow c d get result = Reads c d get result (first_of (now_cause c get) tt)
+
+-- ---- gets that wait
+
+-- what comes of a get that was replied so; there is always something to take once it parked
+abbrev pub got_in : Reply → Result (List ℕ) Refusal
+got_in (Reply.found value) = Ok value
+got_in (Reply.refused e) = Err e
+got_in r = Err refusals.NotFound
+
+abbrev pub got_as : Result Value Refusal → Result (List ℕ) Refusal
+got_as (Ok value) = Ok (spelling value)
+got_as (Err e) = Err e
+
+-- The client was told of a board that a journal of its node makes; that ends with the client's question, or with its taking of the
+-- answer, and with the reply that this comes of.
+abbrev pub IsGot : Client → Get → Result Value Refusal → Type 0
+IsGot c get result =
+    (r : Reply) × (got_in r ≡ got_as result)
+    × ((Tells c (Act.request (Request.ask (proc_of c) get modes.Wait)) r) ⊎ (Tells c (Act.request (Request.take (proc_of c))) r))

@@ -1,0 +1,273 @@
+//! A client: one process of a node, as one thread calls its server.
+ghost use Rattle.std.specs.Prelude.{◌≡◌, ◌≤◌, ◌⊎◌, [], false, true, IfErr, IfOk};
+ghost use Rattle.pmg_value.specs.CheckOrder.{first_of};
+ghost use Rattle.pmg_value.specs.Spelling.{spelling};
+ghost use Rattle.pmg_commit.specs.Data.{level_at};
+ghost use Rattle.pmg_jobinfo.specs.Jobs.{is_node};
+ghost use Rattle.pmg_publish.specs.Publications.{far_of};
+ghost use Rattle.pmg_get.specs.declared.view.Mode.TheVariants as modes;
+ghost use Rattle.pmg_holding.specs.Calls.{get_of};
+ghost use Rattle.pmg_rules.specs.Acts.{Act as ModelAct, Reply as ModelReply, Request as ModelRequest};
+ghost use Rattle.pmg_node.specs.Acting.{act_of, reply_as, request_of};
+ghost use Rattle.pmg_node.specs.Replies.{asked_reply, release_reply, taking_reply};
+ghost use Rattle.pmg_node.specs.Servers.{reply_in};
+ghost use Rattle.pmg_desk.specs.Clients.{IsLater, KnowsReady, Notes as NotesOf, Tells, batch_of, is_waiting, proc_of, puts_of};
+ghost use Rattle.pmg_desk.specs.Journals.{IsEvent};
+ghost use Rattle.pmg_desk.specs.Transcripts.{Answers, Calling, calling_of, is_put, put_cause_of};
+
+use crate::lock::{Awaited, Desk};
+use crate::notes::Notes;
+use crate::replies::{asked_by, committed_by, ended_by, entered_by, release_by, taking_by};
+use crate::transcript::{Call, Transcript};
+use pmg_get::Mode;
+use pmg_node::{Act, Asked, Release, Reply, Request, Status, Taking};
+use pmg_publish::Viewer;
+use pmg_scope::Scope;
+use pmg_value::{Key, Proc, Refusal, Value};
+use std::alloc::{AllocError, Global};
+use std::marker::Model;
+use std::sync::Wait;
+
+/// One process at home at a desk's node, as its thread calls the server.
+#[derive(Drop)]
+pub struct Client<'d> {
+    pub(crate) desk: &'d Desk,
+    pub(crate) viewer: Viewer,
+    pub(crate) notes: Notes,
+}
+
+impl<'d> Model for Client<'d> {
+    ghost use Rattle.std.specs.Prelude.{◌≡◌, true};
+    ghost use Rattle.pmg_jobinfo.specs.Jobs.{is_node};
+    ghost use Rattle.pmg_desk.specs.Clients.{Client as ModelClient, coded_client};
+    ghost use Rattle.pmg_desk.specs.contracts.transcript.Transcript.{the_row as transcript_row};
+    ghost use Rattle.pmg_publish.specs.contracts.viewer.Viewer.{the_row as viewer_row};
+
+    ghost Value = { ModelClient };
+
+    ghost coded = { coded_client viewer_row.coded transcript_row.coded };
+
+    ghost view = { λ c. record {
+      jobs = c.desk.now.place.registry;
+      node = c.desk.now.place.node;
+      viewer = c.viewer;
+      transcript = c.notes;
+    } };
+
+    ghost invariant = { λ c. (c.viewer.book ≡ c.desk.now.place.told.book) × (is_node c.desk.now.place.registry c.desk.now.place.node ≡ true) };
+}
+
+/// A client that did not end.
+#[derive(Drop)]
+pub struct Unended<'d> {
+    /// Why it did not.
+    pub refusal: Refusal,
+    /// The client.
+    pub client: Client<'d>,
+}
+
+/// Copies of the processes.
+pub(crate) fn copies_of(alloc: Global, procs: &[Proc]) -> Result<Vec<Proc>, AllocError>
+    ensures { IfOk result (λ copies. copies.items ≡ procs.now) }
+{
+    let mut copies = Vec::with_capacity(alloc, procs.len())?;
+    for proc in procs {
+        copies.push(proc.copy()?)?;
+    }
+    Ok(copies)
+}
+
+/// What the process waits for, where it waits until it stands otherwise.
+fn awaited_by(proc: &Proc, past: Option<Status>) -> Awaited<'_> {
+    match past {
+        Some(status) => Awaited::Past(proc, status),
+        None => Awaited::Nothing,
+    }
+}
+
+impl<'d> Client<'d> {
+    /// A client that has called nothing.
+    pub(crate) fn new(desk: &'d Desk, viewer: Viewer, transcript: Transcript) -> Client<'d>
+        requires book { viewer.book ≡ desk.now.place.told.book }
+        requires node { is_node desk.now.place.registry desk.now.place.node ≡ true }
+        requires start { transcript.calls.items ≡ [] }
+    {
+        Client {
+            desk,
+            viewer,
+            notes: Notes::new(desk.place.registry.allocator(), transcript),
+        }
+    }
+
+    /// Its process.
+    pub fn proc(&self) -> &Proc
+        ensures { result.now ≡ proc_of self.now }
+    {
+        &self.notes.transcript().proc
+    }
+
+    /// What it called so far.
+    pub fn transcript(&self) -> &Transcript
+        ensures { result.now ≡ self.now.transcript }
+    {
+        self.notes.transcript()
+    }
+
+    /// Whether a call of it waits: it entered a fence and did not leave it, or its get was not answered yet.
+    pub fn in_call(&self) -> bool
+        ensures { result ≡ is_waiting self.now }
+    {
+        self.notes.in_call()
+    }
+
+    /// It puts the value under the key, to be seen as the scope says (PMIx Standard 5.0, PMIx_Put). Refused as BadParam where the key
+    /// begins with `pmix` or the scope is PMIX_SCOPE_UNDEF, as Busy where a call of it waits, as TooMany past the limits of what is
+    /// put, and as NoMemory.
+    pub fn put(&mut self, scope: Scope, key: Key, value: Value) -> Result<(), Refusal>
+        ensures answer { Answers result (first_of (put_cause_of (is_waiting self.old) (puts_of self.old) scope key (spelling value)) tt) }
+        ensures noted { NotesOf self.old self.new (Calling.put scope key (spelling value)) (λ _. ModelReply.done) result }
+        ensures viewer { self.new.viewer ≡ self.old.viewer }
+        ensures later { IsLater self.old self.new }
+    {
+        self.notes.put(scope, key, value)
+    }
+
+    /// Makes the act at the node, as this call, once the process does not stand so any more.
+    fn call<R: Wait>(
+        &mut self,
+        rt: &R,
+        past: Option<Status>,
+        call: Call,
+        act: &Act,
+    ) -> Result<Reply, Refusal>
+        requires { is_put (calling_of call) ≡ false }
+        ensures told { IsEvent result → Tells self.new (act_of act.now) (reply_in reply_as result) }
+        ensures noted { NotesOf self.old self.new (calling_of call) reply_as result }
+        ensures later { IsLater self.old self.new }
+    {
+        self.notes.reserve()?;
+        let desk = self.desk;
+        let awaited = awaited_by(&self.notes.transcript().proc, past);
+        let answer = desk.act_for(rt, &awaited, act, &mut self.viewer);
+        self.notes.end(call, answer)
+    }
+
+    /// Asks this of the node, once the process does not stand so any more.
+    fn request<R: Wait>(
+        &mut self,
+        rt: &R,
+        past: Option<Status>,
+        request: Request,
+    ) -> Result<Reply, Refusal>
+        ensures told { IsEvent result → Tells self.new (ModelAct.request (request_of request)) (reply_in reply_as result) }
+        ensures noted { NotesOf self.old self.new (Calling.request (request_of request)) reply_as result }
+        ensures later { IsLater self.old self.new }
+    {
+        let call = Call::Request(request.copy()?);
+        self.call(rt, past, call, &Act::Request(request))
+    }
+
+    /// It commits what it put (PMIx Standard 5.0, PMIx_Commit): the commit's number, from 1. Refused as Terminated, as Busy where a
+    /// call of it waits, as TooMany past 2^32 - 1 commits, as Closed, and as NoMemory.
+    pub fn commit<R: Wait>(&mut self, rt: &R) -> Result<u64, Refusal>
+        ensures told { IsEvent result → Tells self.new (ModelAct.commit (proc_of self.old) (batch_of self.old)) (reply_in ModelReply.committed result) }
+        ensures seen { IfOk result (λ n. n ≤ level_at (far_of self.new.viewer.log) (proc_of self.old)) }
+        ensures noted { NotesOf self.old self.new Calling.commit ModelReply.committed result }
+        ensures later { IsLater self.old self.new }
+    {
+        let act = Act::Commit(self.proc().copy()?, self.notes.unsealed()?);
+        committed_by(self.call(rt, None, Call::Commit, &act))
+    }
+
+    /// It enters its next fence of these participants, of which it is one; an empty list stands for its namespace (PMIx Standard
+    /// 5.0, PMIx_Fence): the instance of the fence, from 1. A collecting fence shows each participant's commits.
+    pub fn enter<R: Wait>(&mut self, rt: &R, list: &[Proc], collect: bool) -> Result<u64, Refusal>
+        ensures told { IsEvent result → Tells self.new (ModelAct.request (ModelRequest.enter (proc_of self.old) list.now collect))
+            (reply_in ModelReply.entered result) }
+        ensures noted { NotesOf self.old self.new (Calling.request (ModelRequest.enter (proc_of self.old) list.now collect)) ModelReply.entered result }
+        ensures later { IsLater self.old self.new }
+    {
+        let alloc = self.desk.place.registry.allocator();
+        let request = Request::Enter(self.proc().copy()?, copies_of(alloc, list)?, collect);
+        entered_by(self.request(rt, None, request))
+    }
+
+    /// It waits until it is released from the fence that it entered, and leaves it: the instance, and the participants that were
+    /// gone.
+    pub fn leave<R: Wait>(&mut self, rt: &R) -> Result<Release, Refusal>
+        ensures told { IsEvent result → Tells self.new (ModelAct.request (ModelRequest.leave (proc_of self.old))) (reply_in release_reply result) }
+        ensures ready { IfOk result (KnowsReady self.new) }
+        ensures noted { NotesOf self.old self.new (Calling.request (ModelRequest.leave (proc_of self.old))) release_reply result }
+        ensures later { IsLater self.old self.new }
+    {
+        let request = Request::Leave(self.proc().copy()?);
+        release_by(self.request(rt, Some(Status::InFence), request))
+    }
+
+    /// It enters its next fence of these participants, waits until it is released, and leaves it.
+    pub fn fence<R: Wait>(
+        &mut self,
+        rt: &R,
+        list: &[Proc],
+        collect: bool,
+    ) -> Result<Release, Refusal>
+        ensures told { IsEvent result → (Tells self.new (ModelAct.request (ModelRequest.enter (proc_of self.old) list.now collect)) (reply_in release_reply result))
+            ⊎ (Tells self.new (ModelAct.request (ModelRequest.leave (proc_of self.old))) (reply_in release_reply result)) }
+        ensures ready { IfOk result (KnowsReady self.new) }
+        ensures later { IsLater self.old self.new }
+    {
+        self.enter(rt, list, collect)?;
+        self.leave(rt)
+    }
+
+    /// It asks for a key of another process, or for a reserved one of any: the value, or its get waits.
+    pub(crate) fn ask<R: Wait>(
+        &mut self,
+        rt: &R,
+        target: &Proc,
+        key: &Key,
+    ) -> Result<Asked, Refusal>
+        ensures told { IsEvent result → Tells self.new (ModelAct.request (ModelRequest.ask (proc_of self.old) (get_of target.now key.now) modes.Wait))
+            (reply_in asked_reply result) }
+        ensures noted { NotesOf self.old self.new (Calling.request (ModelRequest.ask (proc_of self.old) (get_of target.now key.now) modes.Wait)) asked_reply result }
+        ensures later { IsLater self.old self.new }
+    {
+        let request = Request::Ask(self.proc().copy()?, target.copy()?, key.copy()?, Mode::Wait);
+        asked_by(self.request(rt, None, request))
+    }
+
+    /// It waits until its get is answered, and takes the answer.
+    pub fn take<R: Wait>(&mut self, rt: &R) -> Result<Taking, Refusal>
+        ensures told { IsEvent result → Tells self.new (ModelAct.request (ModelRequest.take (proc_of self.old))) (reply_in taking_reply result) }
+        ensures noted { NotesOf self.old self.new (Calling.request (ModelRequest.take (proc_of self.old))) taking_reply result }
+        ensures later { IsLater self.old self.new }
+    {
+        let request = Request::Take(self.proc().copy()?);
+        taking_by(self.request(rt, Some(Status::Parked), request))
+    }
+
+    /// It ends (PMIx Standard 5.0, PMIx_Finalize): its transcript.
+    pub fn terminate<R: Wait>(mut self, rt: &R) -> Result<Transcript, Unended<'d>>
+        ensures proc { IfOk result (λ t. t.proc ≡ proc_of self.entry) }
+        ensures client { IfErr result (λ u. IsLater self.entry u.client) }
+    {
+        let answer = self.end(rt);
+        match answer {
+            Ok(_) => Ok(self.notes.into_transcript()),
+            Err(refusal) => Err(Unended {
+                refusal,
+                client: self,
+            }),
+        }
+    }
+
+    /// It ends: the number of its last commit, which is its end.
+    fn end<R: Wait>(&mut self, rt: &R) -> Result<u64, Refusal>
+        ensures told { IsEvent result → Tells self.new (ModelAct.request (ModelRequest.terminate (proc_of self.old))) (reply_in ModelReply.ended result) }
+        ensures noted { NotesOf self.old self.new (Calling.request (ModelRequest.terminate (proc_of self.old))) ModelReply.ended result }
+        ensures later { IsLater self.old self.new }
+    {
+        let request = Request::Terminate(self.proc().copy()?);
+        ended_by(self.request(rt, None, request))
+    }
+}

@@ -1,0 +1,173 @@
+//! What is asked of a desk by who runs its node.
+ghost use Rattle.std.specs.Prelude.{◌≡◌, ◌⊎◌, IfErr, IfOk};
+ghost use mathlib.Core.List.{IsPrefix};
+ghost use Rattle.pmg_value.specs.declared.refusal.Refusal.TheVariants as refusals;
+ghost use Rattle.pmg_rules.specs.Acts.{Act as ModelAct, Reply as ModelReply, Request as ModelRequest};
+ghost use Rattle.pmg_node.specs.Acting.{act_of, reply_as, request_of};
+ghost use Rattle.pmg_node.specs.Replies.{delivery_reply};
+ghost use Rattle.pmg_node.specs.Servers.{reply_in};
+ghost use Rattle.pmg_desk.specs.Journals.{IsEvent, IsJournal, happened};
+ghost use Rattle.pmg_desk.specs.Kinds.{IsChange, IsReplyTo};
+ghost use Rattle.pmg_desk.specs.Telling.{IsToldOf};
+
+use crate::client::{Client, copies_of};
+use crate::journal::Journal;
+use crate::lock::{Awaited, Desk};
+use crate::replies::{defined_by, delivery_by};
+use crate::state::Twice;
+use crate::transcript::Transcript;
+use pmg_frame::Frame;
+use pmg_node::{Act, Delivery, Reply, Request};
+use pmg_publish::Viewer;
+use pmg_rules::Sent;
+use pmg_value::{Key, Proc, Refusal};
+use std::collections::VecDeque;
+use std::sync::Wait;
+
+impl Desk {
+    /// The client of the process.
+    pub fn client<R: Wait>(&self, rt: &R, proc: &Proc) -> Result<Client<'_>, Refusal> {
+        let calls = Vec::new(self.place.registry.allocator());
+        let transcript = Transcript {
+            proc: proc.copy()?,
+            calls,
+        };
+        let asked = proc.copy()?;
+        let Some(mut held) = self.hold(rt, &Awaited::Nothing) else {
+            return Err(Refusal::Closed);
+        };
+        let given = held.give_viewer(asked);
+        held.put_back(rt);
+        match given {
+            Ok(viewer) => Ok(Client::new(self, viewer, transcript)),
+            Err(refusal) => Err(refusal),
+        }
+    }
+
+    /// Makes the act at the node.
+    fn act<R: Wait>(&self, rt: &R, act: &Act) -> Result<Reply, Refusal>
+        ensures { IsEvent result → IsReplyTo (act_of act.now) (reply_in reply_as result) }
+    {
+        let Some(mut held) = self.hold(rt, &Awaited::Nothing) else {
+            return Err(Refusal::Closed);
+        };
+        let answer = held.state.act(rt, act);
+        held.put_back(rt);
+        answer
+    }
+
+    /// Makes the act at the node for a client, once that is there which it waits for. The client's viewer is told of what was
+    /// published.
+    pub(crate) fn act_for<R: Wait>(
+        &self,
+        rt: &R,
+        awaited: &Awaited<'_>,
+        act: &Act,
+        viewer: &mut Viewer,
+    ) -> Result<Twice, Refusal>
+        requires { viewer.old.book ≡ self.now.place.told.book }
+        ensures told { IfOk result (λ t. IsToldOf self.now.place.registry self.now.place.node (happened act.now t.told) viewer.new.log) }
+        ensures copy { IfOk result (λ t. reply_in reply_as t.kept ≡ reply_in reply_as t.told) }
+        ensures kind { IfOk result (λ t. IsEvent t.told) }
+        ensures err { IfErr result (λ e. (e ≡ refusals.NoMemory) ⊎ (e ≡ refusals.Closed)) }
+        ensures seen { IsPrefix viewer.old.log viewer.new.log }
+        ensures book { viewer.new.book ≡ viewer.old.book }
+    {
+        let Some(mut held) = self.hold(rt, awaited) else {
+            return Err(Refusal::Closed);
+        };
+        let answer = held.state.act_for(rt, act, viewer);
+        held.put_back(rt);
+        answer
+    }
+
+    /// A frame of another node arrives.
+    pub fn deliver<R: Wait>(&self, rt: &R, frame: Frame) -> Result<Delivery, Refusal>
+        ensures { IsEvent result → IsReplyTo (ModelAct.deliver frame) (reply_in delivery_reply result) }
+    {
+        delivery_by(self.act(rt, &Act::Deliver(frame)))
+    }
+
+    /// Other nodes are asked again for what is missing.
+    pub fn nudge<R: Wait>(&self, rt: &R) -> Result<(), Refusal> {
+        match self.act(rt, &Act::Request(Request::Nudge)) {
+            Ok(_) => Ok(()),
+            Err(refusal) => Err(refusal),
+        }
+    }
+
+    /// Changes the process sets, which is done at node 0: the number of the change, from 1.
+    fn change_sets<R: Wait>(&self, rt: &R, request: Request) -> Result<u64, Refusal>
+        requires { IsChange (request_of request) }
+        ensures { IsEvent result → IsReplyTo (ModelAct.request (request_of request)) (reply_in ModelReply.defined result) }
+    {
+        defined_by(self.act(rt, &Act::Request(request)))
+    }
+
+    /// A process set of that name and of these members is defined; it is done at node 0 (PMIx Standard 5.0, process sets). The
+    /// number of the change, from 1.
+    pub fn define_set<R: Wait>(&self, rt: &R, name: &Key, list: &[Proc]) -> Result<u64, Refusal>
+        ensures { IsEvent result → IsReplyTo (ModelAct.request (ModelRequest.define name.now list.now)) (reply_in ModelReply.defined result) }
+    {
+        let alloc = self.place.registry.allocator();
+        self.change_sets(rt, Request::Define(name.copy()?, copies_of(alloc, list)?))
+    }
+
+    /// The process set of that name is deleted; it is done at node 0. The number of the change, from 1.
+    pub fn delete_set<R: Wait>(&self, rt: &R, name: &Key) -> Result<u64, Refusal>
+        ensures { IsEvent result → IsReplyTo (ModelAct.request (ModelRequest.delete name.now)) (reply_in ModelReply.defined result) }
+    {
+        self.change_sets(rt, Request::Delete(name.copy()?))
+    }
+
+    /// Takes the frames that the node sent, once there are some.
+    pub fn take_frames<R: Wait>(&self, rt: &R) -> Result<VecDeque<Sent>, Refusal> {
+        let Some(mut held) = self.hold(rt, &Awaited::Frames) else {
+            return Err(Refusal::Closed);
+        };
+        let frames = held.state.take_frames();
+        held.put_back(rt);
+        frames
+    }
+
+    /// The far dump of the node: what other nodes may know of all processes, as text. Refused as Closed and as NoMemory.
+    pub fn far_dump<R: Wait>(&self, rt: &R) -> Result<Vec<u8>, Refusal> {
+        let Some(held) = self.hold(rt, &Awaited::Nothing) else {
+            return Err(Refusal::Closed);
+        };
+        let dump = held.state.far_dump();
+        held.put_back(rt);
+        match dump? {
+            Some(text) => Ok(text),
+            None => Err(Refusal::Closed),
+        }
+    }
+
+    /// Closes the desk.
+    pub fn close<R: Wait>(&self, rt: &R) {
+        if let Some(mut held) = self.hold(rt, &Awaited::Nothing) {
+            held.state.close();
+            held.put_back(rt);
+        }
+    }
+
+    /// Ends the desk: its journal.
+    pub fn into_journal<R: Wait>(self, rt: &R) -> Journal
+        ensures node { result.node ≡ self.place.node }
+        ensures registry { result.registry ≡ self.place.registry }
+        ensures replay { IsJournal result }
+    {
+        let (place, state) = self.into_state();
+        match state {
+            Some(state) => state.into_journal(rt),
+            None => {
+                let events = Vec::new(place.registry.allocator());
+                Journal {
+                    node: place.node,
+                    registry: place.registry,
+                    events,
+                }
+            }
+        }
+    }
+}

@@ -1,0 +1,216 @@
+//! The lock of a desk, and what waits for it.
+ghost use Rattle.std.specs.Prelude.{◌≡◌, IfSome, IfOk, true};
+ghost use Rattle.pmg_desk.specs.Places.{LiesAt};
+ghost use Rattle.pmg_jobinfo.specs.Jobs.{is_node};
+
+use crate::state::State;
+use counted_slot::{Counted, Fits};
+use pmg_alone::Alone;
+use pmg_jobinfo::Registry;
+use pmg_node::Status;
+use pmg_publish::{Told, Viewer};
+use pmg_value::{NodeId, Proc, Refusal};
+use std::collections::BTreeSet;
+use std::sync::{Condvar, Mutex, MutexGuard, Wait};
+
+/// Which desk it is: its node's index, its group, and its publisher, by what that told at the start.
+#[derive(Drop)]
+pub struct Place {
+    pub(crate) node: NodeId,
+    pub(crate) registry: Registry,
+    pub(crate) told: Told,
+}
+
+/// A state lies at the place of its desk, whatever happens.
+impl Fits for State {
+    type Tag = Place;
+
+    ghost fits = { λ place s. LiesAt place s };
+}
+
+/// What only who has the lock may look at.
+#[derive(Drop)]
+struct Gate {
+    /// How often something happened; it starts again past its end.
+    turn: u64,
+    /// The processes that were given a client.
+    clients: BTreeSet<Proc>,
+}
+
+/// One server as threads share it: its node, its journal and the publisher of its board, under one lock. It is not dropped: end it
+/// by `into_journal`.
+pub struct Desk {
+    pub(crate) place: Place,
+    gate: Mutex<Gate>,
+    moved: Condvar,
+    room: Counted<Option<Alone<State>>>,
+    ghost same: { room ≡ place },
+}
+
+/// What who takes the lock waits for.
+#[derive(Drop)]
+pub(crate) enum Awaited<'a> {
+    /// For nothing but the lock.
+    Nothing,
+    /// Until there are frames to be taken.
+    Frames,
+    /// Until the process stands otherwise.
+    Past(&'a Proc, Status),
+}
+
+impl Awaited<'_> {
+    /// Whether it is there. Who waits at a closed desk waits no longer.
+    fn is_there(&self, state: &State) -> bool {
+        match self {
+            Awaited::Nothing => true,
+            Awaited::Frames => state.has_frames() || state.is_closed(),
+            Awaited::Past(proc, status) => match state.status(proc) {
+                Some(found) => found != *status,
+                None => true,
+            },
+        }
+    }
+}
+
+/// The lock, with what lies under it. It is not dropped: end it by `put_back`.
+pub(crate) struct Held<'d> {
+    desk: &'d Desk,
+    gate: MutexGuard<'d, Gate>,
+    pub(crate) state: State,
+}
+
+impl Desk {
+    /// A new server of the node of that index in the group. Refused as TooMany where more than 65,536 processes are at home
+    /// there, and as NoMemory.
+    pub fn new<R: Wait>(rt: &R, id: NodeId, registry: Registry) -> Result<Desk, Refusal>
+        requires { is_node registry id ≡ true }
+        ensures node { IfOk result (λ d. d.place.node ≡ id) }
+        ensures registry { IfOk result (λ d. d.place.registry ≡ registry) }
+    {
+        let alloc = registry.allocator();
+        let copy = registry.copy()?;
+        let state = State::new(rt, id, registry)?;
+        let place = Place {
+            node: id,
+            registry: copy,
+            told: state.tell(),
+        };
+        let room = Counted::new(Some(Alone::new(state)), &place);
+        let gate = Gate {
+            turn: 0,
+            clients: BTreeSet::new(alloc),
+        };
+        Ok(Desk {
+            place,
+            gate: Mutex::new(gate),
+            moved: Condvar::new(),
+            room,
+        })
+    }
+
+    /// Takes the state out of its room, where it lies whenever nobody has the lock.
+    fn take_out(&self) -> Option<State>
+        ensures { IfSome result (LiesAt self.now.place) }
+    {
+        let (found, claim) = self.room.turn(0, 3);
+        if found != 0 {
+            claim.done();
+            return None;
+        }
+        match claim.put(None, 0) {
+            Some(state) => Some(state.into_inner()),
+            None => None,
+        }
+    }
+
+    /// Puts the state back into its room.
+    fn put_in<R: Wait>(&self, rt: &R, state: State)
+        requires { LiesAt self.now.place state }
+    {
+        let (found, claim) = self.room.turn(0, 3);
+        if found != 0 {
+            claim.done();
+            state.into_journal(rt);
+            return;
+        }
+        if let Some(other) = claim.put(Some(Alone::new(state)), 0) {
+            other.into_inner().into_journal(rt);
+        }
+    }
+
+    /// Takes the lock, once that is there which is waited for. None where no state lies in the room, which is so only once the desk
+    /// has ended.
+    pub(crate) fn hold<R: Wait>(&self, rt: &R, awaited: &Awaited<'_>) -> Option<Held<'_>>
+        ensures state { IfSome result (λ h. LiesAt self.now.place h.state) }
+        ensures desk { IfSome result (λ h. h.desk.now ≡ self.now) }
+    {
+        let mut gate = self.gate.lock(rt);
+        for _ in rt.forever() {
+            let state = self.take_out()?;
+            if awaited.is_there(&state) {
+                return Some(Held {
+                    desk: self,
+                    gate,
+                    state,
+                });
+            }
+            self.put_in(rt, state);
+            let turn = gate.turn;
+            gate = self.moved.wait_while(rt, gate, |gate| gate.turn == turn);
+        }
+        unreachable!()
+    }
+
+    /// What lies in the room of a desk that nobody shares any more.
+    pub(crate) fn into_state(self) -> (Place, Option<State>)
+        ensures place { result.0 ≡ self.place }
+        ensures state { IfSome result.1 (LiesAt self.place) }
+    {
+        let Desk {
+            place,
+            gate: _,
+            moved: _,
+            room,
+        } = self;
+        match room.into_inner() {
+            Some(state) => (place, Some(state.into_inner())),
+            None => (place, None),
+        }
+    }
+}
+
+impl Held<'_> {
+    /// A viewer for the client of the process, which has none yet.
+    pub(crate) fn give_viewer(&mut self, proc: Proc) -> Result<Viewer, Refusal>
+        ensures book { IfOk result (λ v. v.book ≡ self.old.state.publisher.book) }
+        ensures state { (p : _) → LiesAt p self.old.state → LiesAt p self.new.state }
+        ensures desk { self.new.desk.now ≡ self.old.desk.now }
+    {
+        match self.state.check_caller(&proc) {
+            Some(Ok(())) => {}
+            Some(Err(refusal)) => return Err(refusal),
+            None => return Err(Refusal::Closed),
+        }
+        if !self.gate.clients.insert(proc)? {
+            return Err(Refusal::Exists);
+        }
+        match self.state.take_viewer() {
+            Some(viewer) => Ok(viewer),
+            None => Err(Refusal::Exists),
+        }
+    }
+
+    /// Puts the state back, and wakes who waits.
+    pub(crate) fn put_back<R: Wait>(self, rt: &R)
+        requires { LiesAt self.desk.now.place self.state }
+    {
+        let Held {
+            desk,
+            mut gate,
+            state,
+        } = self;
+        desk.put_in(rt, state);
+        gate.turn = gate.turn.wrapping_add(1);
+        desk.moved.notify_all();
+    }
+}
