@@ -1,11 +1,10 @@
 -- What a replay publishes makes the stores of the node that it leaves.
-use Rattle.std.proofs.Common.{◌≡◌, ℕ, List, [], ◌∷◌, ◌++◌, Option, Some, None, refl, sym, ap, subst, ◌∙◌}
+use Rattle.std.proofs.Common.{◌≡◌, List, [], ◌∷◌, ◌++◌, Option, Some, None, refl, sym, ap, ◌∙◌}
 use Rattle.std.specs.Option.{option_to_list}
 use Rattle.std.proofs.lemmas.List.{append-nil, append_assoc}
 use Rattle.std.specs.FinMap as finite
-use Rattle.pmg_commit.specs.Data.{Data, absorbed, join_data, of_contribution}
+use Rattle.pmg_commit.specs.Data.{Data, join_data, of_contribution}
 use Rattle.pmg_commit.specs.Knowledge.{Contribution}
-use Rattle.pmg_jobinfo.specs.Jobs.{Jobs}
 use Rattle.pmg_store.specs.Pieces.{data_of}
 use Rattle.pmg_store.proofs.Converging.{joined_to_nothing, nothing_joined}
 use Rattle.pmg_holding.specs.Ahead.{joined}
@@ -14,7 +13,7 @@ use Rattle.pmg_publish.proofs.Steps.{far-more, near-more}
 use Rattle.pmg_publish.specs.Publications.{far_of, near_of}
 use Rattle.pmg_publish.specs.declared.counting.Publication.{Publication}
 use Rattle.pmg_node.proofs.JoiningLemmas.{joins_are_all}
-use Rattle.pmg_node.specs.Joining.{Joins, joins}
+use Rattle.pmg_node.specs.Joining.{joins}
 use Rattle.pmg_node.specs.Opening.{new_server}
 use Rattle.pmg_node.specs.Servers.{Server, after}
 use Rattle.pmg_desk.specs.Boards.{PublishesWhatIsHeld}

@@ -38,7 +38,6 @@ use Rattle.counted_slot.proofs.Counted.TheSendSync as Counted
 use Rattle.pmg_desk.specs.contracts.journal.Event as Event
 use Rattle.pmg_desk.specs.contracts.journal.Journal as Journal
 use Rattle.pmg_desk.specs.contracts.state.State as State
-use Rattle.pmg_desk.specs.contracts.lock.Place as Place
 use Rattle.pmg_desk.specs.contracts.lock.Gate as Gate
 use Rattle.pmg_desk.specs.contracts.lock.Desk as Desk
 use Rattle.pmg_desk.specs.contracts.transcript.Transcript as Transcript

@@ -1,7 +1,7 @@
 -- Each act is given a reply of its kind.
-use Rattle.std.specs.Prelude.{if◌then◌else◌, IfOk, IfSome}
-use Rattle.std.proofs.Common.{◌≡◌, ℕ, Bool, true, false, cond, List, [], ◌∷◌, ◌++◌, Option, Some, None, Result, Ok, Err, refl, subst}
-use Rattle.pmg_value.specs.CheckOrder.{check_order, first_in}
+use Rattle.std.specs.Prelude.{IfOk, IfSome}
+use Rattle.std.proofs.Common.{◌≡◌, ℕ, Bool, true, false, cond, List, Option, Some, None, Result, Ok, Err, refl, subst}
+use Rattle.pmg_value.specs.CheckOrder.{check_order}
 use Rattle.pmg_value.specs.declared.process.Proc.{Proc}
 use Rattle.pmg_value.specs.declared.refusal.Refusal.{Refusal}
 use Rattle.pmg_value.specs.declared.refusal.Refusal.TheVariants as refusals
@@ -9,18 +9,18 @@ use Rattle.pmg_jobinfo.specs.Jobs.{Jobs}
 use Rattle.pmg_frame.specs.declared.frame.Frame.{Frame}
 use Rattle.pmg_get.specs.Gets.{Outcome}
 use Rattle.pmg_get.specs.declared.view.Mode.{Mode}
-use Rattle.pmg_rules.specs.Acts.{Act, Done, Reply, Request, acts, asks, cause, does, done_as, is_taken, leaves, over, receives, serves, takes}
+use Rattle.pmg_rules.specs.Acts.{Act, Reply, Request, acts, asks, cause, does, done_as, is_taken, leaves, receives, serves, takes}
 use Rattle.pmg_rules.specs.Holdings.{Get, Holding, Standing, answer_in, call_of}
 use Rattle.pmg_node.specs.Acting.{act_of, reply_as}
 use Rattle.pmg_node.specs.Opening.{new_server}
-use Rattle.pmg_node.specs.Servers.{Server, after, reply_in, reply_to}
+use Rattle.pmg_node.specs.Servers.{Server, reply_in}
 use Rattle.pmg_node.specs.declared.act.Act.{Act as GivenAct}
 use Rattle.pmg_node.specs.declared.act.Reply.{Reply as GivenReply}
 use Rattle.pmg_node.specs.declared.act.Reply.TheVariants as replies
 use Rattle.pmg_publish.specs.declared.counting.Publication.{Publication}
 use Rattle.pmg_desk.specs.Journals.{IsEvent}
 use Rattle.pmg_desk.specs.Kinds.{IsChange, IsDefined, IsKind, IsReplyTo, OrRefused, Tell}
-use Rattle.pmg_desk.specs.Replays.{Happening, IsReplay, after_all, happening}
+use Rattle.pmg_desk.specs.Replays.{after_all, happening}
 use Rattle.pmg_desk.specs.States.{Steps}
 use Rattle.pmg_desk.specs.Telling.{IsToldOf}
 use Rattle.pmg_desk.proofs.OpenLemmas.{over_first}

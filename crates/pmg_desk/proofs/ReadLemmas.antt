@@ -1,21 +1,18 @@
 -- What a client reads and waits for nobody.
-use Rattle.std.proofs.Common.{◌≡◌, ◌⊎◌, inl, inr, ℕ, Bool, true, false, ◌&&◌, not, cond, List, Option, Some, None, Result, Ok, Err, refl, sym, ap, subst, ◌∙◌}
+use Rattle.std.proofs.Common.{◌≡◌, ◌⊎◌, inl, inr, ℕ, Bool, true, false, ◌&&◌, not, cond, List, Option, Some, Result, Ok, Err, refl, sym, ap, subst, ◌∙◌}
 use Rattle.std.specs.FinMap as finite
-use Rattle.std.specs.Option.{option_map}
 use Rattle.std.proofs.lemmas.Bool.{not-false}
-use Rattle.pmg_value.specs.Answers.{Fails, Gives}
+use Rattle.pmg_value.specs.Answers.{Gives}
 use Rattle.pmg_value.specs.CheckOrder.{first_of}
 use Rattle.pmg_value.specs.Names.{is_reserved}
-use Rattle.pmg_value.specs.Spelling.{spelling}
 use Rattle.pmg_value.specs.declared.refusal.Refusal.{Refusal}
 use Rattle.pmg_value.specs.declared.refusal.Refusal.TheVariants as refusals
 use Rattle.pmg_value.specs.declared.value.Value.{Value}
-use Rattle.pmg_commit.specs.Data.{Data, read_at}
+use Rattle.pmg_commit.specs.Data.{read_at}
 use Rattle.pmg_get.specs.Gets.{Outcome, Seen, resolve}
-use Rattle.pmg_get.specs.declared.view.Mode.{Mode}
 use Rattle.pmg_get.specs.declared.view.Mode.TheVariants as modes
 use Rattle.pmg_jobinfo.specs.Jobs.{Jobs, is_node, is_registered}
-use Rattle.pmg_jobinfo.specs.Reserved.{is_general, reserved_value}
+use Rattle.pmg_jobinfo.specs.Reserved.{is_general}
 use Rattle.pmg_publish.specs.Publications.{far_of, near_of}
 use Rattle.pmg_rules.proofs.CauseFacts.{NoCause, by_causes}
 use Rattle.pmg_rules.proofs.KeptSettled.{resolve_parks}

@@ -1,14 +1,12 @@
 -- What a process sealed is in the far store of its node, and so a client sees its own commits.
 use Rattle.std.specs.Prelude.{if◌then◌else◌, IfOk}
-use Rattle.std.proofs.Common.{◌≡◌, ◌≤◌, ◌⊎◌, inl, inr, ℕ, Bool, true, false, cond, List, [], ◌∷◌, ◌++◌, map, Option, Some, None, Result, Ok, Err, refl, sym, ap, subst, ◌∙◌, arith}
+use Rattle.std.proofs.Common.{◌≡◌, ◌≤◌, inl, inr, ℕ, Bool, true, false, cond, List, [], ◌∷◌, ◌++◌, map, Option, Some, None, Result, Ok, Err, refl, sym, ap, subst, ◌∙◌, arith}
 use Rattle.std.specs.BTreeMap.{is_at}
 use Rattle.std.specs.Cmp.{Equal-is}
 use Rattle.std.specs.FinMap as finite
 use Rattle.std.specs.List.{flat_map}
 use Rattle.std.specs.Option.{unwrap_or}
 use Rattle.std.proofs.lemmas.Grind.{flat_map-append}
-use mathlib.Core.List.{IsPrefix}
-use Rattle.pmg_value.specs.CheckOrder.{first_of}
 use Rattle.pmg_value.specs.Process.{is_host, proc_cmp}
 use Rattle.pmg_value.specs.declared.process.Proc.{Proc}
 use Rattle.pmg_value.specs.declared.refusal.Refusal.{Refusal}
@@ -16,7 +14,7 @@ use Rattle.pmg_value.proofs.ProcessOrder.{exact_procs, procs_total}
 use Rattle.pmg_value.proofs.RowLemmas.{at_key, get-map_of}
 use Rattle.pmg_scope.specs.Cached.{Unsealed}
 use Rattle.pmg_scope.specs.declared.scope.Reach.TheVariants as reach
-use Rattle.pmg_commit.specs.Data.{Data, absorbed, join_data, level_at, of_contribution}
+use Rattle.pmg_commit.specs.Data.{Data, absorbed, level_at, of_contribution}
 use Rattle.pmg_commit.specs.Knowledge.{Contribution}
 use Rattle.pmg_commit.specs.Sealed.{Sealed, ended_with, fresh, piece_at, sealed_with}
 use Rattle.pmg_fence.specs.Entering.{same_proc}
@@ -29,14 +27,14 @@ use Rattle.pmg_pset.specs.Sets.{host}
 use Rattle.pmg_store.specs.Pieces.{data_of}
 use Rattle.pmg_store.proofs.Converging.{same_in_any_grouping}
 use Rattle.pmg_store.proofs.HonestDataLaws.{levels_rise}
-use Rattle.pmg_rules.specs.Acts.{Act, Done, Reply, Request, acts, asks, cause, does, done_as, ends_as, free_cause, holds_unless, is_taken, leaves, over, receives, seal_cause, serves, takes}
+use Rattle.pmg_rules.specs.Acts.{Act, Done, Reply, Request, acts, asks, cause, does, done_as, free_cause, holds_unless, is_taken, leaves, over, receives, seal_cause, serves, takes}
 use Rattle.pmg_rules.specs.Holdings.{Get, Holding, Standing, answer_in, call_of, new_holding, sealer_in, sealer_of, sealing}
 use Rattle.pmg_rules.specs.Kept.{Holds, IsServer}
-use Rattle.pmg_rules.proofs.CauseFacts.{NoCause, by_causes, free_is, neither_cause}
+use Rattle.pmg_rules.proofs.CauseFacts.{by_causes, free_is, neither_cause}
 use Rattle.pmg_rules.proofs.KeptActs.{new_is_server, server_stays}
 use Rattle.pmg_rules.proofs.Sealing.{level_raised, sealer_here, sealer_there}
 use Rattle.pmg_node.specs.Opening.{new_server}
-use Rattle.pmg_node.specs.Servers.{Server, after, reply_in, reply_to}
+use Rattle.pmg_node.specs.Servers.{Server, after, reply_in}
 use Rattle.pmg_publish.specs.Publications.{far_of}
 use Rattle.pmg_publish.specs.declared.counting.Publication.{Publication}
 use Rattle.pmg_desk.specs.Journals.{IsEvent}

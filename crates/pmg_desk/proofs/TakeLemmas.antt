@@ -2,7 +2,7 @@
 use Rattle.std.specs.Prelude.{IfOk}
 use Rattle.std.specs.FinMap as finite
 use Rattle.std.specs.Option.{option_map}
-use Rattle.std.proofs.Common.{◌≡◌, inl, inr, ℕ, Bool, true, false, List, [], ◌∷◌, Option, Some, None, Result, Ok, Err, sym, subst, ◌∙◌}
+use Rattle.std.proofs.Common.{◌≡◌, inl, inr, ℕ, Bool, true, false, List, [], ◌∷◌, Option, Some, None, Result, Ok, Err, sym, subst}
 use Rattle.pmg_value.specs.CheckOrder.{check_order}
 use Rattle.pmg_value.specs.Process.{proc_cmp}
 use Rattle.pmg_value.specs.Signatures.{FenceName}
@@ -14,8 +14,8 @@ use Rattle.pmg_get.specs.declared.view.Mode.TheVariants as modes
 use Rattle.pmg_rules.proofs.AfterActs.{after_act}
 use Rattle.pmg_rules.proofs.CallFacts.{call-settled}
 use Rattle.pmg_rules.proofs.Moving.{Moves, StaysOrMoves, does_call}
-use Rattle.pmg_rules.specs.Acts.{Act, Reply, Request, cause, does, serves, takes}
-use Rattle.pmg_rules.specs.Holdings.{Get, Holding, Standing, answer_in, call_of, released_by, settle, settled, settled_by}
+use Rattle.pmg_rules.specs.Acts.{Act, Request, cause, does, serves, takes}
+use Rattle.pmg_rules.specs.Holdings.{Get, Holding, Standing, answer_in, call_of, released_by, settle, settled_by}
 use Rattle.pmg_node.specs.Acting.{reply_as}
 use Rattle.pmg_node.specs.Opening.{new_server}
 use Rattle.pmg_node.specs.Servers.{Server, after, reply_in, reply_to}

@@ -1,5 +1,5 @@
 -- What a client reads and waits for nobody.
-use Rattle.std.specs.Prelude.{◌≡◌, ◌⊎◌, ℕ, Bool, false, true, ◌&&◌, ◌||◌, not, List, Option, Result, Ok, Err, if◌then◌else◌}
+use Rattle.std.specs.Prelude.{◌≡◌, ◌⊎◌, ℕ, Bool, ◌&&◌, not, List, Result, Ok, Err, if◌then◌else◌}
 use Rattle.std.specs.FinMap as finite
 use Rattle.std.specs.Option.{option_map}
 use Rattle.pmg_value.specs.CheckOrder.{first_of}
@@ -13,7 +13,7 @@ use Rattle.pmg_commit.specs.Data.{Data, read_at}
 use Rattle.pmg_fence.specs.Entering.{same_proc}
 use Rattle.pmg_jobinfo.specs.Jobs.{Jobs}
 use Rattle.pmg_jobinfo.specs.Reserved.{reserved_value}
-use Rattle.pmg_get.specs.Gets.{Outcome, Seen, resolve}
+use Rattle.pmg_get.specs.Gets.{Seen, resolve}
 use Rattle.pmg_get.specs.declared.view.Mode.TheVariants as modes
 use Rattle.pmg_publish.specs.Publications.{near_of, far_of}
 use Rattle.pmg_rules.specs.Acts.{Act, Reply, Request, reply_of, target_cause}

@@ -99,19 +99,11 @@ fn plain_now(
     ensures { (near far : Data) → IsSight near far target.now key.now sight.now
         → IsDue result (reply_of (resolve (plain_seen registry.now id (read_at near target.now) (read_at far target.now) (get_of target.now key.now)) modes.Now)) }
 {
-    answer_now(resolve(
-        view_of(registry, id, target, key, sight),
-        Mode::Now,
-    ))
+    answer_now(resolve(view_of(registry, id, target, key, sight), Mode::Now))
 }
 
 /// What a read at the node of a reserved key is answered, where the target may be named.
-fn reserved_now(
-    registry: &Registry,
-    id: NodeId,
-    target: &Proc,
-    key: &Key,
-) -> Result<Value, Refusal>
+fn reserved_now(registry: &Registry, id: NodeId, target: &Proc, key: &Key) -> Result<Value, Refusal>
     requires node { is_node registry.now id ≡ true }
     requires key { is_reserved key.now ≡ true }
     requires known { is_registered registry.now target.now.nspace ≡ true }

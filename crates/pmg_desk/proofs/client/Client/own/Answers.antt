@@ -1,4 +1,4 @@
-use Rattle.std.proofs.Common.{rules, ◌≡◌, Some, None}
+use Rattle.std.proofs.Common.{rules}
 use Rattle.pmg_desk.proofs.OwnLemmas.{own_found, own_none}
 use Rattle.pmg_desk.proofs.client.Client.own.Goals as goal
 

@@ -1,4 +1,4 @@
-use Rattle.std.proofs.Common.{◌≡◌, sym, subst, ◌∙◌}
+use Rattle.std.proofs.Common.{sym, subst, ◌∙◌}
 use Rattle.pmg_desk.specs.Places.{LiesAt}
 use Rattle.pmg_desk.specs.declared.lock.Place.{Place}
 use Rattle.pmg_desk.proofs.lock.Desk.client.Goals as goal

@@ -1,4 +1,4 @@
-use Rattle.std.proofs.Common.{◌≡◌, List}
+use Rattle.std.proofs.Common.{List}
 use Rattle.pmg_desk.proofs.NoteLemmas.{cached_on, waits_on}
 use Rattle.pmg_desk.specs.declared.transcript.Called.{Called}
 use Rattle.pmg_desk.proofs.notes.Notes.note.Goals as goal
