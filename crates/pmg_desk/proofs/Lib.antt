@@ -10,6 +10,7 @@ mod ReadLemmas
 mod GetLemmas
 mod PlaceLemmas
 mod ReadyLemmas
+mod OutLemmas
 mod BoardLemmas
 mod SeenLemmas
 mod ClientLemmas

@@ -1,11 +1,14 @@
 -- States and the places of their desks.
 use Rattle.std.proofs.Common.{◌≡◌, ℕ, List, subst, ◌∙◌}
+use Rattle.pmg_value.specs.declared.process.Proc.{Proc}
 use Rattle.pmg_jobinfo.specs.Jobs.{Jobs}
+use Rattle.pmg_rules.specs.Kept.{IsOwn}
+use Rattle.pmg_rules.specs.declared.sent.Sent.{Sent}
 use Rattle.pmg_publish.specs.declared.counting.Publication.{Publication}
 use Rattle.pmg_desk.specs.Places.{LiesAt}
 use Rattle.pmg_desk.specs.Replays.{Happening}
 use Rattle.pmg_desk.specs.States.{IsAt}
-use Rattle.pmg_desk.specs.Telling.{IsToldOf}
+use Rattle.pmg_desk.specs.Telling.{IsToldOf, WasFarDump, WasSent}
 use Rattle.pmg_desk.specs.declared.lock.Place.{Place}
 use Rattle.pmg_desk.specs.declared.state.Parts.{Parts}
 
@@ -17,7 +20,19 @@ lies_on p s t at lies = record { node = at.node ∙ lies.node; registry = at.reg
 pub lies_same : (p : Place) (s t : Parts) → t.journal ≡ s.journal → t.publisher ≡ s.publisher → LiesAt p s → LiesAt p t
 lies_same p s t journal publisher lies = record { node = (λ i. (journal i).node) ∙ lies.node; registry = (λ i. (journal i).registry) ∙ lies.registry; book = (λ i. (publisher i).book) ∙ lies.book; is_node = lies.is_node }
 
--- what a viewer was told there
-pub told_at : (p : Place) (s : Parts) → LiesAt p s → (e : Happening) (known : List Publication) → IsToldOf s.journal.registry s.journal.node e known
-    → IsToldOf p.registry p.node e known
-told_at p s lies e known told = subst (λ (n : ℕ). IsToldOf p.registry n e known) lies.node (subst (λ (j : Jobs). IsToldOf j s.journal.node e known) lies.registry told)
+-- what holds of the state's group and node holds of its desk's
+module _ (p : Place) (s : Parts) (lies : LiesAt p s) where
+  at_place : (P : Jobs → ℕ → Type 0) → P s.journal.registry s.journal.node → P p.registry p.node
+  at_place P is = subst (P p.registry) lies.node (subst (λ (j : Jobs). P j s.journal.node) lies.registry is)
+
+  pub told_at : (e : Happening) (known : List Publication) → IsToldOf s.journal.registry s.journal.node e known → IsToldOf p.registry p.node e known
+  told_at e known told = at_place (λ j n. IsToldOf j n e known) told
+
+  pub sent_at : (frames : List Sent) → WasSent s.journal.registry s.journal.node frames → WasSent p.registry p.node frames
+  sent_at frames sent = at_place (λ j n. WasSent j n frames) sent
+
+  pub dumped_at : (text : List ℕ) → WasFarDump s.journal.registry s.journal.node text → WasFarDump p.registry p.node text
+  dumped_at text dumped = at_place (λ j n. WasFarDump j n text) dumped
+
+  pub own_at : (q : Proc) → IsOwn s.journal.registry s.journal.node q → IsOwn p.registry p.node q
+  own_at q own = at_place (λ j n. IsOwn j n q) own

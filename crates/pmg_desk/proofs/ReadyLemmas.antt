@@ -81,11 +81,11 @@ published_first s [] two = (published_over s two, refl)
 published_first s (e ∷ one) two =
     let rest = published_first (after s e.act) one two in (rest.0, ap (λ (ps : List Publication). published_by s e.act ∷ ps) rest.1)
 
-jobs_same : (s : Server) (es : List Happening) → (after_all s es).jobs ≡ s.jobs
+pub jobs_same : (s : Server) (es : List Happening) → (after_all s es).jobs ≡ s.jobs
 jobs_same s [] = refl
 jobs_same s (e ∷ es) = jobs_same (after s e.act) es
 
-id_same : (s : Server) (es : List Happening) → (after_all s es).id ≡ s.id
+pub id_same : (s : Server) (es : List Happening) → (after_all s es).id ≡ s.id
 id_same s [] = refl
 id_same s (e ∷ es) = id_same (after s e.act) es
 

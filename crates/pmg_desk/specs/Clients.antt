@@ -1,5 +1,5 @@
 -- Clients as contracts see them.
-use Rattle.std.specs.Prelude.{◌≡◌, ℕ, Bool, false, Result, refl}
+use Rattle.std.specs.Prelude.{◌≡◌, ℕ, Bool, false, List, Result, Ok, Err, refl}
 use Rattle.std.specs.Coded.{Coded, code_by, coded×, coded_ℕ}
 use mathlib.Core.List.{IsPrefix}
 use Rattle.pmg_value.specs.declared.process.Proc.{Proc}
@@ -7,12 +7,13 @@ use Rattle.pmg_value.specs.declared.refusal.Refusal.{Refusal}
 use Rattle.pmg_scope.specs.Cached.{Cached, Unsealed, no_puts, unsealed_of}
 use Rattle.pmg_jobinfo.specs.Jobs.{Jobs, coded_jobs}
 use Rattle.pmg_publish.specs.Publications.{Publications}
-use Rattle.pmg_rules.specs.Acts.{Act, Reply}
+use Rattle.pmg_rules.specs.Acts.{Act, Reply, Request}
+use Rattle.pmg_node.specs.Replies.{release_reply}
 use Rattle.pmg_node.specs.declared.leaving.Release.{Release}
 use Rattle.pmg_node.specs.declared.leaving.Release.TheVariants as releases
 use Rattle.pmg_desk.specs.Replays.{happening}
 use Rattle.pmg_desk.specs.Telling.{IsToldOf, WasReady}
-use Rattle.pmg_desk.specs.Transcripts.{Calling, NotesCall, cached_after, noted_in, waits_after}
+use Rattle.pmg_desk.specs.Transcripts.{Calling, Noted, NotesCall, cached_after, noted_in, waits_after}
 use Rattle.pmg_desk.specs.declared.transcript.Transcript.{Transcript}
 
 -- A client: the group and the index of its node, what its viewer knows of what is published there, and what it called.
@@ -54,6 +55,18 @@ pub record IsLater (c d : Client) : Type 0 where
 -- the client's transcript has the call with its reply at its end
 abbrev pub Notes : Client → Client → Calling → {X : Type 0} → (X → Reply) → Result X Refusal → Type 0
 Notes c d call view answer = NotesCall (noted_in c.transcript) (noted_in d.transcript) call view answer
+
+-- after the entry of a fence, which was answered so: its leave is noted where it was entered, else nothing more
+abbrev pub NotesLeave : List Noted → List Noted → Calling → Result ℕ Refusal → Result Release Refusal → Type 0
+NotesLeave old new leave (Ok instance) result = NotesCall old new leave release_reply result
+NotesLeave old new leave (Err e) result = (result ≡ Err e) × (new ≡ old)
+
+-- A fence stands in the transcript as its entry and its leave.
+abbrev pub NotesFence : Client → Client → List Proc → Bool → Result Release Refusal → Type 0
+NotesFence c d list collect result =
+    (mid : List Noted) × (entry : Result ℕ Refusal)
+    × NotesCall (noted_in c.transcript) mid (Calling.request (Request.enter (proc_of c) list collect)) Reply.entered entry
+    × NotesLeave mid (noted_in d.transcript) (Calling.request (Request.leave (proc_of c))) entry result
 
 -- The client was told of a board that some journal of its node makes, which is a replay and ends with that act and that reply.
 abbrev pub Tells : Client → Act → Reply → Type 0

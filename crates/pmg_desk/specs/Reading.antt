@@ -1,5 +1,5 @@
--- What a client reads and waits for nobody.
-use Rattle.std.specs.Prelude.{◌≡◌, ◌⊎◌, ℕ, Bool, ◌&&◌, not, List, Result, Ok, Err, if◌then◌else◌}
+-- What a client reads.
+use Rattle.std.specs.Prelude.{◌≡◌, ◌⊎◌, ℕ, Bool, ◌&&◌, not, false, true, List, Result, Ok, Err, if◌then◌else◌}
 use Rattle.std.specs.FinMap as finite
 use Rattle.std.specs.Option.{option_map}
 use Rattle.pmg_value.specs.CheckOrder.{first_of}
@@ -18,7 +18,13 @@ use Rattle.pmg_get.specs.declared.view.Mode.TheVariants as modes
 use Rattle.pmg_publish.specs.Publications.{near_of, far_of}
 use Rattle.pmg_rules.specs.Acts.{Act, Reply, Request, reply_of, target_cause}
 use Rattle.pmg_rules.specs.Holdings.{Get, seen_of}
+use Rattle.pmg_node.specs.Replies.{asked_reply, taking_reply}
+use Rattle.pmg_node.specs.Servers.{reply_in}
+use Rattle.pmg_node.specs.declared.parking.Asked.{Asked}
+use Rattle.pmg_node.specs.declared.parking.Asked.TheVariants as askeds
+use Rattle.pmg_node.specs.declared.taking.Taking.{Taking}
 use Rattle.pmg_desk.specs.Clients.{Client, Tells, is_waiting, proc_of, puts_of}
+use Rattle.pmg_desk.specs.Transcripts.{Calling, Noted, NotesCall, noted_in}
 
 -- the key is one of the process's own, and none of the standard's
 abbrev pub is_own : Proc → Get → Bool
@@ -72,3 +78,26 @@ abbrev pub IsGot : Client → Get → Result Value Refusal → Type 0
 IsGot c get result =
     (r : Reply) × (got_in r ≡ got_as result)
     × ((Tells c (Act.request (Request.ask (proc_of c) get modes.Wait)) r) ⊎ (Tells c (Act.request (Request.take (proc_of c))) r))
+
+-- the call that asks for the key, and waits
+abbrev pub asking : Client → Get → Calling
+asking c get = Calling.request (Request.ask (proc_of c) get modes.Wait)
+
+-- after the question of a get, which was answered so: its taking is noted where it parked, else nothing more
+abbrev pub NotesTaking : List Noted → List Noted → Calling → Result Asked Refusal → Result Value Refusal → Type 0
+NotesTaking old new take (Ok (askeds.Found value)) result = (result ≡ Ok value) × (new ≡ old)
+NotesTaking old new take (Ok askeds.Parked) result =
+    (answer : Result Taking Refusal) × NotesCall old new take taking_reply answer × (got_in (reply_in taking_reply answer) ≡ got_as result)
+NotesTaking old new take (Err e) result = (result ≡ Err e) × (new ≡ old)
+
+-- A get stands in the transcript as its question and its taking.
+abbrev pub NotesGet : Client → Client → Get → Result Value Refusal → Type 0
+NotesGet c d get result =
+    (mid : List Noted) × (asked : Result Asked Refusal) × NotesCall (noted_in c.transcript) mid (asking c get) asked_reply asked
+    × NotesTaking mid (noted_in d.transcript) (Calling.request (Request.take (proc_of c))) asked result
+
+-- A get of a key of its own: refused where a call of it waits, else what it put last; as one question in the transcript.
+pub record IsOwnGet (c d : Client) (get : Get) (result : Result Value Refusal) : Type 0 where
+  pub busy : is_waiting c ≡ true → IsDue result (Reply.refused refusals.Busy)
+  pub answer : is_waiting c ≡ false → IsDue result (reply_of (resolve (Seen.own (finite.get (puts_of c).own get.key)) modes.Wait))
+  pub noted : NotesCall (noted_in c.transcript) (noted_in d.transcript) (asking c get) (λ (v : Value). Reply.found (spelling v)) result

@@ -1,14 +1,16 @@
--- What a viewer was told of a journal.
-use Rattle.std.specs.Prelude.{◌≡◌, ℕ, true, List, [], ◌∷◌, ◌++◌}
+-- What was told of a journal.
+use Rattle.std.specs.Prelude.{◌≡◌, ℕ, true, List, [], ◌∷◌, ◌++◌, drop}
 use mathlib.Core.List.{IsPrefix}
 use Rattle.pmg_value.specs.Signatures.{FenceName}
 use Rattle.pmg_value.specs.declared.process.Proc.{Proc}
 use Rattle.pmg_jobinfo.specs.Jobs.{Jobs}
 use Rattle.pmg_fence.specs.Tables.{gone_by}
 use Rattle.pmg_rules.specs.Holdings.{is_ready_at}
+use Rattle.pmg_rules.specs.declared.sent.Sent.{Sent}
 use Rattle.pmg_node.specs.Opening.{new_server}
 use Rattle.pmg_publish.specs.declared.counting.Publication.{Publication}
-use Rattle.pmg_desk.specs.Replays.{Happening, IsReplay, after_all, published_over}
+use Rattle.pmg_store.specs.Dump.{dump}
+use Rattle.pmg_desk.specs.Replays.{Happening, IsReplay, after_all, published_over, sent_over}
 
 -- What is known begins with what some journal of the node published, which is a replay and ends with this.
 pub record IsToldOf (jobs : Jobs) (id : ℕ) (e : Happening) (known : List Publication) : Type 0 where
@@ -26,3 +28,16 @@ pub record WasReady (jobs : Jobs) (id instance : ℕ) (gone : List Proc) (known 
   pub of_instance : fence.instance ≡ instance
   pub gone_then : gone ≡ gone_by jobs id (after_all (new_server jobs id) es).holding.table fence
   pub is_known : IsPrefix (published_over (new_server jobs id) es) known
+
+-- The frames are all that some journal of the node sent, which is a replay, but for the first ones.
+pub record WasSent (jobs : Jobs) (id : ℕ) (frames : List Sent) : Type 0 where
+  pub es : List Happening
+  pub replay : IsReplay (new_server jobs id) es
+  pub taken : ℕ
+  pub are_the_rest : frames ≡ drop taken (sent_over (new_server jobs id) es)
+
+-- The text is the far dump of the node as some journal of it leaves it, which is a replay.
+pub record WasFarDump (jobs : Jobs) (id : ℕ) (text : List ℕ) : Type 0 where
+  pub es : List Happening
+  pub replay : IsReplay (new_server jobs id) es
+  pub is_dump : text ≡ dump (after_all (new_server jobs id) es).holding.far

@@ -1,5 +1,5 @@
 //! A client: one process of a node, as one thread calls its server.
-ghost use Rattle.std.specs.Prelude.{◌≡◌, ◌≤◌, ◌⊎◌, [], false, true, IfErr, IfOk};
+ghost use Rattle.std.specs.Prelude.{◌≡◌, ◌≤◌, ◌⊎◌, ◌∷◌, ◌++◌, ℕ, [], false, true, Err, IfErr, IfOk};
 ghost use Rattle.pmg_value.specs.CheckOrder.{first_of};
 ghost use Rattle.pmg_value.specs.Spelling.{spelling};
 ghost use Rattle.pmg_commit.specs.Data.{level_at};
@@ -11,9 +11,9 @@ ghost use Rattle.pmg_rules.specs.Acts.{Act as ModelAct, Reply as ModelReply, Req
 ghost use Rattle.pmg_node.specs.Acting.{act_of, reply_as, request_of};
 ghost use Rattle.pmg_node.specs.Replies.{asked_reply, release_reply, taking_reply};
 ghost use Rattle.pmg_node.specs.Servers.{reply_in};
-ghost use Rattle.pmg_desk.specs.Clients.{IsLater, KnowsReady, Notes as NotesOf, Tells, batch_of, is_waiting, proc_of, puts_of};
+ghost use Rattle.pmg_desk.specs.Clients.{IsLater, KnowsReady, Notes as NotesOf, NotesFence, Tells, batch_of, is_waiting, proc_of, puts_of};
 ghost use Rattle.pmg_desk.specs.Journals.{IsEvent};
-ghost use Rattle.pmg_desk.specs.Transcripts.{Answers, Calling, calling_of, is_put, put_cause_of};
+ghost use Rattle.pmg_desk.specs.Transcripts.{Answers, Calling, NotesCall, calling_of, is_put, noted, noted_in, put_cause_of};
 
 use crate::lock::{Awaited, Desk};
 use crate::notes::Notes;
@@ -91,6 +91,8 @@ impl<'d> Client<'d> {
         requires book { viewer.book ≡ desk.now.place.told.book }
         requires node { is_node desk.now.place.registry desk.now.place.node ≡ true }
         requires start { transcript.calls.items ≡ [] }
+        ensures node { (result.jobs ≡ desk.now.place.registry) × (result.node ≡ desk.now.place.node) }
+        ensures transcript { result.transcript ≡ transcript }
     {
         Client {
             desk,
@@ -214,6 +216,7 @@ impl<'d> Client<'d> {
         ensures told { IsEvent result → (Tells self.new (ModelAct.request (ModelRequest.enter (proc_of self.old) list.now collect)) (reply_in release_reply result))
             ⊎ (Tells self.new (ModelAct.request (ModelRequest.leave (proc_of self.old))) (reply_in release_reply result)) }
         ensures ready { IfOk result (KnowsReady self.new) }
+        ensures noted { NotesFence self.old self.new list.now collect result }
         ensures later { IsLater self.old self.new }
     {
         self.enter(rt, list, collect)?;
@@ -249,6 +252,9 @@ impl<'d> Client<'d> {
     /// It ends (PMIx Standard 5.0, PMIx_Finalize): its transcript.
     pub fn terminate<R: Wait>(mut self, rt: &R) -> Result<Transcript, Unended<'d>>
         ensures proc { IfOk result (λ t. t.proc ≡ proc_of self.entry) }
+        ensures noted { IfOk result (λ t. (n : ℕ)
+            × (noted_in t ≡ noted_in self.entry.transcript ++ noted (Calling.request (ModelRequest.terminate (proc_of self.entry))) (ModelReply.ended n) ∷ [])) }
+        ensures refused { IfErr result (λ u. NotesOf self.entry u.client (Calling.request (ModelRequest.terminate (proc_of self.entry))) ModelReply.ended (Err u.refusal)) }
         ensures client { IfErr result (λ u. IsLater self.entry u.client) }
     {
         let answer = self.end(rt);

@@ -1,19 +1,21 @@
 //! What is asked of a desk by who runs its node.
-ghost use Rattle.std.specs.Prelude.{◌≡◌, ◌⊎◌, IfErr, IfOk};
+ghost use Rattle.std.specs.Prelude.{◌≡◌, ◌⊎◌, [], IfErr, IfOk};
 ghost use mathlib.Core.List.{IsPrefix};
 ghost use Rattle.pmg_value.specs.declared.refusal.Refusal.TheVariants as refusals;
 ghost use Rattle.pmg_rules.specs.Acts.{Act as ModelAct, Reply as ModelReply, Request as ModelRequest};
+ghost use Rattle.pmg_rules.specs.Kept.{IsOwn};
 ghost use Rattle.pmg_node.specs.Acting.{act_of, reply_as, request_of};
 ghost use Rattle.pmg_node.specs.Replies.{delivery_reply};
 ghost use Rattle.pmg_node.specs.Servers.{reply_in};
+ghost use Rattle.pmg_desk.specs.Clients.{proc_of};
 ghost use Rattle.pmg_desk.specs.Journals.{IsEvent, IsJournal, happened};
 ghost use Rattle.pmg_desk.specs.Kinds.{IsChange, IsReplyTo};
-ghost use Rattle.pmg_desk.specs.Telling.{IsToldOf};
+ghost use Rattle.pmg_desk.specs.Telling.{IsToldOf, WasFarDump, WasSent};
 
 use crate::client::{Client, copies_of};
 use crate::journal::Journal;
 use crate::lock::{Awaited, Desk};
-use crate::replies::{defined_by, delivery_by};
+use crate::replies::{defined_by, delivery_by, nudged_by};
 use crate::state::Twice;
 use crate::transcript::Transcript;
 use pmg_frame::Frame;
@@ -25,8 +27,15 @@ use std::collections::VecDeque;
 use std::sync::Wait;
 
 impl Desk {
-    /// The client of the process.
-    pub fn client<R: Wait>(&self, rt: &R, proc: &Proc) -> Result<Client<'_>, Refusal> {
+    /// The client of the process, which called nothing yet. Refused as BadParam for a process that the standard names or that its
+    /// namespace has not, as UnknownNamespace, as NotMine where it is at home at another node, as Terminated, as Exists where it
+    /// has a client, as Closed, and as NoMemory.
+    pub fn client<R: Wait>(&self, rt: &R, proc: &Proc) -> Result<Client<'_>, Refusal>
+        ensures proc { IfOk result (λ c. proc_of c ≡ proc.now) }
+        ensures node { IfOk result (λ c. (c.jobs ≡ self.now.place.registry) × (c.node ≡ self.now.place.node)) }
+        ensures home { IfOk result (λ _. IsOwn self.now.place.registry self.now.place.node proc.now) }
+        ensures calls { IfOk result (λ c. c.transcript.calls.items ≡ []) }
+    {
         let calls = Vec::new(self.place.registry.allocator());
         let transcript = Transcript {
             proc: proc.copy()?,
@@ -89,11 +98,10 @@ impl Desk {
     }
 
     /// Other nodes are asked again for what is missing.
-    pub fn nudge<R: Wait>(&self, rt: &R) -> Result<(), Refusal> {
-        match self.act(rt, &Act::Request(Request::Nudge)) {
-            Ok(_) => Ok(()),
-            Err(refusal) => Err(refusal),
-        }
+    pub fn nudge<R: Wait>(&self, rt: &R) -> Result<(), Refusal>
+        ensures { IsEvent result → IsReplyTo (ModelAct.request ModelRequest.nudge) (reply_in (λ _. ModelReply.done) result) }
+    {
+        nudged_by(self.act(rt, &Act::Request(Request::Nudge)))
     }
 
     /// Changes the process sets, which is done at node 0: the number of the change, from 1.
@@ -120,8 +128,11 @@ impl Desk {
         self.change_sets(rt, Request::Delete(name.copy()?))
     }
 
-    /// Takes the frames that the node sent, once there are some.
-    pub fn take_frames<R: Wait>(&self, rt: &R) -> Result<VecDeque<Sent>, Refusal> {
+    /// Takes the frames that the node sent and that were not taken yet, once there are some. Refused as Closed, and as TooMany past
+    /// 2^64 - 1 frames.
+    pub fn take_frames<R: Wait>(&self, rt: &R) -> Result<VecDeque<Sent>, Refusal>
+        ensures { IfOk result (λ frames. WasSent self.now.place.registry self.now.place.node frames.items) }
+    {
         let Some(mut held) = self.hold(rt, &Awaited::Frames) else {
             return Err(Refusal::Closed);
         };
@@ -131,7 +142,9 @@ impl Desk {
     }
 
     /// The far dump of the node: what other nodes may know of all processes, as text. Refused as Closed and as NoMemory.
-    pub fn far_dump<R: Wait>(&self, rt: &R) -> Result<Vec<u8>, Refusal> {
+    pub fn far_dump<R: Wait>(&self, rt: &R) -> Result<Vec<u8>, Refusal>
+        ensures { IfOk result (λ text. WasFarDump self.now.place.registry self.now.place.node text.items) }
+    {
         let Some(held) = self.hold(rt, &Awaited::Nothing) else {
             return Err(Refusal::Closed);
         };

@@ -2,6 +2,7 @@
 ghost use Rattle.std.specs.Prelude.{◌≡◌, IfSome, IfOk, true};
 ghost use Rattle.pmg_desk.specs.Places.{LiesAt};
 ghost use Rattle.pmg_jobinfo.specs.Jobs.{is_node};
+ghost use Rattle.pmg_rules.specs.Kept.{IsOwn};
 
 use crate::state::State;
 use counted_slot::{Counted, Fits};
@@ -183,6 +184,7 @@ impl Held<'_> {
     /// A viewer for the client of the process, which has none yet.
     pub(crate) fn give_viewer(&mut self, proc: Proc) -> Result<Viewer, Refusal>
         ensures book { IfOk result (λ v. v.book ≡ self.old.state.publisher.book) }
+        ensures home { IfOk result (λ _. IsOwn self.old.state.journal.registry self.old.state.journal.node proc) }
         ensures state { (p : _) → LiesAt p self.old.state → LiesAt p self.new.state }
         ensures desk { self.new.desk.now ≡ self.old.desk.now }
     {

@@ -219,19 +219,24 @@ impl Notes {
         }
     }
 
-    /// A call other than a put was answered without the node: it is noted, where there is something to note.
+    /// A call other than a put was answered without the node, by a value: it is noted, unless an allocation failed.
     pub(crate) fn keep(
         &mut self,
         call: Call,
-        answer: Option<Result<Reply, Refusal>>,
+        answer: &Result<Value, Refusal>,
     ) -> Result<(), AllocError>
         requires { is_put (calling_of call) ≡ false }
-        ensures { self.new.proc ≡ self.old.proc }
+        ensures proc { self.new.proc ≡ self.old.proc }
+        ensures noted { OnOk result (NotesCall (noted_in self.old) (noted_in self.new) (calling_of call) (λ v. ModelReply.found (spelling v)) answer.now) }
+        ensures err { OnErr result (noted_in self.new ≡ noted_in self.old) }
     {
-        if let Some(answer) = answer {
-            self.reserve()?;
-            self.note(call, answer);
-        }
+        let answer = match answer {
+            Ok(value) => Ok(Reply::Found(value.copy()?)),
+            Err(Refusal::NoMemory) => return Ok(()),
+            Err(refusal) => Err(*refusal),
+        };
+        self.reserve()?;
+        self.note(call, answer);
         Ok(())
     }
 

@@ -20,17 +20,16 @@ ghost use Rattle.pmg_rules.specs.Acts.{Reply as ModelReply, is_misnamed, reply_o
 ghost use Rattle.pmg_node.specs.Replies.{taking_reply};
 ghost use Rattle.pmg_desk.specs.Clients.{IsLater, is_waiting, proc_of, puts_of};
 ghost use Rattle.pmg_desk.specs.Journals.{IsEvent};
-ghost use Rattle.pmg_desk.specs.Reading.{IsDue, IsGot, IsReadNow, got_as, got_in, is_own, now_cause, reserved_seen};
+ghost use Rattle.pmg_desk.specs.Reading.{IsDue, IsGot, IsOwnGet, IsReadNow, NotesGet, got_as, got_in, is_own, now_cause, reserved_seen};
 
 use crate::client::Client;
 use crate::lock::Place;
 use crate::transcript::Call;
 use pmg_get::{Answer, Mode, View, resolve};
 use pmg_jobinfo::Registry;
-use pmg_node::{Asked, Reply, Request, Taking, is_bad_target, is_registered};
+use pmg_node::{Asked, Request, Taking, is_bad_target, is_registered};
 use pmg_publish::Sight;
 use pmg_value::{Key, NodeId, Proc, Refusal, Value};
-use std::alloc::AllocError;
 use std::sync::Wait;
 
 /// What a read that waits for nobody is answered.
@@ -42,15 +41,6 @@ fn answer_now(answer: Answer<'_>) -> Result<Value, Refusal>
         Answer::Found(value) => Ok(value.copy()?),
         Answer::OutsideScope => Err(Refusal::OutsideScope),
         Answer::NotFound | Answer::Park => Err(Refusal::NotFound),
-    }
-}
-
-/// What is noted of the answer; nothing where an allocation failed.
-fn kept_of(answer: &Result<Value, Refusal>) -> Result<Option<Result<Reply, Refusal>>, AllocError> {
-    match answer {
-        Ok(value) => Ok(Some(Ok(Reply::Found(value.copy()?)))),
-        Err(Refusal::NoMemory) => Ok(None),
-        Err(refusal) => Ok(Some(Err(*refusal))),
     }
 }
 
@@ -164,20 +154,21 @@ impl Client<'_> {
     /// A key of its own, as it put it last. The read is noted.
     fn get_own(&mut self, key: &Key) -> Result<Value, Refusal>
         ensures later { IsLater self.old self.new }
-        ensures busy { is_waiting self.old ≡ true → IsDue result (ModelReply.refused refusals.Busy) }
-        ensures answer { is_waiting self.old ≡ false → IsDue result (reply_of (resolve (Seen.own (finite.get (puts_of self.old).own key.now)) modes.Wait)) }
+        ensures own { IsOwnGet self.old self.new (get_of (proc_of self.old) key.now) result }
     {
         let proc = self.proc();
         let request = Request::Ask(proc.copy()?, proc.copy()?, key.copy()?, Mode::Wait);
         let answer = self.free_own(key);
-        self.notes.keep(Call::Request(request), kept_of(&answer)?)?;
+        self.notes.keep(Call::Request(request), &answer)?;
         answer
     }
 
     /// It gets the target's key (PMIx Standard 5.0, PMIx_Get), and waits until there is something to answer.
     pub fn get<R: Wait>(&mut self, rt: &R, target: &Proc, key: &Key) -> Result<Value, Refusal>
         ensures later { IsLater self.old self.new }
+        ensures own { is_own (proc_of self.old) (get_of target.now key.now) ≡ true → IsOwnGet self.old self.new (get_of target.now key.now) result }
         ensures told { is_own (proc_of self.old) (get_of target.now key.now) ≡ false → IsEvent result → IsGot self.new (get_of target.now key.now) result }
+        ensures noted { is_own (proc_of self.old) (get_of target.now key.now) ≡ false → NotesGet self.old self.new (get_of target.now key.now) result }
     {
         if self.is_own(target, key) {
             return self.get_own(key);

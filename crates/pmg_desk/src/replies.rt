@@ -4,7 +4,7 @@ ghost use Rattle.pmg_rules.specs.Acts.{Reply as ModelReply};
 ghost use Rattle.pmg_node.specs.Acting.{reply_as};
 ghost use Rattle.pmg_node.specs.Replies.{asked_reply, delivery_reply, release_reply, taking_reply};
 ghost use Rattle.pmg_desk.specs.Answered.{SameAnswer};
-ghost use Rattle.pmg_desk.specs.Kinds.{IsAsked, IsCommitted, IsDefined, IsDelivery, IsEnded, IsEntered, IsRelease, IsTaking};
+ghost use Rattle.pmg_desk.specs.Kinds.{IsAsked, IsCommitted, IsDefined, IsDelivery, IsDone, IsEnded, IsEntered, IsRelease, IsTaking};
 
 use pmg_node::{Asked, Delivery, Release, Reply, Taking};
 use pmg_value::Refusal;
@@ -209,6 +209,31 @@ pub(crate) fn delivery_by(answer: Result<Reply, Refusal>) -> Result<Delivery, Re
     match answer {
         Ok(reply) => match delivery_in(reply) {
             Some(told) => Ok(told),
+            None => unreachable!(),
+        },
+        Err(refusal) => Err(refusal),
+    }
+}
+
+/// That it is done.
+fn done_in(reply: Reply) -> Option<()>
+    ensures some { IfSome result (λ _. ModelReply.done ≡ reply_as reply) }
+    ensures none { IsNone result → IsDone (reply_as reply) → ⊥ }
+{
+    match reply {
+        Reply::Done => Some(()),
+        _ => None,
+    }
+}
+
+/// That it is done. Or the refusal.
+pub(crate) fn nudged_by(answer: Result<Reply, Refusal>) -> Result<(), Refusal>
+    requires { IfOk answer (λ r. IsDone (reply_as r)) }
+    ensures { SameAnswer (λ _. ModelReply.done) reply_as result answer }
+{
+    match answer {
+        Ok(reply) => match done_in(reply) {
+            Some(()) => Ok(()),
             None => unreachable!(),
         },
         Err(refusal) => Err(refusal),

@@ -1,5 +1,5 @@
 //! What lies under the lock of a desk.
-ghost use Rattle.std.specs.Prelude.{◌≡◌, ◌⊎◌, ◌+◌, ◌==◌, ◌∷◌, ◌++◌, [], not, true, is_none, is_some, length, IfOk, IfErr, IfSome, IsNone, IsOkUnless, IsSome, OnErr, OnOk, Some, None, Err};
+ghost use Rattle.std.specs.Prelude.{◌≡◌, ◌⊎◌, ◌+◌, ◌==◌, ◌∷◌, ◌++◌, [], not, true, is_none, is_some, length, IfOk, IfErr, IfSome, IsNone, IsOkUnless, IsSome, OnErr, OnOk, Some, None, Ok, Err};
 ghost use Rattle.std.specs.Option.{option_map};
 ghost use mathlib.Core.List.{IsPrefix};
 ghost use Rattle.pmg_value.specs.declared.refusal.Refusal.TheVariants as refusals;
@@ -7,6 +7,7 @@ ghost use Rattle.pmg_jobinfo.specs.Jobs.{is_node};
 ghost use Rattle.pmg_store.specs.Dump.{dump};
 ghost use Rattle.pmg_value.specs.CheckOrder.{first_of};
 ghost use Rattle.pmg_rules.specs.Acts.{caller_cause, status_of};
+ghost use Rattle.pmg_rules.specs.Kept.{IsOwn};
 ghost use Rattle.pmg_node.specs.Acting.{act_of, joins_in, reply_as};
 ghost use Rattle.pmg_node.specs.Joining.{joins};
 ghost use Rattle.pmg_node.specs.Opening.{new_server};
@@ -15,7 +16,7 @@ ghost use Rattle.pmg_node.specs.Servers.{after, reply_in, reply_to, sent_by};
 ghost use Rattle.pmg_desk.specs.Journals.{IsEvent, IsJournal, happened, is_memory, start_of, told_in};
 ghost use Rattle.pmg_desk.specs.Replays.{publication_of, published_over};
 ghost use Rattle.pmg_desk.specs.States.{GoesOn, IsAt, IsSame, Steps};
-ghost use Rattle.pmg_desk.specs.Telling.{IsToldOf};
+ghost use Rattle.pmg_desk.specs.Telling.{IsToldOf, WasFarDump, WasSent};
 
 use crate::journal::{Journal, copy_of_answer};
 use pmg_jobinfo::Registry;
@@ -326,7 +327,8 @@ impl State {
     /// Judges who calls: a process of the group, at home at the node, that has not ended; none where the node was given up. It is no
     /// event.
     pub fn check_caller(&self, proc: &Proc) -> Option<Result<(), Refusal>>
-        ensures { result ≡ option_map (λ s. first_of (caller_cause s.jobs s.id s.holding proc.now) tt) self.now.node }
+        ensures judged { result ≡ option_map (λ s. first_of (caller_cause s.jobs s.id s.holding proc.now) tt) self.now.node }
+        ensures home { result ≡ Some (Ok tt) → IsOwn self.now.journal.registry self.now.journal.node proc.now }
     {
         match &self.parts.node {
             Some(node) => Some(node.check_caller(proc)),
@@ -346,7 +348,8 @@ impl State {
 
     /// What other nodes may know of all processes, as text; none where the node was given up.
     pub fn far_dump(&self) -> Result<Option<Vec<u8>>, AllocError>
-        ensures { IfOk result (λ text. option_map (λ t. t.items) text ≡ option_map (λ s. dump s.holding.far) self.now.node) }
+        ensures text { IfOk result (λ text. option_map (λ t. t.items) text ≡ option_map (λ s. dump s.holding.far) self.now.node) }
+        ensures told { IfOk result (λ text. IfSome text (λ t. WasFarDump self.now.journal.registry self.now.journal.node t.items)) }
     {
         match &self.parts.node {
             Some(node) => Ok(Some(dump_of(
@@ -368,6 +371,7 @@ impl State {
     /// 2^64 - 1 frames would be taken in all; then none is taken.
     pub fn take_frames(&mut self) -> Result<VecDeque<Sent>, Refusal>
         ensures frames { IfOk result (λ frames. frames.items ≡ self.old.outbox.items) }
+        ensures sent { IfOk result (λ frames. WasSent self.old.journal.registry self.old.journal.node frames.items) }
         ensures rest { OnOk result (self.new.outbox.items ≡ []) }
         ensures taken { IfOk result (λ frames. self.new.taken ≡ self.old.taken + length frames.items) }
         ensures err { OnErr result (self.new ≡ self.old) }

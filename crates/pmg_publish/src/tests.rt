@@ -133,7 +133,7 @@ fn count_readers<R: Wait>(rt: &R, alloc: Global, count: usize) -> Result<(usize,
 
 #[test]
 fn there_are_as_many_viewers_as_asked_for(rt: HostRuntime) -> Result<(), Refusal> {
-    for count in [0, 3, 4096] {
+    for count in [0, 3, 65_536] {
         assert!(rt; count_readers(&rt, rt.alloc(), count)? == (count, count));
     }
     Ok(())

@@ -10,6 +10,16 @@ use std::alloc::Global;
 use std::process::Abort;
 use std::str;
 
+// The answer, asked for a second time where an allocation failed.
+macro_rules! again {
+    ($call:expr) => {
+        match $call {
+            Err(Refusal::NoMemory) => $call,
+            answer => answer,
+        }
+    };
+}
+
 // Two nodes, with one process of namespace j each.
 fn registry(alloc: Global) -> Result<Registry, Refusal> {
     let names: [&[u8]; 2] = [b"n0", b"n1"];
@@ -53,10 +63,15 @@ fn lines(alloc: Global, world: &World) -> Result<Vec<u8>, Refusal> {
     Ok(text)
 }
 
+// The world of that group before any event.
+fn opened(alloc: Global) -> Result<World, Refusal> {
+    Ok(World::new(&registry(alloc)?)?)
+}
+
 // What these events are answered with, from the start on. Where an allocation fails, the world stands after the events that it
 // tells of, and the others happen then.
 fn answers(alloc: Global, events: &[Event]) -> Result<Vec<u8>, Refusal> {
-    let mut world = World::new(&registry(alloc)?)?;
+    let mut world = again!(opened(alloc))?;
     if let Err(failed) = world.run(events) {
         let told = world.events().len();
         let left = events.get(told..).unwrap_or(events);
@@ -64,7 +79,7 @@ fn answers(alloc: Global, events: &[Event]) -> Result<Vec<u8>, Refusal> {
             return Ok(Vec::new(alloc));
         }
     }
-    lines(alloc, &world)
+    again!(lines(alloc, &world))
 }
 
 fn shown(text: &[u8]) -> &str {
@@ -72,10 +87,8 @@ fn shown(text: &[u8]) -> &str {
 }
 
 // Process 1 puts, commits and enters; its header and its commit reach node 0, where process 0 entered.
-#[test]
-fn both_meet(rt: HostRuntime) -> Result<(), Refusal> {
-    let alloc = rt.alloc();
-    let events = [
+fn meeting(alloc: Global) -> Result<[Event; 11], Refusal> {
+    Ok([
         put(alloc, 1, Scope::Global, 7)?,
         Event::Commit(1, process(alloc, 1)?),
         enter(alloc, 0, 0)?,
@@ -87,8 +100,13 @@ fn both_meet(rt: HostRuntime) -> Result<(), Refusal> {
         leave(alloc, 1, 1)?,
         leave(alloc, 0, 0)?,
         get(alloc, 0, 0, 1)?,
-    ];
-    let text = answers(alloc, &events)?;
+    ])
+}
+
+#[test]
+fn both_meet(rt: HostRuntime) -> Result<(), Refusal> {
+    let alloc = rt.alloc();
+    let text = answers(alloc, &again!(meeting(alloc))?)?;
     let expected =
         "ok\ncommit 1\nentered 1\nentered 1\nwaiting\ndelivered 1\ndelivered 1\ndelivered 1\n\
         released 1 gone -\nreleased 1 gone -\nfound u8:7\n";
@@ -117,10 +135,8 @@ fn nothing_is_there(rt: HostRuntime) -> Result<(), Refusal> {
 }
 
 // What no commit sealed is seen by nobody but the process itself; a refused put changes nothing.
-#[test]
-fn puts_are_sealed_by_commits(rt: HostRuntime) -> Result<(), Refusal> {
-    let alloc = rt.alloc();
-    let events = [
+fn puts(alloc: Global) -> Result<[Event; 7], Refusal> {
+    Ok([
         put(alloc, 0, Scope::Global, 1)?,
         put(alloc, 0, Scope::Undef, 2)?,
         get(alloc, 0, 0, 0)?,
@@ -128,8 +144,13 @@ fn puts_are_sealed_by_commits(rt: HostRuntime) -> Result<(), Refusal> {
         put(alloc, 0, Scope::Global, 3)?,
         get(alloc, 0, 0, 0)?,
         get(alloc, 1, 1, 0)?,
-    ];
-    let text = answers(alloc, &events)?;
+    ])
+}
+
+#[test]
+fn puts_are_sealed_by_commits(rt: HostRuntime) -> Result<(), Refusal> {
+    let alloc = rt.alloc();
+    let text = answers(alloc, &again!(puts(alloc))?)?;
     let expected =
         "ok\nrefused 1 BadParam\nfound u8:1\ncommit 1\nok\nfound u8:3\nrefused 2 NotFound\n";
     assert_eq!(&rt; shown(&text), expected);

@@ -144,6 +144,13 @@ fn put_lines(text: &mut Vec<u8>, lines: &[u8]) -> Result<(), AllocError> {
     Ok(())
 }
 
+// The line, and the lines of what comes of it.
+fn put_played(text: &mut Vec<u8>, line: &str, found: &[u8]) -> Result<(), AllocError> {
+    put(text, line)?;
+    put(text, "\n")?;
+    put_lines(text, found)
+}
+
 impl Group {
     /// The group of that registry: none of its processes has called.
     pub(crate) fn new(registry: &Registry) -> Result<Group, Refusal> {
@@ -248,11 +255,13 @@ impl Group {
 
     // Plays the line, and puts it and what comes of it after the text.
     fn play_line(&mut self, text: &mut Vec<u8>, line: &str) -> Result<(), Refusal> {
-        let words = words_of(self.alloc, line)?;
+        let words = again!(words_of(self.alloc, line))?;
         let found = self.play(&words)?;
-        put(text, line)?;
-        put(text, "\n")?;
-        put_lines(text, &found)?;
+        let before = text.len();
+        if put_played(text, line, &found).is_err() {
+            text.truncate(before);
+            put_played(text, line, &found)?;
+        }
         Ok(())
     }
 

@@ -3,7 +3,7 @@ use pmg_commit::{Piece, PieceEntry};
 use pmg_frame::{CommitAsk, FenceAsk, FenceName, Frame, Header, Local, Signature, State};
 use pmg_scope::{Batch, Cache, Scope};
 use pmg_value::{Key, NodeId, Nspace, Proc, Rank, Refusal, Value};
-use std::alloc::{AllocError, Global};
+use std::alloc::Global;
 
 /// The word at that place, empty where there is none.
 pub(crate) fn word<'a>(words: &[&'a str], at: usize) -> &'a str {
@@ -14,8 +14,8 @@ pub(crate) fn word<'a>(words: &[&'a str], at: usize) -> &'a str {
 }
 
 /// The words of a line.
-pub(crate) fn words_of<'a>(alloc: Global, line: &'a str) -> Result<Vec<&'a str>, AllocError> {
-    line.split(' ').collect(alloc)
+pub(crate) fn words_of<'a>(alloc: Global, line: &'a str) -> Result<Vec<&'a str>, Refusal> {
+    Ok(line.split(' ').collect(alloc)?)
 }
 
 /// The number at that place, 0 where there is none.
