@@ -11,7 +11,7 @@ use Rattle.clap.specs.declared.error.kind.ErrorKind.{ErrorKind}
 use Rattle.clap.specs.declared.error.kind.ErrorKind.TheVariants.{OutOfMemory, DisplayHelp, DisplayVersion, MissingSubcommand}
 use Rattle.clap.proofs.OnLiterals.{clap_on_literals}
 use Rattle.pmg_app.specs.declared.command.Chosen.{Chosen}
-use Rattle.pmg_app.specs.declared.command.Chosen.TheVariants.{Dump, Merge, Replay, Shown}
+use Rattle.pmg_app.specs.declared.command.Chosen.TheVariants.{Dump, Merge, Replay, Run, Shown}
 use Rattle.pmg_app.specs.CommandLine.{program, command_in, chosen_of, shown_status, IsChosen}
 
 -- the command line is one of which `clap` says when it takes the words
@@ -40,6 +40,7 @@ pub named_is_chosen : (chosen : Chosen) (words : List Text) → fault_of program
 named_is_chosen Dump words none is = (none, sym is)
 named_is_chosen Merge words none is = (none, sym is)
 named_is_chosen Replay words none is = (none, sym is)
+named_is_chosen Run words none is = (none, sym is)
 named_is_chosen (Shown status) words none is = inr (none, sym is)
 
 -- where nothing is amiss, the command that is named is asked for
@@ -49,6 +50,7 @@ is_command (Err e) words command none named chosen = tt
 is_command (Ok Dump) words command none named chosen = sym chosen.1 ∙ named
 is_command (Ok Merge) words command none named chosen = sym chosen.1 ∙ named
 is_command (Ok Replay) words command none named chosen = sym chosen.1 ∙ named
+is_command (Ok Run) words command none named chosen = sym chosen.1 ∙ named
 is_command (Ok (Shown status)) words command none named (inl found) = absurd (subst (IsAmong found.0) none found.1)
 is_command (Ok (Shown status)) words command none named (inr is) = sym is.1 ∙ named
 
@@ -59,6 +61,7 @@ is_shown (Err e) words kind one chosen = tt
 is_shown (Ok Dump) words kind one chosen = let both : [] ≡ kind ∷ [] = sym chosen.0 ∙ one in cc
 is_shown (Ok Merge) words kind one chosen = let both : [] ≡ kind ∷ [] = sym chosen.0 ∙ one in cc
 is_shown (Ok Replay) words kind one chosen = let both : [] ≡ kind ∷ [] = sym chosen.0 ∙ one in cc
+is_shown (Ok Run) words kind one chosen = let both : [] ≡ kind ∷ [] = sym chosen.0 ∙ one in cc
 is_shown (Ok (Shown status)) words kind one (inl found) = elim (subst (IsAmong found.0) one found.1) [
   | inl same ↦ ap Shown (found.2 ∙ ap shown_status same)
   | inr none ↦ absurd none
@@ -78,6 +81,10 @@ pub of_replay : (name : Text) → fault_of program (name ∷ codes "replay" ∷ 
 unfolding clap_on_literals
 of_replay name = refl
 
+pub of_run : (name : Text) → fault_of program (name ∷ codes "run" ∷ []) ≡ []
+unfolding clap_on_literals
+of_run name = refl
+
 pub dump_in : (name : Text) → chosen_of (command_in (name ∷ codes "dump" ∷ [])) ≡ Dump
 unfolding clap_on_literals
 dump_in name = refl
@@ -89,6 +96,10 @@ merge_in name = refl
 pub replay_in : (name : Text) → chosen_of (command_in (name ∷ codes "replay" ∷ [])) ≡ Replay
 unfolding clap_on_literals
 replay_in name = refl
+
+pub run_in : (name : Text) → chosen_of (command_in (name ∷ codes "run" ∷ [])) ≡ Run
+unfolding clap_on_literals
+run_in name = refl
 
 pub of_help : (name : Text) → fault_of program (name ∷ codes "--help" ∷ []) ≡ DisplayHelp ∷ []
 unfolding clap_on_literals

@@ -9,7 +9,7 @@ use Rattle.clap.specs.Faults.{fault_of}
 use Rattle.clap.specs.declared.error.kind.ErrorKind.{ErrorKind}
 use Rattle.clap.specs.declared.error.kind.ErrorKind.TheVariants.{DisplayHelp, DisplayVersion}
 use Rattle.pmg_app.specs.declared.command.Chosen.{Chosen}
-use Rattle.pmg_app.specs.declared.command.Chosen.TheVariants.{Dump, Merge, Replay, Shown}
+use Rattle.pmg_app.specs.declared.command.Chosen.TheVariants.{Dump, Merge, Replay, Run, Shown}
 
 -- the program before its commands: it has a version, and wants a command
 abbrev pub bare_program : App
@@ -19,9 +19,9 @@ bare_program = on_top (λ s. record s { has_version = true; subcommand_required 
 abbrev pub with_command : App → Text → App
 with_command app name = with_subcommand app (new_shape name)
 
--- The program as `clap` reads it: its commands are `dump`, `merge` and `replay`.
+-- The program as `clap` reads it: its commands are `dump`, `merge`, `replay` and `run`.
 abbrev pub program : App
-program = with_command (with_command (with_command bare_program (codes "dump")) (codes "merge")) (codes "replay")
+program = with_command (with_command (with_command (with_command bare_program (codes "dump")) (codes "merge")) (codes "replay")) (codes "run")
 
 -- the command that `clap` finds in the words, where it takes them
 abbrev pub command_in : List Text → Option Text
@@ -33,7 +33,8 @@ chosen_of None = Shown 2
 chosen_of (Some name) =
     if bytes_eq name (codes "dump") then Dump
     else if bytes_eq name (codes "merge") then Merge
-    else if bytes_eq name (codes "replay") then Replay else Shown 2
+    else if bytes_eq name (codes "replay") then Replay
+    else if bytes_eq name (codes "run") then Run else Shown 2
 
 -- the status of a line that asks for help or the version, and of one that is not understood
 abbrev pub shown_status : ErrorKind → ℕ
@@ -50,6 +51,7 @@ abbrev pub IsChosen : List Text → Chosen → Type 0
 IsChosen words Dump = IsNamed words Dump
 IsChosen words Merge = IsNamed words Merge
 IsChosen words Replay = IsNamed words Replay
+IsChosen words Run = IsNamed words Run
 IsChosen words (Shown status) = ((kind : ErrorKind) × IsAmong kind (fault_of program words) × (status ≡ shown_status kind)) ⊎ IsNamed words (Shown status)
 
 -- the status of what was shown is 0 or 2
@@ -57,4 +59,5 @@ abbrev pub HasStatus : Chosen → Type 0
 HasStatus Dump = Unit {0}
 HasStatus Merge = Unit {0}
 HasStatus Replay = Unit {0}
+HasStatus Run = Unit {0}
 HasStatus (Shown status) = (status ≡ 0) ⊎ (status ≡ 2)

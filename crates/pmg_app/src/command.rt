@@ -22,12 +22,14 @@ pub enum Chosen {
     Merge,
     /// The command `replay`.
     Replay,
+    /// The command `run`.
+    Run,
     /// Nothing more: help, the version or a usage fault was printed. Holds the status to end with.
     Shown(u8),
 }
 
 const PROGRAM_HELP: &str = "\
-Exit status: 0 done, 1 refused input or a read or write fault, 2 usage, 3 no memory.
+Exit status: 0 done, 1 refused input, a refused client, or a read or write fault, 2 usage, 3 no memory.
 
 Example:
   $ echo 010100000027016a00000000000000000000000000000000000000010000000100016100000000000000010101 | pmixgroup dump
@@ -72,6 +74,26 @@ Example:
   commit 1
   found u8:7";
 
+const RUN_ABOUT: &str =
+    "Runs a job of several nodes, whose processes exchange their addresses, and prints what each found";
+
+const RUN_HELP: &str = "\
+The job is JSON: its nodes' names, and its namespaces, each with its name and the nodes of its processes by rank. At
+most 8 nodes and 32 processes. Each process puts its address, commits it, meets the others in a fence, and looks for
+their addresses.
+
+Exit status: 0 where each client was done; 1 for a refused job, where a client was refused, and a read or write fault;
+3 no memory.
+
+Example:
+  $ echo '{\"nodes\":[\"n0\",\"n1\"],\"spaces\":[{\"name\":\"j\",\"homes\":[0,1]}]}' | pmixgroup run
+  client j 0 found 1 own 1
+  client j 1 found 1 own 1
+  proc j 0 level 1
+    string:6a2f30 addr
+  proc j 1 level 1
+    string:6a2f31 addr";
+
 /// Reads the command line. Help and the version go to standard output, a usage fault to standard error.
 ///
 /// Fails with `InvalidData` where an argument is not UTF-8.
@@ -88,6 +110,7 @@ pub fn choose<R: Print + Eprint + AllocGlobal, S: AsStr>(rt: &R, words: &[S]) ->
     ensures dump { (name : List ℕ) → map S.text words.now ≡ name ∷ codes "dump" ∷ [] → IfOk result (λ chosen. chosen ≡ Chosen.Dump) }
     ensures merge { (name : List ℕ) → map S.text words.now ≡ name ∷ codes "merge" ∷ [] → IfOk result (λ chosen. chosen ≡ Chosen.Merge) }
     ensures replay { (name : List ℕ) → map S.text words.now ≡ name ∷ codes "replay" ∷ [] → IfOk result (λ chosen. chosen ≡ Chosen.Replay) }
+    ensures run { (name : List ℕ) → map S.text words.now ≡ name ∷ codes "run" ∷ [] → IfOk result (λ chosen. chosen ≡ Chosen.Run) }
     ensures help { (name : List ℕ) → map S.text words.now ≡ name ∷ codes "--help" ∷ [] → IfOk result (λ chosen. chosen ≡ Chosen.Shown 0) }
     ensures version { (name : List ℕ) → map S.text words.now ≡ name ∷ codes "--version" ∷ [] → IfOk result (λ chosen. chosen ≡ Chosen.Shown 0) }
     ensures nothing { (name : List ℕ) → map S.text words.now ≡ name ∷ [] → IfOk result (λ chosen. chosen ≡ Chosen.Shown 2) }
@@ -109,6 +132,7 @@ fn chosen_by(matches: &ArgMatches) -> Chosen
         Some("dump") => Chosen::Dump,
         Some("merge") => Chosen::Merge,
         Some("replay") => Chosen::Replay,
+        Some("run") => Chosen::Run,
         _ => Chosen::Shown(USAGE_FAULT),
     }
 }
@@ -144,6 +168,7 @@ fn command_line<'a>(alloc: Global) -> io::Result<Command<'a>>
     let command = with_command(alloc, command, "dump", DUMP_ABOUT, DUMP_HELP)?;
     let command = with_command(alloc, command, "merge", MERGE_ABOUT, MERGE_HELP)?;
     let command = with_command(alloc, command, "replay", REPLAY_ABOUT, REPLAY_HELP)?;
+    let command = with_command(alloc, command, "run", RUN_ABOUT, RUN_HELP)?;
     Ok(command)
 }
 

@@ -163,7 +163,7 @@ fn streams_print_their_dump_or_their_first_fault(rt: HostRuntime) {
         ),
     ];
     for (name, text, status, want) in cases {
-        let (answer, printed) = run_on(rt.alloc(), Chosen::Dump, text.as_bytes());
+        let (answer, printed) = run_on(&rt, Chosen::Dump, text.as_bytes());
         assert_eq!(rt; answer, status, "{name}");
         assert_eq!(rt; printed.as_slice(), want.as_bytes(), "{name}");
     }

@@ -15,6 +15,9 @@ mod command;
 mod dump;
 #[cfg(test)]
 mod dump_tests;
+mod job;
+#[cfg(test)]
+mod job_tests;
 mod merge;
 #[cfg(test)]
 mod merge_tests;
@@ -28,6 +31,8 @@ mod tests;
 mod text;
 
 use command::Chosen;
+use pmg_job::MAX_JOB_PROCS;
+use pmg_launch::{Exchange, Program};
 use pmg_store::{Failure, MOST_READS, WatchedReader};
 use pmg_value::{Refusal, WatchedWriter};
 use reporting::conclude;
@@ -37,9 +42,26 @@ use std::io;
 use std::io::{BufReader, BufWriter, ErrorKind, Read, Write};
 use std::process::ExitCode;
 use std::rt::Env;
+use std::sync::Wait;
+use std::thread::Threads;
 
 fn main(rt: HostRuntime) -> ExitCode {
-    let status = match run(&rt) {
+    let alloc = rt.alloc();
+    let mut programs: Vec<Box<dyn Program>> = Vec::new(alloc);
+    let mut is_short = false;
+    for _ in 0..MAX_JOB_PROCS {
+        let Ok(program) = Box::new(alloc, Exchange::new(rt, alloc)) else {
+            is_short = true;
+            break;
+        };
+        is_short = is_short || programs.push(program).is_err();
+    }
+    let ended = if is_short {
+        Err(io::Error::from(ErrorKind::OutOfMemory))
+    } else {
+        run(&rt, programs)
+    };
+    let status = match ended {
         Ok(status) => status,
         Err(error) => end_with(&rt, &mut WatchedWriter::new(io::writer(&rt)), &error),
     };
@@ -47,14 +69,17 @@ fn main(rt: HostRuntime) -> ExitCode {
 }
 
 /// Carries out what the command line asks for, from standard input to standard output. Why one of them failed is told
-/// on standard error.
-fn run(rt: &(impl Env + Input + Print + Eprint + AllocGlobal)) -> io::Result<u8>
+/// on standard error. The processes of a job run these programs.
+fn run(
+    rt: &(impl Env + Input + Print + Eprint + AllocGlobal + Threads + Wait + Sync),
+    programs: Vec<Box<dyn Program>>,
+) -> io::Result<u8>
     ensures { IfOk result (λ status. status ≤ 3) }
 {
     let chosen = command::read_command_line(rt)?;
     let mut reader = WatchedReader::new(BufReader::new(rt.alloc(), rt.reader())?);
     let mut writer = WatchedWriter::new(BufWriter::new(rt.alloc(), io::writer(rt))?);
-    let status = carry_out(rt.alloc(), chosen, &mut reader, &mut writer);
+    let status = carry_out(rt, chosen, programs, &mut reader, &mut writer);
     if let Some(error) = reader.failure() {
         let _ = eprintln!(rt; "pmixgroup: standard input: {error}");
     }
@@ -64,10 +89,11 @@ fn run(rt: &(impl Env + Input + Print + Eprint + AllocGlobal)) -> io::Result<u8>
     Ok(status)
 }
 
-/// Carries out what was chosen, and answers the status.
-fn carry_out<R: Read, W: Write>(
-    alloc: Global,
+/// Carries out what was chosen, and answers the status. A job's processes run these programs.
+fn carry_out<T: AllocGlobal + Threads + Wait + Sync, R: Read, W: Write>(
+    rt: &T,
     chosen: Chosen,
+    programs: Vec<Box<dyn Program>>,
     reader: &mut WatchedReader<R>,
     writer: &mut WatchedWriter<W>,
 ) -> u8
@@ -87,10 +113,12 @@ fn carry_out<R: Read, W: Write>(
     ensures few { reader.new.reads ≤ reader.old.reads + MOST_READS }
     ensures status { HasStatus chosen → result ≤ 3 }
 {
+    let alloc = rt.alloc();
     match chosen {
         Chosen::Dump => dump::run_dump(alloc, reader, writer),
         Chosen::Merge => merge::run_merge(alloc, reader, writer),
         Chosen::Replay => replay::run_replay(alloc, reader, writer),
+        Chosen::Run => job::run_job(rt, alloc, programs, reader, writer),
         Chosen::Shown(status) => status,
     }
 }

@@ -51,7 +51,7 @@ fn merged_streams_print_one_dump(rt: HostRuntime) {
         ("streams-of-nothing", "--\n--\n--", ""),
     ];
     for (name, text, want) in cases {
-        let (status, printed) = run_on(rt.alloc(), Chosen::Merge, text.as_bytes());
+        let (status, printed) = run_on(&rt, Chosen::Merge, text.as_bytes());
         assert_eq!(rt; printed.as_slice(), want.as_bytes(), "{name}");
         assert_eq!(rt; status, 0, "{name}");
     }
@@ -102,7 +102,7 @@ fn the_first_fault_of_the_first_faulty_stream_is_told(rt: HostRuntime) {
         ),
     ];
     for (name, text, want) in cases {
-        let (status, printed) = run_on(rt.alloc(), Chosen::Merge, text.as_bytes());
+        let (status, printed) = run_on(&rt, Chosen::Merge, text.as_bytes());
         assert_eq!(rt; printed.as_slice(), want.as_bytes(), "{name}");
         assert_eq!(rt; status, 1, "{name}");
     }
@@ -114,11 +114,11 @@ fn sixty_four_streams_are_merged_and_no_more(rt: HostRuntime) -> Result<(), Allo
     for _ in 0..63 {
         text.extend_from_slice(b"--\n")?;
     }
-    let (status, printed) = run_on(rt.alloc(), Chosen::Merge, text.as_slice());
+    let (status, printed) = run_on(&rt, Chosen::Merge, text.as_slice());
     assert_eq!(rt; status, 0);
     assert!(rt; printed.is_empty());
     text.extend_from_slice(b"--\n0g")?;
-    let (status, printed) = run_on(rt.alloc(), Chosen::Merge, text.as_slice());
+    let (status, printed) = run_on(&rt, Chosen::Merge, text.as_slice());
     assert_eq!(rt; status, 1);
     assert_eq!(rt; printed.as_slice(), b"refused 9 TooMany\n".as_slice());
     Ok(())

@@ -5,6 +5,8 @@ use crate::tests::{FailingWriter, run_failing, run_into, run_on};
 use std::alloc::{AllocError, Global};
 use std::process::Abort;
 use std::str;
+use std::sync::Wait;
+use std::thread::Threads;
 
 // The lines that begin with a blank, without it, or the others.
 fn lines_of(alloc: Global, text: &str, is_reply: bool) -> Result<Vec<u8>, AllocError> {
@@ -20,19 +22,27 @@ fn lines_of(alloc: Global, text: &str, is_reply: bool) -> Result<Vec<u8>, AllocE
 }
 
 // The script prints that, and ends with that status.
-fn prints(rt: &impl Abort, alloc: Global, script: &[u8], status: u8, want: &str) {
-    let (answer, printed) = run_on(alloc, Chosen::Replay, script);
+fn prints<T: Abort + AllocGlobal + Threads + Wait + Sync>(
+    rt: &T,
+    script: &[u8],
+    status: u8,
+    want: &str,
+) {
+    let (answer, printed) = run_on(rt, Chosen::Replay, script);
     assert_eq!(rt; str::from_utf8(&printed).unwrap_or("no text"), want);
     assert_eq!(rt; answer, status);
 }
 
 // Each line of a script is answered by what stands after it, a blank before each line of that; and all is done.
-fn plays(rt: &impl Abort, alloc: Global, transcript: &str) -> Result<(), AllocError> {
+fn plays<T: Abort + AllocGlobal + Threads + Wait + Sync>(
+    rt: &T,
+    transcript: &str,
+) -> Result<(), AllocError> {
+    let alloc = rt.alloc();
     let script = lines_of(alloc, transcript, false)?;
     let replies = lines_of(alloc, transcript, true)?;
     prints(
         rt,
-        alloc,
         &script,
         0,
         str::from_utf8(&replies).unwrap_or("no text"),
@@ -44,7 +54,6 @@ fn plays(rt: &impl Abort, alloc: Global, transcript: &str) -> Result<(), AllocEr
 fn lost_piece_and_nudge(rt: HostRuntime) -> Result<(), AllocError> {
     plays(
         &rt,
-        rt.alloc(),
         "\
 nodes n0 n1
  ok
@@ -90,7 +99,6 @@ leave j 0
 fn value_for_each_side(rt: HostRuntime) -> Result<(), AllocError> {
     plays(
         &rt,
-        rt.alloc(),
         "\
 nodes n0 n1
  ok
@@ -127,7 +135,6 @@ dump 0
 fn gone_before_the_fence(rt: HostRuntime) -> Result<(), AllocError> {
     plays(
         &rt,
-        rt.alloc(),
         "\
 nodes n0 n1
  ok
@@ -167,7 +174,6 @@ get j 0 now j 2 a
 fn get_answered_by_an_end(rt: HostRuntime) -> Result<(), AllocError> {
     plays(
         &rt,
-        rt.alloc(),
         "\
 nodes n0 n1
  ok
@@ -205,7 +211,6 @@ get j 1 now j 0 b
 fn sets_that_spread(rt: HostRuntime) -> Result<(), AllocError> {
     plays(
         &rt,
-        rt.alloc(),
         "\
 nodes n0 n1 n2
  ok
@@ -263,7 +268,6 @@ members 2 fast
 fn fence_twice(rt: HostRuntime) -> Result<(), AllocError> {
     plays(
         &rt,
-        rt.alloc(),
         "\
 nodes n0 n1
  ok
@@ -312,14 +316,14 @@ leave j 0
 #[test]
 fn nothing_but_empty_lines_prints_nothing(rt: HostRuntime) {
     for script in [b"\n".as_slice(), b"\r\n\n\r\n".as_slice()] {
-        prints(&rt, rt.alloc(), script, 0, "");
+        prints(&rt, script, 0, "");
     }
 }
 
 #[test]
 fn a_cr_before_an_lf_is_no_part_of_a_name(rt: HostRuntime) {
     let script = b"nodes n0\r\nspace j 0\r\n\r\nget j 0 now j 0 pmix.hname\r\n".as_slice();
-    prints(&rt, rt.alloc(), script, 0, "ok\nok\nfound string:6e30\n");
+    prints(&rt, script, 0, "ok\nok\nfound string:6e30\n");
 }
 
 #[test]
@@ -330,7 +334,7 @@ fn refused_nodes_end_the_script(rt: HostRuntime) {
         ("\nnodes n\u{e9}", "refused 1 BadParam\n"),
     ];
     for (script, want) in cases {
-        prints(&rt, rt.alloc(), script.as_bytes(), 1, want);
+        prints(&rt, script.as_bytes(), 1, want);
     }
 }
 
@@ -338,7 +342,6 @@ fn refused_nodes_end_the_script(rt: HostRuntime) {
 fn a_refused_line_is_answered_and_the_script_goes_on(rt: HostRuntime) -> Result<(), AllocError> {
     plays(
         &rt,
-        rt.alloc(),
         "\
 nodes n0
  ok
@@ -389,7 +392,7 @@ fn a_line_that_is_none_prints_its_fault_after_the_replies(rt: HostRuntime) {
         ),
     ];
     for (script, want) in cases {
-        prints(&rt, rt.alloc(), script.as_bytes(), 1, want);
+        prints(&rt, script.as_bytes(), 1, want);
     }
 }
 
@@ -408,17 +411,12 @@ fn a_read_fault_is_told_after_the_replies_of_whole_lines(rt: HostRuntime) {
         (27, "ok\nok\nread fault\n"),
     ];
     for (fails_at, want) in cases {
-        let (status, reads, printed) = run_failing(
-            rt.alloc(),
-            Chosen::Replay,
-            SHORT.as_bytes(),
-            fails_at,
-        );
+        let (status, reads, printed) = run_failing(&rt, Chosen::Replay, SHORT.as_bytes(), fails_at);
         assert_eq!(rt; str::from_utf8(&printed).unwrap_or("no text"), want);
         assert_eq!(rt; status, 1);
         assert_eq!(rt; reads, fails_at);
     }
-    let (status, _, printed) = run_failing(rt.alloc(), Chosen::Replay, SHORT.as_bytes(), 28);
+    let (status, _, printed) = run_failing(&rt, Chosen::Replay, SHORT.as_bytes(), 28);
     assert_eq!(rt;
         str::from_utf8(&printed).unwrap_or("no text"),
         SHORT_REPLIES
@@ -430,7 +428,7 @@ fn a_read_fault_is_told_after_the_replies_of_whole_lines(rt: HostRuntime) {
 fn a_failing_writer_holds_a_prefix_of_the_replies(rt: HostRuntime) {
     for (writes, held) in [(0, 0), (1, 3), (2, 6), (3, 13)] {
         let writer = FailingWriter::new(rt.alloc(), writes, true);
-        let (status, writer) = run_into(rt.alloc(), Chosen::Replay, SHORT.as_bytes(), writer);
+        let (status, writer) = run_into(&rt, Chosen::Replay, SHORT.as_bytes(), writer);
         assert_eq!(rt; status, 1);
         assert_eq!(rt;
             writer.held.as_slice(),
@@ -438,7 +436,7 @@ fn a_failing_writer_holds_a_prefix_of_the_replies(rt: HostRuntime) {
         );
     }
     let writer = FailingWriter::new(rt.alloc(), 4, true);
-    let (status, writer) = run_into(rt.alloc(), Chosen::Replay, SHORT.as_bytes(), writer);
+    let (status, writer) = run_into(&rt, Chosen::Replay, SHORT.as_bytes(), writer);
     assert_eq!(rt; status, 0);
     assert_eq!(rt; writer.held.as_slice(), SHORT_REPLIES.as_bytes());
 }
@@ -447,7 +445,7 @@ fn a_failing_writer_holds_a_prefix_of_the_replies(rt: HostRuntime) {
 fn replies_that_cannot_be_flushed_are_a_write_fault(rt: HostRuntime) {
     for script in [SHORT, "nodes"] {
         let writer = FailingWriter::new(rt.alloc(), 100, false);
-        let (status, writer) = run_into(rt.alloc(), Chosen::Replay, script.as_bytes(), writer);
+        let (status, writer) = run_into(&rt, Chosen::Replay, script.as_bytes(), writer);
         assert_eq!(rt; status, 1);
         assert!(rt; !writer.held.is_empty());
     }

@@ -8,6 +8,8 @@ use pmg_value::{Refusal, WatchedWriter};
 use std::alloc::Global;
 use std::io;
 use std::io::{ErrorKind, Read, Write};
+use std::sync::Wait;
+use std::thread::Threads;
 
 const ONE_CONTRIBUTION: &[u8] =
     b"010100000027016a00000000000000000000000000000000000000010000000100016100000000000000010101";
@@ -70,29 +72,33 @@ impl Write for FailingWriter {
 }
 
 // The status that the command ends with, and what it prints, for this text on standard input.
-pub fn run_on(alloc: Global, chosen: Chosen, text: &[u8]) -> (u8, Vec<u8>) {
+pub fn run_on<T: AllocGlobal + Threads + Wait + Sync>(
+    rt: &T,
+    chosen: Chosen,
+    text: &[u8],
+) -> (u8, Vec<u8>) {
     let mut reader = WatchedReader::new(text);
-    let mut writer = WatchedWriter::new(Vec::new(alloc));
-    let status = carry_out(alloc, chosen, &mut reader, &mut writer);
+    let mut writer = WatchedWriter::new(Vec::new(rt.alloc()));
+    let status = carry_out(rt, chosen, Vec::new(rt.alloc()), &mut reader, &mut writer);
     (status, writer.into_inner())
 }
 
 // The same with this writer: the status, and the writer.
-pub fn run_into(
-    alloc: Global,
+pub fn run_into<T: AllocGlobal + Threads + Wait + Sync>(
+    rt: &T,
     chosen: Chosen,
     text: &[u8],
     writer: FailingWriter,
 ) -> (u8, FailingWriter) {
     let mut reader = WatchedReader::new(text);
     let mut writer = WatchedWriter::new(writer);
-    let status = carry_out(alloc, chosen, &mut reader, &mut writer);
+    let status = carry_out(rt, chosen, Vec::new(rt.alloc()), &mut reader, &mut writer);
     (status, writer.into_inner())
 }
 
 // The same with a reader that fails at the read of that number: the status, how often it was read, and what is printed.
-pub fn run_failing(
-    alloc: Global,
+pub fn run_failing<T: AllocGlobal + Threads + Wait + Sync>(
+    rt: &T,
     chosen: Chosen,
     text: &[u8],
     fails_at: usize,
@@ -102,8 +108,8 @@ pub fn run_failing(
         reads: 0,
         fails_at,
     });
-    let mut writer = WatchedWriter::new(Vec::new(alloc));
-    let status = carry_out(alloc, chosen, &mut reader, &mut writer);
+    let mut writer = WatchedWriter::new(Vec::new(rt.alloc()));
+    let status = carry_out(rt, chosen, Vec::new(rt.alloc()), &mut reader, &mut writer);
     (status, reader.reads(), writer.into_inner())
 }
 
@@ -113,6 +119,7 @@ fn words_ask_for_commands_help_and_the_version(rt: HostRuntime) -> io::Result<()
         ("dump", Chosen::Dump),
         ("merge", Chosen::Merge),
         ("replay", Chosen::Replay),
+        ("run", Chosen::Run),
         ("help", Chosen::Shown(0)),
         ("-h", Chosen::Shown(0)),
         ("--help", Chosen::Shown(0)),
@@ -134,7 +141,7 @@ fn words_ask_for_commands_help_and_the_version(rt: HostRuntime) -> io::Result<()
 
 #[test]
 fn what_was_shown_ends_with_its_status(rt: HostRuntime) {
-    let (status, printed) = run_on(rt.alloc(), Chosen::Shown(2), ONE_CONTRIBUTION);
+    let (status, printed) = run_on(&rt, Chosen::Shown(2), ONE_CONTRIBUTION);
     assert_eq!(rt; status, 2);
     assert!(rt; printed.is_empty());
 }
@@ -163,7 +170,7 @@ fn a_fault_prints_its_line_alone(rt: HostRuntime) {
         ("030100000000", "refused 10 BadFrame: Version at 0\n"),
     ];
     for (text, want) in cases {
-        let (status, printed) = run_on(rt.alloc(), Chosen::Dump, text.as_bytes());
+        let (status, printed) = run_on(&rt, Chosen::Dump, text.as_bytes());
         assert_eq!(rt; printed.as_slice(), want.as_bytes(), "{text}");
         assert_eq!(rt; status, 1, "{text}");
     }
@@ -172,7 +179,7 @@ fn a_fault_prints_its_line_alone(rt: HostRuntime) {
 #[test]
 fn nothing_in_prints_nothing(rt: HostRuntime) {
     for chosen in [Chosen::Dump, Chosen::Merge, Chosen::Replay] {
-        let (status, printed) = run_on(rt.alloc(), chosen, b"");
+        let (status, printed) = run_on(&rt, chosen, b"");
         assert_eq!(rt; status, 0);
         assert!(rt; printed.is_empty());
     }
@@ -183,7 +190,13 @@ fn input_without_end_is_refused(rt: HostRuntime) {
     let mut reader = WatchedReader::new(io::repeat(b' '));
     let mut writer = WatchedWriter::new(Vec::new(rt.alloc()));
     assert_eq!(rt;
-        carry_out(rt.alloc(), Chosen::Dump, &mut reader, &mut writer),
+        carry_out(
+            &rt,
+            Chosen::Dump,
+            Vec::new(rt.alloc()),
+            &mut reader,
+            &mut writer
+        ),
         1
     );
     assert_eq!(rt;
@@ -196,12 +209,7 @@ fn input_without_end_is_refused(rt: HostRuntime) {
 fn a_failing_reader_prints_read_fault_alone(rt: HostRuntime) {
     for chosen in [Chosen::Dump, Chosen::Merge] {
         for fails_at in 1..=10 {
-            let (status, reads, printed) = run_failing(
-                rt.alloc(),
-                chosen,
-                ONE_CONTRIBUTION,
-                fails_at,
-            );
+            let (status, reads, printed) = run_failing(&rt, chosen, ONE_CONTRIBUTION, fails_at);
             assert_eq!(rt; status, 1, "at {fails_at}");
             assert_eq!(rt; reads, fails_at);
             assert_eq!(rt;
@@ -217,10 +225,10 @@ fn a_failing_reader_prints_read_fault_alone(rt: HostRuntime) {
 fn a_failing_writer_holds_a_prefix_and_no_line(rt: HostRuntime) {
     for chosen in [Chosen::Dump, Chosen::Merge] {
         for text in [ONE_CONTRIBUTION, b"010".as_slice()] {
-            let (status, whole) = run_on(rt.alloc(), chosen, text);
+            let (status, whole) = run_on(&rt, chosen, text);
             for writes in 0..10 {
                 let writer = FailingWriter::new(rt.alloc(), writes, true);
-                let (failing, writer) = run_into(rt.alloc(), chosen, text, writer);
+                let (failing, writer) = run_into(&rt, chosen, text, writer);
                 assert!(rt; whole.starts_with(writer.held.as_slice()), "at {writes}");
                 let is_whole = writer.held.len() == whole.len();
                 assert_eq!(rt; failing, if is_whole { status } else { 1 }, "at {writes}");
@@ -232,7 +240,7 @@ fn a_failing_writer_holds_a_prefix_and_no_line(rt: HostRuntime) {
 #[test]
 fn output_that_cannot_be_flushed_is_a_write_fault(rt: HostRuntime) {
     let writer = FailingWriter::new(rt.alloc(), 100, false);
-    let (status, writer) = run_into(rt.alloc(), Chosen::Dump, b"", writer);
+    let (status, writer) = run_into(&rt, Chosen::Dump, b"", writer);
     assert_eq!(rt; status, 1);
     assert!(rt; writer.held.is_empty());
 }

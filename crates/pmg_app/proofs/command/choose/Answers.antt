@@ -5,9 +5,9 @@ use Rattle.clap.specs.Faults.{fault_of, is_simple_and_free}
 use Rattle.clap.specs.Values.{kind_of}
 use Rattle.clap.specs.Kinds.{HasKind}
 use Rattle.clap.specs.declared.error.kind.ErrorKind.TheVariants.{DisplayHelp, DisplayVersion, MissingSubcommand}
-use Rattle.pmg_app.specs.declared.command.Chosen.TheVariants.{Dump, Merge, Replay}
+use Rattle.pmg_app.specs.declared.command.Chosen.TheVariants.{Dump, Merge, Replay, Run}
 use Rattle.pmg_app.specs.CommandLine.{program, command_in, chosen_of}
-use Rattle.pmg_app.proofs.CommandLemmas.{is_simple_program, is_simple_line, name_beside, shown_is_chosen, named_is_chosen, is_command, is_shown, is_wanting, err_where, of_dump, of_merge, of_replay, dump_in, merge_in, replay_in, of_help, of_version, of_name}
+use Rattle.pmg_app.proofs.CommandLemmas.{is_simple_program, is_simple_line, name_beside, shown_is_chosen, named_is_chosen, is_command, is_shown, is_wanting, err_where, of_dump, of_merge, of_replay, of_run, dump_in, merge_in, replay_in, run_in, of_help, of_version, of_name}
 use Rattle.pmg_app.proofs.command.choose.Goals as goal
 
 pub returns-in-Ok-clause-chosen : goal.returns-in-Ok-clause-chosen
@@ -32,6 +32,11 @@ pub returns-in-Ok-clause-replay : goal.returns-in-Ok-clause-replay
 returns-in-Ok-clause-replay g c = λ name line.
     let words = map g.S.AsStr.text c.args.words.now in
     is_command {E = Unit {0}} (Ok c.chosen_by.result) words Replay (ap (fault_of program) line ∙ of_replay name) (ap (λ ws. chosen_of (command_in ws)) line ∙ replay_in name) (returns-in-Ok-clause-chosen g c)
+
+pub returns-in-Ok-clause-run : goal.returns-in-Ok-clause-run
+returns-in-Ok-clause-run g c = λ name line.
+    let words = map g.S.AsStr.text c.args.words.now in
+    is_command {E = Unit {0}} (Ok c.chosen_by.result) words Run (ap (fault_of program) line ∙ of_run name) (ap (λ ws. chosen_of (command_in ws)) line ∙ run_in name) (returns-in-Ok-clause-chosen g c)
 
 pub returns-in-Ok-clause-help : goal.returns-in-Ok-clause-help
 returns-in-Ok-clause-help g c = λ name line.
@@ -69,6 +74,11 @@ pub returns-in-Err-clause-replay : goal.returns-in-Err-clause-replay
 returns-in-Err-clause-replay g c = λ name line.
     let words = map g.S.AsStr.text c.args.words.now in
     is_command c.show.result words Replay (ap (fault_of program) line ∙ of_replay name) (ap (λ ws. chosen_of (command_in ws)) line ∙ replay_in name) (returns-in-Err-clause-chosen g c)
+
+pub returns-in-Err-clause-run : goal.returns-in-Err-clause-run
+returns-in-Err-clause-run g c = λ name line.
+    let words = map g.S.AsStr.text c.args.words.now in
+    is_command c.show.result words Run (ap (fault_of program) line ∙ of_run name) (ap (λ ws. chosen_of (command_in ws)) line ∙ run_in name) (returns-in-Err-clause-chosen g c)
 
 pub returns-in-Err-clause-help : goal.returns-in-Err-clause-help
 returns-in-Err-clause-help g c = λ name line.

@@ -7,4 +7,5 @@ pub returns-clause-ok : goal.returns-clause-ok
 returns-clause-ok c =
     let dumps = c.in_ok-command-2.ensures.ok ∙ ap (λ (a : App). with_command a (codes "dump")) c.in_ok-command.ensures.ok in
     let merges = c.in_ok-command-3.ensures.ok ∙ ap (λ (a : App). with_command a (codes "merge")) dumps in
-    c.in_ok-command-4.ensures.ok ∙ ap (λ (a : App). with_command a (codes "replay")) merges
+    let replays = c.in_ok-command-4.ensures.ok ∙ ap (λ (a : App). with_command a (codes "replay")) merges in
+    c.in_ok-command-5.ensures.ok ∙ ap (λ (a : App). with_command a (codes "run")) replays

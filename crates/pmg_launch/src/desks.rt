@@ -1,0 +1,51 @@
+//! The desks of a job: one a node.
+ghost use Rattle.std.specs.Prelude.{◌≡◌, ◌+◌, length, OnOk, IfOk, vec_len};
+
+use pmg_desk::Desk;
+use pmg_jobinfo::Registry;
+use pmg_value::{NodeId, Refusal};
+use std::sync::Wait;
+
+/// Opens the desks of the group's nodes, by index.
+pub fn open_desks<R: Wait>(rt: &R, registry: &Registry) -> Result<Vec<Desk>, Refusal>
+    ensures { IfOk result (λ desks. vec_len desks ≡ length registry.now.nodes) }
+{
+    let mut desks = Vec::new(registry.allocator());
+    match push_desks(rt, registry, &mut desks) {
+        Ok(()) => Ok(desks),
+        Err(refusal) => {
+            end_desks(rt, desks);
+            Err(refusal)
+        }
+    }
+}
+
+/// Puts the desks of the group's nodes behind those that are there.
+fn push_desks<R: Wait>(rt: &R, registry: &Registry, desks: &mut Vec<Desk>) -> Result<(), Refusal>
+    ensures { OnOk result (vec_len desks.new ≡ vec_len desks.old + length registry.now.nodes) }
+{
+    for index in 0..registry.node_count() {
+        let id = NodeId::new(index as u32)?;
+        let desk = Desk::new(rt, id, registry.copy()?)?;
+        if let Err(failed) = desks.push(desk) {
+            failed.value.into_journal(rt);
+            return Err(Refusal::NoMemory);
+        }
+    }
+    Ok(())
+}
+
+/// Closes the desks.
+pub fn close_desks<R: Wait>(rt: &R, desks: &[Desk]) {
+    for desk in desks {
+        desk.close(rt);
+    }
+}
+
+/// Ends the desks.
+pub fn end_desks<R: Wait>(rt: &R, mut desks: Vec<Desk>) {
+    while let Some(desk) = desks.pop() {
+        desk.into_journal(rt);
+    }
+    desks.destroy_empty();
+}

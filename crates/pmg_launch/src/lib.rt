@@ -1,0 +1,13 @@
+//! A job of several nodes run by threads: one desk a node, one thread a client, and links that carry frames from server to
+//! server.
+#![tactic(auto)]
+
+mod desks;
+mod exchange;
+mod launch;
+mod links;
+mod program;
+
+pub use exchange::Exchange;
+pub use launch::run;
+pub use program::{Outcome, Program, Report};

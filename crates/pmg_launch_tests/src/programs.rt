@@ -1,0 +1,105 @@
+//! Programs for the tests.
+
+use pmg_desk::Client;
+use pmg_launch::Program;
+use pmg_node::Release;
+use pmg_scope::Scope;
+use pmg_value::{Key, Proc, Refusal, Value, push_number};
+use std::alloc::Global;
+use std::sync::Wait;
+
+/// How often a client looks for a key before it gives up.
+const TURNS: u64 = 1_000_000;
+
+/// One of two clients: it puts a key and looks for the other's, or the other way round.
+#[derive(Drop)]
+pub struct Meeting<R: Wait> {
+    pub rt: R,
+    pub alloc: Global,
+    pub is_first: bool,
+}
+
+// Puts a number under the key, for all, and commits it.
+fn tell<R: Wait>(
+    rt: &R,
+    alloc: Global,
+    client: &mut Client<'_>,
+    name: &[u8],
+) -> Result<(), Refusal> {
+    client.put(Scope::Global, Key::read(alloc, name)?, Value::U8(7))?;
+    client.commit(rt)?;
+    Ok(())
+}
+
+// Looks for a key of another process until it is there. Refused as NotFound where it never was.
+fn look(alloc: Global, client: &mut Client<'_>, other: &Proc, name: &[u8]) -> Result<(), Refusal> {
+    let key = Key::read(alloc, name)?;
+    for _ in 0..TURNS {
+        match client.get_now(other, &key) {
+            Ok(_) => return Ok(()),
+            Err(Refusal::NotFound) => {}
+            Err(refusal) => return Err(refusal),
+        }
+    }
+    Err(Refusal::NotFound)
+}
+
+impl<R: Wait + Send + Drop> Program for Meeting<R> {
+    fn run(
+        &mut self,
+        client: &mut Client<'_>,
+        procs: &[Proc],
+        _out: &mut Vec<u8>,
+    ) -> Result<(), Refusal> {
+        let (Some(first), Some(second)) = (procs.first(), procs.last()) else {
+            return Err(Refusal::BadParam);
+        };
+        if self.is_first {
+            tell(&self.rt, self.alloc, client, b"a")?;
+            look(self.alloc, client, second, b"b")?;
+        } else {
+            look(self.alloc, client, first, b"a")?;
+            tell(&self.rt, self.alloc, client, b"b")?;
+        }
+        Ok(())
+    }
+}
+
+/// A client that is refused at once.
+#[derive(Drop)]
+pub struct Refused;
+
+impl Program for Refused {
+    fn run(
+        &mut self,
+        _client: &mut Client<'_>,
+        _procs: &[Proc],
+        out: &mut Vec<u8>,
+    ) -> Result<(), Refusal> {
+        out.extend_from_slice(b"no")?;
+        Err(Refusal::Stale)
+    }
+}
+
+/// A client that meets all in a fence and tells how many were gone.
+#[derive(Drop)]
+pub struct Fencing<R: Wait> {
+    pub rt: R,
+}
+
+impl<R: Wait + Send + Drop> Program for Fencing<R> {
+    fn run(
+        &mut self,
+        client: &mut Client<'_>,
+        procs: &[Proc],
+        out: &mut Vec<u8>,
+    ) -> Result<(), Refusal> {
+        let Release::Released(_, gone) = client.fence(&self.rt, procs, false)? else {
+            return Err(Refusal::NotFound);
+        };
+        for proc in &gone {
+            push_number(out, u64::from(proc.rank.number()))?;
+        }
+        Ok(())
+    }
+}
