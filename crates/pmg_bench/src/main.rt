@@ -1,20 +1,25 @@
-//! What fences and reads cost: each line on standard input is a number and, if it is not of fences, what is done so often.
+//! What fences, reads and jobs cost: each line on standard input is a number and, if it is not of fences, what is done so often.
 #![tactic(auto)]
 
+mod calls;
 mod fences;
+mod jobs;
 mod reads;
 
+use pmg_launch::{Exchange, Program};
 use pmg_value::Refusal;
 use std::alloc::Global;
 use std::io;
 use std::sync::Wait;
 
 /// What is done so often as a line says.
-#[derive(Clone, Copy)]
+#[derive(Clone, Copy, PartialEq)]
 enum Work {
     Fences,
     Reads,
     LockedReads,
+    ReadsOfClient,
+    Jobs,
 }
 
 impl Work {
@@ -24,15 +29,26 @@ impl Work {
             Work::Fences => "fences of 32 participants released",
             Work::Reads => "reads of 100 processes without a lock",
             Work::LockedReads => "reads of 100 processes under a lock",
+            Work::ReadsOfClient => "reads of 100 processes by a client",
+            Work::Jobs => "jobs of 8 nodes and 32 clients",
         }
     }
 }
 
 fn main(rt: HostRuntime) -> io::Result<()> {
-    for line in rt.lines(rt.alloc()) {
+    let alloc = rt.alloc();
+    for line in rt.lines(alloc) {
         let line = line?;
         let (work, number) = work_of(line.as_str());
-        match done(&rt, rt.alloc(), work, number) {
+        let mut ended = done(&rt, alloc, work, number);
+        for _ in 0..jobs_in(work, number) {
+            let mut programs: Vec<Box<dyn Program>> = Vec::new(alloc);
+            for _ in 0..jobs::CLIENTS {
+                programs.push(Box::new(alloc, Exchange::new(rt, alloc))?)?;
+            }
+            ended = jobs::run_one(&rt, alloc, programs, ended);
+        }
+        match ended {
             Ok(count) => println!(rt; "{count} {}", work.name())?,
             Err(refusal) => println!(rt; "{refusal}")?,
         }
@@ -48,10 +64,24 @@ fn work_of(line: &str) -> (Work, &str) {
     if let Some(number) = line.strip_suffix(" locked") {
         return (Work::LockedReads, number);
     }
+    if let Some(number) = line.strip_suffix(" now") {
+        return (Work::ReadsOfClient, number);
+    }
+    if let Some(number) = line.strip_suffix(" jobs") {
+        return (Work::Jobs, number);
+    }
     (Work::Fences, line)
 }
 
-/// How often it was done: as often as the text says, or not at all where it is no number.
+/// How many jobs are to be run.
+fn jobs_in(work: Work, text: &str) -> u64 {
+    match work {
+        Work::Jobs => text.parse::<u64>().unwrap_or(0),
+        _ => 0,
+    }
+}
+
+/// How often it was done: as often as the text says, or not at all where it is no number. Of jobs none is run here.
 fn done<R: Wait>(rt: &R, alloc: Global, work: Work, text: &str) -> Result<u64, Refusal> {
     let Ok(count) = text.parse::<u64>() else {
         return Err(Refusal::BadParam);
@@ -60,6 +90,8 @@ fn done<R: Wait>(rt: &R, alloc: Global, work: Work, text: &str) -> Result<u64, R
         Work::Fences => released(alloc, count),
         Work::Reads => reads::read_published(rt, alloc, count),
         Work::LockedReads => reads::read_locked(rt, alloc, count),
+        Work::ReadsOfClient => calls::read_now(rt, alloc, count),
+        Work::Jobs => Ok(0),
     }
 }
 

@@ -1,43 +1,12 @@
 //! What clients of one thread are answered, with answers found by hand.
+use crate::group::{desk, key, number_in, process};
 use pmg_desk::{Call, Client, Desk};
-use pmg_jobinfo::Registry;
 use pmg_node::{Release, Reply, Request, Taking};
 use pmg_scope::Scope;
-use pmg_value::{Key, NodeId, Nspace, Proc, Rank, Refusal, Value};
+use pmg_value::{Key, Nspace, Proc, Rank, Refusal, Value};
 use std::alloc::Global;
 use std::process::Abort;
 use std::sync::Wait;
-
-// The process of namespace j and that rank.
-fn process(alloc: Global, rank: u32) -> Result<Proc, Refusal> {
-    Ok(Proc::new(Nspace::read(alloc, b"j")?, Rank::new(rank)))
-}
-
-fn key(alloc: Global, name: &[u8]) -> Result<Key, Refusal> {
-    Key::read(alloc, name)
-}
-
-// Nodes n0 and n1, and namespace j, whose processes 0 and 1 are at home at node 0, and 2 at node 1.
-fn registry(alloc: Global) -> Result<Registry, Refusal> {
-    let names: [&[u8]; 2] = [b"n0", b"n1"];
-    let mut registry = Registry::new(alloc, &names)?;
-    let mut homes = Vec::new(alloc);
-    homes.push(NodeId::new(0)?)?;
-    homes.push(NodeId::new(0)?)?;
-    homes.push(NodeId::new(1)?)?;
-    registry.register(Nspace::read(alloc, b"j")?, &homes)?;
-    Ok(registry)
-}
-
-// The desk of that node.
-fn desk<R: Wait>(rt: &R, alloc: Global, node: u32) -> Result<Desk, Refusal> {
-    let id = NodeId::new(node)?;
-    let registry = registry(alloc)?;
-    if !registry.has_node(id) {
-        return Err(Refusal::BadParam);
-    }
-    Desk::new(rt, id, registry)
-}
 
 // The process puts the number under the key a, and commits it: the commit's number.
 fn put_number<R: Wait>(
@@ -48,14 +17,6 @@ fn put_number<R: Wait>(
 ) -> Result<u64, Refusal> {
     client.put(Scope::Global, key(alloc, b"a")?, Value::U32(number))?;
     client.commit(rt)
-}
-
-// The number that the value is, if it is one.
-fn number_in(value: Value) -> Option<u32> {
-    match value {
-        Value::U32(number) => Some(number),
-        _ => None,
-    }
 }
 
 // Two clients of node 0 each put a number, meet in a fence, and read each other's.

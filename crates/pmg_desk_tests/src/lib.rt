@@ -4,4 +4,10 @@
 #[cfg(test)]
 mod calls;
 #[cfg(test)]
+mod group;
+#[cfg(test)]
+mod growths;
+#[cfg(test)]
+mod sets;
+#[cfg(test)]
 mod waiting;

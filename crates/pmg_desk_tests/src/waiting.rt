@@ -1,33 +1,13 @@
 //! Clients that wait in threads of their own.
+use crate::group::{desk, process};
 use pmg_desk::{Client, Desk};
-use pmg_jobinfo::Registry;
 use pmg_node::Release;
-use pmg_value::{NodeId, Nspace, Proc, Rank, Refusal};
+use pmg_value::Refusal;
 use std::alloc::Global;
 use std::process::Abort;
 use std::sync::Wait;
 use std::thread;
 use std::thread::Threads;
-
-// The process of namespace j and that rank.
-fn process(alloc: Global, rank: u32) -> Result<Proc, Refusal> {
-    Ok(Proc::new(Nspace::read(alloc, b"j")?, Rank::new(rank)))
-}
-
-// The desk of the one node of a group of two processes.
-fn desk<R: Wait>(rt: &R, alloc: Global) -> Result<Desk, Refusal> {
-    let names: [&[u8]; 1] = [b"n0"];
-    let mut registry = Registry::new(alloc, &names)?;
-    let id = NodeId::new(0)?;
-    let mut homes = Vec::new(alloc);
-    homes.push(id)?;
-    homes.push(id)?;
-    registry.register(Nspace::read(alloc, b"j")?, &homes)?;
-    if !registry.has_node(id) {
-        return Err(Refusal::BadParam);
-    }
-    Desk::new(rt, id, registry)
-}
 
 // What a client is answered that waits in a fence while the desk is closed.
 fn leave_closed<R: Threads + Wait + Sync>(
@@ -63,7 +43,7 @@ fn waits_in_vain<R: Threads + Wait + Sync>(
 #[test]
 fn who_waits_at_a_desk_that_is_closed_is_told_so(rt: HostRuntime) -> Result<(), Refusal> {
     let alloc = rt.alloc();
-    let desk = desk(&rt, alloc)?;
+    let desk = desk(&rt, alloc, 0)?;
     let answer = waits_in_vain(&rt, alloc, &desk);
     desk.into_journal(&rt);
     assert!(rt; answer? == Some(Refusal::Closed));

@@ -1,0 +1,67 @@
+use pmg_desk::{Client, Desk};
+use pmg_jobinfo::Registry;
+use pmg_scope::Scope;
+use pmg_value::{Key, NodeId, Nspace, Proc, Rank, Refusal, Value};
+use std::alloc::Global;
+use std::sync::Wait;
+
+/// The processes that are read, of one key each, at home at one node.
+const PROCESSES: u32 = 100;
+
+/// One client reads so often, without a wait, the addresses of all processes in turn: how many reads found the value.
+pub fn read_now<R: Wait>(rt: &R, alloc: Global, count: u64) -> Result<u64, Refusal> {
+    let id = NodeId::new(0)?;
+    let names: [&[u8]; 1] = [b"n0"];
+    let mut homes = Vec::new(alloc);
+    for _ in 0..PROCESSES {
+        homes.push(id)?;
+    }
+    let mut registry = Registry::new(alloc, &names)?;
+    registry.register(Nspace::read(alloc, b"job")?, &homes)?;
+    if !registry.has_node(id) {
+        return Err(Refusal::BadParam);
+    }
+    let desk = Desk::new(rt, id, registry)?;
+    let found = found_at(rt, alloc, &desk, count);
+    desk.into_journal(rt);
+    found
+}
+
+/// All put and commit their addresses, and then process 0 reads.
+fn found_at<R: Wait>(rt: &R, alloc: Global, desk: &Desk, count: u64) -> Result<u64, Refusal> {
+    let key = Key::read(alloc, b"addr")?;
+    let mut procs = Vec::new(alloc);
+    let mut clients = Vec::new(alloc);
+    for rank in 0..PROCESSES {
+        let proc = Proc::new(Nspace::read(alloc, b"job")?, Rank::new(rank));
+        let mut client = desk.client(rt, &proc)?;
+        client.put(
+            Scope::Global,
+            key.copy()?,
+            Value::string(alloc, b"tcp://10.0.0.1:40000")?,
+        )?;
+        client.commit(rt)?;
+        clients.push(client)?;
+        procs.push(proc)?;
+    }
+    match clients.first_mut() {
+        Some(client) => count_found(client, &procs, &key, count),
+        None => Ok(0),
+    }
+}
+
+/// Reads so often the key of one process after the other.
+fn count_found(
+    client: &mut Client<'_>,
+    procs: &[Proc],
+    key: &Key,
+    count: u64,
+) -> Result<u64, Refusal> {
+    let mut found = 0_u64;
+    for number in 0..count {
+        if let Some(proc) = procs.get((number % u64::from(PROCESSES)) as usize) {
+            found = found.wrapping_add(u64::from(client.get_now(proc, key).is_ok()));
+        }
+    }
+    Ok(found)
+}

@@ -1,0 +1,46 @@
+//! The group of the tests, and what of it they share.
+use pmg_desk::Desk;
+use pmg_jobinfo::Registry;
+use pmg_value::{Key, NodeId, Nspace, Proc, Rank, Refusal, Value};
+use std::alloc::Global;
+use std::sync::Wait;
+
+/// The process of namespace j and that rank.
+pub(crate) fn process(alloc: Global, rank: u32) -> Result<Proc, Refusal> {
+    Ok(Proc::new(Nspace::read(alloc, b"j")?, Rank::new(rank)))
+}
+
+/// The key of that name.
+pub(crate) fn key(alloc: Global, name: &[u8]) -> Result<Key, Refusal> {
+    Key::read(alloc, name)
+}
+
+/// The number that the value is, if it is one.
+pub(crate) fn number_in(value: Value) -> Option<u32> {
+    match value {
+        Value::U32(number) => Some(number),
+        _ => None,
+    }
+}
+
+// Nodes n0 and n1, and namespace j, whose processes 0 and 1 are at home at node 0, and 2 at node 1.
+fn registry(alloc: Global) -> Result<Registry, Refusal> {
+    let names: [&[u8]; 2] = [b"n0", b"n1"];
+    let mut registry = Registry::new(alloc, &names)?;
+    let mut homes = Vec::new(alloc);
+    homes.push(NodeId::new(0)?)?;
+    homes.push(NodeId::new(0)?)?;
+    homes.push(NodeId::new(1)?)?;
+    registry.register(Nspace::read(alloc, b"j")?, &homes)?;
+    Ok(registry)
+}
+
+/// The desk of that node. The group has nodes n0 and n1, and namespace j, whose processes 0 and 1 are at home at node 0, and 2 at node 1.
+pub(crate) fn desk<R: Wait>(rt: &R, alloc: Global, node: u32) -> Result<Desk, Refusal> {
+    let id = NodeId::new(node)?;
+    let registry = registry(alloc)?;
+    if !registry.has_node(id) {
+        return Err(Refusal::BadParam);
+    }
+    Desk::new(rt, id, registry)
+}
