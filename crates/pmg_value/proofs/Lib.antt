@@ -4,6 +4,7 @@ pub mod FlatLemmas
 pub mod FormLemmas
 pub mod ListLemmas
 pub mod MapLemmas
+pub mod NameLemmas
 pub mod OrderLemmas
 pub mod ProcessOrder
 pub mod RowLemmas

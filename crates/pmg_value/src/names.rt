@@ -6,7 +6,7 @@ ghost use Rattle.pmg_value.specs.Process.{host_name};
 ghost use Rattle.pmg_value.specs.declared.refusal.Refusal.TheVariants as refusals;
 
 use crate::refusal::Refusal;
-use bytes::Bytes;
+use bytes::{ByteStr, Bytes};
 use std::alloc::{AllocError, Global};
 use std::marker::Model;
 
@@ -20,7 +20,7 @@ pub const MAX_KEY_LEN: usize = 511;
 /// that of its bytes. A copy shares the bytes.
 #[derive(Debug, Drop, PartialEq, Eq, PartialOrd, Ord)]
 pub struct Nspace {
-    name: Bytes,
+    name: ByteStr,
 }
 
 impl Model for Nspace {
@@ -41,7 +41,7 @@ impl Model for Nspace {
 /// bytes. A copy shares the bytes.
 #[derive(Debug, Drop, PartialEq, Eq, PartialOrd, Ord)]
 pub struct Key {
-    text: Bytes,
+    text: ByteStr,
 }
 
 impl Model for Key {
@@ -97,7 +97,7 @@ impl Nspace {
         ensures { result ≡ host_name }
     {
         Nspace {
-            name: Bytes::from_static(b"pmix.host"),
+            name: ByteStr::from_static("pmix.host"),
         }
     }
 
@@ -130,7 +130,7 @@ impl Nspace {
         ensures { IfOk result (λ n. n ≡ name.now) }
     {
         Ok(Nspace {
-            name: Bytes::copy_from_slice(alloc, name)?,
+            name: ByteStr::from_known_utf8(Bytes::copy_from_slice(alloc, name)?),
         })
     }
 
@@ -139,7 +139,7 @@ impl Nspace {
         ensures value { result.now ≡ self.now }
         ensures name { IsTrue (is_nspace result.now) }
     {
-        self.name.as_slice()
+        self.name.as_bytes().as_slice()
     }
 
     /// Whether the name begins with `pmix`.
@@ -165,7 +165,7 @@ impl Key {
         ensures { result ≡ codes "pmix.term" }
     {
         Key {
-            text: Bytes::from_static(b"pmix.term"),
+            text: ByteStr::from_static("pmix.term"),
         }
     }
 
@@ -198,7 +198,7 @@ impl Key {
         ensures { IfOk result (λ k. k ≡ key.now) }
     {
         Ok(Key {
-            text: Bytes::copy_from_slice(alloc, key)?,
+            text: ByteStr::from_known_utf8(Bytes::copy_from_slice(alloc, key)?),
         })
     }
 
@@ -207,7 +207,7 @@ impl Key {
         ensures value { result.now ≡ self.now }
         ensures key { IsTrue (is_key result.now) }
     {
-        self.text.as_slice()
+        self.text.as_bytes().as_slice()
     }
 
     /// Whether the key begins with `pmix`.
