@@ -92,7 +92,7 @@ fn get_node(at: &mut Cursor<'_>) -> Result<NodeId, Refusal>
     if index > MAX_NODE {
         return Err(Refusal::bad_frame(start, Cause::Node));
     }
-    NodeId::new(index)
+    Ok(NodeId::from_checked(index))
 }
 
 #[tactic(auto, unfolding(crate::specs::FenceReading::read_level))]

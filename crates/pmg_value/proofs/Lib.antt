@@ -13,4 +13,5 @@ pub mod SetLemmas
 pub mod SetOrder
 pub mod SortedLists
 pub mod TextLemmas
+pub mod WordLemmas
 pub mod WrittenLemmas

@@ -1,29 +1,32 @@
--- Names and keys are ASCII, and so UTF-8.
-use Rattle.std.proofs.Common.{ℕ, zero, suc, ◌<◌, List, [], ◌∷◌, length, nat_lt, nat_le, ◌&&◌, IsTrue, arith}
+-- Names, keys and all that is printable are ASCII, and so UTF-8.
+use Rattle.std.proofs.Common.{ℕ, zero, suc, List, [], ◌∷◌, length, nat_lt, nat_le, ◌&&◌, IsTrue, arith}
 use Rattle.std.specs.Prelude.{IsUtf8, IsAscii}
 use Rattle.std.specs.List.{list_all}
-use Rattle.std.proofs.lemmas.Bool.{and_parts, leb-true}
+use Rattle.std.proofs.lemmas.Bool.{and_parts, and_from, le-leb, leb-true}
 use Rattle.std.proofs.lemmas.Str.{IsUtf8-from_ascii}
 use Rattle.pmg_value.specs.Names.{is_graphic, is_printable, is_nspace, is_key}
 
-all_graphic : (name : List ℕ) → IsTrue (list_all is_graphic name) → IsAscii name
-all_graphic [] all i = omega arith
-all_graphic (b ∷ bs) all zero = let own = (and_parts (is_graphic b) (list_all is_graphic bs) all).0 in
-    let low = leb-true b 126 (and_parts (nat_le 33 b) (nat_le b 126) own).1 in omega (arith, low)
-all_graphic (b ∷ bs) all (suc i) = all_graphic bs (and_parts (is_graphic b) (list_all is_graphic bs) all).1 i
-
-all_printable : (key : List ℕ) → IsTrue (list_all is_printable key) → IsAscii key
-all_printable [] all i = omega arith
-all_printable (b ∷ bs) all zero = let own = (and_parts (is_printable b) (list_all is_printable bs) all).0 in
+are_ascii : (bs : List ℕ) → IsTrue (list_all is_printable bs) → IsAscii bs
+are_ascii [] all i = omega arith
+are_ascii (b ∷ bs) all zero = let own = (and_parts (is_printable b) (list_all is_printable bs) all).0 in
     let low = leb-true b 126 (and_parts (nat_le 32 b) (nat_le b 126) own).1 in omega (arith, low)
-all_printable (b ∷ bs) all (suc i) = all_printable bs (and_parts (is_printable b) (list_all is_printable bs) all).1 i
+are_ascii (b ∷ bs) all (suc i) = are_ascii bs (and_parts (is_printable b) (list_all is_printable bs) all).1 i
 
-pub name_is_utf8 : (name : List ℕ) → IsTrue (is_nspace name) → IsUtf8 name
-name_is_utf8 name is =
-    let long = and_parts (nat_lt 0 (length name) && nat_le (length name) 255) (list_all is_graphic name) is in
-    IsUtf8-from_ascii name (all_graphic name long.1)
+pub printable_is_utf8 : (bs : List ℕ) → IsTrue (list_all is_printable bs) → IsUtf8 bs
+printable_is_utf8 bs all = IsUtf8-from_ascii bs (are_ascii bs all)
 
-pub key_is_utf8 : (key : List ℕ) → IsTrue (is_key key) → IsUtf8 key
-key_is_utf8 key is =
-    let long = and_parts (nat_lt 0 (length key) && nat_le (length key) 511) (list_all is_printable key) is in
-    IsUtf8-from_ascii key (all_printable key long.1)
+graphic_are_printable : (bs : List ℕ) → IsTrue (list_all is_graphic bs) → IsTrue (list_all is_printable bs)
+graphic_are_printable [] all = all
+graphic_are_printable (b ∷ bs) all =
+    let parts = and_parts (is_graphic b) (list_all is_graphic bs) all in
+    let own = and_parts (nat_le 33 b) (nat_le b 126) parts.0 in
+    let from = leb-true 33 b own.0 in
+    and_from (is_printable b) (list_all is_printable bs) (and_from (nat_le 32 b) (nat_le b 126) (le-leb 32 b (omega (arith, from))) own.1)
+    (graphic_are_printable bs parts.1)
+
+pub name_is_printable : (name : List ℕ) → IsTrue (is_nspace name) → IsTrue (list_all is_printable name)
+name_is_printable name is =
+    graphic_are_printable name (and_parts (nat_lt 0 (length name) && nat_le (length name) 255) (list_all is_graphic name) is).1
+
+pub key_is_printable : (key : List ℕ) → IsTrue (is_key key) → IsTrue (list_all is_printable key)
+key_is_printable key is = (and_parts (nat_lt 0 (length key) && nat_le (length key) 511) (list_all is_printable key) is).1

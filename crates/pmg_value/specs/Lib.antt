@@ -19,4 +19,5 @@ pub mod Rows
 pub mod Signatures
 pub mod Spelling
 pub mod Text
+pub mod Words
 pub mod Written

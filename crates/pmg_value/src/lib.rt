@@ -12,6 +12,7 @@ mod refusal;
 mod refusal_text;
 mod value;
 mod value_text;
+mod word;
 mod written;
 
 pub use array::Array;

@@ -6,7 +6,8 @@ ghost use Rattle.pmg_value.specs.Process.{host_name};
 ghost use Rattle.pmg_value.specs.declared.refusal.Refusal.TheVariants as refusals;
 
 use crate::refusal::Refusal;
-use bytes::{ByteStr, Bytes};
+use crate::word::Word;
+use bytes::Bytes;
 use std::alloc::{AllocError, Global};
 use std::marker::Model;
 
@@ -20,7 +21,7 @@ pub const MAX_KEY_LEN: usize = 511;
 /// that of its bytes. A copy shares the bytes.
 #[derive(Debug, Drop, PartialEq, Eq, PartialOrd, Ord)]
 pub struct Nspace {
-    name: ByteStr,
+    name: Word,
 }
 
 impl Model for Nspace {
@@ -41,7 +42,7 @@ impl Model for Nspace {
 /// bytes. A copy shares the bytes.
 #[derive(Debug, Drop, PartialEq, Eq, PartialOrd, Ord)]
 pub struct Key {
-    text: ByteStr,
+    text: Word,
 }
 
 impl Model for Key {
@@ -97,7 +98,7 @@ impl Nspace {
         ensures { result ≡ host_name }
     {
         Nspace {
-            name: ByteStr::from_static("pmix.host"),
+            name: Word::new(Bytes::from_static(b"pmix.host")),
         }
     }
 
@@ -130,7 +131,7 @@ impl Nspace {
         ensures { IfOk result (λ n. n ≡ name.now) }
     {
         Ok(Nspace {
-            name: ByteStr::from_known_utf8(Bytes::copy_from_slice(alloc, name)?),
+            name: Word::new(Bytes::copy_from_slice(alloc, name)?),
         })
     }
 
@@ -139,7 +140,7 @@ impl Nspace {
         ensures value { result.now ≡ self.now }
         ensures name { IsTrue (is_nspace result.now) }
     {
-        self.name.as_bytes().as_slice()
+        self.name.as_bytes()
     }
 
     /// Whether the name begins with `pmix`.
@@ -154,7 +155,7 @@ impl Nspace {
         ensures { IfOk result (λ n. n ≡ self.now) }
     {
         Ok(Nspace {
-            name: self.name.clone()?,
+            name: self.name.copy()?,
         })
     }
 }
@@ -165,7 +166,7 @@ impl Key {
         ensures { result ≡ codes "pmix.term" }
     {
         Key {
-            text: ByteStr::from_static("pmix.term"),
+            text: Word::new(Bytes::from_static(b"pmix.term")),
         }
     }
 
@@ -198,7 +199,7 @@ impl Key {
         ensures { IfOk result (λ k. k ≡ key.now) }
     {
         Ok(Key {
-            text: ByteStr::from_known_utf8(Bytes::copy_from_slice(alloc, key)?),
+            text: Word::new(Bytes::copy_from_slice(alloc, key)?),
         })
     }
 
@@ -207,7 +208,7 @@ impl Key {
         ensures value { result.now ≡ self.now }
         ensures key { IsTrue (is_key result.now) }
     {
-        self.text.as_bytes().as_slice()
+        self.text.as_bytes()
     }
 
     /// Whether the key begins with `pmix`.
@@ -222,7 +223,7 @@ impl Key {
         ensures { IfOk result (λ k. k ≡ self.now) }
     {
         Ok(Key {
-            text: self.text.clone()?,
+            text: self.text.copy()?,
         })
     }
 }

@@ -156,7 +156,15 @@ impl NodeId {
         if index > MAX_NODE {
             return Err(Refusal::BadParam);
         }
-        Ok(NodeId { index })
+        Ok(NodeId::from_checked(index))
+    }
+
+    /// The node of this index, which was tested already.
+    pub fn from_checked(index: u32) -> NodeId
+        requires { index ≤ 63 }
+        ensures { result ≡ index }
+    {
+        NodeId { index }
     }
 
     /// The node's index.

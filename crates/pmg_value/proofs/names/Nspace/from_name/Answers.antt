@@ -1,8 +1,9 @@
 use Rattle.std.proofs.Common.{sym, subst}
-use Rattle.std.specs.Prelude.{IsUtf8}
-use Rattle.pmg_value.proofs.NameLemmas.{name_is_utf8}
+use Rattle.std.specs.Prelude.{IsTrue}
+use Rattle.std.specs.List.{list_all}
+use Rattle.pmg_value.specs.Names.{is_printable}
+use Rattle.pmg_value.proofs.NameLemmas.{name_is_printable}
 use Rattle.pmg_value.proofs.names.Nspace.from_name.Goals as goal
 
--- src/names.rt:133:19
-pub from_known_utf8-requires : goal.from_known_utf8-requires
-from_known_utf8-requires c = subst IsUtf8 (sym c.in_ok-copy_from_slice.ensures) (name_is_utf8 c.args.name.now c.requires)
+pub new-requires : goal.new-requires
+new-requires c = subst (λ bytes. IsTrue (list_all is_printable bytes)) (sym c.in_ok-copy_from_slice.ensures) (name_is_printable c.args.name.now c.requires)

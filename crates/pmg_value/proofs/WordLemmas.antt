@@ -1,0 +1,143 @@
+-- Words are told apart by their fronts.
+use Rattle.std.proofs.Common.{◌≡◌, ℕ, zero, suc, ◌+◌, ◌*◌, ◌<◌, ◌≤◌, Bool, true, false, cond, ◌==◌, nat_lt, nat_le, List, [], ◌∷◌, length, get_or, IsTrue, refl, sym, ap, ◌∙◌, arith}
+use Rattle.std.specs.Prelude.{◌≢◌}
+use Rattle.std.specs.List.{list_all}
+use Rattle.std.specs.declared.cmp.Ordering.{Ordering}
+use Rattle.std.specs.declared.cmp.Ordering.TheVariants.{Less, Equal, Greater}
+use Rattle.std.specs.Ordering.{nat_cmp, ordering_then, is_ne}
+use Rattle.std.specs.Cmp.Lexicographic.{slice_cmp}
+use Rattle.std.proofs.lemmas.Bool.{true≢false, and_parts, leb-true, lt-ltb, le-ltb, ltb-true, ltb-false, eq-eqb, ne_eqb}
+use Rattle.pmg_value.specs.Names.{is_printable}
+use Rattle.pmg_value.specs.Words.{front_from, front_of}
+
+-- each byte is one
+abbrev pub AreBytes : List ℕ → Type 0
+AreBytes [] = Unit {0}
+AreBytes (b ∷ bs) = (b ≤ 255) × AreBytes bs
+
+-- the first eight bytes, by the number of each
+pub front_is : (bs : List ℕ) → (((((get_or bs 0 0 * 256 + get_or bs 1 0) * 65536 + (get_or bs 2 0 * 256 + get_or bs 3 0)) * 65536 + (get_or bs 4 0 * 256 + get_or bs 5 0)) * 65536) + (get_or bs 6 0 * 256 + get_or bs 7 0)) ≡ front_of bs
+front_is [] = omega arith
+front_is (a ∷ []) = omega arith
+front_is (a ∷ b ∷ []) = omega arith
+front_is (a ∷ b ∷ c ∷ []) = omega arith
+front_is (a ∷ b ∷ c ∷ d ∷ []) = omega arith
+front_is (a ∷ b ∷ c ∷ d ∷ e ∷ []) = omega arith
+front_is (a ∷ b ∷ c ∷ d ∷ e ∷ f ∷ []) = omega arith
+front_is (a ∷ b ∷ c ∷ d ∷ e ∷ f ∷ g ∷ []) = omega arith
+front_is (a ∷ b ∷ c ∷ d ∷ e ∷ f ∷ g ∷ h ∷ bs) = omega arith
+
+-- what is less stays less, whatever bytes come after it
+less : (n x y : ℕ) (xs bs : List ℕ) → x < y → AreBytes xs → front_from n x xs < front_from n y bs
+less zero x y xs bs lt all = lt
+less (suc n) x y [] [] lt all = less n (x * 256) (y * 256) [] [] (omega (arith, lt)) tt
+less (suc n) x y [] (b ∷ bs) lt all = less n (x * 256) (y * 256 + b) [] bs (omega (arith, lt)) tt
+less (suc n) x y (a ∷ xs) [] lt all = less n (x * 256 + a) (y * 256) xs [] (omega (arith, lt, all.0)) all.1
+less (suc n) x y (a ∷ xs) (b ∷ bs) lt all = less n (x * 256 + a) (y * 256 + b) xs bs (omega (arith, lt, all.0)) all.1
+
+-- nothing more is the least that can come
+least : (n x y : ℕ) (bs : List ℕ) → x ≤ y → front_from n x [] ≤ front_from n y bs
+least zero x y bs le = le
+least (suc n) x y [] le = least n (x * 256) (y * 256) [] (omega (arith, le))
+least (suc n) x y (b ∷ bs) le = least n (x * 256) (y * 256 + b) bs (omega (arith, le))
+
+cmp_less : (m n : ℕ) → m < n → nat_cmp m n ≡ Less
+cmp_less m n lt = ap (λ b. cond b Less (cond (m == n) Equal Greater)) (lt-ltb m n lt)
+
+cmp_greater : (m n : ℕ) → n < m → nat_cmp m n ≡ Greater
+cmp_greater m n lt =
+    ap (λ b. cond b Less (cond (m == n) Equal Greater)) (le-ltb m n (omega (arith, lt)))
+    ∙ ap (λ b. cond b Equal Greater) (ne_eqb m n (λ same. absurd (omega (arith, lt, same))))
+
+cmp_same : (m n : ℕ) → m ≡ n → nat_cmp m n ≡ Equal
+cmp_same m n same =
+    ap (λ b. cond b Less (cond (m == n) Equal Greater)) (le-ltb m n (omega (arith, same))) ∙ ap (λ b. cond b Equal Greater) (eq-eqb m n same)
+
+cmp_suc : (m n : ℕ) → nat_cmp m n ≡ nat_cmp (suc m) (suc n)
+cmp_suc m n = by_order (nat_lt m n) refl (nat_lt n m) refl
+  where
+    by_order : (t : Bool) → nat_lt m n ≡ t → (u : Bool) → nat_lt n m ≡ u → nat_cmp m n ≡ nat_cmp (suc m) (suc n)
+    by_order true e u f = let lt = ltb-true m n e in cmp_less m n lt ∙ sym (cmp_less (suc m) (suc n) (omega (arith, lt)))
+    by_order false e true f = let lt = ltb-true n m f in cmp_greater m n lt ∙ sym (cmp_greater (suc m) (suc n) (omega (arith, lt)))
+    by_order false e false f =
+        let same : m ≡ n = omega (arith, ltb-false m n e, ltb-false n m f) in cmp_same m n same ∙ sym (cmp_same (suc m) (suc n) (ap suc same))
+
+-- texts with different fronts compare as these do
+decides : (n x : ℕ) (xs bs : List ℕ) → AreBytes xs → AreBytes bs → (front_from n x xs ≢ front_from n x bs)
+    → slice_cmp nat_cmp xs bs ≡ nat_cmp (front_from n x xs) (front_from n x bs)
+decides zero x xs bs p q ne = absurd (ne refl)
+decides (suc n) x [] [] p q ne = absurd (ne refl)
+decides (suc n) x [] (b ∷ bs) p q ne =
+    let le = least n (x * 256) (x * 256 + b) bs (omega arith) in sym (cmp_less (front_from n (x * 256) []) (front_from n (x * 256 + b) bs) (omega (arith, le, ne)))
+decides (suc n) x (a ∷ xs) [] p q ne =
+    let le = least n (x * 256) (x * 256 + a) xs (omega arith) in sym (cmp_greater (front_from n (x * 256 + a) xs) (front_from n (x * 256) []) (omega (arith, le, ne)))
+decides (suc n) x (a ∷ xs) (b ∷ bs) p q ne =
+    by_order (decides n (x * 256 + a) xs bs p.1 q.1) (nat_lt a b) refl (nat_lt b a) refl
+  where
+    by_order : ((front_from n (x * 256 + a) xs ≢ front_from n (x * 256 + a) bs) → slice_cmp nat_cmp xs bs ≡ nat_cmp (front_from n (x * 256 + a) xs) (front_from n (x * 256 + a) bs))
+        → (t : Bool) → nat_lt a b ≡ t → (u : Bool) → nat_lt b a ≡ u → ordering_then (nat_cmp a b) (slice_cmp nat_cmp xs bs) ≡ nat_cmp (front_from n (x * 256 + a) xs) (front_from n (x * 256 + b) bs)
+    by_order rest true e u f =
+        let lt = ltb-true a b e in
+        ap (λ o. ordering_then o (slice_cmp nat_cmp xs bs)) (cmp_less a b lt) ∙ sym (cmp_less (front_from n (x * 256 + a) xs) (front_from n (x * 256 + b) bs) (less n (x * 256 + a) (x * 256 + b) xs bs (omega (arith, lt)) p.1))
+    by_order rest false e true f =
+        let lt = ltb-true b a f in
+        ap (λ o. ordering_then o (slice_cmp nat_cmp xs bs)) (cmp_greater a b lt) ∙ sym (cmp_greater (front_from n (x * 256 + a) xs) (front_from n (x * 256 + b) bs) (less n (x * 256 + b) (x * 256 + a) bs xs (omega (arith, lt)) q.1))
+    by_order rest false e false f =
+        let same : a ≡ b = omega (arith, ltb-false a b e, ltb-false b a f) in
+        ap (λ o. ordering_then o (slice_cmp nat_cmp xs bs)) (cmp_same a b same)
+        ∙ rest (λ alike. ne (alike ∙ ap (λ c. front_from n (x * 256 + c) bs) same))
+        ∙ ap (λ c. nat_cmp (front_from n (x * 256 + a) xs) (front_from n (x * 256 + c) bs)) same
+
+-- texts with equal fronts, none longer than these, compare as their lengths do
+short : (n x : ℕ) (xs bs : List ℕ) → AreBytes xs → AreBytes bs → length xs ≤ n → length bs ≤ n → front_from n x xs ≡ front_from n x bs
+    → slice_cmp nat_cmp xs bs ≡ nat_cmp (length xs) (length bs)
+short n x [] [] p q few fewer alike = sym (cmp_same 0 0 refl)
+short n x [] (b ∷ bs) p q few fewer alike = sym (cmp_less 0 (length (b ∷ bs)) (omega arith))
+short n x (a ∷ xs) [] p q few fewer alike = sym (cmp_greater (length (a ∷ xs)) 0 (omega arith))
+short zero x (a ∷ xs) (b ∷ bs) p q few fewer alike = absurd (omega (arith, few))
+short (suc n) x (a ∷ xs) (b ∷ bs) p q few fewer alike =
+    by_order (short n (x * 256 + a) xs bs p.1 q.1 (omega (arith, few)) (omega (arith, fewer))) (nat_lt a b) refl (nat_lt b a) refl
+  where
+    by_order : (front_from n (x * 256 + a) xs ≡ front_from n (x * 256 + a) bs → slice_cmp nat_cmp xs bs ≡ nat_cmp (length xs) (length bs))
+        → (t : Bool) → nat_lt a b ≡ t → (u : Bool) → nat_lt b a ≡ u → ordering_then (nat_cmp a b) (slice_cmp nat_cmp xs bs) ≡ nat_cmp (length (a ∷ xs)) (length (b ∷ bs))
+    by_order rest true e u f =
+        absurd (omega (arith, alike, less n (x * 256 + a) (x * 256 + b) xs bs (omega (arith, ltb-true a b e)) p.1))
+    by_order rest false e true f =
+        absurd (omega (arith, alike, less n (x * 256 + b) (x * 256 + a) bs xs (omega (arith, ltb-true b a f)) q.1))
+    by_order rest false e false f =
+        let same : a ≡ b = omega (arith, ltb-false a b e, ltb-false b a f) in
+        ap (λ o. ordering_then o (slice_cmp nat_cmp xs bs)) (cmp_same a b same)
+        ∙ rest (alike ∙ ap (λ c. front_from n (x * 256 + c) bs) (sym same))
+        ∙ cmp_suc (length xs) (length bs)
+
+equal_is : (m n : ℕ) → is_ne (nat_cmp m n) ≡ false → m ≡ n
+equal_is m n h = by_order (nat_lt m n) refl (nat_lt n m) refl
+  where
+    by_order : (t : Bool) → nat_lt m n ≡ t → (u : Bool) → nat_lt n m ≡ u → m ≡ n
+    by_order true e u f = absurd (true≢false (sym (ap is_ne (cmp_less m n (ltb-true m n e))) ∙ h))
+    by_order false e true f = absurd (true≢false (sym (ap is_ne (cmp_greater m n (ltb-true n m f))) ∙ h))
+    by_order false e false f = omega (arith, ltb-false m n e, ltb-false n m f)
+
+-- printable bytes are bytes
+printable_are_bytes : (bs : List ℕ) → IsTrue (list_all is_printable bs) → AreBytes bs
+printable_are_bytes [] all = tt
+printable_are_bytes (b ∷ bs) all =
+    let parts = and_parts (is_printable b) (list_all is_printable bs) all in
+    let low = leb-true b 126 (and_parts (nat_le 32 b) (nat_le b 126) parts.0).1 in
+    (omega (arith, low), printable_are_bytes bs parts.1)
+
+module _ (a b : List ℕ) (f g : ℕ) (fronts : Ordering)
+    (first : (f ≡ front_of a) × IsTrue (list_all is_printable a)) (second : (g ≡ front_of b) × IsTrue (list_all is_printable b))
+    (compared : fronts ≡ nat_cmp f g) where
+  -- words with different fronts compare as these do
+  pub by_fronts : is_ne fronts ≡ true → fronts ≡ slice_cmp nat_cmp a b
+  by_fronts apart =
+      compared ∙ (λ i. nat_cmp (first.0 i) (second.0 i))
+      ∙ sym (decides 8 0 a b (printable_are_bytes a first.1) (printable_are_bytes b second.1)
+      (λ same. true≢false (sym apart ∙ ap is_ne (compared ∙ cmp_same f g (first.0 ∙ same ∙ sym second.0)))))
+
+  -- words with equal fronts and no more bytes compare as their lengths do
+  pub by_lengths : is_ne fronts ≡ false → length a ≤ 8 → length b ≤ 8 → nat_cmp (length a) (length b) ≡ slice_cmp nat_cmp a b
+  by_lengths alike few fewer =
+      sym (short 8 0 a b (printable_are_bytes a first.1) (printable_are_bytes b second.1) few fewer
+      (sym first.0 ∙ equal_is f g (sym (ap is_ne compared) ∙ alike) ∙ second.0))

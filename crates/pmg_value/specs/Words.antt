@@ -1,0 +1,12 @@
+-- The front of a text, by which most texts are told apart.
+use Rattle.std.specs.Prelude.{ℕ, zero, suc, ◌+◌, ◌*◌, List, [], ◌∷◌}
+
+-- the number so far, with n bytes more at its end: those at the front of the text, and zeros past its end
+abbrev pub front_from : ℕ → ℕ → List ℕ → ℕ
+front_from zero so_far bytes = so_far
+front_from (suc n) so_far [] = front_from n (so_far * 256) []
+front_from (suc n) so_far (b ∷ bs) = front_from n (so_far * 256 + b) bs
+
+-- the first eight bytes as one number, of which the first counts most
+abbrev pub front_of : List ℕ → ℕ
+front_of bytes = front_from 8 0 bytes
