@@ -26,7 +26,7 @@ use Rattle.pmg_scope.proofs.ScriptLaws.{by_end, has_commit_first, count_kept, op
 use Rattle.pmg_scope.proofs.SealingLaws.{none_earlier, sealed_once, sealed_among_fewer}
 use Rattle.pmg_scope.proofs.CacheLaws.{commit_seals_next}
 use Rattle.pmg_commit.specs.Entries.{Entry}
-use Rattle.pmg_commit.specs.Sealed.{Stamp, Stamps, Sealed, stamp_all, stamped, sealed_with, ended_with, end_of, can_seal, commit_answer, term_table, stamped_entry, newer_than, stamps_for, is_other}
+use Rattle.pmg_commit.specs.Sealed.{Stamp, Stamps, Sealed, stamp_all, stamped, sealed_with, ended_with, end_of, can_seal, term_table, stamped_entry, newer_than, stamps_for, is_other}
 use Rattle.pmg_commit.specs.SealerRules.{FitsBatch, FitsStamps, FitsSealer, BatchFits, NewSealerFits, SealFits, EndFits, PutSealsNothing, EnterSealsNothing, PiecesAreHonest, SealerIsOne}
 use Rattle.pmg_commit.proofs.HonestLaws.{not_none, some_is, sealed_still_last, sealed_before_last}
 

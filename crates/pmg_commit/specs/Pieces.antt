@@ -7,6 +7,7 @@ use Rattle.pmg_value.specs.declared.process.Proc.{Proc}
 use Rattle.pmg_value.specs.Process.{is_client, is_host}
 use Rattle.pmg_value.specs.Spelling.{spelling}
 use Rattle.pmg_value.specs.Lists.{is_chain}
+use Rattle.pmg_scope.specs.Cached.{row_size}
 use Rattle.pmg_commit.specs.declared.piece.PieceEntry.{PieceEntry}
 use Rattle.pmg_commit.specs.Entries.{Entry}
 use Rattle.pmg_commit.specs.Knowledge.{Contribution}
@@ -21,7 +22,7 @@ contribution proc from to entries = record { proc = proc; from = from; to = to; 
 
 -- the bytes of an entry in a frame: two of length, the key, eight of number, and the value
 abbrev pub entry_size : Entry → ℕ
-entry_size e = length e.key + length e.bytes + 10
+entry_size e = row_size (e.key, e.bytes)
 
 -- The bytes of a frame's body: one of length, the namespace, and four of rank; twice eight of range, and
 -- four of count; and the entries.

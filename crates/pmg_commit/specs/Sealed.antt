@@ -1,5 +1,5 @@
 -- What a process's commits sealed.
-use Rattle.std.specs.Prelude.{ℕ, suc, ◌+◌, Bool, true, false, ◌&&◌, ◌||◌, not, nat_lt, nat_le, List, [], ◌∷◌, length, map, Result, Ok, Err, if◌then◌else◌, refl}
+use Rattle.std.specs.Prelude.{ℕ, suc, Bool, true, false, ◌&&◌, ◌||◌, not, nat_lt, nat_le, List, [], ◌∷◌, map, Result, Ok, Err, if◌then◌else◌, refl}
 use Rattle.std.specs.Coded.{Coded, code_by, coded×, coded_list, coded_ℕ, coded_bool}
 use Rattle.std.specs.FinMap as finite
 use Rattle.std.specs.List.{filter, sum_by}
@@ -7,7 +7,7 @@ use Rattle.pmg_value.specs.Process.{coded_proc, is_client, is_host}
 use Rattle.pmg_value.specs.declared.process.Proc.{Proc}
 use Rattle.pmg_value.specs.declared.refusal.Refusal.{Refusal}
 use Rattle.pmg_value.specs.declared.refusal.Refusal.TheVariants as refusals
-use Rattle.pmg_scope.specs.Cached.{Table, Unsealed}
+use Rattle.pmg_scope.specs.Cached.{Table, Unsealed, row_size}
 use Rattle.pmg_scope.specs.Rows.{KeyMap}
 use Rattle.pmg_scope.specs.Scripts.{term_key}
 use Rattle.pmg_scope.specs.declared.scope.Reach.{Reach}
@@ -88,7 +88,7 @@ end_of z = if z.ended then z else ended_with z
 
 -- what a key and its stamp count for: the bytes of key and value, and ten more
 abbrev pub stamp_size : List ℕ × Stamp → ℕ
-stamp_size e = 10 + length e.0 + length e.1.bytes
+stamp_size e = row_size (e.0, e.1.bytes)
 
 abbrev pub stamps_size : Stamps → ℕ
 stamps_size m = sum_by stamp_size (finite.entries m)

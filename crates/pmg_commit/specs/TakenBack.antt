@@ -1,5 +1,5 @@
 -- Commits that are taken back, by what there was before.
-use Rattle.std.specs.Prelude.{◌≡◌, ℕ, Bool, List, [], ◌∷◌, Option, Some, None}
+use Rattle.std.specs.Prelude.{◌≡◌, ℕ, List, [], ◌∷◌, Option, Some, None}
 use Rattle.std.specs.Option.{option_map}
 use Rattle.pmg_value.specs.Rows.{put_back}
 use Rattle.pmg_commit.specs.declared.last_puts.SealedPut.{SealedPut}

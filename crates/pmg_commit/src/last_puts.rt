@@ -78,11 +78,15 @@ impl LastPuts {
         }
     }
 
-    /// What was sealed last, under each key.
-    pub fn rows(&self) -> &BTreeMap<Key, SealedPut>
-        ensures { rows_of stamp_of result.now.entries ≡ self.now }
+    /// Copies of the keys, in their order.
+    pub fn keys(&self, alloc: Global) -> Result<Vec<Key>, AllocError>
+        ensures { IfOk result (λ keys. keys.items ≡ finite.keys self.now) }
     {
-        &self.rows
+        let mut keys = Vec::new(alloc);
+        for (key, _) in self.rows.iter() {
+            keys.push(key.copy()?)?;
+        }
+        Ok(keys)
     }
 
     /// The number of the keys.

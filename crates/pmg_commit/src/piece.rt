@@ -7,6 +7,7 @@ ghost use Rattle.pmg_value.specs.declared.refusal.Refusal.TheVariants as refusal
 ghost use Rattle.pmg_commit.specs.Entries.{is_readable, is_later};
 ghost use Rattle.pmg_commit.specs.Pieces.{body_size, entry_of, contribution, entry_size, is_numbered, is_key_rising, is_small, is_piece};
 
+use pmg_scope::row_size;
 use pmg_value::{Copied, Key, Proc, Refusal, Value, copy_all};
 use std::alloc::AllocError;
 use std::marker::Model;
@@ -81,7 +82,7 @@ impl PieceEntry {
         ensures value { result ≡ entry_size (entry_of self.now) }
         ensures bound { result ≤ 1049097 }
     {
-        self.key.as_bytes().len() + self.value.size() + 10
+        row_size(&self.key, &self.value)
     }
 }
 

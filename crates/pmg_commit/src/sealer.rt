@@ -1,6 +1,7 @@
 ghost use Rattle.std.specs.Prelude.{◌≡◌, ◌≤◌, ℕ, List, [], ◌∷◌, ◌++◌, ◌&&◌, not, nat_lt, length, IfOk, IfSome, OnOk, OnErr, IsTrue};
 ghost use Rattle.pmg_value.specs.Answers.{Gives};
-ghost use Rattle.pmg_value.specs.Rows.{rows_of};
+ghost use Rattle.std.specs.FinMap as finite;
+ghost use Rattle.std.specs.Option.{option_map};
 ghost use Rattle.pmg_scope.specs.Rows.{IsRising, table_of};
 ghost use Rattle.pmg_scope.specs.Cached.{global_put};
 ghost use Rattle.pmg_scope.specs.Scripts.{Call, Script};
@@ -26,7 +27,6 @@ use crate::stamps::{Stamps, StampsBefore};
 use pmg_scope::{Batch, Reach};
 use pmg_value::{Key, Proc, Refusal, Value};
 use std::alloc::{AllocError, Global};
-use std::collections::BTreeMap;
 use std::marker::Model;
 
 /// What the commits of one process sealed: under each key what was sealed last, with the number of its commit
@@ -237,12 +237,19 @@ impl Sealer {
         }
     }
 
-    /// What was sealed last for the processes on other nodes, under each key: to look one up takes about the logarithm
-    /// of the number of keys.
-    pub fn far_puts(&self) -> &BTreeMap<Key, SealedPut>
-        ensures { rows_of stamp_of result.now.entries ≡ self.now.far }
+    /// What was sealed last under the key for the processes on other nodes. It takes about the logarithm of the number
+    /// of keys.
+    pub fn far_put(&self, key: &Key) -> Option<&SealedPut>
+        ensures { option_map (λ put. stamp_of put.now) result ≡ finite.get self.now.far key.now }
     {
-        self.far.rows()
+        self.far.get(key)
+    }
+
+    /// The keys under which something was sealed for the processes on other nodes, in their order.
+    pub fn far_keys(&self) -> Result<Vec<Key>, AllocError>
+        ensures { IfOk result (λ keys. keys.items ≡ finite.keys self.now.far) }
+    {
+        self.far.keys(self.alloc)
     }
 
     /// A copy, equal to this sealer.

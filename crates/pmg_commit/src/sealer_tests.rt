@@ -211,10 +211,12 @@ fn a_sealer_is_of_a_process_that_commits(rt: HostRuntime) {
 // What the sealer has for other nodes: of each key, its commit's number and its digit.
 fn far_shown(alloc: Global, sealer: &Sealer) -> Result<Vec<u8>, Refusal> {
     let mut text = Vec::new(alloc);
-    for (key, put) in sealer.far_puts().iter() {
+    for key in sealer.far_keys()? {
         text.extend_from_slice(key.as_bytes())?;
-        text.push(if put.number() == 1 { b'1' } else { b'2' })?;
-        text.push(digit_of(put.value()))?;
+        if let Some(put) = sealer.far_put(&key) {
+            text.push(if put.number() == 1 { b'1' } else { b'2' })?;
+            text.push(digit_of(put.value()))?;
+        }
     }
     Ok(text)
 }

@@ -1,7 +1,7 @@
 //! What a process's commits sealed last under each key, and what it counts for.
 ghost use Rattle.std.specs.Prelude.{◌≡◌, ◌+◌, ◌-◌, ◌*◌, ◌≤◌, ◌<◌, ◌&&◌, nat_le, ℕ, List, length, map, IfOk, OnOk, OnErr, IsTrue};
 ghost use Rattle.std.specs.FinMap as finite;
-ghost use Rattle.pmg_value.specs.Rows.{rows_of};
+ghost use Rattle.std.specs.Option.{option_map};
 ghost use Rattle.pmg_scope.specs.Rows.{IsRising, table_of};
 ghost use Rattle.pmg_commit.specs.Pieces.{entry_of};
 ghost use Rattle.pmg_commit.specs.Growth.{counted_at, new_keys, replaced_size, puts_size};
@@ -11,10 +11,9 @@ ghost use Rattle.pmg_commit.specs.TakenBack.{stamps_back, FitsBack};
 
 use crate::last_puts::{LastPuts, SealedPut};
 use crate::piece::PieceEntry;
-use pmg_scope::{MAX_CACHE_SIZE, MAX_KEYS, row_size};
+use pmg_scope::{MAX_CACHE_SIZE, MAX_KEYS, row_size, size_with_key};
 use pmg_value::{Key, Value};
 use std::alloc::{AllocError, Global};
-use std::collections::BTreeMap;
 use std::marker::Model;
 
 /// What a process's commits sealed last under each key, with what it counts for.
@@ -55,11 +54,18 @@ impl Stamps {
         }
     }
 
-    /// What was sealed last, under each key.
-    pub fn rows(&self) -> &BTreeMap<Key, SealedPut>
-        ensures { rows_of stamp_of result.now.entries ≡ self.now }
+    /// What was sealed last under the key.
+    pub fn get(&self, key: &Key) -> Option<&SealedPut>
+        ensures { option_map (λ p. stamp_of p.now) result ≡ finite.get self.now key.now }
     {
-        self.puts.rows()
+        self.puts.get(key)
+    }
+
+    /// Copies of the keys, in their order.
+    pub fn keys(&self, alloc: Global) -> Result<Vec<Key>, AllocError>
+        ensures { IfOk result (λ keys. keys.items ≡ finite.keys self.now) }
+    {
+        self.puts.keys(alloc)
     }
 
     /// A copy, equal to these stamps.
@@ -202,8 +208,7 @@ impl Stamps {
             → result ≡ are_within (stamped n (finite.insert finite.empty key.now bytes) self.now) }
     {
         let keys = if self.has(key) { 0 } else { 1 };
-        let added = 10 + key.as_bytes().len() + size;
-        self.has_room(keys, added, self.counted_at(key))
+        self.has_room(keys, size_with_key(key, size), self.counted_at(key))
     }
 }
 

@@ -1,9 +1,9 @@
 -- What is kept of the sets, from change to change.
-use Rattle.std.proofs.Common.{◌≡◌, inl, inr, ℕ, suc, ◌≤◌, nat_lt, nat_le, not, length, arith, Bool, true, false, ◌&&◌, cond, List, [], ◌∷◌, map, Option, Some, None, is_some, Result, Ok, Err, refl, sym, ap, subst, ◌∙◌}
+use Rattle.std.proofs.Common.{◌≡◌, ℕ, suc, ◌≤◌, nat_lt, nat_le, not, length, arith, Bool, true, false, ◌&&◌, cond, List, [], ◌∷◌, Option, Some, None, is_some, Result, Ok, Err, refl, sym, ap, subst, ◌∙◌}
 use Rattle.std.specs.Prelude.{if◌then◌else◌}
 use Rattle.std.specs.FinMap as finite
 use Rattle.std.specs.FinMap.Entries.{find, put, by_order}
-use Rattle.std.specs.List.{filter, list_all, sum_by}
+use Rattle.std.specs.List.{list_all, sum_by}
 use Rattle.std.specs.Option.{option_map}
 use Rattle.std.specs.declared.cmp.Ordering.{Ordering}
 use Rattle.std.specs.declared.cmp.Ordering.TheVariants.{Less, Equal, Greater}
@@ -15,20 +15,15 @@ use Rattle.pmg_value.specs.declared.refusal.Refusal.{Refusal}
 use Rattle.pmg_value.specs.declared.refusal.Refusal.TheVariants as refusals
 use Rattle.pmg_value.specs.Answers.{Fails}
 use Rattle.pmg_value.specs.CheckOrder.{check_order, first_in, first_of}
-use Rattle.pmg_value.specs.Lists.{In}
 use Rattle.pmg_scope.specs.Cached.{global_put}
-use Rattle.pmg_value.specs.Rows.{rows_of}
-use Rattle.pmg_scope.specs.Rows.{IsRising, counted_by}
-use Rattle.pmg_value.proofs.RowLemmas.{shown, entries_rising, entries_of_nothing}
+use Rattle.pmg_scope.specs.Rows.{counted_by}
+use Rattle.pmg_value.proofs.RowLemmas.{entries_of_nothing}
 use Rattle.pmg_scope.proofs.SumLemmas.{len_held, sum_put}
-use Rattle.pmg_commit.specs.declared.last_puts.SealedPut.{SealedPut}
-use Rattle.pmg_commit.specs.Sealed.{Stamp, Stamps, Sealed, fresh, new_answer, stamped, are_within, stamp_size, stamps_size, can_seal, commit_answer}
-use Rattle.pmg_commit.specs.Stamped.{stamp_of}
+use Rattle.pmg_commit.specs.Sealed.{Stamp, Stamps, Sealed, fresh, new_answer, stamped, are_within, stamp_size, stamps_size, can_seal}
 use Rattle.pmg_commit.proofs.GrowthLemmas.{stamped_one}
-use Rattle.pmg_commit.proofs.SealerLaws.{find_in_rows}
-use Rattle.pmg_pset.specs.Members.{no_members, proc_bytes, are_procs, live_of}
+use Rattle.pmg_pset.specs.Members.{no_members, proc_bytes, are_procs}
 use Rattle.pmg_pset.specs.Refusing.{is_full, change_answer, delete_cause}
-use Rattle.pmg_pset.specs.Sets.{AreSets, are_sets, changed, host, live_in, is_live, live_names}
+use Rattle.pmg_pset.specs.Sets.{AreSets, are_sets, changed, host, live_in, is_live}
 use Rattle.pmg_pset.proofs.MemberLemmas.{bytes_of_procs}
 
 abbrev StampRows : Type 0
@@ -193,35 +188,3 @@ made_in (d ∷ es) cause a x b h =
 
 pub made_alike : {A B : Type 0} (cause : Refusal → Bool) (a x : A) (b : B) → first_of cause a ≡ Ok x → (a ≡ x) × (first_of cause b ≡ Ok b)
 made_alike cause a x b h = made_in check_order cause a x b h
-
--- ---- names
-
--- the names of the rows with members
-abbrev pub live_rows : List (List ℕ × SealedPut) → List (List ℕ)
-live_rows rows = map (λ e. e.0) (filter (λ e. is_some (live_of e.1.bytes)) (shown stamp_of rows))
-
--- each row's value is an array of processes
-abbrev pub rows_procs : List (List ℕ × SealedPut) → Bool
-rows_procs rows = holds_procs (shown stamp_of rows)
-
-filter_keys : (es : StampRows) (test : List ℕ → Bool) → ((e : List ℕ × Stamp) → In e es → test e.0 ≡ is_some (live_of e.1.bytes))
-    → filter test (map (λ e. e.0) es) ≡ map (λ e. e.0) (filter (λ e. is_some (live_of e.1.bytes)) es)
-filter_keys [] test alike = refl
-filter_keys (e ∷ es) test alike =
-    let rest = filter_keys es test (λ f i. alike f (inr i)) in
-    rw (alike e (inl refl)) (both (is_some (live_of e.1.bytes)) rest)
-  where
-    both : (b : Bool) → filter test (map (λ e. e.0) es) ≡ map (λ e. e.0) (filter (λ e. is_some (live_of e.1.bytes)) es)
-        → cond b (e.0 ∷ filter test (map (λ e. e.0) es)) (filter test (map (λ e. e.0) es)) ≡ map (λ e. e.0) (cond b (e ∷ filter (λ e. is_some (live_of e.1.bytes)) es) (filter (λ e. is_some (live_of e.1.bytes)) es))
-    both true same = ap (λ ns. e.0 ∷ ns) same
-    both false same = same
-
-pub live_rows-rising : (rows : List (List ℕ × SealedPut)) (z : Sealed) → IsRising rows → rows_of stamp_of rows ≡ z.far → live_rows rows ≡ live_names z
-live_rows-rising rows z rising same =
-    let entries : shown stamp_of rows ≡ finite.entries z.far = sym (entries_rising nat_list_cmp_total stamp_of rows rising) ∙ ap finite.entries same in
-    ap (λ es. map (λ e. e.0) (filter (λ e. is_some (live_of e.1.bytes)) es)) entries
-    ∙ sym (filter_keys (finite.entries z.far) (is_live z) (λ e i. ap (λ o. is_some (live_in o)) (finite.get-entries z.far e.0 ∙ find_in_rows (finite.entries z.far) e (finite.entries_sorted z.far) i)))
-
-pub rows_procs-rising : (rows : List (List ℕ × SealedPut)) (z : Sealed) → AreSets z → IsRising rows → rows_of stamp_of rows ≡ z.far → rows_procs rows ≡ true
-rows_procs-rising rows z are rising same =
-    ap holds_procs (sym (entries_rising nat_list_cmp_total stamp_of rows rising) ∙ ap finite.entries same) ∙ are.sets

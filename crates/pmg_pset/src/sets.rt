@@ -155,9 +155,9 @@ impl Sets {
         ensures { IfOk result (λ names. names.items ≡ live_names self.now) }
     {
         let mut names = Vec::new(self.alloc);
-        for (name, put) in self.sealer.far_puts().iter() {
-            if members_of(put).is_some() {
-                names.push(name.copy()?)?;
+        for name in self.sealer.far_keys()? {
+            if self.live(&name).is_some() {
+                names.push(name)?;
             }
         }
         Ok(names)
@@ -195,7 +195,7 @@ impl Sets {
         ensures value { option_map (λ a. spelling (values.Array a.now)) result ≡ live_at self.now name.now }
         ensures kind { IfSome result (λ a. a.now.tag ≡ 16) }
     {
-        match self.sealer.far_puts().get(name) {
+        match self.sealer.far_put(name) {
             Some(put) => members_of(put),
             None => None,
         }

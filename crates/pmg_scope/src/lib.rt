@@ -13,7 +13,7 @@ pub use batch::Batch;
 pub use cache::Cache;
 pub use laws::{cache_rules, script_examples, script_rules};
 pub use scope::{Reach, Scope, includes};
-pub use sizes::{MAX_CACHE_SIZE, MAX_KEYS, row_size};
+pub use sizes::{MAX_CACHE_SIZE, MAX_KEYS, row_size, size_with_key};
 
 #[cfg(test)]
 mod cache_tests;

@@ -1,4 +1,4 @@
-ghost use Rattle.std.specs.Prelude.{◌≡◌, ◌+◌, ◌≤◌, Some, None, is_some, IfSome, IsTrue, if◌then◌else◌};
+ghost use Rattle.std.specs.Prelude.{◌≡◌, ◌+◌, ◌≤◌, length, Some, None, is_some, IfSome, IsTrue, if◌then◌else◌};
 ghost use Rattle.std.specs.FinMap as map;
 ghost use Rattle.pmg_value.specs.Spelling.{spelling};
 ghost use Rattle.pmg_scope.specs.Cached.{put_if, with_put, row_size, table_size, is_within, is_cache};
@@ -15,12 +15,21 @@ pub const MAX_KEYS: usize = 65_535;
 /// The most that the keys and values of a cache count for, for a reach.
 pub const MAX_CACHE_SIZE: usize = 16_000_000;
 
+/// What a key counts for with a value of that many canonical bytes: their bytes, and ten more.
+pub fn size_with_key(key: &Key, size: usize) -> usize
+    requires { size ≤ 1048576 }
+    ensures value { result ≡ 10 + length key.now + size }
+    ensures bound { result ≤ 1049097 }
+{
+    10 + key.as_bytes().len() + size
+}
+
 /// What a key and its value count for: their bytes, and ten more.
 pub fn row_size(key: &Key, value: &Value) -> usize
     ensures value { result ≡ row_size (key.now, spelling value.now) }
     ensures bound { result ≤ 1049097 }
 {
-    10 + key.as_bytes().len() + value.size()
+    size_with_key(key, value.size())
 }
 
 /// What the value under the key counts for, 0 where there is none.

@@ -1,5 +1,5 @@
-use Rattle.std.proofs.Common.{◌≡◌, true, Option, sym, ap, ◌∙◌}
-use Rattle.std.specs.Prelude.{if◌then◌else◌, ℕ, List, None}
+use Rattle.std.proofs.Common.{◌≡◌, true, sym, ap, ◌∙◌}
+use Rattle.std.specs.Prelude.{if◌then◌else◌, None}
 use Rattle.pmg_value.specs.declared.value.Value.TheVariants as values
 use Rattle.pmg_value.specs.declared.value.Value.{Value}
 use Rattle.pmg_value.specs.Spelling.{spelling}

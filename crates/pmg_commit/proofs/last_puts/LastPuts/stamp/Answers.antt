@@ -1,6 +1,5 @@
-use Rattle.std.proofs.Common.{◌++◌, [], ◌∷◌, sym, ap, ◌∙◌}
+use Rattle.std.proofs.Common.{sym, ap, ◌∙◌}
 use Rattle.std.specs.FinMap as finite
-use Rattle.std.specs.Option.{option_map}
 use Rattle.pmg_commit.specs.Stamped.{stamp_of}
 use Rattle.pmg_commit.specs.TakenBack.{all_back}
 use Rattle.pmg_commit.proofs.BackLemmas.{back-stamped, back-same}

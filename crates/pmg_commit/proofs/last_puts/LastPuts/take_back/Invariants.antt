@@ -1,4 +1,4 @@
-use Rattle.std.proofs.Common.{◌≡◌, ℕ, length}
+use Rattle.std.proofs.Common.{◌≡◌, length}
 use Rattle.pmg_commit.specs.TakenBack.{all_back}
 use Rattle.pmg_commit.proofs.last_puts.LastPuts.take_back.Given as goal
 

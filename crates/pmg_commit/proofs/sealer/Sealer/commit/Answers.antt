@@ -1,4 +1,4 @@
-use Rattle.std.proofs.Common.{◌≡◌, suc, true, false, sym, ap, subst, ◌∙◌}
+use Rattle.std.proofs.Common.{◌≡◌, suc, true, sym, ap, subst, ◌∙◌}
 use Rattle.std.proofs.lemmas.Bool.{and_parts, not-true, ltb-true}
 use Rattle.pmg_scope.specs.Cached.{Unsealed}
 use Rattle.pmg_scope.specs.Rows.{table_of}

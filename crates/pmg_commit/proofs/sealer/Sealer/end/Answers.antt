@@ -1,6 +1,6 @@
 use Rattle.std.proofs.Common.{◌≡◌, length, true, false, sym, ap, subst, ◌∙◌, arith}
 use Rattle.pmg_scope.specs.Rows.{table_of}
-use Rattle.pmg_commit.specs.Sealed.{Sealed, stamped_with, term_table}
+use Rattle.pmg_commit.specs.Sealed.{Sealed, stamped_with}
 use Rattle.pmg_commit.specs.Stamped.{IsSealer}
 use Rattle.pmg_commit.proofs.SealerFacts.{ended_is}
 use Rattle.pmg_commit.proofs.sealer.Sealer.end.Goals as goal

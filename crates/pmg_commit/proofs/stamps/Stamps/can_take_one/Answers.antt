@@ -8,8 +8,7 @@ use Rattle.pmg_commit.proofs.stamps.Stamps.can_take_one.Goals.{then-has, else-ha
 pub has_room-requires-clause-replaced : goal.has_room-requires-clause-replaced
 has_room-requires-clause-replaced c =
     let replaced = one_replaced c.args.self.now c.args.key.now in
-    let key = ap length c.as_bytes.ensures.value in
-    omega (arith, replaced, key, c.counted_at.ensures.value)
+    omega (arith, replaced, c.size_with_key.ensures.value, c.counted_at.ensures.value)
 
 pub returns : goal.returns
 returns c = λ n bytes same.
@@ -20,6 +19,7 @@ returns c = λ n bytes same.
       | then-has w ↦ w.keys-is ∙ sym (ap (λ b. cond b 0 1) (sym c.has.ensures ∙ w.if-has.true))
       | else-has w ↦ w.keys-is ∙ sym (ap (λ b. cond b 0 1) (sym c.has.ensures ∙ w.if-has.false))
     ] in
+    let added : c.size_with_key.result ≡ 10 + length k + length bytes = c.size_with_key.ensures.value ∙ ap (λ size. 10 + length k + size) (sym same) in
     c.has_room.ensures
-    ∙ (λ i. nat_le (finite.len m + keys i) 65535 && nat_le (stamps_size m + (10 + length (c.as_bytes.ensures.value i) + sym same i) - c.counted_at.ensures.value i) 16000000)
+    ∙ (λ i. nat_le (finite.len m + keys i) 65535 && nat_le (stamps_size m + added i - c.counted_at.ensures.value i) 16000000)
     ∙ sym (within_one n m k bytes)

@@ -1,6 +1,5 @@
 use Rattle.std.proofs.Common.{◌≡◌, ◌+◌, ◌-◌, ap, sym, ◌∙◌, arith}
-use Rattle.pmg_scope.specs.Rows.{table_of}
-use Rattle.pmg_commit.specs.Sealed.{Stamps, stamped, stamps_size}
+use Rattle.pmg_commit.specs.Sealed.{Stamps, stamps_size}
 use Rattle.pmg_commit.specs.Growth.{puts_size, replaced_size}
 use Rattle.pmg_commit.proofs.GrowthLemmas.{all_replaced, size_of_stamped}
 use Rattle.pmg_commit.proofs.stamps.Stamps.stamp.Goals as goal
