@@ -12,7 +12,7 @@ ghost use Rattle.pmg_rules.specs.Holdings.{plain_seen};
 use pmg_commit::Piece;
 use pmg_get::View;
 use pmg_jobinfo::Registry;
-use pmg_store::{Board, Store};
+use pmg_store::{Board, Look, Store};
 use pmg_value::{Key, NodeId, Proc, Value};
 
 /// A node's stores, and the pieces that are about to be joined: for reads from the node itself, and from other nodes.
@@ -33,6 +33,20 @@ fn read<'a>(store: &'a Store, piece: Option<&'a Piece>, proc: &Proc, key: &Key) 
     }
 }
 
+/// The value of the process under the key, and whether the process has ended, once the piece is joined, if there is one.
+fn look<'a>(store: &'a Store, piece: Option<&'a Piece>, proc: &Proc, key: &Key) -> Look<'a>
+    ensures value { option_map (λ v. spelling v.now) result.value ≡ read_at (joined store.now (option_map (λ c. c.now) piece.entry)) proc.now key.now }
+    ensures ended { result.ended ≡ is_some (read_at (joined store.now (option_map (λ c. c.now) piece.entry)) proc.now term_key) }
+{
+    match piece {
+        Some(piece) => Look {
+            value: store.read_with(piece, proc, key),
+            ended: store.has_ended_with(piece, proc),
+        },
+        None => store.look(proc, key),
+    }
+}
+
 /// The process's level once the piece is joined, if there is one.
 fn level(store: &Store, piece: Option<&Piece>, proc: &Proc) -> u64
     ensures value { result ≡ level_at (joined store.now (option_map (λ c. c.now) piece.entry)) proc.now }
@@ -41,16 +55,6 @@ fn level(store: &Store, piece: Option<&Piece>, proc: &Proc) -> u64
     match piece {
         Some(piece) => store.level_with(piece, proc),
         None => store.level(proc),
-    }
-}
-
-/// Whether the process has ended once the piece is joined, if there is one.
-fn has_ended(store: &Store, piece: Option<&Piece>, proc: &Proc) -> bool
-    ensures { result ≡ is_some (read_at (joined store.now (option_map (λ c. c.now) piece.entry)) proc.now term_key) }
-{
-    match piece {
-        Some(piece) => store.has_ended_with(piece, proc),
-        None => store.has_ended(proc),
     }
 }
 
@@ -69,17 +73,18 @@ impl<'a> Ahead<'a> {
             (get_of target.now key.now) }
     {
         let board = self.board;
-        let far = read(board.far(), self.far, target, key);
         if registry.is_home(id, target) {
+            let near = look(board.near(), self.near, target, key);
             return View::Near {
-                near: read(board.near(), self.near, target, key),
-                far,
-                term: has_ended(board.near(), self.near, target),
+                near: near.value,
+                far: read(board.far(), self.far, target, key),
+                term: near.ended,
             };
         }
+        let far = look(board.far(), self.far, target, key);
         View::Far {
-            far,
-            term: has_ended(board.far(), self.far, target),
+            far: far.value,
+            term: far.ended,
         }
     }
 }

@@ -22,9 +22,7 @@ pub fn peers(registry: &Registry, id: NodeId) -> Result<Vec<NodeId>, AllocError>
 {
     let mut nodes = Vec::new(registry.allocator());
     for index in 0..registry.node_count() {
-        let Ok(node) = NodeId::new(index as u32) else {
-            return Err(AllocError);
-        };
+        let node = NodeId::from_checked(index as u32);
         if node == id {
             continue;
         }

@@ -20,11 +20,13 @@ pub struct Sight {
 pub(crate) fn sight_of(board: &Board, proc: &Proc, key: &Key) -> Result<Sight, AllocError>
     ensures { IfOk result (IsSight board.now.near board.now.far proc.now key.now) }
 {
+    let near = board.near().look(proc, key);
+    let far = board.far().look(proc, key);
     Ok(Sight {
-        near: copy_of(board.near().read(proc, key))?,
-        far: copy_of(board.far().read(proc, key))?,
-        near_ended: board.near().has_ended(proc),
-        far_ended: board.far().has_ended(proc),
+        near: copy_of(near.value)?,
+        far: copy_of(far.value)?,
+        near_ended: near.ended,
+        far_ended: far.ended,
     })
 }
 

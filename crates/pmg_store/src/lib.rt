@@ -16,7 +16,7 @@ pub use failure::Failure;
 pub use input::{INPUT_LIMIT, MOST_READS, ReadFault, WatchedReader, read_input, too_long};
 pub use laws::{honest_data, honest_stores, pieces_in_any_order};
 pub use merge::{MAX_STREAMS, merge_inputs, merge_streams};
-pub use store::Store;
+pub use store::{Look, Store};
 pub use stream::{dump_stream, store_of_stream};
 
 #[cfg(test)]

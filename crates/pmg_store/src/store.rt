@@ -39,6 +39,13 @@ impl Model for Store {
     ghost invariant = { λ a. AreTracks a.tracks.places };
 }
 
+/// What is read of a process under a key: the value, and whether the process has ended.
+#[derive(Clone, Copy, Debug)]
+pub struct Look<'a> {
+    pub value: Option<&'a Value>,
+    pub ended: bool,
+}
+
 impl Join for Store {
     ghost use Rattle.pmg_commit.specs.Data.{Data, join_data};
     ghost use Rattle.pmg_store.specs.Joining.{DataWithin, data_joined, data_ordered};
@@ -197,6 +204,27 @@ impl Store {
     {
         let value = self.read(proc, &Key::of_termination());
         value.is_some()
+    }
+
+    /// The value of the process under the key, and whether the process has ended: one look-up of the process for both.
+    pub fn look(&self, proc: &Proc, key: &Key) -> Look<'_>
+        ensures value { option_map (λ v. spelling v.now) result.value ≡ read_at self.now proc.now key.now }
+        ensures ended { result.ended ≡ is_some (read_at self.now proc.now term_key) }
+    {
+        match self.tracks.get(proc) {
+            Some(track) => {
+                let value = track.read(key);
+                let term = track.read(&Key::of_termination());
+                Look {
+                    value,
+                    ended: term.is_some(),
+                }
+            }
+            None => Look {
+                value: None,
+                ended: false,
+            },
+        }
     }
 
     /// The processes of which something was taken, in their order.

@@ -2,6 +2,11 @@ use Rattle.std.proofs.Common.{◌∙◌}
 use Rattle.pmg_lane.proofs.Promoting.{popped_within, popped_roomy, popped_places, popped_none, popped_some, settles_trans}
 use Rattle.pmg_lane.proofs.entries.Entries.promote.Goals as goal
 
+pub put_read-requires-clause-roomy : goal.put_read-requires-clause-roomy
+put_read-requires-clause-roomy c =
+    let p = c.in-Some.ensures in
+    popped_roomy c.loop-place.self c.pop_reached.new.self c.args.level c.in-Some.place p.reached p.taken p.reads c.loop-place.invariant.2
+
 pub loop-place-preserved-in-Some-value : goal.loop-place-preserved-in-Some-value
 loop-place-preserved-in-Some-value c =
     let a = c.loop-place.self in
