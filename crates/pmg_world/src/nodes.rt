@@ -15,10 +15,7 @@ pub(crate) fn node_id(registry: &Registry, index: u64) -> Option<NodeId>
     if index >= registry.node_count() as u64 {
         return None;
     }
-    match NodeId::new(index as u32) {
-        Ok(node) => Some(node),
-        Err(_) => None,
-    }
+    Some(NodeId::from_checked(index as u32))
 }
 
 /// The nodes of these indexes. Refused as BadParam where the group has no such node, and as NoMemory.
