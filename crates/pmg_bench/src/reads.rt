@@ -65,10 +65,10 @@ pub fn read_locked<R: Wait>(rt: &R, alloc: Global, count: u64) -> Result<u64, Re
 
 /// Whether there is a far value, once what a viewer reads is copied.
 fn is_found(board: &Board, proc: &Proc, key: &Key) -> Result<bool, AllocError> {
-    let near = copy_of(board.near().read(proc, key))?;
-    let far = copy_of(board.far().read(proc, key))?;
-    let ended = board.near().has_ended(proc) || board.far().has_ended(proc);
-    Ok(far.is_some() && near.is_some() && !ended)
+    let near = board.near().look(proc, key);
+    let far = board.far().look(proc, key);
+    let (near_value, far_value) = (copy_of(near.value)?, copy_of(far.value)?);
+    Ok(far_value.is_some() && near_value.is_some() && !near.ended && !far.ended)
 }
 
 /// A copy of the value, if there is one.

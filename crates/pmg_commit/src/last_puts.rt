@@ -3,7 +3,7 @@ ghost use Rattle.std.specs.Prelude.{◌≡◌, ℕ, List, [], map, IfOk, OnOk, O
 ghost use Rattle.std.specs.FinMap as finite;
 ghost use Rattle.std.specs.Option.{option_map};
 ghost use Rattle.pmg_value.specs.Spelling.{spelling};
-ghost use Rattle.pmg_value.specs.Rows.{rows_of, changed_at, put_back};
+ghost use Rattle.pmg_value.specs.Rows.{rows_of, put_back};
 ghost use Rattle.pmg_scope.specs.Rows.{IsRising, table_of};
 ghost use Rattle.pmg_commit.specs.Pieces.{entry_of};
 ghost use Rattle.pmg_commit.specs.Sealed.{stamped, newer_than};
@@ -11,11 +11,10 @@ ghost use Rattle.pmg_commit.specs.Stamped.{stamp_of};
 ghost use Rattle.pmg_commit.specs.TakenBack.{all_back};
 
 use crate::piece::PieceEntry;
-use pmg_value::{Copied, Key, Value, copy_rows};
+use pmg_value::{Copied, Key, Value, copy_rows, put_back};
 use std::alloc::{AllocError, Global};
 use std::collections::BTreeMap;
 use std::marker::Model;
-use std::mem;
 
 /// The put under a key that was sealed last: the number of its commit, and the value.
 #[derive(Debug, Drop)]
@@ -131,33 +130,11 @@ impl LastPuts {
         Ok(())
     }
 
-    /// Takes what was sealed under the key out.
-    fn remove(&mut self, key: &Key)
-        ensures { self.new ≡ finite.remove self.old key.now }
-    {
-        let _ = self.rows.remove(key);
-    }
-
-    /// Puts something else under the key, where there is something, and gives back what is left.
-    fn change(&mut self, key: &Key, mut put: SealedPut) -> SealedPut
-        ensures { self.new ≡ changed_at self.old key.now (stamp_of put) }
-    {
-        if let Some(kept) = self.rows.get_mut(key) {
-            mem::swap(kept, &mut put);
-        }
-        put
-    }
-
     /// Puts back what was under the key before it was changed. It takes no memory.
-    fn put_back(&mut self, key: Key, before: Option<SealedPut>)
+    fn take_one_back(&mut self, key: Key, before: Option<SealedPut>)
         ensures { self.new ≡ put_back self.old key (option_map stamp_of before) }
     {
-        match before {
-            Some(put) => {
-                let _ = self.change(&key, put);
-            }
-            None => self.remove(&key),
-        }
+        put_back(&mut self.rows, &key, before);
     }
 
     /// Seals the put under the key, and notes what was there.
@@ -204,7 +181,7 @@ impl LastPuts {
     {
         let mut before = before;
         while let Some((key, put)) = before.pop() {
-            self.put_back(key, put);
+            self.take_one_back(key, put);
         }
     }
 

@@ -7,7 +7,7 @@ use Rattle.std.specs.FinSet as set
 use Rattle.std.specs.FinMap.{IsAntisymmetric}
 use Rattle.std.specs.BTreeMap.{is_at}
 use Rattle.std.specs.Option.{option_map, option_copied}
-use Rattle.std.specs.Cmp.{IsTotalOrder, Equal-is, eq_by_cmp_equiv}
+use Rattle.std.specs.Cmp.{IsTotalOrder, eq_by_cmp_equiv}
 use Rattle.std.specs.Ordering.{eq_by_cmp}
 use Rattle.std.specs.declared.cmp.Ordering.{Ordering}
 use Rattle.pmg_value.specs.Rows.{rows_of}
@@ -45,16 +45,6 @@ itself o k = (eq_by_cmp_equiv o).refl k
 module _ {K X : Type 0} {R : K → K → Ordering} (o : IsTotalOrder R) (exact : IsAntisymmetric R) where
   pub get_put : (m : finite.FinMap R X) (k : K) (x : X) → finite.get (finite.insert m k x) k ≡ Some x
   get_put m k x = finite.get-insert o m k x k ∙ ap (λ b. cond b (Some x) (finite.get m k)) (itself o k)
-
-  shadowed : (b : Bool) (x v : X) (y : Option X) → (b ≡ true → Some x ≡ y) → cond b (Some x) (cond b (Some v) y) ≡ y
-  shadowed true x v y same = same refl
-  shadowed false x v y same = refl
-
-  pub put_again : (m : finite.FinMap R X) (k : K) (v w : X) → finite.get m k ≡ Some w → finite.insert (finite.insert m k v) k w ≡ m
-  put_again m k v w e = finite.same_map o exact (finite.insert (finite.insert m k v) k w) m (λ q.
-      finite.get-insert o (finite.insert m k v) k w q
-      ∙ ap (cond (eq_by_cmp R q k) (Some w)) (finite.get-insert o m k v q)
-      ∙ shadowed (eq_by_cmp R q k) w v (finite.get m q) (λ t. sym e ∙ ap (finite.get m) (sym (exact q k ((Equal-is _).0 t)))))
 
 -- ---- a tree of keys, as a finite set
 

@@ -19,11 +19,6 @@ use Rattle.pmg_fence.specs.Codes.{Instances, AllSeries, Known, Owns, Signatures,
 use Rattle.pmg_fence.specs.Changes.{placed, fence_entered, fence_told, present, newly}
 use Rattle.pmg_jobinfo.specs.Jobs.{Jobs, home_of}
 
--- the numbers, with what the process had before
-abbrev pub restored : Numbers → Proc → Option ℕ → Numbers
-restored m p None = finite.remove m p
-restored m p (Some n) = if finite.contains_key m p then finite.insert m p n else m
-
 abbrev pub fence_changed : Fence → Change → Fence
 fence_changed fence changes.Learned = fence
 fence_changed fence (changes.Entered p level) = fence_entered fence p level

@@ -1,7 +1,7 @@
 -- Changes of a table that are taken back, by what there was before.
 use Rattle.std.specs.Prelude.{ℕ, take, Option, Some, None}
 use Rattle.std.specs.FinMap as finite
-use Rattle.pmg_value.specs.Rows.{changed_at}
+use Rattle.pmg_value.specs.Rows.{changed_at, put_back}
 use Rattle.pmg_value.specs.Signatures.{Signature, FenceName}
 use Rattle.pmg_fence.specs.declared.numbers.NumberBefore.{NumberBefore}
 use Rattle.pmg_fence.specs.declared.fence.FenceBefore.{FenceBefore}
@@ -12,11 +12,11 @@ use Rattle.pmg_fence.specs.declared.table.ChangeBefore.{ChangeBefore}
 use Rattle.pmg_fence.specs.declared.table.ChangeBefore.TheVariants as change_befores
 use Rattle.pmg_fence.specs.Tables.{Numbers, Fence, Series, Fences}
 use Rattle.pmg_fence.specs.Codes.{Headers, Instances, AllSeries, Known, Owns}
-use Rattle.pmg_fence.specs.Kept.{restored, fence_in, series_in, IsKept}
+use Rattle.pmg_fence.specs.Kept.{fence_in, series_in, IsKept}
 
 -- the numbers, with what the process had before
 abbrev pub number_back : Numbers → NumberBefore → Numbers
-number_back m before = restored m before.proc before.number
+number_back m before = put_back m before.proc before.number
 
 -- the headers without that of the node, where it has come
 abbrev pub headers_back : Headers → Option ℕ → Headers

@@ -1,9 +1,8 @@
 ghost use Rattle.std.specs.Prelude.{◌≡◌, ◌<◌, ◌^◌, IfOk, OnOk, OnErr};
 ghost use Rattle.std.specs.FinMap as finite;
-ghost use Rattle.pmg_fence.specs.Kept.{restored};
 ghost use Rattle.pmg_fence.specs.TakenBack.{number_back};
 
-use pmg_value::{Proc, copy_rows};
+use pmg_value::{Proc, copy_rows, put_back};
 use std::alloc::{AllocError, Global};
 use std::collections::BTreeMap;
 use std::marker::Model;
@@ -89,23 +88,7 @@ impl Numbers {
     pub fn take_back(&mut self, before: &NumberBefore)
         ensures { self.new ≡ number_back self.old before.now }
     {
-        self.restore(&before.proc, before.number);
-    }
-
-    /// Gives the process the number back that it had before.
-    fn restore(&mut self, proc: &Proc, before: Option<u64>)
-        ensures { self.new ≡ restored self.old proc.now before }
-    {
-        match before {
-            None => {
-                let _ = self.rows.remove(proc);
-            }
-            Some(number) => {
-                if let Some(kept) = self.rows.get_mut(proc) {
-                    *kept = number;
-                }
-            }
-        }
+        put_back(&mut self.rows, &before.proc, before.number);
     }
 
     /// The same numbers, with the same allocator.

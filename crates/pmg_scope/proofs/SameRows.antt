@@ -1,5 +1,5 @@
 -- Rows that are the same make one table, and only they do.
-use Rattle.std.proofs.Common.{◌≡◌, ℕ, Bool, true, ◌&&◌, nat_eq, List, map, sym, ap, subst, ◌∙◌}
+use Rattle.std.proofs.Common.{◌≡◌, ℕ, Bool, ◌&&◌, nat_eq, List, sym, ap, subst, ◌∙◌}
 use Rattle.std.specs.Bool.{Decides}
 use Rattle.std.specs.Cmp.Lexicographic.{slice_cmp, nat_list_cmp_total, pointwise, pointwise_decides, bytes_decides}
 use Rattle.std.specs.FinMap as finite
@@ -10,7 +10,7 @@ use Rattle.pmg_value.specs.Spelling.{spelling}
 use Rattle.pmg_value.specs.declared.value.Value.{Value}
 use Rattle.pmg_value.proofs.RowLemmas.{entries_rising}
 use Rattle.pmg_value.proofs.SameLemmas.{by_cmp}
-use Rattle.pmg_scope.specs.Cached.{Table, Unsealed}
+use Rattle.pmg_scope.specs.Cached.{Unsealed}
 use Rattle.pmg_scope.specs.Rows.{IsRising, canonical_rows, is_same_row, table_of}
 
 abbrev Row : Type 0

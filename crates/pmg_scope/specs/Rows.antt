@@ -1,6 +1,7 @@
 -- Tables as they are kept.
 use Rattle.std.specs.Prelude.{◌≡◌, ℕ, ◌+◌, List, length, Option, Some, None, Bool, ◌&&◌, nat_eq, map}
 use Rattle.std.specs.FinMap as finite
+use Rattle.std.specs.Option.{option_map}
 use Rattle.std.specs.Ordering.{nat_cmp, is_eq}
 use Rattle.std.specs.Cmp.Lexicographic.{slice_cmp, pointwise}
 use Rattle.pmg_value.specs.declared.value.Value.{Value}
@@ -36,16 +37,10 @@ is_same_row e f = pointwise nat_eq e.0 f.0 && is_eq (slice_cmp nat_cmp e.1 f.1)
 abbrev pub IsRising : {V : Type 0} → List (List ℕ × V) → Type 0
 IsRising = AreRising (slice_cmp nat_cmp)
 
--- what was under a key
-abbrev pub before_of : Option Value → Before
-before_of (Some value) = before.Held value
-before_of None = before.Absent
-
 -- the table with what was there before a put of the key
 abbrev pub restored : Table → List ℕ → Before → Table
 restored m key before.Unseen = m
-restored m key before.Absent = put_back m key None
-restored m key (before.Held value) = put_back m key (Some (spelling value))
+restored m key (before.Seen found) = put_back m key (option_map spelling found)
 
 -- what a key counts for together with what stands under it, which counts for as many bytes as h says: ten bytes more
 abbrev pub size_by : {X : Type 0} → (X → ℕ) → List ℕ × X → ℕ

@@ -3,14 +3,12 @@ ghost use Rattle.std.specs.FinMap as map;
 ghost use Rattle.std.specs.Option.{option_map};
 ghost use Rattle.pmg_value.specs.Spelling.{spelling};
 ghost use Rattle.pmg_scope.specs.Cached.{put_if};
-ghost use Rattle.pmg_value.specs.Rows.{changed_at};
-ghost use Rattle.pmg_scope.specs.Rows.{IsRising, before_of, restored, table_of};
+ghost use Rattle.pmg_scope.specs.Rows.{IsRising, restored, table_of};
 
-use pmg_value::{Key, Value, copy_rows};
+use pmg_value::{Key, Value, copy_rows, put_back};
 use std::alloc::{AllocError, Global};
 use std::collections::BTreeMap;
 use std::marker::Model;
-use std::mem;
 
 /// Values under keys, in the order of the keys.
 #[derive(Debug, Drop)]
@@ -35,22 +33,8 @@ impl Model for Table {
 pub enum Before {
     /// The put is not seen there.
     Unseen,
-    /// There was no value under the key.
-    Absent,
-    /// There was this one.
-    Held(Value),
-}
-
-impl Before {
-    /// What was under the key.
-    fn found(value: Option<Value>) -> Before
-        ensures { result ≡ before_of value }
-    {
-        match value {
-            Some(value) => Before::Held(value),
-            None => Before::Absent,
-        }
-    }
+    /// It is seen there, and this was under the key.
+    Seen(Option<Value>),
 }
 
 impl Table {
@@ -79,8 +63,7 @@ impl Table {
         if !seen {
             return Ok(Before::Unseen);
         }
-        let before = self.set(key.copy()?, value.copy()?)?;
-        Ok(Before::found(before))
+        Ok(Before::Seen(self.set(key.copy()?, value.copy()?)?))
     }
 
     /// Puts the value under the key, and gives back what was there.
@@ -98,30 +81,8 @@ impl Table {
     {
         match before {
             Before::Unseen => {}
-            Before::Absent => {
-                let _ = self.remove(key);
-            }
-            Before::Held(value) => {
-                let _ = self.change(key, value);
-            }
+            Before::Seen(found) => put_back(&mut self.rows, key, found),
         }
-    }
-
-    /// Takes the value under the key out.
-    fn remove(&mut self, key: &Key) -> Option<Value>
-        ensures { self.new ≡ map.remove self.old key.now }
-    {
-        self.rows.remove(key)
-    }
-
-    /// Puts another value under the key, where there is one, and gives back what is left.
-    fn change(&mut self, key: &Key, mut value: Value) -> Value
-        ensures { self.new ≡ changed_at self.old key.now (spelling value) }
-    {
-        if let Some(kept) = self.rows.get_mut(key) {
-            mem::swap(kept, &mut value);
-        }
-        value
     }
 
     /// The number of the keys.

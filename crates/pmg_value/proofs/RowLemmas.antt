@@ -1,5 +1,5 @@
 -- Rows of keys and values in memory, and what stands under a key.
-use Rattle.std.proofs.Common.{◌≡◌, Bool, true, false, cond, List, [], ◌∷◌, ◌++◌, map, length, Option, Some, None, is_some, IsSome, refl, sym, ap, subst, ◌∙◌, inl, inr, Bor, MutBor, arith}
+use Rattle.std.proofs.Common.{◌≡◌, Bool, true, false, cond, ◌&&◌, List, [], ◌∷◌, ◌++◌, map, length, Option, Some, None, is_some, IsSome, refl, sym, ap, subst, ◌∙◌, inl, inr, Bor, MutBor, arith}
 use Rattle.std.specs.FinMap as finite
 use Rattle.std.specs.FinMap.{IsAntisymmetric}
 use Rattle.std.specs.FinMap.Entries.{find, put}
@@ -17,7 +17,7 @@ use Rattle.std.specs.Cmp.{IsTotalOrder, Equal-is, eq_by_cmp_equiv}
 use Rattle.std.proofs.lemmas.List.{length-map}
 use Rattle.std.proofs.lemmas.Bool.{false≢true}
 use Rattle.pmg_value.specs.Lists.{In}
-use Rattle.pmg_value.specs.Rows.{AreRising, map_of, rows_of, changed_at, put_back}
+use Rattle.pmg_value.specs.Rows.{AreRising, map_of, rows_of, changed_at, put_back, back_at}
 
 -- what stands under a key in the rows
 abbrev pub at_key : {K V : Type 0} → (K → K → Ordering) → K → List (K × V) → Option V
@@ -225,6 +225,23 @@ module _ {K V X : Type 0} {R : K → K → Ordering} (o : IsTotalOrder R) (exact
   changed_nowhere old m k v same e =
       sym (ap (λ (b : Bool). cond b (finite.insert (rows_of {R = R} f old) k (f v)) (rows_of f old)) (has_row old k None (sym e)))
       ∙ ap (λ (t : finite.FinMap R X). changed_at t k (f v)) same
+
+-- ---- rows in which what was under a key is put back
+
+module _ {K V X : Type 0} {R : K → K → Ordering} (o : IsTotalOrder R) (exact : IsAntisymmetric R) (f : V → X) where
+  -- nothing is changed where there is nothing
+  back_nowhere : (old new : List (K × V)) (m : finite.FinMap R X) (k : K) (v : V) → rows_of f old ≡ m → at_key R k old ≡ None
+      → ((q : K) → at_key R q new ≡ at_key R q old) → rows_of f new ≡ changed_at m k (f v)
+  back_nowhere old new m k v same none updates = same_rows o exact f new old updates ∙ changed_nowhere o exact f old m k v same (sym none)
+
+  pub rows_back : (old new : List (K × V)) (m : finite.FinMap R X) (k : K) (before : Option V) → rows_of f old ≡ m
+      → ((q : K) → at_key R q new ≡ back_at R k before (λ p. at_key R p old) q) → rows_of f new ≡ put_back m k (option_map f before)
+  rows_back old new m k None same updates = rows_without o exact f old new k updates ∙ ap (λ (t : finite.FinMap R X). finite.remove t k) same
+  rows_back old new m k (Some v) same updates =
+      elim (at_key R k old) as (λ x. at_key R k old ≡ x → rows_of {R = R} f new ≡ changed_at m k (f v)) [
+        | None ↦ λ e. back_nowhere old new m k v same e (λ q. updates q ∙ ap (λ (x : Option V). cond (is_some x && is_at (R k) q) (Some v) (at_key R q old)) e)
+        | Some w ↦ λ e. changed_there o exact f old new m k v w same e (λ q. updates q ∙ ap (λ (x : Option V). cond (is_some x && is_at (R k) q) (Some v) (at_key R q old)) e)
+      ] refl
 
 module _ {K V : Type 0} {R : K → K → Ordering} (o : IsTotalOrder R) where
   pub get-map_of : (rows : List (K × V)) (q : K) → finite.get (map_of {R = R} rows) q ≡ at_key R q rows

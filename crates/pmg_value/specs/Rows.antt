@@ -1,6 +1,7 @@
 -- Rows of keys and values in memory, as a finite map.
-use Rattle.std.specs.Prelude.{List, map, Option, Some, None, if◌then◌else◌}
+use Rattle.std.specs.Prelude.{List, map, Option, Some, None, is_some, ◌&&◌, if◌then◌else◌}
 use Rattle.std.specs.declared.cmp.Ordering.{Ordering}
+use Rattle.std.specs.BTreeMap.{is_at}
 use Rattle.std.specs.FinMap as finite
 use Rattle.std.specs.List.Sorted.{IsStrictlySortedBy}
 use Rattle.std.specs.Map.{keys_of}
@@ -23,6 +24,11 @@ module _ {K X : Type 0} {R : K → K → Ordering} where
   abbrev pub put_back : finite.FinMap R X → K → Option X → finite.FinMap R X
   put_back m key None = finite.remove m key
   put_back m key (Some x) = changed_at m key x
+
+-- what stands under q, where `at` tells what stands under each key, once what was under the key is put back
+abbrev pub back_at : {K V : Type 0} → (K → K → Ordering) → K → Option V → (K → Option V) → K → Option V
+back_at R key None at q = if is_at (R key) q then None else at q
+back_at R key (Some v) at q = if is_some (at key) && is_at (R key) q then Some v else at q
 
 -- the keys of the rows rise
 abbrev pub AreRising : {K V : Type 0} → (K → K → Ordering) → List (K × V) → Type 0

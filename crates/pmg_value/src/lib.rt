@@ -10,6 +10,7 @@ mod parts;
 mod process;
 mod refusal;
 mod refusal_text;
+mod rows;
 mod value;
 mod value_text;
 mod word;
@@ -25,6 +26,7 @@ pub use names::{
 pub use parts::Parts;
 pub use process::{HOST_NAME, MAX_NODE, MAX_RANK, NodeId, Proc, Rank};
 pub use refusal::{Cause, Fault, Refusal};
+pub use rows::put_back;
 pub use value::{MAX_VALUE_SIZE, Value};
 pub use written::{WatchedWriter, WriteFault, push_number};
 

@@ -1,4 +1,4 @@
-use Rattle.std.proofs.Common.{◌&&◌, sym, ap, ◌∙◌}
+use Rattle.std.proofs.Common.{◌&&◌, ap, ◌∙◌}
 use Rattle.std.specs.Cmp.Lexicographic.{pointwise}
 use Rattle.pmg_scope.specs.Rows.{canonical_rows, is_same_row}
 use Rattle.pmg_scope.proofs.SameRows.{told_same}
