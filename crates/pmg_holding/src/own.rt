@@ -71,7 +71,6 @@ impl Own {
         };
         match piece {
             Ok(piece) => Ok(piece),
-            Err(Refusal::NoMemory) => Err(AllocError),
             Err(_) => Err(AllocError),
         }
     }
@@ -89,7 +88,6 @@ impl Own {
         };
         match piece {
             Ok(piece) => Ok(piece),
-            Err(Refusal::NoMemory) => Err(AllocError),
             Err(_) => Err(AllocError),
         }
     }
