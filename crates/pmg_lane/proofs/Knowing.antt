@@ -1,16 +1,12 @@
 -- What is known by what is kept.
-use Rattle.std.proofs.Common.{arith, ℕ, List, [], ◌∷◌, ◌++◌, ◌≡◌, ◌<◌, ◌≤◌, ◌⊎◌, inl, inr, true, false, cond, refl, sym, ap, ◌∙◌, subst}
+use Rattle.std.proofs.Common.{arith, ℕ, List, [], ◌∷◌, ◌≡◌, ◌<◌, ◌≤◌, inl, inr, refl, sym, ap, ◌∙◌, subst}
 use Rattle.std.specs.Prelude.{Option, Some, None, IfSome, IsSome}
 use Rattle.std.specs.Option.{option_map, option_to_list}
 use Rattle.std.specs.List.{flat_map}
-use Rattle.std.specs.Cmp.{Equal-is}
 use Rattle.std.specs.Cmp.Lexicographic.{slice_cmp}
 use Rattle.std.specs.Ordering.{nat_cmp}
-use Rattle.std.specs.declared.cmp.Ordering.{Ordering}
-use Rattle.std.specs.BTreeMap.{get, keys, is_at}
-use Rattle.std.specs.Map.{lookup, keys_of}
-use Rattle.std.proofs.lemmas.Bool.{false≢true}
-use Rattle.std.proofs.lemmas.Map.Lookups.{CmpEqualImpliesEq, exact_bytes}
+use Rattle.std.specs.BTreeMap.{get, keys}
+use Rattle.std.proofs.lemmas.Map.Lookups.{exact_bytes}
 use Rattle.pmg_value.specs.Lists.{In}
 use Rattle.pmg_value.proofs.ListLemmas.{in_parts, in_append_left, in_append_right}
 use Rattle.pmg_value.proofs.RowLemmas.{key_there}

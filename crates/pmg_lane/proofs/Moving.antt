@@ -78,7 +78,7 @@ settles_both level a b c other s t = record {
 }
 
 pub has_stays : (a b : Entries) (reach number : ℕ) (key : List ℕ) → PlacesStay a b → HasPlaces a reach number key → HasPlaces b reach number key
-has_stays a b reach number key stay has = (stay.0 key has.0, λ past. stay.1 (number, key) (has.1 past))
+has_stays a b reach number key stay has = (λ up. stay.0 key (has.0 up), λ past. stay.1 (number, key) (has.1 past))
 
 pub places_trans : (a b c : Entries) → PlacesStay a b → PlacesStay b c → PlacesStay a c
 places_trans a b c s t = (λ key h. t.0 key (s.0 key h), λ place h. t.1 place (s.1 place h))

@@ -2,6 +2,7 @@
 use Rattle.std.proofs.Common.{arith, ℕ, List, [], ◌∷◌, length, ◌≡◌, ◌<◌, ◌≤◌, ◌⊎◌, inl, inr, Bool, true, false, cond, refl, sym, ap, ◌∙◌, subst}
 use Rattle.std.specs.Prelude.{Option, Some, None, IfSome, IsSome}
 use Rattle.std.specs.Option.{option_map}
+use Rattle.std.specs.List.{AllByRecursion}
 use Rattle.std.specs.Cmp.{Equal-is, ranked}
 use Rattle.std.specs.Cmp.Lexicographic.{slice_cmp}
 use Rattle.std.specs.Ordering.{nat_cmp, is_gt, ordering_then}
@@ -10,10 +11,11 @@ use Rattle.std.specs.declared.cmp.Ordering.TheVariants.{Less, Equal, Greater}
 use Rattle.std.specs.BTreeMap.{get, is_at}
 use Rattle.std.specs.Map.{lookup}
 use Rattle.std.proofs.lemmas.Bool.{false≢true}
+use Rattle.pmg_value.specs.Lists.{In}
 use Rattle.pmg_value.specs.declared.value.Value.{Value}
 use Rattle.pmg_commit.specs.Entries.{Entry}
 use Rattle.pmg_lane.specs.Places.{placed, there_at, HasPlace}
-use Rattle.pmg_lane.specs.Entries.{late_cmp, late_entry, read_at, late_at, Holds, HasPlaces, ReadsWithin, LatePast, IsRoomy, Settles, NoneLeft}
+use Rattle.pmg_lane.specs.Entries.{late_cmp, late_entry, read_at, late_at, Holds, HasPlaces, ReadsWithin, LatePast, IsRoomyTo, Settles, NoneLeft}
 use Rattle.pmg_lane.specs.declared.entries.Entries.{Entries}
 use Rattle.pmg_lane.proofs.Settling.{exact_late, some_is, accounts_more}
 
@@ -24,6 +26,18 @@ number_first p q h = go (nat_cmp p.0 q.0) refl h
     go Less e h = let l : p.0 < q.0 = ranked p.0 q.0 Less e in omega (arith, l)
     go Equal e h = let l : p.0 ≡ q.0 = ranked p.0 q.0 Equal e in omega (arith, l)
     go Greater e h = absurd (false≢true (sym h))
+
+-- no place is reached from one past the level on
+pub not_reached :
+    (level : ℕ) (place : ℕ × List ℕ) (places : List (ℕ × List ℕ)) (q : ℕ × List ℕ) → level < place.0 → AllByRecursion (λ p. late_cmp place p ≡ Less) places → In q (place ∷ places)
+    → q.0 ≤ level → ⊥
+not_reached level place places q over all (inl same) up = let eq : q.0 ≡ place.0 = λ i. (same i).0 in omega (arith, over, eq, up)
+not_reached level place places q over all (inr there) up = later places all there
+  where
+    later : (ps : List (ℕ × List ℕ)) → AllByRecursion (λ p. late_cmp place p ≡ Less) ps → In q ps → ⊥
+    later [] h i = i
+    later (p ∷ ps) h (inl same) = let more = number_first place p (ap is_gt h.0) in let eq : q.0 ≡ p.0 = λ i. (same i).0 in omega (arith, over, more, eq, up)
+    later (p ∷ ps) h (inr i) = later ps h.1 i
 
 pub no_places : {K X : Type 0} (test : K → Bool) (es : List (K × X)) → (0 < length es → ⊥) → IsSome (lookup test es) → ⊥
 no_places test [] none h = absurd (false≢true h)
@@ -59,15 +73,15 @@ module _ (a b : Entries) (level : ℕ) (place : ℕ × List ℕ) (reached : plac
   pub popped_within : ReadsWithin level a → ReadsWithin level b
   popped_within within key = subst (λ o. IfSome o (λ e. e.number ≤ level)) (sym (same_read key)) (within key)
 
-  pub popped_roomy : IsRoomy a → IsRoomy b
-  popped_roomy roomy q has = elim (others q) [
+  pub popped_roomy : IsRoomyTo level a → IsRoomyTo level b
+  popped_roomy roomy q has up = elim (others q) [
     | inl gone ↦ absurd (none_there (get late_cmp b.late q) gone.1 has)
-    | inr same ↦ subst (λ t. HasPlace (slice_cmp nat_cmp) t q.1) (sym reads) (roomy q (subst IsSome same has))
+    | inr same ↦ subst (λ t. HasPlace (slice_cmp nat_cmp) t q.1) (sym reads) (roomy q (subst IsSome same has) up)
   ]
 
   pub popped_places : (n : ℕ) (key : List ℕ) → HasPlaces a level n key → HasPlaces b level n key
   popped_places n key has = (
-    subst (λ t. HasPlace (slice_cmp nat_cmp) t key) (sym reads) has.0,
+    λ up. subst (λ t. HasPlace (slice_cmp nat_cmp) t key) (sym reads) (has.0 up),
     λ past. elim (others (n, key)) [
       | inl gone ↦ absurd (let same : place.0 ≡ n = λ i. (gone.0 i).0 in omega (arith, reached, same, past))
       | inr same ↦ subst IsSome (sym same) (has.1 past)

@@ -17,7 +17,7 @@ use Rattle.pmg_value.specs.declared.value.Value.{Value}
 use Rattle.pmg_commit.specs.Entries.{Entry, is_later}
 use Rattle.pmg_commit.specs.EntryOrder.{Below, Later, is_later-Decides, below_cases, superseded_trans}
 use Rattle.pmg_lane.specs.Places.{placed, there_at, HasPlace}
-use Rattle.pmg_lane.specs.Entries.{late_cmp, read_entry, late_entry, read_at, late_at, Holds, ReadsWithin, Accounts, Settles, NoneLeft, beats, exceeds, LateFrom, HoldAlike, IsRoomy}
+use Rattle.pmg_lane.specs.Entries.{late_cmp, read_entry, late_entry, read_at, late_at, Holds, ReadsWithin, Accounts, Settles, NoneLeft, beats, exceeds, LateFrom, HoldAlike, IsRoomyTo}
 use Rattle.pmg_lane.specs.declared.entries.Entries.{Entries}
 use Rattle.pmg_lane.specs.declared.entries.Stamp.{Stamp}
 
@@ -286,13 +286,6 @@ module _ {K V : Type 0} {R : K → K → Ordering} (m n : BTreeMap K (Option V))
       here true = refl
       here false = has
 
-  pub filled_no_more : (q : K) → HasPlace R n q → HasPlace R m q
-  filled_no_more q has =
-      elim (is_at (R key) q) as (λ t. is_at (R key) q ≡ t → HasPlace R m q) [
-        | true ↦ λ t. subst IsSome (sym (was_at q t)) refl
-        | false ↦ λ t. subst IsSome (put q ∙ ap (λ b. cond b (Some filled) (get R m q)) t) has
-      ] refl
-
 -- the same entries in other places
 pub settles_alike : (level : ℕ) (a b : Entries) (More : Entry → Type 0) → HoldAlike a b → Settles level a More a NoneLeft → Settles level a More b NoneLeft
 settles_alike level a b More alike s = record {
@@ -328,20 +321,9 @@ pub alike_itself : (a : Entries) → HoldAlike a a
 alike_itself a = (λ q. refl, λ p. refl)
 
 pub roomy_reads :
-    (a b : Entries) → ((q : List ℕ) → HasPlace (slice_cmp nat_cmp) a.reads q → HasPlace (slice_cmp nat_cmp) b.reads q) → b.late ≡ a.late → IsRoomy a → IsRoomy b
-roomy_reads a b stay late roomy p has = stay p.1 (roomy p (subst (λ t. HasPlace late_cmp t p) late has))
-
-pub roomy_late :
-    (a b : Entries) (place : ℕ × List ℕ) → b.reads ≡ a.reads → ((q : ℕ × List ℕ) → HasPlace late_cmp b.late q → HasPlace late_cmp a.late q ⊎ (place ≡ q))
-    → HasPlace (slice_cmp nat_cmp) a.reads place.1 → IsRoomy a → IsRoomy b
-roomy_late a b place reads no_more there roomy p has = elim (no_more p has) [
-  | inl h ↦ subst (λ t. HasPlace (slice_cmp nat_cmp) t p.1) (sym reads) (roomy p h)
-  | inr e ↦ subst (λ t. HasPlace (slice_cmp nat_cmp) t p.1) (sym reads) (subst (λ q. HasPlace (slice_cmp nat_cmp) a.reads q.1) e there)
-]
-
-pub roomy_same :
-    (a b : Entries) → b.reads ≡ a.reads → ((q : ℕ × List ℕ) → HasPlace late_cmp b.late q → HasPlace late_cmp a.late q) → IsRoomy a → IsRoomy b
-roomy_same a b reads no_more roomy p has = subst (λ t. HasPlace (slice_cmp nat_cmp) t p.1) (sym reads) (roomy p (no_more p has))
+    (level : ℕ) (a b : Entries) → ((q : List ℕ) → HasPlace (slice_cmp nat_cmp) a.reads q → HasPlace (slice_cmp nat_cmp) b.reads q) → b.late ≡ a.late
+    → IsRoomyTo level a → IsRoomyTo level b
+roomy_reads level a b stay late roomy p has up = stay p.1 (roomy p (subst (λ t. HasPlace late_cmp t p) late has) up)
 
 -- ---- lists of entries
 pub late_trans : (level : ℕ) (a b c : Entries) → LateFrom level a b → LateFrom level b c → LateFrom level a c

@@ -1,11 +1,11 @@
 -- What a track knows before and after it takes more.
-use Rattle.std.proofs.Common.{arith, ℕ, suc, ◌+◌, List, ◌≡◌, ◌<◌, ◌≤◌, ◌⊎◌, inl, inr, true, false, ◌||◌, cond, refl, sym, ap, ◌∙◌, subst}
-use Rattle.std.specs.Prelude.{Option, Some, None, IfSome, nat_le}
+use Rattle.std.proofs.Common.{arith, ℕ, suc, ◌+◌, List, ◌≡◌, ◌<◌, ◌≤◌, ◌⊎◌, inl, inr, ◌||◌, refl, sym, ap, ◌∙◌, subst}
+use Rattle.std.specs.Prelude.{Option, Some, None, IfSome}
 use Rattle.std.specs.Option.{option_map}
 use Rattle.std.specs.FinSet as set
 use Rattle.std.specs.FinMap.{nat_cmp-IsAntisymmetric}
 use Rattle.std.proofs.lemmas.Cmp.{nat_cmp_total}
-use Rattle.std.proofs.lemmas.Bool.{false≢true, cases_lt, leb-true}
+use Rattle.std.proofs.lemmas.Bool.{false≢true, cases_lt}
 use Rattle.std.specs.BTreeMap.{BTreeMap, is_at}
 use Rattle.std.specs.Map.{lookup}
 use Rattle.std.specs.Ordering.{nat_cmp}
@@ -21,8 +21,8 @@ use Rattle.pmg_commit.specs.Knowledge.{Knowledge, nothing, union, core, read, nu
 use Rattle.pmg_commit.specs.CoreLaws.{Has, same_kept, same_knowledge, has_union, union_has_left, union_has_right}
 use Rattle.pmg_commit.proofs.Rules.{numbers_are_between}
 use Rattle.pmg_commit.proofs.ReadLaws.{read_latest, read_none}
-use Rattle.pmg_lane.specs.Entries.{read_at, late_at, Holds, HoldAlike, HasPlaces, ReadsWithin, LatePast, LateFrom, IsRoomy, Accounts, Settles, NoneLeft}
-use Rattle.pmg_lane.specs.Lanes.{known_by, level_of, told, IsTrack, reach_with}
+use Rattle.pmg_lane.specs.Entries.{read_at, late_at, Holds, HoldAlike, HasPlaces, ReadsWithin, LatePast, LateFrom, IsRoomyTo, Accounts, Settles, NoneLeft}
+use Rattle.pmg_lane.specs.Lanes.{known_by, level_of, told, IsTrack, level_with}
 use Rattle.pmg_lane.specs.declared.entries.Entries.{Entries}
 use Rattle.pmg_lane.specs.declared.track.Track.{Track}
 use Rattle.pmg_lane.proofs.Settling.{accounts_more, key_read, some_is}
@@ -41,19 +41,6 @@ level_covered ends i a b = (set_of-Decides ends i).0 ((level_is (set_of ends)).0
 pub level_up : (m n : BTreeMap ℕ ℕ) → LieIn m n → level (set_of m) ≤ level (set_of n)
 level_up m n kept = level_more (set_of m) (set_of n) (λ i h. (set_of-Decides n i).1 (covers_kept m n kept i ((set_of-Decides m i).0 h)))
 
--- a range that begins at the level or before it raises it to its end
-pub level_raised : (m n : BTreeMap ℕ ℕ) (from to : ℕ) → LieIn m n → Spans n from to → from ≤ level (set_of m) → to ≤ level (set_of n)
-level_raised m n from to kept added low = elim (cases_lt (level (set_of n)) to) [
-  | inr le ↦ le
-  | inl short ↦
-      let next : ℕ = level (set_of n) + 1 in
-      let there : Covers n next = elim (cases_lt from next) [
-        | inl past ↦ spans_cover n from to next added (past, omega (arith, short))
-        | inr before ↦ covers_kept m n kept next (level_covered m next (omega arith) (omega (arith, before, low)))
-      ] in
-      absurd (false≢true (sym (level_is (set_of n)).1 ∙ (set_of-Decides n next).1 there))
-]
-
 pub level_bound : (ends : BTreeMap ℕ ℕ) (most : ℕ) → ((n : ℕ) → Covers ends n → n ≤ most) → level (set_of ends) ≤ most
 level_bound ends most bound = elim (cases_lt 0 (level (set_of ends))) [
   | inl some ↦ bound (level (set_of ends)) (level_covered ends (level (set_of ends)) some (omega arith))
@@ -69,10 +56,10 @@ within_up m n a le within key = go (read_at a key) (within key)
     go (Some e) h = omega (arith, h, le)
 
 pub make_track :
-    (t : Track) → AreApart t.taken.ends → ReadsWithin (level (set_of t.taken.ends)) t.entries → LatePast (level (set_of t.taken.ends)) t.entries → IsRoomy t.entries
+    (t : Track) → AreApart t.taken.ends → ReadsWithin (level (set_of t.taken.ends)) t.entries → LatePast (level (set_of t.taken.ends)) t.entries
     → ((n : ℕ) → Covers t.taken.ends n → n ≤ 4294967295) → IsTrack t
 unfolding level_of
-make_track t apart within past roomy bound = record { apart = apart; within = within; past = past; roomy = roomy; bound = bound; is_core = is_core_of t within past }
+make_track t apart within past bound = record { apart = apart; within = within; past = past; bound = bound; is_core = is_core_of t within past }
 
 pub level_is_of : (t : Track) → level_of t ≡ level (set_of t.taken.ends)
 unfolding level_of
@@ -102,13 +89,16 @@ module _ (t u : Track) (kept : LieIn t.taken.ends u.taken.ends) (no_more : (n : 
   pub roomy_level : level_of u ≡ level_of t
   roomy_level = level_is_of u ∙ ap level same_set ∙ sym (level_is_of t)
 
-  pub roomy_track : AreApart u.taken.ends → IsRoomy u.entries → IsTrack t → IsTrack u
-  roomy_track apart roomy is =
+  pub roomy_level_with : (from to : ℕ) → level_with t from to ≡ level_with u from to
+  roomy_level_with from to = ap (λ k. level (set.union k.numbers (numbers_between from to))) (sym roomy_known)
+
+  pub roomy_track : AreApart u.taken.ends → IsTrack t → IsTrack u
+  roomy_track apart is =
       let same : level_of t ≡ level (set_of u.taken.ends) = level_is_of t ∙ ap level (sym same_set) in
       make_track u apart
       (λ key. subst (λ o. IfSome o (λ e. e.number ≤ level (set_of u.taken.ends))) (sym (alike.0 key)) (subst (λ n. IfSome (read_at t.entries key) (λ e. e.number ≤ n)) same (is.within key)))
       (λ place. subst (λ o. IfSome o (λ _. level (set_of u.taken.ends) < place.0)) (sym (alike.1 place)) (subst (λ n. IfSome (late_at t.entries place) (λ _. n < place.0)) same (is.past place)))
-      roomy (λ n h. is.bound n (no_more n h))
+      (λ n h. is.bound n (no_more n h))
 
 -- ---- nothing
 pub none_known :
@@ -126,12 +116,12 @@ none_known t none reads late =
 
 pub none_track :
     (t : Track) → AreApart t.taken.ends → ((n : ℕ) → Covers t.taken.ends n → ⊥) → ((key : List ℕ) → read_at t.entries key ≡ None) → ((place : ℕ × List ℕ) → late_at t.entries place ≡ None)
-    → IsRoomy t.entries → IsTrack t
-none_track t apart none reads late roomy =
+    → IsTrack t
+none_track t apart none reads late =
     make_track t apart
     (λ key. subst (λ o. IfSome o (λ e. e.number ≤ level (set_of t.taken.ends))) (sym (reads key)) tt)
     (λ place. subst (λ o. IfSome o (λ _. level (set_of t.taken.ends) < place.0)) (sym (late place)) tt)
-    roomy (λ n h. absurd (none n h))
+    (λ n h. absurd (none n h))
 
 -- ---- more
 -- what invents nothing and accounts for all has the same core
@@ -189,6 +179,21 @@ module _ (t u : Track) (middle : Entries) (more : Knowledge) (IsOne : Entry → 
         | inr sup ↦ inr (sup.0, holds_has u sup.0 sup.1, subst (λ n. Superseded n e sup.0) (ap level (sym (numbers_is u) ∙ numbers)) sup.2)
       ])
 
+-- the ranges of a track once that of the commits from+1 to to is filled
+module _ (t : Track) (ends : BTreeMap ℕ ℕ) (from to : ℕ) (kept : LieIn t.taken.ends ends) (added : Spans ends from to)
+    (no_more : (n : ℕ) → Covers ends n → Covers t.taken.ends n ⊎ Between from to n) where
+  filled_set : set_of ends ≡ set.union (known_by t).numbers (numbers_between from to)
+  filled_set =
+      set.same_set nat_cmp_total nat_cmp-IsAntisymmetric (set_of ends) (set.union (set_of t.taken.ends) (numbers_between from to)) (λ n.
+      cover_added t.taken.ends ends from to no_more
+      (λ k h. elim h [ inl a ↦ covers_kept t.taken.ends ends kept k a | inr b ↦ spans_cover ends from to k added b ]) n
+      ∙ ap (λ b. set.contains (set_of t.taken.ends) n || b) (sym (numbers_are_between from to n))
+      ∙ sym (set.contains-union nat_cmp_total (set_of t.taken.ends) (numbers_between from to) n))
+      ∙ ap (λ s. set.union s (numbers_between from to)) (sym (numbers_is t))
+
+  pub filled_level : level (set_of ends) ≡ level_with t from to
+  filled_level = ap level filled_set
+
 module _ (t u : Track) (middle : Entries) (from to : ℕ) (es : List Entry)
     (kept : LieIn t.taken.ends u.taken.ends) (added : Spans u.taken.ends from to)
     (no_more : (n : ℕ) → Covers u.taken.ends n → Covers t.taken.ends n ⊎ Between from to n)
@@ -197,13 +202,7 @@ module _ (t u : Track) (middle : Entries) (from to : ℕ) (es : List Entry)
   pub taken_core : core (known_by u) ≡ core (union (known_by t) (told from to es))
   taken_core =
       more_core t u middle (told from to es) (λ e. In e es)
-      (numbers_is u
-      ∙ set.same_set nat_cmp_total nat_cmp-IsAntisymmetric (set_of u.taken.ends) (set.union (set_of t.taken.ends) (numbers_between from to)) (λ n.
-      cover_added t.taken.ends u.taken.ends from to no_more
-      (λ k h. elim h [ inl a ↦ covers_kept t.taken.ends u.taken.ends kept k a | inr b ↦ spans_cover u.taken.ends from to k added b ]) n
-      ∙ ap (λ b. set.contains (set_of t.taken.ends) n || b) (sym (numbers_are_between from to n))
-      ∙ sym (set.contains-union nat_cmp_total (set_of t.taken.ends) (numbers_between from to) n))
-      ∙ sym (λ i. set.union (numbers_is t i) (told_numbers from to es i)))
+      (numbers_is u ∙ filled_set t u.taken.ends from to kept added no_more ∙ ap (set.union (known_by t).numbers) (sym (told_numbers from to es)))
       (told_has from to es) (has_told from to es) promoted put
 
 module _ (t o u : Track) (middle : Entries)
@@ -217,16 +216,19 @@ module _ (t o u : Track) (middle : Entries)
       (numbers_is u ∙ cover_joined t.taken.ends o.taken.ends u.taken.ends no_more kept added ∙ sym (λ i. set.union (numbers_is t i) (numbers_is o i)))
       (holds_has o) (has_holds o) promoted put
 
--- room up to the number that will be reached is room up to the level
-pub places_up : (a : Entries) (m n number : ℕ) (key : List ℕ) → m ≤ n → HasPlaces a m number key → HasPlaces a n number key
-places_up a m n number key le has = (has.0, λ past. has.1 (omega (arith, le, past)))
+-- no level that is reached is past the greatest number of a commit
+pub roomy_reached : (ends : BTreeMap ℕ ℕ) (n : ℕ) (a : Entries) → n ≡ level (set_of ends) → ((i : ℕ) → Covers ends i → i ≤ 4294967295) → IsRoomyTo 4294967295 a → IsRoomyTo n a
+roomy_reached ends n a is bound roomy place has up = let most = level_bound ends 4294967295 bound in roomy place has (omega (arith, is, most, up))
 
-pub reach_up : (t : Track) (ends : BTreeMap ℕ ℕ) (from to : ℕ) → LieIn t.taken.ends ends → Spans ends from to → reach_with t from to ≤ level (set_of ends)
-reach_up t ends from to kept added =
-    elim (nat_le from (level_of t)) as (λ b. nat_le from (level_of t) ≡ b → cond b to (level_of t) ≤ level (set_of ends)) [
-      | true ↦ λ h. level_raised t.taken.ends ends from to kept added (subst (λ n. from ≤ n) (level_is_of t) (leb-true from (level_of t) h))
-      | false ↦ λ h. subst (λ n. n ≤ level (set_of ends)) (sym (level_is_of t)) (level_up t.taken.ends ends kept)
-    ] refl
+-- a place at one level is one at a greater, where the late entries up to that have theirs
+pub places_up : (a : Entries) (m n number : ℕ) (key : List ℕ) → m ≤ n → IsRoomyTo n a → HasPlaces a m number key → HasPlaces a n number key
+places_up a m n number key le roomy has = (
+  λ up. elim (cases_lt m number) [
+    | inl past ↦ roomy (number, key) (has.1 past) up
+    | inr low ↦ has.0 low
+  ],
+  λ past. has.1 (omega (arith, le, past)),
+)
 
 pub past_from : (level : ℕ) (a b : Entries) → LatePast level a → LateFrom level a b → LatePast level b
 past_from level a b past from place = elim (from place) [
@@ -268,9 +270,6 @@ read_known t is key = go (read_at t.entries key) refl
         })
         ∙ sym (ap (option_map (λ e. e.bytes)) at)
 
-pub same_reach : (t u : Track) (from to : ℕ) → level_of u ≡ level_of t → reach_with t from to ≡ reach_with u from to
-same_reach t u from to same = ap (λ n. cond (nat_le from n) to n) (sym same)
-
 -- ---- a copy
 module _ (t u : Track) (ends : u.taken.ends.entries ≡ t.taken.ends.entries) (alike : HoldAlike t.entries u.entries) where
   there : (m n : BTreeMap ℕ ℕ) → m.entries ≡ n.entries → (from to : ℕ) → HasRange m from to → HasRange n from to
@@ -290,5 +289,5 @@ module _ (t u : Track) (ends : u.taken.ends.entries ≡ t.taken.ends.entries) (a
   pub copied_known : known_by u ≡ known_by t
   copied_known = roomy_known t u kept_ends no_more_ends alike
 
-  pub copied_track : IsRoomy u.entries → IsTrack t → IsTrack u
-  copied_track roomy is = roomy_track t u kept_ends no_more_ends alike (apart_too is.apart) roomy is
+  pub copied_track : IsTrack t → IsTrack u
+  copied_track is = roomy_track t u kept_ends no_more_ends alike (apart_too is.apart) is

@@ -56,17 +56,19 @@ PlacesStay a b =
     ((key : List ℕ) → HasPlace (slice_cmp nat_cmp) a.reads key → HasPlace (slice_cmp nat_cmp) b.reads key)
     × ((place : ℕ × List ℕ) → HasPlace late_cmp a.late place → HasPlace late_cmp b.late place)
 
--- there is a place for an entry of that number and key, read or, past the number that will be reached, late
+-- there is a place for an entry of that number and key: where it is read, or, past the level, a late one
 abbrev pub HasPlaces : Entries → ℕ → ℕ → List ℕ → Type 0
-HasPlaces a reach number key = HasPlace (slice_cmp nat_cmp) a.reads key × (reach < number → HasPlace late_cmp a.late (number, key))
+HasPlaces a level number key =
+    (number ≤ level → HasPlace (slice_cmp nat_cmp) a.reads key)
+    × (level < number → HasPlace late_cmp a.late (number, key))
 
 -- what is read has no number past the level
 abbrev pub ReadsWithin : ℕ → Entries → Type 0
 ReadsWithin level a = (key : List ℕ) → IfSome (read_at a key) (λ e. e.number ≤ level)
 
--- each late entry has a place where it will be read
-abbrev pub IsRoomy : Entries → Type 0
-IsRoomy a = (place : ℕ × List ℕ) → HasPlace late_cmp a.late place → HasPlace (slice_cmp nat_cmp) a.reads place.1
+-- each late entry up to the level has a place where it will be read
+abbrev pub IsRoomyTo : ℕ → Entries → Type 0
+IsRoomyTo level a = (place : ℕ × List ℕ) → HasPlace late_cmp a.late place → place.0 ≤ level → HasPlace (slice_cmp nat_cmp) a.reads place.1
 
 -- each late entry is past the level
 abbrev pub LatePast : ℕ → Entries → Type 0

@@ -1,5 +1,5 @@
 -- What a lane knows: the numbers of its ranges, and its entries.
-use Rattle.std.specs.Prelude.{◌≡◌, ◌≤◌, ℕ, List, if◌then◌else◌, nat_le}
+use Rattle.std.specs.Prelude.{◌≡◌, ◌≤◌, ℕ, List}
 use Rattle.std.specs.FinSet as set
 use Rattle.pmg_value.specs.Lists.{In}
 use Rattle.pmg_join.specs.Ranges.{set_of, AreApart, Covers, Spans, HaveRoom}
@@ -7,7 +7,7 @@ use Rattle.pmg_commit.specs.Entries.{Entry}
 use Rattle.pmg_commit.specs.Levels.{level}
 use Rattle.pmg_commit.specs.Knowledge.{Knowledge, core, numbers_between}
 use Rattle.pmg_commit.specs.declared.piece.PieceEntry.{PieceEntry}
-use Rattle.pmg_lane.specs.Entries.{Holds, entries_list, ReadsWithin, LatePast, IsRoomy, HasPlaces}
+use Rattle.pmg_lane.specs.Entries.{Holds, entries_list, ReadsWithin, LatePast, IsRoomyTo, HasPlaces}
 use Rattle.pmg_lane.specs.declared.track.Track.{Track}
 
 -- what a track knows of its process
@@ -22,26 +22,29 @@ level_of t = level (set_of t.taken.ends)
 unfoldable pub told : ℕ → ℕ → List Entry → Knowledge
 told from to entries = record { numbers = numbers_between from to; entries = set.from_list entries }
 
--- A track is kept well: its ranges are apart, what is read is up to the level and what is late past it, there is a place
--- to read each late entry from, no number is past the greatest of a commit, and no entry is superseded.
+-- A track is kept well: its ranges are apart, what is read is up to the level and what is late past it, no number is past
+-- the greatest of a commit, and no entry is superseded.
 pub record IsTrack (t : Track) : Type 0 where
   pub apart : AreApart t.taken.ends
   pub within : ReadsWithin (level_of t) t.entries
   pub past : LatePast (level_of t) t.entries
-  pub roomy : IsRoomy t.entries
   pub bound : (n : ℕ) → Covers t.taken.ends n → n ≤ 4294967295
   pub is_core : core (known_by t) ≡ known_by t
 
--- up to where entries are read once the commits from+1 to to are taken too
-abbrev pub reach_with : Track → ℕ → ℕ → ℕ
-reach_with t from to = if nat_le from (level_of t) then to else level_of t
+-- the level once the commits from+1 to to are taken too
+abbrev pub level_with : Track → ℕ → ℕ → ℕ
+level_with t from to = level (set.union (known_by t).numbers (numbers_between from to))
 
--- there is room for the commits from+1 to to and their entries
+-- There is room for the commits from+1 to to and their entries: at the level that is reached with them, a place for each of
+-- their entries, and one where it is read for each late entry up to that level.
 pub record HasRoom (t : Track) (from : ℕ) (to : ℕ) (entries : List PieceEntry) : Type 0 where
   pub range : Spans t.taken.ends from from
-  pub places : (e : PieceEntry) → In e entries → HasPlaces t.entries (reach_with t from to) e.number e.key
+  pub promoted : IsRoomyTo (level_with t from to) t.entries
+  pub places : (e : PieceEntry) → In e entries → HasPlaces t.entries (level_with t from to) e.number e.key
 
--- there is room for all that another track has
+-- There is room for all that another track has: a place at the level for each of its entries, and one where it is read for
+-- each late entry, whatever level is reached with them, since no number is past the greatest of a commit.
 pub record HaveRooms (t : Track) (other : Track) : Type 0 where
   pub ranges : HaveRoom other.taken.ends t.taken.ends
+  pub promoted : IsRoomyTo 4294967295 t.entries
   pub places : (e : Entry) → Holds other.entries e → HasPlaces t.entries (level_of t) e.number e.key

@@ -2,7 +2,7 @@
 ghost use Rattle.std.specs.Prelude.{◌≡◌, ◌<◌, ◌≤◌, ◌++◌, ℕ, List, map, cond, OnOk, OnErr, IfOk, IfSome, IfNone, Some, None};
 ghost use Rattle.pmg_value.specs.Spelling.{spelling};
 ghost use Rattle.pmg_commit.specs.Entries.{Entry, best_of_two};
-ghost use Rattle.pmg_lane.specs.Entries.{read_at, late_at, late_list, late_cmp, read_entry, late_entry, beats, exceeds, IsReadIn, IsLateIn, Holds, HoldAlike, PlacesStay, HasPlaces, ReadsWithin, IsRoomy, LateFrom, LatePast, Settles, NoneLeft};
+ghost use Rattle.pmg_lane.specs.Entries.{read_at, late_at, late_list, late_cmp, read_entry, late_entry, beats, exceeds, IsReadIn, IsLateIn, Holds, HoldAlike, PlacesStay, HasPlaces, ReadsWithin, IsRoomyTo, LateFrom, LatePast, Settles, NoneLeft};
 ghost use Rattle.pmg_lane.specs.Places.{placed, there_at, HasPlace};
 ghost use Rattle.pmg_lane.specs.Readings.{seen_entry};
 ghost use Rattle.std.specs.Option.{option_map};
@@ -49,7 +49,6 @@ impl Entries {
     pub fn new(alloc: Global) -> Entries
         ensures none { (key : List ℕ) → read_at result key ≡ None }
         ensures none_late { (place : ℕ × List ℕ) → late_at result place ≡ None }
-        ensures roomy { IsRoomy result }
     {
         Entries {
             reads: BTreeMap::new(alloc),
@@ -105,41 +104,44 @@ impl Entries {
 
     /// Makes a place where an entry of the key will be read.
     fn make_read_place(&mut self, key: &Key) -> Result<(), AllocError>
-        requires { IsRoomy self.old }
         ensures same { HoldAlike self.old self.new }
         ensures place { OnOk result (HasPlace (slice_cmp nat_cmp) self.new.reads key.now) }
         ensures stay { PlacesStay self.old self.new }
-        ensures roomy { IsRoomy self.new }
     {
         make_place(&mut self.reads, key)
     }
 
-    /// Makes a late place for an entry of that number and key, which has a place where it will be read.
+    /// Makes a late place for an entry of that number and key.
     fn make_late_place(&mut self, number: u64, key: &Key) -> Result<(), AllocError>
-        requires roomy { IsRoomy self.old }
-        requires place { HasPlace (slice_cmp nat_cmp) self.old.reads key.now }
         ensures same { HoldAlike self.old self.new }
         ensures place { OnOk result (HasPlace late_cmp self.new.late (number, key.now)) }
         ensures stay { PlacesStay self.old self.new }
-        ensures roomy { IsRoomy self.new }
     {
         put_place(&mut self.late, (number, key.copy()?))
     }
 
-    /// Makes a place for an entry of that number and key: where it will be read and, past the number that will be
-    /// reached, a late one.
-    pub fn make_place(&mut self, reach: u64, number: u64, key: &Key) -> Result<(), AllocError>
-        requires { IsRoomy self.old }
+    /// Makes a place for an entry of that number and key: where it is read, or, past the level, a late one.
+    pub fn make_place(&mut self, level: u64, number: u64, key: &Key) -> Result<(), AllocError>
         ensures same { HoldAlike self.old self.new }
-        ensures place { OnOk result (HasPlaces self.new reach number key.now) }
+        ensures place { OnOk result (HasPlaces self.new level number key.now) }
         ensures stay { PlacesStay self.old self.new }
-        ensures roomy { IsRoomy self.new }
     {
-        self.make_read_place(key)?;
-        if number > reach {
-            self.make_late_place(number, key)?;
+        if number > level {
+            self.make_late_place(number, key)
+        } else {
+            self.make_read_place(key)
         }
-        Ok(())
+    }
+
+    /// Makes a place for each late entry up to the level where it will be read. It takes time in proportion to their
+    /// number, and to the logarithm of what is held.
+    pub fn make_promoted_places(&mut self, level: u64) -> Result<(), AllocError>
+        ensures same { HoldAlike self.old self.new }
+        ensures room { OnOk result (IsRoomyTo level self.new) }
+        ensures stay { PlacesStay self.old self.new }
+        ensures late { self.new.late ≡ self.old.late }
+    {
+        make_reached_places(&mut self.reads, &self.late, level)
     }
 
     /// Puts the entry under its key, where it will be read, unless a later one is there.
@@ -147,13 +149,11 @@ impl Entries {
         requires place { HasPlace (slice_cmp nat_cmp) self.old.reads key }
         requires reached { number ≤ level }
         requires within { ReadsWithin level self.old }
-        requires roomy { IsRoomy self.old }
         ensures settles { let entry = read_entry key (record { number = number; value = value }) in
             Settles level self.old (λ e. e ≡ entry) self.new NoneLeft }
         ensures within { ReadsWithin level self.new }
         ensures late { self.new.late ≡ self.old.late }
         ensures stay { PlacesStay self.old self.new }
-        ensures roomy { IsRoomy self.new }
     {
         match self.reads.get_mut(&key) {
             Some(there) => {
@@ -169,13 +169,11 @@ impl Entries {
     fn put_late(&mut self, level: u64, key: Key, number: u64, value: Value)
         requires place { HasPlace late_cmp self.old.late (number, key) }
         requires past { level < number }
-        requires roomy { IsRoomy self.old }
         ensures settles { let entry = late_entry (number, key) value in
             Settles level self.old (λ e. e ≡ entry) self.new NoneLeft }
         ensures reads { self.new.reads ≡ self.old.reads }
         ensures late { LateFrom level self.old self.new }
         ensures stay { PlacesStay self.old self.new }
-        ensures roomy { IsRoomy self.new }
     {
         match self.late.get_mut(&(number, key)) {
             Some(there) => {
@@ -191,13 +189,11 @@ impl Entries {
     pub fn put(&mut self, level: u64, key: Key, number: u64, value: Value)
         requires places { HasPlaces self.old level number key }
         requires within { ReadsWithin level self.old }
-        requires roomy { IsRoomy self.old }
         ensures settles { let entry = late_entry (number, key) value in
             Settles level self.old (λ e. e ≡ entry) self.new NoneLeft }
         ensures within { ReadsWithin level self.new }
         ensures late { LateFrom level self.old self.new }
         ensures stay { PlacesStay self.old self.new }
-        ensures roomy { IsRoomy self.new }
     {
         if number <= level {
             self.put_read(level, key, number, value);
@@ -207,15 +203,13 @@ impl Entries {
     }
 
     /// Makes places for the entries.
-    pub fn make_places(&mut self, reach: u64, entries: &[PieceEntry]) -> Result<(), AllocError>
-        requires { IsRoomy self.old }
+    pub fn make_places(&mut self, level: u64, entries: &[PieceEntry]) -> Result<(), AllocError>
         ensures same { HoldAlike self.old self.new }
-        ensures places { OnOk result ((e : PieceEntry) → In e entries.now → HasPlaces self.new reach e.number e.key) }
+        ensures places { OnOk result ((e : PieceEntry) → In e entries.now → HasPlaces self.new level e.number e.key) }
         ensures stay { PlacesStay self.old self.new }
-        ensures roomy { IsRoomy self.new }
     {
         for entry in entries {
-            self.make_place(reach, entry.number, &entry.key)?;
+            self.make_place(level, entry.number, &entry.key)?;
         }
         Ok(())
     }
@@ -224,11 +218,9 @@ impl Entries {
     pub fn put_all(&mut self, level: u64, entries: Vec<PieceEntry>)
         requires places { (e : PieceEntry) → In e entries.items → HasPlaces self.old level e.number e.key }
         requires within { ReadsWithin level self.old }
-        requires roomy { IsRoomy self.old }
         ensures settles { Settles level self.old (λ e. In e (map entry_of entries.items)) self.new NoneLeft }
         ensures within { ReadsWithin level self.new }
         ensures late { LateFrom level self.old self.new }
-        ensures roomy { IsRoomy self.new }
     {
         for entry in entries {
             let PieceEntry { key, number, value } = entry;
@@ -257,12 +249,11 @@ impl Entries {
     /// Puts the late entries whose numbers are no greater than the level where they are read.
     pub fn promote(&mut self, level: u64)
         requires within { ReadsWithin level self.old }
-        requires roomy { IsRoomy self.old }
+        requires roomy { IsRoomyTo level self.old }
         ensures settles { Settles level self.old NoneLeft self.new NoneLeft }
         ensures within { ReadsWithin level self.new }
         ensures past { LatePast level self.new }
         ensures stay { (n : ℕ) (key : List ℕ) → HasPlaces self.old level n key → HasPlaces self.new level n key }
-        ensures roomy { IsRoomy self.new }
     {
         while let Some((place, value)) = self.pop_reached(level) {
             if let Some(value) = value {
@@ -274,18 +265,16 @@ impl Entries {
     /// Makes places for what is read in another tree.
     fn make_read_places(
         &mut self,
-        reach: u64,
+        level: u64,
         reads: &BTreeMap<Key, Option<Stamp>, Global>,
     ) -> Result<(), AllocError>
-        requires { IsRoomy self.old }
         ensures same { HoldAlike self.old self.new }
-        ensures places { OnOk result ((e : Entry) → IsReadIn reads.now e → HasPlaces self.new reach e.number e.key) }
+        ensures places { OnOk result ((e : Entry) → IsReadIn reads.now e → HasPlaces self.new level e.number e.key) }
         ensures stay { PlacesStay self.old self.new }
-        ensures roomy { IsRoomy self.new }
     {
         for (key, place) in reads.iter() {
             if let Some(there) = place {
-                self.make_place(reach, there.number, key)?;
+                self.make_place(level, there.number, key)?;
             }
         }
         Ok(())
@@ -294,33 +283,29 @@ impl Entries {
     /// Makes places for the late entries of another tree.
     fn make_late_places(
         &mut self,
-        reach: u64,
+        level: u64,
         late: &BTreeMap<(u64, Key), Option<Value>, Global>,
     ) -> Result<(), AllocError>
-        requires { IsRoomy self.old }
         ensures same { HoldAlike self.old self.new }
-        ensures places { OnOk result ((e : Entry) → IsLateIn late.now e → HasPlaces self.new reach e.number e.key) }
+        ensures places { OnOk result ((e : Entry) → IsLateIn late.now e → HasPlaces self.new level e.number e.key) }
         ensures stay { PlacesStay self.old self.new }
-        ensures roomy { IsRoomy self.new }
     {
         for (place, there) in late.iter() {
             if there.is_some() {
-                self.make_place(reach, place.0, &place.1)?;
+                self.make_place(level, place.0, &place.1)?;
             }
         }
         Ok(())
     }
 
     /// Makes places for the other entries.
-    pub fn make_places_of(&mut self, reach: u64, other: &Entries) -> Result<(), AllocError>
-        requires { IsRoomy self.old }
+    pub fn make_places_of(&mut self, level: u64, other: &Entries) -> Result<(), AllocError>
         ensures same { HoldAlike self.old self.new }
-        ensures places { OnOk result ((e : Entry) → Holds other.now e → HasPlaces self.new reach e.number e.key) }
+        ensures places { OnOk result ((e : Entry) → Holds other.now e → HasPlaces self.new level e.number e.key) }
         ensures stay { PlacesStay self.old self.new }
-        ensures roomy { IsRoomy self.new }
     {
-        self.make_read_places(reach, &other.reads)?;
-        self.make_late_places(reach, &other.late)?;
+        self.make_read_places(level, &other.reads)?;
+        self.make_late_places(level, &other.late)?;
         Ok(())
     }
 
@@ -328,12 +313,10 @@ impl Entries {
     fn put_reads(&mut self, level: u64, mut reads: BTreeMap<Key, Option<Stamp>, Global>)
         requires places { (e : Entry) → IsReadIn reads e → HasPlaces self.old level e.number e.key }
         requires within { ReadsWithin level self.old }
-        requires roomy { IsRoomy self.old }
         ensures settles { Settles level self.old (IsReadIn reads) self.new NoneLeft }
         ensures within { ReadsWithin level self.new }
         ensures late { LateFrom level self.old self.new }
         ensures stay { PlacesStay self.old self.new }
-        ensures roomy { IsRoomy self.new }
     {
         while let Some((key, place)) = pop_place(&mut reads) {
             if let Some(there) = place {
@@ -346,12 +329,10 @@ impl Entries {
     fn put_lates(&mut self, level: u64, mut late: BTreeMap<(u64, Key), Option<Value>, Global>)
         requires places { (e : Entry) → IsLateIn late e → HasPlaces self.old level e.number e.key }
         requires within { ReadsWithin level self.old }
-        requires roomy { IsRoomy self.old }
         ensures settles { Settles level self.old (IsLateIn late) self.new NoneLeft }
         ensures within { ReadsWithin level self.new }
         ensures late { LateFrom level self.old self.new }
         ensures stay { PlacesStay self.old self.new }
-        ensures roomy { IsRoomy self.new }
     {
         while let Some((place, there)) = pop_place(&mut late) {
             if let Some(value) = there {
@@ -364,11 +345,9 @@ impl Entries {
     pub fn put_others(&mut self, level: u64, other: Entries)
         requires places { (e : Entry) → Holds other e → HasPlaces self.old level e.number e.key }
         requires within { ReadsWithin level self.old }
-        requires roomy { IsRoomy self.old }
         ensures settles { Settles level self.old (Holds other) self.new NoneLeft }
         ensures within { ReadsWithin level self.new }
         ensures late { LateFrom level self.old self.new }
-        ensures roomy { IsRoomy self.new }
     {
         let Entries { reads, late } = other;
         self.put_reads(level, reads);
@@ -384,14 +363,33 @@ impl Entries {
 
     /// A copy, equal to these entries.
     pub fn copy(&self, alloc: Global) -> Result<Entries, AllocError>
-        ensures same { IfOk result (λ copy. HoldAlike self.now copy) }
-        ensures roomy { IfOk result (λ copy. IsRoomy self.now → IsRoomy copy) }
+        ensures { IfOk result (λ copy. HoldAlike self.now copy) }
     {
         Ok(Entries {
             reads: copy_rows(alloc, &self.reads)?,
             late: copy_rows(alloc, &self.late)?,
         })
     }
+}
+
+/// Makes a place for the key of each late place up to the level.
+fn make_reached_places(
+    reads: &mut BTreeMap<Key, Option<Stamp>, Global>,
+    late: &BTreeMap<(u64, Key), Option<Value>, Global>,
+    level: u64,
+) -> Result<(), AllocError>
+    ensures same { (q : List ℕ) → there_at (slice_cmp nat_cmp) reads.new q ≡ there_at (slice_cmp nat_cmp) reads.old q }
+    ensures places { OnOk result ((q : ℕ × List ℕ) → HasPlace late_cmp late.now q → q.0 ≤ level
+        → HasPlace (slice_cmp nat_cmp) reads.new q.1) }
+    ensures stay { (q : List ℕ) → HasPlace (slice_cmp nat_cmp) reads.old q → HasPlace (slice_cmp nat_cmp) reads.new q }
+{
+    for (place, _) in late.iter() {
+        if level < place.0 {
+            return Ok(());
+        }
+        make_place(reads, &place.1)?;
+    }
+    Ok(())
 }
 
 /// Whether an entry of that number and value is later than the one in the place, if there is one.

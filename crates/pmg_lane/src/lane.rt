@@ -45,8 +45,8 @@ impl Lane {
     }
 
     /// Takes the piece, which is one of the process. It may come in any order, leave gaps, and say again what is
-    /// known. It takes time in proportion to its entries, and to the logarithm of what is held. Where memory is
-    /// wanting, the lane stays as it is.
+    /// known. It takes time in proportion to its entries and to the late entries that are read then, and to the logarithm
+    /// of what is held. Where memory is wanting, the lane stays as it is.
     pub fn absorb(&mut self, piece: &Piece) -> Result<(), AllocError>
         ensures ok { OnOk result (self.new ≡ join_cores self.old (core_of (knowledge_of piece.now))) }
         ensures err { OnErr result (self.new ≡ self.old) }

@@ -6,7 +6,7 @@ ghost use Rattle.pmg_value.specs.Spelling.{spelling};
 ghost use Rattle.pmg_commit.specs.Pieces.{entry_of};
 ghost use Rattle.pmg_commit.specs.Levels.{level};
 ghost use Rattle.pmg_commit.specs.Knowledge.{nothing, union, core, read, numbers_between};
-ghost use Rattle.pmg_lane.specs.Lanes.{known_by, level_of, told, reach_with, IsTrack, HasRoom, HaveRooms};
+ghost use Rattle.pmg_lane.specs.Lanes.{known_by, level_of, told, IsTrack, HasRoom, HaveRooms};
 
 use crate::entries::{Entries, Stamp};
 use crate::readings::best_with;
@@ -94,16 +94,7 @@ impl Track {
         }
     }
 
-    /// Up to where entries are read once the commits from+1 to to are taken too.
-    fn reach_with(&self, from: u64, to: u64) -> u64
-        requires { IsTrack self.now }
-        ensures { result ≡ reach_with self.now from to }
-    {
-        let level = self.level();
-        if from <= level { to } else { level }
-    }
-
-    /// Makes room for the commits from+1 to to and their entries.
+    /// Makes room for the commits from+1 to to and their entries, and for the late entries that are read then.
     pub fn make_room(
         &mut self,
         from: u64,
@@ -115,8 +106,9 @@ impl Track {
         ensures same { known_by self.new ≡ known_by self.old }
         ensures room { OnOk result (HasRoom self.new from to entries.now) }
     {
-        let reach = self.reach_with(from, to);
-        self.entries.make_places(reach, entries)?;
+        let level = self.taken.level_with(from, to);
+        self.entries.make_places(level, entries)?;
+        self.entries.make_promoted_places(level)?;
         self.taken.make_room(from)?;
         Ok(())
     }
@@ -161,6 +153,7 @@ impl Track {
     {
         let level = self.level();
         self.entries.make_places_of(level, &other.entries)?;
+        self.entries.make_promoted_places(u64::from(u32::MAX))?;
         self.taken.make_rooms(&other.taken)?;
         Ok(())
     }

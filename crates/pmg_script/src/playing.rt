@@ -62,11 +62,11 @@ fn failure_of(fault: LineFault, offset: usize) -> Failure
     }
 }
 
-/// Does the next line, which begins at this byte of the script, and writes its reply.
+/// Does the next line, which begins at this byte of the script, and writes its reply. The line is read into this list.
 fn turn<P: Player, R: Read, W: Write>(
-    alloc: Global,
     reader: &mut WatchedReader<R>,
     offset: &mut usize,
+    line: &mut Vec<u8>,
     player: &mut P,
     writer: &mut WatchedWriter<W>,
 ) -> Result<Option<Ended>, Failure>
@@ -78,12 +78,12 @@ fn turn<P: Player, R: Read, W: Write>(
     ensures read_fault { IfErr result (λ e. e ≡ failures.Read → IsSome reader.new.failure) }
     ensures write_fault { IfErr result (λ e. e ≡ failures.Write → IsSome writer.new.failure) }
 {
-    let mut line = Vec::new(alloc);
-    let is_ended = next_line(reader, *offset, &mut line)?;
+    line.clear();
+    let is_ended = next_line(reader, *offset, line)?;
     if line.is_empty() {
         return Ok(Some(Ended::AtEnd));
     }
-    let reply = match player.play(content(&line)) {
+    let reply = match player.play(content(line)) {
         Ok(reply) => reply,
         Err(fault) => return Err(failure_of(fault, *offset)),
     };
@@ -115,8 +115,9 @@ pub fn play_script<P: Player, R: Read, W: Write>(
     ensures write_fault { IfErr result (λ e. e ≡ failures.Write → IsSome writer.new.failure) }
 {
     let mut offset = 0;
+    let mut line = Vec::new(alloc);
     for _ in 0..MOST_READS {
-        if let Some(ended) = turn(alloc, reader, &mut offset, player, writer)? {
+        if let Some(ended) = turn(reader, &mut offset, &mut line, player, writer)? {
             return Ok(ended);
         }
     }

@@ -13,6 +13,9 @@ use pmg_node::Reply;
 use pmg_value::{Proc, Refusal, Value, WatchedWriter, WriteFault, push_number};
 use std::alloc::{AllocError, Global};
 
+/// The room that a line has from its start: most lines are no longer.
+const USUAL_LEN: usize = 64;
+
 /// The line of a reply; whether a set's deletion was asked for.
 pub fn reply_line(
     alloc: Global,
@@ -82,7 +85,7 @@ fn change_text(deletes: bool) -> &'static [u8]
 fn line_of(alloc: Global, text: &[u8]) -> Result<Vec<u8>, AllocError>
     ensures { IfOk result (λ line. line.items ≡ text.now) }
 {
-    let mut line = Vec::new(alloc);
+    let mut line = Vec::with_capacity(alloc, USUAL_LEN)?;
     line.extend_from_slice(text)?;
     Ok(line)
 }

@@ -4,12 +4,17 @@ use Rattle.std.proofs.lemmas.Result.{err_from_is_err_and}
 use Rattle.pmg_value.specs.Written.{AppendsFront}
 use Rattle.pmg_script.specs.Lines.{content}
 use Rattle.pmg_script.specs.Reading.{NextLine}
-use Rattle.pmg_script.proofs.ReplayLemmas.{going_on, ends_empty, ends_last, ends_over, ends_undone, ends_unwritten}
+use Rattle.pmg_script.proofs.ReplayLemmas.{going_on, ends_empty, ends_last, ends_over, ends_undone, ends_unread, ends_unwritten}
 use Rattle.pmg_script.proofs.playing.turn.Goals as goal
 
 nothing : (line : List ℕ) → length line ≡ 0 → line ≡ []
 nothing [] none = refl
 nothing (b ∷ bs) none = absurd (omega (arith, none))
+
+pub returns-in_err-is_ended-clause-turned : goal.returns-in_err-is_ended-clause-turned
+returns-in_err-is_ended-clause-turned g c start text first going =
+    let err = err_from_is_err_and c.from_residual.result c.from_residual.ensures.1 in
+    rw (err.1, err.2) (ends_unread g.P.Player.plays g.P.Player.stops g.P.Player.over start text (g.R.Read.remaining c.args.reader.now.reader) (g.R.Read.remaining c.next_line.new.reader.reader) first (g.W.Write.contents c.args.writer.now.writer) c.args.player.now c.args.offset.now c.next_line.new.line.items c.in_err-is_ended.field-0.0 going c.in_err-is_ended.ensures.line)
 
 pub returns-then-is_empty-clause-turned : goal.returns-then-is_empty-clause-turned
 returns-then-is_empty-clause-turned g c start text first going =

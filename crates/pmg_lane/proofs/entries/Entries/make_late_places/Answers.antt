@@ -12,7 +12,6 @@ loop-place-init c =
     record {
       same = alike_itself a;
       stay = places_itself a;
-      roomy = c.requires;
       places = λ e h. inl (subst (λ xs. In e (made_of late_entry xs)) (sym (c.into_iter-place-iterator.ensures.into_iter_gives ∙ c.iter-place-items.ensures.rest))
           (placed_found exact_late late_entry c.args.late.now.entries (e.number, e.key) e h));
     }

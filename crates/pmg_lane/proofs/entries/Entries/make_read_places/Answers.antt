@@ -13,7 +13,6 @@ loop-key-init c =
     record {
       same = alike_itself a;
       stay = places_itself a;
-      roomy = c.requires;
       places = λ e h. inl (subst (λ xs. In e (made_of read_entry xs)) (sym (c.into_iter-key-iterator.ensures.into_iter_gives ∙ c.iter-key-items.ensures.rest))
           (placed_found exact_bytes read_entry c.args.reads.now.entries e.key e h));
     }

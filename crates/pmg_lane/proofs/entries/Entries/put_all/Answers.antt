@@ -3,6 +3,7 @@ use Rattle.std.specs.Vec.Iter.{into_iter_items}
 use Rattle.pmg_value.specs.Lists.{In}
 use Rattle.pmg_commit.specs.Pieces.{entry_of}
 use Rattle.pmg_lane.proofs.Settling.{settles_next, late_trans, in_map, map_step, in_first, in_rest}
+use Rattle.pmg_lane.proofs.Moving.{has_stays}
 use Rattle.pmg_lane.proofs.entries.Entries.put_all.Goals as goal
 
 pub loop-entry-preserved : goal.loop-entry-preserved
@@ -15,13 +16,10 @@ loop-entry-preserved c =
     let entry = c.in-Some.entry in
     let step = c.in-Some.ensures.steps.0 in (
       settles_next level c.args.self.now a b (entry_of entry) _ _ (λ e. In e (map entry_of (into_iter_items c.next.new.self))) inv.0 put.settles
-          (in_map entry_of c.args.entries.items entry (inv.5 entry (in_first entry _ _ step)))
+          (in_map entry_of c.args.entries.items entry (inv.4 entry (in_first entry _ _ step)))
           (λ e i. map_step entry_of entry _ _ e step i),
       put.within,
       late_trans level c.args.self.now a b inv.2 put.late,
-      put.roomy,
-      λ e i.
-          let there = inv.4 e (in_rest e entry _ _ step i) in
-          (put.stay.0 e.key there.0, λ past. put.stay.1 (e.number, e.key) (there.1 past)),
-      λ e i. inv.5 e (in_rest e entry _ _ step i),
+      λ e i. has_stays a b level e.number e.key put.stay (inv.3 e (in_rest e entry _ _ step i)),
+      λ e i. inv.4 e (in_rest e entry _ _ step i),
     )

@@ -5,7 +5,7 @@ use Rattle.pmg_value.specs.Spelling.{spelling}
 use Rattle.pmg_lane.specs.Places.{placed}
 use Rattle.pmg_lane.specs.Entries.{late_entry, exceeds}
 use Rattle.pmg_lane.specs.declared.entries.Entries.{Entries}
-use Rattle.pmg_lane.proofs.Settling.{exact_late, late_settles, late_from, late_kept, roomy_same, alike_late, settles_alike, late_alike, filled_at, left_at, filled_stay, filled_no_more}
+use Rattle.pmg_lane.proofs.Settling.{exact_late, late_settles, late_from, late_kept, alike_late, settles_alike, late_alike, filled_at, left_at, filled_stay}
 use Rattle.pmg_lane.proofs.entries.Entries.put_late.Goals as goal
 
 pub returns-then-is_greater-clause-settles : goal.returns-then-is_greater-clause-settles
@@ -32,15 +32,6 @@ returns-then-is_greater-clause-stay c =
     let v = c.args.value in
     let put = ((c.get_mut.follows.holds (Some v)).3 (ap is_some (sym c.in-Some.ensures.value))).0 in
     (λ key has. has, filled_stay c.args.self.now.late (c.get_mut.follows.lender (Some v)) (c.args.number, c.args.key) c.in-Some.there.now (Some v) c.in-Some.ensures.value exact_late put)
-
-pub returns-then-is_greater-clause-roomy : goal.returns-then-is_greater-clause-roomy
-returns-then-is_greater-clause-roomy c =
-    let a = c.args.self.now in
-    let v = c.args.value in
-    let tree = c.get_mut.follows.lender (Some v) in
-    let put = ((c.get_mut.follows.holds (Some v)).3 (ap is_some (sym c.in-Some.ensures.value))).0 in
-    roomy_same a (record { reads = a.reads; late = tree }) refl
-    (filled_no_more a.late tree (c.args.number, c.args.key) c.in-Some.there.now (Some v) c.in-Some.ensures.value exact_late put) c.requires.roomy
 
 pub returns-else-is_greater-clause-settles : goal.returns-else-is_greater-clause-settles
 returns-else-is_greater-clause-settles c =
@@ -69,12 +60,3 @@ returns-else-is_greater-clause-stay c =
     let there = c.in-Some.there.now in
     let put = ((c.get_mut.follows.holds there).3 (ap is_some (sym c.in-Some.ensures.value))).0 in
     (λ key has. has, filled_stay c.args.self.now.late (c.get_mut.follows.lender there) (c.args.number, c.args.key) there there c.in-Some.ensures.value exact_late put)
-
-pub returns-else-is_greater-clause-roomy : goal.returns-else-is_greater-clause-roomy
-returns-else-is_greater-clause-roomy c =
-    let a = c.args.self.now in
-    let there = c.in-Some.there.now in
-    let tree = c.get_mut.follows.lender there in
-    let put = ((c.get_mut.follows.holds there).3 (ap is_some (sym c.in-Some.ensures.value))).0 in
-    roomy_same a (record { reads = a.reads; late = tree }) refl
-    (filled_no_more a.late tree (c.args.number, c.args.key) there there c.in-Some.ensures.value exact_late put) c.requires.roomy

@@ -27,7 +27,6 @@ loop-place-preserved-in-Some-there c =
       within = put.within;
       late = late_trans level c.args.self.now a b inv.late put.late;
       stay = places_trans c.args.self.now a b inv.stay put.stay;
-      roomy = put.roomy;
       places = λ e h. has_stays a b level e.number e.key put.stay (inv.places e (was _ e h));
       left = λ e h. inv.left e (was _ e h);
     }
@@ -45,7 +44,6 @@ loop-place-preserved-in_default-there c =
       within = inv.within;
       late = inv.late;
       stay = inv.stay;
-      roomy = inv.roomy;
       places = λ e h. inv.places e (was _ e h);
       left = λ e h. inv.left e (was _ e h);
     }
@@ -63,7 +61,6 @@ loop-place-preserved c =
       within = inv.within;
       late = inv.late;
       stay = inv.stay;
-      roomy = inv.roomy;
       places = λ e h. inv.places e (was _ e h);
       left = λ e h. inv.left e (was _ e h);
     }

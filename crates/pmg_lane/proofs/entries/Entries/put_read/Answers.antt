@@ -6,7 +6,7 @@ use Rattle.pmg_lane.specs.Places.{placed}
 use Rattle.pmg_lane.specs.Entries.{read_entry, beats}
 use Rattle.pmg_lane.specs.declared.entries.Entries.{Entries}
 use Rattle.pmg_lane.specs.declared.entries.Stamp.{Stamp}
-use Rattle.pmg_lane.proofs.Settling.{read_settles, read_within, read_kept, roomy_reads, alike_reads, settles_alike, within_alike, filled_at, left_at, filled_stay}
+use Rattle.pmg_lane.proofs.Settling.{read_settles, read_within, read_kept, alike_reads, settles_alike, within_alike, filled_at, left_at, filled_stay}
 use Rattle.pmg_lane.proofs.entries.Entries.put_read.Goals as goal
 
 pub returns-then-is_newer-clause-settles : goal.returns-then-is_newer-clause-settles
@@ -35,14 +35,6 @@ returns-then-is_newer-clause-stay c =
     let put = ((c.get_mut.follows.holds (Some s)).3 (ap is_some (sym c.in-Some.ensures.value))).0 in
     (filled_stay c.args.self.now.reads (c.get_mut.follows.lender (Some s)) c.args.key c.in-Some.there.now (Some s) c.in-Some.ensures.value exact_bytes put, λ place has. has)
 
-pub returns-then-is_newer-clause-roomy : goal.returns-then-is_newer-clause-roomy
-returns-then-is_newer-clause-roomy c =
-    let a = c.args.self.now in
-    let s : Stamp = record { number = c.args.number; value = c.args.value } in
-    let tree = c.get_mut.follows.lender (Some s) in
-    let put = ((c.get_mut.follows.holds (Some s)).3 (ap is_some (sym c.in-Some.ensures.value))).0 in
-    roomy_reads a (record { reads = tree; late = a.late }) (filled_stay a.reads tree c.args.key c.in-Some.there.now (Some s) c.in-Some.ensures.value exact_bytes put) refl c.requires.roomy
-
 pub returns-in-Some-clause-settles : goal.returns-in-Some-clause-settles
 returns-in-Some-clause-settles c =
     let a = c.args.self.now in
@@ -70,11 +62,3 @@ returns-in-Some-clause-stay c =
     let there = c.in-Some.there.now in
     let put = ((c.get_mut.follows.holds there).3 (ap is_some (sym c.in-Some.ensures.value))).0 in
     (filled_stay c.args.self.now.reads (c.get_mut.follows.lender there) c.args.key there there c.in-Some.ensures.value exact_bytes put, λ place has. has)
-
-pub returns-in-Some-clause-roomy : goal.returns-in-Some-clause-roomy
-returns-in-Some-clause-roomy c =
-    let a = c.args.self.now in
-    let there = c.in-Some.there.now in
-    let tree = c.get_mut.follows.lender there in
-    let put = ((c.get_mut.follows.holds there).3 (ap is_some (sym c.in-Some.ensures.value))).0 in
-    roomy_reads a (record { reads = tree; late = a.late }) (filled_stay a.reads tree c.args.key there there c.in-Some.ensures.value exact_bytes put) refl c.requires.roomy

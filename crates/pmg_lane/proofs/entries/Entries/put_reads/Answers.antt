@@ -28,7 +28,6 @@ loop-key-preserved-in-Some-place c =
       within = put.within;
       late = late_trans level c.args.self.now a b inv.late put.late;
       stay = places_trans c.args.self.now a b inv.stay put.stay;
-      roomy = put.roomy;
       places = λ e h. has_stays a b level e.number e.key put.stay (inv.places e (was _ e h));
       left = λ e h. inv.left e (was _ e h);
     }
@@ -46,7 +45,6 @@ loop-key-preserved-in_default-place c =
       within = inv.within;
       late = inv.late;
       stay = inv.stay;
-      roomy = inv.roomy;
       places = λ e h. inv.places e (was _ e h);
       left = λ e h. inv.left e (was _ e h);
     }
@@ -64,7 +62,6 @@ loop-key-preserved c =
       within = inv.within;
       late = inv.late;
       stay = inv.stay;
-      roomy = inv.roomy;
       places = λ e h. inv.places e (was _ e h);
       left = λ e h. inv.left e (was _ e h);
     }

@@ -6,10 +6,10 @@ pub returns-clause-kept : goal.returns-clause-kept
 returns-clause-kept c =
     let t = c.args.self.now in
     let u : Track = record { taken = c.in_ok-copy.field-0; entries = c.in_ok-copy-2.field-0 } in
-    copied_track t u c.in_ok-copy.ensures c.in_ok-copy-2.ensures.same (c.in_ok-copy-2.ensures.roomy c.requires.roomy) c.requires
+    copied_track t u c.in_ok-copy.ensures c.in_ok-copy-2.ensures c.requires
 
 pub returns-clause-same : goal.returns-clause-same
 returns-clause-same c =
     let t = c.args.self.now in
     let u : Track = record { taken = c.in_ok-copy.field-0; entries = c.in_ok-copy-2.field-0 } in
-    copied_known t u c.in_ok-copy.ensures c.in_ok-copy-2.ensures.same
+    copied_known t u c.in_ok-copy.ensures c.in_ok-copy-2.ensures

@@ -1,7 +1,9 @@
-use Rattle.std.proofs.Common.{refl, sym, subst}
+use Rattle.std.proofs.Common.{refl, sym, subst, ◌∙◌}
 use Rattle.pmg_join.proofs.RangeSteps.{lie_in_itself}
-use Rattle.pmg_lane.specs.Entries.{HasPlaces}
+use Rattle.pmg_lane.specs.Entries.{IsRoomyTo, HasPlaces}
 use Rattle.pmg_lane.specs.declared.track.Track.{Track}
+use Rattle.pmg_lane.proofs.Settling.{alike_trans}
+use Rattle.pmg_lane.proofs.Moving.{has_stays}
 use Rattle.pmg_lane.proofs.Tracking.{roomy_track, roomy_known, roomy_level}
 use Rattle.pmg_lane.proofs.track.Track.make_rooms.Goals as goal
 
@@ -9,7 +11,7 @@ pub returns-in_err-make_places_of-clause-kept : goal.returns-in_err-make_places_
 returns-in_err-make_places_of-clause-kept c =
     let t = c.args.self.now in
     let u : Track = record { taken = t.taken; entries = c.make_places_of.new.self } in
-    roomy_track t u (lie_in_itself t.taken.ends t.taken.ends (λ q. refl)) (λ n h. h) c.in_err-make_places_of.ensures.same c.requires.apart c.in_err-make_places_of.ensures.roomy c.requires
+    roomy_track t u (lie_in_itself t.taken.ends t.taken.ends (λ q. refl)) (λ n h. h) c.in_err-make_places_of.ensures.same c.requires.apart c.requires
 
 pub returns-in_err-make_places_of-clause-same : goal.returns-in_err-make_places_of-clause-same
 returns-in_err-make_places_of-clause-same c =
@@ -17,42 +19,63 @@ returns-in_err-make_places_of-clause-same c =
     let u : Track = record { taken = t.taken; entries = c.make_places_of.new.self } in
     roomy_known t u (lie_in_itself t.taken.ends t.taken.ends (λ q. refl)) (λ n h. h) c.in_err-make_places_of.ensures.same
 
+pub returns-in_err-make_promoted_places-clause-kept : goal.returns-in_err-make_promoted_places-clause-kept
+returns-in_err-make_promoted_places-clause-kept c =
+    let t = c.args.self.now in
+    let u : Track = record { taken = t.taken; entries = c.make_promoted_places.new.self } in
+    roomy_track t u (lie_in_itself t.taken.ends t.taken.ends (λ q. refl)) (λ n h. h)
+    (alike_trans t.entries c.make_places_of.new.self u.entries c.in_ok-make_places_of.ensures.same c.in_err-make_promoted_places.ensures.same) c.requires.apart c.requires
+
+pub returns-in_err-make_promoted_places-clause-same : goal.returns-in_err-make_promoted_places-clause-same
+returns-in_err-make_promoted_places-clause-same c =
+    let t = c.args.self.now in
+    let u : Track = record { taken = t.taken; entries = c.make_promoted_places.new.self } in
+    roomy_known t u (lie_in_itself t.taken.ends t.taken.ends (λ q. refl)) (λ n h. h)
+    (alike_trans t.entries c.make_places_of.new.self u.entries c.in_ok-make_places_of.ensures.same c.in_err-make_promoted_places.ensures.same)
+
 pub returns-in_err-make_rooms-clause-kept : goal.returns-in_err-make_rooms-clause-kept
 returns-in_err-make_rooms-clause-kept c =
     let t = c.args.self.now in
-    let u : Track = record { taken = c.make_rooms.new.self; entries = c.make_places_of.new.self } in
+    let u : Track = record { taken = c.make_rooms.new.self; entries = c.make_promoted_places.new.self } in
     let made = c.in_err-make_rooms.ensures in
-    roomy_track t u made.kept made.no_more c.in_ok-make_places_of.ensures.same made.apart c.in_ok-make_places_of.ensures.roomy c.requires
+    roomy_track t u made.kept made.no_more
+    (alike_trans t.entries c.make_places_of.new.self u.entries c.in_ok-make_places_of.ensures.same c.in_ok-make_promoted_places.ensures.same) made.apart c.requires
 
 pub returns-in_err-make_rooms-clause-same : goal.returns-in_err-make_rooms-clause-same
 returns-in_err-make_rooms-clause-same c =
     let t = c.args.self.now in
-    let u : Track = record { taken = c.make_rooms.new.self; entries = c.make_places_of.new.self } in
+    let u : Track = record { taken = c.make_rooms.new.self; entries = c.make_promoted_places.new.self } in
     let made = c.in_err-make_rooms.ensures in
-    roomy_known t u made.kept made.no_more c.in_ok-make_places_of.ensures.same
+    roomy_known t u made.kept made.no_more
+    (alike_trans t.entries c.make_places_of.new.self u.entries c.in_ok-make_places_of.ensures.same c.in_ok-make_promoted_places.ensures.same)
 
 pub returns-clause-kept : goal.returns-clause-kept
 returns-clause-kept c =
     let t = c.args.self.now in
-    let u : Track = record { taken = c.make_rooms.new.self; entries = c.make_places_of.new.self } in
+    let u : Track = record { taken = c.make_rooms.new.self; entries = c.make_promoted_places.new.self } in
     let made = c.in_ok-make_rooms.ensures in
-    roomy_track t u made.kept made.no_more c.in_ok-make_places_of.ensures.same made.apart c.in_ok-make_places_of.ensures.roomy c.requires
+    roomy_track t u made.kept made.no_more
+    (alike_trans t.entries c.make_places_of.new.self u.entries c.in_ok-make_places_of.ensures.same c.in_ok-make_promoted_places.ensures.same) made.apart c.requires
 
 pub returns-clause-same : goal.returns-clause-same
 returns-clause-same c =
     let t = c.args.self.now in
-    let u : Track = record { taken = c.make_rooms.new.self; entries = c.make_places_of.new.self } in
+    let u : Track = record { taken = c.make_rooms.new.self; entries = c.make_promoted_places.new.self } in
     let made = c.in_ok-make_rooms.ensures in
-    roomy_known t u made.kept made.no_more c.in_ok-make_places_of.ensures.same
+    roomy_known t u made.kept made.no_more
+    (alike_trans t.entries c.make_places_of.new.self u.entries c.in_ok-make_places_of.ensures.same c.in_ok-make_promoted_places.ensures.same)
 
 pub returns-clause-room : goal.returns-clause-room
 returns-clause-room c =
     let t = c.args.self.now in
-    let u : Track = record { taken = c.make_rooms.new.self; entries = c.make_places_of.new.self } in
+    let u : Track = record { taken = c.make_rooms.new.self; entries = c.make_promoted_places.new.self } in
     let made = c.in_ok-make_rooms.ensures in
+    let alike = alike_trans t.entries c.make_places_of.new.self u.entries c.in_ok-make_places_of.ensures.same c.in_ok-make_promoted_places.ensures.same in
+    let is = c.level-level.ensures.value ∙ sym (roomy_level t u made.kept made.no_more alike) in
     record {
       ranges = made.room;
+      promoted = subst (λ n. IsRoomyTo n u.entries) c.from.ensures c.in_ok-make_promoted_places.ensures.room;
       places = λ e i.
-          subst (λ r. HasPlaces c.make_places_of.new.self r e.number e.key) (sym (roomy_level t u made.kept made.no_more c.in_ok-make_places_of.ensures.same))
-          (subst (λ r. HasPlaces c.make_places_of.new.self r e.number e.key) c.level-level.ensures.value (c.in_ok-make_places_of.ensures.places e i));
+          subst (λ n. HasPlaces u.entries n e.number e.key) is
+          (has_stays c.make_places_of.new.self u.entries c.level-level.result e.number e.key c.in_ok-make_promoted_places.ensures.stay (c.in_ok-make_places_of.ensures.places e i));
     }

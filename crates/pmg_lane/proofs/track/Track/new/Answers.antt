@@ -8,6 +8,6 @@ returns c =
     let none = c.new.ensures.none in
     let empty = c.new-2.ensures in
     record {
-      kept = none_track t c.new.ensures.apart none empty.none empty.none_late empty.roomy;
+      kept = none_track t c.new.ensures.apart none empty.none empty.none_late;
       nothing = none_known t none empty.none empty.none_late;
     }

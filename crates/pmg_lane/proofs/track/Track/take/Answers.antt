@@ -1,12 +1,11 @@
-use Rattle.std.proofs.Common.{ℕ, ◌≤◌, inl, inr, sym, subst, map, arith}
+use Rattle.std.proofs.Common.{ℕ, ◌≤◌, inl, inr, sym, ◌∙◌, subst, map, arith}
 use Rattle.pmg_join.specs.Ranges.{set_of}
 use Rattle.pmg_commit.specs.Levels.{level}
 use Rattle.pmg_commit.specs.Pieces.{entry_of}
 use Rattle.pmg_value.specs.Lists.{In}
-use Rattle.pmg_lane.specs.Entries.{ReadsWithin, LatePast, Settles, NoneLeft}
-use Rattle.pmg_lane.specs.Lanes.{reach_with}
+use Rattle.pmg_lane.specs.Entries.{HasPlaces, ReadsWithin, IsRoomyTo, LatePast, Settles, NoneLeft}
 use Rattle.pmg_lane.specs.declared.track.Track.{Track}
-use Rattle.pmg_lane.proofs.Tracking.{level_reached, level_up, level_is_of, within_up, places_up, reach_up, make_track, past_from, taken_core}
+use Rattle.pmg_lane.proofs.Tracking.{level_reached, level_up, level_is_of, within_up, filled_level, make_track, past_from, taken_core}
 use Rattle.pmg_lane.proofs.track.Track.take.Goals as goal
 
 pub promote-requires-clause-within : goal.promote-requires-clause-within
@@ -17,14 +16,22 @@ promote-requires-clause-within c =
     within_up (level (set_of t.taken.ends)) c.level-level.result t.entries (subst (λ n. level (set_of t.taken.ends) ≤ n) (sym is) (level_up t.taken.ends ends c.fill_room.ensures.kept))
     (subst (λ n. ReadsWithin n t.entries) (level_is_of t) c.requires.kept.within)
 
+pub promote-requires-clause-roomy : goal.promote-requires-clause-roomy
+promote-requires-clause-roomy c =
+    let t = c.args.self.now in
+    let ends = c.fill_room.new.self.ends in
+    let filled = c.fill_room.ensures in
+    let is = level_reached ends c.level-level.result c.level-level.ensures.reached c.level-level.ensures.no_more in
+    subst (λ n. IsRoomyTo n t.entries) (sym (is ∙ filled_level t ends c.args.from c.args.to filled.kept filled.added filled.no_more)) c.requires.room.promoted
+
 pub put_all-requires-clause-places : goal.put_all-requires-clause-places
 put_all-requires-clause-places c e i =
     let t = c.args.self.now in
     let ends = c.fill_room.new.self.ends in
-    let reach = reach_with t c.args.from c.args.to in
+    let filled = c.fill_room.ensures in
     let is = level_reached ends c.level-level.result c.level-level.ensures.reached c.level-level.ensures.no_more in
-    let up : reach ≤ c.level-level.result = subst (λ n. reach ≤ n) (sym is) (reach_up t ends c.args.from c.args.to c.fill_room.ensures.kept c.fill_room.ensures.added) in
-    c.promote.ensures.stay e.number e.key (places_up t.entries reach c.level-level.result e.number e.key up (c.requires.room.places e i))
+    c.promote.ensures.stay e.number e.key
+    (subst (λ n. HasPlaces t.entries n e.number e.key) (sym (is ∙ filled_level t ends c.args.from c.args.to filled.kept filled.added filled.no_more)) (c.requires.room.places e i))
 
 pub returns-clause-kept : goal.returns-clause-kept
 returns-clause-kept c =
@@ -37,7 +44,6 @@ returns-clause-kept c =
     make_track u filled.apart
     (subst (λ n. ReadsWithin n c.put_all.new.self) is c.put_all.ensures.within)
     (subst (λ n. LatePast n c.put_all.new.self) is past)
-    c.put_all.ensures.roomy
     (λ n h. elim (filled.no_more n h) [
       | inl a ↦ c.requires.kept.bound n a
       | inr b ↦ within_bound n c.args.to b.1 c.requires.bound

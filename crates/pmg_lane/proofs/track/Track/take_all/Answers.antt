@@ -4,7 +4,7 @@ use Rattle.pmg_commit.specs.Levels.{level}
 use Rattle.pmg_lane.specs.Entries.{ReadsWithin, LatePast, Settles, Holds, NoneLeft}
 use Rattle.pmg_lane.specs.Lanes.{level_of}
 use Rattle.pmg_lane.specs.declared.track.Track.{Track}
-use Rattle.pmg_lane.proofs.Tracking.{level_reached, level_up, level_is_of, within_up, places_up, make_track, past_from, joined_core}
+use Rattle.pmg_lane.proofs.Tracking.{level_reached, level_up, level_is_of, within_up, roomy_reached, places_up, make_track, past_from, joined_core}
 use Rattle.pmg_lane.proofs.track.Track.take_all.Goals as goal
 
 pub promote-requires-clause-within : goal.promote-requires-clause-within
@@ -15,13 +15,24 @@ promote-requires-clause-within c =
     within_up (level (set_of t.taken.ends)) c.level-level.result t.entries (subst (λ n. level (set_of t.taken.ends) ≤ n) (sym is) (level_up t.taken.ends ends c.fill_rooms.ensures.kept))
     (subst (λ n. ReadsWithin n t.entries) (level_is_of t) c.requires.kept.within)
 
+pub promote-requires-clause-roomy : goal.promote-requires-clause-roomy
+promote-requires-clause-roomy c =
+    let t = c.args.self.now in
+    let ends = c.fill_rooms.new.self.ends in
+    let is = level_reached ends c.level-level.result c.level-level.ensures.reached c.level-level.ensures.no_more in
+    roomy_reached ends c.level-level.result t.entries is
+    (λ n h. elim (c.fill_rooms.ensures.no_more n h) [ inl a ↦ c.requires.kept.bound n a | inr b ↦ c.requires.other.bound n b ]) c.requires.room.promoted
+
 pub put_others-requires-clause-places : goal.put_others-requires-clause-places
 put_others-requires-clause-places c e h =
     let t = c.args.self.now in
     let ends = c.fill_rooms.new.self.ends in
     let is = level_reached ends c.level-level.result c.level-level.ensures.reached c.level-level.ensures.no_more in
     let up : level_of t ≤ c.level-level.result = subst (λ n. level_of t ≤ n) (sym is) (subst (λ n. n ≤ level (set_of ends)) (sym (level_is_of t)) (level_up t.taken.ends ends c.fill_rooms.ensures.kept)) in
-    c.promote.ensures.stay e.number e.key (places_up t.entries (level_of t) c.level-level.result e.number e.key up (c.requires.room.places e h))
+    let roomy =
+    roomy_reached ends c.level-level.result t.entries is
+    (λ n h. elim (c.fill_rooms.ensures.no_more n h) [ inl a ↦ c.requires.kept.bound n a | inr b ↦ c.requires.other.bound n b ]) c.requires.room.promoted in
+    c.promote.ensures.stay e.number e.key (places_up t.entries (level_of t) c.level-level.result e.number e.key up roomy (c.requires.room.places e h))
 
 pub returns-clause-kept : goal.returns-clause-kept
 returns-clause-kept c =
@@ -32,7 +43,6 @@ returns-clause-kept c =
     make_track u filled.apart
     (subst (λ n. ReadsWithin n c.put_others.new.self) is c.put_others.ensures.within)
     (subst (λ n. LatePast n c.put_others.new.self) is past)
-    c.put_others.ensures.roomy
     (λ n h. elim (filled.no_more n h) [ inl a ↦ c.requires.kept.bound n a | inr b ↦ c.requires.other.bound n b ])
 
 pub returns-clause-taken : goal.returns-clause-taken

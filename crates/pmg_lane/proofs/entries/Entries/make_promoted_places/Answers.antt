@@ -1,0 +1,8 @@
+use Rattle.std.proofs.Common.{refl}
+use Rattle.pmg_lane.proofs.Settling.{alike_reads}
+use Rattle.pmg_lane.proofs.entries.Entries.make_promoted_places.Goals as goal
+
+pub returns-clause-same : goal.returns-clause-same
+returns-clause-same c =
+    let a = c.args.self.now in
+    alike_reads a (record { reads = c.make_reached_places.new.reads; late = a.late }) c.make_reached_places.ensures.same refl
