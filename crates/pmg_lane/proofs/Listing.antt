@@ -1,5 +1,5 @@
 -- What a tree of places has, in a list.
-use Rattle.std.proofs.Common.{List, [], ◌∷◌, ◌≡◌, ◌⊎◌, inl, inr, true, false, cond, refl, sym, ap, ◌∙◌, subst}
+use Rattle.std.proofs.Common.{List, [], ◌∷◌, ◌≡◌, inl, inr, true, false, cond, refl, sym, ap, ◌∙◌, subst}
 use Rattle.std.specs.Prelude.{Option, Some, None}
 use Rattle.std.specs.Option.{option_map}
 use Rattle.std.specs.Cmp.{Equal-is}
@@ -46,17 +46,3 @@ module _ {K V : Type 0} {R : K → K → Ordering} (exact : CmpEqualImpliesEq R)
       go None is h = absurd (let bad = h in cc)
       go (Some None) is h = absurd (let bad = h in cc)
       go (Some (Some v)) is h = subst (λ e. In e (made_of make es)) (some_is h) (there_made es k v is)
-
--- the first of the places has what was made for it, or is after it
-pub made_next :
-    {K V : Type 0} (make : K → V → Entry) (all rest : List (K × Option V)) (k : K) (v : V) (e : Entry) → all ≡ (k, Some v) ∷ rest → In e (made_of make all)
-    → (e ≡ make k v) ⊎ In e (made_of make rest)
-made_next make all rest k v e is i = subst (λ xs. In e (made_of make xs)) is i
-
-pub made_past :
-    {K V : Type 0} (make : K → V → Entry) (all rest : List (K × Option V)) (k : K) (p : Option V) (e : Entry) → all ≡ (k, p) ∷ rest → p ≡ None → In e (made_of make all)
-    → In e (made_of make rest)
-made_past make all rest k p e is none i = subst (λ o. In e (made_before make k o (made_of make rest))) none (subst (λ xs. In e (made_of make xs)) is i)
-
-pub made_none : {K V : Type 0} (make : K → V → Entry) (all : List (K × Option V)) (e : Entry) → all ≡ [] → In e (made_of make all) → ⊥
-made_none make all e is i = subst (λ xs. In e (made_of make xs)) is i

@@ -15,7 +15,7 @@ use Rattle.pmg_value.specs.Lists.{In}
 use Rattle.pmg_value.specs.declared.value.Value.{Value}
 use Rattle.pmg_commit.specs.Entries.{Entry}
 use Rattle.pmg_lane.specs.Places.{placed, there_at, HasPlace}
-use Rattle.pmg_lane.specs.Entries.{late_cmp, late_entry, read_at, late_at, Holds, HasPlaces, ReadsWithin, LatePast, IsRoomyTo, Settles, NoneLeft}
+use Rattle.pmg_lane.specs.Entries.{late_cmp, late_entry, read_at, late_at, Holds, HasPlaces, ReadsWithin, IsRoomyTo, Settles, NoneLeft}
 use Rattle.pmg_lane.specs.declared.entries.Entries.{Entries}
 use Rattle.pmg_lane.proofs.Settling.{exact_late, some_is, accounts_more}
 
@@ -131,11 +131,3 @@ settles_trans level a b c s t = record {
   fewer = λ e h. elim (t.fewer e h) [ inl i ↦ s.fewer e i | inr n ↦ absurd n ];
   enough = λ e h. elim (s.enough e h) [ inl i ↦ inl (accounts_more level b c NoneLeft t e i) | inr n ↦ absurd n ];
 }
-
-pub past_places : (level : ℕ) (a : Entries) → ((q : ℕ × List ℕ) → HasPlace late_cmp a.late q → level < q.0) → LatePast level a
-past_places level a past q = go (get late_cmp a.late q) refl
-  where
-    go : (o : Option (Option Value)) → get late_cmp a.late q ≡ o → IfSome (late_at a q) (λ _. level < q.0)
-    go None is = subst (λ o. IfSome (option_map (late_entry q) (placed o)) (λ _. level < q.0)) (sym is) tt
-    go (Some None) is = subst (λ o. IfSome (option_map (late_entry q) (placed o)) (λ _. level < q.0)) (sym is) tt
-    go (Some (Some v)) is = subst (λ o. IfSome (option_map (late_entry q) (placed o)) (λ _. level < q.0)) (sym is) (past q (subst IsSome (sym is) refl))

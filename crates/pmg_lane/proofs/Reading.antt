@@ -45,9 +45,6 @@ passed level key (Some best) e h = ap (λ b. cond (b && is_later best e) (Some e
 named : (level : ℕ) (key : List ℕ) (e : Entry) → is_readable level key e ≡ true → e ≡ record { key = key; number = e.number; bytes = e.bytes }
 named level key e h = let same = ((is_readable-Decides level key e).0 h).0 in λ i. record { key = sym same i; number = e.number; bytes = e.bytes }
 
-pub first_seen : (level : ℕ) (key : List ℕ) (e : Entry) → is_readable level key e ≡ true → Some (record { key = key; number = e.number; bytes = e.bytes }) ≡ best_of_two level key None e
-first_seen level key e h = ap Some (sym (named level key e h)) ∙ sym (ap (λ b. cond b (Some e) None) h)
-
 -- f is the later of the two, where e has the key
 pub next_seen :
     (level : ℕ) (key : List ℕ) (best e f : Entry) → is_readable level key e ≡ true

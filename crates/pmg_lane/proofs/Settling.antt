@@ -256,9 +256,6 @@ settles_next level a b c x More Left Rest s t more left = record {
   ];
 }
 
-pub settles_start : (level : ℕ) (a : Entries) (More : Entry → Type 0) → Settles level a More a More
-settles_start level a More = record { fewer = λ e h. inl h; enough = λ e h. elim h [ inl i ↦ inl (inl i) | inr m ↦ inr m ] }
-
 -- ---- a place that was filled, or left as it was
 module _ {K V : Type 0} {R : K → K → Ordering} (m n : BTreeMap K (Option V)) (key : K) (there filled : Option V) (at : Some there ≡ get R m key) (exact : CmpEqualImpliesEq R)
     (put : (q : K) → get R n q ≡ cond (is_at (R key) q) (Some filled) (get R m q)) where
@@ -345,9 +342,6 @@ in_first first all rest e = subst (In first) (sym e) (inl refl)
 
 pub in_rest : {A : Type 0} (x first : A) (all rest : List A) → all ≡ first ∷ rest → In x rest → In x all
 in_rest x first all rest e i = subst (In x) (sym e) (inr i)
-
-pub in_none : {A : Type 0} (x : A) (all : List A) → all ≡ [] → In x all → ⊥
-in_none x all e i = subst (In x) e i
 
 pub settles_all :
     (level : ℕ) (a b : Entries) (More Left : Entry → Type 0) → Settles level a More b Left → ((e : Entry) → Left e → ⊥) → Settles level a More b NoneLeft

@@ -1,11 +1,11 @@
 -- The entries that a lane keeps: those that are read, by key, and those past the level, by number and key.
-use Rattle.std.specs.Prelude.{◌≡◌, ◌<◌, ◌≤◌, ◌⊎◌, ℕ, List, ◌++◌, Option, Some, None, IfSome, Bool, true}
+use Rattle.std.specs.Prelude.{◌≡◌, ◌<◌, ◌≤◌, ◌⊎◌, ℕ, ◌+◌, List, ◌++◌, Option, Some, None, IfSome, Bool, true}
 use Rattle.std.specs.Option.{option_map, option_to_list}
 use Rattle.std.specs.List.{flat_map}
 use Rattle.std.specs.Ordering.{nat_cmp, ordering_then, is_lt}
 use Rattle.std.specs.Cmp.Lexicographic.{slice_cmp}
 use Rattle.std.specs.declared.cmp.Ordering.{Ordering}
-use Rattle.std.specs.BTreeMap.{BTreeMap, keys}
+use Rattle.std.specs.BTreeMap.{BTreeMap, keys, btree_map_len}
 use Rattle.pmg_value.specs.Spelling.{spelling}
 use Rattle.pmg_value.specs.declared.value.Value.{Value}
 use Rattle.pmg_commit.specs.Entries.{Entry, is_later}
@@ -45,6 +45,10 @@ IsLateIn late e = option_map (late_entry (e.number, e.key)) (there_at late_cmp l
 -- e is one of the entries
 abbrev pub Holds : Entries → Entry → Type 0
 Holds a e = IsReadIn a.reads e ⊎ IsLateIn a.late e
+
+-- how many places there are
+abbrev pub place_count : Entries → ℕ
+place_count a = btree_map_len a.reads + btree_map_len a.late
 
 -- one has the entries of the other
 abbrev pub HoldAlike : Entries → Entries → Type 0

@@ -1,13 +1,13 @@
 //! The entries of one process that are not superseded.
-ghost use Rattle.std.specs.Prelude.{◌≡◌, ◌<◌, ◌≤◌, ◌++◌, ℕ, List, map, cond, OnOk, OnErr, IfOk, IfSome, IfNone, Some, None};
+ghost use Rattle.std.specs.Prelude.{◌≡◌, ◌⊎◌, ◌↔◌, ◌<◌, ◌≤◌, ℕ, List, map, cond, OnOk, IfOk, IfSome, IfNone, Some, None};
 ghost use Rattle.pmg_value.specs.Spelling.{spelling};
 ghost use Rattle.pmg_commit.specs.Entries.{Entry, best_of_two};
-ghost use Rattle.pmg_lane.specs.Entries.{read_at, late_at, late_list, late_cmp, read_entry, late_entry, beats, exceeds, IsReadIn, IsLateIn, Holds, HoldAlike, PlacesStay, HasPlaces, ReadsWithin, IsRoomyTo, LateFrom, LatePast, Settles, NoneLeft};
-ghost use Rattle.pmg_lane.specs.Places.{placed, there_at, HasPlace};
+ghost use Rattle.pmg_lane.specs.Entries.{read_at, late_at, late_list, late_cmp, read_entry, late_entry, beats, exceeds, IsReadIn, IsLateIn, Holds, HoldAlike, PlacesStay, HasPlaces, ReadsWithin, IsRoomyTo, LateFrom, LatePast, Settles, NoneLeft, place_count};
+ghost use Rattle.pmg_lane.specs.Places.{there_at, HasPlace};
 ghost use Rattle.pmg_lane.specs.Readings.{seen_entry};
 ghost use Rattle.std.specs.Option.{option_map};
 ghost use Rattle.std.specs.List.{fold};
-ghost use Rattle.std.specs.BTreeMap.{get, is_at, btree_map_len, IsOrdered};
+ghost use Rattle.std.specs.BTreeMap.{get, is_at, btree_map_len};
 ghost use Rattle.pmg_value.specs.Lists.{In};
 ghost use Rattle.pmg_commit.specs.Pieces.{entry_of};
 ghost use Rattle.std.specs.Ordering.{nat_cmp};
@@ -309,49 +309,35 @@ impl Entries {
         Ok(())
     }
 
-    /// Puts what is read in another tree where it belongs at that level, but what is superseded.
-    fn put_reads(&mut self, level: u64, mut reads: BTreeMap<Key, Option<Stamp>, Global>)
-        requires places { (e : Entry) → IsReadIn reads e → HasPlaces self.old level e.number e.key }
-        requires within { ReadsWithin level self.old }
-        ensures settles { Settles level self.old (IsReadIn reads) self.new NoneLeft }
-        ensures within { ReadsWithin level self.new }
-        ensures late { LateFrom level self.old self.new }
-        ensures stay { PlacesStay self.old self.new }
+    /// Takes a place out, with its key and the entry in it, if there is one.
+    fn pop(&mut self) -> Option<(Key, Option<Stamp>)>
+        ensures taken { IfSome result (λ p. (e : Entry) → Holds self.old e
+            ↔ ((option_map (read_entry p.0) p.1 ≡ Some e) ⊎ Holds self.new e)) }
+        ensures fewer { IfSome result (λ _. place_count self.new < place_count self.old) }
+        ensures none { IfNone result ((e : Entry) → Holds self.old e → ⊥) }
     {
-        while let Some((key, place)) = pop_place(&mut reads) {
-            if let Some(there) = place {
-                self.put(level, key, there.number, there.value);
-            }
+        if let Some(read) = pop_place(&mut self.reads) {
+            return Some(read);
         }
-    }
-
-    /// Puts the late entries of another tree where they belong at that level, but those that are superseded.
-    fn put_lates(&mut self, level: u64, mut late: BTreeMap<(u64, Key), Option<Value>, Global>)
-        requires places { (e : Entry) → IsLateIn late e → HasPlaces self.old level e.number e.key }
-        requires within { ReadsWithin level self.old }
-        ensures settles { Settles level self.old (IsLateIn late) self.new NoneLeft }
-        ensures within { ReadsWithin level self.new }
-        ensures late { LateFrom level self.old self.new }
-        ensures stay { PlacesStay self.old self.new }
-    {
-        while let Some((place, there)) = pop_place(&mut late) {
-            if let Some(value) = there {
-                self.put(level, place.1, place.0, value);
-            }
+        match pop_place(&mut self.late) {
+            Some((place, there)) => Some((place.1, stamp_of(place.0, there))),
+            None => None,
         }
     }
 
     /// Puts the other entries where they belong at that level, but those that are superseded.
-    pub fn put_others(&mut self, level: u64, other: Entries)
+    pub fn put_others(&mut self, level: u64, mut other: Entries)
         requires places { (e : Entry) → Holds other e → HasPlaces self.old level e.number e.key }
         requires within { ReadsWithin level self.old }
         ensures settles { Settles level self.old (Holds other) self.new NoneLeft }
         ensures within { ReadsWithin level self.new }
         ensures late { LateFrom level self.old self.new }
     {
-        let Entries { reads, late } = other;
-        self.put_reads(level, reads);
-        self.put_lates(level, late);
+        while let Some((key, place)) = other.pop() {
+            if let Some(there) = place {
+                self.put(level, key, there.number, there.value);
+            }
+        }
     }
 
     /// The keys in their order, with what is read under each where something is.
@@ -390,6 +376,16 @@ fn make_reached_places(
         make_place(reads, &place.1)?;
     }
     Ok(())
+}
+
+/// The stamp of that number and the value, if there is one.
+fn stamp_of(number: u64, there: Option<Value>) -> Option<Stamp>
+    ensures { (key : List ℕ) → option_map (read_entry key) result ≡ option_map (late_entry (number, key)) there }
+{
+    match there {
+        Some(value) => Some(Stamp { number, value }),
+        None => None,
+    }
 }
 
 /// Whether an entry of that number and value is later than the one in the place, if there is one.

@@ -1,6 +1,6 @@
 //! Places in a tree, which are made before they are filled: to make one takes memory, and to fill it takes none.
-ghost use Rattle.std.specs.Prelude.{◌≡◌, ◌⊎◌, ◌<◌, Some, None, cond, OnOk, IfSome, IfNone};
-ghost use Rattle.std.specs.BTreeMap.{get, is_at, btree_map_len};
+ghost use Rattle.std.specs.Prelude.{◌≡◌, ◌<◌, Some, None, cond, OnOk, IfSome, IfNone};
+ghost use Rattle.std.specs.BTreeMap.{get, is_at, btree_map_len, IsUnchanged};
 ghost use Rattle.pmg_lane.specs.Places.{there_at, HasPlace};
 
 use pmg_join::Element;
@@ -15,7 +15,6 @@ pub fn make_place<K: Element, V: Drop>(
     ensures same { (q : K) → there_at K.cmp tree.new q ≡ there_at K.cmp tree.old q }
     ensures place { OnOk result (HasPlace K.cmp tree.new key.now) }
     ensures stay { (q : K) → HasPlace K.cmp tree.old q → HasPlace K.cmp tree.new q }
-    ensures no_more { (q : K) → HasPlace K.cmp tree.new q → HasPlace K.cmp tree.old q ⊎ (key.now ≡ q) }
 {
     if !tree.contains_key(key) {
         tree.insert(key.copy()?, None)?;
@@ -31,7 +30,6 @@ pub fn put_place<K: Element, V: Drop>(
     ensures same { (q : K) → there_at K.cmp tree.new q ≡ there_at K.cmp tree.old q }
     ensures place { OnOk result (HasPlace K.cmp tree.new key) }
     ensures stay { (q : K) → HasPlace K.cmp tree.old q → HasPlace K.cmp tree.new q }
-    ensures no_more { (q : K) → HasPlace K.cmp tree.new q → HasPlace K.cmp tree.old q ⊎ (key ≡ q) }
 {
     if !tree.contains_key(&key) {
         tree.insert(key, None)?;
@@ -47,6 +45,7 @@ pub fn pop_place<K: Element, V: Drop>(
     ensures taken { IfSome result (λ p. (q : K) → get K.cmp tree.new q ≡ cond (is_at (K.cmp p.0) q) None (get K.cmp tree.old q)) }
     ensures fewer { IfSome result (λ _. btree_map_len tree.new < btree_map_len tree.old) }
     ensures none { IfNone result ((q : K) → get K.cmp tree.old q ≡ None) }
+    ensures unchanged { IfNone result (IsUnchanged tree.old tree.new) }
 {
     tree.pop_first()
 }

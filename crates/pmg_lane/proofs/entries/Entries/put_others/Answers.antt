@@ -1,17 +1,25 @@
-use Rattle.std.proofs.Common.{inl, inr}
-use Rattle.pmg_lane.proofs.Settling.{late_trans}
-use Rattle.pmg_lane.proofs.Moving.{settles_both, has_stays}
+use Rattle.pmg_lane.specs.Entries.{Holds, read_entry}
+use Rattle.pmg_lane.proofs.Settling.{settles_all}
+use Rattle.pmg_lane.proofs.Moving.{moves_none, moves_some, stamp_was}
 use Rattle.pmg_lane.proofs.entries.Entries.put_others.Goals as goal
 
-pub put_reads-requires-clause-places : goal.put_reads-requires-clause-places
-put_reads-requires-clause-places c e h = c.requires.places e (inl h)
+pub put-requires-clause-places : goal.put-requires-clause-places
+put-requires-clause-places c =
+    let moves = c.loop-key.invariant in
+    let here = c.in-Some-place.there in
+    moves.places (read_entry c.in-Some.key here) (stamp_was moves c.pop.new.self c.in-Some.key c.in-Some.place c.in-Some.ensures.taken here c.in-Some-place.is)
 
-pub put_lates-requires-clause-places : goal.put_lates-requires-clause-places
-put_lates-requires-clause-places c e h =
-    has_stays c.args.self.now c.put_reads.new.self c.args.level e.number e.key c.put_reads.ensures.stay (c.requires.places e (inr h))
+pub loop-key-preserved-in-Some-place : goal.loop-key-preserved-in-Some-place
+loop-key-preserved-in-Some-place c =
+    let put = c.put.ensures in
+    moves_some c.loop-key.invariant c.pop.new.self c.in-Some.key c.in-Some.place c.in-Some.ensures.taken c.in-Some-place.there c.put.new.self c.in-Some-place.is put.settles put.within put.late put.stay
+
+pub loop-key-preserved-in_default-place : goal.loop-key-preserved-in_default-place
+loop-key-preserved-in_default-place c = moves_none c.loop-key.invariant c.pop.new.self c.in-Some.key c.in-Some.place c.in-Some.ensures.taken c.in_default-place.is
+
+pub loop-key-preserved : goal.loop-key-preserved
+loop-key-preserved c = moves_none c.loop-key.invariant c.pop.new.self c.in-Some.key c.in-Some.place c.in-Some.ensures.taken c.in_default-place.is
 
 pub returns-clause-settles : goal.returns-clause-settles
-returns-clause-settles c = settles_both c.args.level c.args.self.now c.put_reads.new.self c.put_lates.new.self c.args.other c.put_reads.ensures.settles c.put_lates.ensures.settles
-
-pub returns-clause-late : goal.returns-clause-late
-returns-clause-late c = late_trans c.args.level c.args.self.now c.put_reads.new.self c.put_lates.new.self c.put_reads.ensures.late c.put_lates.ensures.late
+returns-clause-settles c =
+    settles_all c.args.level c.args.self.now c.loop-key.self (Holds c.args.other) (Holds c.loop-key.other) c.loop-key.invariant.settles c.in_default.ensures.none
