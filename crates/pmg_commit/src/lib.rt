@@ -13,8 +13,3 @@ pub use laws::{data_rules, honest_rules, knowledge_rules, sealer_rules};
 pub use piece::{MAX_COMMIT, MAX_ENTRIES, MAX_PIECE_SIZE, Piece, PieceEntry};
 pub use reading::best_of;
 pub use sealer::{Sealer, SealerBefore};
-
-#[cfg(test)]
-mod sealer_tests;
-#[cfg(test)]
-mod tests;

@@ -1,11 +1,13 @@
-ghost use Rattle.std.specs.Prelude.{◌≡◌, ◌≤◌, ℕ, List, [], ◌∷◌, ◌++◌, ◌&&◌, not, nat_lt, length, IfOk, IfSome, OnOk, OnErr, IsTrue};
+ghost use Rattle.std.specs.Prelude.{◌≡◌, ◌≤◌, ℕ, List, [], ◌∷◌, ◌++◌, ◌&&◌, not, nat_lt, length, true, IfOk, IfSome, OnOk, OnErr, IsTrue};
 ghost use Rattle.pmg_value.specs.Answers.{Gives};
+ghost use Rattle.pmg_value.specs.Process.{can_commit};
 ghost use Rattle.std.specs.FinMap as finite;
 ghost use Rattle.std.specs.Option.{option_map};
 ghost use Rattle.pmg_scope.specs.Rows.{IsRising, table_of};
 ghost use Rattle.pmg_scope.specs.Cached.{global_put};
 ghost use Rattle.pmg_scope.specs.Scripts.{Call, Script};
 ghost use Rattle.pmg_commit.specs.Sealed.{
+  fresh,
   sealed_with,
   end_of,
   new_answer,
@@ -72,14 +74,22 @@ impl Sealer {
         if !proc.can_commit() {
             return Err(Refusal::BadParam);
         }
-        Ok(Sealer {
+        Ok(Sealer::from_checked(alloc, proc.copy()?))
+    }
+
+    /// A sealer of a process that was judged before, which made no commit. It keeps the allocator.
+    pub fn from_checked(alloc: Global, proc: Proc) -> Sealer
+        requires { can_commit proc ≡ true }
+        ensures { result ≡ fresh proc }
+    {
+        Sealer {
             alloc,
-            proc: proc.copy()?,
+            proc,
             level: 0,
             ended: false,
             near: Stamps::new(alloc),
             far: Stamps::new(alloc),
-        })
+        }
     }
 
     /// The number of the commits.

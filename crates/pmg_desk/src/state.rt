@@ -214,7 +214,8 @@ fn dump_of(alloc: Global, store: &Store) -> Result<Vec<u8>, AllocError>
 }
 
 impl State {
-    /// A new node of the group, of that index, of which nothing is told yet. Refused as NoMemory alone.
+    /// A new node of the group, of that index, of which nothing is told yet. Refused as TooMany where more than 65,536
+    /// processes are at home at the node; and as NoMemory.
     pub fn new<R: Wait>(rt: &R, id: NodeId, registry: Registry) -> Result<State, Refusal>
         requires { is_node registry id ≡ true }
         ensures node { IfOk result (λ s. s.node ≡ Some (new_server registry id)) }

@@ -10,6 +10,7 @@ use crate::own::Own;
 use pmg_dmodex::Marks;
 use pmg_frame::{CommitAsk, Frame};
 use pmg_rules::{Due, Sent};
+use pmg_scope::Reach;
 use pmg_value::{NodeId, Proc};
 use std::alloc::{AllocError, Global};
 use std::collections::VecDeque;
@@ -51,7 +52,7 @@ fn frame_for(own: &Own, marks: &Marks, due: Due) -> Result<Option<Sent>, AllocEr
             if from >= own.level(&proc) {
                 return Ok(None);
             }
-            let piece = own.piece(&proc, from)?;
+            let piece = own.piece(&proc, from, Reach::Far)?;
             Ok(Some(Sent {
                 to: node,
                 frame: Frame::Piece(piece),

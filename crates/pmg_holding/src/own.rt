@@ -3,12 +3,11 @@ ghost use Rattle.std.specs.FinMap as finite;
 ghost use Rattle.pmg_value.specs.Answers.{Gives};
 ghost use Rattle.pmg_value.specs.CheckOrder.{first_of};
 ghost use Rattle.pmg_value.specs.Process.{is_host};
-ghost use Rattle.pmg_commit.specs.Sealed.{sealed_with, commit_answer, piece_at};
+ghost use Rattle.pmg_commit.specs.Sealed.{sealed_with, commit_answer, is_other, piece_at};
 ghost use Rattle.pmg_commit.specs.TakenBack.{sealer_back, CanTakeBack};
 ghost use Rattle.pmg_pset.specs.Members.{each_once, proc_bytes, no_members};
 ghost use Rattle.pmg_pset.specs.Refusing.{define_cause, delete_cause};
 ghost use Rattle.pmg_pset.specs.Sets.{changed, AreSetsBack};
-ghost use Rattle.pmg_scope.specs.declared.scope.Reach.TheVariants as reach;
 ghost use Rattle.pmg_holding.specs.Owns.{sealed_of, with_sealed, with_sets};
 
 use crate::sealers::Sealers;
@@ -58,33 +57,18 @@ impl Own {
         self.sealers.has_ended(proc)
     }
 
-    /// What the process's commits above a number sealed for the other processes on its node.
+    /// What the process's commits above a number sealed for a reach of other processes. As there are such commits, nothing but
+    /// memory can lack.
     #[tactic(auto, unfolding(pmg_rules::specs::Holdings::sealer_in))]
-    pub fn near_piece(&self, proc: &Proc, from: u64) -> Result<Piece, AllocError>
-        requires { from < (sealed_of self.now proc.now).level }
-        ensures { IfOk result (λ c. c ≡ piece_at (sealed_of self.now proc.now) from reach.Near) }
+    pub fn piece(&self, proc: &Proc, from: u64, reach: Reach) -> Result<Piece, AllocError>
+        requires others { is_other reach ≡ true }
+        requires level { from < (sealed_of self.now proc.now).level }
+        ensures { IfOk result (λ c. c ≡ piece_at (sealed_of self.now proc.now) from reach) }
     {
         let piece = if proc.is_host() {
             self.sets.piece_from(from)
         } else {
-            self.sealers.piece(proc, from, Reach::Near)
-        };
-        match piece {
-            Ok(piece) => Ok(piece),
-            Err(_) => Err(AllocError),
-        }
-    }
-
-    /// What the process's commits above a number sealed for processes on other nodes.
-    #[tactic(auto, unfolding(pmg_rules::specs::Holdings::sealer_in))]
-    pub fn piece(&self, proc: &Proc, from: u64) -> Result<Piece, AllocError>
-        requires { from < (sealed_of self.now proc.now).level }
-        ensures { IfOk result (λ c. c ≡ piece_at (sealed_of self.now proc.now) from reach.Far) }
-    {
-        let piece = if proc.is_host() {
-            self.sets.piece_from(from)
-        } else {
-            self.sealers.piece(proc, from, Reach::Far)
+            self.sealers.piece(proc, from, reach)
         };
         match piece {
             Ok(piece) => Ok(piece),

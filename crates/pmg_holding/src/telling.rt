@@ -12,6 +12,7 @@ use pmg_dmodex::Pending;
 use pmg_frame::{FenceName, Frame, Header};
 use pmg_jobinfo::Registry;
 use pmg_rules::{Due, Sent};
+use pmg_scope::Reach;
 use pmg_value::{NodeId, Proc};
 use std::alloc::{AllocError, Global};
 
@@ -114,7 +115,7 @@ pub fn spread(
     for node in peers(registry, id)? {
         dues.push(Due::Whole(Sent {
             to: node,
-            frame: Frame::Piece(own.piece(host, 0)?),
+            frame: Frame::Piece(own.piece(host, 0, Reach::Far)?),
         }))?;
     }
     Ok(dues)
@@ -134,7 +135,7 @@ pub fn answer_commits(
     if level < own.level(proc) {
         dues.push(Due::Whole(Sent {
             to: node,
-            frame: Frame::Piece(own.piece(proc, level)?),
+            frame: Frame::Piece(own.piece(proc, level, Reach::Far)?),
         }))?;
     }
     Ok(dues)
@@ -153,7 +154,7 @@ pub fn tell_waiting(
     for (node, level) in held.due(proc, own.level(proc))? {
         dues.push(Due::Whole(Sent {
             to: node,
-            frame: Frame::Piece(own.piece(proc, level)?),
+            frame: Frame::Piece(own.piece(proc, level, Reach::Far)?),
         }))?;
     }
     Ok(dues)

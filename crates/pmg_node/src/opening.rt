@@ -4,7 +4,6 @@ ghost use Rattle.std.specs.FinMap as finite;
 ghost use Rattle.std.specs.List.{list_all};
 ghost use Rattle.pmg_value.specs.Process.{can_commit};
 ghost use Rattle.pmg_commit.specs.Sealed.{fresh};
-ghost use Rattle.pmg_pset.specs.Sets.{host};
 ghost use Rattle.pmg_jobinfo.specs.Jobs.{is_node};
 ghost use Rattle.pmg_holding.specs.Marking.{node_zeros, senders, zeros};
 ghost use Rattle.pmg_holding.specs.Sealers.{with_fresh};
@@ -18,21 +17,20 @@ use pmg_holding::{Calls, Own, Sealers, peers};
 use pmg_jobinfo::Registry;
 use pmg_pset::Sets;
 use pmg_store::Board;
-use pmg_value::{HOST_NAME, NodeId, Nspace, Proc, Rank, Refusal};
+use pmg_value::{NodeId, Proc};
 use std::alloc::{AllocError, Global};
 
 /// The process has its place among those that seal.
-fn add_fresh(alloc: Global, sealers: &mut Sealers, proc: Proc) -> Result<(), Refusal>
+fn add_fresh(alloc: Global, sealers: &mut Sealers, proc: Proc) -> Result<(), AllocError>
     requires { can_commit proc ≡ true }
     ensures { OnOk result (sealers.new ≡ finite.insert sealers.old proc (fresh proc)) }
 {
-    let sealer = Sealer::new(alloc, &proc)?;
-    sealers.add(&proc, sealer)?;
-    Ok(())
+    let sealer = Sealer::from_checked(alloc, proc.copy()?);
+    sealers.add(&proc, sealer)
 }
 
 /// Places for these processes, which made no commit.
-fn fresh_sealers(alloc: Global, mut procs: Vec<Proc>) -> Result<Sealers, Refusal>
+fn fresh_sealers(alloc: Global, mut procs: Vec<Proc>) -> Result<Sealers, AllocError>
     requires { list_all can_commit procs.items ≡ true }
     ensures { IfOk result (λ sealers. sealers ≡ with_fresh procs.items finite.empty) }
 {
@@ -64,20 +62,13 @@ fn zero_marks(alloc: Global, procs: &[Proc], nodes: &[NodeId]) -> Result<Marks, 
     Ok(marks)
 }
 
-/// The process that stands for the group's host.
-pub(crate) fn host(alloc: Global) -> Result<Proc, Refusal>
-    ensures { IfOk result (λ p. p ≡ host) }
-{
-    Ok(Proc::new(Nspace::from_name(alloc, HOST_NAME)?, Rank::new(0)))
-}
-
 /// Those whose commits a node may send.
-fn senders(registry: &Registry, id: NodeId) -> Result<Vec<Proc>, Refusal>
+fn senders(registry: &Registry, id: NodeId) -> Result<Vec<Proc>, AllocError>
     ensures { IfOk result (λ procs. procs.items ≡ senders registry.now id) }
 {
     let mut procs = Vec::new(registry.allocator());
     if id.index() == 0 {
-        procs.push(host(registry.allocator())?)?;
+        procs.push(Proc::of_host())?;
     }
     let mut own = registry.procs_at(id)?;
     procs.append(&mut own)?;
@@ -85,9 +76,8 @@ fn senders(registry: &Registry, id: NodeId) -> Result<Vec<Proc>, Refusal>
 }
 
 impl Node {
-    /// A new node of the group, of that index: none of its processes has called. It keeps the registry's allocator. Refused as
-    /// NoMemory alone.
-    pub fn new(id: NodeId, registry: Registry) -> Result<Node, Refusal>
+    /// A new node of the group, of that index: none of its processes has called. It keeps the registry's allocator.
+    pub fn new(id: NodeId, registry: Registry) -> Result<Node, AllocError>
         requires { is_node registry id ≡ true }
         ensures { IfOk result (λ node. node ≡ new_server registry id) }
     {
@@ -96,12 +86,14 @@ impl Node {
         let procs = senders(&registry, id)?;
         let marks = zero_marks(alloc, &procs, &nodes)?;
         let sealers = fresh_sealers(alloc, registry.procs_at(id)?)?;
-        let sets = Sets::new(alloc)?;
         Ok(Node {
             id,
             table: Table::new(id, registry),
             board: Board::new(alloc),
-            own: Own { sealers, sets },
+            own: Own {
+                sealers,
+                sets: Sets::new(alloc),
+            },
             calls: Calls::new(alloc),
             held: Pending::new(alloc),
             marks,

@@ -15,6 +15,7 @@ use pmg_dmodex::{Marks, Pending};
 use pmg_fence::Table;
 use pmg_holding::{Ahead, Calls, Own, Settled, answers_about, hand_out, take_back, tell_waiting};
 use pmg_rules::{Due, Sent};
+use pmg_scope::Reach;
 use pmg_store::Board;
 use pmg_value::{NodeId, Proc};
 use std::alloc::AllocError;
@@ -92,8 +93,8 @@ pub(crate) fn publish(
     ensures unsent { OnErr result (out.new.items ≡ out.old.items) }
 {
     let alloc = beside.table.registry().allocator();
-    let near = beside.own.near_piece(proc, from)?;
-    let far = beside.own.piece(proc, from)?;
+    let near = beside.own.piece(proc, from, Reach::Near)?;
+    let far = beside.own.piece(proc, from, Reach::Far)?;
     let answers = answers_after(beside, board, &near, &far, proc)?;
     let mut all = tell_waiting(alloc, beside.own, beside.held, proc)?;
     all.append(&mut dues)?;

@@ -23,7 +23,6 @@ ghost use Rattle.pmg_holding.specs.Telling.{settling_by, spread_by};
 use crate::committing::Committed;
 use crate::entering::{expand, has_bad, has_unknown};
 use crate::node::Node;
-use crate::opening::host;
 use crate::publishing::{Beside, Published, publish};
 use pmg_dmodex::Marks;
 use pmg_holding::spread;
@@ -57,6 +56,13 @@ fn check_room(registry: &Registry, sets: &Sets, name: &Key, list: &[Proc]) -> Re
     sets.can_define(name, count, ARRAY_START + registry.size_meant(list))
 }
 
+/// The process that stands for the group's host.
+fn host() -> Proc
+    ensures { result ≡ host }
+{
+    Proc::of_host()
+}
+
 /// The change of the sets after a number is joined into the stores, and sent to the nodes that wait for it; then all changes go to
 /// each other node. The process that stands for the group's host is given too.
 fn publish_sets(
@@ -87,9 +93,7 @@ fn publish_sets(
     ensures unsent { OnErr result (out.new.items ≡ out.old.items) }
 {
     let registry = beside.table.registry();
-    let Ok(host) = host(registry.allocator()) else {
-        return Err(AllocError);
-    };
+    let host = host();
     let dues = spread(registry, beside.id, beside.own, &host)?;
     let published = publish(beside, board, marks, out, &host, from, dues)?;
     Ok((host, published))

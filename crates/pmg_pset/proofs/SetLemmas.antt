@@ -10,6 +10,7 @@ use Rattle.std.specs.declared.cmp.Ordering.TheVariants.{Less, Equal, Greater}
 use Rattle.std.specs.Ordering.{nat_cmp, eq_by_cmp}
 use Rattle.std.specs.Cmp.Lexicographic.{slice_cmp, nat_list_cmp_total}
 use Rattle.std.proofs.lemmas.Bool.{false≢true, and_parts, and_from, leb-true, le-leb}
+use Rattle.pmg_value.specs.Process.{host_name}
 use Rattle.pmg_value.specs.declared.process.Proc.{Proc}
 use Rattle.pmg_value.specs.declared.refusal.Refusal.{Refusal}
 use Rattle.pmg_value.specs.declared.refusal.Refusal.TheVariants as refusals
@@ -19,7 +20,9 @@ use Rattle.pmg_scope.specs.Cached.{global_put}
 use Rattle.pmg_scope.specs.Rows.{counted_by}
 use Rattle.pmg_value.proofs.RowLemmas.{entries_of_nothing}
 use Rattle.pmg_scope.proofs.SumLemmas.{len_held, sum_put}
-use Rattle.pmg_commit.specs.Sealed.{Stamp, Stamps, Sealed, fresh, new_answer, stamped, are_within, stamp_size, stamps_size, can_seal}
+use Rattle.pmg_commit.specs.Sealed.{Stamp, Stamps, Sealed, fresh, newer_than, is_other, piece_answer, stamped, are_within, stamp_size, stamps_size, can_seal}
+use Rattle.pmg_scope.specs.declared.scope.Reach.{Reach}
+use Rattle.pmg_scope.specs.declared.scope.Reach.TheVariants as reach
 use Rattle.pmg_commit.proofs.GrowthLemmas.{stamped_one}
 use Rattle.pmg_pset.specs.Members.{no_members, proc_bytes, are_procs}
 use Rattle.pmg_pset.specs.Refusing.{is_full, change_answer, delete_cause}
@@ -86,15 +89,19 @@ changed_are_sets z w name procs are can made =
     let bytes = proc_bytes procs in
     subst AreSets (sym made) (changed_sets z name bytes are (bytes_of_procs procs) (within_after z name bytes can))
 
+-- the process of that name and rank is the host's
+pub host_is : (p : Proc) → p.nspace ≡ host_name → p.rank ≡ 0 → p ≡ host
+host_is p name rank = λ i. record { nspace = name i; rank = rank i }
+
 -- a new sealer of the host's process has no sets
-fresh_sets : AreSets (fresh host)
+pub fresh_sets : AreSets (fresh host)
 fresh_sets = record { host = refl; going = refl; alike = refl; sets = ap holds_procs (entries_of_nothing (slice_cmp nat_cmp)); within = nothing_within }
 
-made_is : (a b : Sealed) → ◌≡◌ {A = Result Sealed Refusal} (Ok a) (Ok b) → a ≡ b
-made_is a b h = cc
-
-pub new_sets : (p : Proc) (z : Sealed) → p ≡ host → new_answer p ≡ Ok z → AreSets z
-new_sets p z same is = subst AreSets (made_is (fresh host) z (ap new_answer (sym same) ∙ is)) fresh_sets
+-- the host's piece is the same for each reach of other processes
+pub same_piece : (z : Sealed) → AreSets z → (from : ℕ) (r : Reach) → is_other r ≡ true → piece_answer z from reach.Far ≡ piece_answer z from r
+same_piece z are from reach.Own other = absurd (false≢true other)
+same_piece z are from reach.Near other = ap (λ (m : Stamps). if nat_lt from z.level then Ok (record { proc = z.proc; from = from; to = z.level; entries = newer_than from m }) else Err refusals.BadParam) (sym are.alike)
+same_piece z are from reach.Far other = refl
 
 -- ---- what is there
 

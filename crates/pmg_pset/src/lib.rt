@@ -8,6 +8,3 @@ mod sets;
 pub use laws::set_rules;
 pub use members::{MAX_MEMBERS, members_in};
 pub use sets::Sets;
-
-#[cfg(test)]
-mod tests;

@@ -97,7 +97,7 @@ fn bodies_size(procs: &[Proc]) -> usize
     size
 }
 
-/// The array of the processes, which are not too many. Refused as NoMemory alone.
+/// The array of the processes, which are not too many. Nothing but memory can lack.
 pub fn array_of(alloc: Global, procs: Vec<Proc>) -> Result<Array, Refusal>
     requires { are_too_many procs.items ≡ false }
     ensures { Gives (λ a. a) result (Ok (proc_array procs.items)) }

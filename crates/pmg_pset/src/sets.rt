@@ -1,13 +1,13 @@
 //! The process sets of a group.
-ghost use Rattle.std.specs.Prelude.{◌≡◌, ◌≤◌, ◌||◌, not, suc, List, [], ◌∷◌, ◌++◌, Ok, IfOk, OnOk, OnErr, IfSome};
+ghost use Rattle.std.specs.Prelude.{◌≡◌, ◌≤◌, ◌||◌, not, suc, true, List, [], ◌∷◌, ◌++◌, IfOk, OnOk, OnErr, IfSome};
 ghost use Rattle.std.specs.Option.{option_map};
 ghost use Rattle.std.specs.Result.{result_map_both};
 ghost use Rattle.pmg_value.specs.Answers.{Gives};
 ghost use Rattle.pmg_value.specs.CheckOrder.{first_of};
 ghost use Rattle.pmg_value.specs.declared.value.Value.TheVariants as values;
 ghost use Rattle.pmg_value.specs.Spelling.{spelling};
-ghost use Rattle.pmg_scope.specs.declared.scope.Reach.TheVariants as reach;
-ghost use Rattle.pmg_commit.specs.Sealed.{fresh, piece_answer};
+ghost use Rattle.pmg_scope.specs.declared.scope.Reach.{Reach};
+ghost use Rattle.pmg_commit.specs.Sealed.{fresh, is_other, piece_answer};
 ghost use Rattle.pmg_commit.specs.SealerRules.{FitsSealer};
 ghost use Rattle.pmg_commit.specs.TakenBack.{sealer_back};
 ghost use Rattle.pmg_pset.specs.Changes.{Change, definition, deletion, script_of};
@@ -18,7 +18,7 @@ ghost use Rattle.pmg_pset.specs.Sets.{host, changed, live_at, live_names, member
 use crate::members::{MAX_MEMBERS, are_unfit, array_of, array_size, each_once, members_of};
 use pmg_commit::{Piece, Sealer, SealerBefore};
 use pmg_scope::{Batch, Reach};
-use pmg_value::{Array, HOST_NAME, Key, MAX_VALUE_SIZE, Nspace, Proc, Rank, Refusal, Value};
+use pmg_value::{Array, Key, MAX_VALUE_SIZE, Proc, Refusal, Value};
 use std::alloc::{AllocError, Global};
 use std::marker::Model;
 
@@ -45,13 +45,14 @@ impl Model for Sets {
 }
 
 impl Sets {
-    /// No sets. It keeps the allocator. Refused as NoMemory alone.
-    pub fn new(alloc: Global) -> Result<Sets, Refusal>
-        ensures { Gives (λ z. z) result (Ok (fresh host)) }
+    /// No sets. It keeps the allocator.
+    pub fn new(alloc: Global) -> Sets
+        ensures { result ≡ fresh host }
     {
-        let nspace = Nspace::from_name(alloc, HOST_NAME)?;
-        let sealer = Sealer::new(alloc, &Proc::new(nspace, Rank::new(0)))?;
-        Ok(Sets { alloc, sealer })
+        Sets {
+            alloc,
+            sealer: Sealer::from_checked(alloc, Proc::of_host()),
+        }
     }
 
     /// Defines the set of these processes, whatever their order and however often each is named, and tells what there was
@@ -166,8 +167,7 @@ impl Sets {
     /// What other servers take to learn of the changes from+1 to the level: a contribution of `pmix.host 0`, which is the
     /// same for processes on its node. Refused as BadParam where there is no such change, and as NoMemory.
     pub fn piece_from(&self, from: u64) -> Result<Piece, Refusal>
-        ensures value { Gives (λ p. p) result (piece_answer self.now from reach.Far) }
-        ensures near { Gives (λ p. p) result (piece_answer self.now from reach.Near) }
+        ensures { (r : Reach) → is_other r ≡ true → Gives (λ p. p) result (piece_answer self.now from r) }
     {
         self.sealer.piece_of(from, Reach::Far)
     }

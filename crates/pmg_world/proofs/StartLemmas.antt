@@ -1,13 +1,11 @@
 -- A new group stands for the start of the model.
-use Rattle.std.proofs.Common.{◌≡◌, ℕ, ◌+◌, ◌<◌, Bool, true, false, ◌==◌, List, [], ◌∷◌, ◌++◌, length, get_or, Option, cond, nat_le, Result, Ok, Err, refl, sym, ap, subst, ◌∙◌, arith}
+use Rattle.std.proofs.Common.{◌≡◌, ℕ, ◌+◌, ◌<◌, Bool, true, false, ◌==◌, List, [], ◌∷◌, ◌++◌, length, get_or, Option, refl, sym, ap, subst, ◌∙◌, arith}
 use Rattle.std.proofs.lemmas.Bool.Decides.{nat_tests}
 use Rattle.std.proofs.lemmas.List.{get_or_append_left, length-append}
 use Rattle.std.proofs.Math.Seq.{get_or-append_seam}
 use Rattle.std.specs.FinMap as finite
 use Rattle.std.specs.Option.{unwrap_or}
 use Rattle.pmg_value.specs.Process.{proc_cmp}
-use Rattle.pmg_value.specs.declared.refusal.Refusal.{Refusal}
-use Rattle.pmg_value.specs.declared.refusal.Refusal.TheVariants as refusals
 use Rattle.pmg_value.specs.Lists.{Each}
 use Rattle.pmg_scope.specs.Cached.{Cached, no_puts}
 use Rattle.pmg_jobinfo.specs.Jobs.{Jobs, AreJobs, is_node}
@@ -25,14 +23,6 @@ some_server jobs = new_server jobs 0
 
 pub none_new : (jobs : Jobs) → AreNew jobs 0 []
 none_new jobs = record { count_is = refl; each = λ node d inside. absurd (omega (arith, inside)) }
-
--- a node's index within the limit
-pub index_is : (n m : ℕ) → ◌≡◌ {A = Result ℕ Refusal} (Ok n) (cond (nat_le m 63) (Ok m) (Err refusals.BadParam)) → n ≡ m
-index_is n m e = by (nat_le m 63) e
-  where
-    by : (b : Bool) → ◌≡◌ {A = Result ℕ Refusal} (Ok n) (cond b (Ok m) (Err refusals.BadParam)) → n ≡ m
-    by true e = cc
-    by false e = absurd cc
 
 -- one node more
 pub more_new : (jobs : Jobs) (n m : ℕ) (xs : List Server) (x : Server) → AreNew jobs n xs → x ≡ new_server jobs n → m ≡ n + 1 → AreNew jobs m (xs ++ x ∷ [])

@@ -36,13 +36,13 @@ pub(crate) struct Group {
 }
 
 /// A new node for each that the registry has.
-fn new_nodes(registry: &Registry) -> Result<Vec<Node>, Refusal>
+fn new_nodes(registry: &Registry) -> Result<Vec<Node>, AllocError>
     ensures new { IfOk result (λ nodes. AreNew registry.now (length registry.now.nodes) nodes.items) }
     ensures jobs { AreJobs registry.now }
 {
     let mut nodes = Vec::new(registry.allocator());
     for index in 0..registry.node_count() {
-        let node = NodeId::new(index as u32)?;
+        let node = NodeId::from_checked(index as u32);
         nodes.push(Node::new(node, registry.copy()?)?)?;
     }
     Ok(nodes)
@@ -101,8 +101,8 @@ fn own_get(node: &Node, caches: &Caches, proc: &Proc, key: &Key) -> Result<Reply
 }
 
 impl Group {
-    /// A new group: nobody has called, and nothing was sent. Refused as NoMemory alone.
-    pub(crate) fn new(registry: &Registry) -> Result<Group, Refusal>
+    /// A new group: nobody has called, and nothing was sent.
+    pub(crate) fn new(registry: &Registry) -> Result<Group, AllocError>
         ensures jobs { IfOk result (λ g. g.registry ≡ registry.now) }
         ensures stands { IfOk result (λ g. Stands g (start registry.now)) }
     {

@@ -100,13 +100,10 @@ impl Scene {
     pub(crate) fn new(alloc: Global, registry: &Registry) -> Result<Scene, AllocError>
         ensures { IfOk result (λ scene. IsNew registry.now scene) }
     {
-        match World::new(registry) {
-            Ok(world) => Ok(Scene {
-                world,
-                delivered: Delivered::new(alloc),
-            }),
-            Err(_) => Err(AllocError),
-        }
+        Ok(Scene {
+            world: World::new(registry)?,
+            delivered: Delivered::new(alloc),
+        })
     }
 
     /// The registry of the group.

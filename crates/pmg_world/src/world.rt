@@ -57,8 +57,8 @@ fn is_short(answer: &Result<Reply, Refusal>) -> bool
 }
 
 impl World {
-    /// The group at its start: nobody has called, and nothing was sent. Refused as NoMemory alone.
-    pub fn new(registry: &Registry) -> Result<World, Refusal>
+    /// The group at its start: nobody has called, and nothing was sent.
+    pub fn new(registry: &Registry) -> Result<World, AllocError>
         ensures jobs { IfOk result (λ w. w.jobs ≡ registry.now) }
         ensures told { IfOk result (λ w. w.told ≡ []) }
         ensures sent { IfOk result (λ w. w.sent ≡ []) }

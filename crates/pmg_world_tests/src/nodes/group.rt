@@ -42,7 +42,7 @@ pub(crate) fn node(registry: Registry, index: u32) -> Result<Node, Refusal> {
     if !registry.has_node(id) {
         return Err(Refusal::BadParam);
     }
-    Node::new(id, registry)
+    Ok(Node::new(id, registry)?)
 }
 
 fn nodes_of(registry: &Registry) -> Result<Vec<Node>, Refusal> {

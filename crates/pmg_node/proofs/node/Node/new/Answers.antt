@@ -3,14 +3,12 @@ use Rattle.std.specs.FinMap as finite
 use Rattle.std.specs.List.{list_all}
 use Rattle.pmg_value.specs.Process.{can_commit}
 use Rattle.pmg_value.specs.declared.process.Proc.{Proc}
-use Rattle.pmg_commit.specs.Sealed.{fresh}
-use Rattle.pmg_pset.specs.Sets.{host}
 use Rattle.pmg_jobinfo.specs.Procs.{procs_at}
 use Rattle.pmg_jobinfo.proofs.ListedLemmas.{listed_can_commit}
 use Rattle.pmg_holding.specs.Marking.{zeros}
 use Rattle.pmg_holding.specs.Sealers.{with_fresh}
 use Rattle.pmg_node.specs.Servers.{IsNode}
-use Rattle.pmg_node.proofs.OpeningLemmas.{new_is_node, same_ok}
+use Rattle.pmg_node.proofs.OpeningLemmas.{new_is_node}
 use Rattle.pmg_holding.proofs.SealerLemmas.{fresh_is}
 use Rattle.pmg_node.proofs.node.Node.new.Goals as goal
 
@@ -24,23 +22,22 @@ invariant_of-result c =
     c.in_ok-sealers.ensures
     ∙ ap (λ (ps : List Proc). with_fresh ps finite.empty) c.in_ok-procs_at.ensures
     ∙ fresh_is (procs_at c.args.registry c.args.id) in
-    let sets = same_ok (fresh host) c.in_ok-sets.sets c.in_ok-sets.ensures in
     let marks =
     c.in_ok-marks.ensures
     ∙ (λ i. zeros finite.empty ((c.deref.ensures.value ∙ c.in_ok-procs.ensures) i) ((c.deref-2.ensures.value ∙ c.in_ok-nodes.ensures.nodes) i)) in
     record {
-      same = c.new-2.ensures.node;
-      told = c.new-2.ensures.waiting;
+      same = c.new.ensures.node;
+      told = c.new.ensures.waiting;
       node = subst IsNode
           (sym (λ i. record {
-            jobs = c.new-2.ensures.jobs i;
+            jobs = c.new.ensures.jobs i;
             id = c.args.id;
             holding = record {
-              near = c.new-3.ensures.near i;
-              far = c.new-3.ensures.far i;
+              near = c.new-2.ensures.near i;
+              far = c.new-2.ensures.far i;
               sealers = sealers i;
-              sets = sets i;
-              table = c.new-2.ensures.fences i;
+              sets = c.new-3.ensures i;
+              table = c.new.ensures.fences i;
               calls = c.new-4.ensures i;
               held = (c.new-5.ensures i).held;
             };
@@ -55,19 +52,18 @@ returns c =
     c.in_ok-sealers.ensures
     ∙ ap (λ (ps : List Proc). with_fresh ps finite.empty) c.in_ok-procs_at.ensures
     ∙ fresh_is (procs_at c.args.registry c.args.id) in
-    let sets = same_ok (fresh host) c.in_ok-sets.sets c.in_ok-sets.ensures in
     let marks =
     c.in_ok-marks.ensures
     ∙ (λ i. zeros finite.empty ((c.deref.ensures.value ∙ c.in_ok-procs.ensures) i) ((c.deref-2.ensures.value ∙ c.in_ok-nodes.ensures.nodes) i)) in
     λ i. record {
-      jobs = c.new-2.ensures.jobs i;
+      jobs = c.new.ensures.jobs i;
       id = c.args.id;
       holding = record {
-        near = c.new-3.ensures.near i;
-        far = c.new-3.ensures.far i;
+        near = c.new-2.ensures.near i;
+        far = c.new-2.ensures.far i;
         sealers = sealers i;
-        sets = sets i;
-        table = c.new-2.ensures.fences i;
+        sets = c.new-3.ensures i;
+        table = c.new.ensures.fences i;
         calls = c.new-4.ensures i;
         held = (c.new-5.ensures i).held;
       };
