@@ -9,6 +9,3 @@ mod pending;
 pub use marks::Marks;
 pub use parked::Parked;
 pub use pending::Pending;
-
-#[cfg(test)]
-mod tests;

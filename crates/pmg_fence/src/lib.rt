@@ -18,6 +18,3 @@ pub use change::Change;
 pub use entry::Entry;
 pub use laws::{call_rules, entry_rules, header_rules, table_rules};
 pub use table::{Table, TableBefore};
-
-#[cfg(test)]
-mod tests;

@@ -24,8 +24,3 @@ pub use local::{Local, State};
 pub use reading::get_frame;
 pub use signature::{MAX_PARTICIPANTS, Signature};
 pub use stream::{Fed, Stream};
-
-#[cfg(test)]
-mod kind_tests;
-#[cfg(test)]
-mod tests;

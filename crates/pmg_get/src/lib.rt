@@ -6,6 +6,3 @@ mod view;
 
 pub use answer::{Answer, resolve};
 pub use view::{Mode, View};
-
-#[cfg(test)]
-mod tests;

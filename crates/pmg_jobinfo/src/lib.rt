@@ -12,6 +12,3 @@ mod reserved;
 pub use laws::{expansion_rules, home_rules};
 pub use registry::{MAX_NODES, MAX_RANKS, MAX_SPACES, Registry};
 pub use reserved::ReservedKey;
-
-#[cfg(test)]
-mod tests;

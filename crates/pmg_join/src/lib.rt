@@ -23,6 +23,3 @@ pub use max::MaxU64;
 pub use pair_join::PairJoin;
 pub use range_set::RangeSet;
 pub use ranges::{Ranges, Span};
-
-#[cfg(test)]
-mod tests;

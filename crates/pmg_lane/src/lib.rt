@@ -12,6 +12,3 @@ pub use lane::{Lane, copies_of};
 pub use places::{make_place, pop_place};
 pub use readings::{level_alone, read_alone};
 pub use track::Track;
-
-#[cfg(test)]
-mod tests;

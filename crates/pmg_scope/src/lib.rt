@@ -14,6 +14,3 @@ pub use cache::Cache;
 pub use laws::{cache_rules, script_examples, script_rules};
 pub use scope::{Reach, Scope, includes};
 pub use sizes::{MAX_CACHE_SIZE, MAX_KEYS, row_size, size_with_key};
-
-#[cfg(test)]
-mod cache_tests;

@@ -18,14 +18,3 @@ pub use laws::{honest_data, honest_stores, pieces_in_any_order};
 pub use merge::{MAX_STREAMS, merge_inputs, merge_streams};
 pub use store::{Look, Store};
 pub use stream::{dump_stream, store_of_stream};
-
-#[cfg(test)]
-mod input_tests;
-#[cfg(test)]
-mod lane_tests;
-#[cfg(test)]
-mod plain;
-#[cfg(test)]
-mod store_tests;
-#[cfg(test)]
-mod stream_tests;

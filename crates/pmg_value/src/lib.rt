@@ -29,10 +29,3 @@ pub use refusal::{Cause, Fault, Refusal};
 pub use rows::put_back;
 pub use value::{MAX_VALUE_SIZE, Value};
 pub use written::{WatchedWriter, WriteFault, push_number};
-
-#[cfg(test)]
-mod names_tests;
-#[cfg(test)]
-mod tests;
-#[cfg(test)]
-mod value_tests;

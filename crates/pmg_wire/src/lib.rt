@@ -14,10 +14,3 @@ pub use fields::{Admits, get_flag, get_key, get_proc};
 pub use laws::value_rules;
 pub use put::{put_key, put_proc, put_value};
 pub use values::{get_value, value_from_bytes};
-
-#[cfg(test)]
-mod array_tests;
-#[cfg(test)]
-mod tests;
-#[cfg(test)]
-mod value_tests;

@@ -1,7 +1,7 @@
 //! What no clause says: the bytes and the text of arrays, both ways, and their faults.
-use crate::{Cursor, get_value, put_value};
 use bytes::BytesMut;
 use pmg_value::{Cause, Fault, MAX_BLOB_LEN, MAX_VALUE_SIZE, Refusal, Value};
+use pmg_wire::{Cursor, get_value, put_value};
 use std::alloc::Global;
 
 // Whether these bytes are read to their end, written again as they were, and print as this text.

@@ -1,6 +1,6 @@
 //! What no clause says: that each call gives its answer where there is memory, and gives it when it is called
 //! again after memory ran out; and what caches hold after some puts, found by hand.
-use crate::{
+use pmg_scope::{
     Batch, Cache, Reach, Scope, cache_rules, includes, row_size, script_examples, script_rules,
 };
 use pmg_value::{Key, Refusal, Value};

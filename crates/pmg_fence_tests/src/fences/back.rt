@@ -3,7 +3,7 @@ ghost use Rattle.std.specs.Prelude.{IfOk};
 ghost use Rattle.pmg_fence.specs.TakenBack.{CanTakeBack};
 
 use super::{Meeting, process, table};
-use crate::{Change, Table, TableBefore};
+use pmg_fence::{Change, Table, TableBefore};
 use pmg_frame::{FenceName, Header};
 use pmg_value::{NodeId, Refusal};
 use std::alloc::AllocError;

@@ -1,6 +1,6 @@
 //! What no clause says: that each call gives its answer where there is memory, and gives it when it is called again
 //! after an allocation failed; and what waits after some requests, found by hand.
-use crate::{Marks, Parked, Pending};
+use pmg_dmodex::{Marks, Parked, Pending};
 use pmg_value::{Key, NodeId, Nspace, Proc, Rank, Refusal};
 use std::alloc::{AllocError, Global};
 use std::process::Abort;

@@ -1,6 +1,6 @@
 //! What no clause says of names, processes, values and refusals: that each call gives its answer where there
 //! is memory, and gives it when it is called again after memory ran out.
-use crate::{Cause, Fault, Key, NodeId, Nspace, Proc, Rank, Refusal, Value, WatchedWriter};
+use pmg_value::{Cause, Fault, Key, NodeId, Nspace, Proc, Rank, Refusal, Value, WatchedWriter};
 use std::alloc::Global;
 use std::process::Abort;
 

@@ -1,9 +1,10 @@
 //! What no clause says: that calls succeed where there is memory, and when they are called again after memory ran out,
 //! with all as it was before; and what lanes of some pieces hold, found by hand.
-use crate::Lane;
-use pmg_commit::{Piece, PieceEntry, best_of};
+use crate::making::{key, next_number, piece};
+use pmg_commit::{Piece, best_of};
 use pmg_join::{Join, join_of_many, join_rules};
-use pmg_value::{Key, Nspace, Proc, Rank, Refusal, Value};
+use pmg_lane::Lane;
+use pmg_value::{Key, Refusal, Value};
 use std::alloc::{AllocError, Global};
 
 // The answer, asked for a second time where there was none.
@@ -14,33 +15,6 @@ macro_rules! again {
             answer => answer,
         }
     };
-}
-
-fn key(alloc: Global, name: &[u8]) -> Result<Key, Refusal> {
-    again!(Key::read(alloc, name))
-}
-
-fn entry(alloc: Global, name: &[u8], number: u64, value: u8) -> Result<PieceEntry, Refusal> {
-    Ok(PieceEntry {
-        key: key(alloc, name)?,
-        number,
-        value: Value::U8(value),
-    })
-}
-
-// A piece with a value under the key.
-fn piece(
-    alloc: Global,
-    from: u64,
-    to: u64,
-    name: &[u8],
-    number: u64,
-    value: u8,
-) -> Result<Piece, Refusal> {
-    let who = Proc::new(again!(Nspace::read(alloc, b"j"))?, Rank::new(0));
-    let mut entries = again!(Vec::with_capacity(alloc, 1))?;
-    entries.push(entry(alloc, name, number, value)?)?;
-    Piece::new(who, from, to, entries)
 }
 
 fn small(value: Option<&Value>) -> Option<u8> {
@@ -71,9 +45,9 @@ fn absorb_again(alloc: Global, lane: &mut Lane, piece: &Piece) -> Result<bool, R
 // The three pieces: under a the value 1 of the first commit and 3 of the third, under b the value 2 of the second.
 fn three(alloc: Global) -> Result<[Piece; 3], Refusal> {
     Ok([
-        piece(alloc, 0, 1, b"a", 1, 1)?,
-        piece(alloc, 1, 2, b"b", 2, 2)?,
-        piece(alloc, 2, 3, b"a", 3, 3)?,
+        piece(alloc, 0, 0, 1, 1, &[(b"a", 1)])?,
+        piece(alloc, 0, 1, 2, 2, &[(b"b", 2)])?,
+        piece(alloc, 0, 2, 3, 3, &[(b"a", 3)])?,
     ])
 }
 
@@ -124,9 +98,9 @@ fn a_gap_stops_the_level(rt: HostRuntime) -> Result<(), Refusal> {
 fn the_greater_value_counts_at_equal_numbers(rt: HostRuntime) -> Result<(), Refusal> {
     let alloc = rt.alloc();
     let late = [
-        piece(alloc, 1, 2, b"a", 2, 7)?,
-        piece(alloc, 1, 2, b"a", 2, 9)?,
-        piece(alloc, 0, 1, b"b", 1, 1)?,
+        piece(alloc, 0, 1, 2, 2, &[(b"a", 7)])?,
+        piece(alloc, 0, 1, 2, 2, &[(b"a", 9)])?,
+        piece(alloc, 0, 0, 1, 1, &[(b"b", 1)])?,
     ];
     for order in [[0, 1, 2], [1, 0, 2], [2, 0, 1], [2, 1, 0]] {
         let lane = lane_of(alloc, &late, &order)?;
@@ -195,14 +169,14 @@ fn drawn(alloc: Global, number: u64) -> Result<Piece, Refusal> {
     let from = number >> 60;
     let more = (number >> 58) & 3;
     let commit = from + 1 + ((number >> 56) & more);
-    let name: &[u8] = if number >> 55 & 1 == 0 { b"a" } else { b"b" };
+    let name: &[u8; 1] = if number >> 55 & 1 == 0 { b"a" } else { b"b" };
     piece(
         alloc,
+        0,
         from,
         from + 1 + more,
-        name,
         commit,
-        (number >> 40 & 255) as u8,
+        &[(name, (number >> 40 & 255) as u8)],
     )
 }
 
@@ -215,9 +189,7 @@ fn lanes_hold_what_a_list_of_pieces_does(rt: HostRuntime) -> Result<(), Refusal>
     let mut pieces = again!(Vec::with_capacity(alloc, 60))?;
     let mut number = 7u64;
     for _ in 0..60 {
-        number = number
-            .wrapping_mul(6364136223846793005)
-            .wrapping_add(1442695040888963407);
+        number = next_number(number);
         let next = drawn(alloc, number)?;
         absorb_again(alloc, &mut lane, &next)?;
         pieces.push(next)?;

@@ -1,6 +1,6 @@
 //! What no clause says: that each call gives its answer where there is memory, gives it when it is called again
 //! after memory ran out, and leaves the registry as it was where it is refused.
-use crate::Registry;
+use pmg_jobinfo::Registry;
 use pmg_scope::Reach;
 use pmg_value::{Key, NodeId, Nspace, Proc, Rank, Refusal, Value, push_number};
 use std::alloc::Global;

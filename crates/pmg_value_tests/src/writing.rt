@@ -1,5 +1,5 @@
 //! What no clause says: that calls succeed, and what a writer holds that fails at its n-th write.
-use crate::{Cause, Fault, Refusal, WatchedWriter};
+use pmg_value::{Cause, Fault, Refusal, WatchedWriter};
 use std::alloc::Global;
 use std::io;
 use std::io::{ErrorKind, Write};

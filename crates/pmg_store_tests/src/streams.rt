@@ -1,9 +1,9 @@
 //! What no clause says: that streams are dumped, and what is left where a reader, a writer or memory fails.
-use crate::{
+use pmg_commit::{Piece, PieceEntry};
+use pmg_store::{
     Board, Failure, MAX_STREAMS, Store, WatchedReader, dump_stream, merge_inputs, merge_streams,
     store_of_stream,
 };
-use pmg_commit::{Piece, PieceEntry};
 use pmg_value::{Key, Nspace, Proc, Rank, Refusal, Value, WatchedWriter};
 use std::alloc::{AllocError, Global};
 use std::io;

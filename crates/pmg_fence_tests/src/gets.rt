@@ -1,5 +1,5 @@
 //! The table of answers, line by line and in each mode, with answers found by hand.
-use crate::{Answer, Mode, View, resolve};
+use pmg_get::{Answer, Mode, View, resolve};
 use pmg_value::Value;
 use std::process::Abort;
 

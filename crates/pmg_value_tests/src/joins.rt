@@ -1,6 +1,6 @@
 //! What no clause says: that each call succeeds where there is memory, and when it is called again after memory ran
 //! out, with all as it was before; and what some joins give, found by hand.
-use crate::{
+use pmg_join::{
     Element, GrowSet, Join, MapJoin, MaxU64, PairJoin, RangeSet, Span, join_all, join_of_many,
     join_rules,
 };

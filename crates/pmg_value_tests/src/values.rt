@@ -1,5 +1,5 @@
 //! What no clause says: that arrays are made, copied and printed where there is memory.
-use crate::{
+use pmg_value::{
     Array, MAX_VALUE_SIZE, Nspace, Octets, Proc, Rank, Refusal, Text, Value, WatchedWriter,
     WriteFault,
 };

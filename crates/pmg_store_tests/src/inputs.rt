@@ -1,5 +1,5 @@
 //! What no clause says: that input is read, how often a reader is read, and what a failing reader gives.
-use crate::{Failure, INPUT_LIMIT, WatchedReader, read_input};
+use pmg_store::{Failure, INPUT_LIMIT, WatchedReader, read_input};
 use pmg_value::{Cause, Fault, Refusal};
 use std::io;
 use std::io::{ErrorKind, Read};

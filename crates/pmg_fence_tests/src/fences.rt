@@ -1,6 +1,6 @@
 //! What no clause says: that each call gives its answer where there is memory, and gives it when it is called again after
 //! an allocation failed; and whole fences over tables whose headers are handed across, with answers found by hand.
-use crate::{Table, call_rules, entry_rules, header_rules, table_rules};
+use pmg_fence::{Table, call_rules, entry_rules, header_rules, table_rules};
 use pmg_frame::{FenceName, Header, Signature};
 use pmg_jobinfo::Registry;
 use pmg_value::{NodeId, Nspace, Proc, Rank, Refusal};

@@ -1,8 +1,10 @@
 //! What no clause says: that each call gives its answer where there is memory, and gives it when it is called
 //! again after memory ran out.
-use crate::{Admits, Cursor, get_flag, get_key, get_proc, get_value, put_key, put_proc, put_value};
 use bytes::BytesMut;
 use pmg_value::{Cause, Fault, Key, Nspace, Proc, Rank, Refusal};
+use pmg_wire::{
+    Admits, Cursor, get_flag, get_key, get_proc, get_value, put_key, put_proc, put_value,
+};
 use std::alloc::Global;
 
 // The answer, asked for a second time where memory ran out.

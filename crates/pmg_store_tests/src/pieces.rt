@@ -1,9 +1,10 @@
 //! What no clause says of stores that keep lanes: that they hold what a plain list of pieces does, and that they are as
 //! they were where memory ran out, whichever allocation was refused.
+use crate::making::{key, next_number, piece, proc};
 use crate::plain::Plain;
-use crate::{Board, Failure, Store};
 use pmg_commit::{Piece, PieceEntry};
-use pmg_value::{Key, Nspace, Proc, Rank, Refusal, Value, WatchedWriter};
+use pmg_store::{Board, Failure, Store};
+use pmg_value::{Key, Proc, Rank, Refusal, Value, WatchedWriter};
 use std::alloc::{AllocError, Global};
 
 // The answer, asked for a second time where there was none.
@@ -14,35 +15,6 @@ macro_rules! again {
             answer => answer,
         }
     };
-}
-
-fn proc(alloc: Global, rank: u32) -> Result<Proc, Refusal> {
-    let nspace = again!(Nspace::read(alloc, b"j"))?;
-    Ok(Proc::new(nspace, Rank::new(rank)))
-}
-
-fn key(alloc: Global, name: &[u8]) -> Result<Key, Refusal> {
-    again!(Key::read(alloc, name))
-}
-
-// A piece of the process of that rank, with small numbers under the keys, each of that commit.
-fn piece(
-    alloc: Global,
-    rank: u32,
-    from: u64,
-    to: u64,
-    number: u64,
-    values: &[(&[u8; 1], u8)],
-) -> Result<Piece, Refusal> {
-    let mut entries = again!(Vec::with_capacity(alloc, values.len()))?;
-    for (name, value) in values {
-        entries.push(PieceEntry {
-            key: key(alloc, *name)?,
-            number,
-            value: Value::U8(*value),
-        })?;
-    }
-    Piece::new(proc(alloc, rank)?, from, to, entries)
 }
 
 fn dump_once(alloc: Global, store: &Store) -> Result<Vec<u8>, Failure> {
@@ -211,12 +183,6 @@ fn drawn(alloc: Global, number: u64) -> Result<Piece, Refusal> {
         commit,
         &all[first..last],
     )
-}
-
-fn next_number(number: u64) -> u64 {
-    number
-        .wrapping_mul(6364136223846793005)
-        .wrapping_add(1442695040888963407)
 }
 
 // The processes and keys of the drawn pieces.

@@ -1,7 +1,9 @@
 //! Headers and asks of which the bytes were written by hand: they are read and spelled, and each broken form of
 //! them is refused with its cause where it stands.
-use crate::{CommitAsk, Fed, FenceAsk, FenceName, Frame, Header, Local, Signature, State, Stream};
 use bytes::BytesMut;
+use pmg_frame::{
+    CommitAsk, Fed, FenceAsk, FenceName, Frame, Header, Local, Signature, State, Stream,
+};
 use pmg_value::{Cause, Fault, NodeId, Nspace, Proc, Rank, Refusal};
 use std::alloc::Global;
 use std::process::Abort;

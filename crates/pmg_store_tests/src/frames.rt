@@ -1,7 +1,7 @@
 //! What no clause says: that each call gives its answer where there is memory, and gives it when it is called
 //! again after memory ran out; and frames and faults of which bytes and offset were found by hand.
-use crate::{Fed, Frame, Stream, get_frame};
 use bytes::BytesMut;
+use pmg_frame::{Fed, Frame, Stream, get_frame};
 use pmg_value::{Cause, Fault, Refusal, Value};
 use pmg_wire::Cursor;
 use std::alloc::Global;

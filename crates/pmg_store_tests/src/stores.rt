@@ -1,29 +1,15 @@
 //! What no clause says: that calls succeed, and what stores of some pieces hold.
-use crate::Store;
-use pmg_commit::{Piece, PieceEntry};
+use crate::making::{key, piece, proc};
+use pmg_commit::Piece;
 use pmg_join::{Join, join_all, join_of_many, join_rules};
-use pmg_value::{Key, Nspace, Proc, Rank, Refusal, Value};
+use pmg_store::Store;
+use pmg_value::{Refusal, Value};
 use std::alloc::Global;
-
-fn proc(alloc: Global, rank: u32) -> Result<Proc, Refusal> {
-    Ok(Proc::new(Nspace::read(alloc, b"j")?, Rank::new(rank)))
-}
-
-// A piece of the process of rank 0 with the value under the key a.
-fn piece(alloc: Global, from: u64, to: u64, number: u64, value: u8) -> Result<Piece, Refusal> {
-    let mut entries = Vec::new(alloc);
-    entries.push(PieceEntry {
-        key: Key::read(alloc, b"a")?,
-        number,
-        value: Value::U8(value),
-    })?;
-    Piece::new(proc(alloc, 0)?, from, to, entries)
-}
 
 // The level of the process, and what is read of it under the key a, if it is a small number.
 fn seen(alloc: Global, store: &Store) -> Result<(u64, Option<u8>), Refusal> {
     let who = proc(alloc, 0)?;
-    let value = match store.read(&who, &Key::read(alloc, b"a")?) {
+    let value = match store.read(&who, &key(alloc, b"a")?) {
         Some(Value::U8(n)) => Some(*n),
         _ => None,
     };
@@ -45,9 +31,9 @@ fn store_of(alloc: Global, pieces: &[Piece], order: &[usize]) -> Result<Store, R
 fn converges_in_any_order(rt: HostRuntime) -> Result<(), Refusal> {
     let alloc = rt.alloc();
     let mut pieces = Vec::new(alloc);
-    pieces.push(piece(alloc, 0, 2, 1, 1)?)?;
-    pieces.push(piece(alloc, 0, 3, 3, 9)?)?;
-    pieces.push(piece(alloc, 2, 3, 3, 9)?)?;
+    pieces.push(piece(alloc, 0, 0, 2, 1, &[(b"a", 1)])?)?;
+    pieces.push(piece(alloc, 0, 0, 3, 3, &[(b"a", 9)])?)?;
+    pieces.push(piece(alloc, 0, 2, 3, 3, &[(b"a", 9)])?)?;
     for order in [[0, 1, 0], [1, 0, 1], [0, 2, 0], [2, 0, 2]] {
         let store = store_of(alloc, &pieces, &order)?;
         assert_eq!(rt; seen(alloc, &store)?, (3, Some(9)));
@@ -59,8 +45,8 @@ fn converges_in_any_order(rt: HostRuntime) -> Result<(), Refusal> {
 #[test]
 fn converges_in_any_grouping(rt: HostRuntime) -> Result<(), Refusal> {
     let alloc = rt.alloc();
-    let early = piece(alloc, 0, 2, 1, 1)?;
-    let late = piece(alloc, 2, 3, 3, 9)?;
+    let early = piece(alloc, 0, 0, 2, 1, &[(b"a", 1)])?;
+    let late = piece(alloc, 0, 2, 3, 3, &[(b"a", 9)])?;
     let mut first = Store::new(alloc);
     first.absorb(&late)?;
     let mut second = Store::new(alloc);
@@ -77,15 +63,15 @@ fn a_gap_stops_the_level(rt: HostRuntime) -> Result<(), Refusal> {
     let alloc = rt.alloc();
     let mut store = Store::new(alloc);
     assert_eq!(rt; seen(alloc, &store)?, (0, None));
-    store.absorb(&piece(alloc, 2, 3, 3, 9)?)?;
+    store.absorb(&piece(alloc, 0, 2, 3, 3, &[(b"a", 9)])?)?;
     assert_eq!(rt; seen(alloc, &store)?, (0, None));
     let who = proc(alloc, 0)?;
     for (n, taken) in [(0, false), (1, false), (2, false), (3, true), (4, false)] {
         assert_eq!(rt; store.taken(&who, n), taken, "at {n}");
     }
-    store.absorb(&piece(alloc, 0, 1, 1, 1)?)?;
+    store.absorb(&piece(alloc, 0, 0, 1, 1, &[(b"a", 1)])?)?;
     assert_eq!(rt; seen(alloc, &store)?, (1, Some(1)));
-    store.absorb(&piece(alloc, 1, 2, 2, 2)?)?;
+    store.absorb(&piece(alloc, 0, 1, 2, 2, &[(b"a", 2)])?)?;
     assert_eq!(rt; seen(alloc, &store)?, (3, Some(9)));
     assert_eq!(rt; store.level(&proc(alloc, 1)?), 0);
     Ok(())
@@ -95,8 +81,8 @@ fn a_gap_stops_the_level(rt: HostRuntime) -> Result<(), Refusal> {
 fn the_greater_value_counts_at_equal_numbers(rt: HostRuntime) -> Result<(), Refusal> {
     let alloc = rt.alloc();
     let mut pieces = Vec::new(alloc);
-    pieces.push(piece(alloc, 0, 1, 1, 1)?)?;
-    pieces.push(piece(alloc, 0, 1, 1, 2)?)?;
+    pieces.push(piece(alloc, 0, 0, 1, 1, &[(b"a", 1)])?)?;
+    pieces.push(piece(alloc, 0, 0, 1, 1, &[(b"a", 2)])?)?;
     for order in [[0, 1], [1, 0]] {
         let store = store_of(alloc, &pieces, &order)?;
         assert_eq!(rt; seen(alloc, &store)?, (1, Some(2)));
@@ -116,9 +102,9 @@ fn joined_twice<J: Join>(first: &J, second: &J) -> Result<J, Refusal> {
 fn stores_are_joined_by_their_bound(rt: HostRuntime) -> Result<(), Refusal> {
     let alloc = rt.alloc();
     let mut early = Store::new(alloc);
-    early.absorb(&piece(alloc, 0, 2, 1, 1)?)?;
+    early.absorb(&piece(alloc, 0, 0, 2, 1, &[(b"a", 1)])?)?;
     let mut late = Store::new(alloc);
-    late.absorb(&piece(alloc, 2, 3, 3, 9)?)?;
+    late.absorb(&piece(alloc, 0, 2, 3, 3, &[(b"a", 9)])?)?;
     assert_eq!(rt; seen(alloc, &joined_twice(&early, &late)?)?, (3, Some(9)));
     let mut others = Vec::new(alloc);
     others.push(early.copy()?)?;

@@ -1,7 +1,7 @@
 //! What no clause says: that calls succeed, and the bytes and the text of each kind of value, both ways.
-use crate::{Cursor, get_value, put_value, value_from_bytes};
 use bytes::BytesMut;
 use pmg_value::{Cause, Fault, MAX_BLOB_LEN, MAX_VALUE_SIZE, Nspace, Proc, Rank, Refusal, Value};
+use pmg_wire::{Cursor, get_value, put_value, value_from_bytes};
 use std::alloc::Global;
 
 // A value, its canonical bytes, and its text.
