@@ -5,7 +5,7 @@ use crate::plain::Plain;
 use pmg_commit::{Piece, PieceEntry};
 use pmg_store::{Board, Failure, Store};
 use pmg_value::{Key, Proc, Rank, Refusal, Value, WatchedWriter};
-use std::alloc::{AllocError, Global};
+use std::alloc::Global;
 
 // The answer, asked for a second time where there was none.
 macro_rules! again {
