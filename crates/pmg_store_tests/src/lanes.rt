@@ -1,120 +1,40 @@
-//! What no clause says: that calls succeed where there is memory, and when they are called again after memory ran out,
-//! with all as it was before; and what lanes of some pieces hold, found by hand.
-use crate::making::{key, next_number, piece};
-use pmg_commit::{Piece, best_of};
-use pmg_join::{Join, join_of_many, join_rules};
+//! What no clause says: that calls succeed where there is memory, and what lanes and stores of some pieces hold, found
+//! by hand or by a slow program.
+use crate::making::{ORDERS, drawn, next_number, piece, proc, small, three};
+use crate::plain::Plain;
+use pmg_commit::Piece;
+use pmg_join::Join;
 use pmg_lane::Lane;
-use pmg_value::{Key, Refusal, Value};
-use std::alloc::{AllocError, Global};
+use pmg_store::Store;
+use pmg_value::{Key, Proc, Refusal};
+use std::alloc::Global;
+use std::process::Abort;
 
-// The answer, asked for a second time where there was none.
-macro_rules! again {
-    ($call:expr) => {
-        match $call {
-            Err(_) => $call,
-            answer => answer,
+// A lane that took the pieces at these places, in this order.
+fn lane_of(alloc: Global, pieces: &[Piece], order: &[usize]) -> Result<Lane, Refusal> {
+    let mut lane = Lane::new(alloc);
+    for i in order {
+        if let Some(piece) = pieces.get(*i) {
+            lane.absorb(piece)?;
         }
-    };
-}
-
-fn small(value: Option<&Value>) -> Option<u8> {
-    match value {
-        Some(Value::U8(n)) => Some(*n),
-        _ => None,
     }
+    Ok(lane)
 }
 
 // The level, and what is read under the keys a and b.
 fn seen(alloc: Global, lane: &Lane) -> Result<(u64, Option<u8>, Option<u8>), Refusal> {
-    let a = small(lane.read(&key(alloc, b"a")?));
-    let b = small(lane.read(&key(alloc, b"b")?));
+    let a = small(lane.read(&Key::read(alloc, b"a")?));
+    let b = small(lane.read(&Key::read(alloc, b"b")?));
     Ok((lane.level(), a, b))
-}
-
-// Takes the piece; where memory ran out, the lane holds what it did, and takes it then.
-fn absorb_again(alloc: Global, lane: &mut Lane, piece: &Piece) -> Result<bool, Refusal> {
-    let before = seen(alloc, lane)?;
-    if let Err(_) = lane.absorb(piece) {
-        let same = seen(alloc, lane)? == before;
-        lane.absorb(piece)?;
-        return Ok(same);
-    }
-    Ok(true)
-}
-
-// The three pieces: under a the value 1 of the first commit and 3 of the third, under b the value 2 of the second.
-fn three(alloc: Global) -> Result<[Piece; 3], Refusal> {
-    Ok([
-        piece(alloc, 0, 0, 1, 1, &[(b"a", 1)])?,
-        piece(alloc, 0, 1, 2, 2, &[(b"b", 2)])?,
-        piece(alloc, 0, 2, 3, 3, &[(b"a", 3)])?,
-    ])
-}
-
-// A lane that took the pieces in that order.
-fn lane_of(alloc: Global, pieces: &[Piece], order: &[usize]) -> Result<Lane, Refusal> {
-    let mut lane = Lane::new(alloc);
-    for i in order {
-        if let Some(piece) = pieces.get(*i)
-            && !absorb_again(alloc, &mut lane, piece)?
-        {
-            return Ok(Lane::new(alloc));
-        }
-    }
-    Ok(lane)
 }
 
 #[test]
 fn each_order_ends_alike(rt: HostRuntime) -> Result<(), Refusal> {
     let alloc = rt.alloc();
     let pieces = three(alloc)?;
-    for order in [
-        [0, 1, 2],
-        [0, 2, 1],
-        [1, 0, 2],
-        [1, 2, 0],
-        [2, 0, 1],
-        [2, 1, 0],
-    ] {
+    for order in ORDERS {
         let lane = lane_of(alloc, &pieces, &order)?;
-        assert_eq!(rt; seen(alloc, &lane)?, (3, Some(3), Some(2)));
-    }
-    Ok(())
-}
-
-#[test]
-fn a_gap_stops_the_level(rt: HostRuntime) -> Result<(), Refusal> {
-    let alloc = rt.alloc();
-    let lane = lane_of(alloc, &three(alloc)?, &[2, 0])?;
-    assert_eq!(rt; seen(alloc, &lane)?, (1, Some(1), None));
-    assert_eq!(rt; lane.missing_after(1), None);
-    assert_eq!(rt; lane.missing_after(2), Some(1));
-    assert_eq!(rt; lane.taken(2), false);
-    assert_eq!(rt; lane.taken(3), true);
-    Ok(())
-}
-
-#[test]
-fn the_greater_value_counts_at_equal_numbers(rt: HostRuntime) -> Result<(), Refusal> {
-    let alloc = rt.alloc();
-    let late = [
-        piece(alloc, 0, 1, 2, 2, &[(b"a", 7)])?,
-        piece(alloc, 0, 1, 2, 2, &[(b"a", 9)])?,
-        piece(alloc, 0, 0, 1, 1, &[(b"b", 1)])?,
-    ];
-    for order in [[0, 1, 2], [1, 0, 2], [2, 0, 1], [2, 1, 0]] {
-        let lane = lane_of(alloc, &late, &order)?;
-        assert_eq!(rt; seen(alloc, &lane)?, (2, Some(9), Some(1)));
-    }
-    Ok(())
-}
-
-// Joins the other into this one: what was handed back, where memory ran out.
-fn join_again(all: &mut Lane, other: Lane) -> Result<(), AllocError> {
-    if let Err(refused) = all.join(other)
-        && let Err(_) = all.join(refused.value)
-    {
-        return Err(AllocError);
+        assert!(rt; seen(alloc, &lane)? == (3, Some(2), Some(3)));
     }
     Ok(())
 }
@@ -125,81 +45,96 @@ fn lanes_join_to_what_both_took(rt: HostRuntime) -> Result<(), Refusal> {
     let pieces = three(alloc)?;
     let early = lane_of(alloc, &pieces, &[1, 0])?;
     let mut late = lane_of(alloc, &pieces, &[2])?;
-    join_again(&mut late, again!(early.copy())?)?;
-    join_again(&mut late, early)?;
-    assert_eq!(rt; seen(alloc, &late)?, (3, Some(3), Some(2)));
-    let copy = again!(Join::copy(&late))?;
-    assert_eq!(rt; seen(alloc, &copy)?, (3, Some(3), Some(2)));
+    assert!(rt; seen(alloc, &late)? == (0, None, None));
+    Join::join(&mut late, Join::copy(&early)?)?;
+    late.join(early)?;
+    assert!(rt; seen(alloc, &late.copy()?)? == (3, Some(2), Some(3)));
+    Ok(())
+}
+
+// A piece with one entry: its first commit less one, its last, the commit of the entry, and the value under a.
+type Part = (u64, u64, u64, u8);
+
+const FIRST: Part = (0, 1, 1, 1);
+
+const SECOND: Part = (1, 2, 2, 2);
+
+const THIRD: Part = (2, 3, 3, 9);
+
+const BOTH: Part = (0, 2, 1, 1);
+
+const ALL: Part = (0, 3, 3, 9);
+
+const GREATER_FIRST: Part = (0, 1, 1, 2);
+
+const GREATER_SECOND: Part = (1, 2, 2, 7);
+
+// Pieces; then the level, after which commit those up to 2 are missing, and what is read.
+type Row<'a> = (&'a [Part], u64, Option<u64>, Option<u8>);
+
+// Takes the pieces into a lane and into a store, and requires that both hold what the row says.
+fn assert_row(rt: &impl Abort, alloc: Global, row: Row<'_>) -> Result<(), Refusal> {
+    let (pieces, level, missing, value) = row;
+    let key = Key::read(alloc, b"a")?;
+    let who = proc(alloc, 0)?;
+    let mut lane = Lane::new(alloc);
+    let mut store = Store::new(alloc);
+    for (from, to, number, value) in pieces {
+        let next = piece(alloc, 0, *from, *to, *number, &[(b"a", *value)])?;
+        lane.absorb(&next)?;
+        store.absorb(&next)?;
+    }
+    assert!(rt; lane.level() == level && store.level(&who) == level);
+    assert!(rt; small(lane.read(&key)) == value && small(store.read(&who, &key)) == value);
+    assert!(rt; lane.missing_after(2) == missing);
     Ok(())
 }
 
 #[test]
-fn lanes_are_joined_lawfully(_rt: HostRuntime) {
-    join_of_many::<Lane>();
-    join_rules::<Lane>();
+fn what_the_level_reaches_is_read(rt: HostRuntime) -> Result<(), Refusal> {
+    let rows: [Row<'_>; 12] = [
+        (&[], 0, Some(0), None),
+        (&[THIRD], 0, Some(0), None),
+        (&[THIRD, FIRST], 1, Some(1), Some(1)),
+        (&[THIRD, FIRST, SECOND], 3, None, Some(9)),
+        (&[BOTH, ALL, BOTH], 3, None, Some(9)),
+        (&[ALL, BOTH, ALL], 3, None, Some(9)),
+        (&[BOTH, THIRD, BOTH], 3, None, Some(9)),
+        (&[THIRD, BOTH, THIRD], 3, None, Some(9)),
+        (&[FIRST, GREATER_FIRST], 1, Some(1), Some(2)),
+        (&[GREATER_FIRST, FIRST], 1, Some(1), Some(2)),
+        (&[SECOND, GREATER_SECOND, FIRST], 2, None, Some(7)),
+        (&[FIRST, GREATER_SECOND, SECOND], 2, None, Some(7)),
+    ];
+    for row in rows {
+        assert_row(&rt, rt.alloc(), row)?;
+    }
+    Ok(())
 }
 
-// The slow program: how far the pieces go from the first commit without a gap.
-fn plain_level(pieces: &[Piece]) -> u64 {
-    let mut level = 0;
-    for _ in 0..pieces.len() {
-        for piece in pieces {
-            if piece.from() <= level && level < piece.to() {
-                level = piece.to();
-            }
+// Whether the lane says of its process what the list does.
+fn is_same(lane: &Lane, plain: &Plain, proc: &Proc) -> bool {
+    for key in &plain.keys {
+        if small(lane.read(key)) != plain.read(proc, key) {
+            return false;
         }
     }
-    level
-}
-
-// The slow program: what is read under the key at the level.
-fn plain_read(pieces: &[Piece], level: u64, name: &Key) -> Option<u8> {
-    let mut best = None;
-    for piece in pieces {
-        best = best_of(piece.entries(), level, name, best);
-    }
-    match best {
-        Some(entry) => small(Some(&entry.value)),
-        None => None,
-    }
-}
-
-// A piece of one to four of the commits 1 to 19, as the number says.
-fn drawn(alloc: Global, number: u64) -> Result<Piece, Refusal> {
-    let from = number >> 60;
-    let more = (number >> 58) & 3;
-    let commit = from + 1 + ((number >> 56) & more);
-    let name: &[u8; 1] = if number >> 55 & 1 == 0 { b"a" } else { b"b" };
-    piece(
-        alloc,
-        0,
-        from,
-        from + 1 + more,
-        commit,
-        &[(name, (number >> 40 & 255) as u8)],
-    )
+    lane.level() == plain.level(proc)
 }
 
 #[test]
 fn lanes_hold_what_a_list_of_pieces_does(rt: HostRuntime) -> Result<(), Refusal> {
     let alloc = rt.alloc();
-    let a = key(alloc, b"a")?;
-    let b = key(alloc, b"b")?;
+    let who = proc(alloc, 0)?;
     let mut lane = Lane::new(alloc);
-    let mut pieces = again!(Vec::with_capacity(alloc, 60))?;
-    let mut number = 7u64;
+    let mut plain = Plain::new(alloc)?;
+    let mut number = 7;
     for _ in 0..60 {
         number = next_number(number);
-        let next = drawn(alloc, number)?;
-        absorb_again(alloc, &mut lane, &next)?;
-        pieces.push(next)?;
-        let level = plain_level(&pieces);
-        let due = (
-            level,
-            plain_read(&pieces, level, &a),
-            plain_read(&pieces, level, &b),
-        );
-        assert_eq!(rt; seen(alloc, &lane)?, due);
+        let next = drawn(alloc, 0, number)?;
+        lane.absorb(&next)?;
+        plain.absorb(next)?;
+        assert!(rt; is_same(&lane, &plain, &who));
     }
     Ok(())
 }

@@ -1,20 +1,17 @@
 //! Tests of frames, lanes and stores, from without: by bytes and pieces that are written by hand, or drawn.
+//! They want memory: where an allocation fails, a test ends with NoMemory, and with nothing else.
 #![tactic(auto)]
 
 #[cfg(test)]
 mod frames;
 #[cfg(test)]
-mod inputs;
-#[cfg(test)]
-mod kinds;
-#[cfg(test)]
 mod lanes;
 #[cfg(test)]
 mod making;
 #[cfg(test)]
-mod pieces;
-#[cfg(test)]
 mod plain;
+#[cfg(test)]
+mod spelled;
 #[cfg(test)]
 mod stores;
 #[cfg(test)]

@@ -1,27 +1,12 @@
-//! Processes, keys and pieces for tests. Each allocation that is refused is asked for a second time.
+//! Processes, pieces and fences for tests.
 use pmg_commit::{Piece, PieceEntry};
+use pmg_frame::{FenceName, Signature};
 use pmg_value::{Key, Nspace, Proc, Rank, Refusal, Value};
 use std::alloc::Global;
 
-// The answer, asked for a second time where there was none.
-macro_rules! again {
-    ($call:expr) => {
-        match $call {
-            Err(_) => $call,
-            answer => answer,
-        }
-    };
-}
-
 /// The process of that rank of the namespace j.
 pub fn proc(alloc: Global, rank: u32) -> Result<Proc, Refusal> {
-    let nspace = again!(Nspace::read(alloc, b"j"))?;
-    Ok(Proc::new(nspace, Rank::new(rank)))
-}
-
-/// The key of that name.
-pub fn key(alloc: Global, name: &[u8]) -> Result<Key, Refusal> {
-    again!(Key::read(alloc, name))
+    Ok(Proc::new(Nspace::read(alloc, b"j")?, Rank::new(rank)))
 }
 
 /// A piece of the process of that rank, with small numbers under the keys, each of that commit.
@@ -33,10 +18,10 @@ pub fn piece(
     number: u64,
     values: &[(&[u8; 1], u8)],
 ) -> Result<Piece, Refusal> {
-    let mut entries = again!(Vec::with_capacity(alloc, values.len()))?;
+    let mut entries = Vec::with_capacity(alloc, values.len())?;
     for (name, value) in values {
         entries.push(PieceEntry {
-            key: key(alloc, *name)?,
+            key: Key::read(alloc, *name)?,
             number,
             value: Value::U8(*value),
         })?;
@@ -44,9 +29,63 @@ pub fn piece(
     Piece::new(proc(alloc, rank)?, from, to, entries)
 }
 
+/// Under a the value 1 of the first commit and 2 of the second, under b the value 3 of the third.
+pub fn three(alloc: Global) -> Result<[Piece; 3], Refusal> {
+    Ok([
+        piece(alloc, 0, 0, 1, 1, &[(b"a", 1)])?,
+        piece(alloc, 0, 1, 2, 2, &[(b"a", 2)])?,
+        piece(alloc, 0, 2, 3, 3, &[(b"b", 3)])?,
+    ])
+}
+
+/// The orders of three.
+pub const ORDERS: [[usize; 3]; 6] = [
+    [0, 1, 2],
+    [0, 2, 1],
+    [1, 0, 2],
+    [1, 2, 0],
+    [2, 0, 1],
+    [2, 1, 0],
+];
+
+/// The name of that instance of the fence of these ranks of j.
+pub fn fence_name(
+    alloc: Global,
+    ranks: &[u32],
+    collect: bool,
+    instance: u64,
+) -> Result<FenceName, Refusal> {
+    let mut list = Vec::with_capacity(alloc, ranks.len())?;
+    for rank in ranks {
+        list.push(proc(alloc, *rank)?)?;
+    }
+    FenceName::new(Signature::new(list, collect)?, instance)
+}
+
+/// The value, if it is a small number.
+pub fn small(value: Option<&Value>) -> Option<u8> {
+    match value {
+        Some(Value::U8(number)) => Some(*number),
+        _ => None,
+    }
+}
+
 /// The number that is drawn after this one.
 pub fn next_number(number: u64) -> u64 {
     number
         .wrapping_mul(6364136223846793005)
         .wrapping_add(1442695040888963407)
+}
+
+/// A piece of one to four of the commits 1 to 19 of the process of that rank, as the number says.
+pub fn drawn(alloc: Global, rank: u32, number: u64) -> Result<Piece, Refusal> {
+    let from = (number >> 58) & 15;
+    let more = (number >> 56) & 3;
+    let commit = from + 1 + ((number >> 54) & more);
+    let value = (number >> 40 & 255) as u8;
+    let all: [(&[u8; 1], u8); 3] = [(b"a", value), (b"b", value / 2), (b"c", value / 4)];
+    let first = (number >> 53 & 1) as usize;
+    let last = first + 1 + (number >> 52 & 1) as usize;
+    let values = all.get(first..last).unwrap_or(&all);
+    piece(alloc, rank, from, from + 1 + more, commit, values)
 }

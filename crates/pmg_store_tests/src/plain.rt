@@ -1,28 +1,38 @@
-//! The slow program that tests compare stores with: a plain list of pieces.
+//! The slow program that tests compare lanes and stores with: a plain list of pieces.
+use crate::making::{proc, small};
 use pmg_commit::{Piece, best_of};
-use pmg_value::{Key, Proc, Value, push_number};
+use pmg_value::{Key, Proc, Refusal};
 use std::alloc::{AllocError, Global};
 
-/// The pieces that were taken, in the order in which they came.
+/// The pieces that were taken, in the order in which they came, of these processes and keys.
 #[derive(Drop)]
 pub struct Plain {
-    alloc: Global,
+    pub procs: Vec<Proc>,
+    pub keys: Vec<Key>,
     pieces: Vec<Piece>,
 }
 
 impl Plain {
-    /// A list of no pieces.
-    pub fn new(alloc: Global) -> Plain {
-        Plain {
-            alloc,
-            pieces: Vec::new(alloc),
+    /// A list of no pieces, of processes 0 to 3 of j and the keys a, b and c.
+    pub fn new(alloc: Global) -> Result<Plain, Refusal> {
+        let mut procs = Vec::with_capacity(alloc, 4)?;
+        for rank in 0..4 {
+            procs.push(proc(alloc, rank)?)?;
         }
+        let mut keys = Vec::with_capacity(alloc, 3)?;
+        for name in [b"a", b"b", b"c"] {
+            keys.push(Key::read(alloc, name)?)?;
+        }
+        Ok(Plain {
+            procs,
+            keys,
+            pieces: Vec::new(alloc),
+        })
     }
 
-    /// Takes a copy of the piece.
-    pub fn absorb(&mut self, piece: &Piece) -> Result<(), AllocError> {
-        let copy = piece.copy()?;
-        self.pieces.push(copy)?;
+    /// Takes the piece.
+    pub fn absorb(&mut self, piece: Piece) -> Result<(), AllocError> {
+        self.pieces.push(piece)?;
         Ok(())
     }
 
@@ -49,8 +59,8 @@ impl Plain {
         level
     }
 
-    /// Of the entries up to the level, the latest under the key.
-    pub fn read(&self, proc: &Proc, key: &Key) -> Option<&Value> {
+    /// Of the entries up to the level, the latest under the key, which is a small number.
+    pub fn read(&self, proc: &Proc, key: &Key) -> Option<u8> {
         let level = self.level(proc);
         let mut best = None;
         for piece in &self.pieces {
@@ -59,39 +69,8 @@ impl Plain {
             }
         }
         match best {
-            Some(entry) => Some(&entry.value),
+            Some(entry) => small(Some(&entry.value)),
             None => None,
         }
-    }
-
-    /// The dump, of these processes and keys in their order.
-    pub fn dump(&self, procs: &[Proc], keys: &[Key]) -> Result<Vec<u8>, AllocError> {
-        let mut text = Vec::new(self.alloc);
-        for proc in procs {
-            if self.level(proc) > 0 {
-                self.push_lines(&mut text, proc, keys)?;
-            }
-        }
-        Ok(text)
-    }
-
-    fn push_lines(&self, text: &mut Vec<u8>, proc: &Proc, keys: &[Key]) -> Result<(), AllocError> {
-        text.extend_from_slice(b"proc ")?;
-        text.extend_from_slice(proc.nspace.as_bytes())?;
-        text.extend_from_slice(b" ")?;
-        push_number(text, u64::from(proc.rank.number()))?;
-        text.extend_from_slice(b" level ")?;
-        push_number(text, self.level(proc))?;
-        text.extend_from_slice(b"\n")?;
-        for key in keys {
-            if let Some(value) = self.read(proc, key) {
-                text.extend_from_slice(b"  ")?;
-                text.extend_from_slice(&value.to_text(self.alloc)?)?;
-                text.extend_from_slice(b" ")?;
-                text.extend_from_slice(key.as_bytes())?;
-                text.extend_from_slice(b"\n")?;
-            }
-        }
-        Ok(())
     }
 }

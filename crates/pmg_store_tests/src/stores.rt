@@ -1,19 +1,24 @@
-//! What no clause says: that calls succeed, and what stores of some pieces hold.
-use crate::making::{key, piece, proc};
+//! What no clause says of stores and boards: that calls succeed where there is memory, the text of their dumps, and
+//! that they hold what a plain list of pieces does; and that they are as they were where memory ran out.
+use crate::making::{ORDERS, drawn, next_number, piece, small, three};
+use crate::plain::Plain;
+use crate::spelled::{edited, first_commit};
 use pmg_commit::Piece;
-use pmg_join::{Join, join_all, join_of_many, join_rules};
-use pmg_store::Store;
-use pmg_value::{Refusal, Value};
+use pmg_join::{Join, join_all};
+use pmg_store::{Board, Failure, Store, store_of_stream};
+use pmg_value::{Proc, Rank, Refusal, WatchedWriter};
 use std::alloc::Global;
+use std::process::Abort;
 
-// The level of the process, and what is read of it under the key a, if it is a small number.
-fn seen(alloc: Global, store: &Store) -> Result<(u64, Option<u8>), Refusal> {
-    let who = proc(alloc, 0)?;
-    let value = match store.read(&who, &key(alloc, b"a")?) {
-        Some(Value::U8(n)) => Some(*n),
-        _ => None,
-    };
-    Ok((store.level(&who), value))
+const ONE_DUMPED: &[u8] = b"proc j 0 level 1\n  u8:1 a\n";
+
+const THREE_DUMPED: &[u8] = b"proc j 0 level 3\n  u8:2 a\n  u8:3 b\n";
+
+// Whether the store is dumped so.
+fn is_dumped(alloc: Global, store: &Store, text: &[u8]) -> Result<bool, Failure> {
+    let mut writer = WatchedWriter::new(Vec::with_capacity(alloc, 64)?);
+    store.dump(&mut writer)?;
+    Ok(writer.into_inner().as_slice() == text)
 }
 
 // A store that took the pieces at these places, in this order.
@@ -28,93 +33,171 @@ fn store_of(alloc: Global, pieces: &[Piece], order: &[usize]) -> Result<Store, R
 }
 
 #[test]
-fn converges_in_any_order(rt: HostRuntime) -> Result<(), Refusal> {
+fn three_pieces_end_alike_in_each_order(rt: HostRuntime) -> Result<(), Failure> {
     let alloc = rt.alloc();
-    let mut pieces = Vec::new(alloc);
-    pieces.push(piece(alloc, 0, 0, 2, 1, &[(b"a", 1)])?)?;
-    pieces.push(piece(alloc, 0, 0, 3, 3, &[(b"a", 9)])?)?;
-    pieces.push(piece(alloc, 0, 2, 3, 3, &[(b"a", 9)])?)?;
-    for order in [[0, 1, 0], [1, 0, 1], [0, 2, 0], [2, 0, 2]] {
+    let pieces = three(alloc)?;
+    for order in ORDERS {
         let store = store_of(alloc, &pieces, &order)?;
-        assert_eq!(rt; seen(alloc, &store)?, (3, Some(9)));
-        assert_eq!(rt; seen(alloc, &store.copy()?)?, (3, Some(9)));
+        assert!(rt; is_dumped(alloc, &store, THREE_DUMPED)?);
+    }
+    Ok(())
+}
+
+// The stores of the first and third piece, and of the second.
+fn two_stores(alloc: Global) -> Result<(Store, Store), Refusal> {
+    let pieces = three(alloc)?;
+    let outer = store_of(alloc, &pieces, &[0, 2])?;
+    Ok((outer, store_of(alloc, &pieces, &[1])?))
+}
+
+#[test]
+fn three_pieces_end_alike_by_joins(rt: HostRuntime) -> Result<(), Failure> {
+    let alloc = rt.alloc();
+    let (outer, mut second) = two_stores(alloc)?;
+    assert!(rt; is_dumped(alloc, &outer, ONE_DUMPED)?);
+    second.join(Join::copy(&outer)?)?;
+    assert!(rt; is_dumped(alloc, &second, THREE_DUMPED)?);
+    let mut others = Vec::with_capacity(alloc, 1)?;
+    others.push(second)?;
+    assert!(rt; is_dumped(alloc, &join_all(outer, others)?, THREE_DUMPED)?);
+    Ok(())
+}
+
+// Takes the piece. Where memory runs out, the store is dumped as it was before, and the piece is taken then.
+fn absorb(
+    rt: &impl Abort,
+    alloc: Global,
+    store: &mut Store,
+    before: &[u8],
+    piece: &Piece,
+) -> Result<(), Failure> {
+    if store.absorb(piece).is_err() {
+        assert!(rt; is_dumped(alloc, store, before)?);
+        store.absorb(piece)?;
     }
     Ok(())
 }
 
 #[test]
-fn converges_in_any_grouping(rt: HostRuntime) -> Result<(), Refusal> {
+fn half_a_piece_never_stays(rt: HostRuntime) -> Result<(), Failure> {
     let alloc = rt.alloc();
-    let early = piece(alloc, 0, 0, 2, 1, &[(b"a", 1)])?;
-    let late = piece(alloc, 0, 2, 3, 3, &[(b"a", 9)])?;
-    let mut first = Store::new(alloc);
-    first.absorb(&late)?;
-    let mut second = Store::new(alloc);
-    second.absorb(&early)?;
-    second.join(first.copy()?)?;
-    assert_eq!(rt; seen(alloc, &second)?, (3, Some(9)));
-    first.join(second)?;
-    assert_eq!(rt; seen(alloc, &first)?, (3, Some(9)));
-    Ok(())
-}
-
-#[test]
-fn a_gap_stops_the_level(rt: HostRuntime) -> Result<(), Refusal> {
-    let alloc = rt.alloc();
+    let two = piece(alloc, 0, 0, 2, 1, &[(b"a", 1)])?;
+    let more = piece(alloc, 0, 0, 1, 1, &[(b"a", 1), (b"b", 2), (b"c", 3)])?;
     let mut store = Store::new(alloc);
-    assert_eq!(rt; seen(alloc, &store)?, (0, None));
-    store.absorb(&piece(alloc, 0, 2, 3, 3, &[(b"a", 9)])?)?;
-    assert_eq!(rt; seen(alloc, &store)?, (0, None));
-    let who = proc(alloc, 0)?;
-    for (n, taken) in [(0, false), (1, false), (2, false), (3, true), (4, false)] {
-        assert_eq!(rt; store.taken(&who, n), taken, "at {n}");
-    }
-    store.absorb(&piece(alloc, 0, 0, 1, 1, &[(b"a", 1)])?)?;
-    assert_eq!(rt; seen(alloc, &store)?, (1, Some(1)));
-    store.absorb(&piece(alloc, 0, 1, 2, 2, &[(b"a", 2)])?)?;
-    assert_eq!(rt; seen(alloc, &store)?, (3, Some(9)));
-    assert_eq!(rt; store.level(&proc(alloc, 1)?), 0);
+    absorb(&rt, alloc, &mut store, b"", &two)?;
+    absorb(
+        &rt,
+        alloc,
+        &mut store,
+        b"proc j 0 level 2\n  u8:1 a\n",
+        &more,
+    )?;
+    let text = b"proc j 0 level 2\n  u8:1 a\n  u8:2 b\n  u8:3 c\n";
+    assert!(rt; is_dumped(alloc, &store, text)?);
     Ok(())
 }
 
 #[test]
-fn the_greater_value_counts_at_equal_numbers(rt: HostRuntime) -> Result<(), Refusal> {
+fn refused_memory_leaves_a_store_as_it_was(rt: HostRuntime) -> Result<(), Failure> {
     let alloc = rt.alloc();
-    let mut pieces = Vec::new(alloc);
-    pieces.push(piece(alloc, 0, 0, 1, 1, &[(b"a", 1)])?)?;
-    pieces.push(piece(alloc, 0, 0, 1, 1, &[(b"a", 2)])?)?;
-    for order in [[0, 1], [1, 0]] {
-        let store = store_of(alloc, &pieces, &order)?;
-        assert_eq!(rt; seen(alloc, &store)?, (1, Some(2)));
+    let more = piece(alloc, 0, 1, 2, 2, &[(b"b", 7)])?;
+    let mut store = store_of_stream(alloc, &edited(alloc, "piece")?)?;
+    absorb(
+        &rt,
+        alloc,
+        &mut store,
+        b"proc j 0 level 1\n  bool:true a\n",
+        &more,
+    )?;
+    let text = b"proc j 0 level 2\n  bool:true a\n  u8:7 b\n";
+    let mut first = Store::new(alloc);
+    if let Err(refused) = first.join(store) {
+        assert!(rt; is_dumped(alloc, &first, b"")?);
+        assert!(rt; is_dumped(alloc, &refused.value, text)?);
+        first.join(refused.value)?;
+    }
+    assert!(rt; is_dumped(alloc, &first, text)?);
+    Ok(())
+}
+
+// Whether the near and the far store of the board are dumped so.
+fn is_shown(alloc: Global, board: &Board, near: &[u8], far: &[u8]) -> Result<bool, Failure> {
+    Ok(is_dumped(alloc, board.near(), near)? && is_dumped(alloc, board.far(), far)?)
+}
+
+#[test]
+fn a_board_takes_all_or_nothing(rt: HostRuntime) -> Result<(), Failure> {
+    let alloc = rt.alloc();
+    let pieces = three(alloc)?;
+    let mut board = Board::new(alloc);
+    board.absorb_near(&pieces[0])?;
+    board.absorb_far(&pieces[2])?;
+    assert!(rt; is_shown(alloc, &board.copy()?, ONE_DUMPED, b"")?);
+    if board.absorb_all(&pieces, &pieces).is_err() {
+        assert!(rt; is_shown(alloc, &board, ONE_DUMPED, b"")?);
+        board.absorb_all(&pieces, &pieces)?;
+    }
+    assert!(rt; is_shown(alloc, &board, THREE_DUMPED, THREE_DUMPED)?);
+    Ok(())
+}
+
+#[test]
+fn processes_are_told_in_order_with_their_ends(rt: HostRuntime) -> Result<(), Refusal> {
+    let mut store = Store::new(rt.alloc());
+    store.absorb(&piece(rt.alloc(), 2, 1, 2, 2, &[])?)?;
+    store.absorb(&first_commit(rt.alloc(), &[b"pmix.term"])?)?;
+    let procs = store.processes()?;
+    assert!(rt; procs.len() == 2);
+    for (proc, (rank, ended)) in procs.iter().zip([(0, true), (2, false)]) {
+        assert!(rt; proc.rank == Rank::new(rank) && store.has_ended(proc) == ended);
     }
     Ok(())
 }
 
-// The second joined to a copy of the first, twice.
-fn joined_twice<J: Join>(first: &J, second: &J) -> Result<J, Refusal> {
-    let mut all = first.copy()?;
-    all.join(second.copy()?).map_err(|_| Refusal::NoMemory)?;
-    all.join(second.copy()?).map_err(|_| Refusal::NoMemory)?;
-    Ok(all)
+// Whether both say the same of the process.
+fn is_same_of(store: &Store, plain: &Plain, proc: &Proc) -> bool {
+    for n in 0..21 {
+        if store.taken(proc, n) != plain.taken(proc, n) {
+            return false;
+        }
+    }
+    for key in &plain.keys {
+        if small(store.read(proc, key)) != plain.read(proc, key) {
+            return false;
+        }
+    }
+    store.level(proc) == plain.level(proc)
 }
 
+// Whether both say the same of each process.
+fn is_same(store: &Store, plain: &Plain) -> bool {
+    for proc in &plain.procs {
+        if !is_same_of(store, plain, proc) {
+            return false;
+        }
+    }
+    true
+}
+
+// Each piece goes to one of two stores, which are joined at last, and to a third.
 #[test]
-fn stores_are_joined_by_their_bound(rt: HostRuntime) -> Result<(), Refusal> {
+fn stores_hold_what_a_list_of_pieces_does(rt: HostRuntime) -> Result<(), Failure> {
     let alloc = rt.alloc();
-    let mut early = Store::new(alloc);
-    early.absorb(&piece(alloc, 0, 0, 2, 1, &[(b"a", 1)])?)?;
-    let mut late = Store::new(alloc);
-    late.absorb(&piece(alloc, 0, 2, 3, 3, &[(b"a", 9)])?)?;
-    assert_eq!(rt; seen(alloc, &joined_twice(&early, &late)?)?, (3, Some(9)));
-    let mut others = Vec::new(alloc);
-    others.push(early.copy()?)?;
-    others.push(Store::new(alloc))?;
-    assert_eq!(rt; seen(alloc, &join_all(late, others)?)?, (3, Some(9)));
+    let mut even = Store::new(alloc);
+    let mut odd = Store::new(alloc);
+    let mut both = Store::new(alloc);
+    let mut plain = Plain::new(alloc)?;
+    let mut number = 7;
+    for done in 0..90 {
+        number = next_number(number);
+        let next = drawn(alloc, (number >> 62) as u32, number)?;
+        let half = if done % 2 == 0 { &mut even } else { &mut odd };
+        half.absorb(&next)?;
+        both.absorb(&next)?;
+        plain.absorb(next)?;
+        assert!(rt; is_same(&both, &plain));
+    }
+    even.join(odd)?;
+    assert!(rt; is_same(&even, &plain));
     Ok(())
-}
-
-#[test]
-fn stores_are_joined_lawfully(_rt: HostRuntime) {
-    join_of_many::<Store>();
-    join_rules::<Store>();
 }

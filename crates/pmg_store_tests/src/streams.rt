@@ -1,31 +1,28 @@
-//! What no clause says: that streams are dumped, and what is left where a reader, a writer or memory fails.
-use pmg_commit::{Piece, PieceEntry};
+//! What no clause says: that streams are read, merged and dumped, and what is left where a reader or a writer fails.
+use crate::spelled::edited;
 use pmg_store::{
-    Board, Failure, MAX_STREAMS, Store, WatchedReader, dump_stream, merge_inputs, merge_streams,
-    store_of_stream,
+    Failure, INPUT_LIMIT, WatchedReader, dump_stream, merge_inputs, merge_streams, read_input,
 };
-use pmg_value::{Key, Nspace, Proc, Rank, Refusal, Value, WatchedWriter};
-use std::alloc::{AllocError, Global};
+use pmg_value::{Cause, Refusal, WatchedWriter};
+use std::alloc::Global;
 use std::io;
 use std::io::{ErrorKind, Read, Write};
 
-// Process 0 of j, its first commit, with true under a.
-const ONE: &[u8; 45] =
-    b"\x01\x01\x00\x00\x00\x27\x01j\x00\x00\x00\x00\x00\x00\x00\x00\x00\x00\x00\x00\x00\x00\x00\x00\x00\x00\x00\x01\x00\x00\x00\x01\x00\x01a\x00\x00\x00\x00\x00\x00\x00\x01\x01\x01";
+// The dump of the frame `piece`, which has 45 bytes.
+const DUMPED: &[u8; 31] = b"proc j 0 level 1\n  bool:true a\n";
 
-const ONE_DUMPED: &[u8; 31] = b"proc j 0 level 1\n  bool:true a\n";
-
-// Gives one byte a read. The read of number `fails_at` fails.
+// Gives one byte a read. The read of number `fails_at` fails with an error of that kind.
 #[derive(Drop)]
 struct Slow<'a> {
     left: &'a [u8],
     fails_at: usize,
+    kind: ErrorKind,
 }
 
 impl Read for Slow<'_> {
     fn read(&mut self, buf: &mut [u8]) -> io::Result<usize> {
         if self.fails_at == 1 {
-            return Err(io::Error::from(ErrorKind::Other));
+            return Err(io::Error::from(self.kind));
         }
         self.fails_at = self.fails_at.saturating_sub(1);
         match (self.left.split_first(), buf.first_mut()) {
@@ -62,166 +59,115 @@ impl Write for Short {
     }
 }
 
-fn is_no_memory(failure: &Failure) -> bool {
-    matches!(failure, Failure::Refused(Refusal::NoMemory))
+// A writer that keeps the text of a small dump.
+fn page(alloc: Global) -> Result<WatchedWriter<Vec<u8>>, Failure> {
+    Ok(WatchedWriter::new(Vec::with_capacity(alloc, 64)?))
 }
 
-#[test]
-fn one_contribution_is_dumped(rt: HostRuntime) {
-    let mut reader = WatchedReader::new(ONE.as_slice());
-    let mut writer = WatchedWriter::new(Vec::new(rt.alloc()));
-    let result = dump_stream(rt.alloc(), &mut reader, &mut writer);
-    let has_failed = writer.has_failed();
-    let held = writer.into_inner();
-    match result {
-        Ok(()) => assert_eq!(rt; held.as_slice(), ONE_DUMPED.as_slice()),
-        Err(Failure::Write) => assert!(rt; has_failed && ONE_DUMPED.starts_with(&held)),
-        Err(failure) => assert!(rt; is_no_memory(&failure) && held.is_empty()),
+// The failure of a call, where memory was not wanting.
+fn with_memory(failure: Option<Failure>) -> Result<Option<Failure>, Failure> {
+    match failure {
+        Some(Failure::Refused(Refusal::NoMemory)) => Err(Failure::Refused(Refusal::NoMemory)),
+        other => Ok(other),
     }
 }
 
 #[test]
-fn a_failed_read_leaves_nothing_written(rt: HostRuntime) {
+fn a_failed_read_leaves_nothing_written(rt: HostRuntime) -> Result<(), Failure> {
+    let alloc = rt.alloc();
+    let bytes = edited(alloc, "piece")?;
     for fails_at in 1..=46 {
+        let kind = match fails_at % 3 {
+            0 => ErrorKind::Other,
+            1 => ErrorKind::Interrupted,
+            _ => ErrorKind::UnexpectedEof,
+        };
+        let left = bytes.as_slice();
         let mut reader = WatchedReader::new(Slow {
-            left: ONE.as_slice(),
+            left,
             fails_at,
+            kind,
         });
-        let mut writer = WatchedWriter::new(Vec::new(rt.alloc()));
-        let result = dump_stream(rt.alloc(), &mut reader, &mut writer);
-        assert!(rt; matches!(result, Err(Failure::Read)), "at {fails_at}");
-        assert_eq!(rt; reader.reads(), fails_at);
-        assert!(rt; writer.into_inner().is_empty(), "at {fails_at}");
+        let mut writer = page(alloc)?;
+        let failure = with_memory(dump_stream(alloc, &mut reader, &mut writer).err())?;
+        assert!(rt; failure == Some(Failure::Read) && writer.into_inner().is_empty());
+        assert!(rt; matches!(reader.failure(), Some(error) if error.kind() == kind));
+        assert!(rt; reader.reads() == fails_at);
     }
-}
-
-#[test]
-fn a_failed_write_leaves_a_prefix(rt: HostRuntime) {
-    for most in 0..ONE_DUMPED.len() {
-        let mut reader = WatchedReader::new(ONE.as_slice());
-        let mut writer = WatchedWriter::new(Short {
-            held: Vec::new(rt.alloc()),
-            most,
-        });
-        let result = dump_stream(rt.alloc(), &mut reader, &mut writer);
-        assert!(rt; matches!(result, Err(Failure::Write)), "at {most}");
-        let held = writer.into_inner().held;
-        assert!(rt; ONE_DUMPED.starts_with(&held), "at {most}");
-        assert_eq!(rt; held.len(), most);
-    }
-}
-
-fn piece(alloc: Global) -> Result<Piece, Refusal> {
-    let mut entries = Vec::new(alloc);
-    entries.push(PieceEntry {
-        key: Key::read(alloc, b"b")?,
-        number: 2,
-        value: Value::U8(7),
-    })?;
-    let proc = Proc::new(Nspace::read(alloc, b"j")?, Rank::new(0));
-    Piece::new(proc, 1, 2, entries)
-}
-
-#[test]
-fn refused_memory_leaves_a_store_as_it_was(rt: HostRuntime) {
-    let alloc = rt.alloc();
-    let (Ok(mut store), Ok(more), Ok(key)) = (
-        store_of_stream(alloc, ONE),
-        piece(alloc),
-        Key::read(alloc, b"b"),
-    ) else {
-        return;
-    };
-    let taken = store.absorb(&more).is_ok();
-    assert_eq!(rt; store.level(more.proc()), if taken { 2 } else { 1 });
-    assert_eq!(rt; store.read(more.proc(), &key).is_some(), taken);
-    let mut first = Store::new(alloc);
-    match first.join(store) {
-        Ok(()) => assert_eq!(rt; first.level(more.proc()), if taken { 2 } else { 1 }),
-        Err(failed) => {
-            assert_eq!(rt; first.level(more.proc()), 0);
-            assert_eq!(rt; failed.value.level(more.proc()), if taken { 2 } else { 1 });
-        }
-    }
-}
-
-#[test]
-fn a_board_takes_pieces_into_the_named_store(rt: HostRuntime) -> Result<(), Refusal> {
-    let alloc = rt.alloc();
-    let more = piece(alloc)?;
-    let first = Piece::new(more.proc().copy()?, 0, 1, Vec::new(alloc))?;
-    let mut board = Board::new(alloc);
-    board.absorb_near(&first)?;
-    board.absorb_far(&first)?;
-    board.absorb_far(&more)?;
-    let again = board.copy()?;
-    assert_eq!(rt; again.near().level(first.proc()), 1);
-    assert_eq!(rt; again.far().level(first.proc()), 2);
-    board.absorb_all(&[more], &[])?;
-    assert_eq!(rt; board.near().level(first.proc()), 2);
-    assert_eq!(rt; board.far().level(first.proc()), 2);
     Ok(())
 }
 
-// The readers of two streams, of which the second comes after the first.
-fn two_readers<'a>(
-    alloc: Global,
-    first: &'a [u8],
-    second: &'a [u8],
-) -> Result<Vec<WatchedReader<&'a [u8]>>, AllocError> {
-    let mut readers = Vec::with_capacity(alloc, 2)?;
-    readers.push(WatchedReader::new(first))?;
-    readers.push(WatchedReader::new(second))?;
-    Ok(readers)
-}
-
-fn two_inputs(alloc: Global, first: &[u8], second: &[u8]) -> Result<Vec<Vec<u8>>, AllocError> {
-    let mut inputs = Vec::with_capacity(alloc, 2)?;
-    inputs.push(Vec::from_slice(alloc, first)?)?;
-    inputs.push(Vec::from_slice(alloc, second)?)?;
-    Ok(inputs)
+#[test]
+fn a_failed_write_leaves_a_prefix(rt: HostRuntime) -> Result<(), Failure> {
+    let alloc = rt.alloc();
+    let bytes = edited(alloc, "piece")?;
+    for most in 0..=31 {
+        let held = Vec::with_capacity(alloc, most)?;
+        let mut reader = WatchedReader::new(bytes.as_slice());
+        let mut writer = WatchedWriter::new(Short { held, most });
+        let failure = with_memory(dump_stream(alloc, &mut reader, &mut writer).err())?;
+        assert!(rt; failure == (most < 31).then_some(Failure::Write));
+        assert!(rt; Some(writer.into_inner().held.as_slice()) == DUMPED.get(..most));
+    }
+    Ok(())
 }
 
 // What a merge of the two streams writes: as readers, and as inputs in memory.
 fn merged(alloc: Global, first: &[u8], second: &[u8]) -> Result<[Vec<u8>; 2], Failure> {
-    let mut readers = two_readers(alloc, first, second)?;
-    let mut writer = WatchedWriter::new(Vec::new(alloc));
-    merge_streams(alloc, &mut readers, &mut writer)?;
-    let mut other = WatchedWriter::new(Vec::new(alloc));
-    merge_inputs(alloc, &two_inputs(alloc, first, second)?, &mut other)?;
-    Ok([writer.into_inner(), other.into_inner()])
+    let mut readers = [WatchedReader::new(first), WatchedReader::new(second)];
+    let mut read = page(alloc)?;
+    let mut held = page(alloc)?;
+    merge_streams(alloc, &mut readers, &mut read)?;
+    let inputs = [
+        Vec::from_slice(alloc, first)?,
+        Vec::from_slice(alloc, second)?,
+    ];
+    merge_inputs(alloc, &inputs, &mut held)?;
+    Ok([read.into_inner(), held.into_inner()])
 }
 
 #[test]
-fn streams_merge_in_either_order(rt: HostRuntime) -> Result<(), Failure> {
-    for (first, second) in [(ONE.as_slice(), b"".as_slice()), (b"", ONE), (ONE, ONE)] {
-        let [read, held] = merged(rt.alloc(), first, second)?;
-        assert_eq!(rt; read.as_slice(), ONE_DUMPED.as_slice());
-        assert_eq!(rt; held.as_slice(), ONE_DUMPED.as_slice());
+fn streams_are_merged_up_to_a_fault(rt: HostRuntime) -> Result<(), Failure> {
+    let alloc = rt.alloc();
+    let whole = edited(alloc, "piece")?;
+    let none = Vec::new(alloc);
+    for (first, second) in [(&whole, &none), (&none, &whole), (&whole, &whole)] {
+        let [read, held] = merged(alloc, first, second)?;
+        assert!(rt; read.as_slice() == DUMPED.as_slice() && held.as_slice() == DUMPED.as_slice());
     }
+    let cut = edited(alloc, "piece ..44")?;
+    let late = with_memory(merged(alloc, &whole, &cut).err())?;
+    assert!(rt; matches!(late, Some(Failure::InStream(2, fault)) if fault.cause == Cause::Cut));
+    let early = with_memory(merged(alloc, &cut, b"\x03\x01\x00\x00\x00\x00").err())?;
+    assert!(rt; matches!(early, Some(Failure::InStream(1, fault)) if fault.cause == Cause::Cut));
     Ok(())
 }
 
-#[test]
-fn a_fault_is_told_with_its_stream(rt: HostRuntime) {
-    let cut = merged(rt.alloc(), ONE, &ONE[..44]);
-    assert!(rt; matches!(cut, Err(Failure::InStream(2, fault)) if fault.offset == 0));
-    let both = merged(rt.alloc(), &ONE[..44], b"\x03\x01\x00\x00\x00\x00");
-    assert!(rt; matches!(both, Err(Failure::InStream(1, fault)) if fault.offset == 0));
+// Gives as many bytes as are left, which are those that lie there.
+#[derive(Drop)]
+struct Long(usize);
+
+impl Read for Long {
+    fn read(&mut self, buf: &mut [u8]) -> io::Result<usize> {
+        let given = self.0.min(buf.len());
+        self.0 -= given;
+        Ok(given)
+    }
 }
 
 #[test]
-fn more_readers_than_streams_are_merged_are_not_read(rt: HostRuntime) -> Result<(), AllocError> {
-    let mut readers = Vec::new(rt.alloc());
-    for _ in 0..MAX_STREAMS + 1 {
-        readers.push(WatchedReader::new(Slow {
-            left: ONE,
-            fails_at: 1,
-        }))?;
-    }
-    let mut writer = WatchedWriter::new(Vec::new(rt.alloc()));
-    let answer = merge_streams(rt.alloc(), &mut readers, &mut writer);
-    assert!(rt; matches!(answer, Err(Failure::Refused(Refusal::TooMany))));
-    assert!(rt; readers.iter().all(|reader| reader.reads() == 0));
+fn input_is_read_up_to_its_limit(rt: HostRuntime) -> Result<(), Failure> {
+    let alloc = rt.alloc();
+    let text = vec![in alloc; 7u8; 200_000]?;
+    assert!(rt; read_input(alloc, &mut WatchedReader::new(text.as_slice()))? == text);
+
+    let mut whole = WatchedReader::new(Long(INPUT_LIMIT));
+    assert!(rt; read_input(alloc, &mut whole)?.len() == INPUT_LIMIT && whole.reads() == 1025);
+
+    let mut longer = WatchedReader::new(Long(INPUT_LIMIT + 10));
+    let failure = with_memory(read_input(alloc, &mut longer).err())?;
+    let too_long = Refusal::bad_frame(67_108_864, Cause::Input);
+    assert!(rt; failure == Some(Failure::Refused(too_long)));
+    assert!(rt; longer.reads() == 1025 && !longer.has_failed());
     Ok(())
 }

@@ -1,211 +1,153 @@
-//! What no clause says: the bytes and the text of arrays, both ways, and their faults.
-use bytes::BytesMut;
-use pmg_value::{Cause, Fault, MAX_BLOB_LEN, MAX_VALUE_SIZE, Refusal, Value};
-use pmg_wire::{Cursor, get_value, put_value};
-use std::alloc::Global;
+//! Which items make an array, and how long keys, strings, byte objects and arrays may be.
+use crate::rows::{Field, bytes_of};
+use pmg_value::{Cause, MAX_BLOB_LEN, MAX_VALUE_SIZE, Refusal, Value};
+use pmg_wire::value_from_bytes;
+use std::alloc::{AllocError, Global};
 
-// Whether these bytes are read to their end, written again as they were, and print as this text.
-fn stands(alloc: Global, bytes: &[u8], text: &str) -> Result<bool, Refusal> {
-    let mut at = Cursor::new(7, bytes);
-    let value = get_value(alloc, &mut at)?;
-    let mut out = BytesMut::new(alloc);
-    put_value(&mut out, &value)?;
-    let written = value.to_text(alloc)?;
-    Ok(
-        out.as_slice() == bytes
-            && at.rest().is_empty()
-            && value.copy()?.cmp(&value).is_eq()
-            && value.size() == bytes.len()
-            && written.as_slice() == text.as_bytes(),
-    )
-}
+// The text of an array, or `none`, its tag, and its items' bytes in hexadecimal.
+const ARRAYS: &str = "\
+array:string[6a2f,] 3 03000000026a2f 0300000000
+array:i8[-128,-1,127] 5 0580 05ff 057f
+array:u8[] 9
+array:u8[7] 9 0907
+array:u8[0,255,16] 9 0900 09ff 0910
+array:proc[6a/0,6a/1] 16 10016a00000000 10016a00000001
+none 0
+none 19
+none 20
+none 0 0901
+none 2 0901
+none 10 0901
+none 18 0901
+none 19 0901
+none 255 0901
+none 9 0901 0201
+none 9 13090000000101
+none 19 13090000000101
+";
 
-#[test]
-fn empty_arrays(rt: HostRuntime) -> Result<(), Refusal> {
-    let rows: [(&[u8], &str); 5] = [
-        (b"\x13\x01\0\0\0\0", "array:bool[]"),
-        (b"\x13\x03\0\0\0\0", "array:string[]"),
-        (b"\x13\x0c\0\0\0\0", "array:u64[]"),
-        (b"\x13\x10\0\0\0\0", "array:proc[]"),
-        (b"\x13\x12\0\0\0\0", "array:bytes[]"),
-    ];
-    for (bytes, text) in rows {
-        assert!(rt; stands(rt.alloc(), bytes, text)?, "{}", text);
-    }
-    Ok(())
-}
-
-#[test]
-fn arrays_of_numbers(rt: HostRuntime) -> Result<(), Refusal> {
-    let rows: [(&[u8], &str); 7] = [
-        (
-            b"\x13\x01\0\0\0\x03\x01\0\x01",
-            "array:bool[true,false,true]",
-        ),
-        (b"\x13\x02\0\0\0\x02\0\xa9", "array:byte[00,a9]"),
-        (
-            b"\x13\x0a\0\0\0\x02\x01\x02\xff\xff",
-            "array:u16[258,65535]",
-        ),
-        (b"\x13\x05\0\0\0\x03\x80\xff\x7f", "array:i8[-128,-1,127]"),
-        (
-            b"\x13\x0f\0\0\0\x02\0\0\0\0\xff\xff\xff\xfe",
-            "array:rank[0,4294967294]",
-        ),
-        (b"\x13\x11\0\0\0\x01\xff\xff\xff\xd2", "array:status[-46]"),
-        (b"\x13\x04\0\0\0\x01\0\0\0\0\0\0\x01\0", "array:size[256]"),
-    ];
-    for (bytes, text) in rows {
-        assert!(rt; stands(rt.alloc(), bytes, text)?, "{}", text);
-    }
-    Ok(())
-}
-
-#[test]
-fn arrays_of_texts(rt: HostRuntime) -> Result<(), Refusal> {
-    let rows: [(&[u8], &str); 3] = [
-        (
-            b"\x13\x03\0\0\0\x02\0\0\0\x02j/\0\0\0\0",
-            "array:string[6a2f,]",
-        ),
-        (
-            b"\x13\x12\0\0\0\x02\0\0\0\x01\0\0\0\0\x02\x0a\xf0",
-            "array:bytes[00,0af0]",
-        ),
-        (
-            b"\x13\x10\0\0\0\x02\x01j\0\0\0\0\x05pmix~\0\0\x10\0",
-            "array:proc[6a/0,706d69787e/4096]",
-        ),
-    ];
-    for (bytes, text) in rows {
-        assert!(rt; stands(rt.alloc(), bytes, text)?, "{}", text);
-    }
-    Ok(())
-}
-
-#[test]
-fn an_array_of_items_is_written(rt: HostRuntime) -> Result<(), Refusal> {
-    let alloc = rt.alloc();
+// The text of the array of these words: its tag, and its items.
+fn array_text(alloc: Global, words: &str) -> Result<Vec<u8>, Refusal> {
+    let mut words = words.split(' ');
+    let tag = words.next().unwrap_or("");
     let mut items = Vec::new(alloc);
-    for n in [-128, 0, 127] {
-        items.push(Value::I8(n))?;
+    for digits in words {
+        items.push(value_from_bytes(alloc, &bytes_of(alloc, digits)?)?)?;
     }
-    let mut out = BytesMut::new(alloc);
-    put_value(&mut out, &Value::array(5, items)?)?;
-    assert_eq!(rt; out.as_slice(), b"\x13\x05\0\0\0\x03\x80\0\x7f".as_slice());
-    Ok(())
+    let array = Value::array(tag.parse::<u8>().unwrap_or(0), items)?;
+    Ok(array.to_text(alloc)?)
 }
 
 #[test]
-fn an_array_of_strings_is_written(rt: HostRuntime) -> Result<(), Refusal> {
+fn items_of_one_kind_make_an_array(rt: HostRuntime) -> Result<(), Refusal> {
+    for line in ARRAYS.lines() {
+        let (text, words) = line.split_once(' ').unwrap_or((line, ""));
+        match array_text(rt.alloc(), words) {
+            Err(Refusal::BadParam) => assert!(rt; text == "none", "{line}"),
+            answer => assert!(rt; answer?.as_slice() == text.as_bytes(), "{line}"),
+        }
+    }
+    Ok(())
+}
+
+// These bytes, and so many of one byte after them.
+fn long(alloc: Global, front: &[u8], count: usize, byte: u8) -> Result<Vec<u8>, Refusal> {
+    let mut bytes = Vec::with_capacity(alloc, 2_000_000)?;
+    bytes.extend_from_slice(front)?;
+    for _ in 0..count {
+        bytes.push(byte)?;
+    }
+    Ok(bytes)
+}
+
+// The first fault of these bytes as a value, if they are none.
+fn fault_of(alloc: Global, bytes: &[u8]) -> Result<Option<(u64, Cause)>, Refusal> {
+    match value_from_bytes(alloc, bytes) {
+        Ok(_) => Ok(None),
+        Err(Refusal::BadFrame(fault)) => Ok(Some((fault.offset, fault.cause))),
+        Err(refusal) => Err(refusal),
+    }
+}
+
+#[test]
+fn a_key_has_at_most_511_bytes(rt: HostRuntime) -> Result<(), Refusal> {
     let alloc = rt.alloc();
-    let mut items = Vec::new(alloc);
-    items.push(Value::string(alloc, b"ab")?)?;
-    items.push(Value::string(alloc, b"")?)?;
-    let mut out = BytesMut::new(alloc);
-    put_value(&mut out, &Value::array(3, items)?)?;
-    assert_eq!(rt;
-        out.as_slice(),
-        b"\x13\x03\0\0\0\x02\0\0\0\x02ab\0\0\0\0".as_slice()
-    );
+    let most = long(alloc, b"\x01\xff", 511, b'k')?;
+    Field::Key.value_of(alloc, &most)?;
+    let more = long(alloc, b"\x02\x00", 512, b'k')?;
+    let refusal = Field::Key.value_of(alloc, &more).err();
+    assert!(rt; refusal == Some(Refusal::bad_frame(7, Cause::Key)));
     Ok(())
 }
 
-// The refusal of these bytes, or that of nothing where they are read.
-fn refused(alloc: Global, bytes: &[u8]) -> Refusal {
-    match get_value(alloc, &mut Cursor::new(7, bytes)) {
-        Ok(_) => Refusal::NotFound,
-        Err(e) => e,
-    }
-}
-
-fn fault(offset: u64, cause: Cause) -> Refusal {
-    Refusal::BadFrame(Fault { offset, cause })
-}
-
 #[test]
-fn the_first_fault_of_an_array(rt: HostRuntime) {
-    let rows: [(&[u8], u64, Cause); 15] = [
-        (b"\x13", 8, Cause::Short),
-        (b"\x13\x13\x01\0\0\0\0", 8, Cause::Tag),
-        (b"\x13\0\0\0\0\0", 8, Cause::Tag),
-        (b"\x13\x13", 8, Cause::Tag),
-        (b"\x13\x01\0\0\0", 9, Cause::Short),
-        (b"\x13\x01\0\0\0\x01", 13, Cause::Short),
-        (b"\x13\x01\0\0\0\x02\x01\x02", 14, Cause::Bool),
-        (b"\x13\x01\xff\xff\xff\xff\x01", 14, Cause::Short),
-        (b"\x13\x0a\0\0\0\x02\x01\x02\x03", 15, Cause::Short),
-        (b"\x13\x0a\0\x10\0\0", 13, Cause::Short),
-        (
-            b"\x13\x03\0\0\0\x02\0\0\0\x01a\0\0\0\x02b\0",
-            23,
-            Cause::Text,
-        ),
-        (b"\x13\x12\0\0\0\x01\0\0\0\x02a", 17, Cause::Short),
-        (b"\x13\x10\0\0\0\x01\0", 13, Cause::Name),
-        (
-            b"\x13\x10\0\0\0\x02\x01j\0\0\0\0\x01 \0\0\0\0",
-            19,
-            Cause::Name,
-        ),
-        (b"\x13\x10\0\0\0\x01\x01j\0\0\0", 15, Cause::Short),
+fn a_value_has_at_most_1048576_bytes(rt: HostRuntime) -> Result<(), Refusal> {
+    let size = Some((0, Cause::Size));
+    let text = Some((5, Cause::Text));
+    let rows: [(&[u8], usize, u8, Option<(u64, Cause)>); 5] = [
+        (b"\x03\x00\x0f\xff\xfb", 1_048_571, 1, None),
+        (b"\x03\x00\x0f\xff\xfc", 1_048_572, 1, size),
+        (b"\x03\x00\x0f\xff\xfc", 1_048_572, 0, text),
+        (b"\x12\x00\x0f\xff\xfb", 1_048_571, 1, None),
+        (b"\x12\x00\x0f\xff\xfc", 1_048_572, 1, size),
     ];
-    for (bytes, offset, cause) in rows {
-        assert_eq!(rt; refused(rt.alloc(), bytes), fault(offset, cause));
-    }
-}
-
-// Writes a byte, so many times.
-fn fill(out: &mut BytesMut, len: u32, byte: u8) -> Result<(), Refusal> {
-    for _ in 0..len {
-        out.extend_from_slice(&[byte])?;
+    for (front, count, byte, want) in rows {
+        let bytes = long(rt.alloc(), front, count, byte)?;
+        assert!(rt; fault_of(rt.alloc(), &bytes)? == want);
     }
     Ok(())
-}
-
-// The bytes of an array of so many bytes that are all the same.
-fn byte_array(alloc: Global, len: u32) -> Result<BytesMut, Refusal> {
-    let mut out = BytesMut::new(alloc);
-    out.extend_from_slice(b"\x13\x02")?;
-    out.extend_from_slice(&len.to_be_bytes())?;
-    fill(&mut out, len, 9)?;
-    Ok(out)
 }
 
 #[test]
-fn an_array_is_at_most_a_mebibyte(rt: HostRuntime) -> Result<(), Refusal> {
+fn an_array_of_bytes_has_at_most_1048570(rt: HostRuntime) -> Result<(), Refusal> {
     let alloc = rt.alloc();
-    let most = byte_array(alloc, 1_048_570)?;
-    let value = get_value(alloc, &mut Cursor::new(7, most.as_slice()))?;
-    assert_eq!(rt; value.size(), MAX_VALUE_SIZE);
-    let more = byte_array(alloc, 1_048_571)?;
-    assert_eq!(rt; refused(alloc, more.as_slice()), fault(7, Cause::Size));
+    let most = long(alloc, b"\x13\x02\x00\x0f\xff\xfa", 1_048_570, 9)?;
+    assert!(rt; fault_of(alloc, &most)? == None);
+    let more = long(alloc, b"\x13\x02\x00\x0f\xff\xfb", 1_048_571, 9)?;
+    assert!(rt; fault_of(alloc, &more)? == Some((0, Cause::Size)));
     Ok(())
 }
 
-// The bytes of an array of two strings: one that is too long for a value, and one of this byte.
-fn two_strings(alloc: Global, byte: u8) -> Result<BytesMut, Refusal> {
-    let len = MAX_BLOB_LEN as u32 + 1;
-    let mut out = BytesMut::new(alloc);
-    out.extend_from_slice(b"\x13\x03\0\0\0\x02")?;
-    out.extend_from_slice(&len.to_be_bytes())?;
-    fill(&mut out, len, 1)?;
-    out.extend_from_slice(&[0, 0, 0, 1, byte])?;
-    Ok(out)
-}
-
+// The first string is too long for a value. The second has one byte, then lacks it, and then has a
+// zero in its place.
 #[test]
 fn size_is_found_at_the_end_of_an_array(rt: HostRuntime) -> Result<(), Refusal> {
     let alloc = rt.alloc();
-    let sound = two_strings(alloc, 1)?;
-    assert_eq!(rt; refused(alloc, sound.as_slice()), fault(7, Cause::Size));
-    let zero = two_strings(alloc, 0)?;
-    assert_eq!(rt;
-        refused(alloc, zero.as_slice()),
-        fault(1_048_593, Cause::Text)
-    );
-    assert!(rt; zero.as_slice().len() > 1);
-    let cut = &zero.as_slice()[..zero.as_slice().len() - 1];
-    assert_eq!(rt; refused(alloc, cut), fault(1_048_593, Cause::Short));
+    let mut bytes = long(alloc, b"\x13\x03\0\0\0\x02\x00\x0f\xff\xfc", 1_048_572, 1)?;
+    bytes.extend_from_slice(b"\0\0\0\x01\x01")?;
+    assert!(rt; fault_of(alloc, &bytes)? == Some((0, Cause::Size)));
+    bytes.pop();
+    assert!(rt; fault_of(alloc, &bytes)? == Some((1_048_586, Cause::Short)));
+    bytes.push(0)?;
+    assert!(rt; fault_of(alloc, &bytes)? == Some((1_048_586, Cause::Text)));
+    Ok(())
+}
+
+#[test]
+fn strings_and_byte_objects_have_at_most_1048571_bytes(rt: HostRuntime) -> Result<(), Refusal> {
+    let alloc = rt.alloc();
+    let mut text = vec![in alloc; 1; MAX_BLOB_LEN]?;
+    assert!(rt; Value::string(alloc, &text)?.size() == MAX_VALUE_SIZE);
+    assert!(rt; Value::bytes(alloc, &text)?.size() == MAX_VALUE_SIZE);
+    text.push(1)?;
+    assert!(rt; matches!(Value::string(alloc, &text), Err(Refusal::BadParam)));
+    assert!(rt; matches!(Value::bytes(alloc, &text), Err(Refusal::BadParam)));
+    assert!(rt; matches!(Value::string(alloc, b"a\0b"), Err(Refusal::BadParam)));
+    Ok(())
+}
+
+// So many values of one byte.
+fn byte_values(alloc: Global, count: usize) -> Result<Vec<Value>, AllocError> {
+    let mut values = Vec::with_capacity(alloc, count)?;
+    for _ in 0..count {
+        values.push(Value::Byte(9))?;
+    }
+    Ok(values)
+}
+
+#[test]
+fn more_than_1048570_bytes_make_no_array(rt: HostRuntime) -> Result<(), Refusal> {
+    let array = Value::array(2, byte_values(rt.alloc(), 1_048_571)?);
+    assert!(rt; matches!(array, Err(Refusal::BadParam)));
     Ok(())
 }

@@ -1,204 +1,74 @@
-//! What no clause says: that each call gives its answer where there is memory, and gives it when it is called
-//! again after memory ran out.
-use bytes::BytesMut;
-use pmg_value::{Cause, Fault, Key, Nspace, Proc, Rank, Refusal};
-use pmg_wire::{
-    Admits, Cursor, get_flag, get_key, get_proc, get_value, put_key, put_proc, put_value,
-};
-use std::alloc::Global;
+//! The bytes of flags, keys and processes, both ways, and their first faults: worked by hand, so
+//! that they show the definitions, and that fields are read and written where there is memory.
+use crate::rows::{Field, bytes_of};
+use pmg_value::{Cause, Refusal};
+use pmg_wire::{Admits, Cursor};
 
-// The answer, asked for a second time where memory ran out.
-macro_rules! again {
-    ($call:expr) => {
-        match $call {
-            Err(Refusal::NoMemory) => $call,
-            answer => answer,
-        }
-    };
-}
+const FLAGS: &str = "\
+00 bool:false
+01 bool:true
+02 Bool at 7
+ff Bool at 7
+ Short at 7
+";
 
-fn read_key(alloc: Global, at: &mut Cursor<'_>) -> Result<Key, Refusal> {
-    again!(get_key(alloc, at))
-}
+const KEYS: &str = "\
+000161 string:61
+0006706d69782e20 string:706d69782e20
+00 Short at 7
+0000 Key at 7
+000261 Short at 9
+0002611f Key at 7
+00017f Key at 7
+";
 
-fn process_at(alloc: Global, admits: Admits, at: &mut Cursor<'_>) -> Result<Proc, Refusal> {
-    again!(get_proc(alloc, admits, at))
-}
+const PROCESSES: &str = "\
+016a00000000 proc:6a/0
+036a6f6200000fff proc:6a6f62/4095
+09706d69782e686f737400000000 proc:706d69782e686f7374/0
+00 Name at 7
+012000000000 Name at 7
+05706d69786100000000 Name at 7
+016a00001000 Rank at 9
+016afffffffe Rank at 9
+09706d69782e686f737400000001 Rank at 17
+ Short at 7
+026a Short at 8
+016a000000 Short at 9
+";
 
-fn spelled_key(alloc: Global, key: &Key) -> Result<BytesMut, Refusal> {
-    let mut out = BytesMut::new(alloc);
-    again!(put_key(&mut out, key).map_err(Refusal::from))?;
-    Ok(out)
-}
-
-fn spelled_process(alloc: Global, process: &Proc) -> Result<BytesMut, Refusal> {
-    let mut out = BytesMut::new(alloc);
-    again!(put_proc(&mut out, process).map_err(Refusal::from))?;
-    Ok(out)
-}
-
-fn process(alloc: Global, name: &[u8], rank: u32) -> Result<Proc, Refusal> {
-    Ok(Proc::new(again!(Nspace::read_any(alloc, name))?, Rank::new(rank)))
-}
-
-fn fault(offset: u64, cause: Cause) -> Refusal {
-    Refusal::BadFrame(Fault { offset, cause })
-}
+const CLIENTS: &str = "\
+016a00000000 proc:6a/0
+036a6f6200000fff proc:6a6f62/4095
+09706d69782e686f737400000000 Name at 7
+";
 
 #[test]
-fn fields_are_read_from_left_to_right(rt: HostRuntime) -> Result<(), Refusal> {
-    let bytes = [
-        1, 2, 3, 4, 5, 6, 7, 8, 9, 10, 11, 12, 13, 14, 15, 16, 17, 18, 19, 20,
+fn fields_have_their_bytes_and_their_first_fault(rt: HostRuntime) -> Result<(), Refusal> {
+    let tables = [
+        (Field::Flag, FLAGS),
+        (Field::Key, KEYS),
+        (Field::Process(Admits::ClientsAndHost), PROCESSES),
+        (Field::Process(Admits::Clients), CLIENTS),
     ];
-    let mut at = Cursor::new(100, &bytes);
-    assert_eq!(rt; at.get_u8()?, 0x01);
-    assert_eq!(rt; at.get_u16()?, 0x0203);
-    assert_eq!(rt; at.get_u32()?, 0x04050607);
-    assert_eq!(rt; at.get_u64()?, 0x08090A0B0C0D0E0F);
-    assert_eq!(rt; at.take(2)?, [16, 17].as_slice());
-    assert_eq!(rt; (at.offset(), at.rest()), (117, [18, 19, 20].as_slice()));
-    assert_eq!(rt; at.get_u32(), Err(fault(117, Cause::Short)));
-    assert_eq!(rt; at.get_u64(), Err(fault(117, Cause::Short)));
-    assert_eq!(rt; at.take(4), Err(fault(117, Cause::Short)));
-    assert_eq!(rt; (at.offset(), at.rest()), (117, [18, 19, 20].as_slice()));
-    Ok(())
-}
-
-#[test]
-fn a_cursor_is_forked_cut_and_moved(rt: HostRuntime) -> Result<(), Refusal> {
-    let bytes = [1, 2, 3, 4];
-    let mut at = Cursor::new(7, &bytes);
-    let mut front = at.window(1);
-    let fork = at.fork();
-    at.skip(3);
-    assert_eq!(rt; front.get_u8()?, 1);
-    assert_eq!(rt; front.get_u8(), Err(fault(8, Cause::Short)));
-    assert_eq!(rt; (fork.offset(), fork.rest()), (7, [1, 2, 3, 4].as_slice()));
-    assert_eq!(rt; (at.offset(), at.rest()), (10, [4].as_slice()));
-    assert_eq!(rt; at.get_u16(), Err(fault(10, Cause::Short)));
-    Ok(())
-}
-
-#[test]
-fn flags_are_0_or_1(rt: HostRuntime) {
-    let cases = [
-        (0, Ok(false)),
-        (1, Ok(true)),
-        (2, Err(fault(5, Cause::Bool))),
-        (255, Err(fault(5, Cause::Bool))),
-    ];
-    for (byte, want) in cases {
-        let bytes = [byte];
-        assert_eq!(rt; get_flag(&mut Cursor::new(5, &bytes)), want, "at {byte}");
-    }
-    assert_eq!(rt;
-        get_flag(&mut Cursor::new(5, &[])),
-        Err(fault(5, Cause::Short))
-    );
-}
-
-#[test]
-fn keys_are_read_as_they_are_written(rt: HostRuntime) -> Result<(), Refusal> {
-    let alloc = rt.alloc();
-    let mut spelling = [b'k'; 513];
-    spelling[0] = 1;
-    spelling[1] = 0xFF;
-    let cases: [&[u8]; 3] = [
-        &[0, 1, b'a'],
-        &[0, 6, b'p', b'm', b'i', b'x', b'.', b' '],
-        &spelling,
-    ];
-    for spelling in cases {
-        let mut at = Cursor::new(0, spelling);
-        let key = read_key(alloc, &mut at)?;
-        assert_eq!(rt; key.as_bytes(), &spelling[2..]);
-        assert!(rt; at.rest().is_empty());
-        assert_eq!(rt; spelled_key(alloc, &key)?.as_slice(), spelling);
+    for (field, lines) in tables {
+        assert_eq!(rt; field.wrong(rt.alloc(), lines)?, None);
     }
     Ok(())
 }
 
-#[test]
-fn a_key_is_refused_at_its_first_fault(rt: HostRuntime) -> Result<(), Refusal> {
-    let mut long = [b'k'; 514];
-    long[0] = 2;
-    long[1] = 0;
-    let cases: [(&[u8], Refusal); 6] = [
-        (&[0], fault(9, Cause::Short)),
-        (&[0, 0], fault(9, Cause::Key)),
-        (&[0, 2, b'a'], fault(11, Cause::Short)),
-        (&[0, 2, b'a', 0x1F], fault(9, Cause::Key)),
-        (&[0, 1, 0x7F], fault(9, Cause::Key)),
-        (&long, fault(9, Cause::Key)),
-    ];
-    for (bytes, want) in cases {
-        let mut at = Cursor::new(9, bytes);
-        let refusal = read_key(rt.alloc(), &mut at).err();
-        assert_eq!(rt; refusal, Some(want));
-        assert_eq!(rt; (at.offset(), at.rest()), (9, bytes));
-    }
-    Ok(())
+// The next numbers of one, two, four and eight bytes.
+fn numbers(at: &mut Cursor<'_>) -> Result<(u8, u16, u32, u64), Refusal> {
+    Ok((at.get_u8()?, at.get_u16()?, at.get_u32()?, at.get_u64()?))
 }
 
 #[test]
-fn processes_are_read_as_they_are_written(rt: HostRuntime) -> Result<(), Refusal> {
-    let alloc = rt.alloc();
-    let cases: [(&[u8], u32, &[u8], bool); 3] = [
-        (b"j", 0, b"\x01j\x00\x00\x00\x00", true),
-        (b"job", 4095, b"\x03job\x00\x00\x0F\xFF", true),
-        (b"pmix.host", 0, b"\x09pmix.host\x00\x00\x00\x00", false),
-    ];
-    for (name, rank, spelling, is_client) in cases {
-        let want = process(alloc, name, rank)?;
-        assert_eq!(rt; Admits::Clients.admits(&want), is_client);
-        assert!(rt; Admits::ClientsAndHost.admits(&want));
-        let mut at = Cursor::new(0, spelling);
-        assert_eq!(rt; process_at(alloc, Admits::ClientsAndHost, &mut at)?, want);
-        assert!(rt; at.rest().is_empty());
-        let among_clients = process_at(alloc, Admits::Clients, &mut Cursor::new(0, spelling));
-        assert_eq!(rt; among_clients.is_ok(), is_client);
-        assert_eq!(rt; spelled_process(alloc, &want)?.as_slice(), spelling);
-    }
-    Ok(())
-}
-
-#[test]
-fn a_process_is_refused_at_its_first_fault(rt: HostRuntime) -> Result<(), Refusal> {
-    let cases: [(&[u8], Refusal); 9] = [
-        (b"", fault(3, Cause::Short)),
-        (b"\x00", fault(3, Cause::Name)),
-        (b"\x02j", fault(4, Cause::Short)),
-        (b"\x01 \x00\x00\x00\x00", fault(3, Cause::Name)),
-        (b"\x05pmixa\x00\x00\x00\x00", fault(3, Cause::Name)),
-        (b"\x01j\x00\x00\x00", fault(5, Cause::Short)),
-        (b"\x01j\x00\x00\x10\x00", fault(5, Cause::Rank)),
-        (b"\x01j\xFF\xFF\xFF\xFE", fault(5, Cause::Rank)),
-        (b"\x09pmix.host\x00\x00\x00\x01", fault(13, Cause::Rank)),
-    ];
-    for (bytes, want) in cases {
-        let mut at = Cursor::new(3, bytes);
-        let refusal = process_at(rt.alloc(), Admits::ClientsAndHost, &mut at).err();
-        assert_eq!(rt; refusal, Some(want));
-        assert_eq!(rt; (at.offset(), at.rest()), (3, bytes));
-    }
-    Ok(())
-}
-
-#[test]
-fn values_are_read_copied_and_written(rt: HostRuntime) -> Result<(), Refusal> {
-    let rows = [
-        b"\x03\0\0\0\x02hi".as_slice(),
-        b"\x12\0\0\0\x02\0\xff",
-        b"\x10\x01j\0\0\0\x03",
-        b"\x13\x03\0\0\0\x02\0\0\0\x01a\0\0\0\x01b",
-    ];
-    for bytes in &rows {
-        let mut at = Cursor::new(0, bytes);
-        let value = again!(get_value(rt.alloc(), &mut at))?;
-        let copy = again!(value.copy().map_err(Refusal::from))?;
-        let mut out = BytesMut::new(rt.alloc());
-        again!(put_value(&mut out, &copy).map_err(Refusal::from))?;
-        assert_eq!(rt; out.as_slice(), *bytes);
-    }
+fn numbers_are_read_from_left_to_right(rt: HostRuntime) -> Result<(), Refusal> {
+    let bytes = bytes_of(rt.alloc(), "0102030405060708090a0b0c0d0e0f10")?;
+    let mut at = Cursor::of(&bytes);
+    let found = numbers(&mut at)?;
+    assert!(rt; found == (0x01, 0x0203, 0x04050607, 0x08090A0B0C0D0E0F));
+    assert!(rt; at.get_u32() == Err(Refusal::bad_frame(15, Cause::Short)));
+    assert!(rt; at.rest() == b"\x10".as_slice());
     Ok(())
 }

@@ -1,4 +1,5 @@
 //! Tests of names, values and their bytes, and of joins, from without.
+//! Where an allocation fails, a test ends with NoMemory, and with nothing else.
 #![tactic(auto)]
 
 #[cfg(test)]
@@ -8,9 +9,9 @@ mod fields;
 #[cfg(test)]
 mod joins;
 #[cfg(test)]
-mod kinds;
-#[cfg(test)]
 mod names;
+#[cfg(test)]
+mod rows;
 #[cfg(test)]
 mod values;
 #[cfg(test)]

@@ -1,170 +1,130 @@
-//! What no clause says: that arrays are made, copied and printed where there is memory.
-use pmg_value::{
-    Array, MAX_VALUE_SIZE, Nspace, Octets, Proc, Rank, Refusal, Text, Value, WatchedWriter,
-    WriteFault,
-};
-use std::alloc::{AllocError, Global};
-use std::cmp::Ordering;
+//! The bytes and the text of each kind of value, both ways, and the first fault of bytes that are
+//! none: worked by hand, so that they show the definitions, and that values are read, copied and
+//! written where there is memory.
+use crate::rows::Field;
+use pmg_value::Refusal;
 
-// The array of these numbers, each of one byte.
-fn array_of(alloc: Global, numbers: &[u8]) -> Result<Value, Refusal> {
-    Value::array(9, items_of(alloc, numbers)?)
-}
+const VALUES: &str = "\
+0100 bool:false
+0101 bool:true
+0200 byte:00
+02a9 byte:a9
+02ff byte:ff
+0300000000 string:
+03000000036a2f30 string:6a2f30
+030000000201ff string:01ff
+040000000000000000 size:0
+04ffffffffffffffff size:18446744073709551615
+0500 i8:0
+057f i8:127
+05ff i8:-1
+0580 i8:-128
+067fff i16:32767
+06fffe i16:-2
+068000 i16:-32768
+077fffffff i32:2147483647
+0780000000 i32:-2147483648
+087fffffffffffffff i64:9223372036854775807
+08ffffffffffffffff i64:-1
+088000000000000000 i64:-9223372036854775808
+0900 u8:0
+09ff u8:255
+0a0102 u16:258
+0affff u16:65535
+0b01020304 u32:16909060
+0bffffffff u32:4294967295
+0c0102030405060708 u64:72623859790382856
+0cffffffffffffffff u64:18446744073709551615
+0d7fffffff int:2147483647
+0dffffff00 int:-256
+0d80000000 int:-2147483648
+0e00000000 uint:0
+0effffffff uint:4294967295
+0f00000000 rank:0
+0ffffffffe rank:4294967294
+0fffffffff rank:4294967295
+10016a00000000 proc:6a/0
+1005706d69787e00001000 proc:706d69787e/4096
+100121ffffffff proc:21/4294967295
+1100000000 status:0
+11ffffffd2 status:-46
+1180000000 status:-2147483648
+1200000000 bytes:
+1200000003000af0 bytes:000af0
+130100000000 array:bool[]
+130300000000 array:string[]
+130c00000000 array:u64[]
+131000000000 array:proc[]
+131200000000 array:bytes[]
+130100000003010001 array:bool[true,false,true]
+13020000000200a9 array:byte[00,a9]
+130300000002000000026a2f00000000 array:string[6a2f,]
+1304000000010000000000000100 array:size[256]
+13050000000380ff7f array:i8[-128,-1,127]
+130a000000020102ffff array:u16[258,65535]
+130f0000000200000000fffffffe array:rank[0,4294967294]
+131000000002016a0000000005706d69787e00001000 array:proc[6a/0,706d69787e/4096]
+131100000001ffffffd2 array:status[-46]
+1312000000020000000100000000020af0 array:bytes[00,0af0]
+";
 
-fn items_of(alloc: Global, numbers: &[u8]) -> Result<Vec<Value>, AllocError> {
-    let mut items = Vec::new(alloc);
-    for number in numbers {
-        items.push(Value::U8(*number))?;
-    }
-    Ok(items)
-}
+const FAULTS: &str = "\
+0000 Tag at 7
+1400 Tag at 7
+ff Tag at 7
+ Short at 7
+01 Short at 8
+0102 Bool at 8
+03000000 Short at 8
+030000000261 Short at 12
+0300000003610000 Text at 13
+0400000000000000 Short at 8
+0680 Short at 8
+1000 Name at 8
+10026a Short at 9
+10026a200000 Name at 8
+10016a000000 Short at 10
+11000000 Short at 8
+12ffffffff61 Short at 12
+13 Short at 8
+130000000000 Tag at 8
+1313 Tag at 8
+13130100000000 Tag at 8
+1301000000 Short at 9
+130100000001 Short at 13
+1301000000020102 Bool at 14
+1301ffffffff01 Short at 14
+1303000000020000000161000000026200 Text at 23
+130a00000002010203 Short at 15
+130a00100000 Short at 13
+13100000000100 Name at 13
+131000000001016a000000 Short at 15
+131000000002016a00000000012000000000 Name at 19
+1312000000010000000261 Short at 17
+";
 
-fn text_of(alloc: Global, value: &Value) -> Result<Vec<u8>, WriteFault> {
-    let mut writer = WatchedWriter::new(Vec::new(alloc));
-    value.write_text(&mut writer)?;
-    Ok(writer.into_inner())
-}
+// Offsets in bytes that are one value count from the first of them.
+const WHOLE: &str = "\
+09ff u8:255
+03000000026162 string:6162
+0102 Bool at 1
+ Short at 0
+03000000036162 Short at 5
+09ff00 Long at 2
+130200000001a9a9 Long at 7
+";
 
 #[test]
-fn arrays_print_their_items(rt: HostRuntime) -> Result<(), Refusal> {
-    let cases = [
-        (b"".as_slice(), "array:u8[]", 6),
-        (b"\x07", "array:u8[7]", 7),
-        (b"\x00\xff\x10", "array:u8[0,255,16]", 9),
+fn values_have_their_bytes_their_text_and_their_first_fault(
+    rt: HostRuntime,
+) -> Result<(), Refusal> {
+    let tables = [
+        (Field::Value, VALUES),
+        (Field::Value, FAULTS),
+        (Field::WholeValue, WHOLE),
     ];
-    for (numbers, want, size) in &cases {
-        let array = array_of(rt.alloc(), numbers)?;
-        assert_eq!(rt; array.size(), *size, "{want}");
-        let text = text_of(rt.alloc(), &array).expect(&rt, "writing");
-        assert_eq!(rt; text.as_slice(), want.as_bytes());
-        let copy = array.copy()?;
-        assert_eq!(rt; copy.cmp(&array), Ordering::Equal, "{want}");
-        let text = text_of(rt.alloc(), &copy).expect(&rt, "writing");
-        assert_eq!(rt; text.as_slice(), want.as_bytes());
+    for (field, lines) in tables {
+        assert_eq!(rt; field.wrong(rt.alloc(), lines)?, None);
     }
-    Ok(())
-}
-
-#[test]
-fn processes_stand_in_an_array(rt: HostRuntime) -> Result<(), Refusal> {
-    let mut items = Vec::new(rt.alloc());
-    for rank in 0..2 {
-        let nspace = Nspace::read(rt.alloc(), b"j")?;
-        items.push(Value::Proc(Proc::new(nspace, Rank::new(rank))))?;
-    }
-    let array = Value::array(16, items)?;
-    let text = text_of(rt.alloc(), &array).expect(&rt, "writing");
-    assert_eq!(rt; text.as_slice(), b"array:proc[6a/0,6a/1]".as_slice());
-    Ok(())
-}
-
-#[test]
-fn other_items_make_no_array(rt: HostRuntime) -> Result<(), Refusal> {
-    for tag in [0, 2, 10, 18, 19, 255] {
-        let answer = Value::array(tag, items_of(rt.alloc(), b"\x01")?);
-        assert!(rt; matches!(answer, Err(Refusal::BadParam)), "{tag}");
-    }
-    for tag in [0, 19, 20] {
-        let answer = Value::array(tag, Vec::new(rt.alloc()));
-        assert!(rt; matches!(answer, Err(Refusal::BadParam)), "{tag}");
-    }
-    let mut mixed = items_of(rt.alloc(), b"\x01")?;
-    mixed.push(Value::Byte(1))?;
-    let answer = Value::array(9, mixed);
-    assert!(rt; matches!(answer, Err(Refusal::BadParam)));
-    Ok(())
-}
-
-#[test]
-fn arrays_stand_in_no_array(rt: HostRuntime) -> Result<(), Refusal> {
-    for tag in [9, 19] {
-        let mut items = Vec::new(rt.alloc());
-        items.push(array_of(rt.alloc(), b"\x01")?)?;
-        let answer = Value::array(tag, items);
-        assert!(rt; matches!(answer, Err(Refusal::BadParam)), "{tag}");
-    }
-    Ok(())
-}
-
-// 1,048,570 items of one byte, with two tags and four bytes of their number, are as long as a value may be.
-#[test]
-fn longest_array_is_a_value(rt: HostRuntime) -> Result<(), Refusal> {
-    for (count, is) in [(1_048_570, true), (1_048_571, false)] {
-        let mut items = Vec::new(rt.alloc());
-        for _ in 0..count {
-            items.push(Value::Byte(0))?;
-        }
-        match Value::array(2, items) {
-            Ok(array) => {
-                assert!(rt; is);
-                assert_eq!(rt; array.size(), MAX_VALUE_SIZE);
-            }
-            Err(refusal) => {
-                assert!(rt; !is);
-                assert_eq!(rt; refusal, Refusal::BadParam);
-            }
-        }
-    }
-    Ok(())
-}
-
-#[test]
-fn arrays_are_ordered_by_their_bytes(rt: HostRuntime) -> Result<(), Refusal> {
-    let cases = [
-        (b"".as_slice(), b"\x00".as_slice(), Ordering::Less),
-        (b"\x01\x02", b"\x01\x02", Ordering::Equal),
-        (b"\x01\x02", b"\x01\x03", Ordering::Less),
-        (b"\x02\x00", b"\x01\xff", Ordering::Greater),
-        (b"\x09", b"\x01\x01", Ordering::Less),
-    ];
-    for (own, others, want) in &cases {
-        let array = array_of(rt.alloc(), own)?;
-        let other = array_of(rt.alloc(), others)?;
-        assert_eq!(rt; array.cmp(&other), *want);
-    }
-    Ok(())
-}
-
-// What the call gives, asked again where memory ran out.
-macro_rules! again {
-    ($call:expr) => {
-        match $call {
-            Err(Refusal::NoMemory) => $call,
-            answer => answer,
-        }
-    };
-}
-
-#[test]
-fn values_are_made_and_copied(rt: HostRuntime) -> Result<(), Refusal> {
-    for text in [b"".as_slice(), b"endpoint"] {
-        let string = again!(Value::string(rt.alloc(), text))?;
-        let bytes = again!(Value::bytes(rt.alloc(), text))?;
-        assert!(rt; matches!(&string, Value::Str(own) if own.as_bytes() == text));
-        assert!(rt; matches!(&bytes, Value::Bytes(own) if own.as_bytes() == text));
-        let copy = again!(string.copy().map_err(Refusal::from))?;
-        assert_eq!(rt; copy.cmp(&string), Ordering::Equal);
-    }
-    let array = again!(array_of(rt.alloc(), b"\x01\x02"))?;
-    let copy = again!(array.copy().map_err(Refusal::from))?;
-    assert_eq!(rt; copy.cmp(&array), Ordering::Equal);
-    Ok(())
-}
-
-#[test]
-fn strings_and_byte_objects_are_made_and_copied(rt: HostRuntime) -> Result<(), Refusal> {
-    for bytes in [b"".as_slice(), b"endpoint"] {
-        let read = again!(Text::read(rt.alloc(), bytes))?;
-        let made = again!(Text::from_text(rt.alloc(), bytes).map_err(Refusal::from))?;
-        let copy = again!(made.copy().map_err(Refusal::from))?;
-        assert_eq!(rt; (read.as_bytes(), copy.as_bytes()), (bytes, bytes));
-        let read = again!(Octets::read(rt.alloc(), bytes))?;
-        let made = again!(Octets::from_bytes(rt.alloc(), bytes).map_err(Refusal::from))?;
-        let copy = again!(made.copy().map_err(Refusal::from))?;
-        assert_eq!(rt; (read.as_bytes(), copy.as_bytes()), (bytes, bytes));
-    }
-    let array = Array::new(9, items_of(rt.alloc(), b"\x01\x02")?)?;
-    let copy = again!(array.copy().map_err(Refusal::from))?;
-    assert_eq!(rt; (copy.tag(), copy.items().len(), copy.size()), (9, 2, 8));
     Ok(())
 }
