@@ -1,31 +1,11 @@
-//! What no clause says: that each call gives its answer where there is memory, and gives it when it is called again after
-//! an allocation failed; and whole fences over tables whose headers are handed across, with answers found by hand.
+//! What no clause says: that each call gives its answer where there is memory; and whole fences over tables whose headers
+//! are handed across, with answers found by hand.
 use pmg_fence::{Table, call_rules, entry_rules, header_rules, table_rules};
 use pmg_frame::{FenceName, Header, Signature};
 use pmg_jobinfo::Registry;
 use pmg_value::{NodeId, Nspace, Proc, Rank, Refusal};
-use std::alloc::{AllocError, Global};
+use std::alloc::Global;
 use std::process::Abort;
-
-// The answer, asked for a second time where an allocation failed.
-macro_rules! again {
-    ($call:expr) => {
-        match $call {
-            Err(Refusal::NoMemory) => $call,
-            answer => answer,
-        }
-    };
-}
-
-// The same of a call that has no other refusal.
-macro_rules! again_in {
-    ($call:expr) => {
-        match $call {
-            Err(AllocError) => $call,
-            answer => answer,
-        }
-    };
-}
 
 mod back;
 
@@ -48,7 +28,11 @@ struct Meeting {
 
 impl Meeting {
     fn signature(self) -> Result<Signature, Refusal> {
-        again!(signature_of(self))
+        let mut list = Vec::new(self.alloc);
+        for rank in 0..self.count {
+            list.push(process(self.alloc, rank)?)?;
+        }
+        Signature::new(list, self.collect)
     }
 
     fn name(self, instance: u64) -> Result<FenceName, Refusal> {
@@ -59,7 +43,7 @@ impl Meeting {
     fn enter(self, table: &mut Table, rank: u32, level: u64) -> Result<u64, Refusal> {
         let signature = self.signature()?;
         let proc = process(self.alloc, rank)?;
-        again!(table.enter(&signature, &proc, level % 10))
+        table.enter(&signature, &proc, level % 10)
     }
 
     // Whether the fence is ready, where all commits up to the level are known.
@@ -70,7 +54,7 @@ impl Meeting {
     // The ranks of the participants that are gone, as the digits of a number; 0 where there is none.
     fn gone(self, table: &Table, instance: u64) -> Result<u32, Refusal> {
         let name = self.name(instance)?;
-        let gone = again_in!(table.release(&name))?;
+        let gone = table.release(&name)?;
         let mut ranks = 0_u32;
         for proc in &gone {
             ranks = ranks.wrapping_mul(10).wrapping_add(proc.rank.number());
@@ -79,20 +63,12 @@ impl Meeting {
     }
 }
 
-fn signature_of(meeting: Meeting) -> Result<Signature, Refusal> {
-    let mut list = Vec::new(meeting.alloc);
-    for rank in 0..meeting.count {
-        list.push(process(meeting.alloc, rank)?)?;
-    }
-    Signature::new(list, meeting.collect)
-}
-
 fn process(alloc: Global, rank: u32) -> Result<Proc, Refusal> {
-    let nspace = again!(Nspace::read(alloc, b"j"))?;
+    let nspace = Nspace::read(alloc, b"j")?;
     Ok(Proc::new(nspace, Rank::new(rank)))
 }
 
-fn try_table(alloc: Global, node: u32) -> Result<Table, Refusal> {
+fn table(alloc: Global, node: u32) -> Result<Table, Refusal> {
     let names: [&[u8]; 3] = [b"n0", b"n1", b"n2"];
     let homes = [
         NodeId::new(0)?,
@@ -105,10 +81,6 @@ fn try_table(alloc: Global, node: u32) -> Result<Table, Refusal> {
     Ok(Table::new(NodeId::new(node)?, registry))
 }
 
-fn table(alloc: Global, node: u32) -> Result<Table, Refusal> {
-    again!(try_table(alloc, node))
-}
-
 fn three_nodes(alloc: Global) -> Result<Group, Refusal> {
     Ok(Group {
         zero: table(alloc, 0)?,
@@ -118,18 +90,14 @@ fn three_nodes(alloc: Global) -> Result<Group, Refusal> {
 }
 
 fn put(table: &mut Table, header: &Header) -> Result<(), Refusal> {
-    again_in!(put_once(table, header))?;
+    table.put_header(header.copy()?)?;
     Ok(())
-}
-
-fn put_once(table: &mut Table, header: &Header) -> Result<(), AllocError> {
-    table.put_header(header.copy()?)
 }
 
 // The process of that rank ends.
 fn end(table: &mut Table, alloc: Global, rank: u32, level: u64) -> Result<(), Refusal> {
     let proc = process(alloc, rank)?;
-    again_in!(table.gone(&proc, level % 10))?;
+    table.gone(&proc, level % 10)?;
     Ok(())
 }
 
@@ -269,10 +237,10 @@ fn who_ended_before_is_gone_at_each_node(rt: HostRuntime) -> Result<(), Refusal>
 // A process that names itself and its like enters alone: the number of the entry, and whether the fence is ready at once.
 fn meets_itself(table: &mut Table, meeting: Meeting) -> Result<(u64, bool, u32), Refusal> {
     let alloc = meeting.alloc;
-    let list = again!(twice(alloc))?;
+    let list = twice(alloc)?;
     let signature = Signature::new(list, meeting.collect)?;
     let proc = process(alloc, 0)?;
-    let entry = again!(table.enter(&signature, &proc, 0))?;
+    let entry = table.enter(&signature, &proc, 0)?;
     Ok((
         entry,
         meeting.is_ready(table, 1, 0)?,
@@ -345,7 +313,7 @@ fn learns(group: &mut Group, meeting: Meeting) -> Result<[bool; 2], Refusal> {
     end(&mut group.zero, meeting.alloc, 0, 1)?;
     let early = hand_over(&mut group.zero, &mut group.one)?;
     let name = meeting.name(1)?;
-    again_in!(group.zero.learn(&name))?;
+    group.zero.learn(&name)?;
     Ok([early, hand_over(&mut group.zero, &mut group.one)?])
 }
 
@@ -376,7 +344,7 @@ fn copies(group: &mut Group, meeting: Meeting) -> Result<bool, Refusal> {
     meeting.enter(&mut group.zero, 0, 0)?;
     meeting.enter(&mut group.one, 1, 0)?;
     hand_over(&mut group.zero, &mut group.one)?;
-    let mut copy = again_in!(group.one.copy())?;
+    let mut copy = group.one.copy()?;
     let found = goes_on(&mut copy, meeting)?;
     let itself = goes_on(&mut group.one, meeting)?;
     Ok(found == (true, 2, true, 2) && itself == found)

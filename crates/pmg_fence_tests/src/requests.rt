@@ -1,31 +1,17 @@
-//! What no clause says: that each call gives its answer where there is memory, and gives it when it is called again
-//! after an allocation failed; and what waits after some requests, found by hand.
+//! What no clause says: that each call gives its answer where there is memory; and what waits after some requests, found by
+//! hand.
 use pmg_dmodex::{Marks, Parked, Pending};
 use pmg_value::{Key, NodeId, Nspace, Proc, Rank, Refusal};
-use std::alloc::{AllocError, Global};
+use std::alloc::Global;
 use std::process::Abort;
 
-// The answer, asked for a second time where an allocation failed.
-macro_rules! again {
-    ($call:expr) => {
-        match $call {
-            Err(AllocError) => $call,
-            answer => answer,
-        }
-    };
-}
-
 fn proc_of(alloc: Global, rank: u32) -> Result<Proc, Refusal> {
-    let nspace = match Nspace::read(alloc, b"j") {
-        Err(Refusal::NoMemory) => Nspace::read(alloc, b"j")?,
-        nspace => nspace?,
-    };
-    Ok(Proc::new(nspace, Rank::new(rank)))
+    Ok(Proc::new(Nspace::read(alloc, b"j")?, Rank::new(rank)))
 }
 
 fn hold(pending: &mut Pending, node: u32, proc: &Proc, level: u64) -> Result<(), Refusal> {
     let node = NodeId::new(node)?;
-    again!(pending.hold(node, proc, level))?;
+    pending.hold(node, proc, level)?;
     Ok(())
 }
 
@@ -36,7 +22,7 @@ fn are_due(
     level: u64,
     expected: &[(u32, u64)],
 ) -> Result<bool, Refusal> {
-    let due = again!(pending.due(proc, level))?;
+    let due = pending.due(proc, level)?;
     if due.len() != expected.len() {
         return Ok(false);
     }
@@ -53,8 +39,8 @@ fn the_greatest_ask_counts(rt: HostRuntime) -> Result<(), Refusal> {
     let alloc = rt.alloc();
     let (zero, one) = (proc_of(alloc, 0)?, proc_of(alloc, 1)?);
     let mut pending = Pending::new(alloc);
-    again!(pending.ask(&zero, 3))?;
-    again!(pending.ask(&zero, 2))?;
+    pending.ask(&zero, 3)?;
+    pending.ask(&zero, 2)?;
     assert!(rt; pending.asked(&zero) == Some(3));
     assert!(rt; pending.asked(&one) == None);
     Ok(())
@@ -65,7 +51,7 @@ fn an_answered_ask_is_gone(rt: HostRuntime) -> Result<(), Refusal> {
     let alloc = rt.alloc();
     let zero = proc_of(alloc, 0)?;
     let mut pending = Pending::new(alloc);
-    again!(pending.ask(&zero, 3))?;
+    pending.ask(&zero, 3)?;
     pending.settle(&zero, 3);
     assert!(rt; pending.asked(&zero) == Some(3));
     pending.settle(&zero, 4);
@@ -108,8 +94,8 @@ fn a_copy_waits_by_itself(rt: HostRuntime) -> Result<(), Refusal> {
     let zero = proc_of(alloc, 0)?;
     let mut pending = Pending::new(alloc);
     hold(&mut pending, 1, &zero, 0)?;
-    again!(pending.ask(&zero, 7))?;
-    let copy = again!(pending.copy())?;
+    pending.ask(&zero, 7)?;
+    let copy = pending.copy()?;
     pending.settle(&zero, 8);
     assert!(rt; are_due(&copy, &zero, 1, &[(1, 0)])?);
     assert!(rt; copy.asked(&zero) == Some(7));
@@ -123,9 +109,9 @@ fn a_mark_is_set_up_and_down(rt: HostRuntime) -> Result<(), Refusal> {
     let one = NodeId::new(1)?;
     let mut marks = Marks::new(alloc);
     assert!(rt; marks.from(one, &zero) == 0);
-    again!(marks.set(one, &zero, 7))?;
+    marks.set(one, &zero, 7)?;
     assert!(rt; marks.from(one, &zero) == 7);
-    again!(marks.set(one, &zero, 4))?;
+    marks.set(one, &zero, 4)?;
     assert!(rt; marks.from(one, &zero) == 4);
     Ok(())
 }
@@ -136,37 +122,30 @@ fn other_marks_stay(rt: HostRuntime) -> Result<(), Refusal> {
     let (zero, one) = (proc_of(alloc, 0)?, proc_of(alloc, 1)?);
     let (first, second) = (NodeId::new(1)?, NodeId::new(2)?);
     let mut marks = Marks::new(alloc);
-    again!(marks.set(first, &zero, 7))?;
-    let copy = again!(marks.copy())?;
-    again!(marks.set(second, &zero, 8))?;
-    again!(marks.set(first, &one, 9))?;
+    marks.set(first, &zero, 7)?;
+    let copy = marks.copy()?;
+    marks.set(second, &zero, 8)?;
+    marks.set(first, &one, 9)?;
     assert!(rt; marks.from(first, &zero) == 7);
     assert!(rt; copy.from(second, &zero) == 0);
     assert!(rt; copy.from(first, &zero) == 7);
     Ok(())
 }
 
-fn key_of(alloc: Global, text: &[u8]) -> Result<Key, Refusal> {
-    match Key::read(alloc, text) {
-        Err(Refusal::NoMemory) => Key::read(alloc, text),
-        key => key,
-    }
-}
-
 // The process of rank 0 asks for the key of the process of rank 1, and so does that of rank 2.
 fn two_ask(alloc: Global, text: &[u8]) -> Result<Parked, Refusal> {
-    let key = key_of(alloc, text)?;
+    let key = Key::read(alloc, text)?;
     let target = proc_of(alloc, 1)?;
     let mut parked = Parked::new(alloc);
-    again!(parked.park(&target, &proc_of(alloc, 2)?, &key))?;
-    again!(parked.park(&target, &proc_of(alloc, 0)?, &key))?;
+    parked.park(&target, &proc_of(alloc, 2)?, &key)?;
+    parked.park(&target, &proc_of(alloc, 0)?, &key)?;
     Ok(parked)
 }
 
 // The ranks of those who ask for a key of the process, as digits.
 fn askers(alloc: Global, parked: &Parked, target: &Proc) -> Result<Vec<u8>, Refusal> {
-    let gets = again!(parked.on(target))?;
-    let mut ranks = again!(Vec::with_capacity(alloc, gets.len()))?;
+    let gets = parked.on(target)?;
+    let mut ranks = Vec::with_capacity(alloc, gets.len())?;
     for (asker, _) in gets.iter() {
         ranks.push(b'0' + (asker.rank.number() % 10) as u8)?;
     }
@@ -190,8 +169,8 @@ fn an_asker_waits_for_its_last_key(rt: HostRuntime) -> Result<(), Refusal> {
     let alloc = rt.alloc();
     let mut parked = two_ask(alloc, b"a")?;
     let (zero, one) = (proc_of(alloc, 0)?, proc_of(alloc, 1)?);
-    let copy = again!(parked.copy())?;
-    again!(parked.park(&one, &zero, &key_of(alloc, b"b")?))?;
+    let copy = parked.copy()?;
+    parked.park(&one, &zero, &Key::read(alloc, b"b")?)?;
     assert!(rt;
         parked
             .get(&one, &zero)

@@ -6,7 +6,6 @@ use super::{Meeting, process, table};
 use pmg_fence::{Change, Table, TableBefore};
 use pmg_frame::{FenceName, Header};
 use pmg_value::{NodeId, Refusal};
-use std::alloc::AllocError;
 use std::process::Abort;
 
 // What a table says of the first fence and the second: whether it has the names and the headers of nodes 0 and 1, and whether
@@ -17,7 +16,7 @@ fn seen(table: &Table, meeting: Meeting) -> Result<Seen, Refusal> {
     let (first, second) = (meeting.name(1)?, meeting.name(2)?);
     let (zero, one) = (NodeId::new(0)?, NodeId::new(1)?);
     let count = table.count(&meeting.signature()?, &process(meeting.alloc, 0)?);
-    let mut copy = again_in!(table.copy())?;
+    let mut copy = table.copy()?;
     Ok((
         [
             table.has_name(&first),
@@ -45,7 +44,7 @@ fn note_entry(table: &mut Table, meeting: Meeting, rank: u32) -> Result<TableBef
 
 // What is seen with the entry, and once it is taken back.
 fn enters_and_back(table: &mut Table, meeting: Meeting) -> Result<[Seen; 2], Refusal> {
-    let before = again!(note_entry(table, meeting, 0))?;
+    let before = note_entry(table, meeting, 0)?;
     let there = seen(table, meeting)?;
     table.take_back(before);
     Ok([there, seen(table, meeting)?])
@@ -53,7 +52,7 @@ fn enters_and_back(table: &mut Table, meeting: Meeting) -> Result<[Seen; 2], Ref
 
 fn learns_and_back(table: &mut Table, meeting: Meeting) -> Result<[Seen; 2], Refusal> {
     let name = meeting.name(2)?;
-    let before = again_in!(table.note(&name, Change::Learned))?;
+    let before = table.note(&name, Change::Learned)?;
     let there = seen(table, meeting)?;
     table.take_back(before);
     Ok([there, seen(table, meeting)?])
@@ -73,7 +72,7 @@ fn is_told_and_back(
 
 fn ends_and_back(table: &mut Table, meeting: Meeting) -> Result<[Seen; 2], Refusal> {
     let proc = process(meeting.alloc, 0)?;
-    let before = again_in!(table.end(&proc, 2))?;
+    let before = table.end(&proc, 2)?;
     let there = seen(table, meeting)?;
     table.take_back(before);
     Ok([there, seen(table, meeting)?])
