@@ -1,20 +1,15 @@
-//! What no clause says of the calls of processes: that all that is kept is given where there is memory.
-use pmg_frame::{FenceName, Signature};
+//! What no clause says of the calls of processes: that all that is kept is given where there is
+//! memory.
+use crate::nodes::words::{key, name, process};
+use pmg_frame::FenceName;
 use pmg_holding::{Call, Calls, Found, Settled};
-use pmg_value::{Key, Nspace, Proc, Rank, Refusal};
+use pmg_value::{Proc, Refusal};
 use std::alloc::Global;
 use std::process::Abort;
 
-fn process(alloc: Global, rank: u32) -> Result<Proc, Refusal> {
-    let nspace = Nspace::read(alloc, b"j")?;
-    Ok(Proc::new(nspace, Rank::new(rank)))
-}
-
-// A fence of process 0.
-fn name(alloc: Global, collect: bool) -> Result<FenceName, Refusal> {
-    let mut list = Vec::new(alloc);
-    list.push(process(alloc, 0)?)?;
-    FenceName::new(Signature::new(list, collect)?, 1)
+// A fence of process 0, of that kind.
+fn fence(alloc: Global, kind: &str) -> Result<FenceName, Refusal> {
+    name(alloc, &[kind, "1", "j0"], 0)
 }
 
 fn begin(calls: &mut Calls, proc: Proc, call: Call) -> Result<(), Refusal> {
@@ -28,31 +23,22 @@ fn begin(calls: &mut Calls, proc: Proc, call: Call) -> Result<(), Refusal> {
 // The get of process 1 waits for a key of process 2; the others are in a fence each.
 fn three_calls(alloc: Global) -> Result<Calls, Refusal> {
     let mut calls = Calls::new(alloc);
-    begin(
-        &mut calls,
-        process(alloc, 0)?,
-        Call::InFence(name(alloc, true)?),
-    )?;
-    let key = Key::read(alloc, b"k")?;
-    begin(
-        &mut calls,
-        process(alloc, 1)?,
-        Call::Parked(process(alloc, 2)?, key),
-    )?;
-    begin(
-        &mut calls,
-        process(alloc, 2)?,
-        Call::InFence(name(alloc, false)?),
-    )?;
+    let collecting = Call::InFence(fence(alloc, "collect")?);
+    begin(&mut calls, process(alloc, "j0")?, collecting)?;
+    let parked = Call::Parked(process(alloc, "j2")?, key(alloc, "k")?);
+    begin(&mut calls, process(alloc, "j1")?, parked)?;
+    let plain = Call::InFence(fence(alloc, "plain")?);
+    begin(&mut calls, process(alloc, "j2")?, plain)?;
     Ok(calls)
 }
 
-// How many gets wait for a key of process 2, how many processes wait in each fence, and in how many fences any wait.
+// How many gets wait for a key of process 2, how many processes wait in each fence, and in how many
+// fences any wait.
 fn sizes(calls: &Calls, alloc: Global) -> Result<[usize; 4], Refusal> {
     Ok([
-        calls.parked_on(&process(alloc, 2)?)?.len(),
-        calls.waiting_in(&name(alloc, true)?)?.len(),
-        calls.waiting_in(&name(alloc, false)?)?.len(),
+        calls.parked_on(&process(alloc, "j2")?)?.len(),
+        calls.waiting_in(&fence(alloc, "collect")?)?.len(),
+        calls.waiting_in(&fence(alloc, "plain")?)?.len(),
         calls.waited()?.len(),
     ])
 }
@@ -60,29 +46,21 @@ fn sizes(calls: &Calls, alloc: Global) -> Result<[usize; 4], Refusal> {
 // Process 0 is released, and the get of process 1 is answered.
 fn answers(alloc: Global) -> Result<Vec<(Proc, Settled)>, Refusal> {
     let mut answers = Vec::new(alloc);
-    let released = Settled::Released(name(alloc, true)?, Vec::new(alloc));
-    answers.push((process(alloc, 0)?, released))?;
-    let key = Key::read(alloc, b"k")?;
-    let answered = Settled::Answered(process(alloc, 2)?, key, Found::NotFound);
-    answers.push((process(alloc, 1)?, answered))?;
+    let released = Settled::Released(fence(alloc, "collect")?, Vec::new(alloc));
+    answers.push((process(alloc, "j0")?, released))?;
+    let answered = Settled::Answered(process(alloc, "j2")?, key(alloc, "k")?, Found::NotFound);
+    answers.push((process(alloc, "j1")?, answered))?;
     Ok(answers)
-}
-
-// What is counted before the answers and after them; and whether process 1 is in a call that it leaves by taking its answer.
-fn answered(alloc: Global) -> Result<([[usize; 4]; 2], bool), Refusal> {
-    let mut calls = three_calls(alloc)?;
-    let before = sizes(&calls, alloc)?;
-    calls.answer(answers(alloc)?);
-    let after = sizes(&calls, alloc)?;
-    let asker = process(alloc, 1)?;
-    let taken = calls.remove(&asker).is_some() && calls.get(&asker).is_none();
-    Ok(([before, after], taken))
 }
 
 #[test]
 fn answered_calls_wait_no_longer(rt: HostRuntime) -> Result<(), Refusal> {
-    let found = answered(rt.alloc())?;
-    assert!(rt; found.0 == [[1, 1, 1, 2], [0, 0, 1, 1]]);
-    assert!(rt; found.1);
+    let alloc = rt.alloc();
+    let mut calls = three_calls(alloc)?;
+    assert!(rt; sizes(&calls, alloc)? == [1, 1, 1, 2]);
+    calls.answer(answers(alloc)?);
+    assert!(rt; sizes(&calls, alloc)? == [0, 0, 1, 1]);
+    let asker = process(alloc, "j1")?;
+    assert!(rt; calls.remove(&asker).is_some() && calls.get(&asker).is_none());
     Ok(())
 }

@@ -1,43 +1,24 @@
-//! Whole scripts over a player that answers each line by itself: what is written, and how it ends, found by hand; at readers and
-//! writers that fail at each of their calls in turn.
+//! Whole scripts over a player that answers each line by itself: what is written, and how it ends,
+//! found by hand; at readers and writers that fail at each of their calls in turn.
+use crate::failing::{FailingReader, FailingWriter};
 use pmg_script::{Ended, LineFault, Player, play_script};
 use pmg_store::{Failure, WatchedReader};
 use pmg_value::{Cause, Refusal, WatchedWriter};
 use std::alloc::Global;
-use std::io::{BufReader, ErrorKind, Read, Write};
+use std::io::{BufReader, ErrorKind, Read};
 use std::process::Abort;
-use std::{io, str};
 
-const SCRIPT: &[u8] = b"a\nbb\n\nc";
+const SCRIPT: &str = "a\nbb\n\nc";
 
 const REPLIES: &str = "<a>\n<bb>\n<>\n<c>\n";
 
-// Answers each line with its content between `<` and `>`, and counts the lines. The line `bad` is malformed, at `full` an allocation
-// fails, and after `end` no line is done.
+// Answers each line with its content between `<` and `>`, and counts the lines. The line `bad` is
+// malformed, at `full` an allocation fails, and after `end` no line is done.
 #[derive(Drop)]
 struct Echo {
     alloc: Global,
     lines: usize,
     is_over: bool,
-}
-
-impl Echo {
-    fn new(alloc: Global) -> Echo {
-        Echo {
-            alloc,
-            lines: 0,
-            is_over: false,
-        }
-    }
-
-    // What it answers the line with.
-    fn reply(&self, line: &[u8]) -> Result<Vec<u8>, LineFault> {
-        let mut reply = Vec::new(self.alloc);
-        reply.extend_from_slice(b"<")?;
-        reply.extend_from_slice(line)?;
-        reply.extend_from_slice(b">\n")?;
-        Ok(reply)
-    }
 }
 
 impl Player for Echo {
@@ -54,7 +35,10 @@ impl Player for Echo {
         if line == b"full".as_slice() {
             return Err(LineFault::NoMemory);
         }
-        let reply = self.reply(line)?;
+        let mut reply = Vec::new(self.alloc);
+        reply.extend_from_slice(b"<")?;
+        reply.extend_from_slice(line)?;
+        reply.extend_from_slice(b">\n")?;
         self.lines = self.lines.wrapping_add(1);
         self.is_over = line == b"end".as_slice();
         Ok(reply)
@@ -65,50 +49,8 @@ impl Player for Echo {
     }
 }
 
-// Gives the text, at most `most` bytes a read, and fails at the read of number `fails_at`.
-#[derive(Drop)]
-struct FailingReader<'a> {
-    text: &'a [u8],
-    most: usize,
-    reads: usize,
-    fails_at: usize,
-}
-
-impl<'a> Read for FailingReader<'a> {
-    fn read(&mut self, buf: &mut [u8]) -> io::Result<usize> {
-        self.reads = self.reads.wrapping_add(1);
-        if self.reads == self.fails_at {
-            return Err(io::Error::from(ErrorKind::Interrupted));
-        }
-        let given = buf.len().min(self.most);
-        self.text.read(&mut buf[..given])
-    }
-}
-
-// Takes at most three bytes a write, so many times, and then fails.
-#[derive(Drop)]
-struct FailingWriter {
-    text: Vec<u8>,
-    writes: usize,
-}
-
-impl Write for FailingWriter {
-    fn write(&mut self, buf: &[u8]) -> io::Result<usize> {
-        if self.writes == 0 {
-            return Err(io::Error::from(ErrorKind::BrokenPipe));
-        }
-        self.writes -= 1;
-        let taken = buf.len().min(3);
-        self.text.extend_from_slice(&buf[..taken])?;
-        Ok(taken)
-    }
-
-    fn flush(&mut self) -> io::Result<()> {
-        Ok(())
-    }
-}
-
-// What came of a script: how it ended, how often the reader was read, how many lines were done, and what was written.
+// What came of a script: how it ended, how often the reader was read, how many lines were done, and
+// what was written.
 #[derive(Drop)]
 struct Played {
     ended: Result<Ended, Failure>,
@@ -117,126 +59,142 @@ struct Played {
     text: Vec<u8>,
 }
 
-fn play<R: Read + Drop>(alloc: Global, reader: R) -> Played {
-    let mut reader = WatchedReader::new(reader);
-    let mut writer = WatchedWriter::new(Vec::new(alloc));
-    let mut echo = Echo::new(alloc);
-    let ended = play_script(alloc, &mut reader, &mut echo, &mut writer);
-    Played {
-        ended,
-        reads: reader.reads(),
-        lines: echo.lines,
-        text: writer.into_inner(),
-    }
-}
+const NO_MEMORY: Failure = Failure::Refused(Refusal::NoMemory);
 
-// The same with a writer that fails after so many writes.
-fn play_into(alloc: Global, text: &[u8], writes: usize) -> Played {
-    let mut reader = WatchedReader::new(text);
+// What comes of a script whose replies are written three bytes at a time, with a writer that fails
+// after so many writes.
+fn play<R: Read + Drop>(alloc: Global, reader: R, writes: usize) -> Result<Played, Failure> {
+    let Ok(held) = Vec::with_capacity(alloc, 64) else {
+        return Err(NO_MEMORY);
+    };
+    let mut reader = WatchedReader::new(reader);
     let mut writer = WatchedWriter::new(FailingWriter {
-        text: Vec::new(alloc),
+        held,
+        most: 3,
         writes,
     });
-    let mut echo = Echo::new(alloc);
+    let mut echo = Echo {
+        alloc,
+        lines: 0,
+        is_over: false,
+    };
     let ended = play_script(alloc, &mut reader, &mut echo, &mut writer);
-    Played {
+    Ok(Played {
         ended,
         reads: reader.reads(),
         lines: echo.lines,
-        text: writer.into_inner().text,
-    }
+        text: writer.into_inner().held,
+    })
 }
 
-// It ended so, and these are its replies.
-fn is_played(rt: &impl Abort, played: &Played, ended: Result<Ended, Failure>, replies: &str) {
-    assert_eq!(rt; str::from_utf8(&played.text).unwrap_or("no text"), replies);
-    assert_eq!(rt; played.ended, ended);
+// The script ended so, and these are its replies. Where an allocation failed, that is told.
+fn is_played(
+    rt: &impl Abort,
+    script: &str,
+    played: &Played,
+    ended: Result<Ended, Failure>,
+    replies: &[u8],
+) -> Result<(), Failure> {
+    let found = (script, played.ended, played.text.as_slice());
+    let wanted = (script, ended, replies);
+    if played.ended == Err(NO_MEMORY) && found != wanted {
+        return Err(NO_MEMORY);
+    }
+    assert_eq!(rt; found, wanted);
+    Ok(())
 }
 
 fn script_fault(offset: u64) -> Result<Ended, Failure> {
     Err(Failure::Refused(Refusal::bad_frame(offset, Cause::Script)))
 }
 
-#[test]
-fn each_line_is_done_and_answered(rt: HostRuntime) {
-    let played = play(rt.alloc(), SCRIPT);
-    is_played(&rt, &played, Ok(Ended::AtEnd), REPLIES);
-    assert_eq!(rt; played.lines, 4);
-    assert_eq!(rt; played.reads, 8);
+// A script, how it ends, its replies, and of some how many lines are done and how often the reader
+// is read.
+type Row = (
+    &'static str,
+    Result<Ended, Failure>,
+    &'static str,
+    Option<usize>,
+    Option<usize>,
+);
+
+fn rows() -> [Row; 11] {
+    let at_end = Ok(Ended::AtEnd);
+    let over = Ok(Ended::Over);
+    let no_memory = Err(NO_MEMORY);
+    [
+        // each line is done and answered
+        (SCRIPT, at_end, REPLIES, Some(4), Some(8)),
+        // nothing in writes nothing
+        ("", at_end, "", Some(0), Some(1)),
+        // the last line may have an end or none
+        ("a\nb\n", at_end, "<a>\n<b>\n", None, None),
+        ("a\nb", at_end, "<a>\n<b>\n", None, None),
+        // a cr is dropped before an lf alone
+        (
+            "a\r\nb\rb\r\r\n\r\nc\r",
+            at_end,
+            "<a>\n<b\rb\r>\n<>\n<c\r>\n",
+            None,
+            None,
+        ),
+        // a malformed line ends the script at its first byte
+        ("bad\na\n", script_fault(0), "", None, None),
+        (
+            "a\r\n\nbad\nc\nbad",
+            script_fault(4),
+            "<a>\n<>\n",
+            None,
+            Some(8),
+        ),
+        ("a\nbad", script_fault(2), "<a>\n", None, None),
+        // a failed allocation ends the script
+        ("a\nfull\nc\n", no_memory, "<a>\n", Some(1), None),
+        // nothing is done after the last line that counts
+        ("a\nend\nbad\n", over, "<a>\n<end>\n", None, Some(6)),
+        ("end", over, "<end>\n", None, None),
+    ]
 }
 
 #[test]
-fn nothing_in_writes_nothing(rt: HostRuntime) {
-    let played = play(rt.alloc(), b"".as_slice());
-    is_played(&rt, &played, Ok(Ended::AtEnd), "");
-    assert_eq!(rt; played.lines, 0);
-    assert_eq!(rt; played.reads, 1);
+fn each_script_has_its_replies_and_its_end(rt: HostRuntime) -> Result<(), Failure> {
+    for (script, ended, replies, lines, reads) in rows() {
+        let played = play(rt.alloc(), script.as_bytes(), usize::MAX)?;
+        is_played(&rt, script, &played, ended, replies.as_bytes())?;
+        assert!(rt; lines.unwrap_or(played.lines) == played.lines);
+        assert!(rt; reads.unwrap_or(played.reads) == played.reads);
+    }
+    // bytes that are no text are lines too
+    let played = play(rt.alloc(), b"\xff\x00\n\x80".as_slice(), usize::MAX)?;
+    is_played(
+        &rt,
+        "bytes",
+        &played,
+        Ok(Ended::AtEnd),
+        b"<\xff\x00>\n<\x80>\n",
+    )
 }
 
 #[test]
-fn the_last_line_may_have_an_end_or_none(rt: HostRuntime) {
-    let ended = play(rt.alloc(), b"a\nb\n".as_slice());
-    is_played(&rt, &ended, Ok(Ended::AtEnd), "<a>\n<b>\n");
-    let unended = play(rt.alloc(), b"a\nb".as_slice());
-    is_played(&rt, &unended, Ok(Ended::AtEnd), "<a>\n<b>\n");
-}
-
-#[test]
-fn a_cr_is_dropped_before_an_lf_alone(rt: HostRuntime) {
-    let played = play(rt.alloc(), b"a\r\nb\rb\r\r\n\r\nc\r".as_slice());
-    is_played(&rt, &played, Ok(Ended::AtEnd), "<a>\n<b\rb\r>\n<>\n<c\r>\n");
-}
-
-#[test]
-fn bytes_that_are_no_text_are_lines_too(rt: HostRuntime) {
-    let played = play(rt.alloc(), b"\xff\x00\n\x80".as_slice());
-    assert_eq!(rt; played.text.as_slice(), b"<\xff\x00>\n<\x80>\n".as_slice());
-}
-
-#[test]
-fn how_the_bytes_come_makes_no_difference(rt: HostRuntime) -> io::Result<()> {
+fn how_the_bytes_come_makes_no_difference(rt: HostRuntime) -> Result<(), Failure> {
     for most in 1..=7 {
         let reader = FailingReader {
-            text: SCRIPT,
+            left: SCRIPT.as_bytes(),
             most,
-            reads: 0,
             fails_at: 0,
+            fault: ErrorKind::Interrupted,
         };
-        let played = play(rt.alloc(), BufReader::new(rt.alloc(), reader)?);
-        is_played(&rt, &played, Ok(Ended::AtEnd), REPLIES);
+        let Ok(reader) = BufReader::new(rt.alloc(), reader) else {
+            return Err(NO_MEMORY);
+        };
+        let played = play(rt.alloc(), reader, usize::MAX)?;
+        is_played(&rt, SCRIPT, &played, Ok(Ended::AtEnd), REPLIES.as_bytes())?;
     }
     Ok(())
 }
 
-#[test]
-fn a_malformed_line_ends_the_script_at_its_first_byte(rt: HostRuntime) {
-    let first = play(rt.alloc(), b"bad\na\n".as_slice());
-    is_played(&rt, &first, script_fault(0), "");
-    let later = play(rt.alloc(), b"a\r\n\nbad\nc\nbad".as_slice());
-    is_played(&rt, &later, script_fault(4), "<a>\n<>\n");
-    assert_eq!(rt; later.reads, 8);
-    let last = play(rt.alloc(), b"a\nbad".as_slice());
-    is_played(&rt, &last, script_fault(2), "<a>\n");
-}
-
-#[test]
-fn a_failed_allocation_ends_the_script(rt: HostRuntime) {
-    let played = play(rt.alloc(), b"a\nfull\nc\n".as_slice());
-    let want = Err(Failure::Refused(Refusal::NoMemory));
-    is_played(&rt, &played, want, "<a>\n");
-    assert_eq!(rt; played.lines, 1);
-}
-
-#[test]
-fn nothing_is_done_after_the_last_line_that_counts(rt: HostRuntime) {
-    let played = play(rt.alloc(), b"a\nend\nbad\n".as_slice());
-    is_played(&rt, &played, Ok(Ended::Over), "<a>\n<end>\n");
-    assert_eq!(rt; played.reads, 6);
-    let alone = play(rt.alloc(), b"end".as_slice());
-    is_played(&rt, &alone, Ok(Ended::Over), "<end>\n");
-}
-
-// What stands there when the read of that number fails, from 1: the replies of the lines that ended before it.
+// What stands there when the read of that number fails, from 1: the replies of the lines that ended
+// before it.
 const BEFORE_A_READ: [&str; 8] = [
     "",
     "",
@@ -249,21 +207,24 @@ const BEFORE_A_READ: [&str; 8] = [
 ];
 
 #[test]
-fn a_failing_reader_leaves_the_replies_of_whole_lines(rt: HostRuntime) {
+fn a_failing_reader_leaves_the_replies_of_whole_lines(rt: HostRuntime) -> Result<(), Failure> {
     for (before, want) in BEFORE_A_READ.iter().enumerate() {
+        let fails_at = before.wrapping_add(1);
         let reader = FailingReader {
-            text: SCRIPT,
+            left: SCRIPT.as_bytes(),
             most: 1,
-            reads: 0,
-            fails_at: before.wrapping_add(1),
+            fails_at,
+            fault: ErrorKind::Interrupted,
         };
-        let played = play(rt.alloc(), reader);
-        is_played(&rt, &played, Err(Failure::Read), want);
-        assert_eq!(rt; played.reads, before.wrapping_add(1));
+        let played = play(rt.alloc(), reader, usize::MAX)?;
+        is_played(&rt, SCRIPT, &played, Err(Failure::Read), want.as_bytes())?;
+        assert_eq!(rt; played.reads, fails_at);
     }
+    Ok(())
 }
 
-// How many bytes of the replies stand there after so many writes, how many lines were done, and how often the reader was read.
+// How many bytes of the replies stand there after so many writes, how many lines were done, and how
+// often the reader was read.
 const AFTER_WRITES: [(usize, usize, usize); 7] = [
     (0, 1, 2),
     (3, 1, 2),
@@ -274,25 +235,15 @@ const AFTER_WRITES: [(usize, usize, usize); 7] = [
     (15, 4, 8),
 ];
 
-// It ended by a write fault, with so many bytes of the replies, after so many lines and reads.
-fn is_cut(rt: &impl Abort, played: &Played, (len, lines, reads): (usize, usize, usize)) {
-    assert_eq!(rt; played.ended, Err(Failure::Write));
-    assert_eq!(rt;
-        played.text.as_slice(),
-        REPLIES.as_bytes().get(..len).unwrap_or(b"")
-    );
-    assert_eq!(rt; (played.lines, played.reads), (lines, reads));
-}
-
 #[test]
-fn a_failing_writer_leaves_a_prefix_and_ends_the_script(rt: HostRuntime) {
-    for (writes, wanted) in AFTER_WRITES.iter().enumerate() {
-        is_cut(&rt, &play_into(rt.alloc(), SCRIPT, writes), *wanted);
+fn a_failing_writer_leaves_a_prefix_and_ends_the_script(rt: HostRuntime) -> Result<(), Failure> {
+    for (writes, (len, lines, reads)) in AFTER_WRITES.iter().enumerate() {
+        let played = play(rt.alloc(), SCRIPT.as_bytes(), writes)?;
+        let before = REPLIES.as_bytes().get(..*len).unwrap_or(b"");
+        is_played(&rt, SCRIPT, &played, Err(Failure::Write), before)?;
+        assert!(rt; played.lines == *lines && played.reads == *reads);
     }
-}
-
-#[test]
-fn a_writer_that_takes_little_gets_all(rt: HostRuntime) {
-    let played = play_into(rt.alloc(), SCRIPT, 7);
-    is_played(&rt, &played, Ok(Ended::AtEnd), REPLIES);
+    // a writer that takes little gets all
+    let played = play(rt.alloc(), SCRIPT.as_bytes(), 7)?;
+    is_played(&rt, SCRIPT, &played, Ok(Ended::AtEnd), REPLIES.as_bytes())
 }

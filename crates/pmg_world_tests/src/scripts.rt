@@ -1,13 +1,23 @@
-//! What no clause says: that lines are answered where there is memory, and what is left where a reader, a writer or memory fails.
+//! What no clause says: that lines are answered where there is memory, and what is left where a
+//! reader, a writer or memory fails.
 mod faults;
 mod rows;
 
+use crate::failing::FailingWriter;
+use crate::nodes::text::put_line;
 use pmg_script::Ended;
 use pmg_store::{Failure, WatchedReader};
 use pmg_value::{Refusal, WatchedWriter};
 use pmg_world::replay;
 use std::alloc::{AllocError, Global};
+use std::io::Read;
 use std::process::Abort;
+
+const NO_MEMORY: Failure = Failure::Refused(Refusal::NoMemory);
+
+// More bytes than any of the scripts is replied with, so that what is written has its memory from
+// the start.
+const ROOM: usize = 1_048_576;
 
 // How a script ended, and what was written.
 #[derive(Drop)]
@@ -16,129 +26,59 @@ struct Outcome {
     text: Vec<u8>,
 }
 
-fn played(alloc: Global, script: &[u8]) -> Outcome {
-    let mut reader = WatchedReader::new(script);
-    let mut writer = WatchedWriter::new(Vec::new(alloc));
+// What comes of a script, of whose replies so many bytes can be written, one by one.
+fn played<R: Read + Drop>(alloc: Global, reader: R, writes: usize) -> Outcome {
+    let Ok(held) = Vec::with_capacity(alloc, ROOM) else {
+        return Outcome {
+            result: Err(NO_MEMORY),
+            text: Vec::new(alloc),
+        };
+    };
+    let mut reader = WatchedReader::new(reader);
+    let mut writer = WatchedWriter::new(FailingWriter {
+        held,
+        most: 1,
+        writes,
+    });
     let result = replay(alloc, &mut reader, &mut writer);
-    let text = writer.into_inner();
+    let text = writer.into_inner().held;
     Outcome { result, text }
 }
 
-// Puts the line behind the text, unless it is empty.
-fn push_reply(text: &mut Vec<u8>, reply: &str) -> Result<(), AllocError> {
-    if !reply.is_empty() {
-        text.extend_from_slice(reply.as_bytes())?;
-        text.push(b'\n')?;
+// Whether the script ended so, with these replies, or where an allocation failed, with a beginning
+// of them.
+fn has_ended(played: &Outcome, ended: Result<Ended, Failure>, replies: &[u8]) -> bool {
+    if played.result == Err(NO_MEMORY) {
+        return replies.starts_with(&played.text);
     }
-    Ok(())
+    played.result == ended && played.text.as_slice() == replies
 }
 
-// The script of these lines, and the replies that are wanted.
-fn texts_of(alloc: Global, row: &[(&str, &str)]) -> Result<(Vec<u8>, Vec<u8>), AllocError> {
+// The script of these rows, and the replies that are wanted.
+fn texts_of(alloc: Global, rows: &str) -> Result<(Vec<u8>, Vec<u8>), AllocError> {
     let mut script = Vec::new(alloc);
     let mut replies = Vec::new(alloc);
-    for (line, reply) in row {
-        script.extend_from_slice(line.as_bytes())?;
-        script.push(b'\n')?;
-        push_reply(&mut replies, reply)?;
+    for row in rows.lines() {
+        match row.split_once('|') {
+            Some((line, reply)) => {
+                put_line(&mut script, line)?;
+                if !reply.is_empty() {
+                    put_line(&mut replies, reply)?;
+                }
+            }
+            None => put_line(&mut replies, row)?,
+        }
     }
     Ok((script, replies))
 }
 
-fn is_no_memory(failure: &Failure) -> bool {
-    matches!(failure, Failure::Refused(Refusal::NoMemory))
-}
-
-// Whether each line of the row is replied so.
-fn is_replied(alloc: Global, row: &[(&str, &str)]) -> Result<bool, AllocError> {
-    let (script, replies) = texts_of(alloc, row)?;
-    let played = played(alloc, &script);
-    Ok(match played.result {
-        Ok(ended) => ended == Ended::AtEnd && played.text.as_slice() == replies.as_slice(),
-        Err(failure) => is_no_memory(&failure) && replies.starts_with(&played.text),
-    })
-}
-
 #[test]
-fn scopes(rt: HostRuntime) -> Result<(), AllocError> {
-    assert!(rt; is_replied(rt.alloc(), rows::SCOPES)?);
-    Ok(())
-}
-
-#[test]
-fn direct_asks(rt: HostRuntime) -> Result<(), AllocError> {
-    assert!(rt; is_replied(rt.alloc(), rows::DIRECT_ASKS)?);
-    Ok(())
-}
-
-#[test]
-fn collecting(rt: HostRuntime) -> Result<(), AllocError> {
-    assert!(rt; is_replied(rt.alloc(), rows::COLLECTING)?);
-    Ok(())
-}
-
-#[test]
-fn own_puts(rt: HostRuntime) -> Result<(), AllocError> {
-    assert!(rt; is_replied(rt.alloc(), rows::OWN_PUTS)?);
-    Ok(())
-}
-
-#[test]
-fn old_header(rt: HostRuntime) -> Result<(), AllocError> {
-    assert!(rt; is_replied(rt.alloc(), rows::OLD_HEADER)?);
-    Ok(())
-}
-
-#[test]
-fn gone(rt: HostRuntime) -> Result<(), AllocError> {
-    assert!(rt; is_replied(rt.alloc(), rows::GONE)?);
-    Ok(())
-}
-
-#[test]
-fn alone(rt: HostRuntime) -> Result<(), AllocError> {
-    assert!(rt; is_replied(rt.alloc(), rows::ALONE)?);
-    Ok(())
-}
-
-#[test]
-fn sets(rt: HostRuntime) -> Result<(), AllocError> {
-    assert!(rt; is_replied(rt.alloc(), rows::SETS)?);
-    Ok(())
-}
-
-#[test]
-fn reserved_keys(rt: HostRuntime) -> Result<(), AllocError> {
-    assert!(rt; is_replied(rt.alloc(), rows::RESERVED_KEYS)?);
-    Ok(())
-}
-
-#[test]
-fn refusals(rt: HostRuntime) -> Result<(), AllocError> {
-    assert!(rt; is_replied(rt.alloc(), rows::REFUSALS)?);
-    Ok(())
-}
-
-#[test]
-fn entered_then_ended(rt: HostRuntime) -> Result<(), AllocError> {
-    assert!(rt; is_replied(rt.alloc(), rows::ENTERED_THEN_ENDED)?);
-    Ok(())
-}
-
-#[test]
-fn late_pieces(rt: HostRuntime) -> Result<(), AllocError> {
-    assert!(rt; is_replied(rt.alloc(), rows::LATE_PIECES)?);
-    Ok(())
-}
-
-#[test]
-fn flows(rt: HostRuntime) -> Result<(), AllocError> {
-    assert!(rt; is_replied(rt.alloc(), rows::FLOWS)?);
-    Ok(())
-}
-
-#[test]
-fn strange_names(rt: HostRuntime) -> Result<(), AllocError> {
-    assert!(rt; is_replied(rt.alloc(), rows::STRANGE_NAMES)?);
+fn each_line_of_a_script_is_replied_so(rt: HostRuntime) -> Result<(), AllocError> {
+    for (name, rows) in rows::SCRIPTS {
+        let (script, replies) = texts_of(rt.alloc(), rows)?;
+        let played = played(rt.alloc(), script.as_slice(), usize::MAX);
+        let is_replied = has_ended(&played, Ok(Ended::AtEnd), &replies);
+        assert_eq!(rt; (*name, is_replied), (*name, true));
+    }
     Ok(())
 }

@@ -1,57 +1,43 @@
-//! What no clause says: that events happen where there is memory, and that a world tells them; runs whose answers were worked
-//! out by hand.
-use pmg_get::Mode;
-use pmg_jobinfo::Registry;
-use pmg_node::Request;
-use pmg_scope::Scope;
-use pmg_value::{Key, NodeId, Nspace, Proc, Rank, Refusal, Value};
+//! What no clause says: that events happen where there is memory, and that a world tells them; runs
+//! whose answers were worked out by hand.
+use crate::nodes::group::registry;
+use crate::nodes::text::{put_line, shown};
+use crate::nodes::words::{key, number, process, request, scope_of, value, word, words_of};
+use pmg_value::Refusal;
 use pmg_world::{Event, World, reply_line};
 use std::alloc::Global;
 use std::process::Abort;
-use std::str;
 
-// The answer, asked for a second time where an allocation failed.
-macro_rules! again {
-    ($call:expr) => {
-        match $call {
-            Err(Refusal::NoMemory) => $call,
-            answer => answer,
+// The event of the words, of which the first names the node.
+fn event(alloc: Global, words: &[&str]) -> Result<Event, Refusal> {
+    let node = number(words, 0);
+    match word(words, 1) {
+        "put" => {
+            let proc = process(alloc, word(words, 2))?;
+            let key = key(alloc, word(words, 4))?;
+            Ok(Event::Put(proc, scope_of(word(words, 3)), key, value(words, 5)))
         }
-    };
+        "commit" => Ok(Event::Commit(node, process(alloc, word(words, 2))?)),
+        "deliver" => Ok(Event::Deliver(number(words, 2))),
+        _ => match request(alloc, words)? {
+            Some(request) => Ok(Event::Request(node, request)),
+            None => Err(Refusal::BadParam),
+        },
+    }
 }
 
-// Two nodes, with one process of namespace j each.
-fn registry(alloc: Global) -> Result<Registry, Refusal> {
-    let names: [&[u8]; 2] = [b"n0", b"n1"];
-    let homes = [NodeId::new(0)?, NodeId::new(1)?];
-    let mut registry = Registry::new(alloc, &names)?;
-    registry.register(Nspace::read(alloc, b"j")?, &homes)?;
-    Ok(registry)
-}
-
-fn process(alloc: Global, rank: u32) -> Result<Proc, Refusal> {
-    Ok(Proc::new(Nspace::read(alloc, b"j")?, Rank::new(rank)))
-}
-
-fn put(alloc: Global, rank: u32, scope: Scope, value: u8) -> Result<Event, Refusal> {
-    let key = Key::read(alloc, b"a")?;
-    Ok(Event::Put(process(alloc, rank)?, scope, key, Value::U8(value)))
-}
-
-fn enter(alloc: Global, node: u64, rank: u32) -> Result<Event, Refusal> {
-    let request = Request::Enter(process(alloc, rank)?, Vec::new(alloc), true);
-    Ok(Event::Request(node, request))
-}
-
-fn leave(alloc: Global, node: u64, rank: u32) -> Result<Event, Refusal> {
-    Ok(Event::Request(node, Request::Leave(process(alloc, rank)?)))
-}
-
-// The process of the first rank asks for key a of the other.
-fn get(alloc: Global, node: u64, rank: u32, target: u32) -> Result<Event, Refusal> {
-    let (proc, target) = (process(alloc, rank)?, process(alloc, target)?);
-    let key = Key::read(alloc, b"a")?;
-    Ok(Event::Request(node, Request::Ask(proc, target, key, Mode::Now)))
+// The events of the rows, each up to a bar, and the lines of the answers that are wanted, each
+// after it.
+fn events(alloc: Global, rows: &str) -> Result<(Vec<Event>, Vec<u8>), Refusal> {
+    let mut events = Vec::new(alloc);
+    let mut answers = Vec::new(alloc);
+    for row in rows.lines() {
+        if let Some((line, answer)) = row.split_once('|') {
+            events.push(event(alloc, &words_of(alloc, line)?)?)?;
+            put_line(&mut answers, answer)?;
+        }
+    }
+    Ok((events, answers))
 }
 
 // The lines of all answers of a world.
@@ -63,15 +49,10 @@ fn lines(alloc: Global, world: &World) -> Result<Vec<u8>, Refusal> {
     Ok(text)
 }
 
-// The world of that group before any event.
-fn opened(alloc: Global) -> Result<World, Refusal> {
-    Ok(World::new(&registry(alloc)?)?)
-}
-
-// What these events are answered with, from the start on. Where an allocation fails, the world stands after the events that it
-// tells of, and the others happen then.
+// What these events are answered with, from the start on. Where an allocation fails, the world
+// stands after the events that it tells of, and the others happen then.
 fn answers(alloc: Global, events: &[Event]) -> Result<Vec<u8>, Refusal> {
-    let mut world = again!(opened(alloc))?;
+    let mut world = World::new(&registry(alloc, 2, &[0, 1])?)?;
     if let Err(failed) = world.run(events) {
         let told = world.events().len();
         let left = events.get(told..).unwrap_or(events);
@@ -79,80 +60,66 @@ fn answers(alloc: Global, events: &[Event]) -> Result<Vec<u8>, Refusal> {
             return Ok(Vec::new(alloc));
         }
     }
-    again!(lines(alloc, &world))
+    lines(alloc, &world)
 }
 
-fn shown(text: &[u8]) -> &str {
-    str::from_utf8(text).unwrap_or("no text")
+// The events of the rows are answered as is wanted, in a group of two nodes with one process of
+// namespace j each.
+fn happens(rt: &impl Abort, alloc: Global, rows: &str) -> Result<(), Refusal> {
+    let (events, wanted) = events(alloc, rows)?;
+    let text = answers(alloc, &events)?;
+    assert_eq!(rt; shown(&text), shown(&wanted));
+    Ok(())
 }
 
-// Process 1 puts, commits and enters; its header and its commit reach node 0, where process 0 entered.
-fn meeting(alloc: Global) -> Result<[Event; 11], Refusal> {
-    Ok([
-        put(alloc, 1, Scope::Global, 7)?,
-        Event::Commit(1, process(alloc, 1)?),
-        enter(alloc, 0, 0)?,
-        enter(alloc, 1, 1)?,
-        leave(alloc, 0, 0)?,
-        Event::Deliver(1),
-        Event::Deliver(2),
-        Event::Deliver(3),
-        leave(alloc, 1, 1)?,
-        leave(alloc, 0, 0)?,
-        get(alloc, 0, 0, 1)?,
-    ])
-}
+// Process 1 puts, commits and enters; its header and its commit reach node 0, where process 0
+// entered.
+const MEETING: &str = "\
+1 put j1 global a 7|ok
+1 commit j1|commit 1
+0 enter j0 collect|entered 1
+1 enter j1 collect|entered 1
+0 leave j0|waiting
+- deliver 1|delivered 1
+- deliver 2|delivered 1
+- deliver 3|delivered 1
+1 leave j1|released 1 gone -
+0 leave j0|released 1 gone -
+0 now j0 j1 a|found u8:7
+";
 
 #[test]
 fn both_meet(rt: HostRuntime) -> Result<(), Refusal> {
-    let alloc = rt.alloc();
-    let text = answers(alloc, &again!(meeting(alloc))?)?;
-    let expected =
-        "ok\ncommit 1\nentered 1\nentered 1\nwaiting\ndelivered 1\ndelivered 1\ndelivered 1\n\
-        released 1 gone -\nreleased 1 gone -\nfound u8:7\n";
-    assert_eq!(&rt; shown(&text), expected);
-    Ok(())
+    happens(&rt, rt.alloc(), MEETING)
 }
 
 // A node and frames that are not there, and a process that is at home elsewhere.
+const STRANGE: &str = "\
+2 commit j0|refused 1 BadParam
+4294967296 commit j0|refused 1 BadParam
+- deliver 0|refused 1 BadParam
+- deliver 1|refused 1 BadParam
+1 leave j0|refused 5 NotMine
+0 leave j0|idle
+";
+
 #[test]
 fn nothing_is_there(rt: HostRuntime) -> Result<(), Refusal> {
-    let alloc = rt.alloc();
-    let events = [
-        Event::Commit(2, process(alloc, 0)?),
-        Event::Commit(4294967296, process(alloc, 0)?),
-        Event::Deliver(0),
-        Event::Deliver(1),
-        leave(alloc, 1, 0)?,
-        leave(alloc, 0, 0)?,
-    ];
-    let text = answers(alloc, &events)?;
-    let expected =
-        "refused 1 BadParam\nrefused 1 BadParam\nrefused 1 BadParam\nrefused 1 BadParam\n\
-        refused 5 NotMine\nidle\n";
-    assert_eq!(&rt; shown(&text), expected);
-    Ok(())
+    happens(&rt, rt.alloc(), STRANGE)
 }
 
 // What no commit sealed is seen by nobody but the process itself; a refused put changes nothing.
-fn puts(alloc: Global) -> Result<[Event; 7], Refusal> {
-    Ok([
-        put(alloc, 0, Scope::Global, 1)?,
-        put(alloc, 0, Scope::Undef, 2)?,
-        get(alloc, 0, 0, 0)?,
-        Event::Commit(0, process(alloc, 0)?),
-        put(alloc, 0, Scope::Global, 3)?,
-        get(alloc, 0, 0, 0)?,
-        get(alloc, 1, 1, 0)?,
-    ])
-}
+const PUTS: &str = "\
+0 put j0 global a 1|ok
+0 put j0 undef a 2|refused 1 BadParam
+0 now j0 j0 a|found u8:1
+0 commit j0|commit 1
+0 put j0 global a 3|ok
+0 now j0 j0 a|found u8:3
+1 now j1 j0 a|refused 2 NotFound
+";
 
 #[test]
 fn puts_are_sealed_by_commits(rt: HostRuntime) -> Result<(), Refusal> {
-    let alloc = rt.alloc();
-    let text = answers(alloc, &again!(puts(alloc))?)?;
-    let expected =
-        "ok\nrefused 1 BadParam\nfound u8:1\ncommit 1\nok\nfound u8:3\nrefused 2 NotFound\n";
-    assert_eq!(&rt; shown(&text), expected);
-    Ok(())
+    happens(&rt, rt.alloc(), PUTS)
 }

@@ -1,12 +1,14 @@
 //! Fences: who is released when, and with whom gone; which headers, commits and requests go out.
-use crate::nodes::group::group_of;
+use crate::nodes::group::{Row, play_all};
 use pmg_value::Refusal;
 
-#[test]
-fn one_process_meets_itself(rt: HostRuntime) -> Result<(), Refusal> {
-    group_of(rt.alloc(), 1, &[0])?.plays(
-        &rt,
-        "\
+const ROWS: &[Row] = &[
+    (
+        "one_process_meets_itself",
+        1,
+        &[0],
+        &[
+            "\
 0 enter j0 collect j0 j*
  entered 1
 0 status j0
@@ -20,15 +22,15 @@ fn one_process_meets_itself(rt: HostRuntime) -> Result<(), Refusal> {
 0 enter j0 collect
  Busy
 ",
-    )
-}
-
-// The piece that goes with node 0's header is lost, and asked for again.
-#[test]
-fn commits_that_a_header_names_are_waited_for(rt: HostRuntime) -> Result<(), Refusal> {
-    group_of(rt.alloc(), 2, &[0, 1])?.plays(
-        &rt,
-        "\
+        ],
+    ),
+    // The piece that goes with node 0's header is lost, and asked for again.
+    (
+        "commits_that_a_header_names_are_waited_for",
+        2,
+        &[0, 1],
+        &[
+            "\
 0 commit j0 global a 7
  commit 1
 0 enter j0 collect
@@ -68,14 +70,14 @@ fn commits_that_a_header_names_are_waited_for(rt: HostRuntime) -> Result<(), Ref
 1 now j1 j0 a
  found u8:7
 ",
-    )
-}
-
-#[test]
-fn both_find_what_was_committed_before(rt: HostRuntime) -> Result<(), Refusal> {
-    group_of(rt.alloc(), 2, &[0, 1])?.plays(
-        &rt,
-        "\
+        ],
+    ),
+    (
+        "both_find_what_was_committed_before",
+        2,
+        &[0, 1],
+        &[
+            "\
 0 commit j0 global a 1
  commit 1
 0 enter j0 collect
@@ -108,14 +110,14 @@ fn both_find_what_was_committed_before(rt: HostRuntime) -> Result<(), Refusal> {
  proc j 0 level 1
    u8:1 a
 ",
-    )
-}
-
-#[test]
-fn an_old_header_releases_nobody_from_the_next_fence(rt: HostRuntime) -> Result<(), Refusal> {
-    group_of(rt.alloc(), 2, &[0, 1])?.plays(
-        &rt,
-        "\
+        ],
+    ),
+    (
+        "an_old_header_releases_nobody_from_the_next_fence",
+        2,
+        &[0, 1],
+        &[
+            "\
 0 enter j0 plain
  entered 1
  to 1: header 0 plain 1 j0 j1, j0 entered 0
@@ -147,15 +149,16 @@ fn an_old_header_releases_nobody_from_the_next_fence(rt: HostRuntime) -> Result<
 0 leave j0
  waiting
 ",
-    )
-}
-
-// The same participants meet in a fence that collects data, and in one that does not: these are two.
-#[test]
-fn fences_of_other_kinds_are_counted_apart(rt: HostRuntime) -> Result<(), Refusal> {
-    group_of(rt.alloc(), 2, &[0, 1])?.plays(
-        &rt,
-        "\
+        ],
+    ),
+    // The same participants meet in a fence that collects data, and in one that does not: these are
+    // two.
+    (
+        "fences_of_other_kinds_are_counted_apart",
+        2,
+        &[0, 1],
+        &[
+            "\
 0 enter j0 plain
  entered 1
  to 1: header 0 plain 1 j0 j1, j0 entered 0
@@ -171,14 +174,14 @@ fn fences_of_other_kinds_are_counted_apart(rt: HostRuntime) -> Result<(), Refusa
 1 leave j1
  waiting
 ",
-    )
-}
-
-#[test]
-fn an_ended_process_is_gone_at_each_node(rt: HostRuntime) -> Result<(), Refusal> {
-    group_of(rt.alloc(), 3, &[0, 1, 2])?.plays(
-        &rt,
-        "\
+        ],
+    ),
+    (
+        "an_ended_process_is_gone_at_each_node",
+        3,
+        &[0, 1, 2],
+        &[
+            "\
 2 commit j2 global a 5
  commit 1
 2 end j2
@@ -224,14 +227,14 @@ fn an_ended_process_is_gone_at_each_node(rt: HostRuntime) -> Result<(), Refusal>
 0 wait j0 j2 b
  NotFound
 ",
-    )
-}
-
-#[test]
-fn who_entered_and_ended_is_not_gone(rt: HostRuntime) -> Result<(), Refusal> {
-    group_of(rt.alloc(), 2, &[0, 1])?.plays(
-        &rt,
-        "\
+        ],
+    ),
+    (
+        "who_entered_and_ended_is_not_gone",
+        2,
+        &[0, 1],
+        &[
+            "\
 0 enter j0 plain
  entered 1
  to 1: header 0 plain 1 j0 j1, j0 entered 0
@@ -253,15 +256,16 @@ fn who_entered_and_ended_is_not_gone(rt: HostRuntime) -> Result<(), Refusal> {
 0 status j0
  ended
 ",
-    )
-}
-
-// Processes 0 and 1 share a node: its header waits for both, and says of one that it ended before it entered.
-#[test]
-fn a_header_waits_for_all_of_its_node(rt: HostRuntime) -> Result<(), Refusal> {
-    group_of(rt.alloc(), 2, &[0, 0, 1])?.plays(
-        &rt,
-        "\
+        ],
+    ),
+    // Processes 0 and 1 share a node: its header waits for both, and says of one that it ended
+    // before it entered.
+    (
+        "a_header_waits_for_all_of_its_node",
+        2,
+        &[0, 0, 1],
+        &[
+            "\
 0 enter j0 plain
  entered 1
 0 end j1
@@ -281,15 +285,16 @@ fn a_header_waits_for_all_of_its_node(rt: HostRuntime) -> Result<(), Refusal> {
 0 leave j1
  Terminated
 ",
-    )
-}
-
-// Both of a node enter, and one ends before the fence is ready: it is released from nothing, and is not among the gone.
-#[test]
-fn the_gone_are_those_of_the_headers(rt: HostRuntime) -> Result<(), Refusal> {
-    group_of(rt.alloc(), 2, &[0, 0, 1])?.plays(
-        &rt,
-        "\
+        ],
+    ),
+    // Both of a node enter, and one ends before the fence is ready: it is released from nothing,
+    // and is not among the gone.
+    (
+        "the_gone_are_those_of_the_headers",
+        2,
+        &[0, 0, 1],
+        &[
+            "\
 0 enter j0 plain
  entered 1
 0 enter j1 plain
@@ -315,15 +320,15 @@ fn the_gone_are_those_of_the_headers(rt: HostRuntime) -> Result<(), Refusal> {
 1 leave j2
  released 1 gone -
 ",
-    )
-}
-
-// The first header of a node counts.
-#[test]
-fn a_second_header_changes_nothing(rt: HostRuntime) -> Result<(), Refusal> {
-    group_of(rt.alloc(), 2, &[0, 1])?.plays(
-        &rt,
-        "\
+        ],
+    ),
+    // The first header of a node counts.
+    (
+        "a_second_header_changes_nothing",
+        2,
+        &[0, 1],
+        &[
+            "\
 1 enter j1 collect
  entered 1
  to 0: header 1 collect 1 j0 j1, j1 entered 0
@@ -338,5 +343,11 @@ fn a_second_header_changes_nothing(rt: HostRuntime) -> Result<(), Refusal> {
 1 leave j1
  released 1 gone -
 ",
-    )
+        ],
+    ),
+];
+
+#[test]
+fn processes_meet_in_fences(rt: HostRuntime) -> Result<(), Refusal> {
+    play_all(&rt, rt.alloc(), ROWS)
 }

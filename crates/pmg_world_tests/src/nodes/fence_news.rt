@@ -1,13 +1,17 @@
-//! What goes out of fences when nodes ask, processes end and nodes are nudged: to whom, and in which order.
-use crate::nodes::group::group_of;
+//! What goes out of fences when nodes ask, processes end and nodes are nudged: to whom, and in
+//! which order.
+use crate::nodes::group::{Row, play_all};
 use pmg_value::Refusal;
 
-// A fence ask teaches the name: the own header, which exists by that, goes to all; asked for again, to the asker alone.
-#[test]
-fn a_fence_ask_is_answered_once_the_header_exists(rt: HostRuntime) -> Result<(), Refusal> {
-    group_of(rt.alloc(), 3, &[0, 1, 2])?.plays(
-        &rt,
-        "\
+const ROWS: &[Row] = &[
+    // A fence ask teaches the name: the own header, which exists by that, goes to all; asked for
+    // again, to the asker alone.
+    (
+        "a_fence_ask_is_answered_once_the_header_exists",
+        3,
+        &[0, 1, 2],
+        &[
+            "\
 2 fence 1 plain 1 j0,j1,j2
  taken
 2 commit j2 remote a 5
@@ -32,16 +36,17 @@ fn a_fence_ask_is_answered_once_the_header_exists(rt: HostRuntime) -> Result<(),
  taken
  to 1: header 2 plain 1 j0 j1 j2, j2 gone 2
 ",
-    )
-}
-
-// Three fences are known when process 0 ends, of which one waits for process 1: held requests are answered first, then
-// the headers go out by participants, then plain before collect; the commits of process 0 were sent by then.
-#[test]
-fn an_end_announces_fences_by_name(rt: HostRuntime) -> Result<(), Refusal> {
-    group_of(rt.alloc(), 2, &[0, 0, 1])?.plays(
-        &rt,
-        "\
+        ],
+    ),
+    // Three fences are known when process 0 ends, of which one waits for process 1: held requests
+    // are answered first, then the headers go out by participants, then plain before collect; the
+    // commits of process 0 were sent by then.
+    (
+        "an_end_announces_fences_by_name",
+        2,
+        &[0, 0, 1],
+        &[
+            "\
 0 fence 1 collect 1 j0,j2
  taken
 0 fence 1 collect 1 j0,j1,j2
@@ -62,16 +67,16 @@ fn an_end_announces_fences_by_name(rt: HostRuntime) -> Result<(), Refusal> {
 0 end j1
  Terminated
 ",
-    )
-}
-
-// Two fences and a get wait at node 1. Headers are asked for, then commits that headers name, fence by fence; then the
-// home of the get's target; then changes of the process sets.
-#[test]
-fn a_nudge_asks_for_all_that_is_missing(rt: HostRuntime) -> Result<(), Refusal> {
-    group_of(rt.alloc(), 3, &[0, 1, 1, 2, 1])?.plays(
-        &rt,
-        "\
+        ],
+    ),
+    // Two fences and a get wait at node 1. Headers are asked for, then commits that headers name,
+    // fence by fence; then the home of the get's target; then changes of the process sets.
+    (
+        "a_nudge_asks_for_all_that_is_missing",
+        3,
+        &[0, 1, 1, 2, 1],
+        &[
+            "\
 1 nudge
  ok
  to 0: range ask 1 pmix.host0 0
@@ -110,5 +115,11 @@ fn a_nudge_asks_for_all_that_is_missing(rt: HostRuntime) -> Result<(), Refusal> 
 0 nudge
  ok
 ",
-    )
+        ],
+    ),
+];
+
+#[test]
+fn news_of_fences_go_out_in_order(rt: HostRuntime) -> Result<(), Refusal> {
+    play_all(&rt, rt.alloc(), ROWS)
 }

@@ -1,12 +1,14 @@
 //! Gets: what is found by whom, who waits, whom its node asks, and what ends the wait.
-use crate::nodes::group::group_of;
+use crate::nodes::group::{Row, play_all};
 use pmg_value::Refusal;
 
-#[test]
-fn each_scope_reaches_whom_it_names(rt: HostRuntime) -> Result<(), Refusal> {
-    group_of(rt.alloc(), 2, &[0, 0, 1])?.plays(
-        &rt,
-        "\
+const ROWS: &[Row] = &[
+    (
+        "each_scope_reaches_whom_it_names",
+        2,
+        &[0, 0, 1],
+        &[
+            "\
 0 commit j0 internal x 1 local y 2 remote z 3 global w 4
  commit 1
 0 now j1 j0 y
@@ -37,15 +39,16 @@ fn each_scope_reaches_whom_it_names(rt: HostRuntime) -> Result<(), Refusal> {
 1 now j2 j0 y
  NotFound
 ",
-    )
-}
-
-// A LOCAL and a REMOTE value of one key stand side by side. The second request waits until the target ends.
-#[test]
-fn a_get_waits_for_a_process_of_another_node(rt: HostRuntime) -> Result<(), Refusal> {
-    group_of(rt.alloc(), 2, &[0, 0, 1])?.plays(
-        &rt,
-        "\
+        ],
+    ),
+    // A LOCAL and a REMOTE value of one key stand side by side. The second request waits until the
+    // target ends.
+    (
+        "a_get_waits_for_a_process_of_another_node",
+        2,
+        &[0, 0, 1],
+        &[
+            "\
 0 commit j0 local a 7 remote a 8
  commit 1
 0 now j1 j0 a
@@ -87,14 +90,14 @@ fn a_get_waits_for_a_process_of_another_node(rt: HostRuntime) -> Result<(), Refu
 1 wait j2 j0 a
  found u8:8
 ",
-    )
-}
-
-#[test]
-fn a_get_waits_for_a_process_of_its_node(rt: HostRuntime) -> Result<(), Refusal> {
-    group_of(rt.alloc(), 1, &[0, 0])?.plays(
-        &rt,
-        "\
+        ],
+    ),
+    (
+        "a_get_waits_for_a_process_of_its_node",
+        1,
+        &[0, 0],
+        &[
+            "\
 0 enter j0 plain j1
  NotAParticipant
 0 now j0 j1 a
@@ -128,15 +131,16 @@ fn a_get_waits_for_a_process_of_its_node(rt: HostRuntime) -> Result<(), Refusal>
 0 wait j1 j0 b
  found u8:1
 ",
-    )
-}
-
-// The value that comes is kept from processes of the same node; the end of a target answers whoever waits for it there.
-#[test]
-fn what_is_outside_the_scope_ends_the_wait(rt: HostRuntime) -> Result<(), Refusal> {
-    group_of(rt.alloc(), 1, &[0, 0, 0])?.plays(
-        &rt,
-        "\
+        ],
+    ),
+    // The value that comes is kept from processes of the same node; the end of a target answers
+    // whoever waits for it there.
+    (
+        "what_is_outside_the_scope_ends_the_wait",
+        1,
+        &[0, 0, 0],
+        &[
+            "\
 0 wait j0 j1 a
  parked
 0 wait j2 j1 b
@@ -160,16 +164,16 @@ fn what_is_outside_the_scope_ends_the_wait(rt: HostRuntime) -> Result<(), Refusa
 0 status j2
  idle
 ",
-    )
-}
-
-// Two gets wait for keys of process 0. Whoever waits still asks again once more commits are known, and only then: not at
-// commits after a missing one, and not at those that are known.
-#[test]
-fn a_get_asks_again_once_more_is_known(rt: HostRuntime) -> Result<(), Refusal> {
-    group_of(rt.alloc(), 2, &[0, 1, 1, 1])?.plays(
-        &rt,
-        "\
+        ],
+    ),
+    // Two gets wait for keys of process 0. Whoever waits still asks again once more commits are
+    // known, and only then: not at commits after a missing one, and not at those that are known.
+    (
+        "a_get_asks_again_once_more_is_known",
+        2,
+        &[0, 1, 1, 1],
+        &[
+            "\
 1 wait j2 j0 b
  parked
  to 0: direct ask 1 j0 0
@@ -204,15 +208,16 @@ fn a_get_asks_again_once_more_is_known(rt: HostRuntime) -> Result<(), Refusal> {
 1 take j2
  found u8:8
 ",
-    )
-}
-
-// Gets of two targets ask in the order of the processes that wait; at an end the wait is over, and nothing is answered.
-#[test]
-fn an_end_ends_the_wait(rt: HostRuntime) -> Result<(), Refusal> {
-    group_of(rt.alloc(), 3, &[0, 1, 1, 2])?.plays(
-        &rt,
-        "\
+        ],
+    ),
+    // Gets of two targets ask in the order of the processes that wait; at an end the wait is over,
+    // and nothing is answered.
+    (
+        "an_end_ends_the_wait",
+        3,
+        &[0, 1, 1, 2],
+        &[
+            "\
 1 wait j2 j0 a
  parked
  to 0: direct ask 1 j0 0
@@ -239,15 +244,15 @@ fn an_end_ends_the_wait(rt: HostRuntime) -> Result<(), Refusal> {
  to 2: direct ask 1 j3 0
  to 0: range ask 1 pmix.host0 0
 ",
-    )
-}
-
-// What the registry answers of reserved keys, at the asking node.
-#[test]
-fn reserved_keys_are_answered_at_once(rt: HostRuntime) -> Result<(), Refusal> {
-    group_of(rt.alloc(), 2, &[1, 0, 1])?.plays(
-        &rt,
-        "\
+        ],
+    ),
+    // What the registry answers of reserved keys, at the asking node.
+    (
+        "reserved_keys_are_answered_at_once",
+        2,
+        &[1, 0, 1],
+        &[
+            "\
 1 wait j0 j* pmix.job.size
  found u32:3
 1 now j0 j? pmix.job.size
@@ -275,5 +280,11 @@ fn reserved_keys_are_answered_at_once(rt: HostRuntime) -> Result<(), Refusal> {
 1 wait j0 j1 pmix.term
  NotFound
 ",
-    )
+        ],
+    ),
+];
+
+#[test]
+fn gets_are_answered_or_wait(rt: HostRuntime) -> Result<(), Refusal> {
+    play_all(&rt, rt.alloc(), ROWS)
 }

@@ -1,15 +1,10 @@
 //! Frames that do not concern a node: each is ignored, nothing is sent, and all stands as before.
-use crate::nodes::group::{Group, group_of};
+use crate::nodes::group::{Row, play_all};
 use pmg_value::Refusal;
-use std::alloc::Global;
-use std::process::Abort;
 
-// Node 1, where process 1 waits in a fence for process 0, and process 2 for a key of it, after a commit.
-fn waiting_group(rt: &impl Abort, alloc: Global) -> Result<Group, Refusal> {
-    let mut group = group_of(alloc, 3, &[0, 1, 1, 2])?;
-    group.plays(
-        rt,
-        "\
+// Node 1, where process 1 waits in a fence for process 0, and process 2 for a key of it, after a
+// commit.
+const WAITING: &str = "\
 1 commit j1 global a 1
  commit 1
 1 enter j1 plain j0 j1
@@ -18,16 +13,10 @@ fn waiting_group(rt: &impl Abort, alloc: Global) -> Result<Group, Refusal> {
 1 wait j2 j0 a
  parked
  to 0: direct ask 1 j0 0
-",
-    )?;
-    Ok(group)
-}
+";
 
 // Nothing came of the frames that were ignored.
-fn waits_still(rt: &impl Abort, group: &mut Group) -> Result<(), Refusal> {
-    group.plays(
-        rt,
-        "\
+const WAITING_STILL: &str = "\
 1 status j1
  in fence
 1 status j2
@@ -48,16 +37,16 @@ fn waits_still(rt: &impl Abort, group: &mut Group) -> Result<(), Refusal> {
  Busy
 1 end j1
  ended 2
-",
-    )
-}
+";
 
-#[test]
-fn foreign_requests_and_commits_are_ignored(rt: HostRuntime) -> Result<(), Refusal> {
-    let mut group = waiting_group(&rt, rt.alloc())?;
-    group.plays(
-        &rt,
-        "\
+const ROWS: &[Row] = &[
+    (
+        "foreign_requests_and_commits_are_ignored",
+        3,
+        &[0, 1, 1, 2],
+        &[
+            WAITING,
+            "\
 1 piece j1 1 2 a 2 9
  ignored
 1 piece j4 0 1 a 1 9
@@ -89,16 +78,16 @@ fn foreign_requests_and_commits_are_ignored(rt: HostRuntime) -> Result<(), Refus
 1 direct 0 pmix.host0 0
  ignored
 ",
-    )?;
-    waits_still(&rt, &mut group)
-}
-
-#[test]
-fn foreign_fences_are_ignored(rt: HostRuntime) -> Result<(), Refusal> {
-    let mut group = waiting_group(&rt, rt.alloc())?;
-    group.plays(
-        &rt,
-        "\
+            WAITING_STILL,
+        ],
+    ),
+    (
+        "foreign_fences_are_ignored",
+        3,
+        &[0, 1, 1, 2],
+        &[
+            WAITING,
+            "\
 1 header 0 plain 1 j0,j1 j1 entered 0
  ignored
 1 header 0 plain 1 j0,j1 j0 entered 0 j1 entered 0
@@ -138,17 +127,17 @@ fn foreign_fences_are_ignored(rt: HostRuntime) -> Result<(), Refusal> {
 0 header 1 plain 1 j0,j1,j2 j1 entered 0 j2 gone 1
  taken
 ",
-    )?;
-    waits_still(&rt, &mut group)
-}
-
-// The like of these at the nodes that they concern.
-#[test]
-fn frames_that_concern_a_node_are_taken(rt: HostRuntime) -> Result<(), Refusal> {
-    let mut group = waiting_group(&rt, rt.alloc())?;
-    group.plays(
-        &rt,
-        "\
+            WAITING_STILL,
+        ],
+    ),
+    // The like of these at the nodes that they concern.
+    (
+        "frames_that_concern_a_node_are_taken",
+        3,
+        &[0, 1, 1, 2],
+        &[
+            WAITING,
+            "\
 1 range 0 j1 0
  taken
  to 0: piece j1 0..1 a=u8:1@1
@@ -168,5 +157,11 @@ fn frames_that_concern_a_node_are_taken(rt: HostRuntime) -> Result<(), Refusal> 
 0 direct 1 pmix.host0 0
  taken
 ",
-    )
+        ],
+    ),
+];
+
+#[test]
+fn frames_of_others_change_nothing(rt: HostRuntime) -> Result<(), Refusal> {
+    play_all(&rt, rt.alloc(), ROWS)
 }

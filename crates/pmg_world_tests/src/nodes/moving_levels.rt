@@ -1,13 +1,16 @@
-//! Where the commits start that go with a header: after those that the receiver was sent, or said that it knows.
-use crate::nodes::group::group_of;
+//! Where the commits start that go with a header: after those that the receiver was sent, or said
+//! that it knows.
+use crate::nodes::group::{Row, play_all};
 use pmg_value::Refusal;
 
-// The piece of the first fence is late, and that of the second comes before it.
-#[test]
-fn commits_are_sent_once(rt: HostRuntime) -> Result<(), Refusal> {
-    group_of(rt.alloc(), 2, &[0, 1])?.plays(
-        &rt,
-        "\
+const ROWS: &[Row] = &[
+    // The piece of the first fence is late, and that of the second comes before it.
+    (
+        "commits_are_sent_once",
+        2,
+        &[0, 1],
+        &[
+            "\
 0 commit j0 global a 1
  commit 1
 0 enter j0 collect
@@ -64,15 +67,16 @@ fn commits_are_sent_once(rt: HostRuntime) -> Result<(), Refusal> {
 1 leave j1
  released 3 gone -
 ",
-    )
-}
-
-// A request that goes past the level says that nothing is missing; one that goes back says that all is.
-#[test]
-fn a_request_says_what_its_node_knows(rt: HostRuntime) -> Result<(), Refusal> {
-    group_of(rt.alloc(), 2, &[0, 1])?.plays(
-        &rt,
-        "\
+        ],
+    ),
+    // A request that goes past the level says that nothing is missing; one that goes back says that
+    // all is.
+    (
+        "a_request_says_what_its_node_knows",
+        2,
+        &[0, 1],
+        &[
+            "\
 0 commit j0 global a 1
  commit 1
 0 range 1 j0 7
@@ -95,16 +99,16 @@ fn a_request_says_what_its_node_knows(rt: HostRuntime) -> Result<(), Refusal> {
  taken
  to 1: piece j0 0..1 a=u8:1@1
 ",
-    )
-}
-
-// Three nodes ask for the commits of process 0, one of them twice: each is answered from the least number that it named,
-// by its next commit past that one, and once.
-#[test]
-fn held_requests_are_answered_from_the_least_level(rt: HostRuntime) -> Result<(), Refusal> {
-    group_of(rt.alloc(), 3, &[0, 1, 2])?.plays(
-        &rt,
-        "\
+        ],
+    ),
+    // Three nodes ask for the commits of process 0, one of them twice: each is answered from the
+    // least number that it named, by its next commit past that one, and once.
+    (
+        "held_requests_are_answered_from_the_least_level",
+        3,
+        &[0, 1, 2],
+        &[
+            "\
 0 commit j0 global a 1
  commit 1
 0 direct 2 j0 2
@@ -132,5 +136,11 @@ fn held_requests_are_answered_from_the_least_level(rt: HostRuntime) -> Result<()
  to 1: piece j0 4..5 pmix.term=bool:true@5
  to 2: piece j0 4..5 pmix.term=bool:true@5
 ",
-    )
+        ],
+    ),
+];
+
+#[test]
+fn commits_go_out_after_those_that_are_known(rt: HostRuntime) -> Result<(), Refusal> {
+    play_all(&rt, rt.alloc(), ROWS)
 }

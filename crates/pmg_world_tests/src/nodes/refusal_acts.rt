@@ -1,33 +1,21 @@
-//! Refusals: each call with each of its causes, and two at a time, of which the first in the common order counts; and that a
-//! refused call sends nothing and changes nothing.
-use crate::nodes::group::{Group, group_of};
+//! Refusals: each call with each of its causes, and two at a time, of which the first in the common
+//! order counts; and that a refused call sends nothing and changes nothing.
+use crate::nodes::group::{Row, play_all};
 use pmg_value::Refusal;
-use std::alloc::Global;
-use std::process::Abort;
 
-// At node 0, process 2 has ended, and its key z is kept from the others there; the get of process 3 waits. Process 1 is at
-// home at node 1.
-fn busy_group(rt: &impl Abort, alloc: Global) -> Result<Group, Refusal> {
-    let mut group = group_of(alloc, 2, &[0, 1, 0, 0])?;
-    group.plays(
-        rt,
-        "\
+// At node 0, process 2 has ended, and its key z is kept from the others there; the get of process 3
+// waits. Process 1 is at home at node 1.
+const BUSY: &str = "\
 0 commit j2 remote z 1
  commit 1
 0 end j2
  ended 2
 0 wait j3 j0 x
  parked
-",
-    )?;
-    Ok(group)
-}
+";
 
 // All is as it was after these refusals.
-fn is_unchanged(rt: &impl Abort, group: &mut Group) -> Result<(), Refusal> {
-    group.plays(
-        rt,
-        "\
+const UNCHANGED: &str = "\
 0 status j0
  idle
 0 status j1
@@ -51,16 +39,16 @@ fn is_unchanged(rt: &impl Abort, group: &mut Group) -> Result<(), Refusal> {
 1 dump
 0 nudge
  ok
-",
-    )
-}
+";
 
-#[test]
-fn commits_are_refused_in_order(rt: HostRuntime) -> Result<(), Refusal> {
-    let mut group = busy_group(&rt, rt.alloc())?;
-    group.plays(
-        &rt,
-        "\
+const ROWS: &[Row] = &[
+    (
+        "commits_are_refused_in_order",
+        2,
+        &[0, 1, 0, 0],
+        &[
+            BUSY,
+            "\
 0 commit pmixa0 global a 1
  BadParam
 0 commit pmix.host0 global a 1
@@ -86,16 +74,16 @@ fn commits_are_refused_in_order(rt: HostRuntime) -> Result<(), Refusal> {
 0 commit j3 global a 1
  Busy
 ",
-    )?;
-    is_unchanged(&rt, &mut group)
-}
-
-#[test]
-fn entries_are_refused_in_order(rt: HostRuntime) -> Result<(), Refusal> {
-    let mut group = busy_group(&rt, rt.alloc())?;
-    group.plays(
-        &rt,
-        "\
+            UNCHANGED,
+        ],
+    ),
+    (
+        "entries_are_refused_in_order",
+        2,
+        &[0, 1, 0, 0],
+        &[
+            BUSY,
+            "\
 0 enter pmixa0 plain
  BadParam
 0 enter j9 plain k0
@@ -133,16 +121,16 @@ fn entries_are_refused_in_order(rt: HostRuntime) -> Result<(), Refusal> {
 0 enter j0 collect j1 j3
  NotAParticipant
 ",
-    )?;
-    is_unchanged(&rt, &mut group)
-}
-
-#[test]
-fn gets_are_refused_in_order(rt: HostRuntime) -> Result<(), Refusal> {
-    let mut group = busy_group(&rt, rt.alloc())?;
-    group.plays(
-        &rt,
-        "\
+            UNCHANGED,
+        ],
+    ),
+    (
+        "gets_are_refused_in_order",
+        2,
+        &[0, 1, 0, 0],
+        &[
+            BUSY,
+            "\
 0 now j0 j0 a
  BadParam
 0 now j0 j* a
@@ -198,16 +186,16 @@ fn gets_are_refused_in_order(rt: HostRuntime) -> Result<(), Refusal> {
 0 wait j0 j2 z
  OutsideScope
 ",
-    )?;
-    is_unchanged(&rt, &mut group)
-}
-
-#[test]
-fn who_leaves_takes_or_ends_is_refused_in_order(rt: HostRuntime) -> Result<(), Refusal> {
-    let mut group = busy_group(&rt, rt.alloc())?;
-    group.plays(
-        &rt,
-        "\
+            UNCHANGED,
+        ],
+    ),
+    (
+        "who_leaves_takes_or_ends_is_refused_in_order",
+        2,
+        &[0, 1, 0, 0],
+        &[
+            BUSY,
+            "\
 0 leave pmixa0
  BadParam
 0 leave pmix.host0
@@ -267,16 +255,15 @@ fn who_leaves_takes_or_ends_is_refused_in_order(rt: HostRuntime) -> Result<(), R
 0 take j0
  idle
 ",
-    )?;
-    is_unchanged(&rt, &mut group)
-}
-
-#[test]
-fn set_changes_are_refused_in_order(rt: HostRuntime) -> Result<(), Refusal> {
-    let mut group = group_of(rt.alloc(), 2, &[0, 1])?;
-    group.plays(
-        &rt,
-        "\
+            UNCHANGED,
+        ],
+    ),
+    (
+        "set_changes_are_refused_in_order",
+        2,
+        &[0, 1],
+        &[
+            "\
 0 define s j0
  defined 1
  to 1: piece pmix.host0 0..1 s=array:proc[6a/0]@1
@@ -319,5 +306,11 @@ fn set_changes_are_refused_in_order(rt: HostRuntime) -> Result<(), Refusal> {
 1 range 0 j1 0
  taken
 ",
-    )
+        ],
+    ),
+];
+
+#[test]
+fn refused_acts_change_nothing(rt: HostRuntime) -> Result<(), Refusal> {
+    play_all(&rt, rt.alloc(), ROWS)
 }

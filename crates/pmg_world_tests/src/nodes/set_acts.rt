@@ -1,12 +1,14 @@
 //! Process sets: who defines them, and how other nodes learn of them.
-use crate::nodes::group::group_of;
+use crate::nodes::group::{Row, play_all};
 use pmg_value::Refusal;
 
-#[test]
-fn a_set_is_known_where_its_change_came(rt: HostRuntime) -> Result<(), Refusal> {
-    group_of(rt.alloc(), 2, &[0, 1])?.plays(
-        &rt,
-        "\
+const ROWS: &[Row] = &[
+    (
+        "a_set_is_known_where_its_change_came",
+        2,
+        &[0, 1],
+        &[
+            "\
 0 define fast j1 j0
  defined 1
  to 1: piece pmix.host0 0..1 fast=array:proc[6a/0,6a/1]@1
@@ -40,15 +42,15 @@ fn a_set_is_known_where_its_change_came(rt: HostRuntime) -> Result<(), Refusal> 
  proc pmix.host 0 level 3
    array:proc[6a/0,6a/1] fast
 ",
-    )
-}
-
-// A change that was lost is asked for at a nudge.
-#[test]
-fn a_lost_change_is_asked_for(rt: HostRuntime) -> Result<(), Refusal> {
-    group_of(rt.alloc(), 3, &[0, 1, 2])?.plays(
-        &rt,
-        "\
+        ],
+    ),
+    // A change that was lost is asked for at a nudge.
+    (
+        "a_lost_change_is_asked_for",
+        3,
+        &[0, 1, 2],
+        &[
+            "\
 0 define a j2 j2
  defined 1
  to 1: piece pmix.host0 0..1 a=array:proc[6a/2]@1
@@ -87,15 +89,16 @@ fn a_lost_change_is_asked_for(rt: HostRuntime) -> Result<(), Refusal> {
  ok
  to 0: range ask 2 pmix.host0 2
 ",
-    )
-}
-
-// A request for the next change waits as one for a process's next commit does, and is answered first.
-#[test]
-fn the_next_change_is_waited_for(rt: HostRuntime) -> Result<(), Refusal> {
-    group_of(rt.alloc(), 3, &[0, 1, 2])?.plays(
-        &rt,
-        "\
+        ],
+    ),
+    // A request for the next change waits as one for a process's next commit does, and is answered
+    // first.
+    (
+        "the_next_change_is_waited_for",
+        3,
+        &[0, 1, 2],
+        &[
+            "\
 0 direct 2 pmix.host0 0
  taken
 0 define a j0
@@ -110,5 +113,11 @@ fn the_next_change_is_waited_for(rt: HostRuntime) -> Result<(), Refusal> {
 0 members a
  NotFound
 ",
-    )
+        ],
+    ),
+];
+
+#[test]
+fn sets_are_known_where_their_changes_came(rt: HostRuntime) -> Result<(), Refusal> {
+    play_all(&rt, rt.alloc(), ROWS)
 }

@@ -1,18 +1,30 @@
 //! What a node replies and sends, as text: one line for the reply, and one for each frame.
 use pmg_commit::Piece;
-use pmg_frame::{CommitAsk, FenceName, Frame, Header, Local, State};
+use pmg_frame::{CommitAsk, FenceName, Frame, Header, State};
 use pmg_node::Reply;
 use pmg_rules::Sent;
 use pmg_value::{Proc, Refusal, push_number};
 use std::alloc::{AllocError, Global};
+use std::str;
+
+/// The text of these bytes.
+pub(crate) fn shown(text: &[u8]) -> &str {
+    str::from_utf8(text).unwrap_or("no text")
+}
 
 /// Puts the word after the text.
 pub(crate) fn put(text: &mut Vec<u8>, word: &str) -> Result<(), AllocError> {
     text.extend_from_slice(word.as_bytes())
 }
 
-// The word, and the number after it.
-fn put_with(text: &mut Vec<u8>, word: &str, number: u64) -> Result<(), AllocError> {
+/// Puts the text of a line, and its end.
+pub(crate) fn put_line(text: &mut Vec<u8>, line: &str) -> Result<(), AllocError> {
+    put(text, line)?;
+    put(text, "\n")
+}
+
+/// Puts the word, and the number after it.
+pub(crate) fn put_with(text: &mut Vec<u8>, word: &str, number: u64) -> Result<(), AllocError> {
     put(text, word)?;
     push_number(text, number)
 }
@@ -32,8 +44,12 @@ fn put_procs(text: &mut Vec<u8>, procs: &[Proc]) -> Result<(), AllocError> {
     Ok(())
 }
 
-// The keys and values of the piece, each with the number of its commit.
-fn put_entries(text: &mut Vec<u8>, piece: &Piece, alloc: Global) -> Result<(), AllocError> {
+// The commits of the piece, and its keys and values, each with the number of its commit.
+fn put_piece(text: &mut Vec<u8>, piece: &Piece, alloc: Global) -> Result<(), AllocError> {
+    put(text, "piece ")?;
+    put_proc(text, piece.proc())?;
+    put_with(text, " ", piece.from())?;
+    put_with(text, "..", piece.to())?;
     for entry in piece.entries() {
         put(text, " ")?;
         text.extend_from_slice(entry.key.as_bytes())?;
@@ -42,19 +58,6 @@ fn put_entries(text: &mut Vec<u8>, piece: &Piece, alloc: Global) -> Result<(), A
         put_with(text, "@", entry.number)?;
     }
     Ok(())
-}
-
-/// The commits of the piece, and its entries.
-pub(crate) fn put_piece(
-    text: &mut Vec<u8>,
-    piece: &Piece,
-    alloc: Global,
-) -> Result<(), AllocError> {
-    put(text, "piece ")?;
-    put_proc(text, piece.proc())?;
-    put_with(text, " ", piece.from())?;
-    put_with(text, "..", piece.to())?;
-    put_entries(text, piece, alloc)
 }
 
 // Whether the fence collects data, its instance and its participants.
@@ -68,20 +71,17 @@ fn put_name(text: &mut Vec<u8>, name: &FenceName) -> Result<(), AllocError> {
     put_procs(text, name.signature().participants())
 }
 
-fn put_local(text: &mut Vec<u8>, local: &Local) -> Result<(), AllocError> {
-    put(text, ", ")?;
-    put_proc(text, &local.proc)?;
-    match local.state {
-        State::Entered => put_with(text, " entered ", local.level),
-        State::Gone => put_with(text, " gone ", local.level),
-    }
-}
-
+// The node, the fence, and what is told of each participant.
 fn put_header(text: &mut Vec<u8>, header: &Header) -> Result<(), AllocError> {
     put_with(text, "header ", u64::from(header.node().index()))?;
     put_name(text, header.name())?;
     for local in header.locals() {
-        put_local(text, local)?;
+        put(text, ", ")?;
+        put_proc(text, &local.proc)?;
+        match local.state {
+            State::Entered => put_with(text, " entered ", local.level)?,
+            State::Gone => put_with(text, " gone ", local.level)?,
+        }
     }
     Ok(())
 }
@@ -117,26 +117,6 @@ fn put_release(text: &mut Vec<u8>, instance: u64, gone: &[Proc]) -> Result<(), A
     put_procs(text, gone)
 }
 
-fn put_reply(text: &mut Vec<u8>, reply: &Reply, alloc: Global) -> Result<(), AllocError> {
-    match reply {
-        Reply::Done => put(text, "ok"),
-        Reply::Committed(number) => put_with(text, "commit ", *number),
-        Reply::Entered(instance) => put_with(text, "entered ", *instance),
-        Reply::Idle => put(text, "idle"),
-        Reply::Waiting => put(text, "waiting"),
-        Reply::Released(instance, gone) => put_release(text, *instance, gone),
-        Reply::Found(value) => {
-            put(text, "found ")?;
-            text.extend_from_slice(&value.to_text(alloc)?)
-        }
-        Reply::Parked => put(text, "parked"),
-        Reply::Taken => put(text, "taken"),
-        Reply::Ignored => put(text, "ignored"),
-        Reply::Ended(number) => put_with(text, "ended ", *number),
-        Reply::Defined(number) => put_with(text, "defined ", *number),
-    }
-}
-
 /// The line of a reply, or of a refusal by its name.
 pub(crate) fn put_answer(
     text: &mut Vec<u8>,
@@ -144,7 +124,21 @@ pub(crate) fn put_answer(
     alloc: Global,
 ) -> Result<(), AllocError> {
     match answer {
-        Ok(reply) => put_reply(text, reply, alloc)?,
+        Ok(Reply::Done) => put(text, "ok")?,
+        Ok(Reply::Committed(number)) => put_with(text, "commit ", *number)?,
+        Ok(Reply::Entered(instance)) => put_with(text, "entered ", *instance)?,
+        Ok(Reply::Idle) => put(text, "idle")?,
+        Ok(Reply::Waiting) => put(text, "waiting")?,
+        Ok(Reply::Released(instance, gone)) => put_release(text, *instance, gone)?,
+        Ok(Reply::Found(value)) => {
+            put(text, "found ")?;
+            text.extend_from_slice(&value.to_text(alloc)?)?
+        }
+        Ok(Reply::Parked) => put(text, "parked")?,
+        Ok(Reply::Taken) => put(text, "taken")?,
+        Ok(Reply::Ignored) => put(text, "ignored")?,
+        Ok(Reply::Ended(number)) => put_with(text, "ended ", *number)?,
+        Ok(Reply::Defined(number)) => put_with(text, "defined ", *number)?,
         Err(refusal) => put(text, refusal.name())?,
     }
     put(text, "\n")

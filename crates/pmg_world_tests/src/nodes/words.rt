@@ -1,6 +1,8 @@
-//! Processes, keys, puts and frames from words.
+//! Processes, keys, puts, requests and frames from words.
 use pmg_commit::{Piece, PieceEntry};
 use pmg_frame::{CommitAsk, FenceAsk, FenceName, Frame, Header, Local, Signature, State};
+use pmg_get::Mode;
+use pmg_node::Request;
 use pmg_scope::{Batch, Cache, Scope};
 use pmg_value::{Key, NodeId, Nspace, Proc, Rank, Refusal, Value};
 use std::alloc::Global;
@@ -28,8 +30,8 @@ fn node(words: &[&str], at: usize) -> Result<NodeId, Refusal> {
     NodeId::new(word(words, at).parse::<u32>().unwrap_or(u32::MAX))
 }
 
-// The value at that place.
-fn value(words: &[&str], at: usize) -> Value {
+/// The value at that place.
+pub(crate) fn value(words: &[&str], at: usize) -> Value {
     Value::U8(word(words, at).parse::<u8>().unwrap_or(0))
 }
 
@@ -64,7 +66,36 @@ pub(crate) fn key(alloc: Global, word: &str) -> Result<Key, Refusal> {
     Key::read_any(alloc, word.as_bytes())
 }
 
-fn scope_of(word: &str) -> Scope {
+// The get of the words from the third one on, of that mode.
+fn ask(alloc: Global, words: &[&str], mode: Mode) -> Result<Request, Refusal> {
+    let target = process(alloc, word(words, 3))?;
+    let name = key(alloc, word(words, 4))?;
+    Ok(Request::Ask(process(alloc, word(words, 2))?, target, name, mode))
+}
+
+/// The request of the words from the second one on, if they are those of one.
+pub(crate) fn request(alloc: Global, words: &[&str]) -> Result<Option<Request>, Refusal> {
+    let first = word(words, 2);
+    Ok(Some(match word(words, 1) {
+        "enter" => Request::Enter(
+            process(alloc, first)?,
+            processes(alloc, words, 4)?,
+            word(words, 3) == "collect",
+        ),
+        "leave" => Request::Leave(process(alloc, first)?),
+        "wait" => ask(alloc, words, Mode::Wait)?,
+        "now" => ask(alloc, words, Mode::Now)?,
+        "take" => Request::Take(process(alloc, first)?),
+        "end" => Request::Terminate(process(alloc, first)?),
+        "define" => Request::Define(key(alloc, first)?, processes(alloc, words, 3)?),
+        "delete" => Request::Delete(key(alloc, first)?),
+        "nudge" => Request::Nudge,
+        _ => return Ok(None),
+    }))
+}
+
+/// The scope of that name.
+pub(crate) fn scope_of(word: &str) -> Scope {
     match word {
         "internal" => Scope::Internal,
         "local" => Scope::Local,
@@ -74,7 +105,8 @@ fn scope_of(word: &str) -> Scope {
     }
 }
 
-/// What a commit seals after the puts of the words from the fourth one on, of three words each: the scope, the key and the value.
+/// What a commit seals after the puts of the words from the fourth one on, of three words each: the
+/// scope, the key and the value.
 pub(crate) fn batch(alloc: Global, words: &[&str]) -> Result<Batch, Refusal> {
     let mut cache = Cache::new(alloc);
     for put in words.chunks(3).skip(1) {
@@ -84,40 +116,30 @@ pub(crate) fn batch(alloc: Global, words: &[&str]) -> Result<Batch, Refusal> {
     Ok(cache.unsealed()?)
 }
 
-// The processes of a word, with commas between them.
-fn participants(alloc: Global, word: &str) -> Result<Vec<Proc>, Refusal> {
-    let mut procs = Vec::new(alloc);
-    for part in word.split(',') {
-        procs.push(process(alloc, part)?)?;
-    }
-    Ok(procs)
-}
-
-// The fence of three words: whether it collects data, its instance, and its participants.
-fn name(alloc: Global, words: &[&str], at: usize) -> Result<FenceName, Refusal> {
+/// The fence of three words: whether it collects data, its instance, and its participants, with
+/// commas between them.
+pub(crate) fn name(alloc: Global, words: &[&str], at: usize) -> Result<FenceName, Refusal> {
     let collect = word(words, at) == "collect";
-    let procs = participants(alloc, word(words, at.wrapping_add(2)))?;
     let instance = number(words, at.wrapping_add(1));
+    let listed: Vec<&str> = word(words, at.wrapping_add(2)).split(',').collect(alloc)?;
+    let procs = processes(alloc, &listed, 0)?;
     FenceName::new(Signature::new(procs, collect)?, instance)
 }
 
-// What a header tells of a participant, in three words: the process, whether it has entered, and its level.
-fn local(alloc: Global, words: &[&str]) -> Result<Local, Refusal> {
-    let state = match word(words, 1) {
-        "gone" => State::Gone,
-        _ => State::Entered,
-    };
-    Ok(Local {
-        proc: process(alloc, word(words, 0))?,
-        state,
-        level: number(words, 2),
-    })
-}
-
+// The header of the words from the third one on: its node, the fence, and of each participant three
+// words, which are the process, whether it has entered, and its level.
 fn header(alloc: Global, words: &[&str]) -> Result<Header, Refusal> {
     let mut locals = Vec::new(alloc);
     for told in words.chunks(3).skip(2) {
-        locals.push(local(alloc, told)?)?;
+        let state = match word(told, 1) {
+            "gone" => State::Gone,
+            _ => State::Entered,
+        };
+        locals.push(Local {
+            proc: process(alloc, word(told, 0))?,
+            state,
+            level: number(told, 2),
+        })?;
     }
     Header::new(node(words, 2)?, name(alloc, words, 3)?, locals)
 }

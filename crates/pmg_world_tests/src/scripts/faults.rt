@@ -1,60 +1,13 @@
 //! How scripts end that do not come to their end.
-use super::{is_no_memory, played, rows, texts_of};
+use super::rows::COLLECTING;
+use super::{NO_MEMORY, Outcome, has_ended, played, texts_of};
+use crate::failing::FailingReader;
 use pmg_script::Ended;
-use pmg_store::{Failure, WatchedReader};
-use pmg_value::{Cause, Refusal, WatchedWriter};
-use pmg_world::replay;
+use pmg_store::Failure;
+use pmg_value::{Cause, Refusal};
 use std::alloc::{AllocError, Global};
-use std::io;
-use std::io::{ErrorKind, Read, Write};
+use std::io::ErrorKind;
 use std::process::Abort;
-
-// Gives one byte a read. The read of number `fails_at` fails.
-#[derive(Drop)]
-struct Slow<'a> {
-    left: &'a [u8],
-    fails_at: usize,
-}
-
-impl Read for Slow<'_> {
-    fn read(&mut self, buf: &mut [u8]) -> io::Result<usize> {
-        if self.fails_at == 1 {
-            return Err(io::Error::from(ErrorKind::Other));
-        }
-        self.fails_at = self.fails_at.saturating_sub(1);
-        match (self.left.split_first(), buf.first_mut()) {
-            (Some((first, others)), Some(place)) => {
-                *place = *first;
-                self.left = others;
-                Ok(1)
-            }
-            _ => Ok(0),
-        }
-    }
-}
-
-// Takes one byte a write, and fails once it holds as many as it may.
-#[derive(Drop)]
-struct Short {
-    held: Vec<u8>,
-    most: usize,
-}
-
-impl Write for Short {
-    fn write(&mut self, buf: &[u8]) -> io::Result<usize> {
-        match buf.first() {
-            Some(first) if self.held.len() < self.most => {
-                self.held.push(*first)?;
-                Ok(1)
-            }
-            _ => Err(io::Error::from(ErrorKind::StorageFull)),
-        }
-    }
-
-    fn flush(&mut self) -> io::Result<()> {
-        Ok(())
-    }
-}
 
 // Scripts that a line ends which is none, with the replies before it and where it begins.
 const FAULTS: &[(&str, &str, u64)] = &[
@@ -83,17 +36,10 @@ const FAULTS: &[(&str, &str, u64)] = &[
 #[test]
 fn lines_out_of_order_end_a_script(rt: HostRuntime) {
     for (script, replies, offset) in FAULTS {
-        let played = played(rt.alloc(), script.as_bytes());
-        match played.result {
-            Err(Failure::Refused(Refusal::BadFrame(fault))) => {
-                assert!(rt; fault.cause == Cause::Script && fault.offset == *offset);
-                assert_eq!(rt; played.text.as_slice(), replies.as_bytes());
-            }
-            Err(failure) => {
-                assert!(rt; is_no_memory(&failure) && replies.as_bytes().starts_with(&played.text));
-            }
-            Ok(_) => assert!(rt; false),
-        }
+        let played = played(rt.alloc(), script.as_bytes(), usize::MAX);
+        let fault = Failure::Refused(Refusal::bad_frame(*offset, Cause::Script));
+        let is_ended = has_ended(&played, Err(fault), replies.as_bytes());
+        assert_eq!(rt; (*script, is_ended), (*script, true));
     }
 }
 
@@ -104,69 +50,59 @@ fn refused_nodes_end_a_script(rt: HostRuntime) {
         "nodes n0 n0\nspace j 0\n",
         "\nnodes n\u{7f}",
     ] {
-        let played = played(rt.alloc(), script.as_bytes());
-        match played.result {
-            Ok(ended) => {
-                assert!(rt; ended == Ended::Over);
-                assert_eq!(rt; played.text.as_slice(), b"refused 1 BadParam\n".as_slice());
-            }
-            Err(failure) => assert!(rt; is_no_memory(&failure) && played.text.is_empty()),
-        }
+        let played = played(rt.alloc(), script.as_bytes(), usize::MAX);
+        let is_ended = has_ended(&played, Ok(Ended::Over), b"refused 1 BadParam\n");
+        assert_eq!(rt; (script, is_ended), (script, true));
+        assert!(rt; played.result.is_ok() || played.text.is_empty());
     }
 }
 
-// How many replies stand whole before the byte of that number, each with its line complete by then.
-fn told_before(row: &[(&str, &str)], reads: usize) -> usize {
+// How long the replies are that stand whole before the byte of that number, each with its line
+// complete by then.
+fn told_before(rows: &str, reads: usize) -> usize {
     let mut read: usize = 0;
     let mut told: usize = 0;
-    for (line, reply) in row {
+    for row in rows.lines() {
+        let (line, reply) = row.split_once('|').unwrap_or((row, ""));
         read = read.saturating_add(line.len()).saturating_add(1);
         if read > reads {
             return told;
         }
-        if !reply.is_empty() {
-            told = told.saturating_add(reply.len()).saturating_add(1);
-        }
+        told = told.saturating_add(reply.len()).saturating_add(1);
     }
     told
 }
 
+// What comes of a script that is read byte by byte, where the read of that number fails, from 1.
+fn slowly_played(alloc: Global, script: &[u8], fails_at: usize) -> Outcome {
+    let reader = FailingReader {
+        left: script,
+        most: 1,
+        fails_at,
+        fault: ErrorKind::Other,
+    };
+    played(alloc, reader, usize::MAX)
+}
+
 #[test]
 fn replies_before_a_read_fault_stay(rt: HostRuntime) -> Result<(), AllocError> {
-    let row = rows::COLLECTING;
-    let (script, replies) = texts_of(rt.alloc(), row)?;
-    for fails_at in 1..=script.len() + 1 {
-        let left = script.as_slice();
-        let mut reader = WatchedReader::new(Slow { left, fails_at });
-        let mut writer = WatchedWriter::new(Vec::new(rt.alloc()));
-        let result = replay(rt.alloc(), &mut reader, &mut writer);
-        let text = writer.into_inner();
-        match result {
-            Err(Failure::Read) => {
-                let told = told_before(row, fails_at.saturating_sub(1));
-                assert!(rt; text.len() == told && replies.starts_with(&text));
-            }
-            Err(failure) => assert!(rt; is_no_memory(&failure) && replies.starts_with(&text)),
-            Ok(_) => assert!(rt; false),
-        }
+    let (script, replies) = texts_of(rt.alloc(), COLLECTING)?;
+    for fails_at in 1..=script.len().saturating_add(1) {
+        let played = slowly_played(rt.alloc(), &script, fails_at);
+        let told = told_before(COLLECTING, fails_at.saturating_sub(1));
+        let before = replies.get(..told).unwrap_or(b"");
+        assert!(rt; has_ended(&played, Err(Failure::Read), before));
     }
     Ok(())
 }
 
 #[test]
 fn write_faults_leave_a_prefix(rt: HostRuntime) -> Result<(), AllocError> {
-    let (script, replies) = texts_of(rt.alloc(), rows::COLLECTING)?;
+    let (script, replies) = texts_of(rt.alloc(), COLLECTING)?;
     for most in 0..replies.len() {
-        let mut reader = WatchedReader::new(script.as_slice());
-        let held = Vec::new(rt.alloc());
-        let mut writer = WatchedWriter::new(Short { held, most });
-        let result = replay(rt.alloc(), &mut reader, &mut writer);
-        let text = writer.into_inner().held;
-        match result {
-            Err(Failure::Write) => assert!(rt; text.len() <= most && replies.starts_with(&text)),
-            Err(failure) => assert!(rt; is_no_memory(&failure) && replies.starts_with(&text)),
-            Ok(_) => assert!(rt; false),
-        }
+        let played = played(rt.alloc(), script.as_slice(), most);
+        let before = replies.get(..most).unwrap_or(b"");
+        assert!(rt; has_ended(&played, Err(Failure::Write), before));
     }
     Ok(())
 }
@@ -232,16 +168,12 @@ fn random_script(alloc: Global, count: usize) -> Result<Vec<u8>, AllocError> {
 #[test]
 fn replies_do_not_depend_on_how_a_script_is_read(rt: HostRuntime) -> Result<(), AllocError> {
     let script = random_script(rt.alloc(), 10_000)?;
-    let whole = played(rt.alloc(), &script);
-    let left = script.as_slice();
-    let mut reader = WatchedReader::new(Slow { left, fails_at: 0 });
-    let mut writer = WatchedWriter::new(Vec::new(rt.alloc()));
-    let result = replay(rt.alloc(), &mut reader, &mut writer);
-    let text = writer.into_inner();
-    match (whole.result, result) {
-        (Ok(_), Ok(_)) => assert!(rt; text.len() > 10_000 && text == whole.text),
-        (Err(failure), _) => assert!(rt; is_no_memory(&failure)),
-        (_, Err(failure)) => assert!(rt; is_no_memory(&failure)),
+    let whole = played(rt.alloc(), script.as_slice(), usize::MAX);
+    let slow = slowly_played(rt.alloc(), &script, 0);
+    if whole.result == Err(NO_MEMORY) {
+        return Err(AllocError);
     }
+    assert!(rt; whole.result.is_ok() && whole.text.len() > 10_000);
+    assert!(rt; has_ended(&slow, whole.result, &whole.text));
     Ok(())
 }
