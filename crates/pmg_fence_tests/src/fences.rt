@@ -5,7 +5,6 @@ use pmg_frame::{FenceName, Header, Signature};
 use pmg_jobinfo::Registry;
 use pmg_value::{NodeId, Nspace, Proc, Rank, Refusal};
 use std::alloc::Global;
-use std::process::Abort;
 
 mod back;
 

@@ -1,7 +1,6 @@
 //! The table of answers, line by line and in each mode, with answers found by hand.
 use pmg_get::{Answer, Mode, View, resolve};
 use pmg_value::Value;
-use std::process::Abort;
 
 // The digit that was found, or a letter for another answer.
 fn told(answer: Answer<'_>) -> char {

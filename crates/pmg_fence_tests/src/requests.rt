@@ -3,7 +3,6 @@
 use pmg_dmodex::{Marks, Parked, Pending};
 use pmg_value::{Key, NodeId, Nspace, Proc, Rank, Refusal};
 use std::alloc::Global;
-use std::process::Abort;
 
 fn proc_of(alloc: Global, rank: u32) -> Result<Proc, Refusal> {
     Ok(Proc::new(Nspace::read(alloc, b"j")?, Rank::new(rank)))

@@ -5,7 +5,6 @@ use pmg_frame::FenceName;
 use pmg_holding::{Call, Calls, Found, Settled};
 use pmg_value::{Proc, Refusal};
 use std::alloc::Global;
-use std::process::Abort;
 
 // A fence of process 0, of that kind.
 fn fence(alloc: Global, kind: &str) -> Result<FenceName, Refusal> {

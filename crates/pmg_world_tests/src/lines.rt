@@ -5,7 +5,6 @@ use pmg_get::Mode;
 use pmg_scope::Scope;
 use pmg_script::{Line, LineFault, Named, content, read_line};
 use std::alloc::{AllocError, Global};
-use std::process::Abort;
 
 // What lines say: before the bar of a row the line, and after it what it says. What a few rows show
 // stands above them.

@@ -2,7 +2,6 @@
 use crate::lines::said;
 use crate::nodes::text::shown;
 use pmg_script::LineFault;
-use std::process::Abort;
 
 // The lines, each up to a bar. What a few of them show stands above them.
 const MALFORMED: &str = "\

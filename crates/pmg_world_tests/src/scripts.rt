@@ -11,7 +11,6 @@ use pmg_value::{Refusal, WatchedWriter};
 use pmg_world::replay;
 use std::alloc::{AllocError, Global};
 use std::io::Read;
-use std::process::Abort;
 
 const NO_MEMORY: Failure = Failure::Refused(Refusal::NoMemory);
 

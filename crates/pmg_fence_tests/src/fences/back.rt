@@ -6,7 +6,6 @@ use super::{Meeting, process, table};
 use pmg_fence::{Change, Table, TableBefore};
 use pmg_frame::{FenceName, Header};
 use pmg_value::{NodeId, Refusal};
-use std::process::Abort;
 
 // What a table says of the first fence and the second: whether it has the names and the headers of nodes 0 and 1, and whether
 // that of node 0 would be there in the second; how often process 0 entered, and how many headers wait.

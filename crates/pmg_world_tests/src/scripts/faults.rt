@@ -7,7 +7,6 @@ use pmg_store::Failure;
 use pmg_value::{Cause, Refusal};
 use std::alloc::{AllocError, Global};
 use std::io::ErrorKind;
-use std::process::Abort;
 
 // Scripts that a line ends which is none, with the replies before it and where it begins.
 const FAULTS: &[(&str, &str, u64)] = &[
