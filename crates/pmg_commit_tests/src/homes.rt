@@ -1,29 +1,72 @@
-//! What no clause says: that each call gives its answer where there is memory, gives it when it is called again
-//! after memory ran out, and leaves the registry as it was where it is refused.
+//! What no clause says: that a registry answers where there is memory, and what it tells of small
+//! groups, found by hand.
+use crate::words::{cause_of, cut, list_of, process_of, text_of, told};
 use pmg_jobinfo::Registry;
 use pmg_scope::Reach;
-use pmg_value::{Key, NodeId, Nspace, Proc, Rank, Refusal, Value, push_number};
+use pmg_value::{Key, NodeId, Nspace, Refusal, push_number};
 use std::alloc::Global;
-use std::process::Abort;
 
-// The number of PMIX_RANK_WILDCARD.
-const WILDCARD: u32 = 4294967294;
+// What keys are answered with, asked of processes from node 0. The namespace j has three processes,
+// at home at the nodes 0, 1 and 0, and k has two at node 1.
+const ANSWERS: &str = "\
+j/* pmix.job.size u32:3
+j/* pmix.num.nodes u32:2
+j/* pmix.jobid string:6a
+j/* pmix.local.size u32:2
+j/1 pmix.local.size u32:1
+j/* pmix.lpeers string:302c32
+j/1 pmix.lpeers string:31
+j/2 pmix.lrank u16:1
+j/1 pmix.lrank u16:0
+j/1 pmix.nodeid u32:1
+j/* pmix.nodeid u32:0
+j/1 pmix.hname string:6e31
+j/? pmix.hname string:6e30
+j/0 pmix.rank rank:0
+j/? pmix.job.size u32:3
+j/2 pmix.job.size u32:3
+j/1 pmix.jobid string:6a
+k/* pmix.local.size u32:0
+k/* pmix.lpeers string:
+k/* pmix.num.nodes u32:1
+j/* pmix.lrank NotFound
+j/? pmix.rank NotFound
+j/0 pmix.nrank NotFound
+j/0 pmix.job.siz NotFound
+j/0 a NotFound
+j/3 pmix.rank BadParam
+j/3 a BadParam
+l/0 a UnknownNamespace
+pmix.host/0 pmix.rank UnknownNamespace
+";
 
-// The number of PMIX_RANK_UNDEF.
-const UNDEF: u32 = 4294967295;
+// The homes of processes.
+const HOMES: &str = "\
+j/0 0
+j/1 1
+j/2 0
+j/3 BadParam
+j/* BadParam
+k/0 UnknownNamespace
+pmix.host/0 0
+pmix.host/1 UnknownNamespace
+";
 
-// The answer, asked for a second time where memory ran out.
-macro_rules! again {
-    ($call:expr) => {
-        match $call {
-            Err(Refusal::NoMemory) => $call,
-            answer => answer,
-        }
-    };
-}
-
-// The two nodes of most tests.
-const TWO_NODES: [&[u8]; 2] = [b"n0", b"n1"];
+// The processes that lists stand for.
+const LISTS: &str = "\
+j/2,j/0,j/2 j0j2
+j/* j0j1j2
+j/1,j/*,j/1,j/* j0j1j2
+j/1 j1
+j/0,j/2 j0j2
+j/0,j/* j0j1j2
+j/0,j/3 BadParam
+j/0,j/? BadParam
+j/0,k/? BadParam
+j/0,k/0 UnknownNamespace
+j/0,pmix.host/0 UnknownNamespace
+k/0,j/9 BadParam
+";
 
 // Registers the namespace with these homes.
 fn register(
@@ -32,117 +75,93 @@ fn register(
     name: &[u8],
     homes: &[u32],
 ) -> Result<(), Refusal> {
-    let mut nodes = again!(Vec::with_capacity(alloc, homes.len()).map_err(Refusal::from))?;
+    let mut nodes = Vec::with_capacity(alloc, homes.len())?;
     for home in homes {
         nodes.push(NodeId::new(*home)?)?;
     }
-    match registry.register(again!(Nspace::read_any(alloc, name))?, &nodes) {
-        Err(Refusal::NoMemory) => {
-            registry.register(again!(Nspace::read_any(alloc, name))?, &nodes)
-        }
-        answer => answer,
-    }
+    registry.register(Nspace::read_any(alloc, name)?, &nodes)
 }
 
 // Nodes n0 and n1; the namespace j of three processes, at home at the nodes 0, 1, 0.
 fn three_processes(alloc: Global) -> Result<Registry, Refusal> {
-    let mut registry = again!(Registry::new(alloc, &TWO_NODES))?;
+    let names: [&[u8]; 2] = [b"n0", b"n1"];
+    let mut registry = Registry::new(alloc, &names)?;
     register(alloc, &mut registry, b"j", &[0, 1, 0])?;
     Ok(registry)
 }
 
-fn process(alloc: Global, name: &[u8], rank: u32) -> Result<Proc, Refusal> {
-    Ok(Proc::new(again!(Nspace::read_any(alloc, name))?, Rank::new(rank)))
-}
-
-// What the key is answered with, asked from node 0, in a text of its own.
+// What the key is answered with, asked of the process from the node.
 fn answer(
     alloc: Global,
     registry: &Registry,
-    name: &[u8],
-    rank: u32,
-    key: &[u8],
+    asking: u32,
+    who: &str,
+    key: &str,
 ) -> Result<Vec<u8>, Refusal> {
-    let asking = NodeId::new(0)?;
-    let who = process(alloc, name, rank)?;
-    let key = again!(Key::read_any(alloc, key))?;
-    text_of(alloc, &again!(registry.reserved(asking, &who, &key))?)
-}
-
-// The value's text.
-fn text_of(alloc: Global, value: &Value) -> Result<Vec<u8>, Refusal> {
-    again!(value.to_text(alloc).map_err(Refusal::from))
+    let who = process_of(alloc, who)?;
+    let key = Key::read_any(alloc, key.as_bytes())?;
+    let value = registry.reserved(NodeId::new(asking)?, &who, &key)?;
+    Ok(value.to_text(alloc)?)
 }
 
 #[test]
 fn reserved_keys_are_answered(rt: HostRuntime) -> Result<(), Refusal> {
     let alloc = rt.alloc();
-    let registry = three_processes(alloc)?;
-    let cases: [(u32, &[u8], &[u8]); 17] = [
-        (WILDCARD, b"pmix.job.size", b"u32:3"),
-        (WILDCARD, b"pmix.num.nodes", b"u32:2"),
-        (WILDCARD, b"pmix.jobid", b"string:6a"),
-        (WILDCARD, b"pmix.local.size", b"u32:2"),
-        (1, b"pmix.local.size", b"u32:1"),
-        (WILDCARD, b"pmix.lpeers", b"string:302c32"),
-        (1, b"pmix.lpeers", b"string:31"),
-        (2, b"pmix.lrank", b"u16:1"),
-        (1, b"pmix.lrank", b"u16:0"),
-        (1, b"pmix.nodeid", b"u32:1"),
-        (WILDCARD, b"pmix.nodeid", b"u32:0"),
-        (1, b"pmix.hname", b"string:6e31"),
-        (UNDEF, b"pmix.hname", b"string:6e30"),
-        (0, b"pmix.rank", b"rank:0"),
-        (UNDEF, b"pmix.job.size", b"u32:3"),
-        (2, b"pmix.job.size", b"u32:3"),
-        (1, b"pmix.jobid", b"string:6a"),
-    ];
-    for (rank, key, want) in cases {
-        let text = answer(alloc, &registry, b"j", rank, key)?;
-        assert_eq!(rt; text.as_slice(), want, "at rank {rank}");
-    }
-    Ok(())
-}
-
-#[test]
-fn reserved_keys_are_refused(rt: HostRuntime) -> Result<(), Refusal> {
-    let alloc = rt.alloc();
-    let registry = three_processes(alloc)?;
-    let cases: [(&[u8], u32, &[u8], Refusal); 9] = [
-        (b"j", WILDCARD, b"pmix.lrank", Refusal::NotFound),
-        (b"j", UNDEF, b"pmix.rank", Refusal::NotFound),
-        (b"j", 0, b"pmix.nrank", Refusal::NotFound),
-        (b"j", 0, b"pmix.job.siz", Refusal::NotFound),
-        (b"j", 0, b"a", Refusal::NotFound),
-        (b"j", 3, b"pmix.rank", Refusal::BadParam),
-        (b"j", 3, b"a", Refusal::BadParam),
-        (b"k", 0, b"a", Refusal::UnknownNamespace),
-        (b"pmix.host", 0, b"pmix.rank", Refusal::UnknownNamespace),
-    ];
-    for (name, rank, key, want) in cases {
-        let refusal = answer(alloc, &registry, name, rank, key).err();
-        assert_eq!(rt; refusal, Some(want), "at rank {rank}");
-    }
-    let key = again!(Key::read_any(alloc, b"pmix.job.size"))?;
-    let who = process(alloc, b"k", 0)?;
-    let refusal = again!(registry.reserved(NodeId::new(2)?, &who, &key)).err();
-    assert!(rt; refusal == Some(Refusal::BadParam));
-    Ok(())
-}
-
-#[test]
-fn a_node_without_processes_has_no_peers(rt: HostRuntime) -> Result<(), Refusal> {
-    let alloc = rt.alloc();
-    let mut registry = again!(Registry::new(alloc, &TWO_NODES))?;
+    let mut registry = three_processes(alloc)?;
     register(alloc, &mut registry, b"k", &[1, 1])?;
-    let cases: [(&[u8], &[u8]); 3] = [
-        (b"pmix.local.size", b"u32:0"),
-        (b"pmix.lpeers", b"string:"),
-        (b"pmix.num.nodes", b"u32:1"),
-    ];
-    for (key, want) in cases {
-        let text = answer(alloc, &registry, b"k", WILDCARD, key)?;
-        assert!(rt; text.as_slice() == want);
+    for line in ANSWERS.lines() {
+        let (who, rest) = cut(line, ' ')?;
+        let (key, want) = cut(rest, ' ')?;
+        let text = told(alloc, answer(alloc, &registry, 0, who, key))?;
+        assert!(rt; text.as_slice() == want.as_bytes());
+    }
+    let text = told(alloc, answer(alloc, &registry, 2, "l/0", "pmix.job.size"))?;
+    assert!(rt; text.as_slice() == b"BadParam".as_slice());
+    Ok(())
+}
+
+// The home of the process.
+fn home(alloc: Global, registry: &Registry, who: &str) -> Result<Vec<u8>, Refusal> {
+    let home = registry.home(&process_of(alloc, who)?)?;
+    let mut text = Vec::new(alloc);
+    push_number(&mut text, u64::from(home.index()))?;
+    Ok(text)
+}
+
+#[test]
+fn processes_at_one_home_are_near(rt: HostRuntime) -> Result<(), Refusal> {
+    let alloc = rt.alloc();
+    let registry = three_processes(alloc)?;
+    for line in HOMES.lines() {
+        let (who, want) = cut(line, ' ')?;
+        let text = told(alloc, home(alloc, &registry, who))?;
+        assert!(rt; text.as_slice() == want.as_bytes());
+    }
+    let reader = process_of(alloc, "j/0")?;
+    for (target, want) in [
+        ("j/0", Reach::Own),
+        ("j/2", Reach::Near),
+        ("j/1", Reach::Far),
+    ] {
+        assert!(rt; registry.reach(&reader, &process_of(alloc, target)?) == want);
+    }
+    Ok(())
+}
+
+// The processes that the list stands for.
+fn expanded(alloc: Global, registry: &Registry, words: &str) -> Result<Vec<u8>, Refusal> {
+    let list = list_of(alloc, words)?;
+    text_of(alloc, &registry.expand(&list)?)
+}
+
+#[test]
+fn lists_stand_for_processes(rt: HostRuntime) -> Result<(), Refusal> {
+    let alloc = rt.alloc();
+    let registry = three_processes(alloc)?;
+    for line in LISTS.lines() {
+        let (words, want) = cut(line, ' ')?;
+        let text = told(alloc, expanded(alloc, &registry, words))?;
+        assert!(rt; text.as_slice() == want.as_bytes());
     }
     Ok(())
 }
@@ -150,8 +169,8 @@ fn a_node_without_processes_has_no_peers(rt: HostRuntime) -> Result<(), Refusal>
 #[test]
 fn registrations_are_refused(rt: HostRuntime) -> Result<(), Refusal> {
     let alloc = rt.alloc();
-    let nodes: [&[u8]; 1] = [b"n0"];
-    let mut registry = again!(Registry::new(alloc, &nodes))?;
+    let names: [&[u8]; 1] = [b"n0"];
+    let mut registry = Registry::new(alloc, &names)?;
     let cases: [(&[u8], &[u32], Option<Refusal>); 7] = [
         (b"j", &[0], None),
         (b"j", &[0], Some(Refusal::Exists)),
@@ -162,289 +181,118 @@ fn registrations_are_refused(rt: HostRuntime) -> Result<(), Refusal> {
         (b"k", &[0, 0], None),
     ];
     for (name, homes, want) in cases {
-        assert!(rt; register(alloc, &mut registry, name, homes).err() == want);
+        assert!(rt; cause_of(register(alloc, &mut registry, name, homes))? == want);
     }
-    let size_of_k = registry.size(&again!(Nspace::read(alloc, b"k"))?);
-    assert!(rt; size_of_k == Ok(2));
-    let size_of_l = registry.size(&again!(Nspace::read(alloc, b"l"))?);
-    assert!(rt; size_of_l == Err(Refusal::UnknownNamespace));
+    assert!(rt; registry.size(&Nspace::read(alloc, b"k")?) == Ok(2));
+    assert!(rt; registry.size(&Nspace::read(alloc, b"l")?) == Err(Refusal::UnknownNamespace));
     Ok(())
 }
 
-fn new_refusal(alloc: Global, names: &[&[u8]]) -> Option<Refusal> {
-    again!(Registry::new(alloc, names)).err()
+// Registers so many processes of the namespace, all at home at node 1: why that is refused.
+fn register_many(
+    alloc: Global,
+    registry: &mut Registry,
+    name: &[u8],
+    count: usize,
+) -> Result<Option<Refusal>, Refusal> {
+    let homes = vec![in alloc; NodeId::new(1)?; count]?;
+    cause_of(registry.register(Nspace::read_any(alloc, name)?, &homes))
+}
+
+// The group of the namespaces a to p, each of 4096 processes.
+fn full_group(alloc: Global) -> Result<Registry, Refusal> {
+    let names: [&[u8]; 2] = [b"n0", b"n1"];
+    let mut registry = Registry::new(alloc, &names)?;
+    for byte in b'a'..b'q' {
+        register_many(alloc, &mut registry, &[byte], 4096)?;
+    }
+    Ok(registry)
+}
+
+// The local rank of the last process of p, and how many processes c has.
+fn last_rank_and_size(alloc: Global, registry: &Registry) -> Result<(Vec<u8>, usize), Refusal> {
+    let rank = answer(alloc, registry, 0, "p/4095", "pmix.lrank")?;
+    Ok((rank, registry.expand(&list_of(alloc, "c/*")?)?.len()))
 }
 
 #[test]
-fn groups_are_refused(rt: HostRuntime) {
+fn a_group_has_16_namespaces_of_4096_ranks(rt: HostRuntime) -> Result<(), Refusal> {
+    let mut registry = full_group(rt.alloc())?;
+    let (rank, size) = last_rank_and_size(rt.alloc(), &registry)?;
+    assert!(rt; rank.as_slice() == b"u16:4095".as_slice() && size == 4096);
+    let more = register_many(rt.alloc(), &mut registry, b"q", 1)?;
+    assert!(rt; more == Some(Refusal::TooMany));
+    let again = register_many(rt.alloc(), &mut registry, b"a", 4097)?;
+    assert!(rt; again == Some(Refusal::Exists));
+    Ok(())
+}
+
+#[test]
+fn a_namespace_has_4096_ranks(rt: HostRuntime) -> Result<(), Refusal> {
+    let mut registry = three_processes(rt.alloc())?;
+    let answer = register_many(rt.alloc(), &mut registry, b"a", 4097)?;
+    assert!(rt; answer == Some(Refusal::TooMany));
+    Ok(())
+}
+
+// The names of 64 nodes, of one more, and of 65 of which two are equal.
+const MOST_NAMES: &[u8] = b"abcdefghijklmnopqrstuvwxyzABCDEFGHIJKLMNOPQRSTUVWXYZ0123456789./";
+
+const ONE_NAME_MORE: &[u8] = b"abcdefghijklmnopqrstuvwxyzABCDEFGHIJKLMNOPQRSTUVWXYZ0123456789./-";
+
+const ONE_NAME_TWICE: &[u8] = b"abcdefghijklmnopqrstuvwxyzABCDEFGHIJKLMNOPQRSTUVWXYZ0123456789./a";
+
+// Why there is no group with nodes of these names.
+fn group_cause(alloc: Global, names: &[&[u8]]) -> Result<Option<Refusal>, Refusal> {
+    cause_of(Registry::new(alloc, names))
+}
+
+// Why there is no group with as many nodes as the text has bytes, with names of one byte each.
+fn short_cause(alloc: Global, text: &[u8]) -> Result<Option<Refusal>, Refusal> {
+    let mut names = Vec::with_capacity(alloc, text.len())?;
+    for name in text.chunks(1) {
+        names.push(name)?;
+    }
+    group_cause(alloc, &names)
+}
+
+#[test]
+fn groups_are_refused(rt: HostRuntime) -> Result<(), Refusal> {
     let alloc = rt.alloc();
     let long = [b'n'; 256];
-    let cases: [(&[&[u8]], bool); 8] = [
-        (&[b"n0", b"n1"], true),
-        (&[b"pmix"], true),
-        (&[&long[..255]], true),
-        (&[], false),
-        (&[b"n0", b"n1", b"n0"], false),
-        (&[b"n0", b""], false),
-        (&[b"n 0"], false),
-        (&[&long], false),
+    let bad = Some(Refusal::BadParam);
+    let cases: [(&[&[u8]], Option<Refusal>); 8] = [
+        (&[b"n0", b"n1"], None),
+        (&[b"pmix"], None),
+        (&[&long[..255]], None),
+        (&[], bad),
+        (&[b"n0", b"n1", b"n0"], bad),
+        (&[b"n0", b""], bad),
+        (&[b"n 0"], bad),
+        (&[&long], bad),
     ];
-    for (names, is_taken) in cases {
-        let want = if is_taken {
-            None
-        } else {
-            Some(Refusal::BadParam)
-        };
-        assert!(rt; new_refusal(alloc, names) == want);
+    for (names, want) in cases {
+        assert!(rt; group_cause(alloc, names)? == want);
     }
-}
-
-// So many names of one byte each.
-fn short_names(alloc: Global, count: usize) -> Result<Vec<&'static [u8]>, Refusal> {
-    let text = b"abcdefghijklmnopqrstuvwxyzABCDEFGHIJKLMNOPQRSTUVWXYZ0123456789./-".as_slice();
-    let mut names = again!(Vec::with_capacity(alloc, count).map_err(Refusal::from))?;
-    for i in 0..text.len().min(count) {
-        names.push(&text[i..=i])?;
-    }
-    Ok(names)
-}
-
-#[test]
-fn a_group_has_at_most_64_nodes(rt: HostRuntime) -> Result<(), Refusal> {
-    let alloc = rt.alloc();
-    for count in [63, 64, 65] {
-        let mut names = short_names(alloc, count)?;
-        let want = if count > 64 {
-            Some(Refusal::TooMany)
-        } else {
-            None
-        };
-        assert_eq!(rt; new_refusal(alloc, &names), want, "at {count}");
-        names.push(b"a")?;
-        assert_eq!(rt;
-            new_refusal(alloc, &names),
-            Some(Refusal::BadParam),
-            "at {count}"
-        );
-    }
-    Ok(())
-}
-
-// Checks the home of each process.
-fn check_homes(rt: &impl Abort, alloc: Global, registry: &Registry) -> Result<(), Refusal> {
-    let cases: [(&[u8], u32, Result<u32, Refusal>); 8] = [
-        (b"j", 0, Ok(0)),
-        (b"j", 1, Ok(1)),
-        (b"j", 2, Ok(0)),
-        (b"j", 3, Err(Refusal::BadParam)),
-        (b"j", WILDCARD, Err(Refusal::BadParam)),
-        (b"k", 0, Err(Refusal::UnknownNamespace)),
-        (b"pmix.host", 0, Ok(0)),
-        (b"pmix.host", 1, Err(Refusal::UnknownNamespace)),
-    ];
-    for (name, rank, want) in cases {
-        let home = registry.home(&process(alloc, name, rank)?);
-        assert_eq!(rt; home.map(NodeId::index), want, "at rank {rank}");
-    }
+    assert!(rt; short_cause(alloc, MOST_NAMES)?.is_none());
+    assert!(rt; short_cause(alloc, ONE_NAME_MORE)? == Some(Refusal::TooMany));
+    assert!(rt; short_cause(alloc, ONE_NAME_TWICE)? == bad);
     Ok(())
 }
 
 #[test]
-fn processes_have_homes(rt: HostRuntime) -> Result<(), Refusal> {
+fn a_copy_of_a_registry_goes_its_own_way(rt: HostRuntime) -> Result<(), Refusal> {
     let alloc = rt.alloc();
     let registry = three_processes(alloc)?;
-    check_homes(&rt, alloc, &registry)?;
-    let copy = again!(registry.copy().map_err(Refusal::from))?;
-    check_homes(&rt, alloc, &copy)?;
-    assert!(rt; copy.node_count() == 2);
-    Ok(())
-}
-
-// The processes of these ranks of the namespace j.
-fn listed(alloc: Global, ranks: &[u32]) -> Result<Vec<Proc>, Refusal> {
-    let mut list = again!(Vec::with_capacity(alloc, ranks.len()).map_err(Refusal::from))?;
-    for rank in ranks {
-        list.push(process(alloc, b"j", *rank)?)?;
-    }
-    Ok(list)
-}
-
-// The ranks of the namespace j that these ranks stand for.
-fn expanded(alloc: Global, registry: &Registry, ranks: &[u32]) -> Result<Vec<u32>, Refusal> {
-    let list = listed(alloc, ranks)?;
-    let procs = again!(registry.expand(&list))?;
-    let mut found = again!(Vec::with_capacity(alloc, procs.len()).map_err(Refusal::from))?;
-    for proc in &procs {
-        found.push(proc.rank.number())?;
-    }
-    Ok(found)
-}
-
-#[test]
-fn lists_are_expanded(rt: HostRuntime) -> Result<(), Refusal> {
-    let alloc = rt.alloc();
-    let registry = three_processes(alloc)?;
-    let cases: [(&[u32], &[u32]); 5] = [
-        (&[], &[]),
-        (&[2, 0, 2], &[0, 2]),
-        (&[WILDCARD], &[0, 1, 2]),
-        (&[1, WILDCARD, 1, WILDCARD], &[0, 1, 2]),
-        (&[1], &[1]),
-    ];
-    for (ranks, want) in cases {
-        let found = expanded(alloc, &registry, ranks)?;
-        assert!(rt; found.as_slice() == want);
-    }
-    Ok(())
-}
-
-// How many processes the list stands for, and how many bytes they have; nothing where they are too many.
-fn measured(registry: &Registry, list: &[Proc]) -> Option<(usize, usize)> {
-    let count = registry.count_meant(list);
-    if count > 4096 {
-        return None;
-    }
-    Some((count, registry.size_meant(list)))
-}
-
-#[test]
-fn lists_are_measured_without_memory(rt: HostRuntime) -> Result<(), Refusal> {
-    let alloc = rt.alloc();
-    let registry = three_processes(alloc)?;
-    let cases: [(&[u32], usize, usize, bool); 4] = [
-        (&[], 0, 0, false),
-        (&[2, 0, 2], 2, 12, false),
-        (&[1, WILDCARD, 1, WILDCARD], 3, 18, true),
-        (&[1, WILDCARD, 7], 4, 24, true),
-    ];
-    let second = process(alloc, b"j", 1)?;
-    for (ranks, count, size, is_meant) in cases {
-        let list = listed(alloc, ranks)?;
-        assert!(rt; measured(&registry, &list) == Some((count, size)));
-        assert!(rt; registry.is_meant(&list, &second) == is_meant);
-    }
-    assert!(rt; registry.home_of(&second).index() == 1);
-    Ok(())
-}
-
-// Why the list of these two processes is refused.
-fn pair_refusal(
-    alloc: Global,
-    registry: &Registry,
-    first: (&[u8], u32),
-    second: (&[u8], u32),
-) -> Result<Option<Refusal>, Refusal> {
-    let mut list = again!(Vec::with_capacity(alloc, 2).map_err(Refusal::from))?;
-    list.push(process(alloc, first.0, first.1)?)?;
-    list.push(process(alloc, second.0, second.1)?)?;
-    Ok(again!(registry.expand(&list)).err())
-}
-
-#[test]
-fn lists_are_refused(rt: HostRuntime) -> Result<(), Refusal> {
-    let alloc = rt.alloc();
-    let registry = three_processes(alloc)?;
-    let cases: [(&[u8], u32, Option<Refusal>); 7] = [
-        (b"j", 2, None),
-        (b"j", WILDCARD, None),
-        (b"j", 3, Some(Refusal::BadParam)),
-        (b"j", UNDEF, Some(Refusal::BadParam)),
-        (b"k", UNDEF, Some(Refusal::BadParam)),
-        (b"k", 0, Some(Refusal::UnknownNamespace)),
-        (b"pmix.host", 0, Some(Refusal::UnknownNamespace)),
-    ];
-    for (name, rank, want) in cases {
-        let refusal = pair_refusal(alloc, &registry, (b"j", 0), (name, rank))?;
-        assert_eq!(rt; refusal, want, "at rank {rank}");
-    }
-    let refusal = pair_refusal(alloc, &registry, (b"k", 0), (b"j", 9))?;
-    assert!(rt; refusal == Some(Refusal::BadParam));
-    Ok(())
-}
-
-#[test]
-fn namespaces_and_ranks_are_limited(rt: HostRuntime) -> Result<(), Refusal> {
-    let alloc = rt.alloc();
-    let mut registry = again!(Registry::new(alloc, &TWO_NODES))?;
-    let names = b"abcdefghijklmnopq";
-    let homes = [1; 4097];
-    let refusal = register(alloc, &mut registry, b"a", &homes).err();
-    assert!(rt; refusal == Some(Refusal::TooMany));
-    for i in 0..16 {
-        register(alloc, &mut registry, &names[i..=i], &homes[..4096])?;
-    }
-    let refusal = register(alloc, &mut registry, &names[16..], &[0]).err();
-    assert!(rt; refusal == Some(Refusal::TooMany));
-    let refusal = register(alloc, &mut registry, b"a", &homes).err();
-    assert!(rt; refusal == Some(Refusal::Exists));
-    let last = process(alloc, b"p", 4095)?;
-    assert!(rt; registry.home(&last).map(NodeId::index) == Ok(1));
-    let text = answer(alloc, &registry, b"p", 4095, b"pmix.lrank")?;
-    assert!(rt; text.as_slice() == b"u16:4095".as_slice());
-    let all = process(alloc, b"c", WILDCARD)?;
-    let mut list = again!(Vec::with_capacity(alloc, 1).map_err(Refusal::from))?;
-    list.push(all)?;
-    assert!(rt; again!(registry.expand(&list))?.len() == 4096);
-    Ok(())
-}
-
-// The ranks, each after its namespace's name.
-fn shown(alloc: Global, procs: &[Proc]) -> Result<Vec<u8>, Refusal> {
-    let mut text = Vec::new(alloc);
-    for process in procs {
-        text.extend_from_slice(process.nspace.as_bytes())?;
-        push_number(&mut text, u64::from(process.rank.number()))?;
-    }
-    Ok(text)
-}
-
-fn all_shown(alloc: Global, registry: &Registry) -> Result<Vec<u8>, Refusal> {
-    let procs = again!(registry.procs().map_err(Refusal::from))?;
-    again!(shown(alloc, &procs))
-}
-
-fn shown_at(alloc: Global, registry: &Registry, node: u32) -> Result<Vec<u8>, Refusal> {
-    let node = NodeId::new(node)?;
-    let procs = again!(registry.procs_at(node).map_err(Refusal::from))?;
-    again!(shown(alloc, &procs))
-}
-
-#[test]
-fn processes_are_listed_by_namespace_and_rank(rt: HostRuntime) -> Result<(), Refusal> {
-    let alloc = rt.alloc();
-    let mut registry = three_processes(alloc)?;
-    register(alloc, &mut registry, b"a", &[1, 0])?;
-    assert!(rt; all_shown(alloc, &registry)?.as_slice() == b"a0a1j0j1j2".as_slice());
-    assert!(rt; shown_at(alloc, &registry, 0)?.as_slice() == b"a1j0j2".as_slice());
-    assert!(rt; shown_at(alloc, &registry, 1)?.as_slice() == b"a0j1".as_slice());
-    Ok(())
-}
-
-// The reach of one rank of j on another.
-fn reach(alloc: Global, registry: &Registry, reader: u32, target: u32) -> Result<Reach, Refusal> {
-    let reader = process(alloc, b"j", reader)?;
-    let target = process(alloc, b"j", target)?;
-    Ok(registry.reach(&reader, &target))
-}
-
-#[test]
-fn processes_on_one_node_are_near(rt: HostRuntime) -> Result<(), Refusal> {
-    let alloc = rt.alloc();
-    let registry = three_processes(alloc)?;
-    assert!(rt; matches!(reach(alloc, &registry, 0, 0)?, Reach::Own));
-    assert!(rt; matches!(reach(alloc, &registry, 0, 2)?, Reach::Near));
-    assert!(rt; matches!(reach(alloc, &registry, 0, 1)?, Reach::Far));
-    Ok(())
-}
-
-#[test]
-fn registries_of_one_group_are_the_same(rt: HostRuntime) -> Result<(), Refusal> {
-    let alloc = rt.alloc();
-    let registry = three_processes(alloc)?;
-    let mut other = again!(registry.copy().map_err(Refusal::from))?;
+    let mut other = registry.copy()?;
     assert!(rt; registry.is_same(&other));
-    register(alloc, &mut other, b"a", &[0])?;
+    register(alloc, &mut other, b"a", &[1, 0])?;
     assert!(rt; !registry.is_same(&other));
-    assert!(rt; other.is_same(&other));
+    let text = text_of(alloc, &other.procs()?)?;
+    assert!(rt; text.as_slice() == b"a0a1j0j1j2".as_slice());
+    let text = text_of(alloc, &other.procs_at(NodeId::new(0)?)?)?;
+    assert!(rt; text.as_slice() == b"a1j0j2".as_slice());
+    let text = text_of(alloc, &other.procs_at(NodeId::new(1)?)?)?;
+    assert!(rt; text.as_slice() == b"a0j1".as_slice());
     Ok(())
 }

@@ -1,4 +1,5 @@
-//! Tests of caches, sealers, contributions, process sets and homes, from without.
+//! Tests of caches, sealers, contributions, process sets and homes, from without. Where an
+//! allocation fails, a test ends with NoMemory, and with nothing else.
 #![tactic(auto)]
 
 #[cfg(test)]
@@ -11,3 +12,7 @@ mod pieces;
 mod sealers;
 #[cfg(test)]
 mod sets;
+#[cfg(test)]
+mod steps;
+#[cfg(test)]
+mod words;

@@ -1,0 +1,69 @@
+//! The words of the tables: a process is `j/2`, all of its namespace `j/*`, and one of no rank
+//! `j/?`; a refusal is its name.
+use pmg_value::{Nspace, Proc, Rank, Refusal, push_number};
+use std::alloc::Global;
+
+// What stands before the first such sign and what stands after it.
+pub fn cut(text: &str, sign: char) -> Result<(&str, &str), Refusal> {
+    text.split_once(sign).ok_or(Refusal::NotFound)
+}
+
+// The rank of the word: of PMIX_RANK_WILDCARD, of PMIX_RANK_UNDEF, or of a number.
+fn rank_of(word: &str) -> Result<Rank, Refusal> {
+    match word {
+        "*" => Ok(Rank::new(4_294_967_294)),
+        "?" => Ok(Rank::new(4_294_967_295)),
+        number => match number.parse::<u32>() {
+            Ok(number) => Ok(Rank::new(number)),
+            Err(_) => Err(Refusal::NotFound),
+        },
+    }
+}
+
+// The process of the word.
+pub fn process_of(alloc: Global, word: &str) -> Result<Proc, Refusal> {
+    let (name, rank) = cut(word, '/')?;
+    let rank = rank_of(rank)?;
+    Ok(Proc::new(Nspace::read_any(alloc, name.as_bytes())?, rank))
+}
+
+// The processes of the words, between which commas stand.
+pub fn list_of(alloc: Global, words: &str) -> Result<Vec<Proc>, Refusal> {
+    let mut list = Vec::new(alloc);
+    for word in words.split_terminator(',') {
+        list.push(process_of(alloc, word)?)?;
+    }
+    Ok(list)
+}
+
+// The ranks, each after its namespace's name.
+pub fn text_of(alloc: Global, procs: &[Proc]) -> Result<Vec<u8>, Refusal> {
+    let mut text = Vec::new(alloc);
+    for process in procs {
+        text.extend_from_slice(process.nspace.as_bytes())?;
+        push_number(&mut text, u64::from(process.rank.number()))?;
+    }
+    Ok(text)
+}
+
+// The text that was answered, or the refusal's name.
+pub fn told(alloc: Global, answer: Result<Vec<u8>, Refusal>) -> Result<Vec<u8>, Refusal> {
+    match answer {
+        Err(Refusal::NoMemory) => Err(Refusal::NoMemory),
+        Err(refusal) => {
+            let mut text = Vec::new(alloc);
+            text.extend_from_slice(refusal.name().as_bytes())?;
+            Ok(text)
+        }
+        Ok(text) => Ok(text),
+    }
+}
+
+// Why the call was refused, if not for memory.
+pub fn cause_of<T: Drop>(answer: Result<T, Refusal>) -> Result<Option<Refusal>, Refusal> {
+    match answer {
+        Ok(_) => Ok(None),
+        Err(Refusal::NoMemory) => Err(Refusal::NoMemory),
+        Err(refusal) => Ok(Some(refusal)),
+    }
+}
