@@ -6,7 +6,7 @@ ghost use Rattle.pmg_value.specs.Spelling.{spelling};
 ghost use Rattle.pmg_value.specs.Rows.{rows_of, put_back};
 ghost use Rattle.pmg_scope.specs.Rows.{IsRising, table_of};
 ghost use Rattle.pmg_commit.specs.Pieces.{entry_of};
-ghost use Rattle.pmg_commit.specs.Sealed.{stamped, newer_than};
+ghost use Rattle.pmg_commit.specs.Sealed.{Stamp, stamped, newer_than};
 ghost use Rattle.pmg_commit.specs.Stamped.{stamp_of};
 ghost use Rattle.pmg_commit.specs.TakenBack.{all_back};
 
@@ -137,6 +137,22 @@ impl LastPuts {
         put_back(&mut self.rows, &key, before);
     }
 
+    /// Notes what is under the key, by which a change there can be taken back.
+    fn note(
+        &self,
+        key: &Key,
+        before: &mut Vec<(Key, Option<SealedPut>)>,
+    ) -> Result<(), AllocError>
+        ensures same { all_back self.now before.new.items ≡ all_back self.now before.old.items }
+        ensures back { OnOk result ((s : Stamp) → all_back (finite.insert self.now key.now s) before.new.items
+            ≡ all_back self.now before.old.items) }
+    {
+        let noted = key.copy()?;
+        let there = self.copy_of(&noted)?;
+        before.push((noted, there))?;
+        Ok(())
+    }
+
     /// Seals the put under the key, and notes what was there.
     fn stamp(
         &mut self,
@@ -147,11 +163,8 @@ impl LastPuts {
         ensures ok { OnOk result (self.new ≡ finite.insert self.old key.now (stamp_of put)) }
         ensures back { all_back self.new before.new.items ≡ all_back self.old before.old.items }
     {
-        let there = self.copy_of(key)?;
-        let sealed = key.copy()?;
-        before.push((key.copy()?, there))?;
-        self.set(sealed, put)?;
-        Ok(())
+        self.note(key, before)?;
+        self.set(key.copy()?, put)
     }
 
     /// Seals the puts, whose keys rise, by the commit of that number, and notes what was under their keys.

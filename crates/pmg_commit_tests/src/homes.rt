@@ -1,9 +1,9 @@
 //! What no clause says: that a registry answers where there is memory, and what it tells of small
 //! groups, found by hand.
-use crate::words::{cause_of, cut, list_of, process_of, text_of, told};
+use crate::words::{assert_told, cause_of, cut, list_of, process_of, text_of};
 use pmg_jobinfo::Registry;
 use pmg_scope::Reach;
-use pmg_value::{Key, NodeId, Nspace, Refusal, push_number};
+use pmg_value::{Key, NodeId, Nspace, Refusal, Value, push_number};
 use std::alloc::Global;
 
 // What keys are answered with, asked of processes from node 0. The namespace j has three processes,
@@ -68,6 +68,17 @@ j/0,pmix.host/0 UnknownNamespace
 k/0,j/9 BadParam
 ";
 
+// Registrations of namespaces in turn, each with its processes' homes, a digit for each; and how many
+// processes it has then, or why it was refused. There is no node 2, and j is there.
+const REGISTRATIONS: &str = "\
+j 0 Exists
+j 2 BadParam
+pmixa 0 BadParam
+k 2 BadParam
+k  BadParam
+k 00 2
+";
+
 // Registers the namespace with these homes.
 fn register(
     alloc: Global,
@@ -90,7 +101,26 @@ fn three_processes(alloc: Global) -> Result<Registry, Refusal> {
     Ok(registry)
 }
 
-// What the key is answered with, asked of the process from the node.
+// Beside j the namespace k of two processes, both at home at node 1.
+fn five_processes(alloc: Global) -> Result<Registry, Refusal> {
+    let mut registry = three_processes(alloc)?;
+    register(alloc, &mut registry, b"k", &[1, 1])?;
+    Ok(registry)
+}
+
+// The value that the key is answered with, asked of the process from the node.
+fn value_of(
+    alloc: Global,
+    registry: &Registry,
+    asking: NodeId,
+    who: &str,
+    key: &str,
+) -> Result<Value, Refusal> {
+    let who = process_of(alloc, who)?;
+    registry.reserved(asking, &who, &Key::read_any(alloc, key.as_bytes())?)
+}
+
+// The text of that value.
 fn answer(
     alloc: Global,
     registry: &Registry,
@@ -98,26 +128,21 @@ fn answer(
     who: &str,
     key: &str,
 ) -> Result<Vec<u8>, Refusal> {
-    let who = process_of(alloc, who)?;
-    let key = Key::read_any(alloc, key.as_bytes())?;
-    let value = registry.reserved(NodeId::new(asking)?, &who, &key)?;
+    let value = value_of(alloc, registry, NodeId::new(asking)?, who, key)?;
     Ok(value.to_text(alloc)?)
 }
 
 #[test]
 fn reserved_keys_are_answered(rt: HostRuntime) -> Result<(), Refusal> {
     let alloc = rt.alloc();
-    let mut registry = three_processes(alloc)?;
-    register(alloc, &mut registry, b"k", &[1, 1])?;
+    let registry = five_processes(alloc)?;
     for line in ANSWERS.lines() {
         let (who, rest) = cut(line, ' ')?;
         let (key, want) = cut(rest, ' ')?;
-        let text = told(alloc, answer(alloc, &registry, 0, who, key))?;
-        assert!(rt; text.as_slice() == want.as_bytes());
+        assert_told(&rt, answer(alloc, &registry, 0, who, key), want)?;
     }
-    let text = told(alloc, answer(alloc, &registry, 2, "l/0", "pmix.job.size"))?;
-    assert!(rt; text.as_slice() == b"BadParam".as_slice());
-    Ok(())
+    let far = answer(alloc, &registry, 2, "l/0", "pmix.job.size");
+    assert_told(&rt, far, "BadParam")
 }
 
 // The home of the process.
@@ -128,22 +153,26 @@ fn home(alloc: Global, registry: &Registry, who: &str) -> Result<Vec<u8>, Refusa
     Ok(text)
 }
 
+// How j/0 stands to the process that it reads.
+fn reach(alloc: Global, registry: &Registry, target: &str) -> Result<Reach, Refusal> {
+    let reader = process_of(alloc, "j/0")?;
+    Ok(registry.reach(&reader, &process_of(alloc, target)?))
+}
+
 #[test]
 fn processes_at_one_home_are_near(rt: HostRuntime) -> Result<(), Refusal> {
     let alloc = rt.alloc();
     let registry = three_processes(alloc)?;
     for line in HOMES.lines() {
         let (who, want) = cut(line, ' ')?;
-        let text = told(alloc, home(alloc, &registry, who))?;
-        assert!(rt; text.as_slice() == want.as_bytes());
+        assert_told(&rt, home(alloc, &registry, who), want)?;
     }
-    let reader = process_of(alloc, "j/0")?;
     for (target, want) in [
         ("j/0", Reach::Own),
         ("j/2", Reach::Near),
         ("j/1", Reach::Far),
     ] {
-        assert!(rt; registry.reach(&reader, &process_of(alloc, target)?) == want);
+        assert!(rt; reach(alloc, &registry, target)? == want);
     }
     Ok(())
 }
@@ -160,31 +189,48 @@ fn lists_stand_for_processes(rt: HostRuntime) -> Result<(), Refusal> {
     let registry = three_processes(alloc)?;
     for line in LISTS.lines() {
         let (words, want) = cut(line, ' ')?;
-        let text = told(alloc, expanded(alloc, &registry, words))?;
-        assert!(rt; text.as_slice() == want.as_bytes());
+        assert_told(&rt, expanded(alloc, &registry, words), want)?;
     }
     Ok(())
+}
+
+// The nodes of these digits.
+fn nodes_of(alloc: Global, digits: &str) -> Result<Vec<u32>, Refusal> {
+    let mut nodes = Vec::new(alloc);
+    for digit in digits.bytes() {
+        nodes.push(u32::from(digit.wrapping_sub(b'0')))?;
+    }
+    Ok(nodes)
+}
+
+// How many processes the namespace has.
+fn size(alloc: Global, registry: &Registry, name: &[u8]) -> Result<u32, Refusal> {
+    registry.size(&Nspace::read(alloc, name)?)
+}
+
+// Registers the namespace with these homes, and gives how many processes it has.
+fn registered(
+    alloc: Global,
+    registry: &mut Registry,
+    name: &[u8],
+    homes: &str,
+) -> Result<Vec<u8>, Refusal> {
+    register(alloc, registry, name, &nodes_of(alloc, homes)?)?;
+    let mut text = Vec::new(alloc);
+    push_number(&mut text, u64::from(size(alloc, registry, name)?))?;
+    Ok(text)
 }
 
 #[test]
 fn registrations_are_refused(rt: HostRuntime) -> Result<(), Refusal> {
     let alloc = rt.alloc();
-    let names: [&[u8]; 1] = [b"n0"];
-    let mut registry = Registry::new(alloc, &names)?;
-    let cases: [(&[u8], &[u32], Option<Refusal>); 7] = [
-        (b"j", &[0], None),
-        (b"j", &[0], Some(Refusal::Exists)),
-        (b"j", &[1], Some(Refusal::BadParam)),
-        (b"pmixa", &[0], Some(Refusal::BadParam)),
-        (b"k", &[1], Some(Refusal::BadParam)),
-        (b"k", &[], Some(Refusal::BadParam)),
-        (b"k", &[0, 0], None),
-    ];
-    for (name, homes, want) in cases {
-        assert!(rt; cause_of(register(alloc, &mut registry, name, homes))? == want);
+    let mut registry = three_processes(alloc)?;
+    for line in REGISTRATIONS.lines() {
+        let (name, rest) = cut(line, ' ')?;
+        let (homes, want) = cut(rest, ' ')?;
+        let answer = registered(alloc, &mut registry, name.as_bytes(), homes);
+        assert_told(&rt, answer, want)?;
     }
-    assert!(rt; registry.size(&Nspace::read(alloc, b"k")?) == Ok(2));
-    assert!(rt; registry.size(&Nspace::read(alloc, b"l")?) == Err(Refusal::UnknownNamespace));
     Ok(())
 }
 
@@ -280,6 +326,16 @@ fn groups_are_refused(rt: HostRuntime) -> Result<(), Refusal> {
     Ok(())
 }
 
+// All processes.
+fn all(alloc: Global, registry: &Registry) -> Result<Vec<u8>, Refusal> {
+    text_of(alloc, &registry.procs()?)
+}
+
+// The processes at home at the node.
+fn all_at(alloc: Global, registry: &Registry, node: u32) -> Result<Vec<u8>, Refusal> {
+    text_of(alloc, &registry.procs_at(NodeId::new(node)?)?)
+}
+
 #[test]
 fn a_copy_of_a_registry_goes_its_own_way(rt: HostRuntime) -> Result<(), Refusal> {
     let alloc = rt.alloc();
@@ -288,11 +344,7 @@ fn a_copy_of_a_registry_goes_its_own_way(rt: HostRuntime) -> Result<(), Refusal>
     assert!(rt; registry.is_same(&other));
     register(alloc, &mut other, b"a", &[1, 0])?;
     assert!(rt; !registry.is_same(&other));
-    let text = text_of(alloc, &other.procs()?)?;
-    assert!(rt; text.as_slice() == b"a0a1j0j1j2".as_slice());
-    let text = text_of(alloc, &other.procs_at(NodeId::new(0)?)?)?;
-    assert!(rt; text.as_slice() == b"a1j0j2".as_slice());
-    let text = text_of(alloc, &other.procs_at(NodeId::new(1)?)?)?;
-    assert!(rt; text.as_slice() == b"a0j1".as_slice());
-    Ok(())
+    assert_told(&rt, all(alloc, &other), "a0a1j0j1j2")?;
+    assert_told(&rt, all_at(alloc, &other, 0), "a1j0j2")?;
+    assert_told(&rt, all_at(alloc, &other, 1), "a0j1")
 }

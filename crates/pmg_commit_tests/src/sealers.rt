@@ -1,7 +1,7 @@
 //! What no clause says: that a sealer answers where there is memory, and what it has sealed after
 //! some steps, found by hand.
-use crate::steps::{digit_of, piece_text, put};
-use crate::words::{cut, process_of, told};
+use crate::steps::{piece_text, push_row, put};
+use crate::words::{assert_told, cut, process_of};
 use pmg_commit::Sealer;
 use pmg_scope::{Batch, Cache, Reach};
 use pmg_value::{Refusal, push_number};
@@ -18,55 +18,70 @@ ga5,c,ga6,e,e 2 a15pmix.term2./a15pmix.term2.
 e,c TooMany
 ";
 
+// Seals what the cache has not sealed.
+fn commit(cache: &mut Cache, sealer: &mut Sealer) -> Result<(), Refusal> {
+    sealer.seal(&cache.unsealed()?)?;
+    cache.mark_sealed();
+    Ok(())
+}
+
 // Takes one step of the process.
 fn take(alloc: Global, cache: &mut Cache, sealer: &mut Sealer, step: &str) -> Result<(), Refusal> {
     match step {
-        "c" => {
-            let batch = cache.unsealed()?;
-            sealer.seal(&batch)?;
-            cache.mark_sealed();
-        }
+        "c" => commit(cache, sealer),
         "e" => {
             sealer.seal_end()?;
+            Ok(())
         }
-        _ => put(cache, alloc, step)?,
+        _ => put(cache, alloc, step),
+    }
+}
+
+// Takes the steps of the process, which has put nothing.
+fn take_all(alloc: Global, sealer: &mut Sealer, steps: &str) -> Result<(), Refusal> {
+    let mut cache = Cache::new(alloc);
+    for step in steps.split(',') {
+        take(alloc, &mut cache, sealer, step)?;
     }
     Ok(())
 }
 
 // The sealer of j/0 once these steps are taken.
 fn played(alloc: Global, steps: &str) -> Result<Sealer, Refusal> {
-    let mut cache = Cache::new(alloc);
     let mut sealer = Sealer::new(alloc, &process_of(alloc, "j/0")?)?;
-    for step in steps.split(',') {
-        take(alloc, &mut cache, &mut sealer, step)?;
-    }
+    take_all(alloc, &mut sealer, steps)?;
     Ok(sealer)
 }
 
-// The level, what was sealed near, as a contribution tells it, and what was sealed far, as the
-// sealer lends it.
+// What the contribution of the commits above that number tells.
+fn piece(alloc: Global, sealer: &Sealer, from: u64, reach: Reach) -> Result<Vec<u8>, Refusal> {
+    piece_text(sealer.piece_of(from, reach)?.entries(), alloc)
+}
+
+// Appends what was sealed far, as the sealer lends it.
+fn push_far(text: &mut Vec<u8>, sealer: &Sealer) -> Result<(), Refusal> {
+    for key in &sealer.far_keys()? {
+        if let Some(put) = sealer.far_put(key) {
+            push_row(text, key, put.number(), put.value())?;
+        }
+    }
+    Ok(())
+}
+
+// The level, what was sealed near, as a contribution tells it, and what was sealed far.
 fn shown(alloc: Global, sealer: &Sealer) -> Result<Vec<u8>, Refusal> {
     let mut text = Vec::new(alloc);
     push_number(&mut text, sealer.level())?;
     text.push(b' ')?;
-    let near = piece_text(alloc, sealer.piece_of(0, Reach::Near))?;
-    text.extend_from_slice(&near)?;
+    text.extend_from_slice(&piece(alloc, sealer, 0, Reach::Near)?)?;
     text.push(b'/')?;
-    for key in &sealer.far_keys()? {
-        if let Some(put) = sealer.far_put(key) {
-            text.extend_from_slice(key.as_bytes())?;
-            push_number(&mut text, put.number())?;
-            text.push(digit_of(put.value()))?;
-        }
-    }
+    push_far(&mut text, sealer)?;
     Ok(text)
 }
 
 // What a copy of the sealer has once these steps are taken.
 fn shown_after(alloc: Global, steps: &str) -> Result<Vec<u8>, Refusal> {
-    let sealer = played(alloc, steps)?.copy()?;
-    shown(alloc, &sealer)
+    shown(alloc, &played(alloc, steps)?.copy()?)
 }
 
 #[test]
@@ -74,8 +89,7 @@ fn commits_seal_what_was_put(rt: HostRuntime) -> Result<(), Refusal> {
     let alloc = rt.alloc();
     for line in PLAYS.lines() {
         let (steps, want) = cut(line, ' ')?;
-        let text = told(alloc, shown_after(alloc, steps))?;
-        assert!(rt; text.as_slice() == want.as_bytes());
+        assert_told(&rt, shown_after(alloc, steps), want)?;
     }
     Ok(())
 }
@@ -91,15 +105,14 @@ fn a_piece_is_of_commits_for_others(rt: HostRuntime) -> Result<(), Refusal> {
         (0, Reach::Own, "BadParam"),
     ];
     for (from, reach, want) in cases {
-        let text = told(alloc, piece_text(alloc, sealer.piece_of(from, reach)))?;
-        assert!(rt; text.as_slice() == want.as_bytes());
+        assert_told(&rt, piece(alloc, &sealer, from, reach), want)?;
     }
     Ok(())
 }
 
 // A commit that is taken back at once; gives the level in between.
-fn try_commit(sealer: &mut Sealer, batch: &Batch) -> Result<u64, Refusal> {
-    let before = sealer.commit(batch)?;
+fn try_commit(sealer: &mut Sealer, batch: Batch) -> Result<u64, Refusal> {
+    let before = sealer.commit(&batch)?;
     let level = sealer.level();
     sealer.take_back(before);
     Ok(level)
@@ -113,16 +126,22 @@ fn try_end(sealer: &mut Sealer) -> Result<(), Refusal> {
     Ok(())
 }
 
+// What a process has to seal after these puts.
+fn batch_of(alloc: Global, steps: &str) -> Result<Batch, Refusal> {
+    let mut cache = Cache::new(alloc);
+    for step in steps.split(',') {
+        put(&mut cache, alloc, step)?;
+    }
+    Ok(cache.unsealed()?)
+}
+
 #[test]
 fn a_commit_and_an_end_are_taken_back(rt: HostRuntime) -> Result<(), Refusal> {
     let alloc = rt.alloc();
     let mut sealer = played(alloc, "ga5,c")?;
-    let mut cache = Cache::new(alloc);
-    put(&mut cache, alloc, "ga6")?;
-    put(&mut cache, alloc, "rb6")?;
-    assert!(rt; try_commit(&mut sealer, &cache.unsealed()?)? == 2);
-    assert!(rt; shown(alloc, &sealer)?.as_slice() == b"1 a15/a15".as_slice());
+    let level = try_commit(&mut sealer, batch_of(alloc, "ga6,rb6")?)?;
+    assert!(rt; level == 2);
+    assert_told(&rt, shown(alloc, &sealer), "1 a15/a15")?;
     try_end(&mut sealer)?;
-    assert!(rt; shown(alloc, &sealer)?.as_slice() == b"1 a15/a15".as_slice());
-    Ok(())
+    assert_told(&rt, shown(alloc, &sealer), "1 a15/a15")
 }

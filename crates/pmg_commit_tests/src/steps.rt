@@ -1,5 +1,5 @@
 //! The steps of a process, and what they leave, as texts.
-use pmg_commit::Piece;
+use pmg_commit::PieceEntry;
 use pmg_scope::{Cache, Scope};
 use pmg_value::{Key, Refusal, Value, push_number};
 use std::alloc::Global;
@@ -15,15 +15,24 @@ fn scope_of(letter: u8) -> Scope {
     }
 }
 
-// Puts a digit under a key, as `gw4` does: the scope's letter, the key and the digit.
+// Puts the value at a place, as `gw` is one: the scope's letter and the key.
+pub fn put_value(
+    cache: &mut Cache,
+    alloc: Global,
+    place: &[u8],
+    value: Value,
+) -> Result<(), Refusal> {
+    match place.split_first() {
+        Some((scope, key)) => cache.put(scope_of(*scope), Key::read_any(alloc, key)?, value),
+        None => Err(Refusal::NotFound),
+    }
+}
+
+// Puts a digit at a place, as `gw4` does.
 pub fn put(cache: &mut Cache, alloc: Global, step: &str) -> Result<(), Refusal> {
-    match step.as_bytes() {
-        [scope, key @ .., digit] => cache.put(
-            scope_of(*scope),
-            Key::read_any(alloc, key)?,
-            Value::U8(*digit),
-        ),
-        _ => Err(Refusal::NotFound),
+    match step.as_bytes().split_last() {
+        Some((digit, place)) => put_value(cache, alloc, place, Value::U8(*digit)),
+        None => Err(Refusal::NotFound),
     }
 }
 
@@ -36,13 +45,19 @@ pub fn digit_of(value: &Value) -> u8 {
     }
 }
 
-// Of each entry of the contribution its key, its commit's number and its digit.
-pub fn piece_text(alloc: Global, piece: Result<Piece, Refusal>) -> Result<Vec<u8>, Refusal> {
+// Appends the key, the commit's number and the digit.
+pub fn push_row(text: &mut Vec<u8>, key: &Key, number: u64, value: &Value) -> Result<(), Refusal> {
+    text.extend_from_slice(key.as_bytes())?;
+    push_number(text, number)?;
+    text.push(digit_of(value))?;
+    Ok(())
+}
+
+// The entries of a contribution.
+pub fn piece_text(entries: &[PieceEntry], alloc: Global) -> Result<Vec<u8>, Refusal> {
     let mut text = Vec::new(alloc);
-    for entry in piece?.entries() {
-        text.extend_from_slice(entry.key.as_bytes())?;
-        push_number(&mut text, entry.number)?;
-        text.push(digit_of(&entry.value))?;
+    for entry in entries {
+        push_row(&mut text, &entry.key, entry.number, &entry.value)?;
     }
     Ok(text)
 }

@@ -2,6 +2,7 @@
 //! `j/?`; a refusal is its name.
 use pmg_value::{Nspace, Proc, Rank, Refusal, push_number};
 use std::alloc::Global;
+use std::process::Abort;
 
 // What stands before the first such sign and what stands after it.
 pub fn cut(text: &str, sign: char) -> Result<(&str, &str), Refusal> {
@@ -46,17 +47,18 @@ pub fn text_of(alloc: Global, procs: &[Proc]) -> Result<Vec<u8>, Refusal> {
     Ok(text)
 }
 
-// The text that was answered, or the refusal's name.
-pub fn told(alloc: Global, answer: Result<Vec<u8>, Refusal>) -> Result<Vec<u8>, Refusal> {
+// Requires that this text was answered, or that the call was refused by this name.
+pub fn assert_told(
+    rt: &impl Abort,
+    answer: Result<Vec<u8>, Refusal>,
+    want: &str,
+) -> Result<(), Refusal> {
     match answer {
-        Err(Refusal::NoMemory) => Err(Refusal::NoMemory),
-        Err(refusal) => {
-            let mut text = Vec::new(alloc);
-            text.extend_from_slice(refusal.name().as_bytes())?;
-            Ok(text)
-        }
-        Ok(text) => Ok(text),
+        Err(Refusal::NoMemory) => return Err(Refusal::NoMemory),
+        Err(refusal) => assert!(rt; refusal.name() == want),
+        Ok(text) => assert!(rt; text.as_slice() == want.as_bytes()),
     }
+    Ok(())
 }
 
 // Why the call was refused, if not for memory.

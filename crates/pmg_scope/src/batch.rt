@@ -37,8 +37,8 @@ impl Batch {
     pub fn of_put(alloc: Global, key: Key, value: Value) -> Result<Batch, AllocError>
         ensures { IfOk result (λ b. b ≡ global_put key (spelling value)) }
     {
-        let near = one_row(alloc, key.copy()?, value.copy()?)?;
-        let far = one_row(alloc, key, value)?;
+        let near = one_row(alloc, key, value)?;
+        let far = copy_all(&near)?;
         Ok(Batch { near, far })
     }
 

@@ -65,13 +65,24 @@ impl Cache {
         ensures script { OnOk result ((s : Script) → FitsCache self.old s
             → FitsCache self.new (s ++ Call.put scope key (spelling value) ∷ [])) }
     {
+        self.put_copies(scope, &key, &value)
+    }
+
+    /// Puts a copy of the value under a copy of the key, as `put` tells.
+    fn put_copies(&mut self, scope: Scope, key: &Key, value: &Value) -> Result<(), Refusal>
+        ensures answer { Gives (λ u. u) result (first_of (put_cause self.old scope key.now (spelling value.now)) tt) }
+        ensures ok { OnOk result (self.new ≡ with_put self.old scope key.now (spelling value.now)) }
+        ensures err { OnErr result (self.new ≡ self.old) }
+        ensures script { OnOk result ((s : Script) → FitsCache self.old s
+            → FitsCache self.new (s ++ Call.put scope key.now (spelling value.now) ∷ [])) }
+    {
         if !includes(scope, Reach::Own) || key.is_reserved() {
             return Err(Refusal::BadParam);
         }
-        let Some(sizes) = self.sizes.with_put(&self.tables, scope, &key, &value) else {
+        let Some(sizes) = self.sizes.with_put(&self.tables, scope, key, value) else {
             return Err(Refusal::TooMany);
         };
-        self.tables.put(scope, &key, &value)?;
+        self.tables.put(scope, key, value)?;
         self.sizes = sizes;
         Ok(())
     }

@@ -2,8 +2,8 @@
 //! however their bytes come.
 use crate::making::fence_name;
 use crate::spelled::{FRAMES, edited, made};
-use pmg_frame::{Frame, Stream};
-use pmg_value::{Cause, Refusal};
+use pmg_frame::{FenceName, Frame, Stream};
+use pmg_value::{Cause, Fault, Refusal};
 use std::alloc::Global;
 use std::process::Abort;
 
@@ -18,16 +18,31 @@ fn assert_one(rt: &impl Abort, alloc: Global, bytes: &[u8], frame: &Frame) -> Re
     Ok(())
 }
 
+// Requires that these bytes say the frame of that name alone.
+fn assert_kind(rt: &impl Abort, alloc: Global, bytes: &[u8], name: &str) -> Result<(), Refusal> {
+    assert_one(rt, alloc, bytes, &made(alloc, name)?)
+}
+
+// Feeds bytes, and requires that so many frames are in them and no fault.
+fn assert_fed(
+    rt: &impl Abort,
+    stream: &mut Stream,
+    bytes: &[u8],
+    frames: usize,
+) -> Result<(), Refusal> {
+    let fed = stream.feed(bytes)?;
+    assert!(rt; fed.frames.len() == frames && fed.fault == None);
+    Ok(())
+}
+
 // Requires that a frame of which only a part has come is no frame and no fault, but cut where the stream ends.
 fn assert_splits(rt: &impl Abort, alloc: Global, bytes: &[u8]) -> Result<(), Refusal> {
     for cut in 1..bytes.len() {
         let (front, back) = bytes.split_at(cut);
         let mut stream = Stream::new(alloc);
-        let fed = stream.feed(front)?;
-        assert!(rt; fed.frames.is_empty() && fed.fault == None);
+        assert_fed(rt, &mut stream, front, 0)?;
         assert!(rt; stream.finish() == Err(Refusal::bad_frame(0, Cause::Cut)));
-        let fed = stream.feed(back)?;
-        assert!(rt; fed.frames.len() == 1 && fed.fault == None);
+        assert_fed(rt, &mut stream, back, 1)?;
         assert!(rt; stream.finish() == Ok(()));
     }
     Ok(())
@@ -39,10 +54,31 @@ fn each_kind_is_read_and_written_whole_and_split(rt: HostRuntime) -> Result<(), 
     for line in FRAMES.lines() {
         let (name, _) = line.split_once(' ').unwrap_or(("", ""));
         let bytes = edited(alloc, name)?;
-        assert_one(&rt, alloc, &bytes, &made(alloc, name)?)?;
+        assert_kind(&rt, alloc, &bytes, name)?;
         assert_splits(&rt, alloc, &bytes)?;
     }
     Ok(())
+}
+
+// Feeds bytes, and requires that so many frames are in them and then a fault at that offset.
+fn assert_fault(
+    rt: &impl Abort,
+    stream: &mut Stream,
+    bytes: &[u8],
+    frames: usize,
+    offset: u64,
+) -> Result<(), Refusal> {
+    let fed = stream.feed(bytes)?;
+    assert!(rt; fed.frames.len() == frames);
+    assert!(rt; matches!(fed.fault, Some(fault) if fault.offset == offset));
+    Ok(())
+}
+
+// Requires that the stream takes no more.
+fn assert_closed(rt: &impl Abort, stream: &mut Stream, more: &[u8]) {
+    assert!(rt; stream.feed(&[]).err() == Some(Refusal::Closed));
+    assert!(rt; stream.feed(more).err() == Some(Refusal::Closed));
+    assert!(rt; stream.finish() == Err(Refusal::Closed));
 }
 
 #[test]
@@ -53,15 +89,11 @@ fn a_fault_closes_the_stream(rt: HostRuntime) -> Result<(), Refusal> {
     }
     for cut in 0..bytes.len().min(135) {
         let (front, back) = bytes.split_at(cut);
+        let whole = cut / 45;
         let mut stream = Stream::new(rt.alloc());
-        let early = stream.feed(front)?;
-        let late = stream.feed(back)?;
-        assert!(rt; early.fault == None && early.frames.len() == cut / 45);
-        assert!(rt; matches!(late.fault, Some(fault) if fault.offset == 134));
-        assert!(rt; late.frames.len() == 2usize.wrapping_sub(cut / 45));
-        assert!(rt; stream.feed(&[]).err() == Some(Refusal::Closed));
-        assert!(rt; stream.feed(back).err() == Some(Refusal::Closed));
-        assert!(rt; stream.finish() == Err(Refusal::Closed));
+        assert_fed(&rt, &mut stream, front, whole)?;
+        assert_fault(&rt, &mut stream, back, 2usize.wrapping_sub(whole), 134)?;
+        assert_closed(&rt, &mut stream, back);
     }
     Ok(())
 }
@@ -122,43 +154,62 @@ range-ask 5=11 ..23: Short at 16
 direct-ask 19=01: Level at 16
 ";
 
+// The fault of these bytes, which is found with the last of them.
+fn last_fault(rt: &impl Abort, alloc: Global, bytes: &[u8]) -> Result<Option<Fault>, Refusal> {
+    let (last, front) = bytes.split_last().unwrap_or((&0, &[]));
+    let mut stream = Stream::new(alloc);
+    assert_fed(rt, &mut stream, front, 0)?;
+    let fed = stream.feed(&[*last])?;
+    assert!(rt; fed.frames.is_empty());
+    Ok(fed.fault)
+}
+
+// The text of the fault.
+fn fault_text(alloc: Global, fault: Option<Fault>) -> Result<String, Refusal> {
+    match fault {
+        Some(fault) => Ok(format!(in alloc; "{fault}")?),
+        None => Ok(String::new(alloc)),
+    }
+}
+
 #[test]
 fn the_first_fault_is_found_with_its_last_byte(rt: HostRuntime) -> Result<(), Refusal> {
     let alloc = rt.alloc();
     for line in FAULTS.lines() {
         let (text, want) = line.split_once(": ").unwrap_or(("", ""));
-        let bytes = edited(alloc, text)?;
-        let (last, front) = bytes.split_last().unwrap_or((&0, &[]));
-        let mut stream = Stream::new(alloc);
-        let fed = stream.feed(front)?;
-        assert!(rt; fed.frames.is_empty() && fed.fault == None);
-        let fed = stream.feed(&[*last])?;
-        assert!(rt; fed.frames.is_empty());
-        let found = match fed.fault {
-            Some(fault) => format!(in alloc; "{fault}")?,
-            None => String::new(alloc),
-        };
-        assert_eq!(rt; found.as_str(), want, "{line}");
+        let fault = last_fault(&rt, alloc, &edited(alloc, text)?)?;
+        assert_eq!(rt; fault_text(alloc, fault)?.as_str(), want, "{line}");
     }
     Ok(())
 }
 
+// Fences of which each is less than those after it.
+fn rising(alloc: Global) -> Result<Vec<FenceName>, Refusal> {
+    let mut fences = Vec::with_capacity(alloc, 6)?;
+    fences.push(fence_name(alloc, &[0], false, 9)?)?;
+    fences.push(fence_name(alloc, &[0], true, 1)?)?;
+    fences.push(fence_name(alloc, &[0], true, 2)?)?;
+    fences.push(fence_name(alloc, &[1, 0], false, 1)?)?;
+    fences.push(fence_name(alloc, &[2, 0], false, 1)?)?;
+    fences.push(fence_name(alloc, &[1], false, 1)?)?;
+    Ok(fences)
+}
+
+// Whether the fence is less than those after that place, and greater than those before it.
+fn stands_at(fences: &[FenceName], place: usize, fence: &FenceName) -> bool {
+    for (i, other) in fences.iter().enumerate() {
+        if fence.cmp(other) != place.cmp(&i) || (fence == other) != (place == i) {
+            return false;
+        }
+    }
+    true
+}
+
 #[test]
 fn fences_rise_by_participants_collecting_and_instance(rt: HostRuntime) -> Result<(), Refusal> {
-    let rising: [(&[u32], bool, u64); 6] = [
-        (&[0], false, 9),
-        (&[0], true, 1),
-        (&[0], true, 2),
-        (&[1, 0], false, 1),
-        (&[2, 0], false, 1),
-        (&[1], false, 1),
-    ];
-    for (i, (ranks, collect, instance)) in rising.iter().enumerate() {
-        let first = fence_name(rt.alloc(), ranks, *collect, *instance)?;
-        for (k, (ranks, collect, instance)) in rising.iter().enumerate() {
-            let second = fence_name(rt.alloc(), ranks, *collect, *instance)?;
-            assert!(rt; first.cmp(&second) == i.cmp(&k) && (first == second) == (i == k));
-        }
+    let fences = rising(rt.alloc())?;
+    for (place, fence) in fences.iter().enumerate() {
+        assert!(rt; stands_at(&fences, place, fence));
     }
     Ok(())
 }

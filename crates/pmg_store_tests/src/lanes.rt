@@ -39,16 +39,25 @@ fn each_order_ends_alike(rt: HostRuntime) -> Result<(), Refusal> {
     Ok(())
 }
 
-#[test]
-fn lanes_join_to_what_both_took(rt: HostRuntime) -> Result<(), Refusal> {
-    let alloc = rt.alloc();
+// The lanes of the first and second piece, and of the third.
+fn two_lanes(alloc: Global) -> Result<(Lane, Lane), Refusal> {
     let pieces = three(alloc)?;
     let early = lane_of(alloc, &pieces, &[1, 0])?;
-    let mut late = lane_of(alloc, &pieces, &[2])?;
-    assert!(rt; seen(alloc, &late)? == (0, None, None));
+    Ok((early, lane_of(alloc, &pieces, &[2])?))
+}
+
+// A copy of what two lanes join to, where one is joined twice.
+fn joined(alloc: Global) -> Result<Lane, Refusal> {
+    let (early, mut late) = two_lanes(alloc)?;
     Join::join(&mut late, Join::copy(&early)?)?;
     late.join(early)?;
-    assert!(rt; seen(alloc, &late.copy()?)? == (3, Some(2), Some(3)));
+    Ok(late.copy()?)
+}
+
+#[test]
+fn lanes_join_to_what_both_took(rt: HostRuntime) -> Result<(), Refusal> {
+    let lane = joined(rt.alloc())?;
+    assert!(rt; seen(rt.alloc(), &lane)? == (3, Some(2), Some(3)));
     Ok(())
 }
 
@@ -72,21 +81,45 @@ const GREATER_SECOND: Part = (1, 2, 2, 7);
 // Pieces; then the level, after which commit those up to 2 are missing, and what is read.
 type Row<'a> = (&'a [Part], u64, Option<u64>, Option<u8>);
 
-// Takes the pieces into a lane and into a store, and requires that both hold what the row says.
-fn assert_row(rt: &impl Abort, alloc: Global, row: Row<'_>) -> Result<(), Refusal> {
-    let (pieces, level, missing, value) = row;
-    let key = Key::read(alloc, b"a")?;
-    let who = proc(alloc, 0)?;
+// The piece of these numbers.
+fn piece_of(alloc: Global, part: &Part) -> Result<Piece, Refusal> {
+    let (from, to, number, value) = *part;
+    piece(alloc, 0, from, to, number, &[(b"a", value)])
+}
+
+// A lane that took the pieces.
+fn lane_of_parts(alloc: Global, parts: &[Part]) -> Result<Lane, Refusal> {
     let mut lane = Lane::new(alloc);
-    let mut store = Store::new(alloc);
-    for (from, to, number, value) in pieces {
-        let next = piece(alloc, 0, *from, *to, *number, &[(b"a", *value)])?;
-        lane.absorb(&next)?;
-        store.absorb(&next)?;
+    for part in parts {
+        lane.absorb(&piece_of(alloc, part)?)?;
     }
-    assert!(rt; lane.level() == level && store.level(&who) == level);
-    assert!(rt; small(lane.read(&key)) == value && small(store.read(&who, &key)) == value);
+    Ok(lane)
+}
+
+// A store that took the pieces.
+fn store_of_parts(alloc: Global, parts: &[Part]) -> Result<Store, Refusal> {
+    let mut store = Store::new(alloc);
+    for part in parts {
+        store.absorb(&piece_of(alloc, part)?)?;
+    }
+    Ok(store)
+}
+
+// The level of the process, and what is read under the key a.
+fn seen_in_store(alloc: Global, store: &Store) -> Result<(u64, Option<u8>), Refusal> {
+    let who = proc(alloc, 0)?;
+    let value = small(store.read(&who, &Key::read(alloc, b"a")?));
+    Ok((store.level(&who), value))
+}
+
+// Requires that a lane and a store that took the pieces hold what the row says.
+fn assert_row(rt: &impl Abort, alloc: Global, row: Row<'_>) -> Result<(), Refusal> {
+    let (parts, level, missing, value) = row;
+    let lane = lane_of_parts(alloc, parts)?;
+    assert!(rt; seen(alloc, &lane)? == (level, value, None));
     assert!(rt; lane.missing_after(2) == missing);
+    let store = store_of_parts(alloc, parts)?;
+    assert!(rt; seen_in_store(alloc, &store)? == (level, value));
     Ok(())
 }
 
@@ -112,8 +145,8 @@ fn what_the_level_reaches_is_read(rt: HostRuntime) -> Result<(), Refusal> {
     Ok(())
 }
 
-// Whether the lane says of its process what the list does.
-fn is_same(lane: &Lane, plain: &Plain, proc: &Proc) -> bool {
+// Whether the lane says of that process what the list does.
+fn is_same_of(lane: &Lane, plain: &Plain, proc: &Proc) -> bool {
     for key in &plain.keys {
         if small(lane.read(key)) != plain.read(proc, key) {
             return false;
@@ -122,19 +155,31 @@ fn is_same(lane: &Lane, plain: &Plain, proc: &Proc) -> bool {
     lane.level() == plain.level(proc)
 }
 
+// Whether the lane says of process 0 what the list does.
+fn is_same(lane: &Lane, plain: &Plain) -> bool {
+    match plain.procs.first() {
+        Some(proc) => is_same_of(lane, plain, proc),
+        None => false,
+    }
+}
+
+// Takes the piece that the number says.
+fn take(alloc: Global, lane: &mut Lane, plain: &mut Plain, number: u64) -> Result<(), Refusal> {
+    let next = drawn(alloc, 0, number)?;
+    lane.absorb(&next)?;
+    plain.absorb(next)?;
+    Ok(())
+}
+
 #[test]
 fn lanes_hold_what_a_list_of_pieces_does(rt: HostRuntime) -> Result<(), Refusal> {
-    let alloc = rt.alloc();
-    let who = proc(alloc, 0)?;
-    let mut lane = Lane::new(alloc);
-    let mut plain = Plain::new(alloc)?;
+    let mut plain = Plain::new(rt.alloc())?;
+    let mut lane = Lane::new(rt.alloc());
     let mut number = 7;
     for _ in 0..60 {
         number = next_number(number);
-        let next = drawn(alloc, 0, number)?;
-        lane.absorb(&next)?;
-        plain.absorb(next)?;
-        assert!(rt; is_same(&lane, &plain, &who));
+        take(rt.alloc(), &mut lane, &mut plain, number)?;
+        assert!(rt; is_same(&lane, &plain));
     }
     Ok(())
 }

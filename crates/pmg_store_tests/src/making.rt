@@ -80,12 +80,16 @@ pub fn next_number(number: u64) -> u64 {
 /// A piece of one to four of the commits 1 to 19 of the process of that rank, as the number says.
 pub fn drawn(alloc: Global, rank: u32, number: u64) -> Result<Piece, Refusal> {
     let from = (number >> 58) & 15;
+    let first = from.wrapping_add(1);
     let more = (number >> 56) & 3;
-    let commit = from + 1 + ((number >> 54) & more);
+    let last = first.wrapping_add(more);
+    let commit = first.wrapping_add((number >> 54) & more);
     let value = (number >> 40 & 255) as u8;
-    let all: [(&[u8; 1], u8); 3] = [(b"a", value), (b"b", value / 2), (b"c", value / 4)];
-    let first = (number >> 53 & 1) as usize;
-    let last = first + 1 + (number >> 52 & 1) as usize;
-    let values = all.get(first..last).unwrap_or(&all);
-    piece(alloc, rank, from, from + 1 + more, commit, values)
+    let (a, b, c) = ((b"a", value), (b"b", value / 2), (b"c", value / 4));
+    match number >> 52 & 3 {
+        0 => piece(alloc, rank, from, last, commit, &[a]),
+        1 => piece(alloc, rank, from, last, commit, &[a, b]),
+        2 => piece(alloc, rank, from, last, commit, &[b]),
+        _ => piece(alloc, rank, from, last, commit, &[b, c]),
+    }
 }

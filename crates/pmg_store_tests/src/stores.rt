@@ -6,11 +6,14 @@ use crate::spelled::{edited, first_commit};
 use pmg_commit::Piece;
 use pmg_join::{Join, join_all};
 use pmg_store::{Board, Failure, Store, store_of_stream};
-use pmg_value::{Proc, Rank, Refusal, WatchedWriter};
+use pmg_value::{Proc, Refusal, WatchedWriter, push_number};
 use std::alloc::Global;
 use std::process::Abort;
 
 const ONE_DUMPED: &[u8] = b"proc j 0 level 1\n  u8:1 a\n";
+
+// The dump of the frame `piece`.
+const DUMPED: &[u8] = b"proc j 0 level 1\n  bool:true a\n";
 
 const THREE_DUMPED: &[u8] = b"proc j 0 level 3\n  u8:2 a\n  u8:3 b\n";
 
@@ -50,16 +53,21 @@ fn two_stores(alloc: Global) -> Result<(Store, Store), Refusal> {
     Ok((outer, store_of(alloc, &pieces, &[1])?))
 }
 
+// What the stores join to, where the first is joined twice.
+fn joined(alloc: Global, first: Store, second: Store) -> Result<Store, Refusal> {
+    let mut both = second;
+    both.join(Join::copy(&first)?)?;
+    let mut others = Vec::with_capacity(alloc, 1)?;
+    others.push(both)?;
+    Ok(join_all(first, others)?)
+}
+
 #[test]
 fn three_pieces_end_alike_by_joins(rt: HostRuntime) -> Result<(), Failure> {
     let alloc = rt.alloc();
-    let (outer, mut second) = two_stores(alloc)?;
+    let (outer, second) = two_stores(alloc)?;
     assert!(rt; is_dumped(alloc, &outer, ONE_DUMPED)?);
-    second.join(Join::copy(&outer)?)?;
-    assert!(rt; is_dumped(alloc, &second, THREE_DUMPED)?);
-    let mut others = Vec::with_capacity(alloc, 1)?;
-    others.push(second)?;
-    assert!(rt; is_dumped(alloc, &join_all(outer, others)?, THREE_DUMPED)?);
+    assert!(rt; is_dumped(alloc, &joined(alloc, outer, second)?, THREE_DUMPED)?);
     Ok(())
 }
 
@@ -78,45 +86,54 @@ fn absorb(
     Ok(())
 }
 
+// A store that took both pieces, and was dumped so in between.
+fn store_of_both(
+    rt: &impl Abort,
+    alloc: Global,
+    first: &Piece,
+    between: &[u8],
+    second: &Piece,
+) -> Result<Store, Failure> {
+    let mut store = Store::new(alloc);
+    absorb(rt, alloc, &mut store, b"", first)?;
+    absorb(rt, alloc, &mut store, between, second)?;
+    Ok(store)
+}
+
 #[test]
 fn half_a_piece_never_stays(rt: HostRuntime) -> Result<(), Failure> {
     let alloc = rt.alloc();
     let two = piece(alloc, 0, 0, 2, 1, &[(b"a", 1)])?;
     let more = piece(alloc, 0, 0, 1, 1, &[(b"a", 1), (b"b", 2), (b"c", 3)])?;
-    let mut store = Store::new(alloc);
-    absorb(&rt, alloc, &mut store, b"", &two)?;
-    absorb(
-        &rt,
-        alloc,
-        &mut store,
-        b"proc j 0 level 2\n  u8:1 a\n",
-        &more,
-    )?;
+    let store = store_of_both(&rt, alloc, &two, b"proc j 0 level 2\n  u8:1 a\n", &more)?;
     let text = b"proc j 0 level 2\n  u8:1 a\n  u8:2 b\n  u8:3 c\n";
     assert!(rt; is_dumped(alloc, &store, text)?);
+    Ok(())
+}
+
+// Joins the other store, which is dumped so. Where memory runs out, both are as they were, and they are joined then.
+fn join(
+    rt: &impl Abort,
+    alloc: Global,
+    store: &mut Store,
+    other: Store,
+    text: &[u8],
+) -> Result<(), Failure> {
+    if let Err(refused) = store.join(other) {
+        assert!(rt; is_dumped(alloc, store, b"")?);
+        assert!(rt; is_dumped(alloc, &refused.value, text)?);
+        store.join(refused.value)?;
+    }
     Ok(())
 }
 
 #[test]
 fn refused_memory_leaves_a_store_as_it_was(rt: HostRuntime) -> Result<(), Failure> {
     let alloc = rt.alloc();
-    let more = piece(alloc, 0, 1, 2, 2, &[(b"b", 7)])?;
-    let mut store = store_of_stream(alloc, &edited(alloc, "piece")?)?;
-    absorb(
-        &rt,
-        alloc,
-        &mut store,
-        b"proc j 0 level 1\n  bool:true a\n",
-        &more,
-    )?;
-    let text = b"proc j 0 level 2\n  bool:true a\n  u8:7 b\n";
-    let mut first = Store::new(alloc);
-    if let Err(refused) = first.join(store) {
-        assert!(rt; is_dumped(alloc, &first, b"")?);
-        assert!(rt; is_dumped(alloc, &refused.value, text)?);
-        first.join(refused.value)?;
-    }
-    assert!(rt; is_dumped(alloc, &first, text)?);
+    let other = store_of_stream(alloc, &edited(alloc, "piece")?)?;
+    let mut store = Store::new(alloc);
+    join(&rt, alloc, &mut store, other, DUMPED)?;
+    assert!(rt; is_dumped(alloc, &store, DUMPED)?);
     Ok(())
 }
 
@@ -125,32 +142,58 @@ fn is_shown(alloc: Global, board: &Board, near: &[u8], far: &[u8]) -> Result<boo
     Ok(is_dumped(alloc, board.near(), near)? && is_dumped(alloc, board.far(), far)?)
 }
 
-#[test]
-fn a_board_takes_all_or_nothing(rt: HostRuntime) -> Result<(), Failure> {
-    let alloc = rt.alloc();
-    let pieces = three(alloc)?;
+// A copy of a board with the first piece near and the third far.
+fn board_of(alloc: Global, pieces: &[Piece; 3]) -> Result<Board, Refusal> {
     let mut board = Board::new(alloc);
     board.absorb_near(&pieces[0])?;
     board.absorb_far(&pieces[2])?;
-    assert!(rt; is_shown(alloc, &board.copy()?, ONE_DUMPED, b"")?);
-    if board.absorb_all(&pieces, &pieces).is_err() {
-        assert!(rt; is_shown(alloc, &board, ONE_DUMPED, b"")?);
-        board.absorb_all(&pieces, &pieces)?;
+    Ok(board.copy()?)
+}
+
+// Takes all pieces near and far. Where memory runs out, the board is as it was, and they are taken then.
+fn absorb_all(
+    rt: &impl Abort,
+    alloc: Global,
+    board: &mut Board,
+    pieces: &[Piece],
+) -> Result<(), Failure> {
+    if board.absorb_all(pieces, pieces).is_err() {
+        assert!(rt; is_shown(alloc, board, ONE_DUMPED, b"")?);
+        board.absorb_all(pieces, pieces)?;
     }
-    assert!(rt; is_shown(alloc, &board, THREE_DUMPED, THREE_DUMPED)?);
     Ok(())
 }
 
 #[test]
-fn processes_are_told_in_order_with_their_ends(rt: HostRuntime) -> Result<(), Refusal> {
-    let mut store = Store::new(rt.alloc());
-    store.absorb(&piece(rt.alloc(), 2, 1, 2, 2, &[])?)?;
-    store.absorb(&first_commit(rt.alloc(), &[b"pmix.term"])?)?;
-    let procs = store.processes()?;
-    assert!(rt; procs.len() == 2);
-    for (proc, (rank, ended)) in procs.iter().zip([(0, true), (2, false)]) {
-        assert!(rt; proc.rank == Rank::new(rank) && store.has_ended(proc) == ended);
+fn a_board_takes_all_or_nothing(rt: HostRuntime) -> Result<(), Failure> {
+    let alloc = rt.alloc();
+    let pieces = three(alloc)?;
+    let mut board = board_of(alloc, &pieces)?;
+    assert!(rt; is_shown(alloc, &board, ONE_DUMPED, b"")?);
+    absorb_all(&rt, alloc, &mut board, &pieces)?;
+    assert!(rt; is_shown(alloc, &board, THREE_DUMPED, THREE_DUMPED)?);
+    Ok(())
+}
+
+// The ranks of the store's processes, with a point after each that has ended.
+fn ranks_and_ends(alloc: Global, store: &Store) -> Result<Vec<u8>, Refusal> {
+    let mut text = Vec::new(alloc);
+    for proc in &store.processes()? {
+        push_number(&mut text, u64::from(proc.rank.number()))?;
+        if store.has_ended(proc) {
+            text.push(b'.')?;
+        }
     }
+    Ok(text)
+}
+
+#[test]
+fn processes_are_told_in_order_with_their_ends(rt: HostRuntime) -> Result<(), Refusal> {
+    let alloc = rt.alloc();
+    let ended = first_commit(alloc, &[b"pmix.term"])?;
+    let pieces = [piece(alloc, 2, 1, 2, 2, &[])?, ended];
+    let text = ranks_and_ends(alloc, &store_of(alloc, &pieces, &[0, 1])?)?;
+    assert!(rt; text.as_slice() == b"0.2".as_slice());
     Ok(())
 }
 
@@ -179,22 +222,34 @@ fn is_same(store: &Store, plain: &Plain) -> bool {
     true
 }
 
+// Takes the piece that the number says into two stores and the list.
+fn take(
+    alloc: Global,
+    half: &mut Store,
+    both: &mut Store,
+    plain: &mut Plain,
+    number: u64,
+) -> Result<(), Refusal> {
+    let next = drawn(alloc, (number >> 62) as u32, number)?;
+    half.absorb(&next)?;
+    both.absorb(&next)?;
+    plain.absorb(next)?;
+    Ok(())
+}
+
 // Each piece goes to one of two stores, which are joined at last, and to a third.
 #[test]
 fn stores_hold_what_a_list_of_pieces_does(rt: HostRuntime) -> Result<(), Failure> {
     let alloc = rt.alloc();
+    let mut plain = Plain::new(alloc)?;
     let mut even = Store::new(alloc);
     let mut odd = Store::new(alloc);
     let mut both = Store::new(alloc);
-    let mut plain = Plain::new(alloc)?;
     let mut number = 7;
     for done in 0..90 {
         number = next_number(number);
-        let next = drawn(alloc, (number >> 62) as u32, number)?;
         let half = if done % 2 == 0 { &mut even } else { &mut odd };
-        half.absorb(&next)?;
-        both.absorb(&next)?;
-        plain.absorb(next)?;
+        take(alloc, half, &mut both, &mut plain, number)?;
         assert!(rt; is_same(&both, &plain));
     }
     even.join(odd)?;

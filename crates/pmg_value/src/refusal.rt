@@ -3,11 +3,12 @@ ghost use Rattle.pmg_value.specs.declared.refusal.Refusal.TheVariants.{NoMemory,
 ghost use Rattle.pmg_value.specs.Refusals.{number_of, name_of, cause_name};
 
 use std::alloc::{AllocError, AllocFailed};
+use std::fmt;
+use std::fmt::{Display, Formatter, Write};
 use thiserror::Error;
 
 /// What is wrong with bytes that are read: the first fault, from the left.
 #[derive(Clone, Copy, Debug, PartialEq, Eq, Error)]
-#[error("{}", self.name())]
 pub enum Cause {
     Version,
     Kind,
@@ -45,7 +46,6 @@ pub struct Fault {
 /// Why a call was refused. A refused call leaves what it was called on as it was. Each refusal has a
 /// number, which is this project's own (the standard's statuses are not claimed).
 #[derive(Clone, Copy, Debug, PartialEq, Eq, Error)]
-#[error("{} {}", self.number(), self.name())]
 pub enum Refusal {
     /// Memory was wanted and not given.
     NoMemory,
@@ -68,7 +68,6 @@ pub enum Refusal {
     /// A limit would be passed.
     TooMany,
     /// The bytes are no frame: the first fault.
-    #[error("{number} {name}: {fault}", number = self.number(), name = self.name(), fault = .0)]
     BadFrame(Fault),
     /// The name is taken.
     Exists,
@@ -168,6 +167,23 @@ impl Cause {
             Cause::Hex => "Hex",
             Cause::Script => "Script",
             Cause::Input => "Input",
+        }
+    }
+}
+
+impl Display for Cause {
+    fn fmt<W: Write>(&self, f: &mut Formatter<W>) -> fmt::Result {
+        f.write_str(self.name())
+    }
+}
+
+/// The number and the name, and the fault where there is one, as `9 TooMany` and `10 BadFrame: Hex at 3`.
+impl Display for Refusal {
+    fn fmt<W: Write>(&self, f: &mut Formatter<W>) -> fmt::Result {
+        write!(f, "{} {}", self.number(), self.name())?;
+        match self {
+            Refusal::BadFrame(fault) => write!(f, ": {fault}"),
+            _ => Ok(()),
         }
     }
 }

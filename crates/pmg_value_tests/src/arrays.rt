@@ -26,26 +26,36 @@ none 9 13090000000101
 none 19 13090000000101
 ";
 
-// The text of the array of these words: its tag, and its items.
-fn array_text(alloc: Global, words: &str) -> Result<Vec<u8>, Refusal> {
+// The value of the bytes of these digits.
+fn item_of(alloc: Global, digits: &str) -> Result<Value, Refusal> {
+    value_from_bytes(alloc, &bytes_of(alloc, digits)?)
+}
+
+// The array of these words: its tag, and its items.
+fn array_of(alloc: Global, words: &str) -> Result<Value, Refusal> {
     let mut words = words.split(' ');
     let tag = words.next().unwrap_or("");
     let mut items = Vec::new(alloc);
     for digits in words {
-        items.push(value_from_bytes(alloc, &bytes_of(alloc, digits)?)?)?;
+        items.push(item_of(alloc, digits)?)?;
     }
-    let array = Value::array(tag.parse::<u8>().unwrap_or(0), items)?;
-    Ok(array.to_text(alloc)?)
+    Value::array(tag.parse::<u8>().unwrap_or(0), items)
+}
+
+// Whether the array of these words has that text.
+fn is_array(alloc: Global, words: &str, text: &str) -> Result<bool, Refusal> {
+    match array_of(alloc, words) {
+        Ok(array) => Ok(array.to_text(alloc)?.as_slice() == text.as_bytes()),
+        Err(Refusal::BadParam) => Ok(text == "none"),
+        Err(refusal) => Err(refusal),
+    }
 }
 
 #[test]
 fn items_of_one_kind_make_an_array(rt: HostRuntime) -> Result<(), Refusal> {
     for line in ARRAYS.lines() {
         let (text, words) = line.split_once(' ').unwrap_or((line, ""));
-        match array_text(rt.alloc(), words) {
-            Err(Refusal::BadParam) => assert!(rt; text == "none", "{line}"),
-            answer => assert!(rt; answer?.as_slice() == text.as_bytes(), "{line}"),
-        }
+        assert!(rt; is_array(rt.alloc(), words, text)?, "{line}");
     }
     Ok(())
 }
@@ -69,13 +79,16 @@ fn fault_of(alloc: Global, bytes: &[u8]) -> Result<Option<(u64, Cause)>, Refusal
     }
 }
 
+// Why these two bytes and so many letters are no key, if they are none.
+fn key_refusal(alloc: Global, front: &[u8], count: usize) -> Result<Option<Refusal>, Refusal> {
+    let bytes = long(alloc, front, count, b'k')?;
+    Ok(Field::Key.value_of(alloc, &bytes).err())
+}
+
 #[test]
 fn a_key_has_at_most_511_bytes(rt: HostRuntime) -> Result<(), Refusal> {
-    let alloc = rt.alloc();
-    let most = long(alloc, b"\x01\xff", 511, b'k')?;
-    Field::Key.value_of(alloc, &most)?;
-    let more = long(alloc, b"\x02\x00", 512, b'k')?;
-    let refusal = Field::Key.value_of(alloc, &more).err();
+    assert!(rt; key_refusal(rt.alloc(), b"\x01\xff", 511)? == None);
+    let refusal = key_refusal(rt.alloc(), b"\x02\x00", 512)?;
     assert!(rt; refusal == Some(Refusal::bad_frame(7, Cause::Key)));
     Ok(())
 }
@@ -123,16 +136,21 @@ fn size_is_found_at_the_end_of_an_array(rt: HostRuntime) -> Result<(), Refusal> 
     Ok(())
 }
 
+// The size of the value, where there is one.
+fn size_of(value: Result<Value, Refusal>) -> Result<usize, Refusal> {
+    Ok(value?.size())
+}
+
 #[test]
 fn strings_and_byte_objects_have_at_most_1048571_bytes(rt: HostRuntime) -> Result<(), Refusal> {
     let alloc = rt.alloc();
     let mut text = vec![in alloc; 1; MAX_BLOB_LEN]?;
-    assert!(rt; Value::string(alloc, &text)?.size() == MAX_VALUE_SIZE);
-    assert!(rt; Value::bytes(alloc, &text)?.size() == MAX_VALUE_SIZE);
+    assert!(rt; size_of(Value::string(alloc, &text)) == Ok(MAX_VALUE_SIZE));
+    assert!(rt; size_of(Value::bytes(alloc, &text)) == Ok(MAX_VALUE_SIZE));
     text.push(1)?;
-    assert!(rt; matches!(Value::string(alloc, &text), Err(Refusal::BadParam)));
-    assert!(rt; matches!(Value::bytes(alloc, &text), Err(Refusal::BadParam)));
-    assert!(rt; matches!(Value::string(alloc, b"a\0b"), Err(Refusal::BadParam)));
+    assert!(rt; size_of(Value::string(alloc, &text)) == Err(Refusal::BadParam));
+    assert!(rt; size_of(Value::bytes(alloc, &text)) == Err(Refusal::BadParam));
+    assert!(rt; size_of(Value::string(alloc, b"a\0b")) == Err(Refusal::BadParam));
     Ok(())
 }
 
@@ -147,7 +165,7 @@ fn byte_values(alloc: Global, count: usize) -> Result<Vec<Value>, AllocError> {
 
 #[test]
 fn more_than_1048570_bytes_make_no_array(rt: HostRuntime) -> Result<(), Refusal> {
-    let array = Value::array(2, byte_values(rt.alloc(), 1_048_571)?);
-    assert!(rt; matches!(array, Err(Refusal::BadParam)));
+    let values = byte_values(rt.alloc(), 1_048_571)?;
+    assert!(rt; size_of(Value::array(2, values)) == Err(Refusal::BadParam));
     Ok(())
 }

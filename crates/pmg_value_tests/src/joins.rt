@@ -1,8 +1,6 @@
 //! What some joins give, worked by hand: that calls succeed where there is memory, and each join
 //! at a type.
-use pmg_join::{
-    GrowSet, Join, MapJoin, MaxU64, PairJoin, RangeSet, join_all, join_of_many, join_rules,
-};
+use pmg_join::{Element, GrowSet, Join, MapJoin, MaxU64, PairJoin, RangeSet, join_all};
 use pmg_value::{Key, Nspace, Proc, Rank, Refusal, push_number};
 use std::alloc::{AllocError, Global};
 
@@ -88,37 +86,60 @@ fn sets_join_to_their_union(rt: HostRuntime) -> Result<(), Refusal> {
     Ok(())
 }
 
+// The set of this alone.
+fn set_of<T: Element>(alloc: Global, element: T) -> Result<GrowSet<T>, Refusal> {
+    let mut set = GrowSet::new(alloc);
+    set.insert(element)?;
+    Ok(set)
+}
+
+// Whether the set of the first key has the second.
+fn has_key(alloc: Global, first: &[u8], second: &[u8]) -> Result<bool, Refusal> {
+    let set = set_of(alloc, Key::read(alloc, first)?)?;
+    Ok(set.contains(&Key::read(alloc, second)?))
+}
+
+// Whether the set of the process of the first rank has that of the second.
+fn has_rank(alloc: Global, first: u32, second: u32) -> Result<bool, Refusal> {
+    let name = Nspace::read(alloc, b"j")?;
+    let set = set_of(alloc, Proc::new(name.copy()?, Rank::new(first)))?;
+    Ok(set.contains(&Proc::new(name, Rank::new(second))))
+}
+
 #[test]
 fn sets_have_keys_and_processes(rt: HostRuntime) -> Result<(), Refusal> {
     let alloc = rt.alloc();
-    let mut keys = GrowSet::new(alloc);
-    keys.insert(Key::read(alloc, b"a")?)?;
-    assert!(rt; keys.contains(&Key::read(alloc, b"a")?));
-    assert!(rt; !keys.contains(&Key::read(alloc, b"b")?));
-    let mut processes = GrowSet::new(alloc);
-    let process = Proc::new(Nspace::read(alloc, b"j")?, Rank::new(1));
-    processes.insert(process.copy()?)?;
-    assert!(rt; processes.contains(&process));
+    assert!(rt; has_key(alloc, b"a", b"a")? && !has_key(alloc, b"a", b"b")?);
+    assert!(rt; has_rank(alloc, 1, 1)? && !has_rank(alloc, 1, 2)?);
     Ok(())
+}
+
+// The map to which these ranges were put, each under its key.
+fn map_of(alloc: Global, rows: &[(u64, u64, u64)]) -> Result<MapJoin<u64, RangeSet>, Refusal> {
+    let mut map = MapJoin::new(alloc);
+    for (key, from, to) in rows {
+        map.put(*key, range(alloc, *from, *to)?)?;
+    }
+    Ok(map)
+}
+
+// What is under the keys 1 to 3.
+fn map_text(alloc: Global, map: &MapJoin<u64, RangeSet>) -> Result<Vec<u8>, Refusal> {
+    let mut text = Vec::new(alloc);
+    for key in 1..4 {
+        if let Some(set) = map.get(&key) {
+            show(&mut text, set)?;
+        }
+    }
+    Ok(text)
 }
 
 #[test]
 fn maps_join_key_by_key(rt: HostRuntime) -> Result<(), Refusal> {
     let alloc = rt.alloc();
-    let mut first = MapJoin::new(alloc);
-    first.put(1, range(alloc, 0, 2)?)?;
-    first.put(1, range(alloc, 8, 9)?)?;
-    first.put(2, range(alloc, 0, 1)?)?;
-    let mut second = MapJoin::new(alloc);
-    second.put(1, range(alloc, 1, 4)?)?;
-    let all = joined(&first, second)?;
-    let mut text = Vec::new(alloc);
-    for key in 1..4 {
-        if let Some(set) = all.get(&key) {
-            show(&mut text, set)?;
-        }
-    }
-    assert!(rt; text.as_slice() == b"12349 4;1 1;".as_slice());
+    let first = map_of(alloc, &[(1, 0, 2), (1, 8, 9), (2, 0, 1)])?;
+    let all = joined(&first, map_of(alloc, &[(1, 1, 4)])?)?;
+    assert!(rt; map_text(alloc, &all)?.as_slice() == b"12349 4;1 1;".as_slice());
     Ok(())
 }
 
@@ -126,13 +147,12 @@ fn maps_join_key_by_key(rt: HostRuntime) -> Result<(), Refusal> {
 fn many_are_joined(rt: HostRuntime) -> Result<(), Refusal> {
     let alloc = rt.alloc();
     let mut others = Vec::new(alloc);
-    others.push(range(alloc, 0, 2)?)?;
-    others.push(range(alloc, 2, 3)?)?;
+    for (from, to) in [(0, 2), (2, 3)] {
+        others.push(range(alloc, from, to)?)?;
+    }
     let all = join_all(range(alloc, 2, 3)?, others)?;
     let mut text = Vec::new(alloc);
     show(&mut text, &all)?;
     assert!(rt; text.as_slice() == b"123 3;".as_slice());
-    join_of_many::<RangeSet>();
-    join_rules::<RangeSet>();
     Ok(())
 }

@@ -18,8 +18,53 @@ pub(crate) enum Field {
     Process(Admits),
 }
 
+// Each of these reads a field, writes it to the buffer, and gives a copy of it, as a value.
+
+fn read_value(alloc: Global, at: &mut Cursor<'_>, out: &mut BytesMut) -> Result<Value, Refusal> {
+    let value = get_value(alloc, at)?;
+    put_value(out, &value)?;
+    Ok(value.copy()?)
+}
+
+fn read_whole_value(
+    alloc: Global,
+    at: &mut Cursor<'_>,
+    out: &mut BytesMut,
+) -> Result<Value, Refusal> {
+    let value = value_from_bytes(alloc, at.take(at.rest().len())?)?;
+    put_value(out, &value)?;
+    Ok(value)
+}
+
+fn read_flag(at: &mut Cursor<'_>, out: &mut BytesMut) -> Result<Value, Refusal> {
+    let flag = get_flag(at)?;
+    out.extend_from_slice(&[u8::from(flag)])?;
+    Ok(Value::Bool(flag))
+}
+
+fn read_key(alloc: Global, at: &mut Cursor<'_>, out: &mut BytesMut) -> Result<Value, Refusal> {
+    let key = get_key(alloc, at)?;
+    put_key(out, &key)?;
+    Value::string(alloc, key.copy()?.as_bytes())
+}
+
+fn read_process(
+    alloc: Global,
+    admits: Admits,
+    at: &mut Cursor<'_>,
+    out: &mut BytesMut,
+) -> Result<Value, Refusal> {
+    let process = get_proc(alloc, admits, at)?;
+    put_proc(out, &process)?;
+    Ok(Value::Proc(process.copy()?))
+}
+
+// Whether the value has that text.
+fn is_text(alloc: Global, value: &Value, text: &str) -> Result<bool, Refusal> {
+    Ok(value.to_text(alloc)?.as_slice() == text.as_bytes())
+}
+
 impl Field {
-    // Reads the field, writes it to the buffer, and gives a copy of it, as a value.
     fn read(
         self,
         alloc: Global,
@@ -27,31 +72,11 @@ impl Field {
         out: &mut BytesMut,
     ) -> Result<Value, Refusal> {
         match self {
-            Field::Value => {
-                let value = get_value(alloc, at)?;
-                put_value(out, &value)?;
-                Ok(value.copy()?)
-            }
-            Field::WholeValue => {
-                let value = value_from_bytes(alloc, at.take(at.rest().len())?)?;
-                put_value(out, &value)?;
-                Ok(value)
-            }
-            Field::Flag => {
-                let flag = get_flag(at)?;
-                out.extend_from_slice(&[u8::from(flag)])?;
-                Ok(Value::Bool(flag))
-            }
-            Field::Key => {
-                let key = get_key(alloc, at)?;
-                put_key(out, &key)?;
-                Value::string(alloc, key.copy()?.as_bytes())
-            }
-            Field::Process(admits) => {
-                let process = get_proc(alloc, admits, at)?;
-                put_proc(out, &process)?;
-                Ok(Value::Proc(process.copy()?))
-            }
+            Field::Value => read_value(alloc, at, out),
+            Field::WholeValue => read_whole_value(alloc, at, out),
+            Field::Flag => read_flag(at, out),
+            Field::Key => read_key(alloc, at, out),
+            Field::Process(admits) => read_process(alloc, admits, at, out),
         }
     }
 
@@ -70,7 +95,7 @@ impl Field {
     // Whether the bytes of these digits give a value of this text, or this fault.
     fn gives(self, alloc: Global, digits: &str, text: &str) -> Result<bool, Refusal> {
         match self.value_of(alloc, &bytes_of(alloc, digits)?) {
-            Ok(value) => Ok(value.to_text(alloc)?.as_slice() == text.as_bytes()),
+            Ok(value) => is_text(alloc, &value, text),
             Err(Refusal::BadFrame(fault)) => Ok(format!(in alloc; "{fault}")?.as_str() == text),
             Err(Refusal::NoMemory) => Err(Refusal::NoMemory),
             Err(_) => Ok(false),
