@@ -138,11 +138,7 @@ impl LastPuts {
     }
 
     /// Notes what is under the key, by which a change there can be taken back.
-    fn note(
-        &self,
-        key: &Key,
-        before: &mut Vec<(Key, Option<SealedPut>)>,
-    ) -> Result<(), AllocError>
+    fn note(&self, key: &Key, before: &mut Vec<(Key, Option<SealedPut>)>) -> Result<(), AllocError>
         ensures same { all_back self.now before.new.items ≡ all_back self.now before.old.items }
         ensures back { OnOk result ((s : Stamp) → all_back (finite.insert self.now key.now s) before.new.items
             ≡ all_back self.now before.old.items) }

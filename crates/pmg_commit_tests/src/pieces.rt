@@ -106,7 +106,7 @@ fn a_piece_is_copied(rt: HostRuntime) -> Result<(), Refusal> {
     assert!(rt; is_of(alloc, &piece, "j/4095")?);
     assert!(rt; (piece.from(), piece.to()) == (1, 3));
     assert!(rt; piece.entry(1).map(PieceEntry::size) == Some(18));
-    assert_told(&rt, piece_text(piece.entries(), alloc), "a31pmix.b22")
+    assert_told(&rt, piece_text(alloc, piece.entries()), "a31pmix.b22")
 }
 
 // Entries of the key a, and one of b.

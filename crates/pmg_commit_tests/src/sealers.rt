@@ -55,7 +55,7 @@ fn played(alloc: Global, steps: &str) -> Result<Sealer, Refusal> {
 
 // What the contribution of the commits above that number tells.
 fn piece(alloc: Global, sealer: &Sealer, from: u64, reach: Reach) -> Result<Vec<u8>, Refusal> {
-    piece_text(sealer.piece_of(from, reach)?.entries(), alloc)
+    piece_text(alloc, sealer.piece_of(from, reach)?.entries())
 }
 
 // Appends what was sealed far, as the sealer lends it.

@@ -99,7 +99,7 @@ fn two_sets(alloc: Global) -> Result<Sets, Refusal> {
 
 // What the contribution of the changes above that number tells.
 fn piece(alloc: Global, sets: &Sets, from: u64) -> Result<Vec<u8>, Refusal> {
-    piece_text(sets.piece_from(from)?.entries(), alloc)
+    piece_text(alloc, sets.piece_from(from)?.entries())
 }
 
 #[test]
@@ -191,9 +191,9 @@ fn define_many(
     cause_of(sets.define(Key::read(alloc, &[letter])?, members))
 }
 
-// The longest name of a namespace has 255 bytes. A member of it takes 260 bytes, and the array of
-// the members itself 6: with 4,032 of them there are 50 left of 1,048,576, and with 4,033 there are
-// too many. Requires that these sets can be defined or not.
+// Requires that a set is defined of as many processes as it may have, and of no more. The longest
+// name of a namespace has 255 bytes. A member of it takes 260 bytes, and the array of the members
+// itself 6: with 4,032 of them there are 50 left of 1,048,576, and with 4,033 there are too many.
 fn assert_limited(rt: &impl Abort, alloc: Global, sets: &mut Sets) -> Result<(), Refusal> {
     let too_many = Some(Refusal::TooMany);
     for (len, count, want) in [(1, 4096, too_many), (255, 4033, too_many), (1, 4095, None)] {

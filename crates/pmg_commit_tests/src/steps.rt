@@ -54,7 +54,7 @@ pub fn push_row(text: &mut Vec<u8>, key: &Key, number: u64, value: &Value) -> Re
 }
 
 // The entries of a contribution.
-pub fn piece_text(entries: &[PieceEntry], alloc: Global) -> Result<Vec<u8>, Refusal> {
+pub fn piece_text(alloc: Global, entries: &[PieceEntry]) -> Result<Vec<u8>, Refusal> {
     let mut text = Vec::new(alloc);
     for entry in entries {
         push_row(&mut text, &entry.key, entry.number, &entry.value)?;

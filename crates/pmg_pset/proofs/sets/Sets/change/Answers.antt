@@ -38,6 +38,6 @@ pub returns-clause-fits : goal.returns-clause-fits
 returns-clause-fits c = record {
   sealer = c.in_ok-before.ensures.fits;
   sets =
-    let z = c.self.inside.sealer in
-    subst AreSets (made_back (can_seal z c.in_ok-batch.batch) z (sealer_back c.commit.new.self c.in_ok-before.before) c.in_ok-before.ensures.before) c.self.invariant;
+      let z = c.self.inside.sealer in
+      subst AreSets (made_back (can_seal z c.in_ok-batch.batch) z (sealer_back c.commit.new.self c.in_ok-before.before) c.in_ok-before.ensures.before) c.self.invariant;
 }
