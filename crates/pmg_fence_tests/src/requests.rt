@@ -8,20 +8,43 @@ fn proc_of(alloc: Global, rank: u32) -> Result<Proc, Refusal> {
     Ok(Proc::new(Nspace::read(alloc, b"j")?, Rank::new(rank)))
 }
 
-fn hold(pending: &mut Pending, node: u32, proc: &Proc, level: u64) -> Result<(), Refusal> {
+// The calls of `Pending`, of the process of that rank.
+
+fn ask(alloc: Global, pending: &mut Pending, rank: u32, level: u64) -> Result<(), Refusal> {
+    pending.ask(&proc_of(alloc, rank)?, level)?;
+    Ok(())
+}
+
+fn asked(alloc: Global, pending: &Pending, rank: u32) -> Result<Option<u64>, Refusal> {
+    Ok(pending.asked(&proc_of(alloc, rank)?))
+}
+
+fn settle(alloc: Global, pending: &mut Pending, rank: u32, level: u64) -> Result<(), Refusal> {
+    pending.settle(&proc_of(alloc, rank)?, level);
+    Ok(())
+}
+
+fn hold(
+    alloc: Global,
+    pending: &mut Pending,
+    node: u32,
+    rank: u32,
+    level: u64,
+) -> Result<(), Refusal> {
     let node = NodeId::new(node)?;
-    pending.hold(node, proc, level)?;
+    pending.hold(node, &proc_of(alloc, rank)?, level)?;
     Ok(())
 }
 
 // Whether these nodes are due, with these levels.
 fn are_due(
+    alloc: Global,
     pending: &Pending,
-    proc: &Proc,
+    rank: u32,
     level: u64,
     expected: &[(u32, u64)],
 ) -> Result<bool, Refusal> {
-    let due = pending.due(proc, level)?;
+    let due = pending.due(&proc_of(alloc, rank)?, level)?;
     if due.len() != expected.len() {
         return Ok(false);
     }
@@ -36,98 +59,112 @@ fn are_due(
 #[test]
 fn the_greatest_ask_counts(rt: HostRuntime) -> Result<(), Refusal> {
     let alloc = rt.alloc();
-    let (zero, one) = (proc_of(alloc, 0)?, proc_of(alloc, 1)?);
     let mut pending = Pending::new(alloc);
-    pending.ask(&zero, 3)?;
-    pending.ask(&zero, 2)?;
-    assert!(rt; pending.asked(&zero) == Some(3));
-    assert!(rt; pending.asked(&one) == None);
+    ask(alloc, &mut pending, 0, 3)?;
+    ask(alloc, &mut pending, 0, 2)?;
+    assert!(rt; asked(alloc, &pending, 0)? == Some(3));
+    assert!(rt; asked(alloc, &pending, 1)? == None);
     Ok(())
 }
 
 #[test]
 fn an_answered_ask_is_gone(rt: HostRuntime) -> Result<(), Refusal> {
     let alloc = rt.alloc();
-    let zero = proc_of(alloc, 0)?;
     let mut pending = Pending::new(alloc);
-    pending.ask(&zero, 3)?;
-    pending.settle(&zero, 3);
-    assert!(rt; pending.asked(&zero) == Some(3));
-    pending.settle(&zero, 4);
-    assert!(rt; pending.asked(&zero) == None);
+    ask(alloc, &mut pending, 0, 3)?;
+    settle(alloc, &mut pending, 0, 3)?;
+    assert!(rt; asked(alloc, &pending, 0)? == Some(3));
+    settle(alloc, &mut pending, 0, 4)?;
+    assert!(rt; asked(alloc, &pending, 0)? == None);
     Ok(())
 }
 
 #[test]
 fn the_least_level_of_a_node_waits(rt: HostRuntime) -> Result<(), Refusal> {
     let alloc = rt.alloc();
-    let zero = proc_of(alloc, 0)?;
     let mut pending = Pending::new(alloc);
-    hold(&mut pending, 2, &zero, 5)?;
-    hold(&mut pending, 2, &zero, 4)?;
-    hold(&mut pending, 2, &zero, 6)?;
-    assert!(rt; are_due(&pending, &zero, 4, &[])?);
-    assert!(rt; are_due(&pending, &zero, 5, &[(2, 4)])?);
+    for level in [5, 4, 6] {
+        hold(alloc, &mut pending, 2, 0, level)?;
+    }
+    assert!(rt; are_due(alloc, &pending, 0, 4, &[])?);
+    assert!(rt; are_due(alloc, &pending, 0, 5, &[(2, 4)])?);
     Ok(())
 }
 
 #[test]
 fn nodes_are_due_in_order_and_settled(rt: HostRuntime) -> Result<(), Refusal> {
     let alloc = rt.alloc();
-    let (zero, one) = (proc_of(alloc, 0)?, proc_of(alloc, 1)?);
     let mut pending = Pending::new(alloc);
-    hold(&mut pending, 3, &zero, 1)?;
-    hold(&mut pending, 1, &zero, 0)?;
-    hold(&mut pending, 2, &zero, 2)?;
-    hold(&mut pending, 1, &one, 0)?;
-    assert!(rt; are_due(&pending, &zero, 2, &[(1, 0), (3, 1)])?);
-    pending.settle(&zero, 2);
-    assert!(rt; are_due(&pending, &zero, 9, &[(2, 2)])?);
-    assert!(rt; are_due(&pending, &one, 1, &[(1, 0)])?);
+    for (node, rank, level) in [(3, 0, 1), (1, 0, 0), (2, 0, 2), (1, 1, 0)] {
+        hold(alloc, &mut pending, node, rank, level)?;
+    }
+    assert!(rt; are_due(alloc, &pending, 0, 2, &[(1, 0), (3, 1)])?);
+    settle(alloc, &mut pending, 0, 2)?;
+    assert!(rt; are_due(alloc, &pending, 0, 9, &[(2, 2)])?);
+    assert!(rt; are_due(alloc, &pending, 1, 1, &[(1, 0)])?);
     Ok(())
+}
+
+// What a copy holds after the ask and the hold of process 0, where both are settled then.
+fn copied(alloc: Global) -> Result<Pending, Refusal> {
+    let mut pending = Pending::new(alloc);
+    hold(alloc, &mut pending, 1, 0, 0)?;
+    ask(alloc, &mut pending, 0, 7)?;
+    let copy = pending.copy()?;
+    settle(alloc, &mut pending, 0, 8)?;
+    Ok(copy)
 }
 
 #[test]
 fn a_copy_waits_by_itself(rt: HostRuntime) -> Result<(), Refusal> {
-    let alloc = rt.alloc();
-    let zero = proc_of(alloc, 0)?;
-    let mut pending = Pending::new(alloc);
-    hold(&mut pending, 1, &zero, 0)?;
-    pending.ask(&zero, 7)?;
-    let copy = pending.copy()?;
-    pending.settle(&zero, 8);
-    assert!(rt; are_due(&copy, &zero, 1, &[(1, 0)])?);
-    assert!(rt; copy.asked(&zero) == Some(7));
+    let copy = copied(rt.alloc())?;
+    assert!(rt; are_due(rt.alloc(), &copy, 0, 1, &[(1, 0)])?);
+    assert!(rt; asked(rt.alloc(), &copy, 0)? == Some(7));
     Ok(())
+}
+
+// The calls of `Marks`, of a node and of the process of that rank.
+
+fn set(alloc: Global, marks: &mut Marks, node: u32, rank: u32, mark: u64) -> Result<(), Refusal> {
+    let node = NodeId::new(node)?;
+    marks.set(node, &proc_of(alloc, rank)?, mark)?;
+    Ok(())
+}
+
+fn from(alloc: Global, marks: &Marks, node: u32, rank: u32) -> Result<u64, Refusal> {
+    let node = NodeId::new(node)?;
+    Ok(marks.from(node, &proc_of(alloc, rank)?))
 }
 
 #[test]
 fn a_mark_is_set_up_and_down(rt: HostRuntime) -> Result<(), Refusal> {
     let alloc = rt.alloc();
-    let zero = proc_of(alloc, 0)?;
-    let one = NodeId::new(1)?;
     let mut marks = Marks::new(alloc);
-    assert!(rt; marks.from(one, &zero) == 0);
-    marks.set(one, &zero, 7)?;
-    assert!(rt; marks.from(one, &zero) == 7);
-    marks.set(one, &zero, 4)?;
-    assert!(rt; marks.from(one, &zero) == 4);
+    assert!(rt; from(alloc, &marks, 1, 0)? == 0);
+    for mark in [7, 4] {
+        set(alloc, &mut marks, 1, 0, mark)?;
+        assert!(rt; from(alloc, &marks, 1, 0)? == mark);
+    }
     Ok(())
+}
+
+// Marks with one, and with two more after they were copied.
+fn two_marks(alloc: Global) -> Result<(Marks, Marks), Refusal> {
+    let mut marks = Marks::new(alloc);
+    set(alloc, &mut marks, 1, 0, 7)?;
+    let copy = marks.copy()?;
+    set(alloc, &mut marks, 2, 0, 8)?;
+    set(alloc, &mut marks, 1, 1, 9)?;
+    Ok((copy, marks))
 }
 
 #[test]
 fn other_marks_stay(rt: HostRuntime) -> Result<(), Refusal> {
     let alloc = rt.alloc();
-    let (zero, one) = (proc_of(alloc, 0)?, proc_of(alloc, 1)?);
-    let (first, second) = (NodeId::new(1)?, NodeId::new(2)?);
-    let mut marks = Marks::new(alloc);
-    marks.set(first, &zero, 7)?;
-    let copy = marks.copy()?;
-    marks.set(second, &zero, 8)?;
-    marks.set(first, &one, 9)?;
-    assert!(rt; marks.from(first, &zero) == 7);
-    assert!(rt; copy.from(second, &zero) == 0);
-    assert!(rt; copy.from(first, &zero) == 7);
+    let (copy, marks) = two_marks(alloc)?;
+    assert!(rt; from(alloc, &marks, 1, 0)? == 7);
+    assert!(rt; from(alloc, &copy, 2, 0)? == 0);
+    assert!(rt; from(alloc, &copy, 1, 0)? == 7);
     Ok(())
 }
 

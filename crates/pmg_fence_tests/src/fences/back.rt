@@ -12,20 +12,36 @@ use pmg_value::{NodeId, Refusal};
 type Seen = ([bool; 5], [u64; 2]);
 
 fn seen(table: &Table, meeting: Meeting) -> Result<Seen, Refusal> {
-    let (first, second) = (meeting.name(1)?, meeting.name(2)?);
-    let (zero, one) = (NodeId::new(0)?, NodeId::new(1)?);
-    let count = table.count(&meeting.signature()?, &process(meeting.alloc, 0)?);
-    let mut copy = table.copy()?;
     Ok((
         [
-            table.has_name(&first),
-            table.has_name(&second),
-            table.has_header(&first, zero),
-            table.has_header(&first, one),
-            table.has_header(&second, zero),
+            has_name(table, meeting, 1)?,
+            has_name(table, meeting, 2)?,
+            has_header(table, meeting, 1, 0)?,
+            has_header(table, meeting, 1, 1)?,
+            has_header(table, meeting, 2, 0)?,
         ],
-        [count, copy.take_headers().len() as u64],
+        [count(table, meeting)?, waiting(table)?],
     ))
+}
+
+fn has_name(table: &Table, meeting: Meeting, instance: u64) -> Result<bool, Refusal> {
+    Ok(table.has_name(&meeting.name(instance)?))
+}
+
+fn has_header(table: &Table, meeting: Meeting, instance: u64, node: u32) -> Result<bool, Refusal> {
+    let node = NodeId::new(node)?;
+    Ok(table.has_header(&meeting.name(instance)?, node))
+}
+
+// How often process 0 entered.
+fn count(table: &Table, meeting: Meeting) -> Result<u64, Refusal> {
+    let proc = process(meeting.alloc, 0)?;
+    Ok(table.count(&meeting.signature()?, &proc))
+}
+
+// How many headers wait.
+fn waiting(table: &Table) -> Result<u64, Refusal> {
+    Ok(table.copy()?.take_headers().len() as u64)
 }
 
 fn note_entry(table: &mut Table, meeting: Meeting, rank: u32) -> Result<TableBefore, Refusal>
@@ -50,8 +66,7 @@ fn enters_and_back(table: &mut Table, meeting: Meeting) -> Result<[Seen; 2], Ref
 }
 
 fn learns_and_back(table: &mut Table, meeting: Meeting) -> Result<[Seen; 2], Refusal> {
-    let name = meeting.name(2)?;
-    let before = table.note(&name, Change::Learned)?;
+    let before = table.note(&meeting.name(2)?, Change::Learned)?;
     let there = seen(table, meeting)?;
     table.take_back(before);
     Ok([there, seen(table, meeting)?])
@@ -62,19 +77,24 @@ fn is_told_and_back(
     meeting: Meeting,
     header: Header,
 ) -> Result<[Seen; 2], Refusal> {
-    let name = meeting.name(1)?;
-    let before = table.note(&name, Change::Told(header))?;
+    let before = table.note(&meeting.name(1)?, Change::Told(header))?;
     let there = seen(table, meeting)?;
     table.take_back(before);
     Ok([there, seen(table, meeting)?])
 }
 
 fn ends_and_back(table: &mut Table, meeting: Meeting) -> Result<[Seen; 2], Refusal> {
-    let proc = process(meeting.alloc, 0)?;
-    let before = table.end(&proc, 2)?;
+    let before = table.end(&process(meeting.alloc, 0)?, 2)?;
     let there = seen(table, meeting)?;
     table.take_back(before);
     Ok([there, seen(table, meeting)?])
+}
+
+// The first entry, taken back, and then the second, after one that stays.
+fn enter_twice(table: &mut Table, meeting: Meeting) -> Result<[[Seen; 2]; 2], Refusal> {
+    let first = enters_and_back(table, meeting)?;
+    meeting.enter(table, 0, 0)?;
+    Ok([first, enters_and_back(table, meeting)?])
 }
 
 #[test]
@@ -84,14 +104,11 @@ fn entries_are_taken_back(rt: HostRuntime) -> Result<(), Refusal> {
         count: 2,
         collect: false,
     };
-    let mut table = table(meeting.alloc, 0)?;
-    let found = enters_and_back(&mut table, meeting)?;
-    assert!(rt; found[0] == ([true, false, true, false, false], [1, 1]));
-    assert!(rt; found[1] == ([false, false, false, false, false], [0, 0]));
-    meeting.enter(&mut table, 0, 0)?;
-    let found = enters_and_back(&mut table, meeting)?;
-    assert!(rt; found[0] == ([true, true, true, false, true], [2, 2]));
-    assert!(rt; found[1] == ([true, false, true, false, false], [1, 1]));
+    let [first, second] = enter_twice(&mut table(meeting.alloc, 0)?, meeting)?;
+    assert!(rt; first[0] == ([true, false, true, false, false], [1, 1]));
+    assert!(rt; first[1] == ([false, false, false, false, false], [0, 0]));
+    assert!(rt; second[0] == ([true, true, true, false, true], [2, 2]));
+    assert!(rt; second[1] == ([true, false, true, false, false], [1, 1]));
     Ok(())
 }
 
@@ -109,22 +126,27 @@ fn what_is_learned_is_taken_back(rt: HostRuntime) -> Result<(), Refusal> {
         count: 2,
         collect: false,
     };
-    let mut table = entered_table(meeting)?;
-    let found = learns_and_back(&mut table, meeting)?;
-    assert!(rt; found[0] == ([true, true, true, false, false], [1, 1]));
-    assert!(rt; found[1] == ([true, false, true, false, false], [1, 1]));
-    let found = ends_and_back(&mut table, meeting)?;
-    assert!(rt; found[0] == ([true, false, true, false, true], [1, 1]));
-    assert!(rt; found[1] == ([true, false, true, false, false], [1, 1]));
+    let learned = learns_and_back(&mut entered_table(meeting)?, meeting)?;
+    assert!(rt; learned[0] == ([true, true, true, false, false], [1, 1]));
+    assert!(rt; learned[1] == ([true, false, true, false, false], [1, 1]));
+    let ended = ends_and_back(&mut entered_table(meeting)?, meeting)?;
+    assert!(rt; ended[0] == ([true, false, true, false, true], [1, 1]));
+    assert!(rt; ended[1] == ([true, false, true, false, false], [1, 1]));
     Ok(())
 }
 
-// The header of node 1, told to node 0 and taken back.
-fn tells_and_back(meeting: Meeting) -> Result<Option<[Seen; 2]>, Refusal> {
+// The header of node 1, once process 1 has entered the first fence.
+fn header_of_one(meeting: Meeting) -> Result<Option<Header>, Refusal> {
     let mut one = table(meeting.alloc, 1)?;
     meeting.enter(&mut one, 1, 0)?;
-    match one.take_header() {
-        Some(header) => Ok(Some(is_told_and_back(&mut entered_table(meeting)?, meeting, header)?)),
+    Ok(one.take_header())
+}
+
+// That header, told to node 0 and taken back.
+fn tells_and_back(meeting: Meeting) -> Result<Option<[Seen; 2]>, Refusal> {
+    let mut zero = entered_table(meeting)?;
+    match header_of_one(meeting)? {
+        Some(header) => Ok(Some(is_told_and_back(&mut zero, meeting, header)?)),
         None => Ok(None),
     }
 }
