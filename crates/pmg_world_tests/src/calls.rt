@@ -5,6 +5,7 @@ use pmg_frame::FenceName;
 use pmg_holding::{Call, Calls, Found, Settled};
 use pmg_value::{Proc, Refusal};
 use std::alloc::Global;
+use std::process::Abort;
 
 // A fence of process 0, of that kind.
 fn fence(alloc: Global, kind: &str) -> Result<FenceName, Refusal> {
@@ -19,26 +20,46 @@ fn begin(calls: &mut Calls, proc: Proc, call: Call) -> Result<(), Refusal> {
     Ok(())
 }
 
+// The process enters the fence of that kind.
+fn enter(calls: &mut Calls, alloc: Global, who: &str, kind: &str) -> Result<(), Refusal> {
+    let proc = process(alloc, who)?;
+    begin(calls, proc, Call::InFence(fence(alloc, kind)?))
+}
+
+// A get of process 1 waits for a key of process 2.
+fn park(calls: &mut Calls, alloc: Global) -> Result<(), Refusal> {
+    let parked = Call::Parked(process(alloc, "j2")?, key(alloc, "k")?);
+    begin(calls, process(alloc, "j1")?, parked)
+}
+
 // The get of process 1 waits for a key of process 2; the others are in a fence each.
 fn three_calls(alloc: Global) -> Result<Calls, Refusal> {
     let mut calls = Calls::new(alloc);
-    let collecting = Call::InFence(fence(alloc, "collect")?);
-    begin(&mut calls, process(alloc, "j0")?, collecting)?;
-    let parked = Call::Parked(process(alloc, "j2")?, key(alloc, "k")?);
-    begin(&mut calls, process(alloc, "j1")?, parked)?;
-    let plain = Call::InFence(fence(alloc, "plain")?);
-    begin(&mut calls, process(alloc, "j2")?, plain)?;
+    enter(&mut calls, alloc, "j0", "collect")?;
+    park(&mut calls, alloc)?;
+    enter(&mut calls, alloc, "j2", "plain")?;
     Ok(calls)
+}
+
+// How many gets wait for a key of the process.
+fn parked_on(calls: &Calls, alloc: Global, name: &str) -> Result<usize, Refusal> {
+    Ok(calls.parked_on(&process(alloc, name)?)?.len())
+}
+
+// How many processes wait in the fence.
+fn waiting_in(calls: &Calls, alloc: Global, name: &str) -> Result<usize, Refusal> {
+    Ok(calls.waiting_in(&fence(alloc, name)?)?.len())
 }
 
 // How many gets wait for a key of process 2, how many processes wait in each fence, and in how many
 // fences any wait.
 fn sizes(calls: &Calls, alloc: Global) -> Result<[usize; 4], Refusal> {
+    let waited = calls.waited()?.len();
     Ok([
-        calls.parked_on(&process(alloc, "j2")?)?.len(),
-        calls.waiting_in(&fence(alloc, "collect")?)?.len(),
-        calls.waiting_in(&fence(alloc, "plain")?)?.len(),
-        calls.waited()?.len(),
+        parked_on(calls, alloc, "j2")?,
+        waiting_in(calls, alloc, "collect")?,
+        waiting_in(calls, alloc, "plain")?,
+        waited,
     ])
 }
 
@@ -52,14 +73,17 @@ fn answers(alloc: Global) -> Result<Vec<(Proc, Settled)>, Refusal> {
     Ok(answers)
 }
 
-#[test]
-fn answered_calls_wait_no_longer(rt: HostRuntime) -> Result<(), Refusal> {
-    let alloc = rt.alloc();
-    let mut calls = three_calls(alloc)?;
-    assert!(rt; sizes(&calls, alloc)? == [1, 1, 1, 2]);
+// Requires that the three calls wait until they are answered.
+fn assert_answered(rt: &impl Abort, alloc: Global, calls: &mut Calls) -> Result<(), Refusal> {
+    assert!(rt; sizes(calls, alloc)? == [1, 1, 1, 2]);
     calls.answer(answers(alloc)?);
-    assert!(rt; sizes(&calls, alloc)? == [0, 0, 1, 1]);
+    assert!(rt; sizes(calls, alloc)? == [0, 0, 1, 1]);
     let asker = process(alloc, "j1")?;
     assert!(rt; calls.remove(&asker).is_some() && calls.get(&asker).is_none());
     Ok(())
+}
+
+#[test]
+fn answered_calls_wait_no_longer(rt: HostRuntime) -> Result<(), Refusal> {
+    assert_answered(&rt, rt.alloc(), &mut three_calls(rt.alloc())?)
 }

@@ -58,30 +58,31 @@ fn short_answers() -> [Row; 17] {
     ]
 }
 
-fn long_answers(alloc: Global) -> Result<[Row; 6], Refusal> {
-    let string = Value::string(alloc, b"j/0")?;
-    let empty = Value::string(alloc, b"")?;
-    let bytes = Value::bytes(alloc, b"\x00\xff")?;
-    let one = procs(alloc, &[2])?;
-    let three = procs(alloc, &[0, 7, 4095])?;
-    Ok([
-        // a release tells who is gone
-        (
-            false,
-            Ok(Reply::Released(1, Vec::new(alloc))),
-            "released 1 gone -\n",
-        ),
-        (false, Ok(Reply::Released(2, one)), "released 2 gone j/2\n"),
-        (
-            false,
-            Ok(Reply::Released(4294967295, three)),
-            "released 4294967295 gone j/0,j/7,j/4095\n",
-        ),
-        // a value is told as in a dump
-        (false, Ok(Reply::Found(string)), "found string:6a2f30\n"),
-        (false, Ok(Reply::Found(empty)), "found string:\n"),
-        (false, Ok(Reply::Found(bytes)), "found bytes:00ff\n"),
-    ])
+// A release tells who is gone.
+fn tell_release(
+    rt: &impl Abort,
+    alloc: Global,
+    instance: u64,
+    gone: &[u32],
+    want: &str,
+) -> Result<(), Refusal> {
+    let answer = Ok(Reply::Released(instance, procs(alloc, gone)?));
+    let line = reply_line(alloc, false, &answer)?;
+    assert_eq!(rt; shown(&line), want);
+    Ok(())
+}
+
+// A value is told as in a dump.
+fn tell_value(
+    rt: &impl Abort,
+    alloc: Global,
+    value: Result<Value, Refusal>,
+    want: &str,
+) -> Result<(), Refusal> {
+    let answer = Ok(Reply::Found(value?));
+    let line = reply_line(alloc, false, &answer)?;
+    assert_eq!(rt; shown(&line), want);
+    Ok(())
 }
 
 // Each answer has its line.
@@ -97,7 +98,16 @@ fn tell(rt: &impl Abort, alloc: Global, rows: &[Row]) -> Result<(), Refusal> {
 fn each_answer_has_its_line(rt: HostRuntime) -> Result<(), Refusal> {
     let alloc = rt.alloc();
     tell(&rt, alloc, &short_answers())?;
-    tell(&rt, alloc, &long_answers(alloc)?)?;
+    tell_release(&rt, alloc, 1, &[], "released 1 gone -\n")?;
+    tell_release(&rt, alloc, 2, &[2], "released 2 gone j/2\n")?;
+    let want = "released 4294967295 gone j/0,j/7,j/4095\n";
+    tell_release(&rt, alloc, 4_294_967_295, &[0, 7, 4095], want)?;
+    let want = "found string:6a2f30\n";
+    tell_value(&rt, alloc, Value::string(alloc, b"j/0"), want)?;
+    let want = "found string:\n";
+    tell_value(&rt, alloc, Value::string(alloc, b""), want)?;
+    let want = "found bytes:00ff\n";
+    tell_value(&rt, alloc, Value::bytes(alloc, b"\x00\xff"), want)?;
     let members = members_line(alloc, &procs(alloc, &[0, 1])?)?;
     assert_eq!(rt; shown(&members), "members j/0,j/1\n");
     let none = flow_line(alloc, 0)?;

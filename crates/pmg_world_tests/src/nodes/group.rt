@@ -4,7 +4,7 @@ use crate::nodes::words::{batch, frame, key, number, process, request, word, wor
 use pmg_jobinfo::Registry;
 use pmg_node::{Act, Node, Reply, Status};
 use pmg_rules::Sent;
-use pmg_value::{NodeId, Nspace, Refusal, WatchedWriter};
+use pmg_value::{NodeId, Nspace, Refusal, Value, WatchedWriter};
 use std::alloc::{AllocError, Global};
 use std::collections::VecDeque;
 use std::process::Abort;
@@ -74,21 +74,28 @@ fn put_status(text: &mut Vec<u8>, node: &Node, proc: &str, alloc: Global) -> Res
     Ok(())
 }
 
-// Puts who belongs to the set, or why it is not told.
-fn put_members(text: &mut Vec<u8>, node: &Node, name: &str, alloc: Global) -> Result<(), Refusal> {
-    let name = key(alloc, name)?;
-    match node.set_members(&name) {
-        Ok(members) => {
-            put(text, "members")?;
-            for member in members.items() {
-                put(text, " ")?;
-                text.extend_from_slice(&member.to_text(alloc)?)?;
-            }
-        }
-        Err(refusal) => put(text, refusal.name())?,
+// Puts the texts of the members.
+fn put_items(text: &mut Vec<u8>, members: &[Value], alloc: Global) -> Result<(), Refusal> {
+    put(text, "members")?;
+    for member in members {
+        put(text, " ")?;
+        text.extend_from_slice(&member.to_text(alloc)?)?;
     }
     put(text, "\n")?;
     Ok(())
+}
+
+// Puts who belongs to the set, or why it is not told.
+fn put_members(text: &mut Vec<u8>, node: &Node, name: &str, alloc: Global) -> Result<(), Refusal> {
+    let members = node.set_members(&key(alloc, name)?);
+    match members {
+        Ok(members) => put_items(text, members.items(), alloc),
+        Err(refusal) => {
+            put(text, refusal.name())?;
+            put(text, "\n")?;
+            Ok(())
+        }
+    }
 }
 
 fn dump_lines(alloc: Global, node: &Node) -> Result<Vec<u8>, Refusal> {
