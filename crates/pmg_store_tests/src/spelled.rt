@@ -19,6 +19,9 @@ direct-ask 01 05 00000012 00000001 016a 00000000 0000000000000003
 host-ask 01 04 0000001a 00000001 09706d69782e686f7374 00000000 0000000000000000
 ";
 
+/// The dump of the frame `piece`, which has 45 bytes.
+pub const PIECE_DUMPED: &[u8; 31] = b"proc j 0 level 1\n  bool:true a\n";
+
 /// The first commit of the process 0 of j, with true under each key.
 pub fn first_commit(alloc: Global, keys: &[&[u8]]) -> Result<Piece, Refusal> {
     let mut entries = Vec::with_capacity(alloc, keys.len())?;

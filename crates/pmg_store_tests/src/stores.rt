@@ -2,7 +2,7 @@
 //! that they hold what a plain list of pieces does; and that they are as they were where memory ran out.
 use crate::making::{ORDERS, drawn, next_number, piece, small, three};
 use crate::plain::Plain;
-use crate::spelled::{edited, first_commit};
+use crate::spelled::{PIECE_DUMPED, edited, first_commit};
 use pmg_commit::Piece;
 use pmg_join::{Join, join_all};
 use pmg_store::{Board, Failure, Store, store_of_stream};
@@ -11,9 +11,6 @@ use std::alloc::Global;
 use std::process::Abort;
 
 const ONE_DUMPED: &[u8] = b"proc j 0 level 1\n  u8:1 a\n";
-
-// The dump of the frame `piece`.
-const DUMPED: &[u8] = b"proc j 0 level 1\n  bool:true a\n";
 
 const THREE_DUMPED: &[u8] = b"proc j 0 level 3\n  u8:2 a\n  u8:3 b\n";
 
@@ -132,8 +129,8 @@ fn refused_memory_leaves_a_store_as_it_was(rt: HostRuntime) -> Result<(), Failur
     let alloc = rt.alloc();
     let other = store_of_stream(alloc, &edited(alloc, "piece")?)?;
     let mut store = Store::new(alloc);
-    join(&rt, alloc, &mut store, other, DUMPED)?;
-    assert!(rt; is_dumped(alloc, &store, DUMPED)?);
+    join(&rt, alloc, &mut store, other, PIECE_DUMPED)?;
+    assert!(rt; is_dumped(alloc, &store, PIECE_DUMPED)?);
     Ok(())
 }
 

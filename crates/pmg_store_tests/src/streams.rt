@@ -1,5 +1,5 @@
 //! What no clause says: that streams are read, merged and dumped, and what is left where a reader or a writer fails.
-use crate::spelled::edited;
+use crate::spelled::{PIECE_DUMPED, edited};
 use pmg_store::{
     Failure, INPUT_LIMIT, WatchedReader, dump_stream, merge_inputs, merge_streams, read_input,
 };
@@ -7,9 +7,6 @@ use pmg_value::{Cause, Refusal, WatchedWriter};
 use std::alloc::Global;
 use std::io;
 use std::io::{ErrorKind, Read, Write};
-
-// The dump of the frame `piece`, which has 45 bytes.
-const DUMPED: &[u8; 31] = b"proc j 0 level 1\n  bool:true a\n";
 
 // Gives one byte a read. The read of number `fails_at` fails with an error of that kind.
 #[derive(Drop)]
@@ -107,7 +104,7 @@ fn a_failed_write_leaves_a_prefix(rt: HostRuntime) -> Result<(), Failure> {
         let mut writer = WatchedWriter::new(Short { held, most });
         let failure = with_memory(dump_stream(alloc, &mut reader, &mut writer).err())?;
         assert!(rt; failure == (most < 31).then_some(Failure::Write));
-        assert!(rt; Some(writer.into_inner().held.as_slice()) == DUMPED.get(..most));
+        assert!(rt; Some(writer.into_inner().held.as_slice()) == PIECE_DUMPED.get(..most));
     }
     Ok(())
 }
@@ -133,7 +130,9 @@ fn streams_are_merged_up_to_a_fault(rt: HostRuntime) -> Result<(), Failure> {
     let none = Vec::new(alloc);
     for (first, second) in [(&whole, &none), (&none, &whole), (&whole, &whole)] {
         let [read, held] = merged(alloc, first, second)?;
-        assert!(rt; read.as_slice() == DUMPED.as_slice() && held.as_slice() == DUMPED.as_slice());
+        assert!(rt;
+            read.as_slice() == PIECE_DUMPED.as_slice() && held.as_slice() == PIECE_DUMPED.as_slice()
+        );
     }
     let cut = edited(alloc, "piece ..44")?;
     let late = with_memory(merged(alloc, &whole, &cut).err())?;
