@@ -17,7 +17,7 @@ use std::collections::BTreeMap;
 use std::marker::Model;
 
 /// The put under a key that was sealed last: the number of its commit, and the value.
-#[derive(Debug, Drop)]
+#[derive(Drop)]
 pub struct SealedPut {
     number: u64,
     value: Value,
@@ -49,7 +49,7 @@ impl Copied for SealedPut {
 }
 
 /// The put that was sealed last under each key.
-#[derive(Debug, Drop)]
+#[derive(Drop)]
 pub struct LastPuts {
     rows: BTreeMap<Key, SealedPut>,
 }

@@ -23,7 +23,7 @@ pub const MAX_PIECE_SIZE: usize = 16_777_216;
 
 /// One key's entry: the number of the commit that sealed it, and the value that was put
 /// (PMIx Standard 5.0, PMIx_Put and PMIx_Commit).
-#[derive(Debug, Drop)]
+#[derive(Drop)]
 pub struct PieceEntry {
     pub key: Key,
     pub number: u64,
@@ -87,12 +87,17 @@ impl PieceEntry {
 }
 
 /// A contribution: what a process sealed in its commits from+1 to to. It fits into a frame.
-#[derive(Debug, Drop)]
 pub struct Piece {
     proc: Proc,
     from: u64,
     to: u64,
     entries: Vec<PieceEntry>,
+}
+
+impl Drop for Piece {
+    fn drop(self) {
+        let Piece { proc: _, from: _, to: _, entries: _ } = self;
+    }
 }
 
 impl Model for Piece {

@@ -33,7 +33,6 @@ use std::marker::Model;
 
 /// What the commits of one process sealed: under each key what was sealed last, with the number of its commit
 /// (PMIx Standard 5.0, PMIx_Commit; the numbers are this project's).
-#[derive(Drop)]
 pub struct Sealer {
     alloc: Global,
     proc: Proc,
@@ -41,6 +40,12 @@ pub struct Sealer {
     ended: bool,
     near: Stamps,
     far: Stamps,
+}
+
+impl Drop for Sealer {
+    fn drop(self) {
+        let Sealer { alloc: _, proc: _, level: _, ended: _, near: _, far: _ } = self;
+    }
 }
 
 impl Model for Sealer {
@@ -57,7 +62,7 @@ impl Model for Sealer {
 }
 
 /// What a sealer was before a commit, by which it can be taken back.
-#[derive(Debug, Drop)]
+#[derive(Drop)]
 pub struct SealerBefore {
     level: u64,
     ended: bool,

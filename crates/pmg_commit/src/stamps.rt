@@ -17,7 +17,7 @@ use std::alloc::{AllocError, Global};
 use std::marker::Model;
 
 /// What a process's commits sealed last under each key, with what it counts for.
-#[derive(Debug, Drop)]
+#[derive(Drop)]
 pub struct Stamps {
     puts: LastPuts,
     size: usize,
@@ -37,7 +37,7 @@ impl Model for Stamps {
 }
 
 /// What stamps were before a commit, by which it can be taken back.
-#[derive(Debug, Drop)]
+#[derive(Drop)]
 pub struct StampsBefore {
     size: usize,
     puts: Vec<(Key, Option<SealedPut>)>,

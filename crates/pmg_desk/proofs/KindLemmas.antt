@@ -12,6 +12,7 @@ use Rattle.pmg_get.specs.declared.view.Mode.{Mode}
 use Rattle.pmg_rules.specs.Acts.{Act, Reply, Request, acts, asks, cause, does, done_as, is_taken, leaves, receives, serves, takes}
 use Rattle.pmg_rules.specs.Holdings.{Get, Holding, Standing, answer_in, call_of}
 use Rattle.pmg_node.specs.Acting.{act_of, reply_as}
+use Rattle.pmg_node.specs.Kinds.{IsDefined}
 use Rattle.pmg_node.specs.Opening.{new_server}
 use Rattle.pmg_node.specs.Servers.{Server, reply_in}
 use Rattle.pmg_node.specs.declared.act.Act.{Act as GivenAct}
@@ -19,7 +20,7 @@ use Rattle.pmg_node.specs.declared.act.Reply.{Reply as GivenReply}
 use Rattle.pmg_node.specs.declared.act.Reply.TheVariants as replies
 use Rattle.pmg_publish.specs.declared.counting.Publication.{Publication}
 use Rattle.pmg_desk.specs.Journals.{IsEvent}
-use Rattle.pmg_desk.specs.Kinds.{IsChange, IsDefined, IsKind, IsReplyTo, OrRefused, Tell}
+use Rattle.pmg_desk.specs.Kinds.{IsChange, IsKind, IsReplyTo, OrRefused, Tell}
 use Rattle.pmg_desk.specs.Replays.{after_all, happening}
 use Rattle.pmg_desk.specs.States.{Steps}
 use Rattle.pmg_desk.specs.Telling.{IsToldOf}

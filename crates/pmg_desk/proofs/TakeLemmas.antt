@@ -17,12 +17,13 @@ use Rattle.pmg_rules.proofs.Moving.{Moves, StaysOrMoves, does_call}
 use Rattle.pmg_rules.specs.Acts.{Act, Request, cause, does, serves, takes}
 use Rattle.pmg_rules.specs.Holdings.{Get, Holding, Standing, answer_in, call_of, released_by, settle, settled_by}
 use Rattle.pmg_node.specs.Acting.{reply_as}
+use Rattle.pmg_node.specs.Kinds.{IsTaking}
 use Rattle.pmg_node.specs.Opening.{new_server}
 use Rattle.pmg_node.specs.Servers.{Server, after, reply_in, reply_to}
 use Rattle.pmg_node.specs.declared.act.Reply.{Reply as GivenReply}
 use Rattle.pmg_publish.specs.declared.counting.Publication.{Publication}
 use Rattle.pmg_desk.specs.Journals.{IsEvent}
-use Rattle.pmg_desk.specs.Kinds.{IsTaking, OrRefused}
+use Rattle.pmg_desk.specs.Kinds.{OrRefused}
 use Rattle.pmg_desk.specs.Replays.{Happening, after_all, happening}
 use Rattle.pmg_desk.specs.Telling.{IsToldOf}
 use Rattle.pmg_desk.proofs.KindLemmas.{plain}

@@ -29,11 +29,16 @@ use std::marker::Model;
 use std::sync::Wait;
 
 /// One process at home at a desk's node, as its thread calls the server.
-#[derive(Drop)]
 pub struct Client<'d> {
     pub(crate) desk: &'d Desk,
     pub(crate) viewer: Viewer,
     pub(crate) notes: Notes,
+}
+
+impl Drop for Client<'_> {
+    fn drop(self) {
+        let Client { desk: _, viewer: _, notes: _ } = self;
+    }
 }
 
 impl<'d> Model for Client<'d> {
@@ -259,7 +264,10 @@ impl<'d> Client<'d> {
     {
         let answer = self.end(rt);
         match answer {
-            Ok(_) => Ok(self.notes.into_transcript()),
+            Ok(_) => {
+                let Client { desk: _, viewer: _, notes } = self;
+                Ok(notes.into_transcript())
+            }
             Err(refusal) => Err(Unended {
                 refusal,
                 client: self,

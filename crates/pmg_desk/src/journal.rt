@@ -10,7 +10,6 @@ use pmg_value::{NodeId, Refusal, copy_all};
 use std::alloc::AllocError;
 
 /// What was asked of a node, and what it answered.
-#[derive(Debug, Drop)]
 pub struct Event {
     /// What was asked.
     pub act: Act,
@@ -18,8 +17,13 @@ pub struct Event {
     pub answer: Result<Reply, Refusal>,
 }
 
+impl Drop for Event {
+    fn drop(self) {
+        let Event { act: _, answer: _ } = self;
+    }
+}
+
 /// What happened at a node, from its start on.
-#[derive(Debug, Drop)]
 pub struct Journal {
     /// The node's index.
     pub node: NodeId,
@@ -27,6 +31,12 @@ pub struct Journal {
     pub registry: Registry,
     /// What happened, in its order.
     pub events: Vec<Event>,
+}
+
+impl Drop for Journal {
+    fn drop(self) {
+        let Journal { node: _, registry: _, events: _ } = self;
+    }
 }
 
 /// A copy, the same act.

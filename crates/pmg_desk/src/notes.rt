@@ -23,11 +23,16 @@ use std::alloc::{AllocError, Global};
 use std::marker::Model;
 
 /// A client's transcript, with what follows from it: what the client put, and whether a call of it waits.
-#[derive(Drop)]
 pub(crate) struct Notes {
     transcript: Transcript,
     cache: Cache,
     in_call: bool,
+}
+
+impl Drop for Notes {
+    fn drop(self) {
+        let Notes { transcript: _, cache: _, in_call: _ } = self;
+    }
 }
 
 impl Model for Notes {

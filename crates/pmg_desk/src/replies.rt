@@ -2,20 +2,20 @@
 ghost use Rattle.std.specs.Prelude.{◌≡◌, IfOk, IfSome, IsNone};
 ghost use Rattle.pmg_rules.specs.Acts.{Reply as ModelReply};
 ghost use Rattle.pmg_node.specs.Acting.{reply_as};
+ghost use Rattle.pmg_node.specs.Kinds.{IsAsked, IsCommitted, IsDefined, IsDelivery, IsDone, IsEnded, IsEntered, IsRelease, IsTaking};
 ghost use Rattle.pmg_node.specs.Replies.{asked_reply, delivery_reply, release_reply, taking_reply};
 ghost use Rattle.pmg_desk.specs.Answered.{SameAnswer};
-ghost use Rattle.pmg_desk.specs.Kinds.{IsAsked, IsCommitted, IsDefined, IsDelivery, IsDone, IsEnded, IsEntered, IsRelease, IsTaking};
 
 use pmg_node::{Asked, Delivery, Release, Reply, Taking};
 use pmg_value::Refusal;
 
 /// The number of a commit.
-fn committed_in(reply: Reply) -> Option<u64>
-    ensures some { IfSome result (λ x. ModelReply.committed x ≡ reply_as reply) }
-    ensures none { IsNone result → IsCommitted (reply_as reply) → ⊥ }
+fn committed_in(reply: &Reply) -> Option<u64>
+    ensures some { IfSome result (λ x. ModelReply.committed x ≡ reply_as reply.now) }
+    ensures none { IsNone result → IsCommitted (reply_as reply.now) → ⊥ }
 {
     match reply {
-        Reply::Committed(number) => Some(number),
+        Reply::Committed(number) => Some(*number),
         _ => None,
     }
 }
@@ -26,7 +26,7 @@ pub(crate) fn committed_by(answer: Result<Reply, Refusal>) -> Result<u64, Refusa
     ensures { SameAnswer ModelReply.committed reply_as result answer }
 {
     match answer {
-        Ok(reply) => match committed_in(reply) {
+        Ok(reply) => match committed_in(&reply) {
             Some(told) => Ok(told),
             None => unreachable!(),
         },
@@ -35,12 +35,12 @@ pub(crate) fn committed_by(answer: Result<Reply, Refusal>) -> Result<u64, Refusa
 }
 
 /// The instance of a fence that is entered.
-fn entered_in(reply: Reply) -> Option<u64>
-    ensures some { IfSome result (λ x. ModelReply.entered x ≡ reply_as reply) }
-    ensures none { IsNone result → IsEntered (reply_as reply) → ⊥ }
+fn entered_in(reply: &Reply) -> Option<u64>
+    ensures some { IfSome result (λ x. ModelReply.entered x ≡ reply_as reply.now) }
+    ensures none { IsNone result → IsEntered (reply_as reply.now) → ⊥ }
 {
     match reply {
-        Reply::Entered(instance) => Some(instance),
+        Reply::Entered(instance) => Some(*instance),
         _ => None,
     }
 }
@@ -51,7 +51,7 @@ pub(crate) fn entered_by(answer: Result<Reply, Refusal>) -> Result<u64, Refusal>
     ensures { SameAnswer ModelReply.entered reply_as result answer }
 {
     match answer {
-        Ok(reply) => match entered_in(reply) {
+        Ok(reply) => match entered_in(&reply) {
             Some(told) => Ok(told),
             None => unreachable!(),
         },
@@ -60,12 +60,12 @@ pub(crate) fn entered_by(answer: Result<Reply, Refusal>) -> Result<u64, Refusal>
 }
 
 /// The number of the last commit of a process that ended.
-fn ended_in(reply: Reply) -> Option<u64>
-    ensures some { IfSome result (λ x. ModelReply.ended x ≡ reply_as reply) }
-    ensures none { IsNone result → IsEnded (reply_as reply) → ⊥ }
+fn ended_in(reply: &Reply) -> Option<u64>
+    ensures some { IfSome result (λ x. ModelReply.ended x ≡ reply_as reply.now) }
+    ensures none { IsNone result → IsEnded (reply_as reply.now) → ⊥ }
 {
     match reply {
-        Reply::Ended(number) => Some(number),
+        Reply::Ended(number) => Some(*number),
         _ => None,
     }
 }
@@ -76,7 +76,7 @@ pub(crate) fn ended_by(answer: Result<Reply, Refusal>) -> Result<u64, Refusal>
     ensures { SameAnswer ModelReply.ended reply_as result answer }
 {
     match answer {
-        Ok(reply) => match ended_in(reply) {
+        Ok(reply) => match ended_in(&reply) {
             Some(told) => Ok(told),
             None => unreachable!(),
         },
@@ -85,12 +85,12 @@ pub(crate) fn ended_by(answer: Result<Reply, Refusal>) -> Result<u64, Refusal>
 }
 
 /// The number of a change of the process sets.
-fn defined_in(reply: Reply) -> Option<u64>
-    ensures some { IfSome result (λ x. ModelReply.defined x ≡ reply_as reply) }
-    ensures none { IsNone result → IsDefined (reply_as reply) → ⊥ }
+fn defined_in(reply: &Reply) -> Option<u64>
+    ensures some { IfSome result (λ x. ModelReply.defined x ≡ reply_as reply.now) }
+    ensures none { IsNone result → IsDefined (reply_as reply.now) → ⊥ }
 {
     match reply {
-        Reply::Defined(number) => Some(number),
+        Reply::Defined(number) => Some(*number),
         _ => None,
     }
 }
@@ -101,24 +101,11 @@ pub(crate) fn defined_by(answer: Result<Reply, Refusal>) -> Result<u64, Refusal>
     ensures { SameAnswer ModelReply.defined reply_as result answer }
 {
     match answer {
-        Ok(reply) => match defined_in(reply) {
+        Ok(reply) => match defined_in(&reply) {
             Some(told) => Ok(told),
             None => unreachable!(),
         },
         Err(refusal) => Err(refusal),
-    }
-}
-
-/// What a process that leaves a fence is told.
-fn release_in(reply: Reply) -> Option<Release>
-    ensures some { IfSome result (λ x. release_reply x ≡ reply_as reply) }
-    ensures none { IsNone result → IsRelease (reply_as reply) → ⊥ }
-{
-    match reply {
-        Reply::Idle => Some(Release::Idle),
-        Reply::Waiting => Some(Release::Waiting),
-        Reply::Released(instance, gone) => Some(Release::Released(instance, gone)),
-        _ => None,
     }
 }
 
@@ -128,23 +115,11 @@ pub(crate) fn release_by(answer: Result<Reply, Refusal>) -> Result<Release, Refu
     ensures { SameAnswer release_reply reply_as result answer }
 {
     match answer {
-        Ok(reply) => match release_in(reply) {
+        Ok(reply) => match reply.into_release() {
             Some(told) => Ok(told),
             None => unreachable!(),
         },
         Err(refusal) => Err(refusal),
-    }
-}
-
-/// What a process that asks for a key is told.
-fn asked_in(reply: Reply) -> Option<Asked>
-    ensures some { IfSome result (λ x. asked_reply x ≡ reply_as reply) }
-    ensures none { IsNone result → IsAsked (reply_as reply) → ⊥ }
-{
-    match reply {
-        Reply::Found(value) => Some(Asked::Found(value)),
-        Reply::Parked => Some(Asked::Parked),
-        _ => None,
     }
 }
 
@@ -154,24 +129,11 @@ pub(crate) fn asked_by(answer: Result<Reply, Refusal>) -> Result<Asked, Refusal>
     ensures { SameAnswer asked_reply reply_as result answer }
 {
     match answer {
-        Ok(reply) => match asked_in(reply) {
+        Ok(reply) => match reply.into_asked() {
             Some(told) => Ok(told),
             None => unreachable!(),
         },
         Err(refusal) => Err(refusal),
-    }
-}
-
-/// What a process that takes an answer is told.
-fn taking_in(reply: Reply) -> Option<Taking>
-    ensures some { IfSome result (λ x. taking_reply x ≡ reply_as reply) }
-    ensures none { IsNone result → IsTaking (reply_as reply) → ⊥ }
-{
-    match reply {
-        Reply::Idle => Some(Taking::Idle),
-        Reply::Waiting => Some(Taking::Waiting),
-        Reply::Found(value) => Some(Taking::Found(value)),
-        _ => None,
     }
 }
 
@@ -181,7 +143,7 @@ pub(crate) fn taking_by(answer: Result<Reply, Refusal>) -> Result<Taking, Refusa
     ensures { SameAnswer taking_reply reply_as result answer }
 {
     match answer {
-        Ok(reply) => match taking_in(reply) {
+        Ok(reply) => match reply.into_taking() {
             Some(told) => Ok(told),
             None => unreachable!(),
         },
@@ -190,9 +152,9 @@ pub(crate) fn taking_by(answer: Result<Reply, Refusal>) -> Result<Taking, Refusa
 }
 
 /// What became of a frame.
-fn delivery_in(reply: Reply) -> Option<Delivery>
-    ensures some { IfSome result (λ x. delivery_reply x ≡ reply_as reply) }
-    ensures none { IsNone result → IsDelivery (reply_as reply) → ⊥ }
+fn delivery_in(reply: &Reply) -> Option<Delivery>
+    ensures some { IfSome result (λ x. delivery_reply x ≡ reply_as reply.now) }
+    ensures none { IsNone result → IsDelivery (reply_as reply.now) → ⊥ }
 {
     match reply {
         Reply::Taken => Some(Delivery::Taken),
@@ -207,7 +169,7 @@ pub(crate) fn delivery_by(answer: Result<Reply, Refusal>) -> Result<Delivery, Re
     ensures { SameAnswer delivery_reply reply_as result answer }
 {
     match answer {
-        Ok(reply) => match delivery_in(reply) {
+        Ok(reply) => match delivery_in(&reply) {
             Some(told) => Ok(told),
             None => unreachable!(),
         },
@@ -216,9 +178,9 @@ pub(crate) fn delivery_by(answer: Result<Reply, Refusal>) -> Result<Delivery, Re
 }
 
 /// That it is done.
-fn done_in(reply: Reply) -> Option<()>
-    ensures some { IfSome result (λ _. ModelReply.done ≡ reply_as reply) }
-    ensures none { IsNone result → IsDone (reply_as reply) → ⊥ }
+fn done_in(reply: &Reply) -> Option<()>
+    ensures some { IfSome result (λ _. ModelReply.done ≡ reply_as reply.now) }
+    ensures none { IsNone result → IsDone (reply_as reply.now) → ⊥ }
 {
     match reply {
         Reply::Done => Some(()),
@@ -232,7 +194,7 @@ pub(crate) fn nudged_by(answer: Result<Reply, Refusal>) -> Result<(), Refusal>
     ensures { SameAnswer (λ _. ModelReply.done) reply_as result answer }
 {
     match answer {
-        Ok(reply) => match done_in(reply) {
+        Ok(reply) => match done_in(&reply) {
             Some(()) => Ok(()),
             None => unreachable!(),
         },

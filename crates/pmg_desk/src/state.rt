@@ -67,7 +67,7 @@ impl Model for State {
 }
 
 /// The answer to an act, for who asked and for its transcript.
-#[derive(Debug, Drop)]
+#[derive(Drop)]
 pub struct Twice {
     /// For who asked.
     pub told: Result<Reply, Refusal>,
@@ -76,7 +76,7 @@ pub struct Twice {
 }
 
 /// What a node answers to an act, and what it joined.
-#[derive(Debug, Drop)]
+#[derive(Drop)]
 struct Done {
     told: Result<Reply, Refusal>,
     joined: Joined,

@@ -6,7 +6,6 @@ use pmg_scope::Scope;
 use pmg_value::{Key, Proc, Refusal, Value};
 
 /// What a client called.
-#[derive(Debug, Drop)]
 pub enum Call {
     /// It puts the value under the key, to be seen as the scope says (PMIx Standard 5.0, PMIx_Put).
     Put(Scope, Key, Value),
@@ -16,8 +15,17 @@ pub enum Call {
     Request(Request),
 }
 
+impl Drop for Call {
+    fn drop(self) {
+        match self {
+            Call::Put(_, _, _) => {}
+            Call::Commit => {}
+            Call::Request(_) => {}
+        }
+    }
+}
+
 /// A call with its answer.
-#[derive(Debug, Drop)]
 pub struct Called {
     /// What was called.
     pub call: Call,
@@ -25,12 +33,23 @@ pub struct Called {
     pub answer: Result<Reply, Refusal>,
 }
 
+impl Drop for Called {
+    fn drop(self) {
+        let Called { call: _, answer: _ } = self;
+    }
+}
+
 /// What a client called, from its start on, but for its reads that wait for nobody. A fence stands there as an entry and a leave,
 /// a get as a question and, where that waits, a take. A call that an allocation failed may be missing.
-#[derive(Debug, Drop)]
 pub struct Transcript {
     /// The client's process.
     pub proc: Proc,
     /// What it called, in its order.
     pub calls: Vec<Called>,
+}
+
+impl Drop for Transcript {
+    fn drop(self) {
+        let Transcript { proc: _, calls: _ } = self;
+    }
 }

@@ -10,7 +10,7 @@ use std::collections::BTreeMap;
 use std::marker::Model;
 
 /// A level for each of some nodes.
-#[derive(Debug, Drop)]
+#[derive(Drop)]
 pub struct NodeLevels {
     alloc: Global,
     rows: BTreeMap<NodeId, u64>,
@@ -86,7 +86,7 @@ impl Copied for NodeLevels {
 }
 
 /// A level for each of some processes and nodes.
-#[derive(Debug, Drop)]
+#[derive(Drop)]
 pub struct Levels {
     alloc: Global,
     rows: BTreeMap<Proc, NodeLevels>,

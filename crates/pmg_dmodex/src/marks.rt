@@ -11,7 +11,7 @@ use std::marker::Model;
 
 /// For each node and process, up to which commit the process's commits were sent to the node. It is where the next
 /// ones begin; it promises nothing of what arrived.
-#[derive(Debug, Drop)]
+#[derive(Drop)]
 pub struct Marks {
     levels: Levels,
 }

@@ -10,7 +10,7 @@ use std::collections::BTreeMap;
 use std::marker::Model;
 
 /// The keys that some processes ask for, one each.
-#[derive(Debug, Drop)]
+#[derive(Drop)]
 struct Askers {
     alloc: Global,
     rows: BTreeMap<Proc, Key>,
@@ -84,7 +84,7 @@ impl Copied for Askers {
 
 /// The gets of a node's own processes that wait, by the process whose key they ask for: what comes to be known of one
 /// process is looked for at the cost of the gets that wait for it alone (PMIx Standard 5.0, PMIx_Get).
-#[derive(Debug, Drop)]
+#[derive(Drop)]
 pub struct Parked {
     alloc: Global,
     rows: BTreeMap<Proc, Askers>,

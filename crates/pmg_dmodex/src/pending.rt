@@ -10,7 +10,7 @@ use std::collections::BTreeMap;
 use std::marker::Model;
 
 /// The level at which each process's home was asked for its commits.
-#[derive(Debug, Drop)]
+#[derive(Drop)]
 struct Asked {
     rows: BTreeMap<Proc, u64>,
 }
@@ -74,11 +74,16 @@ impl Asked {
 
 /// The requests of a node for commits of processes: those that it sent to their homes, and those of other nodes that
 /// wait until a process of this node has commits past the level that they know.
-#[derive(Debug, Drop)]
 pub struct Pending {
     alloc: Global,
     asked: Asked,
     held: Levels,
+}
+
+impl Drop for Pending {
+    fn drop(self) {
+        let Pending { alloc: _, asked: _, held: _ } = self;
+    }
 }
 
 impl Model for Pending {

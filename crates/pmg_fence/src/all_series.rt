@@ -14,7 +14,7 @@ use std::collections::BTreeMap;
 use std::marker::Model;
 
 /// The fences of a table, by their signature.
-#[derive(Debug, Drop)]
+#[derive(Drop)]
 pub struct AllSeries {
     alloc: Global,
     rows: BTreeMap<Signature, Series>,

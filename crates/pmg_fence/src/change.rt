@@ -2,7 +2,7 @@ use pmg_frame::Header;
 use pmg_value::Proc;
 
 /// What becomes known of a fence, beside its name.
-#[derive(Debug, Drop)]
+#[derive(Drop)]
 pub enum Change {
     /// The name alone.
     Learned,

@@ -13,10 +13,18 @@ use std::alloc::{AllocError, Global};
 use std::marker::Model;
 
 /// What is known of one fence: the levels at which own processes entered it, and the headers of other nodes.
-#[derive(Debug, Drop)]
 pub struct Fence {
     levels: Numbers,
     headers: Headers,
+}
+
+impl Drop for Fence {
+    fn drop(self) {
+        let Fence {
+            levels: _,
+            headers: _,
+        } = self;
+    }
 }
 
 impl Model for Fence {
@@ -32,7 +40,6 @@ impl Model for Fence {
 }
 
 /// What was known of a fence before a change, by which it can be taken back.
-#[derive(Debug, Drop)]
 pub enum FenceBefore {
     /// The same.
     Learned,
@@ -40,6 +47,16 @@ pub enum FenceBefore {
     Entered(NumberBefore),
     /// No header of that node, if one has come.
     Told(Option<u64>),
+}
+
+impl Drop for FenceBefore {
+    fn drop(self) {
+        match self {
+            FenceBefore::Learned => {}
+            FenceBefore::Entered(_) => {}
+            FenceBefore::Told(_) => {}
+        }
+    }
 }
 
 impl Fence {

@@ -14,7 +14,7 @@ use std::collections::BTreeMap;
 use std::marker::Model;
 
 /// The headers of one fence, by the index of their node.
-#[derive(Debug, Drop)]
+#[derive(Drop)]
 pub struct Headers {
     alloc: Global,
     rows: BTreeMap<u64, Header>,

@@ -11,7 +11,7 @@ use std::collections::BTreeMap;
 use std::marker::Model;
 
 /// The signatures of fences in which a process takes part, by process.
-#[derive(Debug, Drop)]
+#[derive(Drop)]
 pub struct Index {
     alloc: Global,
     rows: BTreeMap<Proc, Signatures>,

@@ -8,7 +8,7 @@ use std::collections::BTreeMap;
 use std::marker::Model;
 
 /// A number for each of some processes.
-#[derive(Debug, Drop)]
+#[derive(Drop)]
 pub struct Numbers {
     alloc: Global,
     rows: BTreeMap<Proc, u64>,
@@ -29,10 +29,15 @@ impl Model for Numbers {
 }
 
 /// What a process's number was before it was given one, by which that can be taken back.
-#[derive(Debug, Drop)]
 pub struct NumberBefore {
     proc: Proc,
     number: Option<u64>,
+}
+
+impl Drop for NumberBefore {
+    fn drop(self) {
+        let NumberBefore { proc: _, number: _ } = self;
+    }
 }
 
 impl Numbers {

@@ -16,7 +16,7 @@ use std::collections::BTreeMap;
 use std::marker::Model;
 
 /// Fences of one signature, by their instance.
-#[derive(Debug, Drop)]
+#[derive(Drop)]
 pub struct Instances {
     alloc: Global,
     rows: BTreeMap<u64, Fence>,
@@ -112,10 +112,18 @@ impl Instances {
 }
 
 /// The fences of one signature: how often each own process entered them, and what is known of each.
-#[derive(Debug, Drop)]
 pub struct Series {
     counts: Numbers,
     fences: Instances,
+}
+
+impl Drop for Series {
+    fn drop(self) {
+        let Series {
+            counts: _,
+            fences: _,
+        } = self;
+    }
 }
 
 impl Model for Series {
@@ -132,10 +140,15 @@ impl Model for Series {
 
 /// What the fences of one signature were before a change, by which it can be taken back: how often the process that entered
 /// had entered, and what was known of the instance, if anything was.
-#[derive(Debug, Drop)]
 pub struct SeriesBefore {
     count: Option<NumberBefore>,
     fence: Option<FenceBefore>,
+}
+
+impl Drop for SeriesBefore {
+    fn drop(self) {
+        let SeriesBefore { count: _, fence: _ } = self;
+    }
 }
 
 impl Series {

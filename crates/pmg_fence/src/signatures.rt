@@ -15,7 +15,7 @@ use std::marker::Model;
 use std::sync::Arc;
 
 /// A signature that is kept once, for several owners.
-#[derive(Debug, Drop)]
+#[derive(Drop)]
 pub struct Shared {
     handle: Arc<Signature>,
 }
@@ -99,7 +99,7 @@ impl Eq for Shared {
 }
 
 /// Signatures of fences, in their order.
-#[derive(Debug, Drop)]
+#[derive(Drop)]
 pub struct Signatures {
     items: BTreeSet<Shared>,
 }

@@ -34,7 +34,6 @@ use std::mem;
 /// What one node knows of fences: which of its own processes entered them and at which level, which ended, and what the
 /// headers of other nodes tell (PMIx Standard 5.0, PMIx_Fence). Fences are told apart by their signature, that is by their
 /// participants and by whether data is collected; each participant's k-th entry meets the k-th of each other.
-#[derive(Debug, Drop)]
 pub struct Table {
     node: NodeId,
     registry: Registry,
@@ -42,6 +41,19 @@ pub struct Table {
     ends: Numbers,
     waiting: VecDeque<Header>,
     owns: Owns,
+}
+
+impl Drop for Table {
+    fn drop(self) {
+        let Table {
+            node: _,
+            registry: _,
+            series: _,
+            ends: _,
+            waiting: _,
+            owns: _,
+        } = self;
+    }
 }
 
 impl Model for Table {
@@ -115,17 +127,25 @@ fn copy_headers(headers: &VecDeque<Header>) -> Result<VecDeque<Header>, AllocErr
 
 /// What a table was before a change, by which that can be taken back: how many headers waited, and what was known of the
 /// fence or of the process.
-#[derive(Debug, Drop)]
+#[derive(Drop)]
 pub struct TableBefore {
     waiting: usize,
     change: ChangeBefore,
 }
 
 /// What was known of a fence, of whose signature there may have been none, or of a process's end.
-#[derive(Debug, Drop)]
 enum ChangeBefore {
     Fence(FenceName, Option<SeriesBefore>),
     End(NumberBefore),
+}
+
+impl Drop for ChangeBefore {
+    fn drop(self) {
+        match self {
+            ChangeBefore::Fence(_, _) => {}
+            ChangeBefore::End(_) => {}
+        }
+    }
 }
 
 impl Table {

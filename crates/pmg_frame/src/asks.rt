@@ -10,10 +10,15 @@ use std::alloc::AllocError;
 use std::marker::Model;
 
 /// A node asks for another node's header for a fence.
-#[derive(Debug, Drop)]
 pub struct FenceAsk {
     node: NodeId,
     name: FenceName,
+}
+
+impl Drop for FenceAsk {
+    fn drop(self) {
+        let FenceAsk { node: _, name: _ } = self;
+    }
 }
 
 impl Model for FenceAsk {
@@ -28,11 +33,20 @@ impl Model for FenceAsk {
 
 /// A node asks for what a process sealed after the commits up to a level: for those that there are, or, in a direct
 /// modex, for later ones as soon as there are any.
-#[derive(Debug, Drop)]
 pub struct CommitAsk {
     node: NodeId,
     proc: Proc,
     level: u64,
+}
+
+impl Drop for CommitAsk {
+    fn drop(self) {
+        let CommitAsk {
+            node: _,
+            proc: _,
+            level: _,
+        } = self;
+    }
 }
 
 impl Model for CommitAsk {

@@ -18,7 +18,7 @@ pub const MAX_BODY_SIZE: u32 = 16_777_216;
 pub const HEAD_SIZE: usize = 6;
 
 /// What one server sends another.
-#[derive(Debug, Drop)]
+#[derive(Drop)]
 pub enum Frame {
     /// What a process sealed in some of its commits.
     Piece(Piece),

@@ -13,11 +13,20 @@ use std::marker::Model;
 
 /// A fence header: what a node tells of each of its own participants in a fence (PMIx Standard 5.0,
 /// PMIx_Fence). It fits into a frame.
-#[derive(Debug, Drop)]
 pub struct Header {
     node: NodeId,
     name: FenceName,
     locals: Vec<Local>,
+}
+
+impl Drop for Header {
+    fn drop(self) {
+        let Header {
+            node: _,
+            name: _,
+            locals: _,
+        } = self;
+    }
 }
 
 impl Model for Header {

@@ -4,7 +4,7 @@ use pmg_value::{Copied, Proc};
 use std::alloc::AllocError;
 
 /// How a participant stands to a fence: it has entered it, or it terminated before it did.
-#[derive(Clone, Copy, Debug, PartialEq, Eq)]
+#[derive(Clone, Copy, PartialEq, Eq)]
 pub enum State {
     Entered,
     Gone,
@@ -12,11 +12,21 @@ pub enum State {
 
 /// What a header tells of one of its node's own participants: how it stands to the fence, and its level at the
 /// entry, or at its termination.
-#[derive(Debug, Drop, PartialEq, Eq)]
+#[derive(PartialEq, Eq)]
 pub struct Local {
     pub proc: Proc,
     pub state: State,
     pub level: u64,
+}
+
+impl Drop for Local {
+    fn drop(self) {
+        let Local {
+            proc: _,
+            state: _,
+            level: _,
+        } = self;
+    }
 }
 
 impl Copied for Local {

@@ -20,10 +20,18 @@ pub const MAX_PARTICIPANTS: usize = 4096;
 
 /// The processes that meet in a fence, each once, and whether the fence collects data (PMIx Standard 5.0,
 /// PMIx_Fence, PMIX_COLLECT_DATA).
-#[derive(Debug, Drop)]
 pub struct Signature {
     participants: Vec<Proc>,
     collect: bool,
+}
+
+impl Drop for Signature {
+    fn drop(self) {
+        let Signature {
+            participants: _,
+            collect: _,
+        } = self;
+    }
 }
 
 impl Model for Signature {

@@ -12,10 +12,18 @@ use std::marker::Model;
 
 /// What a stream found in the bytes that it was fed: the frames that are whole now, and the fault that
 /// comes after them, where one comes.
-#[derive(Debug, Drop)]
 pub struct Fed {
     pub frames: Vec<Frame>,
     pub fault: Option<Fault>,
+}
+
+impl Drop for Fed {
+    fn drop(self) {
+        let Fed {
+            frames: _,
+            fault: _,
+        } = self;
+    }
 }
 
 /// A stream of frames, fed in whatever pieces its bytes come. It keeps what has come of the next frame,

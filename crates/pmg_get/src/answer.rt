@@ -7,7 +7,7 @@ use crate::view::{Mode, View};
 use pmg_value::Value;
 
 /// What a get is answered.
-#[derive(Clone, Copy, Debug)]
+#[derive(Clone, Copy)]
 pub enum Answer<'a> {
     /// The value.
     Found(&'a Value),

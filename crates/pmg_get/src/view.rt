@@ -2,7 +2,7 @@
 use pmg_value::Value;
 
 /// Whether a get waits for what is not there yet. The two modes are this project's own.
-#[derive(Clone, Copy, Debug, PartialEq, Eq)]
+#[derive(Clone, Copy, PartialEq, Eq)]
 pub enum Mode {
     /// It waits until there is something to answer.
     Wait,
@@ -11,7 +11,7 @@ pub enum Mode {
 }
 
 /// What there is to be seen of a key at the node of the process that asks (PMIx Standard 5.0, PMIx_Get).
-#[derive(Clone, Copy, Debug)]
+#[derive(Clone, Copy)]
 pub enum View<'a> {
     /// A reserved key: the registry tells it.
     Reserved {

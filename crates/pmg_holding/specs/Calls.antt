@@ -40,6 +40,16 @@ standing_of (calls.Released f gone) = Standing.released f gone.items
 standing_of (calls.Parked target key) = Standing.parked (get_of target key)
 standing_of (calls.Answered target key found) = Standing.answered (get_of target key) (outcome_of found)
 
+-- the fence that a process is released from, and the participants that are gone
+abbrev pub released_in : Standing → Option (FenceName × List Proc)
+released_in (Standing.released f gone) = Some (f, gone)
+released_in _ = None
+
+-- what a get is answered
+abbrev pub answered_in : Standing → Option Outcome
+answered_in (Standing.answered get outcome) = Some outcome
+answered_in _ = None
+
 -- what a call that waited came to, as the call that its process is in
 abbrev pub standing_by : Settled → Standing
 standing_by (settlings.Released f gone) = Standing.released f gone.items

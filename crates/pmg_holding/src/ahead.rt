@@ -16,7 +16,7 @@ use pmg_store::{Board, Look, Store};
 use pmg_value::{Key, NodeId, Proc, Value};
 
 /// A node's stores, and the pieces that are about to be joined: for reads from the node itself, and from other nodes.
-#[derive(Clone, Copy, Debug)]
+#[derive(Clone, Copy)]
 pub struct Ahead<'a> {
     pub board: &'a Board,
     pub near: Option<&'a Piece>,

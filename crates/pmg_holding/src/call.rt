@@ -1,12 +1,13 @@
 //! The call that a process is in, and what it comes to.
 ghost use Rattle.std.specs.Prelude.{◌≡◌};
-ghost use Rattle.pmg_holding.specs.Calls.{standing_of, standing_by};
+ghost use Rattle.std.specs.Option.{option_map};
+ghost use Rattle.pmg_holding.specs.Calls.{answered_in, outcome_of, released_in, standing_of, standing_by};
 
 use pmg_frame::FenceName;
 use pmg_value::{Key, Proc, Value};
 
 /// What a get that waited is answered (PMIx Standard 5.0, PMIx_Get).
-#[derive(Debug, Drop)]
+#[derive(Drop)]
 pub enum Found {
     /// The value.
     Value(Value),
@@ -17,7 +18,6 @@ pub enum Found {
 }
 
 /// The call that an own process is in (PMIx Standard 5.0, PMIx_Fence, PMIx_Get).
-#[derive(Debug, Drop)]
 pub enum Call {
     /// It is in the fence, and not released.
     InFence(FenceName),
@@ -29,8 +29,18 @@ pub enum Call {
     Answered(Proc, Key, Found),
 }
 
+impl Drop for Call {
+    fn drop(self) {
+        match self {
+            Call::InFence(_) => {}
+            Call::Released(_, _) => {}
+            Call::Parked(_, _) => {}
+            Call::Answered(_, _, _) => {}
+        }
+    }
+}
+
 /// What a call that waited came to: it waits no longer, and its process has yet to take this.
-#[derive(Debug, Drop)]
 pub enum Settled {
     /// The process is released from the fence, with the participants that are gone.
     Released(FenceName, Vec<Proc>),
@@ -38,12 +48,43 @@ pub enum Settled {
     Answered(Proc, Key, Found),
 }
 
+impl Drop for Settled {
+    fn drop(self) {
+        match self {
+            Settled::Released(_, _) => {}
+            Settled::Answered(_, _, _) => {}
+        }
+    }
+}
+
 impl Call {
-    /// The call that came to this.
-    pub fn settled(settled: Settled) -> Call
-        ensures { standing_of result ≡ standing_by settled }
+    /// The fence that the process is released from, and the participants that are gone, if it is released.
+    pub fn into_released(self) -> Option<(FenceName, Vec<Proc>)>
+        ensures { option_map (λ r. (r.0, r.1.items)) result ≡ released_in (standing_of self) }
     {
-        match settled {
+        match self {
+            Call::Released(name, gone) => Some((name, gone)),
+            Call::InFence(_) | Call::Parked(_, _) | Call::Answered(_, _, _) => None,
+        }
+    }
+
+    /// What the process's get is answered, if it is.
+    pub fn into_found(self) -> Option<Found>
+        ensures { option_map outcome_of result ≡ answered_in (standing_of self) }
+    {
+        match self {
+            Call::Answered(_, _, found) => Some(found),
+            Call::InFence(_) | Call::Released(_, _) | Call::Parked(_, _) => None,
+        }
+    }
+}
+
+impl Settled {
+    /// The call that came to this.
+    pub fn into_call(self) -> Call
+        ensures { standing_of result ≡ standing_by self }
+    {
+        match self {
             Settled::Released(name, gone) => Call::Released(name, gone),
             Settled::Answered(target, key, found) => Call::Answered(target, key, found),
         }

@@ -54,11 +54,16 @@ fn change_row(rows: &mut BTreeMap<Proc, Call>, proc: &Proc, mut call: Call) -> C
 }
 
 /// The calls that own processes are in, one each.
-#[derive(Debug, Drop)]
 pub struct Calls {
     alloc: Global,
     rows: BTreeMap<Proc, Call>,
     waiting: Waiting,
+}
+
+impl Drop for Calls {
+    fn drop(self) {
+        let Calls { alloc: _, rows: _, waiting: _ } = self;
+    }
 }
 
 impl Model for Calls {
@@ -160,7 +165,7 @@ impl Calls {
     fn settle(&mut self, proc: &Proc, settled: Settled) -> Call
         ensures { self.new ≡ changed_at self.old proc.now (standing_by settled) }
     {
-        let left = change_row(&mut self.rows, proc, Call::settled(settled));
+        let left = change_row(&mut self.rows, proc, settled.into_call());
         self.waiting.remove(proc, &left);
         left
     }

@@ -16,7 +16,7 @@ use std::alloc::{AllocError, Global};
 use std::collections::VecDeque;
 
 /// A mark as it was before it was set.
-#[derive(Debug, Drop)]
+#[derive(Drop)]
 pub struct MarkBefore {
     pub proc: Proc,
     pub node: NodeId,
@@ -62,7 +62,7 @@ fn frame_for(own: &Own, marks: &Marks, due: Due) -> Result<Option<Sent>, AllocEr
 }
 
 /// Frames on their way, and the marks that they set, as they were before.
-#[derive(Debug, Drop)]
+#[derive(Drop)]
 struct Going {
     frames: VecDeque<Sent>,
     before: Vec<MarkBefore>,
@@ -176,7 +176,7 @@ fn send_after(
 }
 
 /// Frames that were put after others, and the marks that they set, as they were before.
-#[derive(Debug, Drop)]
+#[derive(Drop)]
 pub struct Handed {
     start: usize,
     before: Vec<MarkBefore>,

@@ -19,10 +19,15 @@ use std::alloc::AllocError;
 use std::marker::Model;
 
 /// What a node's own processes sealed, and the process sets.
-#[derive(Drop)]
 pub struct Own {
     pub sealers: Sealers,
     pub sets: Sets,
+}
+
+impl Drop for Own {
+    fn drop(self) {
+        let Own { sealers: _, sets: _ } = self;
+    }
 }
 
 impl Model for Own {

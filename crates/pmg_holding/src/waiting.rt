@@ -17,7 +17,7 @@ use std::collections::{BTreeMap, BTreeSet};
 use std::marker::Model;
 
 /// Processes, each once.
-#[derive(Debug, Drop)]
+#[derive(Drop)]
 struct Procs {
     alloc: Global,
     items: BTreeSet<Proc>,
@@ -81,7 +81,7 @@ impl Procs {
 }
 
 /// The processes that wait in fences.
-#[derive(Debug, Drop)]
+#[derive(Drop)]
 pub struct Waiters {
     alloc: Global,
     rows: BTreeMap<FenceName, Procs>,
@@ -183,10 +183,15 @@ impl Waiters {
 
 /// Who waits, by what it waits for: gets by the process whose key they ask for, and processes by the fence that they are in. So
 /// what changes for one process or one fence is looked for at the cost of those that wait for it.
-#[derive(Debug, Drop)]
 pub struct Waiting {
     pub gets: Parked,
     pub fences: Waiters,
+}
+
+impl Drop for Waiting {
+    fn drop(self) {
+        let Waiting { gets: _, fences: _ } = self;
+    }
 }
 
 impl Waiting {

@@ -21,7 +21,7 @@ pub const MAX_JOB_NODES: usize = 8;
 pub const MAX_JOB_PROCS: usize = 32;
 
 /// A job that is run: the nodes of its group, its namespaces, and the homes of their processes.
-#[derive(Debug, Drop)]
+#[derive(Drop)]
 pub struct Job {
     registry: Registry,
 }

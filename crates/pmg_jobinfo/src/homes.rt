@@ -14,7 +14,7 @@ use std::alloc::{AllocError, Global};
 use std::marker::Model;
 
 /// The home of each rank 0, 1, ..
-#[derive(Debug, Drop)]
+#[derive(Drop)]
 pub struct Homes {
     nodes: Vec<NodeId>,
 }

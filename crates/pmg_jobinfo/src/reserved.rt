@@ -13,7 +13,7 @@ use crate::registry::Registry;
 use pmg_value::{Key, NodeId, Proc, Refusal, Text, Value};
 
 /// A key that a server answers by itself (PMIx Standard 5.0, reserved keys).
-#[derive(Clone, Copy, Debug, PartialEq, Eq)]
+#[derive(Clone, Copy, PartialEq, Eq)]
 pub enum ReservedKey {
     /// PMIX_JOB_SIZE: how many processes the job has.
     JobSize,

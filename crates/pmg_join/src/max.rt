@@ -4,7 +4,7 @@ use crate::join::Join;
 use std::alloc::{AllocError, AllocFailed};
 
 /// A number that only grows: its join is the greater one.
-#[derive(Clone, Copy, Debug, PartialEq, Eq, PartialOrd, Ord)]
+#[derive(Clone, Copy, PartialEq, Eq, PartialOrd, Ord)]
 pub struct MaxU64 {
     value: u64,
 }

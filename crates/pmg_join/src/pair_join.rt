@@ -2,7 +2,7 @@ use crate::join::{Join, joined_copies};
 use std::alloc::{AllocError, AllocFailed};
 
 /// Two that are joined side by side.
-#[derive(Debug, Drop)]
+#[derive(Drop)]
 pub struct PairJoin<A, B> {
     pub first: A,
     pub second: B,

@@ -8,7 +8,7 @@ use std::alloc::{AllocError, AllocFailed, Global};
 use std::marker::Model;
 
 /// A set of numbers, kept as ranges with a number missing between each and the next.
-#[derive(Debug, Drop)]
+#[derive(Drop)]
 pub struct RangeSet {
     ranges: Ranges,
 }

@@ -6,14 +6,14 @@ use std::alloc::{AllocError, Global};
 use std::collections::BTreeMap;
 
 /// The numbers above `from`, up to `to`.
-#[derive(Clone, Copy, Debug, PartialEq, Eq)]
+#[derive(Clone, Copy, PartialEq, Eq)]
 pub struct Span {
     pub from: u64,
     pub to: u64,
 }
 
 /// Ranges of numbers, by where they begin. Where there is room for a range, it is put in without memory.
-#[derive(Debug, Drop)]
+#[derive(Drop)]
 pub struct Ranges {
     ends: BTreeMap<u64, u64, Global>,
 }

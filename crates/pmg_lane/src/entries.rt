@@ -21,7 +21,7 @@ use std::alloc::{AllocError, Global};
 use std::collections::BTreeMap;
 
 /// What a commit left under a key: the number of the commit, and the value.
-#[derive(Debug, Drop)]
+#[derive(Drop)]
 pub struct Stamp {
     pub number: u64,
     pub value: Value,
@@ -29,10 +29,15 @@ pub struct Stamp {
 
 /// The entries that are not superseded: what is read under each key, and the entries past the level by number and
 /// key. A place may be empty, and then it is room.
-#[derive(Debug, Drop)]
 pub struct Entries {
     reads: BTreeMap<Key, Option<Stamp>, Global>,
     late: BTreeMap<(u64, Key), Option<Value>, Global>,
+}
+
+impl Drop for Entries {
+    fn drop(self) {
+        let Entries { reads: _, late: _ } = self;
+    }
 }
 
 impl Copied for Stamp {

@@ -14,7 +14,7 @@ use pmg_commit::PieceEntry;
 use pmg_value::{Key, Value};
 
 /// What is read under a key: the number of the commit that left it, and the value.
-#[derive(Clone, Copy, Debug)]
+#[derive(Clone, Copy)]
 pub struct Reading<'a> {
     pub number: u64,
     pub value: &'a Value,

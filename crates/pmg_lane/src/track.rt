@@ -18,10 +18,15 @@ use std::collections::BTreeMap;
 
 /// What is known of one process: the numbers of the commits that were taken, and the entries that are not
 /// superseded. Where there is room for more, it is taken without memory.
-#[derive(Debug, Drop)]
 pub struct Track {
     taken: Ranges,
     entries: Entries,
+}
+
+impl Drop for Track {
+    fn drop(self) {
+        let Track { taken: _, entries: _ } = self;
+    }
 }
 
 impl Track {

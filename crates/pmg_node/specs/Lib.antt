@@ -4,6 +4,7 @@ pub mod Content
 pub mod Fencing
 pub mod Entries
 pub mod Endings
+pub mod Kinds
 pub mod Replies
 pub mod Acting
 pub mod Opening

@@ -1,8 +1,12 @@
 -- What calls of a node answer, as replies.
-use Rattle.std.specs.Prelude.{Option, Some, None}
+use Rattle.std.specs.Prelude.{List, Option, Some, None}
+use Rattle.pmg_value.specs.Signatures.{FenceName}
 use Rattle.pmg_value.specs.Spelling.{spelling}
+use Rattle.pmg_value.specs.declared.process.Proc.{Proc}
+use Rattle.pmg_get.specs.Gets.{Outcome}
 use Rattle.pmg_rules.specs.Acts.{Reply, Status, reply_of}
 use Rattle.pmg_rules.specs.Holdings.{Standing}
+use Rattle.pmg_holding.specs.Calls.{answered_in, released_in}
 use Rattle.pmg_node.specs.declared.committing.Committed.{Committed}
 use Rattle.pmg_node.specs.declared.leaving.Release.{Release}
 use Rattle.pmg_node.specs.declared.leaving.Release.TheVariants as releases
@@ -29,10 +33,15 @@ stays_reply (Some (Standing.parked get)) = Some Reply.idle
 stays_reply (Some (Standing.answered get outcome)) = Some Reply.idle
 stays_reply None = Some Reply.idle
 
+-- what it is told that is released from this fence, where it is
+abbrev pub freed_reply : Option (FenceName × List Proc) → Reply
+freed_reply (Some (f, gone)) = Reply.released f.instance gone
+freed_reply None = Reply.idle
+
 -- what it is told once its call is over
 abbrev pub released_reply : Option Standing → Reply
-released_reply (Some (Standing.released f gone)) = Reply.released f.instance gone
-released_reply _ = Reply.idle
+released_reply (Some s) = freed_reply (released_in s)
+released_reply None = Reply.idle
 
 -- what a process that takes an answer is told
 abbrev pub taking_reply : Taking → Reply
@@ -48,10 +57,15 @@ pending_reply (Some (Standing.in_fence f)) = Some Reply.idle
 pending_reply (Some (Standing.released f gone)) = Some Reply.idle
 pending_reply None = Some Reply.idle
 
+-- what it is told whose get is answered so, where it is
+abbrev pub got_reply : Option Outcome → Reply
+got_reply (Some outcome) = reply_of outcome
+got_reply None = Reply.idle
+
 -- what it is told once its call is over
 abbrev pub answered_reply : Option Standing → Reply
-answered_reply (Some (Standing.answered get outcome)) = reply_of outcome
-answered_reply _ = Reply.idle
+answered_reply (Some s) = got_reply (answered_in s)
+answered_reply None = Reply.idle
 
 -- what becomes of a frame
 abbrev pub delivery_reply : Delivery → Reply

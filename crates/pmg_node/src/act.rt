@@ -11,7 +11,6 @@ use std::alloc::AllocError;
 
 /// What a process at home at a node asks of it, or the one who runs the node (PMIx Standard 5.0, PMIx_Fence, PMIx_Get,
 /// PMIx_Finalize, process sets).
-#[derive(Debug, Drop)]
 pub enum Request {
     /// The process enters its next fence of these participants; whether it collects data.
     Enter(Proc, Vec<Proc>, bool),
@@ -29,6 +28,21 @@ pub enum Request {
     Delete(Key),
     /// Other nodes are asked again for what is missing.
     Nudge,
+}
+
+impl Drop for Request {
+    fn drop(self) {
+        match self {
+            Request::Enter(_, _, _) => {}
+            Request::Leave(_) => {}
+            Request::Ask(_, _, _, _) => {}
+            Request::Take(_) => {}
+            Request::Terminate(_) => {}
+            Request::Define(_, _) => {}
+            Request::Delete(_) => {}
+            Request::Nudge => {}
+        }
+    }
 }
 
 impl Request {
@@ -54,7 +68,6 @@ impl Request {
 }
 
 /// What is asked of a node.
-#[derive(Debug, Drop)]
 pub enum Act {
     /// A request.
     Request(Request),
@@ -64,8 +77,17 @@ pub enum Act {
     Deliver(Frame),
 }
 
+impl Drop for Act {
+    fn drop(self) {
+        match self {
+            Act::Request(_) => {}
+            Act::Commit(_, _) => {}
+            Act::Deliver(_) => {}
+        }
+    }
+}
+
 /// What a node replies to an act that it does not refuse.
-#[derive(Debug, Drop)]
 pub enum Reply {
     /// It is done.
     Done,
@@ -93,8 +115,26 @@ pub enum Reply {
     Defined(u64),
 }
 
+impl Drop for Reply {
+    fn drop(self) {
+        match self {
+            Reply::Done => {}
+            Reply::Committed(_) => {}
+            Reply::Entered(_) => {}
+            Reply::Idle => {}
+            Reply::Waiting => {}
+            Reply::Released(_, _) => {}
+            Reply::Found(_) => {}
+            Reply::Parked => {}
+            Reply::Taken => {}
+            Reply::Ignored => {}
+            Reply::Ended(_) => {}
+            Reply::Defined(_) => {}
+        }
+    }
+}
+
 /// What an act joined into the stores of its node.
-#[derive(Debug, Drop)]
 pub struct Joined {
     /// For reads from the node itself.
     pub near: Option<Piece>,
@@ -102,8 +142,14 @@ pub struct Joined {
     pub far: Option<Piece>,
 }
 
+impl Drop for Joined {
+    fn drop(self) {
+        let Joined { near: _, far: _ } = self;
+    }
+}
+
 /// What comes of an act that is not refused.
-#[derive(Debug, Drop)]
+#[derive(Drop)]
 pub struct Acted {
     /// What is replied.
     pub reply: Reply,

@@ -16,7 +16,7 @@ use std::alloc::AllocError;
 use std::collections::VecDeque;
 
 /// What becomes of a frame that is delivered.
-#[derive(Clone, Copy, Debug, PartialEq, Eq)]
+#[derive(Clone, Copy, PartialEq, Eq)]
 pub enum Delivery {
     /// It is taken.
     Taken,

@@ -18,7 +18,7 @@ use std::alloc::AllocError;
 use std::collections::VecDeque;
 
 /// What comes of a commit.
-#[derive(Debug, Drop)]
+#[derive(Drop)]
 pub struct Committed {
     /// The commit's number.
     pub level: u64,

@@ -61,7 +61,7 @@ fn end_fences(
 }
 
 /// What there was before a process ended: of what it sealed, if it had not ended, and of fences.
-#[derive(Debug, Drop)]
+#[derive(Drop)]
 struct EndBefore {
     sealer: Option<SealerBefore>,
     table: TableBefore,

@@ -11,7 +11,7 @@ use pmg_holding::Call;
 use pmg_value::{Proc, Refusal};
 
 /// What a process that leaves a fence is told (PMIx Standard 5.0, PMIx_Fence).
-#[derive(Debug, Drop)]
+#[derive(Drop)]
 pub enum Release {
     /// It is in no fence.
     Idle,
@@ -38,9 +38,12 @@ fn stays(call: Option<&Call>) -> Option<Release>
 fn release_of(call: Option<Call>) -> Release
     ensures { release_reply result ≡ released_reply (option_map standing_of call) }
 {
-    match call {
-        Some(Call::Released(name, gone)) => Release::Released(name.instance(), gone),
-        _ => Release::Idle,
+    let Some(call) = call else {
+        return Release::Idle;
+    };
+    match call.into_released() {
+        Some((name, gone)) => Release::Released(name.instance(), gone),
+        None => Release::Idle,
     }
 }
 

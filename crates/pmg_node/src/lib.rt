@@ -21,6 +21,7 @@ mod opening;
 mod parking;
 mod pieces;
 mod publishing;
+mod replies;
 mod setting;
 mod status;
 mod taking;

@@ -11,7 +11,6 @@ use std::marker::Model;
 
 /// One server: what it knows of all processes, what its own sealed, which fences they are in, and what other nodes ask for
 /// (PMIx Standard 5.0, PMIx_server_init).
-#[derive(Drop)]
 pub struct Node {
     pub(crate) id: NodeId,
     pub(crate) table: Table,
@@ -20,6 +19,12 @@ pub struct Node {
     pub(crate) calls: Calls,
     pub(crate) held: Pending,
     pub(crate) marks: Marks,
+}
+
+impl Drop for Node {
+    fn drop(self) {
+        let Node { id: _, table: _, board: _, own: _, calls: _, held: _, marks: _ } = self;
+    }
 }
 
 impl Model for Node {

@@ -27,7 +27,7 @@ use std::alloc::AllocError;
 use std::collections::VecDeque;
 
 /// What a process that asks for a key is told (PMIx Standard 5.0, PMIx_Get).
-#[derive(Debug, Drop)]
+#[derive(Drop)]
 pub enum Asked {
     /// The value.
     Found(Value),

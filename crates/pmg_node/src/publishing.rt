@@ -33,7 +33,7 @@ pub(crate) struct Beside<'a> {
 }
 
 /// What comes of a process's commits.
-#[derive(Debug, Drop)]
+#[derive(Drop)]
 pub(crate) struct Published {
     /// What calls come to be answered.
     pub(crate) answers: Vec<(Proc, Settled)>,

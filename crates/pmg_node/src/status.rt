@@ -11,7 +11,7 @@ use pmg_holding::Call;
 use pmg_value::Proc;
 
 /// How a process stands at a node.
-#[derive(Clone, Copy, Debug, PartialEq, Eq)]
+#[derive(Clone, Copy, PartialEq, Eq)]
 pub enum Status {
     /// It is none of the processes at home at the node.
     Stranger,

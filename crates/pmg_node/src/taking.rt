@@ -11,7 +11,7 @@ use pmg_holding::{Call, Found};
 use pmg_value::{Proc, Refusal, Value};
 
 /// What a process that takes an answer is told (PMIx Standard 5.0, PMIx_Get).
-#[derive(Debug, Drop)]
+#[derive(Drop)]
 pub enum Taking {
     /// It waits for no get.
     Idle,
@@ -49,9 +49,12 @@ fn told(found: Found) -> Result<Taking, Refusal>
 fn taking_of(call: Option<Call>) -> Result<Taking, Refusal>
     ensures { reply_in taking_reply result ≡ answered_reply (option_map standing_of call) }
 {
-    match call {
-        Some(Call::Answered(_, _, found)) => told(found),
-        _ => Ok(Taking::Idle),
+    let Some(call) = call else {
+        return Ok(Taking::Idle);
+    };
+    match call.into_found() {
+        Some(found) => told(found),
+        None => Ok(Taking::Idle),
     }
 }
 

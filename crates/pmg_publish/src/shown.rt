@@ -8,17 +8,27 @@ use pmg_store::Board;
 use std::alloc::{AllocError, Global};
 
 /// What viewers read: a board, and the list of publications that made it.
-#[derive(Drop)]
 pub struct Shown {
     pub board: Board,
     pub history: History,
 }
 
+impl Drop for Shown {
+    fn drop(self) {
+        let Shown { board: _, history: _ } = self;
+    }
+}
+
 /// What is published: the parts, and the list that ends with them.
-#[derive(Drop)]
 pub struct Issue {
     pub parts: Parts,
     pub history: History,
+}
+
+impl Drop for Issue {
+    fn drop(self) {
+        let Issue { parts: _, history: _ } = self;
+    }
 }
 
 impl Shown {

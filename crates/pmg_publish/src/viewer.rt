@@ -38,10 +38,15 @@ impl Model for Told {
 
 /// One who reads what is published, and waits for nobody. Contracts see it as the list of publications that it saw last or
 /// was told of.
-#[derive(Drop)]
 pub struct Viewer {
     place: Option<Place>,
     history: History,
+}
+
+impl Drop for Viewer {
+    fn drop(self) {
+        let Viewer { place: _, history: _ } = self;
+    }
 }
 
 impl Model for Viewer {

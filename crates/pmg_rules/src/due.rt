@@ -2,7 +2,7 @@ use crate::sent::Sent;
 use pmg_value::{NodeId, Proc};
 
 /// What is to be sent.
-#[derive(Debug, Drop)]
+#[derive(Drop)]
 pub enum Due {
     /// A frame.
     Whole(Sent),

@@ -12,10 +12,15 @@ use std::marker::Model;
 
 /// What a commit is to seal: under each key the last put that no commit sealed, for the other processes on the node
 /// and for those on other nodes.
-#[derive(Debug, Drop)]
 pub struct Batch {
     near: Vec<(Key, Value)>,
     far: Vec<(Key, Value)>,
+}
+
+impl Drop for Batch {
+    fn drop(self) {
+        let Batch { near: _, far: _ } = self;
+    }
 }
 
 impl Model for Batch {

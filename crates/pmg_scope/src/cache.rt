@@ -17,11 +17,16 @@ use std::marker::Model;
 
 /// What a client has put: under each key its last put for itself, and for each other reach the last put that no
 /// commit sealed (PMIx Standard 5.0, PMIx_Put).
-#[derive(Drop)]
 pub struct Cache {
     alloc: Global,
     tables: Tables,
     sizes: Sizes,
+}
+
+impl Drop for Cache {
+    fn drop(self) {
+        let Cache { alloc: _, tables: _, sizes: _ } = self;
+    }
 }
 
 impl Model for Cache {

@@ -3,7 +3,7 @@ ghost use Rattle.std.specs.Prelude.{◌≡◌};
 ghost use Rattle.pmg_scope.specs.Scopes.{reaches};
 
 /// The scope of a put: who may see it (PMIx Standard 5.0, pmix_scope_t).
-#[derive(Clone, Copy, Debug, PartialEq, Eq)]
+#[derive(Clone, Copy, PartialEq, Eq)]
 pub enum Scope {
     /// PMIX_SCOPE_UNDEF: none is named. No put may have it.
     Undef,
@@ -18,7 +18,7 @@ pub enum Scope {
 }
 
 /// How a reader stands to the process that it reads.
-#[derive(Clone, Copy, Debug, PartialEq, Eq)]
+#[derive(Clone, Copy, PartialEq, Eq)]
 pub enum Reach {
     /// It is that process.
     Own,

@@ -83,7 +83,7 @@ fn size_with(table: &Table, size: usize, seen: bool, key: &Key, value: &Value) -
 }
 
 /// What the table of each reach counts for.
-#[derive(Clone, Copy, Debug)]
+#[derive(Clone, Copy)]
 pub struct Sizes {
     pub own: usize,
     pub near: usize,

@@ -11,7 +11,7 @@ use std::collections::BTreeMap;
 use std::marker::Model;
 
 /// Values under keys, in the order of the keys.
-#[derive(Debug, Drop)]
+#[derive(Drop)]
 pub struct Table {
     rows: BTreeMap<Key, Value>,
 }
@@ -29,7 +29,7 @@ impl Model for Table {
 }
 
 /// What a put found in a table, by which it can be taken back.
-#[derive(Debug, Drop)]
+#[derive(Drop)]
 pub enum Before {
     /// The put is not seen there.
     Unseen,

@@ -11,11 +11,16 @@ use pmg_value::{Key, Value};
 use std::alloc::{AllocError, Global};
 
 /// A table for each reach.
-#[derive(Debug, Drop)]
 pub struct Tables {
     pub own: Table,
     pub near: Table,
     pub far: Table,
+}
+
+impl Drop for Tables {
+    fn drop(self) {
+        let Tables { own: _, near: _, far: _ } = self;
+    }
 }
 
 impl Tables {

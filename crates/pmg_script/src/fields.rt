@@ -17,7 +17,7 @@ use std::alloc::Global;
 use std::marker::Model;
 
 /// A process as a line names it: the bytes that name its namespace, whatever they are, and its rank.
-#[derive(Debug, Drop)]
+#[derive(Drop)]
 pub struct Named<'a> {
     pub nspace: &'a [u8],
     pub rank: Rank,

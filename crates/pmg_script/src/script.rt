@@ -12,7 +12,7 @@ use pmg_value::Value;
 use std::alloc::Global;
 
 /// A line of a script. A namespace, a key and the name of a set are the bytes that stand there, whatever they are.
-#[derive(Debug, Drop)]
+#[derive(Drop)]
 pub enum Line<'a> {
     /// Nothing stands in the line.
     Nothing,

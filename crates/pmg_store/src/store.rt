@@ -20,7 +20,7 @@ use std::io::Write;
 use std::marker::Model;
 
 /// What is known of all processes: the core of what the pieces that were taken tell of each.
-#[derive(Debug, Drop)]
+#[derive(Drop)]
 pub struct Store {
     tracks: Tracks,
 }
@@ -40,7 +40,7 @@ impl Model for Store {
 }
 
 /// What is read of a process under a key: the value, and whether the process has ended.
-#[derive(Clone, Copy, Debug)]
+#[derive(Clone, Copy)]
 pub struct Look<'a> {
     pub value: Option<&'a Value>,
     pub ended: bool,

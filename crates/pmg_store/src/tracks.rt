@@ -20,7 +20,7 @@ use std::alloc::{AllocError, Global};
 use std::collections::BTreeMap;
 
 /// The tracks of processes. A place may be empty, and then it is room for a track.
-#[derive(Debug, Drop)]
+#[derive(Drop)]
 pub struct Tracks {
     alloc: Global,
     places: BTreeMap<Proc, Option<Track>, Global>,

@@ -16,7 +16,7 @@ const MAX_ELEMENT_TAG: u8 = 18;
 /// An array of values of one kind, none of them an array (PMIx Standard 5.0, pmix_data_array_t). As a value
 /// it is no longer than a value may be.
 #[cycle(value)]
-#[derive(Debug, Drop)]
+#[derive(Drop)]
 pub struct Array {
     tag: u8,
     size: usize,

@@ -14,9 +14,15 @@ use std::marker::Model;
 pub const MAX_BLOB_LEN: usize = 1_048_571;
 
 /// A string's bytes: at most 1,048,571, none of them zero. A copy shares the bytes.
-#[derive(Debug, Drop, PartialEq, Eq)]
+#[derive(PartialEq, Eq)]
 pub struct Text {
     bytes: Bytes,
+}
+
+impl Drop for Text {
+    fn drop(self) {
+        let Text { bytes: _ } = self;
+    }
 }
 
 impl Model for Text {
@@ -34,9 +40,14 @@ impl Model for Text {
 }
 
 /// A byte object's bytes: at most 1,048,571. A copy shares the bytes.
-#[derive(Debug, Drop)]
 pub struct Octets {
     bytes: Bytes,
+}
+
+impl Drop for Octets {
+    fn drop(self) {
+        let Octets { bytes: _ } = self;
+    }
 }
 
 impl Model for Octets {

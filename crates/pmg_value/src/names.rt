@@ -19,7 +19,7 @@ pub const MAX_KEY_LEN: usize = 511;
 
 /// A namespace's name: 1 to 255 bytes of 0x21 to 0x7E (PMIx Standard 5.0, pmix_nspace_t). Its order is
 /// that of its bytes. A copy shares the bytes.
-#[derive(Debug, Drop, PartialEq, Eq, PartialOrd, Ord)]
+#[derive(Drop, PartialEq, Eq, PartialOrd, Ord)]
 pub struct Nspace {
     name: Word,
 }
@@ -40,7 +40,7 @@ impl Model for Nspace {
 
 /// A key: 1 to 511 bytes of 0x20 to 0x7E (PMIx Standard 5.0, pmix_key_t). Its order is that of its
 /// bytes. A copy shares the bytes.
-#[derive(Debug, Drop, PartialEq, Eq, PartialOrd, Ord)]
+#[derive(Drop, PartialEq, Eq, PartialOrd, Ord)]
 pub struct Key {
     text: Word,
 }

@@ -17,12 +17,22 @@ use std::cmp::Ordering;
 
 /// The canonical bytes after a value's tag, in parts: a head of at most eight bytes; the bytes of a
 /// namespace, a string or a byte object; a rank; and the items of an array, whose bodies stand last.
-#[derive(Drop)]
 pub struct Parts<'a> {
     pub head: ArrayVec<u8, 8>,
     pub middle: &'a [u8],
     pub end: ArrayVec<u8, 8>,
     pub items: &'a [Value],
+}
+
+impl Drop for Parts<'_> {
+    fn drop(self) {
+        let Parts {
+            head: _,
+            middle: _,
+            end: _,
+            items: _,
+        } = self;
+    }
 }
 
 impl Value {

@@ -17,7 +17,7 @@ pub const MAX_RANK: u32 = 4095;
 pub const HOST_NAME: &[u8] = b"pmix.host";
 
 /// A process's rank in its namespace (PMIx Standard 5.0, pmix_rank_t).
-#[derive(Clone, Copy, Debug, PartialEq, Eq, PartialOrd, Ord)]
+#[derive(Clone, Copy, PartialEq, Eq, PartialOrd, Ord)]
 pub struct Rank {
     number: u32,
 }
@@ -74,10 +74,16 @@ impl Rank {
 
 /// A process: its namespace and its rank (PMIx Standard 5.0, pmix_proc_t). Processes are ordered by the
 /// bytes of their namespace, then by rank.
-#[derive(Debug, Drop, PartialEq, Eq, PartialOrd, Ord)]
+#[derive(PartialEq, Eq, PartialOrd, Ord)]
 pub struct Proc {
     pub nspace: Nspace,
     pub rank: Rank,
+}
+
+impl Drop for Proc {
+    fn drop(self) {
+        let Proc { nspace: _, rank: _ } = self;
+    }
 }
 
 impl Proc {
@@ -131,7 +137,7 @@ impl Proc {
 }
 
 /// A node of the group, by its index from 0.
-#[derive(Clone, Copy, Debug, PartialEq, Eq, PartialOrd, Ord)]
+#[derive(Clone, Copy, PartialEq, Eq, PartialOrd, Ord)]
 pub struct NodeId {
     index: u32,
 }

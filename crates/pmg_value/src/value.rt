@@ -17,7 +17,6 @@ pub const MAX_VALUE_SIZE: usize = 1_048_576;
 /// A value that a process puts under a key (PMIx Standard 5.0, pmix_value_t). Each value has exactly
 /// one spelling, its canonical bytes: a tag, and a body of the tag's form.
 #[cycle(value)]
-#[derive(Debug, Drop)]
 pub enum Value {
     /// PMIX_BOOL.
     Bool(bool),
@@ -57,6 +56,32 @@ pub enum Value {
     Bytes(Octets),
     /// PMIX_DATA_ARRAY.
     Array(Array),
+}
+
+impl Drop for Value {
+    fn drop(self) {
+        match self {
+            Value::Bool(_) => {}
+            Value::Byte(_) => {}
+            Value::Str(_) => {}
+            Value::Size(_) => {}
+            Value::I8(_) => {}
+            Value::I16(_) => {}
+            Value::I32(_) => {}
+            Value::I64(_) => {}
+            Value::U8(_) => {}
+            Value::U16(_) => {}
+            Value::U32(_) => {}
+            Value::U64(_) => {}
+            Value::Int(_) => {}
+            Value::Uint(_) => {}
+            Value::Rank(_) => {}
+            Value::Proc(_) => {}
+            Value::Status(_) => {}
+            Value::Bytes(_) => {}
+            Value::Array(_) => {}
+        }
+    }
 }
 
 impl Value {

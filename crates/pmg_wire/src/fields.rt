@@ -11,7 +11,7 @@ use pmg_value::{
 use std::alloc::Global;
 
 /// Which processes may stand at a place.
-#[derive(Clone, Copy, Debug, PartialEq, Eq)]
+#[derive(Clone, Copy, PartialEq, Eq)]
 pub enum Admits {
     /// Processes that a group may register.
     Clients,

@@ -8,7 +8,6 @@ use pmg_value::{Key, Proc, Refusal, Value};
 use std::alloc::AllocError;
 
 /// What happens in a group. Nodes are named by their indexes.
-#[derive(Debug, Drop)]
 pub enum Event {
     /// The process puts the value under the key, to be seen as the scope says (PMIx Standard 5.0, PMIx_Put).
     Put(Proc, Scope, Key, Value),
@@ -18,6 +17,17 @@ pub enum Event {
     Request(u64, Request),
     /// The frame of that number is delivered, among all frames ever sent, from 1.
     Deliver(u64),
+}
+
+impl Drop for Event {
+    fn drop(self) {
+        match self {
+            Event::Put(_, _, _, _) => {}
+            Event::Commit(_, _) => {}
+            Event::Request(_, _) => {}
+            Event::Deliver(_) => {}
+        }
+    }
 }
 
 impl Event {
@@ -37,10 +47,15 @@ impl Event {
 }
 
 /// An event, with its answer.
-#[derive(Debug, Drop)]
 pub struct Told {
     /// What happened.
     pub event: Event,
     /// What it was answered with.
     pub answer: Result<Reply, Refusal>,
+}
+
+impl Drop for Told {
+    fn drop(self) {
+        let Told { event: _, answer: _ } = self;
+    }
 }

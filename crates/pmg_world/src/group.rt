@@ -27,12 +27,17 @@ use std::alloc::AllocError;
 use std::collections::VecDeque;
 
 /// The nodes of a group, what their clients put, and all frames ever sent.
-#[derive(Drop)]
 pub(crate) struct Group {
     pub(crate) registry: Registry,
     pub(crate) nodes: Vec<Node>,
     pub(crate) caches: Caches,
     pub(crate) sent: VecDeque<Sent>,
+}
+
+impl Drop for Group {
+    fn drop(self) {
+        let Group { registry: _, nodes: _, caches: _, sent: _ } = self;
+    }
 }
 
 /// A new node for each that the registry has.

@@ -23,10 +23,15 @@ use std::alloc::{AllocError, Global};
 use std::marker::Model;
 
 /// A world that runs, and which of its frames were delivered.
-#[derive(Drop)]
 pub(crate) struct Scene {
     world: World,
     delivered: Delivered,
+}
+
+impl Drop for Scene {
+    fn drop(self) {
+        let Scene { world: _, delivered: _ } = self;
+    }
 }
 
 impl Model for Scene {

@@ -18,10 +18,15 @@ use std::marker::Model;
 /// A group of nodes with their clients, and all that happened: each event with its answer, and each frame ever sent. Frames arrive
 /// only when they are delivered; they may be delivered in any order, more than once, or never. Whatever happens, what is told is a
 /// run of the model, and the laws of every run hold of it.
-#[derive(Drop)]
 pub struct World {
     group: Group,
     told: Vec<Told>,
+}
+
+impl Drop for World {
+    fn drop(self) {
+        let World { group: _, told: _ } = self;
+    }
 }
 
 impl Model for World {
@@ -39,7 +44,7 @@ impl Model for World {
 }
 
 /// An allocation failed before all events had happened.
-#[derive(Clone, Copy, Debug, PartialEq, Eq)]
+#[derive(Clone, Copy, PartialEq, Eq)]
 pub struct RunFailed {
     /// How many of them happened.
     pub done: usize,
