@@ -1,4 +1,4 @@
-//! Tests of desks and clients, from without.
+//! Tests of published stores, desks and clients, from without.
 #![tactic(auto)]
 
 #[cfg(test)]
@@ -7,6 +7,8 @@ mod calls;
 mod group;
 #[cfg(test)]
 mod growths;
+#[cfg(test)]
+mod published;
 #[cfg(test)]
 mod sets;
 #[cfg(test)]

@@ -6,6 +6,3 @@ mod job;
 mod parts;
 
 pub use job::{Job, MAX_JOB_NODES, MAX_JOB_PROCS};
-
-#[cfg(test)]
-mod tests;

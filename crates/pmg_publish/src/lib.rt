@@ -16,6 +16,3 @@ pub use opening::{MAX_VIEWERS, publisher};
 pub use publishing::Publisher;
 pub use sight::Sight;
 pub use viewer::{Told, Viewer};
-
-#[cfg(test)]
-mod tests;

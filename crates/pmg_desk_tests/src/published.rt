@@ -1,9 +1,9 @@
-//! What no clause says: that calls succeed where there is memory, what viewers read with answers found by hand, that a viewer
+//! Published stores: that calls succeed where there is memory, what viewers read with answers found by hand, that a viewer
 //! meets no Closed while its publisher is open, and what stands after an allocation failed.
 ghost use Rattle.std.specs.Prelude.{◌≡◌, ◌≤◌, IfOk};
 
-use crate::{Publisher, Viewer, publisher};
 use pmg_commit::{Piece, PieceEntry};
+use pmg_publish::{Publisher, Viewer, publisher};
 use pmg_value::{Key, Nspace, Proc, Rank, Refusal, Value};
 use std::alloc::Global;
 use std::sync::Wait;

@@ -1,5 +1,5 @@
-//! What no clause says: that each call gives its answer where there is memory.
-use crate::Job;
+//! Jobs that are read from JSON: that each call gives its answer where there is memory.
+use pmg_job::Job;
 use pmg_value::Refusal;
 use std::alloc::Global;
 use std::process::Abort;
