@@ -1,5 +1,5 @@
 //! What jobs print, and what they end with.
-use crate::job::run_job;
+use pmg_app::run_job;
 use pmg_launch::{Exchange, Program};
 use pmg_store::WatchedReader;
 use pmg_value::WatchedWriter;

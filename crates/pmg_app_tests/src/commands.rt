@@ -1,117 +1,13 @@
 //! What no clause says: that the word `dump` is taken, that input is read and printed, and what readers and
 //! writers that fail leave.
-use crate::carry_out;
-use crate::command::{Chosen, choose};
-use crate::text::decode_text;
+use crate::running::{FailingWriter, run_failing, run_into, run_on};
+use pmg_app::{Chosen, carry_out, choose};
 use pmg_store::WatchedReader;
-use pmg_value::{Refusal, WatchedWriter};
-use std::alloc::Global;
+use pmg_value::WatchedWriter;
 use std::io;
-use std::io::{ErrorKind, Read, Write};
-use std::sync::Wait;
-use std::thread::Threads;
 
 const ONE_CONTRIBUTION: &[u8] =
     b"010100000027016a00000000000000000000000000000000000000010000000100016100000000000000010101";
-
-// Gives `text`, at most ten bytes a read, and fails at the read of number `fails_at`.
-#[derive(Drop)]
-struct FailingReader<'a> {
-    text: &'a [u8],
-    reads: usize,
-    fails_at: usize,
-}
-
-impl<'a> Read for FailingReader<'a> {
-    fn read(&mut self, buf: &mut [u8]) -> io::Result<usize> {
-        self.reads = self.reads.wrapping_add(1);
-        if self.reads == self.fails_at {
-            return Err(io::Error::from(ErrorKind::Interrupted));
-        }
-        let given = buf.len().min(10);
-        self.text.read(&mut buf[..given])
-    }
-}
-
-// Takes at most seven bytes a write, `writes` times, and then fails. Where `flushes` is false, flushing fails.
-#[derive(Drop)]
-pub struct FailingWriter {
-    pub held: Vec<u8>,
-    writes: usize,
-    flushes: bool,
-}
-
-impl FailingWriter {
-    pub fn new(alloc: Global, writes: usize, flushes: bool) -> FailingWriter {
-        FailingWriter {
-            held: Vec::new(alloc),
-            writes,
-            flushes,
-        }
-    }
-}
-
-impl Write for FailingWriter {
-    fn write(&mut self, buf: &[u8]) -> io::Result<usize> {
-        if self.writes == 0 {
-            return Err(io::Error::from(ErrorKind::BrokenPipe));
-        }
-        self.writes -= 1;
-        let taken = buf.len().min(7);
-        self.held.extend_from_slice(&buf[..taken])?;
-        Ok(taken)
-    }
-
-    fn flush(&mut self) -> io::Result<()> {
-        if self.flushes {
-            Ok(())
-        } else {
-            Err(io::Error::from(ErrorKind::BrokenPipe))
-        }
-    }
-}
-
-// The status that the command ends with, and what it prints, for this text on standard input.
-pub fn run_on<T: AllocGlobal + Threads + Wait + Sync>(
-    rt: &T,
-    chosen: Chosen,
-    text: &[u8],
-) -> (u8, Vec<u8>) {
-    let mut reader = WatchedReader::new(text);
-    let mut writer = WatchedWriter::new(Vec::new(rt.alloc()));
-    let status = carry_out(rt, chosen, Vec::new(rt.alloc()), &mut reader, &mut writer);
-    (status, writer.into_inner())
-}
-
-// The same with this writer: the status, and the writer.
-pub fn run_into<T: AllocGlobal + Threads + Wait + Sync>(
-    rt: &T,
-    chosen: Chosen,
-    text: &[u8],
-    writer: FailingWriter,
-) -> (u8, FailingWriter) {
-    let mut reader = WatchedReader::new(text);
-    let mut writer = WatchedWriter::new(writer);
-    let status = carry_out(rt, chosen, Vec::new(rt.alloc()), &mut reader, &mut writer);
-    (status, writer.into_inner())
-}
-
-// The same with a reader that fails at the read of that number: the status, how often it was read, and what is printed.
-pub fn run_failing<T: AllocGlobal + Threads + Wait + Sync>(
-    rt: &T,
-    chosen: Chosen,
-    text: &[u8],
-    fails_at: usize,
-) -> (u8, usize, Vec<u8>) {
-    let mut reader = WatchedReader::new(FailingReader {
-        text,
-        reads: 0,
-        fails_at,
-    });
-    let mut writer = WatchedWriter::new(Vec::new(rt.alloc()));
-    let status = carry_out(rt, chosen, Vec::new(rt.alloc()), &mut reader, &mut writer);
-    (status, reader.reads(), writer.into_inner())
-}
 
 #[test]
 fn words_ask_for_commands_help_and_the_version(rt: HostRuntime) -> io::Result<()> {
@@ -147,16 +43,20 @@ fn what_was_shown_ends_with_its_status(rt: HostRuntime) {
 }
 
 #[test]
-fn text_is_decoded_in_either_case_and_without_blanks(rt: HostRuntime) -> Result<(), Refusal> {
+fn text_is_decoded_in_either_case_and_without_blanks(rt: HostRuntime) {
     let cases = [
-        ("", b"".as_slice()),
-        (" 0aF9\t\r\n9\n f \n", b"\x0a\xf9\x9f".as_slice()),
+        ("", ""),
+        (
+            "01010000002d 016a00000000 0000000000000000 0000000000000001 00000001 0001610000000000000001 1200000003\n \
+             0aF9\t\r\n9\n f \n",
+            "proc j 0 level 1\n  bytes:0af99f a\n",
+        ),
     ];
     for (text, want) in cases {
-        let bytes = decode_text(rt.alloc(), text.as_bytes())?;
-        assert_eq!(rt; bytes.as_slice(), want, "{text}");
+        let (status, printed) = run_on(&rt, Chosen::Dump, text.as_bytes());
+        assert_eq!(rt; printed.as_slice(), want.as_bytes(), "{text}");
+        assert_eq!(rt; status, 0, "{text}");
     }
-    Ok(())
 }
 
 #[test]

@@ -1,4 +1,5 @@
-//! `pmixgroup`: the servers of a PMIx group, as text: what their frames tell, and what they do as a script says.
+//! The library of `pmixgroup`, which shows the servers of a PMIx group as text: what their frames tell, and what they do as a
+//! script or a job says. Each command of the program is a function over a reader and a writer, which answers the status.
 #![tactic(auto)]
 
 ghost use Rattle.std.specs.Prelude.{◌≡◌, ◌≤◌, ◌+◌, ◌↔◌, ℕ, IfOk, IfSome, IsNone, IsTrue};
@@ -13,70 +14,38 @@ ghost use Rattle.pmg_app.specs.Replay.{PrintsReplies};
 
 mod command;
 mod dump;
-#[cfg(test)]
-mod dump_tests;
 mod job;
-#[cfg(test)]
-mod job_tests;
 mod merge;
-#[cfg(test)]
-mod merge_tests;
 mod replay;
-#[cfg(test)]
-mod replay_tests;
 mod reporting;
 mod status;
-#[cfg(test)]
-mod tests;
 mod text;
 
-use command::Chosen;
-use pmg_job::MAX_JOB_PROCS;
-use pmg_launch::{Exchange, Program};
+pub use command::{Chosen, choose, read_command_line};
+pub use dump::run_dump;
+pub use job::run_job;
+pub use merge::run_merge;
+use pmg_launch::Program;
 use pmg_store::{Failure, MOST_READS, WatchedReader};
 use pmg_value::{Refusal, WatchedWriter};
+pub use replay::run_replay;
 use reporting::conclude;
-use status::{FAILED, USAGE_FAULT};
-use std::alloc::Global;
+pub use status::{DONE, FAILED, NO_MEMORY, USAGE_FAULT};
 use std::io;
 use std::io::{BufReader, BufWriter, ErrorKind, Read, Write};
-use std::process::ExitCode;
 use std::rt::Env;
 use std::sync::Wait;
 use std::thread::Threads;
 
-fn main(rt: HostRuntime) -> ExitCode {
-    let alloc = rt.alloc();
-    let mut programs: Vec<Box<dyn Program>> = Vec::new(alloc);
-    let mut is_short = false;
-    for _ in 0..MAX_JOB_PROCS {
-        let Ok(program) = Box::new(alloc, Exchange::new(rt, alloc)) else {
-            is_short = true;
-            break;
-        };
-        is_short = is_short || programs.push(program).is_err();
-    }
-    let ended = if is_short {
-        Err(io::Error::from(ErrorKind::OutOfMemory))
-    } else {
-        run(&rt, programs)
-    };
-    let status = match ended {
-        Ok(status) => status,
-        Err(error) => end_with(&rt, &mut WatchedWriter::new(io::writer(&rt)), &error),
-    };
-    ExitCode::from(status)
-}
-
 /// Carries out what the command line asks for, from standard input to standard output. Why one of them failed is told
 /// on standard error. The processes of a job run these programs.
-fn run(
+pub fn run(
     rt: &(impl Env + Input + Print + Eprint + AllocGlobal + Threads + Wait + Sync),
     programs: Vec<Box<dyn Program>>,
 ) -> io::Result<u8>
     ensures { IfOk result (λ status. status ≤ 3) }
 {
-    let chosen = command::read_command_line(rt)?;
+    let chosen = read_command_line(rt)?;
     let mut reader = WatchedReader::new(BufReader::new(rt.alloc(), rt.reader())?);
     let mut writer = WatchedWriter::new(BufWriter::new(rt.alloc(), io::writer(rt))?);
     let status = carry_out(rt, chosen, programs, &mut reader, &mut writer);
@@ -90,7 +59,7 @@ fn run(
 }
 
 /// Carries out what was chosen, and answers the status. A job's processes run these programs.
-fn carry_out<T: AllocGlobal + Threads + Wait + Sync, R: Read, W: Write>(
+pub fn carry_out<T: AllocGlobal + Threads + Wait + Sync, R: Read, W: Write>(
     rt: &T,
     chosen: Chosen,
     programs: Vec<Box<dyn Program>>,
@@ -115,16 +84,17 @@ fn carry_out<T: AllocGlobal + Threads + Wait + Sync, R: Read, W: Write>(
 {
     let alloc = rt.alloc();
     match chosen {
-        Chosen::Dump => dump::run_dump(alloc, reader, writer),
-        Chosen::Merge => merge::run_merge(alloc, reader, writer),
-        Chosen::Replay => replay::run_replay(alloc, reader, writer),
-        Chosen::Run => job::run_job(rt, alloc, programs, reader, writer),
+        Chosen::Dump => run_dump(alloc, reader, writer),
+        Chosen::Merge => run_merge(alloc, reader, writer),
+        Chosen::Replay => run_replay(alloc, reader, writer),
+        Chosen::Run => run_job(rt, alloc, programs, reader, writer),
         Chosen::Shown(status) => status,
     }
 }
 
-/// What fails before a command starts is an allocation, an argument that is no text, or standard output.
-fn end_with<W: Write>(rt: &impl Eprint, writer: &mut WatchedWriter<W>, error: &io::Error) -> u8
+/// Tells of what fails before a command starts, which is an allocation, an argument that is no text, or standard output, and
+/// answers the status.
+pub fn end_with<W: Write>(rt: &impl Eprint, writer: &mut WatchedWriter<W>, error: &io::Error) -> u8
     ensures usage { (result ≡ 2) ↔ (error_kind error.now ≡ ErrorKind.InvalidData) }
     ensures memory { error_kind error.now ≡ ErrorKind.OutOfMemory
         → Prints (W.contents writer.old.writer) (W.contents writer.new.writer) writer.new.failure

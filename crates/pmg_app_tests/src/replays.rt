@@ -1,7 +1,7 @@
 //! What scripts print, and what they end with. The scripts that have the name of an input in `examples/replay` are that input,
 //! and print what stands beside it: found by hand, frame by frame.
-use crate::command::Chosen;
-use crate::tests::{FailingWriter, run_failing, run_into, run_on};
+use crate::running::{FailingWriter, run_failing, run_into, run_on};
+use pmg_app::Chosen;
 use std::alloc::{AllocError, Global};
 use std::process::Abort;
 use std::str;
