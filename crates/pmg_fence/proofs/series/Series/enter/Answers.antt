@@ -1,15 +1,10 @@
 use Rattle.std.proofs.Common.{◌∙◌}
 use Rattle.pmg_fence.proofs.SeriesLemmas.{series_with, entry_done}
 use Rattle.pmg_fence.proofs.series.Series.enter.Goals as goal
-use Rattle.pmg_fence.proofs.series.Series.enter.Goals.{in-Some-3, in-None-3}
 
 pub returns-in-Err-clause-err : goal.returns-in-Err-clause-err
 returns-in-Err-clause-err c =
-    let undone = (λ i. series_with ((c.take_back.ensures ∙ c.in_ok-before.ensures.before) i) (c.in-Err.ensures.err i)) ∙ c.self.view_is in
-    elim c.match-before.branch [
-      | in-Some-3 w ↦ w.self-is ∙ undone
-      | in-None-3 w ↦ w.self-is ∙ undone
-    ]
+    (λ i. series_with ((c.take_back.ensures ∙ c.in_ok-before.ensures.before) i) (c.in-Err.ensures.err i)) ∙ c.self.view_is
 
 pub returns-in-Ok-clause-ok : goal.returns-in-Ok-clause-ok
 returns-in-Ok-clause-ok c =

@@ -36,7 +36,7 @@ invariant_of-self-in-Ok c =
     let old = known_of c.self.inside.registry c.self.inside.node c.self.inside.series c.self.inside.ends c.self.inside.waiting.items in
     subst (λ (k : Known). IsKept k c.keep_own.new.owns)
     (sym (change_done old f c.args.change line
-    c.self.inside.registry c.self.inside.node c.self.inside.series c.change-2.new.self c.self.inside.ends c.self.inside.waiting.items _ c.append.new.self.items
+    c.self.inside.registry c.self.inside.node c.self.inside.series c.change.new.self c.self.inside.ends c.self.inside.waiting.items _ c.append.new.self.items
     refl c.in-Ok.ensures.ok c.in_ok-news.ensures c.in_ok-append.ensures.items))
     (kept_changed old c.keep_own.new.owns f c.args.change line (kept_own old c.self.inside.owns c.keep_own.new.owns c.args.signature.now c.self.invariant c.in_ok-keep_own.ensures.ok)
     (own_there old c.self.inside.owns c.keep_own.new.owns c.args.signature.now c.in_ok-keep_own.ensures.ok) c.requires.number
@@ -48,6 +48,6 @@ returns-clause-ok c =
     let line = option_map (λ (l : Bor Local). l.now) c.args.line in
     let old = known_of c.self.inside.registry c.self.inside.node c.self.inside.series c.self.inside.ends c.self.inside.waiting.items in
     change_done old f c.args.change line
-    c.self.inside.registry c.self.inside.node c.self.inside.series c.change-2.new.self c.self.inside.ends c.self.inside.waiting.items _ c.append.new.self.items
+    c.self.inside.registry c.self.inside.node c.self.inside.series c.change.new.self c.self.inside.ends c.self.inside.waiting.items _ c.append.new.self.items
     refl c.in-Ok.ensures.ok c.in_ok-news.ensures c.in_ok-append.ensures.items
     ∙ ap (λ k. changed_with k f c.args.change line) c.self.view_is
