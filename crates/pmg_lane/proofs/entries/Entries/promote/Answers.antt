@@ -27,19 +27,6 @@ loop-place-preserved-in-Some-value c =
       λ n key h. has_stays b d c.args.level n key c.put_read.ensures.stay (popped_places a b c.args.level c.in-Some.place p.reached p.taken p.reads n key (inv.3 n key h)),
     )
 
-pub loop-place-preserved-in_default-value : goal.loop-place-preserved-in_default-value
-loop-place-preserved-in_default-value c =
-    let a = c.loop-place.self in
-    let b = c.pop_reached.new.self in
-    let p = c.in-Some.ensures in
-    let inv = c.loop-place.invariant in (
-      settles_trans c.args.level c.args.self.now a b inv.0
-          (popped_none a b c.args.level c.in-Some.place p.reached p.taken p.reads (p.there ∙ c.in_default-value.is)),
-      popped_within a b c.args.level c.in-Some.place p.reached p.taken p.reads inv.1,
-      popped_roomy a b c.args.level c.in-Some.place p.reached p.taken p.reads inv.2,
-      λ n key h. popped_places a b c.args.level c.in-Some.place p.reached p.taken p.reads n key (inv.3 n key h),
-    )
-
 pub loop-place-preserved : goal.loop-place-preserved
 loop-place-preserved c =
     let a = c.loop-place.self in

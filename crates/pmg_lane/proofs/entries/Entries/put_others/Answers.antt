@@ -14,9 +14,6 @@ loop-key-preserved-in-Some-place c =
     let put = c.put.ensures in
     moves_some c.loop-key.invariant c.pop.new.self c.in-Some.key c.in-Some.place c.in-Some.ensures.taken c.in-Some-place.there c.put.new.self c.in-Some-place.is put.settles put.within put.late put.stay
 
-pub loop-key-preserved-in_default-place : goal.loop-key-preserved-in_default-place
-loop-key-preserved-in_default-place c = moves_none c.loop-key.invariant c.pop.new.self c.in-Some.key c.in-Some.place c.in-Some.ensures.taken c.in_default-place.is
-
 pub loop-key-preserved : goal.loop-key-preserved
 loop-key-preserved c = moves_none c.loop-key.invariant c.pop.new.self c.in-Some.key c.in-Some.place c.in-Some.ensures.taken c.in_default-place.is
 
