@@ -28,20 +28,6 @@ loop-proc-preserved-in-Some-place c =
       joined = λ q. popped_track m n old new c.in-Some.proc c.in-Some.place p.there p.taken c.in-Some-place.track c.in-Some-place.is joined.joined q ∙ inv.joined q;
     }
 
-pub loop-proc-preserved-in_default-place : goal.loop-proc-preserved-in_default-place
-loop-proc-preserved-in_default-place c =
-    let m = c.loop-proc.places in
-    let n = c.pop_place.new.tree in
-    let old = c.loop-proc.self.places in
-    let p = c.in-Some.ensures in
-    let inv = c.loop-proc.invariant in
-    record {
-      kept = inv.kept;
-      others = popped_are m n old old c.in-Some.proc c.in-Some.place p.there p.taken inv.others;
-      room = popped_room m n old old c.in-Some.proc c.in-Some.place p.there p.taken (λ q apart. refl) inv.room;
-      joined = λ q. popped_none m n old old c.in-Some.proc c.in-Some.place p.there p.taken c.in_default-place.is q ∙ inv.joined q;
-    }
-
 pub loop-proc-preserved : goal.loop-proc-preserved
 loop-proc-preserved c =
     let m = c.loop-proc.places in
