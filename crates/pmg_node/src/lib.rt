@@ -21,7 +21,6 @@ mod opening;
 mod parking;
 mod pieces;
 mod publishing;
-mod replies;
 mod setting;
 mod status;
 mod taking;

@@ -23,7 +23,15 @@ pub struct Node {
 
 impl Drop for Node {
     fn drop(self) {
-        let Node { id: _, table: _, board: _, own: _, calls: _, held: _, marks: _ } = self;
+        let Node {
+            id: _,
+            table: _,
+            board: _,
+            own: _,
+            calls: _,
+            held: _,
+            marks: _,
+        } = self;
     }
 }
 

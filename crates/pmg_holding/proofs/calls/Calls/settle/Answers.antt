@@ -13,8 +13,8 @@ pub invariant_of-self : goal.invariant_of-self
 invariant_of-self c =
     let p = c.args.proc.now in
     let old : Calls = rows_of standing_of c.self.inside.rows.entries in
-    let left = c.change_row-left.ensures.left ∙ ap (λ (s : Standing). unwrap_or (finite.get old p) s) c.settled.ensures in
-    let rows = c.change_row-left.ensures.rows ∙ ap (changed_at old p) c.settled.ensures in
+    let left = c.change_row-left.ensures.left ∙ ap (λ (s : Standing). unwrap_or (finite.get old p) s) c.into_call.ensures in
+    let rows = c.change_row-left.ensures.rows ∙ ap (changed_at old p) c.into_call.ensures in
     subst (λ (m : Calls). IsIndex m c.remove.new.self) (sym rows)
     (subst (IsIndex (changed_at old p (standing_by c.args.settled))) (sym c.remove.ensures)
     (index_settled old c.self.inside.waiting c.self.invariant p c.args.settled (standing_of c.change_row-left.result) left))
@@ -22,5 +22,5 @@ invariant_of-self c =
 pub returns : goal.returns
 returns c =
     c.change_row-left.ensures.rows
-    ∙ ap (changed_at (rows_of standing_of c.self.inside.rows.entries) c.args.proc.now) c.settled.ensures
+    ∙ ap (changed_at (rows_of standing_of c.self.inside.rows.entries) c.args.proc.now) c.into_call.ensures
     ∙ ap (λ (m : Calls). changed_at m c.args.proc.now (standing_by c.args.settled)) c.self.view_is
