@@ -52,7 +52,7 @@ returns-in-Ok-clause-step c =
     let scope = c.args.scope in
     let key = c.args.key.now in
     let value = spelling c.args.value.now in
-    let new : Group = record { registry = g.registry; nodes = g.nodes; caches = c.put-2.new.self; sent = g.sent } in
+    let new : Group = record { registry = g.registry; nodes = g.nodes; caches = c.put.new.self; sent = g.sent } in
     let same_key : c.in_ok-copy.field-0 ≡ key = c.in_ok-copy.ensures in
     let same_value : spelling c.in_ok-copy-2.field-0 ≡ value = ap spelling c.in_ok-copy-2.ensures in
     let there = (λ i. first_of (put_cause (cached_by g.caches p) scope (sym same_key i) (sym same_value i)) (tt {0})) ∙ c.in-Ok.ensures.answer in
