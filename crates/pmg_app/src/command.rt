@@ -14,7 +14,7 @@ use std::rt::Env;
 use std::{env, io};
 
 /// What the command line asks for.
-#[derive(Clone, Copy, PartialEq, Eq)]
+#[derive(Clone, Copy, Debug, PartialEq, Eq)]
 pub enum Chosen {
     /// The command `dump`.
     Dump,

@@ -6,7 +6,7 @@ use Rattle.pmg_desk.proofs.lock.Desk.define_set.Goals as goal
 
 pub returns : goal.returns
 returns g c =
-    let changed = c.change_sets-2 in
+    let changed = c.change_sets in
     λ event.
     subst (λ (q : Request). IsReplyTo (Act.request q) (reply_in Reply.defined changed.result)) (λ i. Request.define (c.in_ok-copy.ensures i) (c.in_ok-copies_of.ensures i))
     (changed.ensures event)
