@@ -24,6 +24,7 @@ impl Drop for Event {
 }
 
 /// What happened at a node, from its start on.
+#[derive(Drop)]
 pub struct Journal {
     /// The node's index.
     pub node: NodeId,
@@ -31,12 +32,6 @@ pub struct Journal {
     pub registry: Registry,
     /// What happened, in its order.
     pub events: Vec<Event>,
-}
-
-impl Drop for Journal {
-    fn drop(self) {
-        let Journal { node: _, registry: _, events: _ } = self;
-    }
 }
 
 /// A copy, the same act.

@@ -41,15 +41,10 @@ impl Drop for Called {
 
 /// What a client called, from its start on, but for its reads that wait for nobody. A fence stands there as an entry and a leave,
 /// a get as a question and, where that waits, a take. A call that an allocation failed may be missing.
+#[derive(Drop)]
 pub struct Transcript {
     /// The client's process.
     pub proc: Proc,
     /// What it called, in its order.
     pub calls: Vec<Called>,
-}
-
-impl Drop for Transcript {
-    fn drop(self) {
-        let Transcript { proc: _, calls: _ } = self;
-    }
 }

@@ -17,8 +17,8 @@ pub(crate) fn key(alloc: Global, name: &[u8]) -> Result<Key, Refusal> {
 
 /// The number that the value is, if it is one.
 pub(crate) fn number_in(value: Value) -> Option<u32> {
-    match value {
-        Value::U32(number) => Some(number),
+    match &value {
+        Value::U32(number) => Some(*number),
         _ => None,
     }
 }

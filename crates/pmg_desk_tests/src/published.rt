@@ -63,8 +63,8 @@ fn opened<R: Wait>(rt: &R, alloc: Global) -> Result<(Publisher, Viewer), Refusal
 
 // The number that the value is, if it is one.
 fn number_in(value: Option<Value>) -> Option<u32> {
-    match value {
-        Some(Value::U32(n)) => Some(n),
+    match &value {
+        Some(Value::U32(n)) => Some(*n),
         _ => None,
     }
 }

@@ -17,6 +17,7 @@ pub trait Program: Send + Drop {
 }
 
 /// What came of one client.
+#[derive(Drop)]
 pub struct Report {
     /// The client's process.
     pub proc: Proc,
@@ -26,22 +27,11 @@ pub struct Report {
     pub answer: Result<(), Refusal>,
 }
 
-impl Drop for Report {
-    fn drop(self) {
-        let Report { proc: _, text: _, answer: _ } = self;
-    }
-}
-
 /// What came of a job.
+#[derive(Drop)]
 pub struct Outcome {
     /// The reports of the clients, rising by namespace and rank.
     pub reports: Vec<Report>,
     /// The far dump of node 0, once all clients had ended.
     pub dump: Vec<u8>,
-}
-
-impl Drop for Outcome {
-    fn drop(self) {
-        let Outcome { reports: _, dump: _ } = self;
-    }
 }

@@ -8,17 +8,12 @@ use std::alloc::AllocError;
 
 /// What is read of a process under a key: the values in the near and in the far store, and whether the process has ended in
 /// each.
+#[derive(Drop)]
 pub struct Sight {
     pub near: Option<Value>,
     pub far: Option<Value>,
     pub near_ended: bool,
     pub far_ended: bool,
-}
-
-impl Drop for Sight {
-    fn drop(self) {
-        let Sight { near: _, far: _, near_ended: _, far_ended: _ } = self;
-    }
 }
 
 /// What is read of the process under the key in the board, copied.
