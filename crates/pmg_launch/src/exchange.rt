@@ -11,7 +11,8 @@ use std::sync::Wait;
 
 /// Puts its address, the string `NS/RANK`, for all under `addr`, commits it, enters a collecting fence of all clients, looks for
 /// the addresses of all others, and reports `client NS RANK found N own L`, with its own level; or, where a call of it is
-/// refused, `client NS RANK refused N NAME`, and answers that refusal.
+/// refused, `client NS RANK refused N NAME`, and answers that refusal. The line is whole, or it is not there: then it answers
+/// NoMemory.
 #[derive(Drop)]
 pub struct Exchange<R: Wait> {
     rt: R,
@@ -39,15 +40,15 @@ impl<R: Wait + Send + Drop> Program for Exchange<R> {
         procs: &[Proc],
         out: &mut Vec<u8>,
     ) -> Result<(), Refusal> {
-        match exchange_addresses(&self.rt, self.alloc, client, procs) {
-            Ok(found) => {
-                push_found(out, client.proc(), &found)?;
-                Ok(())
-            }
-            Err(refusal) => {
-                push_refused(out, client.proc(), refusal)?;
-                Err(refusal)
-            }
+        let found = exchange_addresses(&self.rt, self.alloc, client, procs);
+        let start = out.len();
+        if let Err(AllocError) = push_report(out, client.proc(), &found) {
+            out.truncate(start);
+            return Err(Refusal::NoMemory);
+        }
+        match found {
+            Ok(_) => Ok(()),
+            Err(refusal) => Err(refusal),
         }
     }
 }
@@ -99,6 +100,18 @@ fn push_proc(out: &mut Vec<u8>, proc: &Proc, between: &[u8]) -> Result<(), Alloc
 /// The address of the process behind the text, as `j/0`.
 fn push_address(out: &mut Vec<u8>, proc: &Proc) -> Result<(), AllocError> {
     push_proc(out, proc, b"/")
+}
+
+/// The line of a client, behind the text.
+fn push_report(
+    out: &mut Vec<u8>,
+    proc: &Proc,
+    found: &Result<Found, Refusal>,
+) -> Result<(), AllocError> {
+    match found {
+        Ok(found) => push_found(out, proc, found),
+        Err(refusal) => push_refused(out, proc, *refusal),
+    }
 }
 
 /// The line of a client that found others, behind the text.

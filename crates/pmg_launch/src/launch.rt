@@ -101,8 +101,12 @@ fn run_linked<R: Threads + Wait + Sync>(
             let mut all_started = true;
             for link in links {
                 let Link { desk, to, from } = link;
-                let sends = scope.spawn(move || send_frames(rt, desk, &to)).is_ok();
-                let delivers = scope.spawn(move || deliver_frames(rt, desk, &from)).is_ok();
+                let sends = scope
+                    .spawn(move || send_frames(rt, desks, desk, &to))
+                    .is_ok();
+                let delivers = scope
+                    .spawn(move || deliver_frames(rt, desks, desk, &from))
+                    .is_ok();
                 all_started = all_started && sends && delivers;
             }
             let outcome = if all_started {

@@ -1,5 +1,6 @@
 //! The links of a job: they carry frames from server to server.
 
+use crate::desks::close_desks;
 use crossbeam_channel::{Receiver, Sender, unbounded};
 use pmg_desk::Desk;
 use pmg_frame::Frame;
@@ -59,9 +60,9 @@ fn join_ends<'d>(
     Ok(links)
 }
 
-/// Carries the frames that the desk's node sent to the links of their nodes, until the desk is closed. Where one cannot be
-/// carried the desk is closed.
-pub fn send_frames<R: Wait>(rt: &R, desk: &Desk, to: &[Sender<Frame, Global>]) {
+/// Carries the frames that the desk's node sent to the links of their nodes, until the desk is closed or one cannot be carried.
+/// Then all desks are closed: clients of other nodes would wait for what this one tells no more.
+pub fn send_frames<R: Wait>(rt: &R, desks: &[Desk], desk: &Desk, to: &[Sender<Frame, Global>]) {
     for _ in rt.forever() {
         let Ok(frames) = desk.take_frames(rt) else {
             break;
@@ -70,7 +71,7 @@ pub fn send_frames<R: Wait>(rt: &R, desk: &Desk, to: &[Sender<Frame, Global>]) {
             break;
         }
     }
-    desk.close(rt);
+    close_desks(rt, desks);
 }
 
 /// Carries the frames to the links of their nodes, and says whether all of them went.
@@ -86,15 +87,20 @@ fn carry<R: Wait>(rt: &R, frames: VecDeque<Sent>, to: &[Sender<Frame, Global>]) 
     true
 }
 
-/// Delivers the frames that come for the desk's node, until no link brings more. Where one cannot be delivered the desk is
+/// Delivers the frames that come for the desk's node, until no link brings more. Where one cannot be delivered all desks are
 /// closed.
-pub fn deliver_frames<R: Wait>(rt: &R, desk: &Desk, from: &Receiver<Frame, Global>) {
+pub fn deliver_frames<R: Wait>(
+    rt: &R,
+    desks: &[Desk],
+    desk: &Desk,
+    from: &Receiver<Frame, Global>,
+) {
     for _ in rt.forever() {
         let Ok(frame) = from.recv(rt) else {
             return;
         };
         if desk.deliver(rt, frame).is_err() {
-            desk.close(rt);
+            close_desks(rt, desks);
             return;
         }
     }
