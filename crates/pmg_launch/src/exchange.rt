@@ -61,15 +61,25 @@ fn exchange_addresses<R: Wait>(
     procs: &[Proc],
 ) -> Result<Found, Refusal> {
     let key = Key::read(alloc, b"addr")?;
-    let mut address = Vec::new(alloc);
-    push_address(&mut address, client.proc())?;
-    client.put(Scope::Global, key.copy()?, Value::string(alloc, &address)?)?;
+    put_address(alloc, client, &key)?;
     client.commit(rt)?;
     client.fence(rt, procs, true)?;
     let others = count_others(client, procs, &key)?;
-    let me = client.proc().copy()?;
-    let level = client.level_now(&me)?;
+    let level = own_level(client)?;
     Ok(Found { others, level })
+}
+
+/// Puts the address under the key, for all.
+fn put_address(alloc: Global, client: &mut Client<'_>, key: &Key) -> Result<(), Refusal> {
+    let mut address = Vec::new(alloc);
+    push_address(&mut address, client.proc())?;
+    client.put(Scope::Global, key.copy()?, Value::string(alloc, &address)?)
+}
+
+/// The client's own level.
+fn own_level(client: &mut Client<'_>) -> Result<u64, Refusal> {
+    let me = client.proc().copy()?;
+    client.level_now(&me)
 }
 
 /// How many of the other processes have a value under the key.

@@ -66,23 +66,35 @@ fn share_out<'d, R: Wait>(
 ) -> Result<Vec<Work<'d>>, Refusal>
     requires { length desks.now ≡ length registry.now.nodes }
 {
-    let alloc = registry.allocator();
-    let mut work = Vec::with_capacity(alloc, procs.len())?;
+    let mut work = Vec::with_capacity(registry.allocator(), procs.len())?;
     for (proc, program) in procs.iter().zip(programs) {
-        let home = registry.home(proc)?;
-        let client = desks[home.index() as usize].client(rt, proc)?;
-        let report = Report {
-            proc: proc.copy()?,
-            text: Vec::new(alloc),
-            answer: Ok(()),
-        };
-        work.push(Work {
-            program,
-            client,
-            report,
-        })?;
+        work.push(work_of(rt, registry, desks, proc, program)?)?;
     }
     Ok(work)
+}
+
+/// The work of the process's client, which runs the program.
+fn work_of<'d, R: Wait>(
+    rt: &R,
+    registry: &Registry,
+    desks: &'d [Desk],
+    proc: &Proc,
+    program: Box<dyn Program>,
+) -> Result<Work<'d>, Refusal>
+    requires { length desks.now ≡ length registry.now.nodes }
+{
+    let home = registry.home(proc)?;
+    let report = Report {
+        proc: proc.copy()?,
+        text: Vec::new(registry.allocator()),
+        answer: Ok(()),
+    };
+    let client = desks[home.index() as usize].client(rt, proc)?;
+    Ok(Work {
+        program,
+        client,
+        report,
+    })
 }
 
 /// Starts the threads of the links, runs the clients, and closes the desks, so that the links end.
