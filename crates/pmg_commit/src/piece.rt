@@ -96,7 +96,12 @@ pub struct Piece {
 
 impl Drop for Piece {
     fn drop(self) {
-        let Piece { proc: _, from: _, to: _, entries: _ } = self;
+        let Piece {
+            proc: _,
+            from: _,
+            to: _,
+            entries: _,
+        } = self;
     }
 }
 

@@ -44,7 +44,14 @@ pub struct Sealer {
 
 impl Drop for Sealer {
     fn drop(self) {
-        let Sealer { alloc: _, proc: _, level: _, ended: _, near: _, far: _ } = self;
+        let Sealer {
+            alloc: _,
+            proc: _,
+            level: _,
+            ended: _,
+            near: _,
+            far: _,
+        } = self;
     }
 }
 

@@ -37,7 +37,11 @@ pub struct Client<'d> {
 
 impl Drop for Client<'_> {
     fn drop(self) {
-        let Client { desk: _, viewer: _, notes: _ } = self;
+        let Client {
+            desk: _,
+            viewer: _,
+            notes: _,
+        } = self;
     }
 }
 
@@ -265,7 +269,11 @@ impl<'d> Client<'d> {
         let answer = self.end(rt);
         match answer {
             Ok(_) => {
-                let Client { desk: _, viewer: _, notes } = self;
+                let Client {
+                    desk: _,
+                    viewer: _,
+                    notes,
+                } = self;
                 Ok(notes.into_transcript())
             }
             Err(refusal) => Err(Unended {

@@ -31,7 +31,11 @@ pub(crate) struct Notes {
 
 impl Drop for Notes {
     fn drop(self) {
-        let Notes { transcript: _, cache: _, in_call: _ } = self;
+        let Notes {
+            transcript: _,
+            cache: _,
+            in_call: _,
+        } = self;
     }
 }
 

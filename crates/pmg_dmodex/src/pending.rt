@@ -82,7 +82,11 @@ pub struct Pending {
 
 impl Drop for Pending {
     fn drop(self) {
-        let Pending { alloc: _, asked: _, held: _ } = self;
+        let Pending {
+            alloc: _,
+            asked: _,
+            held: _,
+        } = self;
     }
 }
 

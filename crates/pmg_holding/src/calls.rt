@@ -62,7 +62,11 @@ pub struct Calls {
 
 impl Drop for Calls {
     fn drop(self) {
-        let Calls { alloc: _, rows: _, waiting: _ } = self;
+        let Calls {
+            alloc: _,
+            rows: _,
+            waiting: _,
+        } = self;
     }
 }
 

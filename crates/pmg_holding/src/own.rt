@@ -26,7 +26,10 @@ pub struct Own {
 
 impl Drop for Own {
     fn drop(self) {
-        let Own { sealers: _, sets: _ } = self;
+        let Own {
+            sealers: _,
+            sets: _,
+        } = self;
     }
 }
 

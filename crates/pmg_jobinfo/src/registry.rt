@@ -38,7 +38,10 @@ pub struct Registry {
 
 impl Drop for Registry {
     fn drop(self) {
-        let Registry { nodes: _, spaces: _ } = self;
+        let Registry {
+            nodes: _,
+            spaces: _,
+        } = self;
     }
 }
 

@@ -25,7 +25,10 @@ pub struct Track {
 
 impl Drop for Track {
     fn drop(self) {
-        let Track { taken: _, entries: _ } = self;
+        let Track {
+            taken: _,
+            entries: _,
+        } = self;
     }
 }
 

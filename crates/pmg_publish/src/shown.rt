@@ -15,7 +15,10 @@ pub struct Shown {
 
 impl Drop for Shown {
     fn drop(self) {
-        let Shown { board: _, history: _ } = self;
+        let Shown {
+            board: _,
+            history: _,
+        } = self;
     }
 }
 
@@ -27,7 +30,10 @@ pub struct Issue {
 
 impl Drop for Issue {
     fn drop(self) {
-        let Issue { parts: _, history: _ } = self;
+        let Issue {
+            parts: _,
+            history: _,
+        } = self;
     }
 }
 

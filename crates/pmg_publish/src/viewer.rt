@@ -45,7 +45,10 @@ pub struct Viewer {
 
 impl Drop for Viewer {
     fn drop(self) {
-        let Viewer { place: _, history: _ } = self;
+        let Viewer {
+            place: _,
+            history: _,
+        } = self;
     }
 }
 

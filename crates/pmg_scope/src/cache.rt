@@ -25,7 +25,11 @@ pub struct Cache {
 
 impl Drop for Cache {
     fn drop(self) {
-        let Cache { alloc: _, tables: _, sizes: _ } = self;
+        let Cache {
+            alloc: _,
+            tables: _,
+            sizes: _,
+        } = self;
     }
 }
 

@@ -19,7 +19,11 @@ pub struct Tables {
 
 impl Drop for Tables {
     fn drop(self) {
-        let Tables { own: _, near: _, far: _ } = self;
+        let Tables {
+            own: _,
+            near: _,
+            far: _,
+        } = self;
     }
 }
 

@@ -56,6 +56,9 @@ pub struct Told {
 
 impl Drop for Told {
     fn drop(self) {
-        let Told { event: _, answer: _ } = self;
+        let Told {
+            event: _,
+            answer: _,
+        } = self;
     }
 }

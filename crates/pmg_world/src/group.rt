@@ -36,7 +36,12 @@ pub(crate) struct Group {
 
 impl Drop for Group {
     fn drop(self) {
-        let Group { registry: _, nodes: _, caches: _, sent: _ } = self;
+        let Group {
+            registry: _,
+            nodes: _,
+            caches: _,
+            sent: _,
+        } = self;
     }
 }
 

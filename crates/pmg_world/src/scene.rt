@@ -30,7 +30,10 @@ pub(crate) struct Scene {
 
 impl Drop for Scene {
     fn drop(self) {
-        let Scene { world: _, delivered: _ } = self;
+        let Scene {
+            world: _,
+            delivered: _,
+        } = self;
     }
 }
 
