@@ -230,7 +230,7 @@ impl Sealer {
         if self.ended {
             return Ok(None);
         }
-        let puts = last_puts(self.alloc)?;
+        let puts = last_puts();
         Ok(Some(self.stamp(true, &puts, &puts)?))
     }
 
@@ -308,14 +308,10 @@ fn newer_piece(
     Piece::new(Proc::new(nspace, proc.rank), from, level, entries)
 }
 
-/// What an end puts: the key `pmix.term`, true.
-fn last_puts(alloc: Global) -> Result<Vec<(Key, Value)>, AllocError>
-    ensures rising { IfOk result (λ ps. IsRising ps.items) }
-    ensures table { IfOk result (λ ps. table_of ps.items ≡ term_table) }
-    ensures one { IfOk result (λ ps. length ps.items ≡ 1) }
+/// What an end puts: the key `pmix.term`, true. It is made without memory.
+fn last_puts() -> [(Key, Value); 1]
+    ensures rising { IsRising result }
+    ensures table { table_of result ≡ term_table }
 {
-    let key = Key::from_text(alloc, b"pmix.term")?;
-    let mut puts = Vec::with_capacity(alloc, 1)?;
-    puts.push((key, Value::Bool(true)))?;
-    Ok(puts)
+    [(Key::of_termination(), Value::Bool(true))]
 }

@@ -2,7 +2,7 @@
 use Rattle.std.proofs.Common.{arith, ℕ, suc, ◌-◌, ◌≡◌, ◌<◌, ◌≤◌, ◌⊎◌, inl, inr, true, false, cond, List, [], ◌∷◌, refl, sym, ap, ◌∙◌, subst}
 use Rattle.std.specs.Prelude.{Option, Some, None, max}
 use Rattle.std.proofs.lemmas.Bool.{cases_lt, cases_eq}
-use Rattle.std.specs.Cmp.{Equal-is}
+use Rattle.std.specs.Cmp.{Equal-is, ranked}
 use Rattle.std.specs.Ordering.{nat_cmp, is_eq}
 use Rattle.std.proofs.lemmas.Cmp.{nat_cmp_total, tied_itself}
 use Rattle.std.specs.BTreeMap.{BTreeMap, get, is_at}
@@ -224,16 +224,50 @@ next_missing m end apart at (f, t, h, b) = elim (cases_lt 0 f) [
 pub first_missing : (m : BTreeMap ℕ ℕ) → get nat_cmp m 0 ≡ None → Covers m 1 → ⊥
 first_missing m none (f, t, h, b) = let zeroth : 0 ≡ f = omega (arith, b.0) in let bad = sym none ∙ ap (get nat_cmp m) zeroth ∙ h in cc
 
--- up to the level, and with one more range past it, each number is there
-pub reached_with :
-    (m : BTreeMap ℕ ℕ) (level from to top start end n : ℕ) → from ≤ level → top ≡ max level to → HasRange m start end → start ≤ top
-    → ((i : ℕ) → 0 < i → i ≤ level → Covers m i) → 0 < n → n ≤ max top end → Covers m n ⊎ Between from to n
-reached_with m level from to top start end n low is at before reached some up = elim (cases_lt level n) [
-  | inr le ↦ inl (reached n some le)
-  | inl past ↦ elim (cases_lt to n) [
-    | inr le ↦ inr (omega (arith, low, past), le)
-    | inl over ↦ inl (start, end, at, (omega (arith, before, is, past, over), omega (arith, up, is, past, over)))
+-- of the ranges that begin at a number or before it, none goes on past the last one
+pub unreached :
+    (m : BTreeMap ℕ ℕ) (n start end reach : ℕ) → AreApart m → reach ≡ max n end → HasRange m start end → start ≤ n
+    → ((f t : ℕ) → HasRange m f t → f ≤ n → f ≤ start) → Covers m (suc reach) → ⊥
+unreached m n start end reach apart is at before latest (f, t, h, b) = elim (cases_eq f start) [
+  | inl e ↦ let ends : t ≡ end = some_is (sym h ∙ ap (get nat_cmp m) e ∙ at) in omega (arith, ends, b.1, is)
+  | inr o ↦ elim (cases_lt start f) [
+    | inl past ↦
+        let under = (apart start end at).1 f t h past in
+        let low : f ≤ n = omega (arith, under, b.0, is) in
+        let up = latest f t h low in
+        omega (arith, up, past)
+    | inr le ↦
+        let less : f < start = below le o in
+        let under = (apart f t h).1 start end at less in
+        omega (arith, under, before, b.1, is)
   ]
+]
+  where
+    below : {a b : ℕ} → a ≤ b → (a ≡ b → ⊥) → a < b
+    below {a} {b} le other = elim (cases_lt a b) [
+      | inl l ↦ l
+      | inr g ↦ absurd (other (omega (arith, le, g)))
+    ]
+
+-- up to the level, with one more range that begins there or before it, and as far as is reached from there, each number is
+-- there
+pub reached_with :
+    (m : BTreeMap ℕ ℕ) (More : ℕ → Type 0) (level from to top reach n : ℕ) → from ≤ level → top ≡ max level to
+    → ((i : ℕ) → Between from to i → More i) → ((i : ℕ) → 0 < i → i ≤ level → Covers m i ⊎ More i)
+    → ((i : ℕ) → Between top reach i → Covers m i) → 0 < n → n ≤ reach → Covers m n ⊎ More n
+reached_with m More level from to top reach n low is more reached further some up = elim (cases_lt level n) [
+  | inr le ↦ reached n some le
+  | inl past ↦ elim (cases_lt to n) [
+    | inr le ↦ inr (more n (omega (arith, low, past), le))
+    | inl over ↦ inl (further n (omega (arith, is, past, over), up))
+  ]
+]
+
+-- no range has the number after the level where each begins past the level or ends there or before
+pub not_next : (m : BTreeMap ℕ ℕ) (level : ℕ) → ((f t : ℕ) → HasRange m f t → (level < f) ⊎ (t ≤ level)) → Covers m (suc level) → ⊥
+not_next m level sides (f, t, h, b) = elim (sides f t h) [
+  | inl over ↦ omega (arith, over, b.0)
+  | inr up ↦ omega (arith, up, b.1)
 ]
 
 -- ---- many ranges
@@ -288,6 +322,16 @@ there_pair (e ∷ es) sorted key x (inr i) =
           absurd (let bad = sym tie ∙ less in cc)
       | false ↦ λ t. ap (λ b. cond b (Some e.1) (lookup (is_at (nat_cmp key)) es)) t ∙ there_pair es (sorted_tail nat_cmp e.0 (keys_of es) sorted) key x i
     ] refl
+
+-- ranges in order, of which the first begins past the level
+pub all_past :
+    (first : ℕ × ℕ) (others : List (ℕ × ℕ)) (level f t : ℕ) → level < first.0 → IsStrictlySortedBy nat_cmp (keys_of (first ∷ others)) → In (f, t) (first ∷ others)
+    → level < f
+all_past first others level f t over sorted (inl e) = let same : f ≡ first.0 = λ i. (e i).0 in omega (arith, over, same)
+all_past first others level f t over sorted (inr i) =
+    let less = above_all first.0 (keys_of others) (sorted_head nat_cmp first.0 (keys_of others) sorted) f (key_in others f t i) in
+    let after : first.0 < f = ranked first.0 f Less (sym less) in
+    omega (arith, over, after)
 
 pub in_step : {A : Type 0} (x first : A) (all others : List A) → all ≡ first ∷ others → In x all → (x ≡ first) ⊎ In x others
 in_step x first all others e i = subst (In x) e i

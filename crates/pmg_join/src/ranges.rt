@@ -63,6 +63,19 @@ fn have(ends: &BTreeMap<u64, u64>, from: u64, to: u64) -> bool
     }
 }
 
+/// How far the ranges go from the number without a gap.
+fn reach_from(ends: &BTreeMap<u64, u64>, n: u64) -> u64
+    requires { AreApart ends.now }
+    ensures far { n ≤ result }
+    ensures reached { (i : ℕ) → Between n result i → Covers ends.now i }
+    ensures no_more { Covers ends.now (suc result) → ⊥ }
+{
+    match last_up_to(ends, n) {
+        Some(span) => n.max(span.to),
+        None => n,
+    }
+}
+
 /// Takes out the ranges that begin above `from` and can be reached from `top` on, and returns how far they go.
 fn merge_above(ends: &mut BTreeMap<u64, u64>, from: u64, to: u64) -> u64
     requires { from < to }
@@ -189,11 +202,24 @@ impl Ranges {
         if level < from {
             return level;
         }
-        let top = level.max(to);
-        match last_up_to(&self.ends, top) {
-            Some(span) => top.max(span.to),
-            None => top,
+        reach_from(&self.ends, level.max(to))
+    }
+
+    /// How far the ranges go from 1 without a gap once the other ranges are put in too: it takes time in proportion to
+    /// the number of the other ranges and to the logarithm of the number of these.
+    pub fn level_with_all(&self, other: &Ranges) -> u64
+        requires { AreApart self.now.ends }
+        ensures reached { (n : ℕ) → 0 < n → n ≤ result → Covers self.now.ends n ⊎ Covers other.now.ends n }
+        ensures no_more { Covers self.now.ends (suc result) ⊎ Covers other.now.ends (suc result) → ⊥ }
+    {
+        let mut level = self.level();
+        for (from, to) in other.ends.iter() {
+            if level < *from {
+                return level;
+            }
+            level = reach_from(&self.ends, level.max(*to));
         }
+        level
     }
 
     /// Other ranges of the same numbers.

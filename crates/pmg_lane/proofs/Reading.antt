@@ -25,7 +25,7 @@ use Rattle.pmg_commit.proofs.Rules.{numbers_are_between}
 use Rattle.pmg_commit.proofs.ReadLaws.{IsBest, best_of_all, best_read, read_best}
 use Rattle.pmg_lane.specs.Places.{there_at}
 use Rattle.pmg_lane.specs.Entries.{late_cmp, late_entry, read_at, late_at, late_list}
-use Rattle.pmg_lane.specs.Lanes.{known_by, level_of, told, IsTrack}
+use Rattle.pmg_lane.specs.Lanes.{known_by, level_of, told, IsTrack, level_joined}
 use Rattle.pmg_lane.specs.declared.entries.Entries.{Entries}
 use Rattle.pmg_lane.specs.declared.track.Track.{Track}
 use Rattle.pmg_lane.proofs.Promoting.{number_first}
@@ -116,6 +116,24 @@ level_with_more t from to n reached no_more =
         (sym (set.contains-union nat_cmp_total (known_by t).numbers (numbers_between from to) i
         ∙ (λ k. set.contains (numbers_is t k) i || numbers_are_between from to i k)))
         (Decides-or _ _ (set_of-Decides t.taken.ends i) (is_between-Decides from to i))
+
+pub level_with_joined :
+    (t o : Track) (n : ℕ) → ((i : ℕ) → 0 < i → i ≤ n → Covers t.taken.ends i ⊎ Covers o.taken.ends i)
+    → (Covers t.taken.ends (suc n) ⊎ Covers o.taken.ends (suc n) → ⊥) → n ≡ level_joined t o
+level_with_joined t o n reached no_more =
+    let all = set.union (known_by t).numbers (known_by o).numbers in
+    let next : n + 1 ≡ suc n = omega arith in
+    level_unique all n (
+      λ i some up. (decides i).1 (reached i some up),
+      false_from_ne_true (set.contains all (n + 1)) (λ h. no_more ((decides (suc n)).0 (ap (set.contains all) (sym next) ∙ h))),
+    )
+  where
+    decides : (i : ℕ) → Decides (set.contains (set.union (known_by t).numbers (known_by o).numbers) i) (Covers t.taken.ends i ⊎ Covers o.taken.ends i)
+    decides i =
+        subst (λ b. Decides b (Covers t.taken.ends i ⊎ Covers o.taken.ends i))
+        (sym (set.contains-union nat_cmp_total (known_by t).numbers (known_by o).numbers i
+        ∙ (λ k. set.contains (numbers_is t k) i || set.contains (numbers_is o k) i)))
+        (Decides-or _ _ (set_of-Decides t.taken.ends i) (set_of-Decides o.taken.ends i))
 
 pub level_within : (t : Track) (from to n : ℕ) → IsTrack t → to ≤ 4294967295 → ((i : ℕ) → 0 < i → i ≤ n → Covers t.taken.ends i ⊎ Between from to i) → n ≤ 4294967295
 level_within t from to n is bound reached = elim (cases_lt 0 n) [

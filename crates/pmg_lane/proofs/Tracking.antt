@@ -21,8 +21,8 @@ use Rattle.pmg_commit.specs.Knowledge.{Knowledge, nothing, union, core, read, nu
 use Rattle.pmg_commit.specs.CoreLaws.{Has, same_kept, same_knowledge, has_union, union_has_left, union_has_right}
 use Rattle.pmg_commit.proofs.Rules.{numbers_are_between}
 use Rattle.pmg_commit.proofs.ReadLaws.{read_latest, read_none}
-use Rattle.pmg_lane.specs.Entries.{read_at, late_at, Holds, HoldAlike, HasPlaces, ReadsWithin, LatePast, LateFrom, IsRoomyTo, Accounts, Settles, NoneLeft}
-use Rattle.pmg_lane.specs.Lanes.{known_by, level_of, told, IsTrack, level_with}
+use Rattle.pmg_lane.specs.Entries.{read_at, late_at, Holds, HoldAlike, ReadsWithin, LatePast, LateFrom, Accounts, Settles, NoneLeft}
+use Rattle.pmg_lane.specs.Lanes.{known_by, level_of, told, IsTrack, level_with, level_joined}
 use Rattle.pmg_lane.specs.declared.entries.Entries.{Entries}
 use Rattle.pmg_lane.specs.declared.track.Track.{Track}
 use Rattle.pmg_lane.proofs.Settling.{accounts_more, key_read, some_is}
@@ -86,11 +86,11 @@ module _ (t u : Track) (kept : LieIn t.taken.ends u.taken.ends) (no_more : (n : 
       there e (inl h) = inl (alike.0 e.key ∙ h)
       there e (inr h) = inr (alike.1 (e.number, e.key) ∙ h)
 
-  pub roomy_level : level_of u ≡ level_of t
-  roomy_level = level_is_of u ∙ ap level same_set ∙ sym (level_is_of t)
-
   pub roomy_level_with : (from to : ℕ) → level_with t from to ≡ level_with u from to
   roomy_level_with from to = ap (λ k. level (set.union k.numbers (numbers_between from to))) (sym roomy_known)
+
+  pub roomy_level_joined : (other : Track) → level_joined t other ≡ level_joined u other
+  roomy_level_joined other = ap (λ k. level (set.union k.numbers (known_by other).numbers)) (sym roomy_known)
 
   pub roomy_track : AreApart u.taken.ends → IsTrack t → IsTrack u
   roomy_track apart is =
@@ -194,6 +194,15 @@ module _ (t : Track) (ends : BTreeMap ℕ ℕ) (from to : ℕ) (kept : LieIn t.t
   pub filled_level : level (set_of ends) ≡ level_with t from to
   filled_level = ap level filled_set
 
+-- the ranges of a track once those of another are filled
+module _ (t o : Track) (ends : BTreeMap ℕ ℕ) (kept : LieIn t.taken.ends ends) (added : (n : ℕ) → Covers o.taken.ends n → Covers ends n)
+    (no_more : (n : ℕ) → Covers ends n → Covers t.taken.ends n ⊎ Covers o.taken.ends n) where
+  joined_set : set_of ends ≡ set.union (known_by t).numbers (known_by o).numbers
+  joined_set = cover_joined t.taken.ends o.taken.ends ends no_more kept added ∙ sym (λ i. set.union (numbers_is t i) (numbers_is o i))
+
+  pub joined_level : level (set_of ends) ≡ level_joined t o
+  joined_level = ap level joined_set
+
 module _ (t u : Track) (middle : Entries) (from to : ℕ) (es : List Entry)
     (kept : LieIn t.taken.ends u.taken.ends) (added : Spans u.taken.ends from to)
     (no_more : (n : ℕ) → Covers u.taken.ends n → Covers t.taken.ends n ⊎ Between from to n)
@@ -213,22 +222,8 @@ module _ (t o u : Track) (middle : Entries)
   pub joined_core : core (known_by u) ≡ core (union (known_by t) (known_by o))
   joined_core =
       more_core t u middle (known_by o) (Holds o.entries)
-      (numbers_is u ∙ cover_joined t.taken.ends o.taken.ends u.taken.ends no_more kept added ∙ sym (λ i. set.union (numbers_is t i) (numbers_is o i)))
+      (numbers_is u ∙ joined_set t o u.taken.ends kept added no_more)
       (holds_has o) (has_holds o) promoted put
-
--- no level that is reached is past the greatest number of a commit
-pub roomy_reached : (ends : BTreeMap ℕ ℕ) (n : ℕ) (a : Entries) → n ≡ level (set_of ends) → ((i : ℕ) → Covers ends i → i ≤ 4294967295) → IsRoomyTo 4294967295 a → IsRoomyTo n a
-roomy_reached ends n a is bound roomy place has up = let most = level_bound ends 4294967295 bound in roomy place has (omega (arith, is, most, up))
-
--- a place at one level is one at a greater, where the late entries up to that have theirs
-pub places_up : (a : Entries) (m n number : ℕ) (key : List ℕ) → m ≤ n → IsRoomyTo n a → HasPlaces a m number key → HasPlaces a n number key
-places_up a m n number key le roomy has = (
-  λ up. elim (cases_lt m number) [
-    | inl past ↦ roomy (number, key) (has.1 past) up
-    | inr low ↦ has.0 low
-  ],
-  λ past. has.1 (omega (arith, le, past)),
-)
 
 pub past_from : (level : ℕ) (a b : Entries) → LatePast level a → LateFrom level a b → LatePast level b
 past_from level a b past from place = elim (from place) [

@@ -35,6 +35,10 @@ pub record IsTrack (t : Track) : Type 0 where
 abbrev pub level_with : Track → ℕ → ℕ → ℕ
 level_with t from to = level (set.union (known_by t).numbers (numbers_between from to))
 
+-- the level once all that the other track has is taken too
+abbrev pub level_joined : Track → Track → ℕ
+level_joined t other = level (set.union (known_by t).numbers (known_by other).numbers)
+
 -- There is room for the commits from+1 to to and their entries: at the level that is reached with them, a place for each of
 -- their entries, and one where it is read for each late entry up to that level.
 pub record HasRoom (t : Track) (from : ℕ) (to : ℕ) (entries : List PieceEntry) : Type 0 where
@@ -42,9 +46,9 @@ pub record HasRoom (t : Track) (from : ℕ) (to : ℕ) (entries : List PieceEntr
   pub promoted : IsRoomyTo (level_with t from to) t.entries
   pub places : (e : PieceEntry) → In e entries → HasPlaces t.entries (level_with t from to) e.number e.key
 
--- There is room for all that another track has: a place at the level for each of its entries, and one where it is read for
--- each late entry, whatever level is reached with them, since no number is past the greatest of a commit.
+-- There is room for all that another track has: at the level that is reached with it, a place for each of its entries, and one
+-- where it is read for each late entry up to that level.
 pub record HaveRooms (t : Track) (other : Track) : Type 0 where
   pub ranges : HaveRoom other.taken.ends t.taken.ends
-  pub promoted : IsRoomyTo 4294967295 t.entries
-  pub places : (e : Entry) → Holds other.entries e → HasPlaces t.entries (level_of t) e.number e.key
+  pub promoted : IsRoomyTo (level_joined t other) t.entries
+  pub places : (e : Entry) → Holds other.entries e → HasPlaces t.entries (level_joined t other) e.number e.key

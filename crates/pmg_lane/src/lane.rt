@@ -55,9 +55,9 @@ impl Lane {
         self.track.absorb(piece.from(), piece.to(), entries)
     }
 
-    /// Takes all that the other lane has taken. It takes time in proportion to what the other one holds, and to the
-    /// logarithm of what this one does. Where an allocation fails, this one stays as it is, and the other one is handed
-    /// back.
+    /// Takes all that the other lane has taken. It takes time in proportion to what the other one holds and to the late
+    /// entries that are read then, and to the logarithm of what this one holds. Where an allocation fails, this one stays
+    /// as it is, and the other one is handed back.
     pub fn join(&mut self, other: Lane) -> Result<(), AllocFailed<Lane>>
         ensures ok { OnOk result (self.new ≡ join_cores self.old other) }
         ensures err { OnErr result (self.new ≡ self.old) }

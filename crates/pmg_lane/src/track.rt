@@ -152,16 +152,16 @@ impl Track {
         Ok(())
     }
 
-    /// Makes room for all that the other track has.
+    /// Makes room for all that the other track has, and for the late entries that are read then.
     pub fn make_rooms(&mut self, other: &Track) -> Result<(), AllocError>
         requires { IsTrack self.old }
         ensures kept { IsTrack self.new }
         ensures same { known_by self.new ≡ known_by self.old }
         ensures room { OnOk result (HaveRooms self.new other.now) }
     {
-        let level = self.level();
+        let level = self.taken.level_with_all(&other.taken);
         self.entries.make_places_of(level, &other.entries)?;
-        self.entries.make_promoted_places(u64::from(u32::MAX))?;
+        self.entries.make_promoted_places(level)?;
         self.taken.make_rooms(&other.taken)?;
         Ok(())
     }

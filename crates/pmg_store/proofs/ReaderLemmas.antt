@@ -1,5 +1,5 @@
 -- Several readers, of which one is read: what became of them, and which come after it.
-use Rattle.std.proofs.Common.{◌≡◌, ℕ, suc, ◌+◌, ◌<◌, ◌≤◌, zero, List, [], ◌∷◌, map, length, drop, get_or, inl, inr, sym, ap, arith, ◌∙◌}
+use Rattle.std.proofs.Common.{◌≡◌, ℕ, suc, ◌+◌, ◌<◌, ◌≤◌, ◌⊎◌, zero, List, [], ◌∷◌, map, length, drop, get_or, inl, inr, sym, ap, arith, ◌∙◌}
 use Rattle.std.proofs.Math.ListN.{set}
 use Rattle.std.proofs.Math.Seq.{drop-cons}
 use Rattle.std.proofs.lemmas.List.{drop-set-lt}
@@ -13,6 +13,19 @@ pub failed_at : {R : Type 0} (rs : List (WatchedReader R)) (i : ℕ) (r : Watche
 failed_at [] i r within failed = absurd (omega arith)
 failed_at (x ∷ xs) zero r within failed = inl failed
 failed_at (x ∷ xs) (suc i) r within failed = inr (failed_at xs i r (omega arith) failed)
+
+-- where one has failed after the reader at that place was read, it is that one, or one that had failed before
+pub failed_parts : {R : Type 0} (rs : List (WatchedReader R)) (i : ℕ) (r : WatchedReader R) → AnyFailed (set rs i r) → IsSome r.failure ⊎ AnyFailed rs
+failed_parts [] i r failed = inr failed
+failed_parts (x ∷ xs) zero r (inl failed) = inl failed
+failed_parts (x ∷ xs) zero r (inr failed) = inr (inr failed)
+failed_parts (x ∷ xs) (suc i) r (inl failed) = inr (inl failed)
+failed_parts (x ∷ xs) (suc i) r (inr failed) = elim (failed_parts xs i r failed) [ inl now ↦ inl now | inr was ↦ inr (inr was) ]
+
+pub failed_before : {R : Type 0} (rs : List (WatchedReader R)) (i : ℕ) (d : WatchedReader R) → i < length rs → IsSome (get_or rs i d).failure → AnyFailed rs
+failed_before [] i d within failed = absurd (omega arith)
+failed_before (x ∷ xs) zero d within failed = inl failed
+failed_before (x ∷ xs) (suc i) d within failed = inr (failed_before xs i d (omega arith) failed)
 
 -- none was read yet
 pub few_start : {R : Type 0} (rs : List (WatchedReader R)) → ReadFewTimes rs rs

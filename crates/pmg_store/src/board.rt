@@ -65,7 +65,7 @@ impl Board {
     }
 
     /// Takes the pieces into the near store and those into the far store, all of them or none. It takes time in
-    /// proportion to their entries, and to the logarithm of what is held.
+    /// proportion to their entries and to the late entries that are read then, and to the logarithm of what is held.
     pub fn absorb_all(&mut self, near: &[Piece], far: &[Piece]) -> Result<(), AllocError>
         ensures near_ok { OnOk result (self.new.near ≡ join_data self.old.near (data_of near.now)) }
         ensures far_ok { OnOk result (self.new.far ≡ join_data self.old.far (data_of far.now)) }

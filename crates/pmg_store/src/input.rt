@@ -1,5 +1,5 @@
 //! Input read whole, up to a limit.
-ghost use Rattle.std.specs.Prelude.{◌≡◌, ◌≢◌, ◌<◌, ◌≤◌, ◌+◌, ◌⊎◌, IfErr, IfSome, IsNone, IsSome, OnErr, OnOk, is_some, length};
+ghost use Rattle.std.specs.Prelude.{◌≡◌, ◌≢◌, ◌<◌, ◌≤◌, ◌+◌, ◌-◌, ◌^◌, min, ◌⊎◌, IfErr, IfSome, IsNone, IsSome, OnErr, OnOk, is_some, length};
 ghost use Rattle.std.specs.Option.{option_copied};
 ghost use Rattle.std.specs.Io.{ReadsAtMost};
 ghost use Rattle.std.specs.Io.KnownBytes.{ReadConsumes};
@@ -71,7 +71,7 @@ impl<R: Read> WatchedReader<R> {
 
     /// Reads once. The one place that reads.
     pub fn read(&mut self, chunk: &mut [u8]) -> Result<usize, ReadFault>
-        ensures counted { self.new.reads ≤ self.old.reads + 1 }
+        ensures counted { self.new.reads ≡ min (self.old.reads + 1) (2 ^ 64 - 1) }
         ensures bound { ReadsAtMost result chunk.new }
         ensures bytes { ReadConsumes (R.remaining self.old.reader) (R.remaining self.new.reader)
             result chunk.new }

@@ -1,5 +1,5 @@
 //! The dump of what several streams tell.
-ghost use Rattle.std.specs.Prelude.{◌≡◌, ◌≢◌, ◌<◌, ◌≤◌, ◌+◌, ℕ, List, map, length, Some, Ok, Err, IfErr, IfSome, IsSome, OnOk};
+ghost use Rattle.std.specs.Prelude.{◌≡◌, ◌≢◌, ◌<◌, ◌≤◌, ◌+◌, ◌⊎◌, ℕ, List, map, length, Some, Ok, Err, IfErr, IfSome, IsSome, OnOk};
 ghost use Rattle.pmg_value.specs.Lists.{SameItems};
 ghost use Rattle.pmg_commit.specs.Data.{Data, join_data};
 ghost use Rattle.pmg_store.specs.Merged.{data_by_input, failure_in, merged, merge_of, too_many};
@@ -28,6 +28,8 @@ fn take_reader<R: Read>(
     ensures fails { IfErr result (λ e. IfSome (R.remaining reader.old.reader)
         (λ bytes. FailsInput e (or_failure (data_by_input bytes)))) }
     ensures read_fault { IfErr result (λ e. e ≡ Failure.Read → IsSome reader.new.failure) }
+    ensures failed { IsSome reader.new.failure → IsSome reader.old.failure ⊎ (result
+        ≡ Err Failure.Read) }
     ensures no_write_fault { IfErr result (λ e. e ≢ Failure.Write) }
     ensures few { reader.new.reads ≤ reader.old.reads + MOST_READS }
 {
@@ -56,6 +58,7 @@ fn store_of_streams<R: Read>(
         (λ r. R.remaining r.reader) readers.old ≡ map Some streams
         → GivesInput (λ s. s) result (merged streams) }
     ensures read_fault { IfErr result (λ e. e ≡ Failure.Read → AnyFailed readers.new) }
+    ensures failed { AnyFailed readers.new → AnyFailed readers.old ⊎ (result ≡ Err Failure.Read) }
     ensures no_write_fault { IfErr result (λ e. e ≢ Failure.Write) }
     ensures few { ReadFewTimes readers.old readers.new }
 {
@@ -125,8 +128,8 @@ pub fn merge_inputs<W: Write>(
 /// of the streams one after the other as one stream.
 ///
 /// More than 64 streams are refused as TooMany, and none is read. The first fault of the first stream that has one
-/// is told with the stream's number, counted from 1. Any error of a reader is a read fault. Nothing is written before
-/// all streams were read without a fault; where the writer fails, a prefix of the dump was written. Each reader is
+/// is told with the stream's number, counted from 1. Any error of a reader is a read fault, and told as one. Nothing is
+/// written before all streams were read without a fault; where the writer fails, a prefix of the dump was written. Each reader is
 /// read at most 67,108,865 times.
 pub fn merge_streams<R: Read, W: Write>(
     alloc: Global,
@@ -142,6 +145,7 @@ pub fn merge_streams<R: Read, W: Write>(
         → SameItems streams others → length others ≤ MAX_STREAMS
         → OnOk result (WritesDue (W.contents writer.old.writer) (W.contents writer.new.writer) (merge_of others)) }
     ensures read_fault { IfErr result (λ e. e ≡ Failure.Read → AnyFailed readers.new) }
+    ensures failed { AnyFailed readers.new → AnyFailed readers.old ⊎ (result ≡ Err Failure.Read) }
     ensures write_fault { IfErr result (λ e. e ≡ Failure.Write → IsSome writer.new.failure) }
     ensures few { ReadFewTimes readers.old readers.new }
     ensures many { MAX_STREAMS < length readers.old

@@ -82,7 +82,8 @@ impl Store {
     }
 
     /// Takes the piece. It may come in any order, leave gaps, and say again what is known. It takes time in proportion
-    /// to its entries, and to the logarithm of what is held. Where an allocation fails, the store stays as it is.
+    /// to its entries and to the late entries that are read then, and to the logarithm of what is held. Where an
+    /// allocation fails, the store stays as it is.
     pub fn absorb(&mut self, piece: &Piece) -> Result<(), AllocError>
         ensures ok { OnOk result (self.new ≡ absorbed self.old piece.now) }
         ensures err { OnErr result (self.new ≡ self.old) }
@@ -112,9 +113,9 @@ impl Store {
         Ok(store)
     }
 
-    /// Takes all that the other store has taken. It takes time in proportion to what the other one holds, and to the
-    /// logarithm of what this one does. Where an allocation fails, this one stays as it is, and the other one is handed
-    /// back.
+    /// Takes all that the other store has taken. It takes time in proportion to what the other one holds and to the late
+    /// entries that are read then, and to the logarithm of what this one holds. Where an allocation fails, this one stays
+    /// as it is, and the other one is handed back.
     pub fn join(&mut self, other: Store) -> Result<(), AllocFailed<Store>>
         ensures ok { OnOk result (self.new ≡ join_data self.old other) }
         ensures err { OnErr result (self.new ≡ self.old) }

@@ -1,5 +1,5 @@
 //! What a stream of frames tells, and its dump.
-ghost use Rattle.std.specs.Prelude.{◌≡◌, ◌≤◌, ◌+◌, [], ◌∷◌, Ok, map, Some, IfErr, IfSome, IsSome, OnOk};
+ghost use Rattle.std.specs.Prelude.{◌≡◌, ◌≤◌, ◌+◌, ◌⊎◌, [], ◌∷◌, Ok, map, Some, IfErr, IfSome, IsSome, OnOk};
 ghost use Rattle.pmg_wire.specs.Reading.{FailsReading, ReadsAll};
 ghost use Rattle.pmg_join.specs.Joins.{join_all};
 ghost use Rattle.pmg_commit.specs.Data.{Data, join_data, of_contribution};
@@ -70,7 +70,7 @@ pub fn store_of_stream(alloc: Global, bytes: &[u8]) -> Result<Store, Refusal>
 /// that are no pieces are checked like any other, and add nothing.
 ///
 /// A stream with a fault is refused as BadFrame, with the first fault: Input past 67,108,864 bytes, else that
-/// of the frames, else Cut. Any error of the reader is a read fault. Nothing is written before the whole
+/// of the frames, else Cut. Any error of the reader is a read fault, and told as one. Nothing is written before the whole
 /// stream was read without a fault; where the writer fails, a prefix of the dump was written. The reader is read at
 /// most 67,108,865 times.
 pub fn dump_stream<R: Read, W: Write>(
@@ -82,6 +82,9 @@ pub fn dump_stream<R: Read, W: Write>(
         (λ bytes. Dumps (W.contents writer.old.writer) (W.contents writer.new.writer)
         result (or_failure (dump_of bytes))) }
     ensures read_fault { IfErr result (λ e. e ≡ Failure.Read → IsSome reader.new.failure) }
+    ensures failed { IsSome reader.new.failure → IsSome reader.old.failure ⊎ (result
+        ≡ Err Failure.Read) }
+    ensures unwritten { result ≡ Err Failure.Read → writer.new ≡ writer.old }
     ensures write_fault { IfErr result (λ e. e ≡ Failure.Write → IsSome writer.new.failure) }
     ensures few { reader.new.reads ≤ reader.old.reads + MOST_READS }
 {

@@ -131,8 +131,9 @@ impl Tracks {
         }
     }
 
-    /// Takes the commits from+1 to to of the process and their entries. It takes time in proportion to their number,
-    /// and to the logarithm of what is held. Where an allocation fails, the tracks stay as they are.
+    /// Takes the commits from+1 to to of the process and their entries. It takes time in proportion to the number of
+    /// these entries and of the late ones that are read then, and to the logarithm of what is held. Where an allocation
+    /// fails, the tracks stay as they are.
     pub fn absorb(
         &mut self,
         proc: &Proc,

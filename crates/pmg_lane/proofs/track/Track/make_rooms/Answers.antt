@@ -1,10 +1,11 @@
-use Rattle.std.proofs.Common.{refl, sym, subst, ◌∙◌}
+use Rattle.std.proofs.Common.{refl, subst, ◌∙◌}
 use Rattle.pmg_join.proofs.RangeSteps.{lie_in_itself}
 use Rattle.pmg_lane.specs.Entries.{IsRoomyTo, HasPlaces}
 use Rattle.pmg_lane.specs.declared.track.Track.{Track}
 use Rattle.pmg_lane.proofs.Settling.{alike_trans}
 use Rattle.pmg_lane.proofs.Moving.{has_stays}
-use Rattle.pmg_lane.proofs.Tracking.{roomy_track, roomy_known, roomy_level}
+use Rattle.pmg_lane.proofs.Reading.{level_with_joined}
+use Rattle.pmg_lane.proofs.Tracking.{roomy_track, roomy_known, roomy_level_joined}
 use Rattle.pmg_lane.proofs.track.Track.make_rooms.Goals as goal
 
 pub returns-in_err-make_places_of-clause-kept : goal.returns-in_err-make_places_of-clause-kept
@@ -71,11 +72,13 @@ returns-clause-room c =
     let u : Track = record { taken = c.make_rooms.new.self; entries = c.make_promoted_places.new.self } in
     let made = c.in_ok-make_rooms.ensures in
     let alike = alike_trans t.entries c.make_places_of.new.self u.entries c.in_ok-make_places_of.ensures.same c.in_ok-make_promoted_places.ensures.same in
-    let is = c.level-level.ensures.value ∙ sym (roomy_level t u made.kept made.no_more alike) in
+    let o = c.args.other.now in
+    let level = c.level_with_all-level in
+    let is = level_with_joined t o level.result level.ensures.reached level.ensures.no_more ∙ roomy_level_joined t u made.kept made.no_more alike o in
     record {
       ranges = made.room;
-      promoted = subst (λ n. IsRoomyTo n u.entries) c.from.ensures c.in_ok-make_promoted_places.ensures.room;
+      promoted = subst (λ n. IsRoomyTo n u.entries) is c.in_ok-make_promoted_places.ensures.room;
       places = λ e i.
           subst (λ n. HasPlaces u.entries n e.number e.key) is
-          (has_stays c.make_places_of.new.self u.entries c.level-level.result e.number e.key c.in_ok-make_promoted_places.ensures.stay (c.in_ok-make_places_of.ensures.places e i));
+          (has_stays c.make_places_of.new.self u.entries level.result e.number e.key c.in_ok-make_promoted_places.ensures.stay (c.in_ok-make_places_of.ensures.places e i));
     }

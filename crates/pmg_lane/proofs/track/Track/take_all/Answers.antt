@@ -1,10 +1,9 @@
-use Rattle.std.proofs.Common.{◌≤◌, inl, inr, sym, subst}
+use Rattle.std.proofs.Common.{◌≤◌, inl, inr, sym, subst, ◌∙◌}
 use Rattle.pmg_join.specs.Ranges.{set_of}
 use Rattle.pmg_commit.specs.Levels.{level}
-use Rattle.pmg_lane.specs.Entries.{ReadsWithin, LatePast, Settles, Holds, NoneLeft}
-use Rattle.pmg_lane.specs.Lanes.{level_of}
+use Rattle.pmg_lane.specs.Entries.{HasPlaces, ReadsWithin, IsRoomyTo, LatePast, Settles, Holds, NoneLeft}
 use Rattle.pmg_lane.specs.declared.track.Track.{Track}
-use Rattle.pmg_lane.proofs.Tracking.{level_reached, level_up, level_is_of, within_up, roomy_reached, places_up, make_track, past_from, joined_core}
+use Rattle.pmg_lane.proofs.Tracking.{level_reached, level_up, level_is_of, within_up, joined_level, make_track, past_from, joined_core}
 use Rattle.pmg_lane.proofs.track.Track.take_all.Goals as goal
 
 pub promote-requires-clause-within : goal.promote-requires-clause-within
@@ -20,19 +19,17 @@ promote-requires-clause-roomy c =
     let t = c.args.self.now in
     let ends = c.fill_rooms.new.self.ends in
     let is = level_reached ends c.level-level.result c.level-level.ensures.reached c.level-level.ensures.no_more in
-    roomy_reached ends c.level-level.result t.entries is
-    (λ n h. elim (c.fill_rooms.ensures.no_more n h) [ inl a ↦ c.requires.kept.bound n a | inr b ↦ c.requires.other.bound n b ]) c.requires.room.promoted
+    let filled = c.fill_rooms.ensures in
+    subst (λ n. IsRoomyTo n t.entries) (sym (is ∙ joined_level t c.args.other ends filled.kept filled.added filled.no_more)) c.requires.room.promoted
 
 pub put_others-requires-clause-places : goal.put_others-requires-clause-places
 put_others-requires-clause-places c e h =
     let t = c.args.self.now in
     let ends = c.fill_rooms.new.self.ends in
     let is = level_reached ends c.level-level.result c.level-level.ensures.reached c.level-level.ensures.no_more in
-    let up : level_of t ≤ c.level-level.result = subst (λ n. level_of t ≤ n) (sym is) (subst (λ n. n ≤ level (set_of ends)) (sym (level_is_of t)) (level_up t.taken.ends ends c.fill_rooms.ensures.kept)) in
-    let roomy =
-    roomy_reached ends c.level-level.result t.entries is
-    (λ n h. elim (c.fill_rooms.ensures.no_more n h) [ inl a ↦ c.requires.kept.bound n a | inr b ↦ c.requires.other.bound n b ]) c.requires.room.promoted in
-    c.promote.ensures.stay e.number e.key (places_up t.entries (level_of t) c.level-level.result e.number e.key up roomy (c.requires.room.places e h))
+    let filled = c.fill_rooms.ensures in
+    c.promote.ensures.stay e.number e.key
+    (subst (λ n. HasPlaces t.entries n e.number e.key) (sym (is ∙ joined_level t c.args.other ends filled.kept filled.added filled.no_more)) (c.requires.room.places e h))
 
 pub returns-clause-kept : goal.returns-clause-kept
 returns-clause-kept c =
