@@ -92,19 +92,19 @@ read_so_far text done rest part left new whole is read = Consumes-trans (Some te
 
 -- ---- one turn
 module _ {S : Type 0} (plays : S → List ℕ → List ℕ → S → Type 0) (stops : S → List ℕ → Type 0) (over : S → Bool) where
-  plays_push : (s : S) (done : List (List ℕ)) (told : List ℕ) (state : S) (line now : List ℕ) (after : S) → Plays plays stops over s done told state → plays state (content line) now after
+  plays_push : (s : S) (done : List (List ℕ)) (told : List ℕ) (state : S) (line now : List ℕ) (after : S) → Plays plays stops over s done told state → over state ≡ false → plays state (content line) now after
       → Plays plays stops over s (done ++ line ∷ []) (told ++ now) after
   unfolding Plays
-  plays_push s [] told state line now after run played =
-      (after, now, [], subst (λ u. plays u (content line) now after) run.1 played, (refl, refl), ap (λ t. t ++ now) run.0 ∙ sym (append-nil now))
-  plays_push s (first ∷ others) told state line now after run played =
-      (run.0, run.1, run.2 ++ now, run.3, plays_push run.0 others run.2 state line now after run.4 played, ap (λ t. t ++ now) run.5 ∙ append_assoc run.1 run.2 now)
+  plays_push s [] told state line now after run live played =
+      (subst (λ u. over u ≡ false) run.1 live, after, now, [], subst (λ u. plays u (content line) now after) run.1 played, (refl, refl), ap (λ t. t ++ now) run.0 ∙ sym (append-nil now))
+  plays_push s (first ∷ others) told state line now after run live played =
+      (run.0, run.1, run.2, run.3 ++ now, run.4, plays_push run.1 others run.3 state line now after run.5 live played, ap (λ t. t ++ now) run.6 ∙ append_assoc run.2 run.3 now)
 
   -- the next line is done, and its answer is written
   pub going_on : (start : S) (text : List ℕ) (left new first wrote written : Option (List ℕ)) (state : S) (offset : ℕ) (line answer : List ℕ) (after : S)
       → IsGoing plays stops over start text left first wrote state offset → NextLine offset left new line (Ok true) → plays state (content line) answer after → Appends wrote written answer
-      → IsGoing plays stops over start text new first written after (offset + length line)
-  going_on start text left new first wrote written state offset line answer after g next played wrote_it =
+      → over after ≡ false → IsGoing plays stops over start text new first written after (offset + length line)
+  going_on start text left new first wrote written state offset line answer after g next played wrote_it live =
       let rest = left_after left new g.rest line g.is_left next.1 in
       let is_next = one_line next.0.body rest.after next.0.unended in
       let cut = ap lines (rest.parts ∙ ap (λ l. l ++ rest.after) next.0.ends) ∙ is_next ∙ ap (λ l. l ∷ lines rest.after) (sym next.0.ends) in
@@ -116,7 +116,8 @@ module _ {S : Type 0} (plays : S → List ℕ → List ℕ → S → Type 0) (st
         whole = g.whole ∙ ap (λ bytes. joined g.done ++ bytes) rest.parts ∙ sym (append_assoc (joined g.done) line rest.after) ∙ ap (λ bytes. bytes ++ rest.after) (sym (joined_more g.done line));
         cut = g.cut ∙ ap (λ ls. g.done ++ ls) cut ∙ sym (append_assoc g.done (line ∷ []) (lines rest.after));
         count = ap length (joined_more g.done line) ∙ length-append (joined g.done) line ∙ ap (λ n. n + length line) g.count;
-        run = plays_push start g.done g.told state line answer after g.run played;
+        live = live;
+        run = plays_push start g.done g.told state line answer after g.run g.live played;
         wrote = appends_then first wrote written g.told answer wrote_it g.wrote;
       }
 
@@ -138,7 +139,7 @@ module _ {S : Type 0} (plays : S → List ℕ → List ℕ → S → Type 0) (st
         state = state;
         cut = g.cut ∙ ap (λ bytes. g.done ++ lines bytes) (rest.parts ∙ ap (λ l. l ++ rest.after) empty ∙ nothing) ∙ ap (λ ls. g.done ++ ls) no_lines;
         run = g.run;
-        ended = (refl, g.wrote);
+        ended = (g.live, refl, g.wrote);
       }
 
   done_more : (text : List ℕ) (done : List (List ℕ)) (rest line : List ℕ) (others : List (List ℕ)) → lines text ≡ done ++ lines rest → lines rest ≡ line ∷ others
@@ -148,9 +149,9 @@ module _ {S : Type 0} (plays : S → List ℕ → List ℕ → S → Type 0) (st
   -- the last line was done
   pub ends_last : (start : S) (text : List ℕ) (left new first wrote written : Option (List ℕ)) (state : S) (offset : ℕ) (line answer : List ℕ) (after : S)
       → IsGoing plays stops over start text left first wrote state offset → NextLine offset left new line (Ok false) → 0 < length line → plays state (content line) answer after → Appends wrote written answer
-      → Replayed plays stops over start text new first written (Ok ends.AtEnd)
-  ends_last start text left new first wrote written state offset [] answer after g next some played wrote_it = absurd (omega (arith, some))
-  ends_last start text left new first wrote written state offset (b ∷ bs) answer after g next some played wrote_it =
+      → over after ≡ false → Replayed plays stops over start text new first written (Ok ends.AtEnd)
+  ends_last start text left new first wrote written state offset [] answer after g next some played wrote_it live = absurd (omega (arith, some))
+  ends_last start text left new first wrote written state offset (b ∷ bs) answer after g next some played wrote_it live =
       let rest = left_after left new g.rest (b ∷ bs) g.is_left next.1.0 in
       let nothing = at_end new rest.after rest.is_left next.1.1 in
       let cut = ap lines (rest.parts ∙ ap (λ l. (b ∷ bs) ++ l) nothing ∙ append-nil (b ∷ bs)) ∙ last_line b bs next.0 in
@@ -160,8 +161,8 @@ module _ {S : Type 0} (plays : S → List ℕ → List ℕ → S → Type 0) (st
         told = g.told ++ answer;
         state = after;
         cut = done_more text g.done g.rest (b ∷ bs) [] g.cut cut;
-        run = plays_push start g.done g.told state (b ∷ bs) answer after g.run played;
-        ended = (refl, appends_then first wrote written g.told answer wrote_it g.wrote);
+        run = plays_push start g.done g.told state (b ∷ bs) answer after g.run g.live played;
+        ended = (live, refl, appends_then first wrote written g.told answer wrote_it g.wrote);
       }
 
   -- a line was done after which no other is
@@ -176,7 +177,7 @@ module _ {S : Type 0} (plays : S → List ℕ → List ℕ → S → Type 0) (st
         told = g.told ++ answer;
         state = after;
         cut = done_more text g.done g.rest line found.others g.cut found.cut;
-        run = plays_push start g.done g.told state line answer after g.run played;
+        run = plays_push start g.done g.told state line answer after g.run g.live played;
         ended = (is_over, appends_then first wrote written g.told answer wrote_it g.wrote);
       }
 
@@ -187,10 +188,11 @@ module _ {S : Type 0} (plays : S → List ℕ → List ℕ → S → Type 0) (st
       record { done = g.done; others = lines g.rest; told = g.told; state = state; cut = g.cut; run = g.run; ended = go e next }
     where
       go : (e : Failure) → NoLine offset left new line e → EndsAs plays stops over text new first wrote g.done (lines g.rest) g.told state (Err e)
-      go Read next = (record { part = line; unended = next.0; read = read_so_far text g.done g.rest line left new g.whole g.is_left next.1 }, g.wrote)
-      go (Refused NoMemory) next = g.wrote
+      go Read next = (g.live, record { part = line; unended = next.0; read = read_so_far text g.done g.rest line left new g.whole g.is_left next.1 }, g.wrote)
+      go (Refused NoMemory) next = (g.live, g.wrote)
       go (Refused (BadFrame f)) next =
           let past = next.1 in (
+            g.live,
             inr (
               next.0,
               record {
@@ -218,14 +220,14 @@ module _ {S : Type 0} (plays : S → List ℕ → List ℕ → S → Type 0) (st
         state = state;
         cut = g.cut ∙ ap (λ ls. g.done ++ ls) found.cut;
         run = g.run;
-        ended = (inl (ap no_line (sym g.count), stopped), g.wrote);
+        ended = (g.live, inl (ap no_line (sym g.count), stopped), g.wrote);
       }
 
   -- an allocation failed that the next line takes
   pub ends_unserved : (start : S) (text : List ℕ) (left new first wrote : Option (List ℕ)) (state : S) (offset : ℕ)
       → IsGoing plays stops over start text left first wrote state offset → Replayed plays stops over start text new first wrote (Err (Refused NoMemory))
   ends_unserved start text left new first wrote state offset g =
-      record { done = g.done; others = lines g.rest; told = g.told; state = state; cut = g.cut; run = g.run; ended = g.wrote }
+      record { done = g.done; others = lines g.rest; told = g.told; state = state; cut = g.cut; run = g.run; ended = (g.live, g.wrote) }
 
   -- the answer of the next line was not written
   pub ends_unwritten : (start : S) (text : List ℕ) (left new first wrote written : Option (List ℕ)) (state : S) (offset : ℕ) (line answer : List ℕ) (after : S) (ended : Bool)
@@ -240,16 +242,19 @@ module _ {S : Type 0} (plays : S → List ℕ → List ℕ → S → Type 0) (st
         state = state;
         cut = g.cut ∙ ap (λ ls. g.done ++ ls) found.cut;
         run = g.run;
-        ended = record {
-          line = line;
-          rest = found.others;
-          is_next = refl;
-          answer = answer;
-          after = after;
-          played = played;
-          count = front.count;
-          wrote = appends_then first wrote written g.told (take front.count answer) front.bytes g.wrote;
-        };
+        ended = (
+          g.live,
+          record {
+            line = line;
+            rest = found.others;
+            is_next = refl;
+            answer = answer;
+            after = after;
+            played = played;
+            count = front.count;
+            wrote = appends_then first wrote written g.told (take front.count answer) front.bytes g.wrote;
+          },
+        );
       }
 
   -- a line was not done
@@ -264,10 +269,10 @@ module _ {S : Type 0} (plays : S → List ℕ → List ℕ → S → Type 0) (st
       rw (memory refl) (ends_unserved start text left new first wrote state offset g)
 
   -- nothing was done yet
-  pub going_start : (start : S) (known first : Option (List ℕ)) → IfSome known (λ text. IsGoing plays stops over start text known first first start 0)
+  pub going_start : (start : S) (known first : Option (List ℕ)) → over start ≡ false → IfSome known (λ text. IsGoing plays stops over start text known first first start 0)
   unfolding Plays
-  going_start start None first = tt
-  going_start start (Some text) first = record {
+  going_start start None first live = tt
+  going_start start (Some text) first live = record {
     done = [];
     rest = text;
     told = [];
@@ -275,6 +280,7 @@ module _ {S : Type 0} (plays : S → List ℕ → List ℕ → S → Type 0) (st
     whole = refl;
     cut = refl;
     count = refl;
+    live = live;
     run = (refl, refl);
     wrote = appends_nothing first;
   }

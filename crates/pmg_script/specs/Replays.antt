@@ -1,5 +1,5 @@
 -- What a whole script does: which of its lines were done, what was written, and why it ended.
-use Rattle.std.specs.Prelude.{◌≡◌, ◌⊎◌, ℕ, ◌+◌, ◌≤◌, ◌<◌, Bool, true, List, [], ◌∷◌, ◌++◌, length, take, Option, Some, None, Result, Ok, Err}
+use Rattle.std.specs.Prelude.{◌≡◌, ◌⊎◌, ℕ, ◌+◌, ◌≤◌, ◌<◌, Bool, true, false, List, [], ◌∷◌, ◌++◌, length, take, Option, Some, None, Result, Ok, Err}
 use Rattle.std.specs.Io.KnownBytes.{Appends, Consumes}
 use Rattle.pmg_value.specs.declared.refusal.Cause.TheVariants as causes
 use Rattle.pmg_value.specs.declared.refusal.Fault.{Fault}
@@ -37,13 +37,14 @@ pub record IsTooLong (text : List ℕ) (left : Option (List ℕ)) (done : List (
   pub byte : ℕ
   pub read : Consumes (Some text) left (joined done ++ (part ++ byte ∷ []))
 
--- how one state answers a line, by its content, with a text, and what it is then; which lines it takes for none; and where it is over
+-- how one state answers a line, by its content, with a text, and what it is then; which lines it takes for none; and where it is over,
+-- after which no line is done
 module _ {S : Type 0} (plays : S → List ℕ → List ℕ → S → Type 0) (stops : S → List ℕ → Type 0) (over : S → Bool) where
   -- These lines, one after another, lead from one state to another, and are answered with this text.
   unfoldable pub Plays : S → List (List ℕ) → List ℕ → S → Type 0
   Plays s [] told v = (told ≡ []) × (v ≡ s)
   Plays s (line ∷ others) told v =
-      (mid : S) × (now : List ℕ) × (later : List ℕ) × plays s (content line) now mid × Plays mid others later v × (told ≡ now ++ later)
+      (over s ≡ false) × (mid : S) × (now : List ℕ) × (later : List ℕ) × plays s (content line) now mid × Plays mid others later v × (told ≡ now ++ later)
 
   -- the next line is none
   abbrev pub IsStopped : S → List (List ℕ) → Type 0
@@ -61,15 +62,15 @@ module _ {S : Type 0} (plays : S → List ℕ → List ℕ → S → Type 0) (st
     pub count : ℕ
     pub wrote : Appends old new (told ++ take count answer)
 
-  -- Why it ended, where these lines were done, and these others were not.
+  -- Why it ended, where these lines were done, and these others were not. It is over exactly where the last state is.
   abbrev pub EndsAs : List ℕ → Option (List ℕ) → Option (List ℕ) → Option (List ℕ) → List (List ℕ) → List (List ℕ) → List ℕ → S → Result Ended Failure → Type 0
-  EndsAs text left old new done others told s (Ok ends.AtEnd) = (others ≡ []) × Appends old new told
+  EndsAs text left old new done others told s (Ok ends.AtEnd) = (over s ≡ false) × (others ≡ []) × Appends old new told
   EndsAs text left old new done others told s (Ok ends.Over) = (over s ≡ true) × Appends old new told
-  EndsAs text left old new done others told s (Err Read) = IsCaughtUp text left done × Appends old new told
-  EndsAs text left old new done others told s (Err Write) = IsUnwritten s others told old new
-  EndsAs text left old new done others told s (Err (Refused NoMemory)) = Appends old new told
+  EndsAs text left old new done others told s (Err Read) = (over s ≡ false) × IsCaughtUp text left done × Appends old new told
+  EndsAs text left old new done others told s (Err Write) = (over s ≡ false) × IsUnwritten s others told old new
+  EndsAs text left old new done others told s (Err (Refused NoMemory)) = (over s ≡ false) × Appends old new told
   EndsAs text left old new done others told s (Err (Refused (BadFrame f))) =
-      (((f ≡ no_line (length (joined done))) × IsStopped s others) ⊎ ((f ≡ too_much_input) × IsTooLong text left done)) × Appends old new told
+      (over s ≡ false) × (((f ≡ no_line (length (joined done))) × IsStopped s others) ⊎ ((f ≡ too_much_input) × IsTooLong text left done)) × Appends old new told
   EndsAs text left old new done others told s (Err _) = ⊥
 
   -- The first lines of the text were done, from one state to another, and their answers were written; and it ended there.
@@ -91,6 +92,7 @@ module _ {S : Type 0} (plays : S → List ℕ → List ℕ → S → Type 0) (st
     pub whole : text ≡ joined done ++ rest
     pub cut : lines text ≡ done ++ lines rest
     pub count : length (joined done) ≡ offset
+    pub live : over state ≡ false
     pub run : Plays start done told state
     pub wrote : Appends old new told
 

@@ -1,5 +1,5 @@
 //! Doing a script line by line, each reply written before the next line is read.
-ghost use Rattle.std.specs.Prelude.{◌≡◌, ◌≤◌, ◌+◌, ℕ, Bool, List, Option, IfErr, IfOk, IfSome, IsSome};
+ghost use Rattle.std.specs.Prelude.{◌≡◌, ◌≤◌, ◌+◌, ℕ, Bool, false, List, Option, IfErr, IfOk, IfSome, IsSome};
 ghost use Rattle.pmg_store.specs.declared.input.TheConstants.{INPUT_LIMIT, MOST_READS};
 ghost use Rattle.pmg_store.specs.declared.failure.Failure.TheVariants as failures;
 ghost use Rattle.pmg_value.specs.declared.refusal.Refusal.TheVariants as refusals;
@@ -108,6 +108,7 @@ pub fn play_script<P: Player, R: Read, W: Write>(
     player: &mut P,
     writer: &mut WatchedWriter<W>,
 ) -> Result<Ended, Failure>
+    requires { P.over player.old ≡ false }
     ensures few { reader.new.reads ≤ reader.old.reads + MOST_READS }
     ensures replayed { IfSome (R.remaining reader.old.reader) (λ text.
         Replayed P.plays P.stops P.over player.old text (R.remaining reader.new.reader) (W.contents writer.old.writer) (W.contents writer.new.writer) result) }

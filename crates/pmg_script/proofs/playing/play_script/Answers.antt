@@ -7,5 +7,5 @@ loop-init g c = record {
   within = search rules;
   gone = search rules;
   reads = search rules;
-  going = going_start g.P.Player.plays g.P.Player.stops g.P.Player.over c.args.player.now (g.R.Read.remaining c.args.reader.now.reader) (g.W.Write.contents c.args.writer.now.writer);
+  going = going_start g.P.Player.plays g.P.Player.stops g.P.Player.over c.args.player.now (g.R.Read.remaining c.args.reader.now.reader) (g.W.Write.contents c.args.writer.now.writer) c.requires;
 }

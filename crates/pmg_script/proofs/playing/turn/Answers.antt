@@ -51,7 +51,7 @@ returns-then-not-is_ended-clause-turned g c start text first going =
     let played = subst (λ held. g.P.Player.plays c.args.player.now held c.in-Ok.reply.items c.play.new.self) (c.content.ensures ∙ ap content c.deref.ensures.value) c.in-Ok.ensures.ok in
     let wrote = subst (λ bytes. Appends (g.W.Write.contents c.args.writer.now.writer) (g.W.Write.contents c.put_text.new.self.writer) bytes) c.deref-2.ensures.value c.in_ok-put_text.ensures.text.1 in
     let next = subst (λ (b : Bool). NextLine c.args.offset.now (g.R.Read.remaining c.args.reader.now.reader) (g.R.Read.remaining c.next_line.new.reader.reader) c.next_line.new.line.items (Ok b)) c.if-not-is_ended.true c.in_ok-is_ended.ensures.line in
-    ends_last g.P.Player.plays g.P.Player.stops g.P.Player.over start text (g.R.Read.remaining c.args.reader.now.reader) (g.R.Read.remaining c.next_line.new.reader.reader) first (g.W.Write.contents c.args.writer.now.writer) (g.W.Write.contents c.put_text.new.self.writer) c.args.player.now c.args.offset.now c.next_line.new.line.items c.in-Ok.reply.items c.play.new.self going next some played wrote
+    ends_last g.P.Player.plays g.P.Player.stops g.P.Player.over start text (g.R.Read.remaining c.args.reader.now.reader) (g.R.Read.remaining c.next_line.new.reader.reader) first (g.W.Write.contents c.args.writer.now.writer) (g.W.Write.contents c.put_text.new.self.writer) c.args.player.now c.args.offset.now c.next_line.new.line.items c.in-Ok.reply.items c.play.new.self going next some played wrote (sym c.is_over.ensures ∙ c.if-is_over.false)
 
 pub returns-clause-turned : goal.returns-clause-turned
 returns-clause-turned g c start text first going =
@@ -59,4 +59,4 @@ returns-clause-turned g c start text first going =
     let wrote = subst (λ bytes. Appends (g.W.Write.contents c.args.writer.now.writer) (g.W.Write.contents c.put_text.new.self.writer) bytes) c.deref-2.ensures.value c.in_ok-put_text.ensures.text.1 in
     let next = subst (λ (b : Bool). NextLine c.args.offset.now (g.R.Read.remaining c.args.reader.now.reader) (g.R.Read.remaining c.next_line.new.reader.reader) c.next_line.new.line.items (Ok b)) c.if-not-is_ended.false c.in_ok-is_ended.ensures.line in
     let size : c.len.result ≡ length c.next_line.new.line.items = search rules in
-    rw size (going_on g.P.Player.plays g.P.Player.stops g.P.Player.over start text (g.R.Read.remaining c.args.reader.now.reader) (g.R.Read.remaining c.next_line.new.reader.reader) first (g.W.Write.contents c.args.writer.now.writer) (g.W.Write.contents c.put_text.new.self.writer) c.args.player.now c.args.offset.now c.next_line.new.line.items c.in-Ok.reply.items c.play.new.self going next played wrote)
+    rw size (going_on g.P.Player.plays g.P.Player.stops g.P.Player.over start text (g.R.Read.remaining c.args.reader.now.reader) (g.R.Read.remaining c.next_line.new.reader.reader) first (g.W.Write.contents c.args.writer.now.writer) (g.W.Write.contents c.put_text.new.self.writer) c.args.player.now c.args.offset.now c.next_line.new.line.items c.in-Ok.reply.items c.play.new.self going next played wrote (sym c.is_over.ensures ∙ c.if-is_over.false))
