@@ -125,3 +125,12 @@ gone_are_true jobs node scripts t f level fits ready =
     filter_alike (λ q. says_gone (told_of jobs node t f q)) (λ q. says_gone (entry (scripts q) f)) (participants_of f) (λ q i.
     let is = covered_told jobs node t f level ready q i in
     ap says_gone (is.1 ∙ sym (told_is_true jobs node scripts t f q is.0 fits i is.1)))
+
+-- the gone of a fence that is ready stay the same, whatever comes to be known
+pub gone_stay : (jobs : Jobs) (node : ℕ) (old new : Fences) (f : FenceName) (level : Proc → ℕ) → Keeps jobs node old new f → is_ready jobs node old f level ≡ true
+    → gone_by jobs node old f ≡ gone_by jobs node new f
+unfolding gone_by
+gone_stay jobs node old new f level keeps ready =
+    filter_alike (λ q. says_gone (told_of jobs node old f q)) (λ q. says_gone (told_of jobs node new f q)) (participants_of f) (λ q i.
+    let is = covered_told jobs node old f level ready q i in
+    ap says_gone (is.1 ∙ sym (told_kept jobs node old new f keeps q is.0 is.1)))

@@ -1,10 +1,10 @@
 -- A header that is there stays as it is.
-use Rattle.std.proofs.Common.{◌≡◌, ℕ, Bool, true, false, ◌==◌, cond, List, [], ◌∷◌, ◌++◌, Option, Some, refl, sym, ap, ◌∙◌}
+use Rattle.std.proofs.Common.{◌≡◌, ℕ, suc, Bool, true, false, ◌==◌, cond, List, [], ◌∷◌, ◌++◌, Option, Some, None, refl, sym, ap, ◌∙◌}
 use Rattle.std.specs.FinMap as finite
 use Rattle.std.specs.FinMap.{nat_cmp-IsAntisymmetric}
 use Rattle.std.specs.Ordering.{eq_by_cmp, nat_cmp}
 use Rattle.std.specs.Cmp.{Equal-is, nat_cmp_total}
-use Rattle.pmg_value.specs.Signatures.{FenceName}
+use Rattle.pmg_value.specs.Signatures.{Signature, FenceName}
 use Rattle.pmg_value.specs.declared.process.Proc.{Proc}
 use Rattle.pmg_scope.specs.Scripts.{Call, commits}
 use Rattle.pmg_frame.specs.Fences.{Header}
@@ -12,12 +12,13 @@ use Rattle.pmg_frame.specs.declared.local.Local.{Local}
 use Rattle.pmg_jobinfo.specs.Jobs.{Jobs}
 use Rattle.pmg_fence.specs.Codes.{Headers}
 use Rattle.pmg_fence.specs.Entering.{entry_by, locals_of}
-use Rattle.pmg_fence.specs.Tables.{Fence, Fences, series_at, fence_at, entry_at, own_header, header_at}
+use Rattle.pmg_fence.specs.Tables.{Numbers, Fence, Fences, series_at, fence_at, count_of, entry_at, own_header, header_at}
+use Rattle.pmg_fence.specs.declared.entry.Entry.{Entry}
 use Rattle.pmg_fence.specs.Changes.{placed, next_name, entered_by, ended_by, fence_entered, fence_told, first_of}
 use Rattle.pmg_fence.specs.Rules.{FitsTable, Scripts, Grows, Keeps, with_call, LearnKeeps, HeaderKeeps, EnterKeeps, EndKeeps}
-use Rattle.pmg_fence.proofs.HeaderLemmas.{told_alike}
+use Rattle.pmg_fence.proofs.HeaderLemmas.{by_proc, told_alike, told_stays}
 use Rattle.pmg_fence.proofs.FitLemmas.{header_stays, own_header_is_true}
-use Rattle.pmg_fence.proofs.StepLemmas.{call_grows, enter_fits, end_fits, headers_placed, levels_placed}
+use Rattle.pmg_fence.proofs.StepLemmas.{call_grows, enter_fits, end_fits, headers_placed, levels_placed, not_it}
 use Rattle.pmg_fence.proofs.TableLemmas.{same_name, name_exact, fence-placed, ends-placed}
 
 -- ---- one change
@@ -96,3 +97,61 @@ end_keeps jobs node scripts t p f home live fits =
     keeps_by jobs node t (ended_by t p last) f
     (own_still jobs node scripts (with_call scripts p Call.terminate) t (ended_by t p last) f (call_grows scripts p Call.terminate) fits (end_fits jobs node scripts t p home live fits))
     (λ other ls is. is)
+
+-- ---- the same with no script: a process that stands to no fence so far comes to
+
+not_told : (e : Entry) → None ≡ Some e → ⊥
+not_told e is = cc
+
+-- how each own process stood, it stands
+own_lasts : (jobs : Jobs) (node : ℕ) (t new : Fences) (f : FenceName) → ((q : Proc) (e : Entry) → entry_at t f q ≡ Some e → entry_at new f q ≡ Some e)
+    → (ls : List Local) → own_header jobs node t f ≡ Some ls → own_header jobs node new f ≡ Some ls
+unfolding own_header
+own_lasts jobs node t new f stays ls is = told_stays (entry_at t f) (entry_at new f) (locals_of jobs f node) stays ls is
+
+module _ (jobs : Jobs) (node : ℕ) (t : Fences) (p : Proc) where
+  module _ (g : Signature) (level : ℕ) (none : finite.get (fence_at t (next_name t g p)).levels p ≡ None) (live : finite.get t.ends p ≡ None) where
+    abbrev its_fence : Fence
+    its_fence = fence_entered (fence_at t (next_name t g p)) p level
+
+    abbrev its_counts : Numbers
+    its_counts = finite.insert (series_at t g).counts p (suc (count_of t g p))
+
+    stands_by : (f : FenceName) (q : Proc) (e : Entry) (b : Bool) → same_name f (next_name t g p) ≡ b → entry_by (finite.get (fence_at t f).levels q) (finite.get t.ends q) ≡ Some e
+        → entry_by (finite.get (cond b its_fence (fence_at t f)).levels q) (finite.get t.ends q) ≡ Some e
+    stands_by f q e false other is = is
+    stands_by f q e true same is =
+        let name = name_exact f (next_name t g p) same in
+        by_proc q p
+        (λ its. absurd (not_told e (sym (λ i. entry_by (none i) (live i)) ∙ sym (λ i. entry_by (finite.get (fence_at t (name i)).levels (its i)) (finite.get t.ends (its i))) ∙ is)))
+        (λ apart.
+        ap (λ o. entry_by o (finite.get t.ends q)) (not_it p q (fence_at t (next_name t g p)).levels level apart ∙ ap (λ x. finite.get (fence_at t x).levels q) (sym name)) ∙ is)
+
+    stands_still : (f : FenceName) (q : Proc) (e : Entry) → entry_at t f q ≡ Some e → entry_at (entered_by t g p level) f q ≡ Some e
+    unfolding entry_at
+    stands_still f q e is =
+        (λ i. entry_by (finite.get (fence-placed t (next_name t g p) its_fence its_counts f i).levels q) (finite.get (ends-placed t (next_name t g p) its_fence its_counts i) q))
+        ∙ stands_by f q e (same_name f (next_name t g p)) refl is
+
+    -- an entry of a process that has not entered that fence, and has not ended
+    pub enter_lasts : (f : FenceName) → Keeps jobs node t (entered_by t g p level) f
+    enter_lasts f =
+        keeps_by jobs node t (entered_by t g p level) f (own_lasts jobs node t (entered_by t g p level) f (stands_still f))
+        (λ other ls is. ap (λ m. finite.get m other) (headers_placed t (next_name t g p) its_fence its_counts f refl) ∙ is)
+
+  over_by : (o end last : Option ℕ) (e : Entry) → end ≡ None → entry_by o end ≡ Some e → entry_by o last ≡ Some e
+  over_by (Some n) end last e none is = is
+  over_by None end last e none is = absurd (not_told e (sym (ap (entry_by None) none) ∙ is))
+
+  module _ (last : ℕ) (live : finite.get t.ends p ≡ None) where
+    stood_still : (f : FenceName) (q : Proc) (e : Entry) → entry_at t f q ≡ Some e → entry_at (ended_by t p last) f q ≡ Some e
+    unfolding entry_at fence_at series_at
+    stood_still f q e is =
+        by_proc q p
+        (λ its. over_by (finite.get (fence_at t f).levels q) (finite.get t.ends q) (finite.get (finite.insert t.ends p last) q) e (ap (finite.get t.ends) its ∙ live) is)
+        (λ apart. ap (entry_by (finite.get (fence_at t f).levels q)) (not_it p q t.ends last apart) ∙ is)
+
+    -- the end of a process that has not ended
+    pub end_lasts : (f : FenceName) → Keeps jobs node t (ended_by t p last) f
+    unfolding fence_at series_at
+    end_lasts f = keeps_by jobs node t (ended_by t p last) f (own_lasts jobs node t (ended_by t p last) f (stood_still f)) (λ other ls is. is)

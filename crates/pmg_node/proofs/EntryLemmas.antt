@@ -1,10 +1,14 @@
 -- How a node judges who enters a fence, and what comes of an entry.
-use Rattle.std.proofs.Common.{◌≡◌, ℕ, suc, Bool, true, false, ◌||◌, ◌&&◌, ◌==◌, not, cond, nat_lt, nat_le, List, [], ◌∷◌, length, Option, Some, None, is_some, Result, Ok, Err, inl, inr, refl, sym, ap, subst, ◌∙◌, arith}
+use Rattle.std.proofs.Common.{◌≡◌, ◌≤◌, ℕ, suc, min, Bool, true, false, ◌||◌, ◌&&◌, ◌==◌, not, cond, nat_lt, nat_le, List, [], ◌∷◌, length, Option, Some, None, is_some, Result, Ok, Err, inl, inr, refl, sym, ap, subst, ◌∙◌, arith}
 use Rattle.std.specs.FinMap as finite
 use Rattle.std.specs.FinSet as set
 use Rattle.std.specs.List.{flat_map, list_all, list_any}
-use Rattle.std.specs.Option.{option_map}
+use Rattle.std.specs.Option.{option_map, unwrap_or}
+use Rattle.std.specs.Prelude.{IfSome}
+use Rattle.std.proofs.lemmas.Bool.{false≢true, ltb-false, leb-true, le-ltb}
 use Rattle.std.proofs.lemmas.Bool.Decides.{nat_tests}
+use Rattle.std.proofs.lemmas.List.FromFn.{length-range_with_len}
+use Rattle.std.proofs.lemmas.List.Sums.{count_by-le-length}
 use Rattle.pmg_value.specs.CheckOrder.{first_of}
 use Rattle.pmg_value.specs.Names.{is_reserved}
 use Rattle.pmg_value.specs.Signatures.{Signature, FenceName}
@@ -13,15 +17,17 @@ use Rattle.pmg_value.specs.declared.refusal.Refusal.{Refusal}
 use Rattle.pmg_value.specs.declared.refusal.Refusal.TheVariants as refusals
 use Rattle.pmg_value.specs.Process.{is_client}
 use Rattle.pmg_frame.specs.Fences.{signature, asked_signature}
-use Rattle.pmg_jobinfo.specs.Expansion.{expansion}
-use Rattle.pmg_jobinfo.specs.Jobs.{Jobs, is_registered, is_member, home_of}
+use Rattle.pmg_jobinfo.specs.Expansion.{ranks, expansion}
+use Rattle.pmg_jobinfo.specs.Jobs.{Jobs, AreJobs, IsSpace, is_registered, is_member, home_of, size_of}
 use Rattle.pmg_jobinfo.specs.Refusing.{is_bad}
+use Rattle.pmg_jobinfo.proofs.MeantLemmas.{all_counted, more_counted, none_counted}
 use Rattle.pmg_jobinfo.proofs.RuleLemmas.{each_is_meant}
 use Rattle.pmg_dmodex.specs.Levels.{Levels}
 use Rattle.pmg_dmodex.specs.Requests.{Requests}
 use Rattle.pmg_fence.specs.Changes.{next_name, news}
 use Rattle.pmg_fence.specs.Codes.{Known}
 use Rattle.pmg_fence.specs.Kept.{placed_by}
+use Rattle.pmg_fence.specs.Tables.{count_of}
 use Rattle.pmg_fence.specs.declared.change.Change.TheVariants as changes
 use Rattle.pmg_store.specs.declared.board.Board.{Board}
 use Rattle.pmg_rules.specs.Acts.{Act, Request, Reply, Done, also, free_cause, list_cause, is_misnamed, list_of, signature_of, signature_cause, cause, request_cause, serves, does}
@@ -32,7 +38,7 @@ use Rattle.pmg_node.specs.Entries.{part_cause, entry_cause, entered_name}
 use Rattle.pmg_node.specs.Fencing.{fence_after, fence_dues, AreSettledIn}
 use Rattle.pmg_rules.specs.Holdings.{Standing, Holding, sealer_of, call_of}
 use Rattle.pmg_holding.specs.Owns.{Own, sealed_of}
-use Rattle.pmg_node.specs.Servers.{Server, reply_to, RefusesEntry, IsEntryAccepted}
+use Rattle.pmg_node.specs.Servers.{Server, reply_to, IsAccepted, RefusesAct}
 use Rattle.pmg_node.proofs.ActLemmas.{refused_reply}
 use Rattle.pmg_rules.proofs.CauseFacts.{by_causes, neither_cause, free_is}
 use Rattle.pmg_node.proofs.FenceLemmas.{ChangesFence, Steps, fence_steps}
@@ -70,6 +76,36 @@ unfolding asked_signature
 asked_beyond ps collect e is many =
     let n = set.len (signature ps collect).participants in
     too_many_by (signature ps collect) n (length ps == 0) (not (list_all is_client ps)) (nat_le n 4096) (is ∙ ap (λ (r : Refusal). Err r) many) ∙ ap (λ b. cond b None (Some (signature ps collect))) (sym (is_beyond n))
+
+-- ---- how many participants it has
+
+abbrev process_all : List ℕ → Proc
+process_all name = record { nspace = name; rank = 4294967294 }
+
+size_by : (jobs : Jobs) (name : List ℕ) (o : Option (List ℕ)) → IfSome o (IsSpace (length jobs.nodes) name) → length (unwrap_or o []) ≤ 4096
+size_by jobs name None space = omega arith
+size_by jobs name (Some homes) space = space.few
+
+-- a namespace has no more than a fence may have
+whole_few : (jobs : Jobs) → AreJobs jobs → (name : List ℕ) → nat_lt 4096 (set.len (expansion jobs (process_all name ∷ []))) ≡ false
+whole_few jobs are name =
+    let size : size_of jobs name ≤ 4096 = size_by jobs name (finite.get jobs.spaces name) (are.spaces name) in
+    let test = λ (rank : ℕ). not (set.contains (expansion jobs []) (record { nspace = name; rank = rank })) in
+    let all = all_counted jobs (process_all name) [] refl in
+    let most = count_by-le-length test (ranks (size_of jobs name)) in
+    le-ltb 4096 (set.len (expansion jobs (process_all name ∷ []))) (omega (arith, size, all, most, length-range_with_len 0 (size_of jobs name), more_counted jobs (process_all name) [], none_counted jobs))
+
+pub empty_few : (jobs : Jobs) → AreJobs jobs → (p : Proc) (list : List Proc) → (length list == 0) ≡ true → false ≡ nat_lt 4096 (set.len (expansion jobs (list_of p list)))
+empty_few jobs are p [] none = sym (whole_few jobs are p.nspace)
+empty_few jobs are p (q ∷ qs) none = absurd (grind (arith, nat_tests, none))
+
+counted_alike : (n count : ℕ) → count ≡ min 4097 n → nat_lt 4096 count ≡ nat_lt 4096 n
+counted_alike n count is = grind (arith, nat_tests, is)
+
+pub listed_counted : (jobs : Jobs) (p : Proc) (list : List Proc) (count : ℕ) → (length list == 0) ≡ false → count ≡ min 4097 (set.len (expansion jobs list))
+    → nat_lt 4096 count ≡ nat_lt 4096 (set.len (expansion jobs (list_of p list)))
+listed_counted jobs p [] count some is = absurd (false≢true (sym some))
+listed_counted jobs p (q ∷ qs) count some is = counted_alike (set.len (expansion jobs (q ∷ qs))) count is
 
 -- ---- what is amiss
 
@@ -280,44 +316,60 @@ name_some false f name is = (refl, sym cc)
 abbrev refused_as : Refusal → Result (Unit {0}) Refusal
 refused_as e = Err e
 
-told_refusal : (e : Refusal) (due : Reply) → (e ≡ refusals.NoMemory → ⊥) → due ≡ Reply.refused e → RefusesEntry e due
-told_refusal refusals.BadParam due other is = is
-told_refusal refusals.UnknownNamespace due other is = is
-told_refusal refusals.NotMine due other is = is
-told_refusal refusals.Terminated due other is = is
-told_refusal refusals.Busy due other is = is
-told_refusal refusals.NotAParticipant due other is = is
-told_refusal refusals.Exists due other is = is
-told_refusal refusals.NotFound due other is = is
-told_refusal refusals.OutsideScope due other is = is
-told_refusal refusals.TooMany due other is = is
-told_refusal (refusals.BadFrame fault) due other is = is
-told_refusal refusals.Collision due other is = is
-told_refusal refusals.Stale due other is = is
-told_refusal refusals.Unordered due other is = is
-told_refusal refusals.Closed due other is = is
-told_refusal refusals.NoMemory due other is = absurd (other refl)
+told_refusal : (s : Server) (a : Act) (e : Refusal) → (e ≡ refusals.NoMemory → ⊥) → reply_to s a ≡ Reply.refused e → RefusesAct s a e
+told_refusal s a refusals.BadParam other is = is
+told_refusal s a refusals.UnknownNamespace other is = is
+told_refusal s a refusals.NotMine other is = is
+told_refusal s a refusals.Terminated other is = is
+told_refusal s a refusals.Busy other is = is
+told_refusal s a refusals.NotAParticipant other is = is
+told_refusal s a refusals.Exists other is = is
+told_refusal s a refusals.NotFound other is = is
+told_refusal s a refusals.OutsideScope other is = is
+told_refusal s a refusals.TooMany other is = is
+told_refusal s a (refusals.BadFrame fault) other is = is
+told_refusal s a refusals.Collision other is = is
+told_refusal s a refusals.Stale other is = is
+told_refusal s a refusals.Unordered other is = is
+told_refusal s a refusals.Closed other is = is
+told_refusal s a refusals.NoMemory other is = absurd (other refl)
 
 module _ (s : Server) (p : Proc) (list : List Proc) (collect : Bool) where
   abbrev pub enters : Act
   enters = Act.request (Request.enter p list collect)
 
-  pub entry_told : (e : Refusal) → first_of (entry_cause s.jobs s.id s.holding p list) (tt {0}) ≡ Err e → RefusesEntry e (reply_to s enters)
+  pub entry_told : (e : Refusal) → first_of (entry_cause s.jobs s.id s.holding p list) (tt {0}) ≡ Err e → RefusesAct s enters e
   entry_told e is =
-      told_refusal e (reply_to s enters) (λ memory. entry_not_memory s.jobs s.id s.holding p list collect (is ∙ ap refused_as memory))
+      told_refusal s enters e (λ memory. entry_not_memory s.jobs s.id s.holding p list collect (is ∙ ap refused_as memory))
       (refused_reply s enters e (entry_refused s.jobs s.id s.holding p list collect e is))
 
-  enters_it : first_of (cause s.jobs s.id s.holding enters) (tt {0}) ≡ Ok tt → IsEntryAccepted (reply_to s enters)
+  -- one that is due no refusal
+  pub enters_it : first_of (cause s.jobs s.id s.holding enters) (tt {0}) ≡ Ok tt → IsAccepted (reply_to s enters)
   unfolding does serves
-  enters_it free = subst IsEntryAccepted (sym (ap (λ (d : Done). d.reply) (act_free s.jobs s.id s.holding enters free))) tt
+  enters_it free = subst IsAccepted (sym (ap (λ (d : Done). d.reply) (act_free s.jobs s.id s.holding enters free))) tt
 
-  -- where only the limits are left to be judged
-  pub entry_accepted : first_of (entry_cause s.jobs s.id s.holding p list) (tt {0}) ≡ Ok tt → IsEntryAccepted (reply_to s enters)
-  entry_accepted is = by_limits (is_full s.jobs s.id s.holding p list collect) refl
+  abbrev pub asked : Signature
+  asked = signature_of s.jobs p list collect
+
+  -- where its participants are not too many, and only the number of its entries is left to be judged
+  pub entry_short : first_of (entry_cause s.jobs s.id s.holding p list) (tt {0}) ≡ Ok tt → nat_lt 4096 (set.len asked.participants) ≡ false → RefusesAct s enters refusals.NoMemory
+  entry_short is few = by_count (nat_le 4294967295 (count_of s.holding.table asked p)) refl
     where
-      by_limits : (full : Bool) → is_full s.jobs s.id s.holding p list collect ≡ full → IsEntryAccepted (reply_to s enters)
-      by_limits true limits = subst IsEntryAccepted (sym (refused_reply s enters refusals.TooMany (entry_by s.jobs s.id s.holding p list collect true is limits))) tt
-      by_limits false limits = enters_it (entry_by s.jobs s.id s.holding p list collect false is limits)
+      full_by : (a b c : Bool) → a ≡ false → b ≡ c → (a || b) ≡ c
+      full_by true b c none same = absurd (false≢true (sym none))
+      full_by false b c none same = same
+
+      by_count : (spent : Bool) → nat_le 4294967295 (count_of s.holding.table asked p) ≡ spent → RefusesAct s enters refusals.NoMemory
+      by_count true spent =
+          inr (
+            refused_reply s enters refusals.TooMany
+                (entry_by s.jobs s.id s.holding p list collect true is
+                (full_by (nat_lt 4096 (set.len asked.participants)) (nat_le 4294967295 (count_of s.holding.table asked p)) true few spent)),
+            (ltb-false 4096 (set.len asked.participants) few, leb-true 4294967295 (count_of s.holding.table asked p) spent),
+          )
+      by_count false spent =
+          inl (enters_it (entry_by s.jobs s.id s.holding p list collect false is
+          (full_by (nat_lt 4096 (set.len asked.participants)) (nat_le 4294967295 (count_of s.holding.table asked p)) false few spent)))
 
   -- where it passes a limit
   pub entry_limited : first_of (entry_cause s.jobs s.id s.holding p list) (tt {0}) ≡ Ok tt → entered_name s.jobs s.holding p list collect ≡ None

@@ -1,5 +1,5 @@
 -- Answers as replies, and that no call is due NoMemory.
-use Rattle.std.proofs.Common.{◌≡◌, ℕ, Bool, true, false, cond, Option, Some, None, Result, Ok, Err, refl, sym, ap, ◌∙◌}
+use Rattle.std.proofs.Common.{◌≡◌, ℕ, Bool, true, false, cond, Option, Some, None, Result, Ok, Err, inl, refl, sym, ap, subst, ◌∙◌}
 use Rattle.std.specs.Prelude.{if◌then◌else◌, IfOk}
 use Rattle.pmg_value.specs.CheckOrder.{first_of}
 use Rattle.pmg_value.specs.declared.process.Proc.{Proc}
@@ -16,7 +16,7 @@ use Rattle.pmg_get.specs.Gets.{Outcome}
 use Rattle.pmg_node.specs.Acting.{acted_reply, commit_joins, joins_in, joins_none, SameAnswer}
 use Rattle.pmg_rules.specs.Acts.{Act, Request, Reply, Done, done_as, reply_of, cause, request_cause, is_taken, receives, serves, does, ends_as, leaves, takes, over, acts}
 use Rattle.pmg_rules.specs.Holdings.{Standing, Holding, sealer_in, sealer_of, call_of}
-use Rattle.pmg_node.specs.Servers.{Server, reply_to, after, reply_in, Refuses, Replies, RefusesEntry, RepliesEntry, IsAnswered, IsEntryAccepted}
+use Rattle.pmg_node.specs.Servers.{Server, reply_to, after, reply_in, Refuses, Replies, RefusesAct, RepliesAct, IsAnswered, IsAccepted}
 use Rattle.pmg_node.specs.Joining.{Joins, no_joins, seal_joins, act_joins, joins}
 use Rattle.pmg_rules.specs.Sending.{is_quiet}
 use Rattle.pmg_node.specs.declared.act.Acted.{Acted}
@@ -26,33 +26,67 @@ use Rattle.pmg_node.proofs.JoiningLemmas.{joins_loud}
 use Rattle.pmg_rules.proofs.KeptChanges.{sealer_there}
 use Rattle.pmg_node.proofs.SilentLemmas.{then_answer, acts_by}
 
--- a refusal that is due is told
-refuses_due : (e : Refusal) (due : Reply) → (due ≡ Reply.refused refusals.NoMemory → ⊥) → due ≡ Reply.refused e → RefusesEntry e due
-refuses_due refusals.NoMemory due never is = absurd (never is)
-refuses_due refusals.BadParam due never is = is
-refuses_due refusals.NotFound due never is = is
-refuses_due refusals.OutsideScope due never is = is
-refuses_due refusals.UnknownNamespace due never is = is
-refuses_due refusals.NotMine due never is = is
-refuses_due refusals.Busy due never is = is
-refuses_due refusals.Terminated due never is = is
-refuses_due refusals.NotAParticipant due never is = is
-refuses_due refusals.TooMany due never is = is
-refuses_due (refusals.BadFrame fault) due never is = is
-refuses_due refusals.Exists due never is = is
-refuses_due refusals.Collision due never is = is
-refuses_due refusals.Stale due never is = is
-refuses_due refusals.Unordered due never is = is
-refuses_due refusals.Closed due never is = is
+module _ (s : Server) (a : Act) where
+  -- a refusal that is due is told
+  refuses_due : (e : Refusal) → (reply_to s a ≡ Reply.refused refusals.NoMemory → ⊥) → reply_to s a ≡ Reply.refused e → RefusesAct s a e
+  refuses_due refusals.NoMemory never is = absurd (never is)
+  refuses_due refusals.BadParam never is = is
+  refuses_due refusals.NotFound never is = is
+  refuses_due refusals.OutsideScope never is = is
+  refuses_due refusals.UnknownNamespace never is = is
+  refuses_due refusals.NotMine never is = is
+  refuses_due refusals.Busy never is = is
+  refuses_due refusals.Terminated never is = is
+  refuses_due refusals.NotAParticipant never is = is
+  refuses_due refusals.TooMany never is = is
+  refuses_due (refusals.BadFrame fault) never is = is
+  refuses_due refusals.Exists never is = is
+  refuses_due refusals.Collision never is = is
+  refuses_due refusals.Stale never is = is
+  refuses_due refusals.Unordered never is = is
+  refuses_due refusals.Closed never is = is
 
--- the same answer is the one that is due, which is never NoMemory
+  -- NoMemory is told where no refusal is due
+  refuses_act : (e : Refusal) → Refuses e (reply_to s a) → RefusesAct s a e
+  refuses_act refusals.NoMemory is = inl is
+  refuses_act refusals.BadParam is = is
+  refuses_act refusals.NotFound is = is
+  refuses_act refusals.OutsideScope is = is
+  refuses_act refusals.UnknownNamespace is = is
+  refuses_act refusals.NotMine is = is
+  refuses_act refusals.Busy is = is
+  refuses_act refusals.Terminated is = is
+  refuses_act refusals.NotAParticipant is = is
+  refuses_act refusals.TooMany is = is
+  refuses_act (refusals.BadFrame fault) is = is
+  refuses_act refusals.Exists is = is
+  refuses_act refusals.Collision is = is
+  refuses_act refusals.Stale is = is
+  refuses_act refusals.Unordered is = is
+  refuses_act refusals.Closed is = is
+
 module _ {X : Type 0} (view : X → Reply) (gives : X → Joins) where
-  pub entry_told : (r : Result X Refusal) (q : Result Acted Refusal) (due : Reply) → SameAnswer view gives r q → reply_in view r ≡ due → (due ≡ Reply.refused refusals.NoMemory → ⊥)
-      → RepliesEntry acted_reply q due
-  entry_told (Ok x) (Ok acted) due same is never = sym is ∙ same.0
-  entry_told (Err e) (Err f) due same is never = refuses_due f due never (sym is ∙ ap Reply.refused same)
-  entry_told (Ok x) (Err f) due same is never = absurd same
-  entry_told (Err e) (Ok acted) due same is never = absurd same
+  -- the same answer is the one that is due, which is never NoMemory
+  pub entry_told : (r : Result X Refusal) (q : Result Acted Refusal) (s : Server) (a : Act) → SameAnswer view gives r q → reply_in view r ≡ reply_to s a
+      → (reply_to s a ≡ Reply.refused refusals.NoMemory → ⊥) → RepliesAct acted_reply q s a
+  entry_told (Ok x) (Ok acted) s a same is never = sym is ∙ same.0
+  entry_told (Err e) (Err f) s a same is never = refuses_due s a f never (sym is ∙ ap Reply.refused same)
+  entry_told (Ok x) (Err f) s a same is never = absurd same
+  entry_told (Err e) (Ok acted) s a same is never = absurd same
+
+  -- or the one that is due, where no allocation failed
+  pub act_told : (r : Result X Refusal) (q : Result Acted Refusal) (s : Server) (a : Act) → SameAnswer view gives r q → Replies view r (reply_to s a) → RepliesAct acted_reply q s a
+  act_told (Ok x) (Ok acted) s a same is = is ∙ same.0
+  act_told (Err e) (Err f) s a same is = refuses_act s a f (subst (λ x. Refuses x (reply_to s a)) same is)
+  act_told (Ok x) (Err f) s a same is = absurd same
+  act_told (Err e) (Ok acted) s a same is = absurd same
+
+  -- or that of the same act
+  pub same_told : (r : Result X Refusal) (q : Result Acted Refusal) (s : Server) (a : Act) → SameAnswer view gives r q → RepliesAct view r s a → RepliesAct acted_reply q s a
+  same_told (Ok x) (Ok acted) s a same is = is ∙ same.0
+  same_told (Err e) (Err f) s a same is = subst (RefusesAct s a) same is
+  same_told (Ok x) (Err f) s a same is = absurd same
+  same_told (Err e) (Ok acted) s a same is = absurd same
 
   -- and where it is NoMemory, that was the answer
   pub entry_short : (r : Result X Refusal) (q : Result Acted Refusal) → SameAnswer view gives r q → q ≡ Err refusals.NoMemory → r ≡ Err refusals.NoMemory
@@ -120,15 +154,15 @@ module _ (jobs : Jobs) (id : ℕ) (h : Holding) where
   take_short p = acts_short (Act.request (Request.take p)) (takes_short p (call_of h p))
 
   -- what is never refused
-  pub nudge_accepted : IsEntryAccepted (acts jobs id h (Act.request Request.nudge)).reply
+  pub nudge_accepted : IsAccepted (acts jobs id h (Act.request Request.nudge)).reply
   unfolding cause request_cause does serves
   nudge_accepted = tt
 
-  pub deliver_accepted : (frame : Frame) → IsEntryAccepted (acts jobs id h (Act.deliver frame)).reply
+  pub deliver_accepted : (frame : Frame) → IsAccepted (acts jobs id h (Act.deliver frame)).reply
   unfolding cause does
   deliver_accepted frame = by_test (is_taken jobs id frame)
     where
-      by_test : (b : Bool) → IsEntryAccepted (over jobs id h (Ok (if b then done_as Reply.taken (receives h frame) else done_as Reply.ignored h))).reply
+      by_test : (b : Bool) → IsAccepted (over jobs id h (Ok (if b then done_as Reply.taken (receives h frame) else done_as Reply.ignored h))).reply
       by_test true = tt
       by_test false = tt
 
@@ -189,26 +223,3 @@ module _ (s : Server) (p : Proc) where
   end_joined new to one l (Ok c) due done is =
       is ∙ ap (λ (z : Sealed). piece_at z l to) (sym (ap (λ (x : Server). sealer_of x.holding p) (done tt) ∙ end_sealed c.level due))
   end_joined new to one l (Err e) due done is = tt
-
--- where no allocation failed, a refusal is the one that is due
-entry_refuses : (X : Type 0) (e : Refusal) (due : Reply) → IsAnswered {X = X} (Err e) → RefusesEntry e due → Refuses e due
-entry_refuses X refusals.NoMemory due told is = absurd told
-entry_refuses X refusals.BadParam due told is = is
-entry_refuses X refusals.NotFound due told is = is
-entry_refuses X refusals.OutsideScope due told is = is
-entry_refuses X refusals.UnknownNamespace due told is = is
-entry_refuses X refusals.NotMine due told is = is
-entry_refuses X refusals.Busy due told is = is
-entry_refuses X refusals.Terminated due told is = is
-entry_refuses X refusals.NotAParticipant due told is = is
-entry_refuses X refusals.TooMany due told is = is
-entry_refuses X (refusals.BadFrame fault) due told is = is
-entry_refuses X refusals.Exists due told is = is
-entry_refuses X refusals.Collision due told is = is
-entry_refuses X refusals.Stale due told is = is
-entry_refuses X refusals.Unordered due told is = is
-entry_refuses X refusals.Closed due told is = is
-
-pub entry_answered : {X : Type 0} (view : X → Reply) (r : Result X Refusal) (due : Reply) → RepliesEntry view r due → IsAnswered r → Replies view r due
-entry_answered view (Ok x) due is told = is
-entry_answered {X} view (Err e) due is told = entry_refuses X e due told is

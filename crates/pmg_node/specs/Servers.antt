@@ -1,13 +1,17 @@
 -- A node, and its acts with what they send.
-use Rattle.std.specs.Prelude.{◌≡◌, ℕ, List, is_some, true, Result, Ok, Err, refl}
+use Rattle.std.specs.Prelude.{◌≡◌, ◌⊎◌, ◌≤◌, ℕ, List, is_some, true, Result, Ok, Err, refl}
 use Rattle.std.specs.Coded.{Coded, code_by, coded×, coded_ℕ}
 use Rattle.std.specs.FinMap as finite
+use Rattle.std.specs.FinSet as set
 use Rattle.pmg_value.specs.declared.process.Proc.{Proc}
 use Rattle.pmg_value.specs.declared.refusal.Refusal.{Refusal}
 use Rattle.pmg_value.specs.declared.refusal.Refusal.TheVariants as refusals
+use Rattle.pmg_frame.specs.declared.fence_name.TheConstants.{MAX_INSTANCE}
+use Rattle.pmg_frame.specs.declared.signature.TheConstants.{MAX_PARTICIPANTS}
 use Rattle.pmg_jobinfo.specs.Jobs.{Jobs, AreJobs, coded_jobs, is_node}
+use Rattle.pmg_fence.specs.Tables.{count_of}
 use Rattle.pmg_dmodex.specs.Levels.{Levels, coded_levels}
-use Rattle.pmg_rules.specs.Acts.{Act, Reply, acts}
+use Rattle.pmg_rules.specs.Acts.{Act, Request, Reply, acts, signature_of}
 use Rattle.pmg_rules.specs.Choosing.{chosen}
 use Rattle.pmg_holding.specs.Codes.{coded_holding}
 use Rattle.pmg_rules.specs.Holdings.{Holding}
@@ -56,20 +60,22 @@ abbrev pub Replies : {X : Type 0} → (X → Reply) → Result X Refusal → Rep
 Replies view (Ok x) due = due ≡ view x
 Replies view (Err e) due = Refuses e due
 
--- no refusal is due but TooMany, which an entry comes to know only by its list of participants
-abbrev pub IsEntryAccepted : Reply → Type 0
-IsEntryAccepted (Reply.refused refusals.TooMany) = Unit {0}
-IsEntryAccepted (Reply.refused e) = ⊥
-IsEntryAccepted _ = Unit {0}
+-- the process entered fences of these participants, who are not too many, as often as it may
+abbrev pub IsSpent : Server → Act → Type 0
+IsSpent s (Act.request (Request.enter p list collect)) =
+    let g = signature_of s.jobs p list collect in (set.len g.participants ≤ MAX_PARTICIPANTS) × (MAX_INSTANCE ≤ count_of s.holding.table g p)
+IsSpent s _ = ⊥
 
-abbrev pub RefusesEntry : Refusal → Reply → Type 0
-RefusesEntry refusals.NoMemory due = IsEntryAccepted due
-RefusesEntry e due = due ≡ Reply.refused e
+-- A refusal is the one that is due. NoMemory is told only where none is, or where an entry is one too many: how often the process
+-- entered is known only by the participants that its list stands for.
+abbrev pub RefusesAct : Server → Act → Refusal → Type 0
+RefusesAct s a refusals.NoMemory = IsAccepted (reply_to s a) ⊎ ((reply_to s a ≡ Reply.refused refusals.TooMany) × IsSpent s a)
+RefusesAct s a e = reply_to s a ≡ Reply.refused e
 
--- the same as Replies, where TooMany may be due though NoMemory is told
-abbrev pub RepliesEntry : {X : Type 0} → (X → Reply) → Result X Refusal → Reply → Type 0
-RepliesEntry view (Ok x) due = due ≡ view x
-RepliesEntry view (Err e) due = RefusesEntry e due
+-- the answer of any act, seen as a reply, is the one that is due, or an allocation failed that it takes
+abbrev pub RepliesAct : {X : Type 0} → (X → Reply) → Result X Refusal → Server → Act → Type 0
+RepliesAct view (Ok x) s a = reply_to s a ≡ view x
+RepliesAct view (Err e) s a = RefusesAct s a e
 
 -- no allocation failed that it takes
 abbrev pub IsAnswered : {X : Type 0} → Result X Refusal → Type 0

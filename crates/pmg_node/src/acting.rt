@@ -5,7 +5,7 @@ ghost use Rattle.pmg_node.specs.Acting.{act_of, acted_reply, commit_joins, deliv
 ghost use Rattle.pmg_node.specs.Joining.{frame_joins, joins, no_joins};
 ghost use Rattle.pmg_rules.specs.Acts.{Act as ModelAct, Reply as ModelReply};
 ghost use Rattle.pmg_node.specs.Replies.{asked_reply, committed_reply, defined_reply, delivery_reply, ended_reply, release_reply, taking_reply};
-ghost use Rattle.pmg_node.specs.Servers.{reply_to, sent_by, after, IsAnswered, Replies, RepliesEntry};
+ghost use Rattle.pmg_node.specs.Servers.{reply_to, sent_by, after, IsAnswered, Replies, RepliesAct};
 
 use crate::act::{Act, Acted, Joined, Reply, Request};
 use crate::asked::Delivery;
@@ -157,7 +157,7 @@ fn joined_by(frame: &Frame) -> Result<Joined, AllocError>
 impl Node {
     /// Answers a request.
     fn serve(&mut self, request: &Request, out: &mut VecDeque<Sent>) -> Result<Acted, Refusal>
-        ensures reply { RepliesEntry acted_reply result (reply_to self.old (ModelAct.request (request_of request.now))) }
+        ensures reply { RepliesAct acted_reply result self.old (ModelAct.request (request_of request.now)) }
         ensures done { IsAnswered result → self.new ≡ after self.old (ModelAct.request (request_of request.now)) }
         ensures sent { IsAnswered result → out.new.items ≡ out.old.items ++ sent_by self.old (ModelAct.request (request_of request.now)) }
         ensures joined { IfOk result (λ acted. joins_in acted.joined
@@ -183,7 +183,7 @@ impl Node {
     /// Does what is asked, and puts the frames that go out after those of the list, which the caller lends. Each call of a node is
     /// one instance of this one, and refused as it is.
     pub fn act_into(&mut self, act: &Act, out: &mut VecDeque<Sent>) -> Result<Acted, Refusal>
-        ensures reply { RepliesEntry acted_reply result (reply_to self.old (act_of act.now)) }
+        ensures reply { RepliesAct acted_reply result self.old (act_of act.now) }
         ensures done { IsAnswered result → self.new ≡ after self.old (act_of act.now) }
         ensures sent { IsAnswered result → out.new.items ≡ out.old.items ++ sent_by self.old (act_of act.now) }
         ensures joined { IfOk result (λ acted. joins_in acted.joined ≡ joins self.old.jobs self.old.id self.old.holding (act_of act.now)) }
@@ -222,7 +222,7 @@ impl Node {
 
     /// Answers a request of a process at home at the node, or of the one who runs it.
     pub fn request(&mut self, request: &Request, out: &mut VecDeque<Sent>) -> Result<Reply, Refusal>
-        ensures reply { RepliesEntry reply_as result (reply_to self.old (ModelAct.request (request_of request.now))) }
+        ensures reply { RepliesAct reply_as result self.old (ModelAct.request (request_of request.now)) }
         ensures done { IsAnswered result → self.new ≡ after self.old (ModelAct.request (request_of request.now)) }
         ensures sent { IsAnswered result → out.new.items ≡ out.old.items ++ sent_by self.old (ModelAct.request (request_of request.now)) }
         ensures memory { result ≡ Err refusals.NoMemory → self.new ≡ self.old }

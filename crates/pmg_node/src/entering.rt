@@ -1,5 +1,5 @@
 //! A process enters a fence.
-ghost use Rattle.std.specs.Prelude.{◌≡◌, ◌||◌, ◌&&◌, ◌==◌, ◌++◌, not, nat_lt, suc, length, [], Some, None, Err, IfOk, OnOk, OnErr, if◌then◌else◌};
+ghost use Rattle.std.specs.Prelude.{◌≡◌, ◌||◌, ◌&&◌, ◌==◌, ◌++◌, false, not, nat_lt, suc, length, [], Some, None, Err, IfOk, OnOk, OnErr, if◌then◌else◌};
 ghost use Rattle.std.specs.FinMap as finite;
 ghost use Rattle.std.specs.FinSet as set;
 ghost use Rattle.std.specs.List.{list_any};
@@ -14,20 +14,20 @@ ghost use Rattle.pmg_jobinfo.specs.Refusing.{is_bad};
 ghost use Rattle.pmg_fence.specs.Kept.{placed_by};
 ghost use Rattle.pmg_fence.specs.Tables.{count_of};
 ghost use Rattle.pmg_fence.specs.declared.change.Change.TheVariants as changes;
-ghost use Rattle.pmg_rules.specs.Acts.{Act, Request, Reply, is_misnamed, list_of};
+ghost use Rattle.pmg_rules.specs.Acts.{Act, Request, Reply, is_misnamed, list_of, signature_of};
 ghost use Rattle.pmg_rules.specs.Choosing.{sends};
 ghost use Rattle.pmg_node.specs.Entries.{entry_cause, entered_name};
 ghost use Rattle.pmg_node.specs.Fencing.{fence_after, fence_dues, AreSettledIn};
 ghost use Rattle.pmg_rules.specs.Holdings.{Standing};
 ghost use Rattle.pmg_holding.specs.Owns.{sealed_of};
-ghost use Rattle.pmg_node.specs.Servers.{reply_to, sent_by, after, IsAnswered, RepliesEntry};
+ghost use Rattle.pmg_node.specs.Servers.{sent_by, after, IsAnswered, RepliesAct};
 
 use crate::causes::{is_misnamed, is_registered};
 use crate::fencing::{Around, change_fence};
 use crate::node::Node;
 use pmg_dmodex::Marks;
 use pmg_fence::{Change, Table};
-use pmg_frame::{FenceName, MAX_INSTANCE, Signature};
+use pmg_frame::{FenceName, MAX_INSTANCE, MAX_PARTICIPANTS, Signature};
 use pmg_holding::{Call, Calls};
 use pmg_jobinfo::Registry;
 use pmg_rules::Sent;
@@ -125,6 +125,20 @@ fn signature(procs: Vec<Proc>, collect: bool) -> Result<Option<Signature>, Alloc
     }
 }
 
+/// The signature that who enters asks for, whose list of participants was judged, unless there are too many.
+fn signature_for(
+    registry: &Registry,
+    proc: &Proc,
+    list: &[Proc],
+    collect: bool,
+) -> Result<Option<Signature>, AllocError>
+    ensures { IfOk result (λ found. found ≡ (if nat_lt 4096 (set.len (expansion registry.now (list_of proc.now list.now))) then None
+        else Some (signature_of registry.now proc.now list.now collect))) }
+{
+    let procs = participants(registry, proc, list)?;
+    signature(procs, collect)
+}
+
 /// The process is in the fence, which is the next one of the signature that it enters: it is released at once where this makes
 /// the fence ready. Where an allocation fails, all is as before.
 fn enter_fence(
@@ -190,6 +204,41 @@ impl Node {
         Ok(())
     }
 
+    /// Whether the list of who enters, which was judged, stands for more participants than a fence may have. An empty one stands for
+    /// a namespace, which has no more. It takes no memory, and the time that `count_meant` takes.
+    fn is_crowd(&self, proc: &Proc, list: &[Proc]) -> bool
+        ensures { result ≡ nat_lt 4096 (set.len (expansion self.now.jobs (list_of proc.now list.now))) }
+    {
+        let registry = self.table.registry();
+        if list.is_empty() {
+            return false;
+        }
+        registry.count_meant(list) > MAX_PARTICIPANTS
+    }
+
+    /// The signature that who enters asks for, whose list of participants was judged, unless there are too many: that is told
+    /// though an allocation fails.
+    fn asked_signature(
+        &self,
+        proc: &Proc,
+        list: &[Proc],
+        collect: bool,
+    ) -> Result<Option<Signature>, AllocError>
+        ensures found { IfOk result (λ found. found ≡ (if nat_lt 4096 (set.len (expansion self.now.jobs (list_of proc.now list.now))) then None
+            else Some (signature_of self.now.jobs proc.now list.now collect))) }
+        ensures few { OnErr result (nat_lt 4096 (set.len (expansion self.now.jobs (list_of proc.now list.now))) ≡ false) }
+    {
+        match signature_for(self.table.registry(), proc, list, collect) {
+            Ok(found) => Ok(found),
+            Err(AllocError) => {
+                if self.is_crowd(proc, list) {
+                    return Ok(None);
+                }
+                Err(AllocError)
+            }
+        }
+    }
+
     /// The name of the fence that the process enters, whose list of participants was judged; none where the entry passes a limit.
     fn next_fence(
         &self,
@@ -197,10 +246,10 @@ impl Node {
         list: &[Proc],
         collect: bool,
     ) -> Result<Option<FenceName>, AllocError>
-        ensures { IfOk result (λ name. name ≡ entered_name self.now.jobs self.now.holding proc.now list.now collect) }
+        ensures name { IfOk result (λ name. name ≡ entered_name self.now.jobs self.now.holding proc.now list.now collect) }
+        ensures few { OnErr result (nat_lt 4096 (set.len (expansion self.now.jobs (list_of proc.now list.now))) ≡ false) }
     {
-        let procs = participants(self.table.registry(), proc, list)?;
-        let Some(signature) = signature(procs, collect)? else {
+        let Some(signature) = self.asked_signature(proc, list, collect)? else {
             return Ok(None);
         };
         let count = self.table.count(&signature, proc);
@@ -214,7 +263,7 @@ impl Node {
     /// list stands for its whole namespace. Refused as BadParam where the process or one in the list is none of its namespace, or
     /// of one whose name begins with `pmix`; as UnknownNamespace; as NotMine where the process is at home at another node; as
     /// Terminated; as Busy where it is in a call; as NotAParticipant; as TooMany past 4,096 participants or 4,294,967,295
-    /// entries; and as NoMemory, which is told before TooMany where the list cannot be expanded.
+    /// entries; and as NoMemory, which is told before TooMany only where the entry is one too many.
     pub fn enter(
         &mut self,
         proc: &Proc,
@@ -222,7 +271,7 @@ impl Node {
         collect: bool,
         out: &mut VecDeque<Sent>,
     ) -> Result<u64, Refusal>
-        ensures reply { RepliesEntry Reply.entered result (reply_to self.old (Act.request (Request.enter proc.now list.now collect))) }
+        ensures reply { RepliesAct Reply.entered result self.old (Act.request (Request.enter proc.now list.now collect)) }
         ensures done { IsAnswered result → self.new ≡ after self.old (Act.request (Request.enter proc.now list.now collect)) }
         ensures sent { IsAnswered result → out.new.items ≡ out.old.items ++ sent_by self.old (Act.request (Request.enter proc.now list.now collect)) }
         ensures memory { result ≡ Err refusals.NoMemory → self.new ≡ self.old }

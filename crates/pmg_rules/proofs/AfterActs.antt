@@ -8,7 +8,8 @@ use Rattle.pmg_jobinfo.specs.Jobs.{Jobs}
 use Rattle.pmg_fence.specs.Tables.{gone_by}
 use Rattle.pmg_rules.specs.Acts.{Request, Act, Done, cause, does, over, acts}
 use Rattle.pmg_rules.specs.Holdings.{Standing, Holding, call_of, is_ready_at, settle, settled}
-use Rattle.pmg_rules.specs.NodeLaws.{IsSettled, ParkedWait, AreUnready, ReadyFrees, FreedByReady, FreedStays}
+use Rattle.pmg_rules.specs.Kept.{AreUnready}
+use Rattle.pmg_rules.specs.NodeLaws.{IsSettled, ParkedWait, ReadyFrees, FreedByReady, FreedStays}
 use Rattle.pmg_rules.proofs.CallFacts.{call-settled}
 use Rattle.pmg_rules.proofs.CauseFacts.{NoCause, by_causes}
 use Rattle.pmg_rules.proofs.Moving.{Moves, StaysOrMoves, does_call}

@@ -1,13 +1,13 @@
--- Levels rise with each act, headers stay, and what was there to be read stays there.
-use Rattle.std.proofs.Common.{◌≡◌, ◌≤◌, ℕ, Bool, true, false, nat_lt, cond, List, ◌++◌, Option, Some, None, is_some, Result, inl, inr, sym, ap, subst, ◌∙◌, arith}
+-- Levels rise with each act, and what was there to be read stays there, whatever frames come.
+use Rattle.std.proofs.Common.{◌≡◌, ◌≤◌, ℕ, Bool, true, false, nat_lt, cond, List, Option, Some, None, is_some, Result, inl, inr, sym, ap, subst, ◌∙◌, arith}
 use Rattle.std.proofs.lemmas.Bool.{false≢true}
 use Rattle.pmg_value.specs.declared.process.Proc.{Proc}
-use Rattle.pmg_scope.specs.Scripts.{Script, commits, value_at}
-use Rattle.pmg_scope.specs.Sealing.{NoneSealed}
-use Rattle.pmg_scope.specs.declared.scope.Reach.{Reach}
-use Rattle.pmg_scope.proofs.ScriptLaws.{past_values_stay}
-use Rattle.pmg_scope.proofs.SealingLaws.{value_none, value_sealed, sealed_or_none}
-use Rattle.pmg_commit.specs.Data.{of_contribution, level_at}
+use Rattle.pmg_commit.specs.CoreLaws.{level-union, union_has_left}
+use Rattle.pmg_commit.specs.Data.{Data, absorbed, of_contribution, known, level_at, read_at}
+use Rattle.pmg_commit.specs.Knowledge.{Contribution, Knowledge, union, read}
+use Rattle.pmg_commit.specs.Levels.{level}
+use Rattle.pmg_commit.proofs.Joining.{known_together}
+use Rattle.pmg_commit.proofs.ReadLaws.{latest_of, read_latest, read_none, read-core}
 use Rattle.pmg_frame.specs.declared.frame.Frame.{Frame}
 use Rattle.pmg_frame.specs.declared.frame.Frame.TheVariants as frames
 use Rattle.pmg_jobinfo.specs.Jobs.{Jobs}
@@ -17,95 +17,120 @@ use Rattle.pmg_rules.specs.Acts.{Request, Act, Reply, Done, is_taken, done_as, l
 use Rattle.pmg_rules.specs.Holdings.{Get, Standing, Holding, sealer_of, call_of, answer_in}
 use Rattle.pmg_rules.proofs.CauseFacts.{by_causes}
 
+-- what is read of the one is read of the other too
+abbrev pub ReadsMore : (List ℕ → Option (List ℕ)) → (List ℕ → Option (List ℕ)) → Type 0
+ReadsMore old new = (key : List ℕ) → is_some (old key) ≡ true → is_some (new key) ≡ true
+
+-- what is known together is read where a part of it was
+reads_union : (k l : Knowledge) → ReadsMore (read k) (read (union k l))
+reads_union k l key some = elim (latest_of (union k l) key) [
+  | inl now ↦ ap is_some (read_latest (union k l) key now.0 now.1)
+  | inr none ↦ elim (latest_of k key) [
+    | inl was ↦
+        let more : was.0.number ≤ level (union k l).numbers = omega (arith, was.1.readable.1, level-union k l) in
+        absurd (none was.0 (union_has_left k l was.0 was.1.has) (was.1.readable.0, more))
+    | inr nothing ↦ absurd (false≢true (sym (ap is_some (read_none k key nothing)) ∙ some))
+  ]
+]
+
+-- no level is lower than before, and nothing is read no more
+pub record Covers (d e : Data) : Type 0 where
+  pub levels : (q : Proc) → level_at d q ≤ level_at e q
+  pub reads : (q : Proc) → ReadsMore (read_at d q) (read_at e q)
+
+same_level : (n : ℕ) → n ≤ n
+same_level n = omega arith
+
+covers_same : (d : Data) → Covers d d
+covers_same d = record { levels = λ q. same_level _; reads = λ q key some. some }
+
+-- a piece takes nothing away
+covers_joined : (d : Data) (c : Contribution) → Covers d (absorbed d c)
+covers_joined d c = record {
+  levels = λ q. levels_rise d (of_contribution c) q;
+  reads = λ q key some.
+      let k = known d q in
+      let l = known (of_contribution c) q in
+      ap (λ (m : Knowledge). is_some (read m key)) (known_together d (of_contribution c) q) ∙ ap is_some (read-core (union k l) key) ∙ reads_union k l key some;
+}
+
+-- both stores have what they had
+pub record Gains (h g : Holding) : Type 0 where
+  pub near : Covers h.near g.near
+  pub far : Covers h.far g.far
+
 -- no level is lower than before
 pub record Rises (h g : Holding) : Type 0 where
   pub near : (q : Proc) → level_at h.near q ≤ level_at g.near q
   pub far : (q : Proc) → level_at h.far q ≤ level_at g.far q
 
-same_level : (n : ℕ) → n ≤ n
-same_level n = omega arith
-
-pub rises_still : (h : Holding) → Rises h h
-rises_still h = record { near = λ q. same_level _; far = λ q. same_level _ }
+gains_still : (h : Holding) → Gains h h
+gains_still h = record { near = covers_same h.near; far = covers_same h.far }
 
 module _ (jobs : Jobs) (id : ℕ) (h : Holding) where
-  leave_rises : (by : Proc) (c : Option Standing) → Rises h (leaves h by c).left
-  leave_rises by (Some (Standing.in_fence f)) = rises_still h
-  leave_rises by (Some (Standing.released f gone)) = record { near = λ q. same_level _; far = λ q. same_level _ }
-  leave_rises by (Some (Standing.parked get)) = rises_still h
-  leave_rises by (Some (Standing.answered get outcome)) = rises_still h
-  leave_rises by None = rises_still h
+  leave_gains : (by : Proc) (c : Option Standing) → Gains h (leaves h by c).left
+  leave_gains by (Some (Standing.in_fence f)) = gains_still h
+  leave_gains by (Some (Standing.released f gone)) = record { near = covers_same h.near; far = covers_same h.far }
+  leave_gains by (Some (Standing.parked get)) = gains_still h
+  leave_gains by (Some (Standing.answered get outcome)) = gains_still h
+  leave_gains by None = gains_still h
 
-  take_rises : (by : Proc) (c : Option Standing) → Rises h (takes h by c).left
-  take_rises by (Some (Standing.in_fence f)) = rises_still h
-  take_rises by (Some (Standing.released f gone)) = rises_still h
-  take_rises by (Some (Standing.parked get)) = rises_still h
-  take_rises by (Some (Standing.answered get outcome)) = record { near = λ q. same_level _; far = λ q. same_level _ }
-  take_rises by None = rises_still h
+  take_gains : (by : Proc) (c : Option Standing) → Gains h (takes h by c).left
+  take_gains by (Some (Standing.in_fence f)) = gains_still h
+  take_gains by (Some (Standing.released f gone)) = gains_still h
+  take_gains by (Some (Standing.parked get)) = gains_still h
+  take_gains by (Some (Standing.answered get outcome)) = record { near = covers_same h.near; far = covers_same h.far }
+  take_gains by None = gains_still h
 
-  ask_rises : (by : Proc) (get : Get) (o : Outcome) → Rises h (asks h by get o).left
-  ask_rises by get Outcome.parks = record { near = λ q. same_level _; far = λ q. same_level _ }
-  ask_rises by get (Outcome.found value) = rises_still h
-  ask_rises by get Outcome.absent = rises_still h
-  ask_rises by get Outcome.outside = rises_still h
+  ask_gains : (by : Proc) (get : Get) (o : Outcome) → Gains h (asks h by get o).left
+  ask_gains by get Outcome.parks = record { near = covers_same h.near; far = covers_same h.far }
+  ask_gains by get (Outcome.found value) = gains_still h
+  ask_gains by get Outcome.absent = gains_still h
+  ask_gains by get Outcome.outside = gains_still h
 
-  held_rises : (b : Bool) (from : ℕ) (p : Proc) (level : ℕ) → Rises h (holds_unless b h from p level)
-  held_rises true from p level = rises_still h
-  held_rises false from p level = record { near = λ q. same_level _; far = λ q. same_level _ }
+  held_gains : (b : Bool) (from : ℕ) (p : Proc) (level : ℕ) → Gains h (holds_unless b h from p level)
+  held_gains true from p level = gains_still h
+  held_gains false from p level = record { near = covers_same h.near; far = covers_same h.far }
 
-  frame_rises : (frame : Frame) → Rises h (receives h frame)
+  frame_gains : (frame : Frame) → Gains h (receives h frame)
   unfolding receives
-  frame_rises (frames.Piece c) = record { near = λ q. same_level _; far = λ q. levels_rise h.far (of_contribution c) q }
-  frame_rises (frames.Header hd) = record { near = λ q. same_level _; far = λ q. same_level _ }
-  frame_rises (frames.FenceAsk a) = record { near = λ q. same_level _; far = λ q. same_level _ }
-  frame_rises (frames.RangeAsk a) = rises_still h
-  frame_rises (frames.DirectAsk a) = held_rises (nat_lt a.level (sealer_of h a.proc).level) a.node a.proc a.level
+  frame_gains (frames.Piece c) = record { near = covers_same h.near; far = covers_joined h.far c }
+  frame_gains (frames.Header hd) = record { near = covers_same h.near; far = covers_same h.far }
+  frame_gains (frames.FenceAsk a) = record { near = covers_same h.near; far = covers_same h.far }
+  frame_gains (frames.RangeAsk a) = gains_still h
+  frame_gains (frames.DirectAsk a) = held_gains (nat_lt a.level (sealer_of h a.proc).level) a.node a.proc a.level
 
-  deliver_rises : (frame : Frame) (b : Bool) → Rises h (cond b (done_as Reply.taken (receives h frame)) (done_as Reply.ignored h)).left
-  deliver_rises frame true = frame_rises frame
-  deliver_rises frame false = rises_still h
+  deliver_gains : (frame : Frame) (b : Bool) → Gains h (cond b (done_as Reply.taken (receives h frame)) (done_as Reply.ignored h)).left
+  deliver_gains frame true = frame_gains frame
+  deliver_gains frame false = gains_still h
 
-  request_rises : (r : Request) → Rises h (serves jobs id h r).left
+  request_gains : (r : Request) → Gains h (serves jobs id h r).left
   unfolding serves
-  request_rises (Request.enter by list collect) = record { near = λ q. same_level _; far = λ q. same_level _ }
-  request_rises (Request.leave by) = leave_rises by (call_of h by)
-  request_rises (Request.ask by get mode) = ask_rises by get (answer_in jobs id h get mode)
-  request_rises (Request.take by) = take_rises by (call_of h by)
-  request_rises (Request.terminate by) = record { near = λ q. levels_rise h.near _ q; far = λ q. levels_rise h.far _ q }
-  request_rises (Request.define name list) = record { near = λ q. levels_rise h.near _ q; far = λ q. levels_rise h.far _ q }
-  request_rises (Request.delete name) = record { near = λ q. levels_rise h.near _ q; far = λ q. levels_rise h.far _ q }
-  request_rises Request.nudge = rises_still h
+  request_gains (Request.enter by list collect) = record { near = covers_same h.near; far = covers_same h.far }
+  request_gains (Request.leave by) = leave_gains by (call_of h by)
+  request_gains (Request.ask by get mode) = ask_gains by get (answer_in jobs id h get mode)
+  request_gains (Request.take by) = take_gains by (call_of h by)
+  request_gains (Request.terminate by) = record { near = covers_joined h.near _; far = covers_joined h.far _ }
+  request_gains (Request.define name list) = record { near = covers_joined h.near _; far = covers_joined h.far _ }
+  request_gains (Request.delete name) = record { near = covers_joined h.near _; far = covers_joined h.far _ }
+  request_gains Request.nudge = gains_still h
 
-  pub does_rise : (a : Act) → Rises h (does jobs id h a).left
+  pub does_gain : (a : Act) → Gains h (does jobs id h a).left
   unfolding does
-  does_rise (Act.request r) = request_rises r
-  does_rise (Act.commit by b) = record { near = λ q. levels_rise h.near _ q; far = λ q. levels_rise h.far _ q }
-  does_rise (Act.deliver frame) = deliver_rises frame (is_taken jobs id frame)
+  does_gain (Act.request r) = request_gains r
+  does_gain (Act.commit by b) = record { near = covers_joined h.near _; far = covers_joined h.far _ }
+  does_gain (Act.deliver frame) = deliver_gains frame (is_taken jobs id frame)
+
+pub act_gains : (jobs : Jobs) (id : ℕ) (h : Holding) (a : Act) → Gains h (acts jobs id h a).left
+act_gains jobs id h a = elim (by_causes (cause jobs id h a) (does jobs id h a)) [
+  | inl refused ↦ subst (λ (x : Result Done _). Gains h (over jobs id h x).left) (sym refused.2) (gains_still h)
+  | inr free ↦
+      let done = does_gain jobs id h a in
+      subst (λ (x : Result Done _). Gains h (over jobs id h x).left) (sym free.0) (record { near = done.near; far = done.far })
+]
+
+pub does_rise : (jobs : Jobs) (id : ℕ) (h : Holding) (a : Act) → Rises h (does jobs id h a).left
+does_rise jobs id h a = let gains = does_gain jobs id h a in record { near = gains.near.levels; far = gains.far.levels }
 
 pub act_rises : (jobs : Jobs) (id : ℕ) (h : Holding) (a : Act) → Rises h (acts jobs id h a).left
-act_rises jobs id h a = elim (by_causes (cause jobs id h a) (does jobs id h a)) [
-  | inl refused ↦ subst (λ (x : Result Done _). Rises h (over jobs id h x).left) (sym refused.2) (rises_still h)
-  | inr free ↦
-      let done = does_rise jobs id h a in
-      subst (λ (x : Result Done _). Rises h (over jobs id h x).left) (sym free.0) (record { near = done.near; far = done.far })
-]
-
--- ---- values
-
-some_there : (x : Option (List ℕ)) (bytes : List ℕ) → x ≡ Some bytes → is_some x ≡ true
-some_there x bytes e = ap is_some e
-
-none_there : (x : Option (List ℕ)) → x ≡ None → is_some x ≡ true → ⊥
-none_there x e some = false≢true (sym (ap is_some e) ∙ some)
-
--- a later commit leaves a value where an earlier one did
-pub value_more : (s : Script) (n m : ℕ) (r : Reach) (key : List ℕ) → n ≤ m → is_some (value_at s n r key) ≡ true → is_some (value_at s m r key) ≡ true
-value_more s n m r key more some = elim (sealed_or_none r key s m) [
-  | inl found ↦ some_there (value_at s m r key) found.1 (value_sealed r key s m found.0 found.1 found.2)
-  | inr none ↦
-      let fewer : NoneSealed s r key n = λ i pos within. none i pos (omega (arith, within, more)) in
-      absurd (none_there (value_at s n r key) (value_none r key s n fewer) some)
-]
-
-pub value_grown : (s later : Script) (n m : ℕ) (r : Reach) (key : List ℕ) → n ≤ m → n ≤ commits s → is_some (value_at s n r key) ≡ true → is_some (value_at (s ++ later) m r key) ≡ true
-value_grown s later n m r key more made some = value_more (s ++ later) n m r key more (ap is_some (past_values_stay s later n r key made) ∙ some)
+act_rises jobs id h a = let gains = act_gains jobs id h a in record { near = gains.near.levels; far = gains.far.levels }

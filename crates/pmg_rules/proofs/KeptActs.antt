@@ -44,11 +44,13 @@ use Rattle.pmg_jobinfo.specs.Jobs.{Jobs, is_member, home_of}
 use Rattle.pmg_jobinfo.specs.Refusing.{expand_cause}
 use Rattle.pmg_jobinfo.specs.Reserved.{is_general, reserved_value}
 use Rattle.pmg_jobinfo.proofs.RuleLemmas.{each_is_member}
-use Rattle.pmg_rules.specs.Acts.{also, caller_cause, busy_cause, Request, Act, Reply, done_as, cause, request_cause, list_of, list_cause, signature_of, signature_cause, free_cause, target_cause, is_misnamed, is_peer, is_concerned, is_taken, serves, does, leaves, takes, asks, enters_fence, receives, holds_unless}
+use Rattle.pmg_rules.specs.Acts.{also, caller_cause, busy_cause, Request, Act, Reply, done_as, cause, request_cause, list_of, list_cause, signature_of, signature_cause, free_cause, target_cause, is_misnamed, is_peer, is_concerned, is_taken, serves, does, acts, leaves, takes, asks, enters_fence, receives, holds_unless}
 use Rattle.pmg_rules.specs.Holdings.{settled_by, sealer_in, Get, Standing, Holding, new_holding, sealer_of, call_of, answer_in, seen_of, with_table, uncalled, settled, sealing}
 use Rattle.pmg_rules.specs.Kept.{IsOwn, IsSettled, Holds, IsServer, ServerStays, NewIsServer}
 use Rattle.pmg_rules.proofs.KeptBasics.{host_is, IsFree, act_cases, bad, unknown, foreign, outside, caller_is, is_member_by}
 use Rattle.pmg_rules.proofs.KeptChanges.{settled_some, settle_fence, settle_parked, settled_holds, called_holds, uncalled_holds, far_holds, table_holds, sealing_holds, asked_holds, placed_holds}
+use Rattle.pmg_rules.proofs.Lasting.{act_counts, released_lasts, new_counts}
+use Rattle.pmg_rules.proofs.Reading.{answered_have}
 
 -- ---- participants
 
@@ -245,11 +247,22 @@ settled_settled jobs id h = record {
   gets = λ p get e. let was = settled_some jobs id h p (Standing.parked get) e in parks_by get (answer_in jobs id h get modes.Wait) (settle_parked jobs id h was.0 get was.2).1;
 }
 
+kept_stays : (jobs : Jobs) (id : ℕ) (h : Holding) (a : Act) → IsServer jobs id h → IsSettled jobs id (acts jobs id h a).left × Holds jobs id (acts jobs id h a).left
+kept_stays jobs id h a server =
+    act_cases jobs id h a (λ d. IsSettled jobs id d.left × Holds jobs id d.left)
+    (λ free. (settled_settled jobs id (does jobs id h a).left, settled_holds jobs id (does jobs id h a).left (do_holds jobs id h server.holds a free)))
+    (λ e. (server.settled, server.holds))
+
 pub server_stays : ServerStays
 server_stays jobs id h a server =
-    act_cases jobs id h a (λ d. IsServer jobs id d.left)
-    (λ free. record { settled = settled_settled jobs id (does jobs id h a).left; holds = settled_holds jobs id (does jobs id h a).left (do_holds jobs id h server.holds a free) })
-    (λ e. server)
+    let kept = kept_stays jobs id h a server in
+    record {
+      settled = kept.0;
+      holds = kept.1;
+      counted = act_counts jobs id h server.counted a;
+      released = released_lasts jobs id h server.counted a server.released;
+      answered = answered_have jobs id h a server.answered;
+    }
 
 -- ---- a new node
 
@@ -296,4 +309,10 @@ new_is_server jobs id = record {
     there = λ p f e. absurd (no_call jobs id p (Standing.in_fence f) e);
     parts = λ p f e. absurd (no_call jobs id p (Standing.in_fence f) e);
   };
+  counted = new_counts jobs id;
+  released = record {
+    released = λ p f gone e. absurd (no_call jobs id p (Standing.released f gone) e);
+    waits = λ p f e. absurd (no_call jobs id p (Standing.in_fence f) e);
+  };
+  answered = λ p get outcome e parks. no_call jobs id p (Standing.answered get outcome) e;
 }

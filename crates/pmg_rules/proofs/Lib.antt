@@ -13,6 +13,7 @@ pub mod Settling
 pub mod Growing
 pub mod AfterActs
 pub mod Reading
+pub mod Lasting
 pub mod Releasing
 pub mod Asking
 pub mod SendingLists

@@ -1,29 +1,24 @@
 -- A get that has an answer has one from then on.
-use Rattle.std.proofs.Common.{◌≡◌, ◌≤◌, ◌⊎◌, ℕ, Bool, true, false, ◌==◌, cond, List, ◌++◌, Option, Some, None, is_some, inl, inr, refl, sym, ap, ◌∙◌, arith}
+use Rattle.std.proofs.Common.{◌≡◌, ◌⊎◌, ℕ, Bool, true, false, ◌==◌, cond, List, Option, Some, None, is_some, inl, inr, refl, sym, ap, ◌∙◌, arith}
 use Rattle.std.specs.Option.{option_map}
 use Rattle.std.proofs.lemmas.Bool.{false≢true}
 use Rattle.std.proofs.lemmas.Bool.Decides.{nat_tests}
 use Rattle.pmg_value.specs.Names.{is_reserved}
 use Rattle.pmg_value.specs.Spelling.{spelling}
 use Rattle.pmg_value.specs.declared.process.Proc.{Proc}
-use Rattle.pmg_scope.specs.Scripts.{Script, value_at, term_key}
-use Rattle.pmg_scope.specs.declared.scope.Reach.{Reach}
-use Rattle.pmg_scope.specs.declared.scope.Reach.TheVariants as reach
-use Rattle.pmg_commit.specs.Data.{Data, level_at, read_at}
+use Rattle.pmg_scope.specs.Scripts.{term_key}
+use Rattle.pmg_commit.specs.Data.{read_at}
 use Rattle.pmg_jobinfo.specs.Jobs.{Jobs, home_of}
 use Rattle.pmg_jobinfo.specs.Reserved.{reserved_value}
 use Rattle.pmg_fence.specs.Rules.{Scripts, Grows}
 use Rattle.pmg_get.specs.Gets.{Seen, Outcome, unseen, resolve}
 use Rattle.pmg_get.specs.declared.view.Mode.TheVariants as modes
-use Rattle.pmg_store.specs.HonestData.{IsHonestData}
-use Rattle.pmg_store.proofs.HonestDataLaws.{honest_data_reads, honest_level_is_made}
-use Rattle.pmg_rules.specs.Acts.{Act, Said, acts, cause, does, says}
-use Rattle.pmg_rules.specs.Fitting.{is_refusal, unless_refused}
+use Rattle.pmg_rules.specs.Acts.{Act, Said, acts, cause, does}
+use Rattle.pmg_rules.specs.Fitting.{unless_refused}
 use Rattle.pmg_rules.specs.Holdings.{Get, Standing, Holding, call_of, seen_of, answer_in}
 use Rattle.pmg_rules.specs.NodeLaws.{AnswersStay, AnsweredHave}
-use Rattle.pmg_rules.proofs.ActsFitted.{acts_fit}
 use Rattle.pmg_rules.proofs.CauseFacts.{NoCause}
-use Rattle.pmg_rules.proofs.Growing.{act_rises, value_grown}
+use Rattle.pmg_rules.proofs.Growing.{ReadsMore, act_gains}
 use Rattle.pmg_rules.proofs.Moving.{Moves, StaysOrMoves, does_call}
 use Rattle.pmg_rules.proofs.Saying.{said_grows, same_grows}
 use Rattle.pmg_rules.proofs.Settling.{Answering, settled_answered}
@@ -36,18 +31,6 @@ grows_unless false scripts None = same_grows scripts
 grows_unless false scripts (Some said) = said_grows scripts said.proc said.calls
 
 -- ---- what is read stays there
-
--- what is read of the one is read of the other too
-abbrev pub ReadsMore : (List ℕ → Option (List ℕ)) → (List ℕ → Option (List ℕ)) → Type 0
-ReadsMore old new = (key : List ℕ) → is_some (old key) ≡ true → is_some (new key) ≡ true
-
-pub reads_more : (s t : Script) (r : Reach) (p : Proc) (d e : Data) → (later : Script) × (t ≡ s ++ later) → IsHonestData s r p d → IsHonestData t r p e → level_at d p ≤ level_at e p
-    → ReadsMore (read_at d p) (read_at e p)
-reads_more s t r p d e grown old new higher key some =
-    let made = honest_level_is_made s r p d old in
-    let before : is_some (value_at s (level_at d p) r key) ≡ true = ap is_some (sym (honest_data_reads s r p d old key)) ∙ some in
-    let after = value_grown s grown.0 (level_at d p) (level_at e p) r key higher made before in
-    ap is_some (honest_data_reads t r p e new key ∙ ap (λ x. value_at x (level_at e p) r key) grown.1) ∙ after
 
 none_before : (x y : Option (List ℕ)) → (is_some x ≡ true → is_some y ≡ true) → y ≡ None → x ≡ None
 none_before None y more none = refl
@@ -108,16 +91,11 @@ parked_before jobs id nears fars more_near more_far get near far =
         (not_before (is_some (fars term_key)) (is_some (more_far term_key)) (far term_key) found.1)
 
 pub answers_stay : AnswersStay
-answers_stay jobs are scripts node h fits hosts a fit get answered still =
-    let grown = unless_refused (is_refusal (acts jobs node h a).reply) scripts (says jobs a) in
-    let grows : Grows scripts grown = grows_unless (is_refusal (acts jobs node h a).reply) scripts (says jobs a) in
-    let after = acts_fit jobs are scripts node h fits hosts a fit in
-    let rises = act_rises jobs node h a in
+answers_stay jobs node h a get answered still =
+    let gains = act_gains jobs node h a in
     let new : Holding = (acts jobs node h a).left in
     let q = get.target in
-    answered (parked_before jobs node (read_at h.near q) (read_at h.far q) (read_at new.near q) (read_at new.far q) get
-    (λ home. reads_more (scripts q) (grown q) reach.Near q h.near new.near (grows q) (fits.own q home).near_honest (after.own q home).near_honest (rises.near q))
-    (reads_more (scripts q) (grown q) reach.Far q h.far new.far (grows q) (fits.far q) (after.far q) (rises.far q)) still)
+    answered (parked_before jobs node (read_at h.near q) (read_at h.far q) (read_at new.near q) (read_at new.far q) get (λ home. gains.near.reads q) (gains.far.reads q) still)
 
 -- ---- who is answered
 
@@ -166,7 +144,7 @@ answered_by jobs id h a =
     answered_so jobs id h a p get outcome none (settled_answered jobs id (does jobs id h a).left p get outcome e))
 
 pub answered_have : AnsweredHave
-answered_have jobs are scripts node h fits hosts a fit before p get outcome e parks = elim (answered_by jobs node h a p get outcome e) [
-  | inl was ↦ answers_stay jobs are scripts node h fits hosts a fit get (before p get outcome was) parks
+answered_have jobs node h a before p get outcome e parks = elim (answered_by jobs node h a p get outcome e) [
+  | inl was ↦ answers_stay jobs node h a get (before p get outcome was) parks
   | inr now ↦ now.1 (sym now.0 ∙ parks)
 ]

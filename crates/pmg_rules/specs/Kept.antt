@@ -1,5 +1,6 @@
 -- What a node's content keeps, whatever is done.
-use Rattle.std.specs.Prelude.{◌≡◌, ℕ, ◌≤◌, Bool, true, false, Some, if◌then◌else◌}
+use Rattle.std.specs.Prelude.{◌≡◌, ℕ, ◌≤◌, Bool, true, false, List, Some, if◌then◌else◌}
+use Rattle.std.specs.FinMap as finite
 use Rattle.std.specs.FinSet as set
 use Rattle.std.specs.Ordering.{eq_by_cmp}
 use Rattle.pmg_value.specs.Signatures.{FenceName}
@@ -8,7 +9,7 @@ use Rattle.pmg_commit.specs.Data.{known}
 use Rattle.pmg_frame.specs.FenceOrder.{name_cmp}
 use Rattle.pmg_jobinfo.specs.Jobs.{Jobs, is_member, home_of}
 use Rattle.pmg_fence.specs.Entering.{same_proc}
-use Rattle.pmg_fence.specs.Tables.{has_name, told_of}
+use Rattle.pmg_fence.specs.Tables.{has_name, fence_at, count_of, told_of, gone_by}
 use Rattle.pmg_dmodex.specs.Levels.{level_at as held_at}
 use Rattle.pmg_get.specs.Gets.{Outcome}
 use Rattle.pmg_get.specs.declared.view.Mode.TheVariants as modes
@@ -39,10 +40,36 @@ pub record Holds (jobs : Jobs) (id : ℕ) (h : Holding) : Type 0 where
   pub there : (p : Proc) (f : FenceName) → call_of h p ≡ Some (Standing.in_fence f) → has_name h.table f ≡ true
   pub parts : (p : Proc) (f : FenceName) → call_of h p ≡ Some (Standing.in_fence f) → set.contains f.signature.participants p ≡ true
 
--- what a node holds
+-- What its table tells of own processes: who entered a fence entered so many of its signature at least, and who is told to have
+-- ended did.
+pub record IsCounted (h : Holding) : Type 0 where
+  pub entered : (f : FenceName) (p : Proc) (level : ℕ) → finite.get (fence_at h.table f).levels p ≡ Some level → f.instance ≤ count_of h.table f.signature p
+  pub ended : (p : Proc) (level : ℕ) → finite.get h.table.ends p ≡ Some level → (sealer_of h p).ended ≡ true
+
+-- each get that is answered has an answer
+abbrev pub AreAnswered : Jobs → ℕ → Holding → Type 0
+AreAnswered jobs node h =
+    (p : Proc) (get : Get) (outcome : Outcome) → call_of h p ≡ Some (Standing.answered get outcome) → answer_in jobs node h get modes.Wait ≡ Outcome.parks → ⊥
+
+-- whoever is in a fence is in one that is not ready
+abbrev pub AreUnready : Jobs → ℕ → Holding → Type 0
+AreUnready jobs node h = (p : Proc) (f : FenceName) → call_of h p ≡ Some (Standing.in_fence f) → is_ready_at jobs node h f ≡ false
+
+-- whoever is released is so from a fence that is ready, with the gone that its headers tell; and whoever waits does so in one
+-- that is not
+pub record ReleasedRight (jobs : Jobs) (node : ℕ) (h : Holding) : Type 0 where
+  pub released : (p : Proc) (f : FenceName) (gone : List Proc) → call_of h p ≡ Some (Standing.released f gone)
+      → (is_ready_at jobs node h f ≡ true) × (gone ≡ gone_by jobs node h.table f)
+  pub waits : AreUnready jobs node h
+
+-- What a node holds, whatever frames came to it: a process in a fence is released exactly where the fence is ready, and a get waits
+-- exactly where it has no answer.
 pub record IsServer (jobs : Jobs) (id : ℕ) (h : Holding) : Type 0 where
   pub settled : IsSettled jobs id h
   pub holds : Holds jobs id h
+  pub counted : IsCounted h
+  pub released : ReleasedRight jobs id h
+  pub answered : AreAnswered jobs id h
 
 -- a new node holds that
 abbrev pub NewIsServer : Type 0

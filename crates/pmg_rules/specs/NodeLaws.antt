@@ -1,5 +1,5 @@
 -- What holds of every act of a node.
-use Rattle.std.specs.Prelude.{◌≡◌, ◌⊎◌, ℕ, true, false, List, Some}
+use Rattle.std.specs.Prelude.{◌≡◌, ◌⊎◌, ℕ, true, List, Some}
 use Rattle.pmg_value.specs.Signatures.{FenceName}
 use Rattle.pmg_value.specs.declared.process.Proc.{Proc}
 use Rattle.pmg_pset.specs.Sets.{host}
@@ -12,6 +12,7 @@ use Rattle.pmg_get.specs.declared.view.Mode.TheVariants as modes
 use Rattle.pmg_rules.specs.Acts.{Request, Act, is_peer, says, acts}
 use Rattle.pmg_rules.specs.Fitting.{Fits, FitsAct, FitsHost, is_refusal, unless_refused}
 use Rattle.pmg_rules.specs.Holdings.{Get, Standing, Holding, call_of, is_ready_at, answer_in}
+use Rattle.pmg_rules.specs.Kept.{AreAnswered, AreUnready, ReleasedRight}
 
 -- Whatever scripts the content of a node fits: after an act it fits them with the calls added that the act says, and as they are
 -- where it was refused.
@@ -30,30 +31,19 @@ IsSettled jobs node h = (p : Proc) (get : Get) → call_of h p ≡ Some (Standin
 abbrev pub ParkedWait : Type 0
 ParkedWait = (jobs : Jobs) (node : ℕ) (h : Holding) (a : Act) → IsSettled jobs node h → IsSettled jobs node (acts jobs node h a).left
 
--- a get that has an answer has one from then on
+-- a get that has an answer has one from then on, whatever frames come
 abbrev pub AnswersStay : Type 0
 AnswersStay =
-    (jobs : Jobs) → AreJobs jobs → (scripts : Scripts) (node : ℕ) (h : Holding) → Fits jobs scripts node h → FitsHost (scripts host) → (a : Act) → FitsAct jobs scripts a
-    → (get : Get) → (answer_in jobs node h get modes.Wait ≡ Outcome.parks → ⊥) → answer_in jobs node (acts jobs node h a).left get modes.Wait ≡ Outcome.parks → ⊥
+    (jobs : Jobs) (node : ℕ) (h : Holding) (a : Act) (get : Get)
+    → (answer_in jobs node h get modes.Wait ≡ Outcome.parks → ⊥) → answer_in jobs node (acts jobs node h a).left get modes.Wait ≡ Outcome.parks → ⊥
 
--- each get that is answered has an answer
-abbrev pub AreAnswered : Jobs → ℕ → Holding → Type 0
-AreAnswered jobs node h =
-    (p : Proc) (get : Get) (outcome : Outcome) → call_of h p ≡ Some (Standing.answered get outcome) → answer_in jobs node h get modes.Wait ≡ Outcome.parks → ⊥
-
--- so it is after each act: a get waits exactly where it cannot be answered
+-- each get that is answered has an answer, and so it is after each act: a get waits exactly where it cannot be answered
 abbrev pub AnsweredHave : Type 0
-AnsweredHave =
-    (jobs : Jobs) → AreJobs jobs → (scripts : Scripts) (node : ℕ) (h : Holding) → Fits jobs scripts node h → FitsHost (scripts host) → (a : Act) → FitsAct jobs scripts a
-    → AreAnswered jobs node h → AreAnswered jobs node (acts jobs node h a).left
+AnsweredHave = (jobs : Jobs) (node : ℕ) (h : Holding) (a : Act) → AreAnswered jobs node h → AreAnswered jobs node (acts jobs node h a).left
 
 -- ---- releases
 
--- whoever is in a fence is in one that is not ready
-abbrev pub AreUnready : Jobs → ℕ → Holding → Type 0
-AreUnready jobs node h = (p : Proc) (f : FenceName) → call_of h p ≡ Some (Standing.in_fence f) → is_ready_at jobs node h f ≡ false
-
--- so it is after each act
+-- whoever is in a fence is in one that is not ready, and so it is after each act
 abbrev pub ReadyFrees : Type 0
 ReadyFrees = (jobs : Jobs) (node : ℕ) (h : Holding) (a : Act) → AreUnready jobs node h → AreUnready jobs node (acts jobs node h a).left
 
@@ -71,14 +61,7 @@ FreedStays =
     → call_of h p ≡ Some (Standing.released f gone) → (a ≡ Act.request (Request.leave p) → ⊥) → (a ≡ Act.request (Request.terminate p) → ⊥)
     → call_of (acts jobs node h a).left p ≡ Some (Standing.released f gone)
 
--- whoever is released is so from a fence that is ready, with the gone that its headers tell; and whoever waits does so in one
--- that is not
-pub record ReleasedRight (jobs : Jobs) (node : ℕ) (h : Holding) : Type 0 where
-  pub released : (p : Proc) (f : FenceName) (gone : List Proc) → call_of h p ≡ Some (Standing.released f gone)
-      → (is_ready_at jobs node h f ≡ true) × (gone ≡ gone_by jobs node h.table f)
-  pub waits : AreUnready jobs node h
-
--- so it is after each act: a process in a fence is released exactly where the fence is ready
+-- after each act a process in a fence is released exactly where the fence is ready
 abbrev pub ReleasedWhereReady : Type 0
 ReleasedWhereReady =
     (jobs : Jobs) → AreJobs jobs → (scripts : Scripts) (node : ℕ) (h : Holding) → Fits jobs scripts node h → FitsHost (scripts host) → (a : Act) → FitsAct jobs scripts a

@@ -1,29 +1,36 @@
-use Rattle.std.proofs.Common.{◌≡◌, refl, sym, ap, subst, ◌∙◌}
+use Rattle.std.proofs.Common.{◌≡◌, inl, refl, sym, ap, subst, ◌∙◌}
 use Rattle.std.specs.Prelude.{IfOk}
 use Rattle.std.proofs.lemmas.Result.{err_from_is_err_and}
-use Rattle.pmg_node.specs.Acting.{act_of, acted_reply, delivery_joins, joins_in}
+use Rattle.pmg_node.specs.Acting.{act_of, acted_reply, commit_joins, delivery_joins, joins_in}
 use Rattle.pmg_rules.specs.Acts.{Act}
 use Rattle.pmg_node.specs.Joining.{Joins, joins}
 use Rattle.pmg_node.specs.Replies.{committed_reply}
-use Rattle.pmg_node.specs.Servers.{RepliesEntry, reply_to}
+use Rattle.pmg_node.specs.Servers.{RepliesAct}
 use Rattle.pmg_node.specs.declared.act.Act.{Act as AskedAct}
 use Rattle.pmg_node.proofs.JoiningLemmas.{delivered_joins}
-use Rattle.pmg_node.proofs.ReplyLemmas.{deliver_accepted, sealed_told}
+use Rattle.pmg_node.proofs.ReplyLemmas.{act_told, deliver_accepted, sealed_told}
 use Rattle.pmg_node.proofs.node.Node.act_into.Goals as goal
 
 pub returns-in_err-joined-in-Deliver-clause-reply : goal.returns-in_err-joined-in-Deliver-clause-reply
 returns-in_err-joined-in-Deliver-clause-reply c =
     let s = c.args.self.now in
     let p = err_from_is_err_and c.from_residual.result c.from_residual.ensures.1 in
-    subst (λ (a : AskedAct). RepliesEntry acted_reply c.from_residual.result (reply_to s (act_of a))) (sym c.in-Deliver.is)
-    (rw (p.1, p.2) (deliver_accepted s.jobs s.id s.holding c.in-Deliver.frame))
+    subst (λ (a : AskedAct). RepliesAct acted_reply c.from_residual.result s (act_of a)) (sym c.in-Deliver.is)
+    (rw (p.1, p.2) (inl (deliver_accepted s.jobs s.id s.holding c.in-Deliver.frame)))
 
 pub returns-in_err-delivery-in-Deliver-clause-reply : goal.returns-in_err-delivery-in-Deliver-clause-reply
 returns-in_err-delivery-in-Deliver-clause-reply c =
     let s = c.args.self.now in
     let p = err_from_is_err_and c.from_residual-in_err-delivery-in-Deliver.result c.from_residual-in_err-delivery-in-Deliver.ensures.1 in
-    subst (λ (a : AskedAct). RepliesEntry acted_reply c.from_residual-in_err-delivery-in-Deliver.result (reply_to s (act_of a))) (sym c.in-Deliver.is)
-    (rw (p.1, p.2) (deliver_accepted s.jobs s.id s.holding c.in-Deliver.frame))
+    subst (λ (a : AskedAct). RepliesAct acted_reply c.from_residual-in_err-delivery-in-Deliver.result s (act_of a)) (sym c.in-Deliver.is)
+    (rw (p.1, p.2) (inl (deliver_accepted s.jobs s.id s.holding c.in-Deliver.frame)))
+
+pub returns-in-Commit-clause-reply : goal.returns-in-Commit-clause-reply
+returns-in-Commit-clause-reply c =
+    let s = c.args.self.now in
+    let a : Act = Act.commit c.in-Commit.proc c.in-Commit.batch in
+    subst (λ (x : AskedAct). RepliesAct acted_reply c.committed.result s (act_of x)) (sym c.in-Commit.is)
+    (act_told committed_reply commit_joins c.commit_joined.result c.committed.result s a c.committed.ensures c.commit_joined.ensures.reply)
 
 pub returns-in-Commit-clause-joined : goal.returns-in-Commit-clause-joined
 returns-in-Commit-clause-joined c =

@@ -22,6 +22,7 @@ use Rattle.pmg_rules.specs.declared.due.Due.{Due}
 use Rattle.pmg_rules.specs.declared.sent.Sent.{Sent}
 use Rattle.pmg_holding.specs.Answered.{ArePlain}
 use Rattle.pmg_holding.proofs.AnswerLemmas.{plain_calls}
+use Rattle.pmg_node.proofs.DefineLemmas.{own_back}
 use Rattle.pmg_node.proofs.NodeKept.{node_stays}
 use Rattle.pmg_node.proofs.FailLemmas.{erred_reply, erred_after, erred_sent}
 use Rattle.pmg_node.proofs.SealedActs.{Seals, IsPublished, published_reply, published_after, published_sent}
@@ -82,6 +83,32 @@ returns-in_err-before-clause-sent c =
 
 pub publish_sets-requires-clause-level : goal.publish_sets-requires-clause-level
 publish_sets-requires-clause-level c = sets_rise c.self.inside.own c.delete.new.self c.args.name.now no_members c.in_ok-before.ensures.ok c.sets_level-from.result c.sets_level-from.ensures.value
+
+-- ---- a deletion that is taken back
+
+back : (c : goal.After-take_sets_back)
+    → server_of c.self.inside.table c.self.inside.id c.publish_sets.new.board c.take_sets_back.new.self c.self.inside.calls c.self.inside.held c.publish_sets.new.marks
+    ≡ server_of c.self.inside.table c.self.inside.id c.self.inside.board c.self.inside.own c.self.inside.calls c.self.inside.held c.self.inside.marks
+back c =
+    let i = c.self.inside in
+    let own = own_back i.own c.delete.new.self c.take_sets_back.new.self (delete_cause i.own.sets c.args.name.now) _ _ c.in_ok-before.ensures.ok c.take_sets_back.ensures c.in_ok-before.ensures.before in
+    λ j. record {
+      jobs = i.table.jobs;
+      id = i.id;
+      holding = record {
+        near = c.in_default.ensures.near_err j;
+        far = c.in_default.ensures.far_err j;
+        sealers = (own j).sealers;
+        sets = (own j).sets;
+        table = i.table.fences;
+        calls = i.calls;
+        held = i.held.held;
+      };
+      marks = c.in_default.ensures.marks_err j;
+    }
+
+pub invariant_of-self-in_default : goal.invariant_of-self-in_default
+invariant_of-self-in_default c = record { same = c.self.invariant.same; told = c.self.invariant.told; node = subst IsNode (sym (back c)) c.self.invariant.node }
 
 pub returns-in_default-clause-reply : goal.returns-in_default-clause-reply
 returns-in_default-clause-reply c =

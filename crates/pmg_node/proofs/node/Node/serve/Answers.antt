@@ -1,33 +1,33 @@
-use Rattle.std.proofs.Common.{◌≡◌, List, refl, ap, subst, ◌∙◌, sym}
+use Rattle.std.proofs.Common.{◌≡◌, List, inl, refl, ap, subst, ◌∙◌, sym}
 use Rattle.std.specs.Prelude.{IfOk}
 use Rattle.std.proofs.lemmas.Result.{err_from_is_err_and}
 use Rattle.pmg_value.specs.declared.process.Proc.{Proc}
 use Rattle.pmg_scope.specs.declared.scope.Reach.TheVariants as reach
 use Rattle.pmg_pset.specs.Sets.{host}
-use Rattle.pmg_node.specs.Acting.{acted_reply, joins_in, joins_none, request_of}
+use Rattle.pmg_node.specs.Acting.{acted_reply, commit_joins, joins_in, joins_none, request_of}
 use Rattle.pmg_holding.specs.Calls.{get_of}
 use Rattle.pmg_rules.specs.Holdings.{sealer_of}
 use Rattle.pmg_node.specs.Joining.{joins}
 use Rattle.pmg_rules.specs.Acts.{Act, Request, Reply}
 use Rattle.pmg_node.specs.Replies.{asked_reply, defined_reply, ended_reply, release_reply, taking_reply}
-use Rattle.pmg_node.specs.Servers.{RepliesEntry, reply_in, reply_to}
+use Rattle.pmg_node.specs.Servers.{RepliesAct, reply_in}
 use Rattle.pmg_node.specs.declared.act.Request.{Request as AskedRequest}
 use Rattle.pmg_node.proofs.JoiningLemmas.{joins_nothing}
-use Rattle.pmg_node.proofs.ReplyLemmas.{entry_told, entry_short, leave_short, take_short, nudge_accepted, nothing_told, sealed_told, sets_joined, end_joined}
+use Rattle.pmg_node.proofs.ReplyLemmas.{entry_told, entry_short, act_told, same_told, leave_short, take_short, nudge_accepted, nothing_told, sealed_told, sets_joined, end_joined}
 use Rattle.pmg_node.proofs.node.Node.serve.Goals as goal
 
 pub returns-in_err-nudge-in-Nudge-clause-reply : goal.returns-in_err-nudge-in-Nudge-clause-reply
 returns-in_err-nudge-in-Nudge-clause-reply c =
     let s = c.args.self.now in
     let p = err_from_is_err_and c.from_residual.result c.from_residual.ensures.1 in
-    subst (λ (r : AskedRequest). RepliesEntry acted_reply c.from_residual.result (reply_to s (Act.request (request_of r)))) (sym c.in-Nudge.is)
-    (rw (p.1, p.2) (nudge_accepted s.jobs s.id s.holding))
+    subst (λ (r : AskedRequest). RepliesAct acted_reply c.from_residual.result s (Act.request (request_of r))) (sym c.in-Nudge.is)
+    (rw (p.1, p.2) (inl (nudge_accepted s.jobs s.id s.holding)))
 
 pub returns-in-Leave-clause-reply : goal.returns-in-Leave-clause-reply
 returns-in-Leave-clause-reply c =
     let s = c.args.self.now in
-    subst (λ (r : AskedRequest). RepliesEntry acted_reply c.released.result (reply_to s (Act.request (request_of r)))) (sym c.in-Leave.is)
-    (entry_told release_reply joins_none c.take_release.result c.released.result (reply_to s (Act.request (Request.leave c.in-Leave.proc))) c.released.ensures c.take_release.ensures.reply
+    subst (λ (r : AskedRequest). RepliesAct acted_reply c.released.result s (Act.request (request_of r))) (sym c.in-Leave.is)
+    (entry_told release_reply joins_none c.take_release.result c.released.result s (Act.request (Request.leave c.in-Leave.proc)) c.released.ensures c.take_release.ensures.reply
     (leave_short s.jobs s.id s.holding c.in-Leave.proc))
 
 pub returns-in-Leave-clause-memory : goal.returns-in-Leave-clause-memory
@@ -39,8 +39,8 @@ returns-in-Leave-clause-memory c = λ is.
 pub returns-in-Take-clause-reply : goal.returns-in-Take-clause-reply
 returns-in-Take-clause-reply c =
     let s = c.args.self.now in
-    subst (λ (r : AskedRequest). RepliesEntry acted_reply c.taken.result (reply_to s (Act.request (request_of r)))) (sym c.in-Take.is)
-    (entry_told taking_reply joins_none c.take_answer.result c.taken.result (reply_to s (Act.request (Request.take c.in-Take.proc))) c.taken.ensures c.take_answer.ensures.reply
+    subst (λ (r : AskedRequest). RepliesAct acted_reply c.taken.result s (Act.request (request_of r))) (sym c.in-Take.is)
+    (entry_told taking_reply joins_none c.take_answer.result c.taken.result s (Act.request (Request.take c.in-Take.proc)) c.taken.ensures c.take_answer.ensures.reply
     (take_short s.jobs s.id s.holding c.in-Take.proc))
 
 pub returns-in-Take-clause-memory : goal.returns-in-Take-clause-memory
@@ -110,3 +110,35 @@ returns-in_ok-nudge-in-Nudge-clause-joined c =
     let s = c.args.self.now in
     let a : Act = Act.request Request.nudge in
     c.alone.ensures.joined ∙ sym (joins_nothing s.jobs s.id s.holding a refl) ∙ ap (λ (r : AskedRequest). joins s.jobs s.id s.holding (Act.request (request_of r))) (sym c.in-Nudge.is)
+
+pub returns-in-Enter-clause-reply : goal.returns-in-Enter-clause-reply
+returns-in-Enter-clause-reply c =
+    let s = c.args.self.now in
+    subst (λ (r : AskedRequest). RepliesAct acted_reply c.entered.result s (Act.request (request_of r))) (sym c.in-Enter.is)
+    (subst (λ (l : List Proc). RepliesAct acted_reply c.entered.result s (Act.request (Request.enter c.in-Enter.proc l c.in-Enter.collect))) c.deref.ensures.value
+    (same_told Reply.entered joins_none c.enter.result c.entered.result s (Act.request (Request.enter c.in-Enter.proc c.deref.result.now c.in-Enter.collect)) c.entered.ensures c.enter.ensures.reply))
+
+pub returns-in-Ask-clause-reply : goal.returns-in-Ask-clause-reply
+returns-in-Ask-clause-reply c =
+    let s = c.args.self.now in
+    subst (λ (r : AskedRequest). RepliesAct acted_reply c.asked.result s (Act.request (request_of r))) (sym c.in-Ask.is)
+    (act_told asked_reply joins_none c.ask.result c.asked.result s (Act.request (Request.ask c.in-Ask.proc (get_of c.in-Ask.target c.in-Ask.key) c.in-Ask.mode)) c.asked.ensures c.ask.ensures.reply)
+
+pub returns-in-Terminate-clause-reply : goal.returns-in-Terminate-clause-reply
+returns-in-Terminate-clause-reply c =
+    let s = c.args.self.now in
+    subst (λ (r : AskedRequest). RepliesAct acted_reply c.ended.result s (Act.request (request_of r))) (sym c.in-Terminate.is)
+    (act_told ended_reply commit_joins c.terminate.result c.ended.result s (Act.request (Request.terminate c.in-Terminate.proc)) c.ended.ensures c.terminate.ensures.reply)
+
+pub returns-in-Define-clause-reply : goal.returns-in-Define-clause-reply
+returns-in-Define-clause-reply c =
+    let s = c.args.self.now in
+    subst (λ (r : AskedRequest). RepliesAct acted_reply c.defined.result s (Act.request (request_of r))) (sym c.in-Define.is)
+    (subst (λ (l : List Proc). RepliesAct acted_reply c.defined.result s (Act.request (Request.define c.in-Define.name l))) c.deref-in-Define.ensures.value
+    (act_told defined_reply commit_joins c.define_set.result c.defined.result s (Act.request (Request.define c.in-Define.name c.deref-in-Define.result.now)) c.defined.ensures c.define_set.ensures.reply))
+
+pub returns-in-Delete-clause-reply : goal.returns-in-Delete-clause-reply
+returns-in-Delete-clause-reply c =
+    let s = c.args.self.now in
+    subst (λ (r : AskedRequest). RepliesAct acted_reply c.defined-in-Delete.result s (Act.request (request_of r))) (sym c.in-Delete.is)
+    (act_told defined_reply commit_joins c.delete_set.result c.defined-in-Delete.result s (Act.request (Request.delete c.in-Delete.name)) c.defined-in-Delete.ensures c.delete_set.ensures.reply)
