@@ -164,7 +164,7 @@ header_taken : (state : State) → is_taken two 1 (frames.Header (header_of_0 st
 unfolding is_taken
 header_taken state = (λ i. (all_members i && one_at_1 i) && eq_by_cmp (slice_cmp proc_cmp) (j0 ∷ []) (locals_at_0 i))
 
-piece_taken : (z : Sealed) → z.proc ≡ j0 → is_taken two 1 (frames.Piece (its_piece z)) ≡ true
+pub piece_taken : (z : Sealed) → z.proc ≡ j0 → is_taken two 1 (frames.Piece (its_piece z)) ≡ true
 unfolding is_taken
 piece_taken z its = ap (λ p. is_known two p && not (home_of two p == 1)) its ∙ (λ i. (j0_is_member i || is_host j0) && not (home_of_j0 i == 1))
 

@@ -122,7 +122,7 @@ may_commit = both_causes (free_cause two 0 new_0 j0) (seal_cause (sealer_of new_
 number_is_one : sealer_of_one.level ≡ 1
 number_is_one = ap (λ (z : Sealed). suc z.level) (sealer-new two 0 j0)
 
-commits : acts two 0 new_0 committing ≡ done_as (Reply.committed 1) committed_0
+pub commits : acts two 0 new_0 committing ≡ done_as (Reply.committed 1) committed_0
 unfolding does committed_0
 commits = accepted 0 new_0 committing may_commit ∙ (λ i. done_as (Reply.committed (number_is_one i)) (settled two 0 (sealing new_0 j0 sealer_of_one)))
 
@@ -154,6 +154,12 @@ sealer_now = sealer_of joined_0 j0
 sealer_kept : sealer_of committed_0 j0 ≡ sealer_of_one
 unfolding committed_0
 sealer_kept = sealer_here new_0 j0 sealer_of_one
+
+pub committed_level : (sealer_of committed_0 j0).level ≡ 1
+committed_level = ap (λ (z : Sealed). z.level) sealer_kept ∙ number_is_one
+
+pub committed_proc : (sealer_of committed_0 j0).proc ≡ j0
+committed_proc = ap (λ (z : Sealed). z.proc) sealer_kept ∙ ap (λ (z : Sealed). z.proc) (sealer-new two 0 j0)
 
 sealer_stays : sealer_now ≡ sealer_of_one
 unfolding joined_0

@@ -32,21 +32,21 @@ use Rattle.pmg_runs.proofs.Steps.{step_good}
 abbrev pub asking : Act
 asking = Act.request (Request.ask j1 its_key modes.Wait)
 
-good_target : NoCause (target_cause two j1 its_key)
+pub good_target : NoCause (target_cause two j1 its_key)
 good_target = (
   refl,
   ((λ i. is_there i && not (j0_is_member i)), ((λ i. not (is_there i)), (refl, (refl, (refl, (refl, (refl, (refl, (refl, (refl, tt)))))))))),
 )
 
-both_ways : (n : ℕ) → 1 ≤ n → n ≤ 1 → n ≡ 1
+pub both_ways : (n : ℕ) → 1 ≤ n → n ≤ 1 → n ≡ 1
 both_ways n low high = omega (arith, low, high)
 
--- what is to be seen of it is what the first commit left for other nodes
-from_elsewhere : (s : Script) → seen_at two 1 s 1 its_key ≡ Seen.remote (value_at s 1 reach.Far its_key.key) (is_some (value_at s 1 reach.Far term_key))
+-- what is to be seen of it is what so many commits left for other nodes
+pub from_elsewhere : (s : Script) (n : ℕ) → seen_at two 1 s n its_key ≡ Seen.remote (value_at s n reach.Far its_key.key) (is_some (value_at s n reach.Far term_key))
 unfolding seen_of
-from_elsewhere s =
-    ap (λ n. cond (n == 1) (Seen.local (value_at s 1 reach.Near its_key.key) (value_at s 1 reach.Far its_key.key) (is_some (value_at s 1 reach.Near term_key)))
-    (Seen.remote (value_at s 1 reach.Far its_key.key) (is_some (value_at s 1 reach.Far term_key)))) home_of_j0
+from_elsewhere s n =
+    ap (λ home. cond (home == 1) (Seen.local (value_at s n reach.Near its_key.key) (value_at s n reach.Far its_key.key) (is_some (value_at s n reach.Near term_key)))
+    (Seen.remote (value_at s n reach.Far its_key.key) (is_some (value_at s n reach.Far term_key)))) home_of_j0
 
 module _ (state : State) (z : Sealed) (its : z.proc ≡ j0) (one : z.level ≡ 1) where
   still_live : (sealer_of (left_1 state z) j1).ended ≡ false
@@ -81,7 +81,7 @@ module _ (state : State) (z : Sealed) (its : z.proc ≡ j0) (one : z.level ≡ 1
     sees =
         answer_sees two scripts 1 (left_1 state z) fits its_key modes.Wait
         ∙ ap (λ n. resolve (seen_at two 1 (scripts j0) n its_key) modes.Wait) level_is
-        ∙ ap (λ x. resolve x modes.Wait) (from_elsewhere (scripts j0)) ∙ resolves
+        ∙ ap (λ x. resolve x modes.Wait) (from_elsewhere (scripts j0) 1) ∙ resolves
 
     pub step_asks : (r : Reply) → asks (left_1 state z) j1 its_key o ≡ done_as r (left_1 state z) → NodeStep two 1 (left_1 state z) asking r asked_1 []
     unfolding does serves

@@ -20,3 +20,4 @@ pub mod ExampleRun
 pub mod ExampleGet
 pub mod ExampleCommit
 pub mod ExampleMeeting
+mod ExampleWaiting

@@ -1,5 +1,5 @@
 -- Runs of a small group, worked out by hand: what the laws of every run speak of does happen.
-use Rattle.std.specs.Prelude.{ℕ, ◌≡◌, true, false, List, [], ◌∷◌, Some, codes}
+use Rattle.std.specs.Prelude.{ℕ, ◌≡◌, true, false, List, [], ◌∷◌, ◌++◌, Some, None, codes}
 use Rattle.pmg_value.specs.Lists.{In}
 use Rattle.pmg_value.specs.Signatures.{FenceName}
 use Rattle.pmg_value.specs.declared.process.Proc.{Proc}
@@ -8,12 +8,13 @@ use Rattle.pmg_scope.specs.declared.scope.Scope.TheVariants as scopes
 use Rattle.pmg_frame.specs.Fences.{name_fields, fence_name, participants_of}
 use Rattle.pmg_jobinfo.specs.Jobs.{Jobs, AreJobs, opened, registered}
 use Rattle.pmg_fence.specs.Entering.{same_proc}
+use Rattle.pmg_get.specs.Gets.{Outcome}
 use Rattle.pmg_get.specs.declared.view.Mode.TheVariants as modes
 use Rattle.pmg_rules.specs.Acts.{Request, Reply}
 use Rattle.pmg_rules.specs.Fitting.{last_fence}
 use Rattle.pmg_rules.specs.Holdings.{Get}
 use Rattle.pmg_runs.specs.Worlds.{World, Event, Happened, Run, start}
-use Rattle.pmg_runs.specs.Laws.{Leaves}
+use Rattle.pmg_runs.specs.Laws.{Leaves, answer_as, answers}
 
 -- two nodes, and a process at each
 abbrev pub two : Jobs
@@ -99,3 +100,24 @@ RunOfTwo = IsReleased ends_and_meets (j0 ∷ []) (Reply.refused refusals.NotFoun
 -- Where both meet, nobody is gone; and the value is found.
 unfoldable pub RunOfMeeting : Type 0
 RunOfMeeting = IsReleased puts_and_meets [] (Reply.found its_value)
+
+-- A get that waits. One process puts a value for all and commits it; then the other one gets its key, of which its own node knows
+-- nothing, and waits. The node asks the home of the key's process, which sends the commit.
+abbrev pub asks_and_waits : List Happened
+asks_and_waits =
+    happened (Event.put j0 scopes.Global its_key.key its_value) Reply.done
+    ∷ happened (Event.commit first_node j0) (Reply.committed 1)
+    ∷ happened (Event.request second_node (Request.ask j1 its_key modes.Wait)) Reply.parked
+    ∷ happened (Event.deliver 1) Reply.taken
+    ∷ happened (Event.deliver 2) Reply.taken
+    ∷ []
+
+-- then it takes the answer
+abbrev pub takes_the_value : Happened
+takes_the_value = happened (Event.request second_node (Request.take j1)) (Reply.found its_value)
+
+-- There is a run of these events, and at its end the process takes the answer. So its get was answered once: when it took that.
+unfoldable pub RunOfWaiting : Type 0
+RunOfWaiting =
+    (w : World) × Run two (start two) asks_and_waits w × (v : World) × Run two w (takes_the_value ∷ []) v
+    × (answers j1 j0 None (asks_and_waits ++ takes_the_value ∷ []) ≡ answer_as its_key modes.Wait (Outcome.found its_value) ∷ [])

@@ -1,4 +1,4 @@
-ghost use Rattle.pmg_runs.specs.Examples.{RunOfTwo, RunOfMeeting};
+ghost use Rattle.pmg_runs.specs.Examples.{RunOfTwo, RunOfMeeting, RunOfWaiting};
 ghost use Rattle.pmg_runs.specs.Laws.{
   AlwaysGood,
   ScriptsAreTold,
@@ -28,12 +28,14 @@ pub fn every_interleaving()
     ensures gets_rise { GetsRise }
 {}
 
-/// Two runs of two nodes with a process each, step by step. In the first, one process ends; the other enters a fence of both that
+/// Three runs of two nodes with a process each, step by step. In the first, one process ends; the other enters a fence of both that
 /// collects data, waits for the other node's header, then for the commit that the header names, and is released, told that the
 /// one is gone; and then a get of a key of that one is answered. In the second, the one process puts a value and commits it, and
 /// both enter; the other one waits in the same way, is released, told that nobody is gone, and finds the value. So the laws of
-/// every run speak of releases and of gets that do happen (PMIx Standard 5.0, PMIx_Fence, PMIX_COLLECT_DATA).
+/// every run speak of releases and of gets that do happen (PMIx Standard 5.0, PMIx_Fence, PMIX_COLLECT_DATA). In the third a get
+/// waits, the home of its key's process is asked, and the answer is taken: a get that waited counts as answered then.
 pub fn worked_runs()
     ensures run_of_two { RunOfTwo }
     ensures run_of_meeting { RunOfMeeting }
+    ensures run_of_waiting { RunOfWaiting }
 {}

@@ -11,7 +11,7 @@ use Rattle.pmg_rules.specs.Acts.{Act, Reply, is_peer}
 use Rattle.pmg_rules.specs.Holdings.{Holding}
 use Rattle.pmg_rules.specs.Kept.{IsServer}
 use Rattle.pmg_rules.specs.Sending.{NodeStep}
-use Rattle.pmg_node.specs.Servers.{Server, IsAnswered, RepliesEntry, after, reply_in, reply_to, sent_by}
+use Rattle.pmg_node.specs.Servers.{Server, IsAnswered, RepliesAct, after, reply_in, reply_to, sent_by}
 use Rattle.pmg_rules.specs.declared.sent.Sent.{Sent}
 use Rattle.pmg_rules.proofs.ChoosingSteps.{chosen_is_step}
 use Rattle.pmg_rules.proofs.KeptActs.{server_stays}
@@ -19,24 +19,24 @@ use Rattle.pmg_world.specs.Keeping.{IsNodeOf, AreNodes}
 use Rattle.pmg_runs.specs.Worlds.{changed_at}
 
 -- an answer that is no failed allocation is the one that is due
-pub answered_due : {X : Type 0} (view : X → Reply) (answer : Result X Refusal) (due : Reply) → RepliesEntry view answer due → IsAnswered answer → reply_in view answer ≡ due
-answered_due view (Ok x) due replies is = sym replies
-answered_due view (Err refusals.NoMemory) due replies is = absurd is
-answered_due view (Err refusals.BadParam) due replies is = sym replies
-answered_due view (Err refusals.NotFound) due replies is = sym replies
-answered_due view (Err refusals.OutsideScope) due replies is = sym replies
-answered_due view (Err refusals.UnknownNamespace) due replies is = sym replies
-answered_due view (Err refusals.NotMine) due replies is = sym replies
-answered_due view (Err refusals.Busy) due replies is = sym replies
-answered_due view (Err refusals.Terminated) due replies is = sym replies
-answered_due view (Err refusals.NotAParticipant) due replies is = sym replies
-answered_due view (Err refusals.TooMany) due replies is = sym replies
-answered_due view (Err (refusals.BadFrame f)) due replies is = sym replies
-answered_due view (Err refusals.Exists) due replies is = sym replies
-answered_due view (Err refusals.Collision) due replies is = sym replies
-answered_due view (Err refusals.Stale) due replies is = sym replies
-answered_due view (Err refusals.Unordered) due replies is = sym replies
-answered_due view (Err refusals.Closed) due replies is = sym replies
+pub answered_due : {X : Type 0} (view : X → Reply) (answer : Result X Refusal) (s : Server) (a : Act) → RepliesAct view answer s a → IsAnswered answer → reply_in view answer ≡ reply_to s a
+answered_due view (Ok x) s a replies is = sym replies
+answered_due view (Err refusals.NoMemory) s a replies is = absurd is
+answered_due view (Err refusals.BadParam) s a replies is = sym replies
+answered_due view (Err refusals.NotFound) s a replies is = sym replies
+answered_due view (Err refusals.OutsideScope) s a replies is = sym replies
+answered_due view (Err refusals.UnknownNamespace) s a replies is = sym replies
+answered_due view (Err refusals.NotMine) s a replies is = sym replies
+answered_due view (Err refusals.Busy) s a replies is = sym replies
+answered_due view (Err refusals.Terminated) s a replies is = sym replies
+answered_due view (Err refusals.NotAParticipant) s a replies is = sym replies
+answered_due view (Err refusals.TooMany) s a replies is = sym replies
+answered_due view (Err (refusals.BadFrame f)) s a replies is = sym replies
+answered_due view (Err refusals.Exists) s a replies is = sym replies
+answered_due view (Err refusals.Collision) s a replies is = sym replies
+answered_due view (Err refusals.Stale) s a replies is = sym replies
+answered_due view (Err refusals.Unordered) s a replies is = sym replies
+answered_due view (Err refusals.Closed) s a replies is = sym replies
 
 -- what a node chooses to do is one step
 server_step : (jobs : Jobs) → AreJobs jobs → (node : ℕ) (h : Holding) → IsServer jobs node h → (s : Server) → IsNodeOf jobs node h s → (a : Act)
@@ -72,14 +72,14 @@ module _ (jobs : Jobs) (are : AreJobs jobs) (servers : List Server) (nodes : ℕ
 
   -- one step of the node
   pub act_steps : NodeStep jobs node (nodes node) a (reply_to s a) (after s a).holding (sent_by s a)
-  act_steps = server_step jobs are node (nodes node) (kept.servers node) s (kept.each node d inside) a
+  act_steps = server_step jobs are node (nodes node) (kept.servers node inside) s (kept.each node d inside) a
 
   -- the nodes after it
   pub act_keeps : AreNodes jobs (set servers node (after s a)) (changed_at nodes node (after s a).holding)
   act_keeps = record {
     count = length-set servers node (after s a) ∙ kept.count;
     each = λ m e within. at m e (subst (λ n. m < n) (length-set servers node (after s a)) within) (m == node) refl;
-    servers = λ m. still m (m == node) refl;
+    servers = λ m within. still m (subst (λ n. m < n) (length-set servers node (after s a)) within) (m == node) refl;
   }
     where
       at : (m : ℕ) (e : Server) → m < length servers → (b : Bool) → (m == node) ≡ b
@@ -89,11 +89,11 @@ module _ (jobs : Jobs) (are : AreJobs jobs) (servers : List Server) (nodes : ℕ
           (subst (IsNodeOf jobs node (after s a).holding) (sym (get_or-set_same servers node (after s a) e inside)) (server_of_still jobs node (nodes node) s a (kept.each node d inside)))
       at m e within false is = subst (IsNodeOf jobs m (nodes m)) (sym (get_or-set_other servers node m (after s a) e (other_node m node is))) (kept.each m e within)
 
-      still : (m : ℕ) (b : Bool) → (m == node) ≡ b → IsServer jobs m (cond b (after s a).holding (nodes m))
-      still m true is =
+      still : (m : ℕ) → m < length servers → (b : Bool) → (m == node) ≡ b → IsServer jobs m (cond b (after s a).holding (nodes m))
+      still m within true is =
           subst (λ n. IsServer jobs n (after s a).holding) (sym (same_index m node is))
-          (subst (IsServer jobs node) (sym act_steps.left) (server_stays jobs node (nodes node) a (kept.servers node)))
-      still m false is = kept.servers m
+          (subst (IsServer jobs node) (sym act_steps.left) (server_stays jobs node (nodes node) a (kept.servers node inside)))
+      still m within false is = kept.servers m within
 
   -- its frames go to nodes of the group
   pub act_peers : Each (λ x. is_node jobs x.to ≡ true) (sent_by s a)

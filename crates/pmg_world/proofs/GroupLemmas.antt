@@ -12,7 +12,7 @@ use Rattle.pmg_node.specs.Acting.{reply_as}
 use Rattle.pmg_rules.specs.Acts.{Act, Reply, Said, says}
 use Rattle.pmg_rules.specs.Fitting.{is_refusal, unless_refused}
 use Rattle.pmg_rules.specs.Sending.{NodeStep}
-use Rattle.pmg_node.specs.Servers.{Server, IsAnswered, RepliesEntry, after, reply_to, sent_by}
+use Rattle.pmg_node.specs.Servers.{Server, IsAnswered, RepliesAct, after, sent_by}
 use Rattle.pmg_node.specs.declared.act.Reply.{Reply as GivenReply}
 use Rattle.pmg_node.specs.declared.act.Reply.TheVariants as replies
 use Rattle.pmg_rules.specs.declared.sent.Sent.{Sent}
@@ -69,7 +69,7 @@ refused_stays g w stands e due said cause is refused = stays g w stands e due sa
 pub record IsActed (old : Group) (node : ℕ) (d : Server) (a : Act) (answer : Result GivenReply Refusal) (registry : Jobs) (servers : List Server) (frames : List Sent) : Type 0 where
   pub inside : node < length old.nodes.items
   pub is : IsAnswered answer
-  pub reply : RepliesEntry reply_as answer (reply_to (get_or old.nodes.items node d) a)
+  pub reply : RepliesAct reply_as answer (get_or old.nodes.items node d) a
   pub nodes : servers ≡ set old.nodes.items node (after (get_or old.nodes.items node d) a)
   pub sent : frames ≡ old.sent.items ++ sent_by (get_or old.nodes.items node d) a
   pub jobs : registry ≡ old.registry
@@ -82,7 +82,7 @@ acts_on old new w stands e node d a answer acted is caches =
     let steps = act_steps old.registry stands.jobs old.nodes.items w.nodes stands.nodes node d acted.inside a in
     let keeps = act_keeps old.registry stands.jobs old.nodes.items w.nodes stands.nodes node d acted.inside a in
     let peers = act_peers old.registry stands.jobs old.nodes.items w.nodes stands.nodes node d acted.inside a in
-    let due = answered_due reply_as answer (reply_to s a) acted.reply acted.is in
+    let due = answered_due reply_as answer s a acted.reply acted.is in
     let left : World = record { scripts = unless_refused (is_refusal (replied answer)) w.scripts (says old.registry a); nodes = changed_at w.nodes node (after s a).holding; sent = w.sent ++ sent_by s a } in
     record {
       after = left;

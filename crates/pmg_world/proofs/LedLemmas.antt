@@ -5,18 +5,23 @@ use Rattle.std.proofs.lemmas.List.{map-append}
 use Rattle.pmg_value.specs.declared.refusal.Refusal.{Refusal}
 use Rattle.pmg_jobinfo.specs.Jobs.{Jobs}
 use Rattle.pmg_fence.proofs.LineLemmas.{append_empty}
+use Rattle.pmg_fence.specs.Rules.{Scripts}
 use Rattle.pmg_node.specs.Servers.{IsAnswered}
 use Rattle.pmg_node.specs.declared.act.Reply.{Reply as GivenReply}
-use Rattle.pmg_world.specs.Accounts.{Adds, IsKept, IsLed, IsRun, account_of}
+use Rattle.pmg_world.specs.Accounts.{Account, Adds, GoesOn, IsKept, IsLed, IsRun, LeadsTo, account_of}
 use Rattle.pmg_world.specs.Keeping.{AreCaches, Happens, IsGroup, IsSame, Stands, replied}
 use Rattle.pmg_world.specs.Telling.{event_of, happened_of}
+use Rattle.pmg_rules.specs.Holdings.{Holding}
+use Rattle.pmg_rules.specs.Kept.{IsServer}
 use Rattle.pmg_runs.specs.Worlds.{World, Happened, Run, Step, start}
+use Rattle.pmg_runs.proofs.ToldScripts.{scripts_are_told}
 use Rattle.pmg_world.specs.declared.event.Event.{Event as ToldEvent}
 use Rattle.pmg_world.specs.declared.event.Told.{Told}
 use Rattle.pmg_world.specs.declared.group.Group.{Group}
 use Rattle.pmg_world.specs.Caching.{AllCached}
 use Rattle.pmg_world.proofs.GroupLemmas.{stands_with}
-use Rattle.pmg_world.proofs.RunLemmas.{run_is_lawful, run_more, run_none}
+use Rattle.pmg_world.proofs.RunLemmas.{next_run, run_both, run_cut, run_is_lawful, run_more, run_none, run_sends}
+use Rattle.pmg_world.proofs.StartLemmas.{some_server}
 
 -- ---- what a world is
 
@@ -30,26 +35,110 @@ pub led_group : (g : Group) (told : List Told) → IsLed g told → IsGroup g
 unfolding IsLed IsGroup
 led_group g told led = (led.0, led.2)
 
+-- the group stands for the world at the end of the run
+stands_leads : (g : Group) (told : List Told) (w : World) → Run g.registry (start g.registry) (map happened_of told) w → Stands g w → LeadsTo (account_of g told) w
+stands_leads g told w run stands = record { run = run; count = stands.nodes.count; nodes = λ node d inside. stands.nodes.each node d inside; sent = stands.sent }
+
+-- so it does for each world that the events lead to
+leads_stands : (g : Group) (told : List Told) → IsLed g told → (w : World) → LeadsTo (account_of g told) w → Stands g w
+unfolding IsLed
+leads_stands g told led w leads =
+    let jobs = g.registry in
+    let of = led.2 in
+    let scripts : w.scripts ≡ led.0.scripts =
+    scripts_are_told jobs (start jobs) (map happened_of told) w leads.run ∙ sym (scripts_are_told jobs (start jobs) (map happened_of told) led.0 led.1) in
+    record {
+      jobs = of.jobs;
+      nodes = record {
+        count = of.nodes.count;
+        each = leads.nodes;
+        servers = λ node inside.
+            let holds : led.0.nodes node ≡ w.nodes node = sym (of.nodes.each node (some_server jobs) inside).holds ∙ (leads.nodes node (some_server jobs) inside).holds in
+            subst (λ (h : Holding). IsServer jobs node h) holds (of.nodes.servers node inside);
+      };
+      caches = subst (λ (s : Scripts). AreCaches g.caches s) (sym scripts) of.caches;
+      sent = leads.sent;
+      peers = of.peers;
+    }
+
 pub led_run : (g : Group) (told : List Told) → IsLed g told → IsRun (account_of g told)
 unfolding IsLed IsRun
-led_run g told led = (led.0, record { run = led.1; count = led.2.nodes.count; nodes = λ node d inside. led.2.nodes.each node d inside; sent = led.2.sent })
+led_run g told led = (led.0, stands_leads g told led.0 led.1 led.2)
 
 pub led_kept : (g : Group) (told : List Told) → IsLed g told → IsKept (account_of g told)
 unfolding IsLed IsKept
-led_kept g told led = run_is_lawful g.registry led.2.jobs (map happened_of told) led.0 led.1
+led_kept g told led xs ys cut =
+    let jobs = g.registry in
+    let parts = run_cut jobs xs ys (start jobs) led.0 (subst (λ (l : List Happened). Run jobs (start jobs) l led.0) cut led.1) in
+    run_is_lawful jobs led.2.jobs xs parts.mid parts.first
 
--- an event more
-pub led_more : (old new : Group) (told : List Told) (t : Told) (answer : Result GivenReply Refusal) → IsLed old told → IsAnswered answer → t.answer ≡ answer → Happens old (event_of t.event) answer new
-    → IsLed new (told ++ t ∷ [])
-unfolding IsLed Happens
-led_more old new told t answer led is same happens =
+-- an event more, and the world that it leads to
+record More (old new : Group) (told : List Told) (t : Told) (w : World) : Type 0 where
+  after : World
+  step : Step old.registry w (event_of t.event) (replied t.answer) after
+  run : Run new.registry (start new.registry) (map happened_of (told ++ t ∷ [])) after
+  stands : Stands new after
+
+more : (old new : Group) (told : List Told) (t : Told) (answer : Result GivenReply Refusal) → IsAnswered answer → t.answer ≡ answer → Happens old (event_of t.event) answer new
+    → (w : World) → Run old.registry (start old.registry) (map happened_of told) w → Stands old w → More old new told t w
+unfolding Happens
+more old new told t answer is same happens w before stands =
     let jobs = old.registry in
     let on = happens is in
-    let next = on.1 led.0 led.2 in
-    let step : Step jobs led.0 (event_of t.event) (replied t.answer) next.0 = subst (λ (a : Result GivenReply Refusal). Step jobs led.0 (event_of t.event) (replied a) next.0) (sym same) next.1 in
-    let run = run_more jobs (map happened_of told) (start jobs) led.0 (happened_of t) next.0 led.1 step in
+    let next = on.1 w stands in
+    let step : Step jobs w (event_of t.event) (replied t.answer) next.0 = subst (λ (a : Result GivenReply Refusal). Step jobs w (event_of t.event) (replied a) next.0) (sym same) next.1 in
+    let run = run_more jobs (map happened_of told) (start jobs) w (happened_of t) next.0 before step in
     let whole = subst (λ (xs : List Happened). Run jobs (start jobs) xs next.0) (sym (map-append happened_of told (t ∷ []))) run in
-    (next.0, subst (λ (j : Jobs). Run j (start j) (map happened_of (told ++ t ∷ [])) next.0) (sym on.0) whole, next.2)
+    record { after = next.0; step = step; run = subst (λ (j : Jobs). Run j (start j) (map happened_of (told ++ t ∷ [])) next.0) (sym on.0) whole; stands = next.2 }
+
+pub led_more : (old new : Group) (told : List Told) (t : Told) (answer : Result GivenReply Refusal) → IsLed old told → IsAnswered answer → t.answer ≡ answer → Happens old (event_of t.event) answer new
+    → IsLed new (told ++ t ∷ [])
+unfolding IsLed
+led_more old new told t answer led is same happens =
+    let next = more old new told t answer is same happens led.0 led.1 led.2 in
+    (next.after, next.run, next.stands)
+
+-- ---- what goes on from where it stood
+
+-- where each run that led to the old account goes on, so do the frames
+goes_on_by : (old new : Account) (told : List Told) → IsRun old → new.told ≡ old.told ++ told
+    → ((w : World) → LeadsTo old w → (v : World) × Run old.jobs w (map happened_of told) v × LeadsTo new v) → GoesOn old new
+unfolding IsRun
+goes_on_by old new told run is runs =
+    let last = runs run.0 run.1 in
+    let sends = run_sends old.jobs run.0 (map happened_of told) last.0 last.1 in
+    record { more = told; told = is; out = sends.out; sent = last.2.sent ∙ sends.sent ∙ ap (λ xs. xs ++ sends.out) (sym run.1.sent); runs = runs }
+
+-- by an event
+pub led_goes_on : (old new : Group) (told : List Told) (t : Told) (answer : Result GivenReply Refusal) → IsLed old told → IsAnswered answer → t.answer ≡ answer → Happens old (event_of t.event) answer new
+    → GoesOn (account_of old told) (account_of new (told ++ t ∷ []))
+led_goes_on old new told t answer led is same happens =
+    goes_on_by (account_of old told) (account_of new (told ++ t ∷ [])) (t ∷ []) (led_run old told led) refl
+    (λ w leads.
+    let next = more old new told t answer is same happens w leads.run (leads_stands old told led w leads) in
+    let one = next_run old.registry w (happened_of t) [] next.after (record { mid = next.after; step = next.step; rest = run_none old.registry next.after }) in
+    (next.after, one, stands_leads new (told ++ t ∷ []) next.after next.run next.stands))
+
+-- where nothing happens
+pub goes_on_same : (old new : Account) → new ≡ old → GoesOn old new
+goes_on_same old new same =
+    subst (λ (a : Account). GoesOn old a) (sym same)
+    (record { more = []; told = sym (append_empty old.told); out = []; sent = sym (append_empty old.sent); runs = λ w leads. (w, run_none old.jobs w, leads) })
+
+-- and further
+pub goes_on_more : (a b c : Account) → b.jobs ≡ a.jobs → GoesOn a b → GoesOn b c → GoesOn a c
+goes_on_more a b c jobs one other = record {
+  more = one.more ++ other.more;
+  told = other.told ∙ ap (λ (xs : List Told). xs ++ other.more) one.told ∙ append_assoc a.told one.more other.more;
+  out = one.out ++ other.out;
+  sent = other.sent ∙ ap (λ xs. xs ++ other.out) one.sent ∙ append_assoc a.sent one.out other.out;
+  runs = λ w leads.
+      let first = one.runs w leads in
+      let second = other.runs first.0 first.2 in
+      let rest : Run a.jobs first.0 (map happened_of other.more) second.0 = subst (λ (j : Jobs). Run j first.0 (map happened_of other.more) second.0) jobs second.1 in
+      let whole = run_both a.jobs (map happened_of one.more) (map happened_of other.more) w first.0 second.0 first.1 rest in
+      (second.0, subst (λ (xs : List Happened). Run a.jobs w xs second.0) (sym (map-append happened_of one.more other.more)) whole, second.2);
+}
 
 -- the group of the event more is that of the same registry
 pub happens_jobs : (old : Group) (told : List Told) (t : Told) (answer : Result GivenReply Refusal) (new : Group) → IsAnswered answer → Happens old (event_of t.event) answer new → new.registry ≡ old.registry

@@ -1,12 +1,15 @@
 -- What is told of a run, and the laws of every run.
-use Rattle.std.proofs.Common.{◌≡◌, List, [], ◌∷◌, ◌++◌, None, refl, sym, ap, subst, ◌∙◌}
+use Rattle.std.proofs.Common.{◌≡◌, List, [], ◌∷◌, ◌++◌, None, refl, sym, ap, subst, ◌∙◌, append_assoc}
 use Rattle.pmg_jobinfo.specs.Jobs.{Jobs, AreJobs, home_of}
 use Rattle.pmg_fence.specs.Entering.{entry}
 use Rattle.pmg_fence.specs.Rules.{Scripts, gone_of}
+use Rattle.pmg_fence.proofs.LineLemmas.{append_empty}
+use Rattle.pmg_rules.specs.Acts.{Reply}
 use Rattle.pmg_rules.specs.Fitting.{last_fence}
+use Rattle.pmg_rules.specs.declared.sent.Sent.{Sent}
 use Rattle.pmg_world.specs.KeptLaws.{scripts_told, leaves_with, KeepsFence, ReleasesWhole, ReleasesAlike, AnswersNeverFall, IsLawful}
 use Rattle.pmg_runs.specs.Laws.{AnswersRise, answers}
-use Rattle.pmg_runs.specs.Worlds.{World, Happened, Step, Run, start}
+use Rattle.pmg_runs.specs.Worlds.{World, Doing, Does, Happened, Step, Run, doing, start}
 use Rattle.pmg_runs.proofs.Leaving.{released_whole, released_alike}
 use Rattle.pmg_runs.proofs.Rising.{fence_theorem, gets_rise}
 use Rattle.pmg_runs.proofs.ToldScripts.{scripts_are_told}
@@ -52,6 +55,25 @@ run_none jobs w = refl
 -- one event more
 pub run_more : (jobs : Jobs) (xs : List Happened) (w m : World) (x : Happened) (v : World) → Run jobs w xs m → Step jobs m x.event x.reply v → Run jobs w (xs ++ x ∷ []) v
 run_more jobs xs w m x v run step = run_both jobs xs (x ∷ []) w m v run (next_run jobs m x [] v (record { mid = v; step = step; rest = run_none jobs v }))
+
+-- ---- frames
+
+-- frames are sent after those that were sent before
+pub record Sends (w v : World) : Type 0 where
+  pub out : List Sent
+  pub sent : v.sent ≡ w.sent ++ out
+
+does_send : (jobs : Jobs) (w : World) (d : Doing) (r : Reply) (v : World) → Does jobs w d r v → Sends w v
+does_send jobs w (Doing.at_node node a) r v step = record { out = step.out; sent = ap (λ (x : World). x.sent) step.left }
+does_send jobs w (Doing.by_cache answer said) r v step = record { out = []; sent = ap (λ (x : World). x.sent) step.left ∙ sym (append_empty w.sent) }
+
+pub run_sends : (jobs : Jobs) (w : World) (xs : List Happened) (v : World) → Run jobs w xs v → Sends w v
+unfolding Run
+run_sends jobs w [] v run = record { out = []; sent = ap (λ (x : World). x.sent) run ∙ sym (append_empty w.sent) }
+run_sends jobs w (x ∷ xs) v run =
+    let one = does_send jobs w (doing jobs w x.event) x.reply run.0 run.1 in
+    let rest = run_sends jobs run.0 xs v run.2 in
+    record { out = one.out ++ rest.out; sent = rest.sent ∙ ap (λ (l : List Sent). l ++ rest.out) one.sent ∙ append_assoc w.sent one.out rest.out }
 
 -- ---- the laws
 

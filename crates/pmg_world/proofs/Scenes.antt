@@ -10,7 +10,7 @@ use Rattle.pmg_value.specs.declared.process.Proc.{Proc}
 use Rattle.pmg_value.specs.declared.value.Value.{Value}
 use Rattle.pmg_node.specs.Acting.{reply_as}
 use Rattle.pmg_node.specs.Servers.{reply_in}
-use Rattle.pmg_world.specs.Accounts.{Account, Adds, IsKept, IsRun}
+use Rattle.pmg_world.specs.Accounts.{Account, Adds, GoesOn, IsKept, IsRun}
 use Rattle.pmg_world.specs.Delivering.{IsNoted, missing, was_delivered}
 use Rattle.pmg_world.specs.ReplyLines.{flow_line, reply_line}
 use Rattle.pmg_world.specs.Stages.{Answers, Flows, is_deletion, proc_in, procs_in}
@@ -73,14 +73,14 @@ some_last old e new adds none =
     none-some one.entry (none ∙ last_told old new one.entry one.told)
 
 -- and its answer is that of the event
-pub answers_one : (w v : Account) (e : ToldEvent) (t : Told) (text : List ℕ) (deletes : Bool) → v.jobs ≡ w.jobs → Adds w.told (e ∷ []) v.told → IsRun v → IsKept v
+pub answers_one : (w v : Account) (e : ToldEvent) (t : Told) (text : List ℕ) (deletes : Bool) → v.jobs ≡ w.jobs → Adds w.told (e ∷ []) v.told → GoesOn w v → IsRun v → IsKept v
     → Some t ≡ slice_get v.told (length v.told - 1) → deletes ≡ is_deletion (event_of e) → text ≡ reply_line deletes (reply_in reply_as t.answer) → Answers w (event_of e) text v
-answers_one w v e t text deletes jobs adds run lawful last is line =
+answers_one w v e t text deletes jobs adds on run lawful last is line =
     let one = adds_one w.told e v.told adds in
     let same : t ≡ one.entry = same_Some t one.entry (last ∙ last_told w.told v.told one.entry one.told) in
     record {
       entry = one.entry;
-      happened = record { jobs = jobs; told = one.told; asked = ap (λ x. x ∷ []) one.asked; run = run; lawful = lawful };
+      happened = record { jobs = jobs; told = one.told; asked = ap (λ x. x ∷ []) one.asked; goes_on = on; run = run; lawful = lawful };
       line =
           line ∙ ap (λ (x : Told). reply_line deletes (reply_in reply_as x.answer)) same
           ∙ ap (λ b. reply_line b (reply_in reply_as one.entry.answer)) (is ∙ ap is_deletion (sym one.asked));
@@ -88,9 +88,9 @@ answers_one w v e t text deletes jobs adds run lawful last is line =
 
 -- all were delivered that never were
 pub flows_all : (w v : Account) (d : Delivered) (es : List ToldEvent) (text : List ℕ) → v.jobs ≡ w.jobs → IsNoted w.told d → d.seen ≡ length w.told
-    → map event_of es ≡ map Event.deliver (missing d.frames (length w.sent)) → Adds w.told es v.told → IsRun v → IsKept v → text ≡ flow_line (length es) → Flows w text v
+    → map event_of es ≡ map Event.deliver (missing d.frames (length w.sent)) → Adds w.told es v.told → GoesOn w v → IsRun v → IsKept v → text ≡ flow_line (length es) → Flows w text v
 unfolding Adds
-flows_all w v d es text jobs noted seen are (more, told, asked) run lawful line =
+flows_all w v d es text jobs noted seen are (more, told, asked) on run lawful line =
     let count : length more ≡ length es = sym (length-map more (λ (t : Told). event_of t.event)) ∙ ap length asked ∙ length-map es event_of in
     record {
       more = more;
@@ -98,6 +98,7 @@ flows_all w v d es text jobs noted seen are (more, told, asked) run lawful line 
         jobs = jobs;
         told = told;
         asked = asked ∙ are ∙ ap (map Event.deliver) (missing_is w.told d (length w.sent) noted seen);
+        goes_on = on;
         run = run;
         lawful = lawful;
       };

@@ -51,7 +51,7 @@ starts g jobs are caches sent = record {
     count = are.count_is;
     each = λ node d inside. let is = are.each node d (subst (λ k. node < k) are.count_is inside) in
         record { jobs_same = ap (λ (s : Server). s.jobs) is; id_same = ap (λ (s : Server). s.id) is; holds = ap (λ (s : Server). s.holding) is };
-    servers = λ node. new_is_server g.registry node;
+    servers = λ node inside. new_is_server g.registry node;
   };
   caches = λ p.
       let none = ap (λ m. unwrap_or (finite.get m p) no_puts) caches ∙ nobody p in

@@ -7,7 +7,7 @@ use Rattle.pmg_rules.specs.declared.sent.Sent.{Sent}
 use Rattle.pmg_world.specs.Keeping.{IsNodeOf, Stands}
 use Rattle.pmg_world.specs.KeptLaws.{IsLawful}
 use Rattle.pmg_world.specs.Telling.{event_of, happened_of}
-use Rattle.pmg_runs.specs.Worlds.{World, Run, start}
+use Rattle.pmg_runs.specs.Worlds.{World, Happened, Run, start}
 use Rattle.pmg_world.specs.declared.event.Event.{Event as ToldEvent}
 use Rattle.pmg_world.specs.declared.event.Told.{Told}
 use Rattle.pmg_world.specs.declared.group.Group.{Group}
@@ -44,10 +44,19 @@ pub record LeadsTo (a : Account) (w : World) : Type 0 where
 unfoldable pub IsRun : Account → Type 0
 IsRun a = (w : World) × LeadsTo a w
 
--- the laws of every run hold of what is told
+-- the laws of every run hold of what is told, and of each beginning of it
 unfoldable pub IsKept : Account → Type 0
-IsKept a = IsLawful a.jobs (map happened_of a.told)
+IsKept a = (xs ys : List Happened) → map happened_of a.told ≡ xs ++ ys → IsLawful a.jobs xs
 
 -- what was told before, and these events, each once and in their order, each with its answer
 unfoldable pub Adds : List Told → List ToldEvent → List Told → Type 0
 Adds old events new = (more : List Told) × (new ≡ old ++ more) × (map (λ t. event_of t.event) more ≡ map event_of events)
+
+-- The new world goes on from where the old one stood: more is told after what was told, more frames are sent after those that were
+-- sent, and each run of the model that led to the old world goes on by what is told more, and then leads to the new one.
+pub record GoesOn (old new : Account) : Type 0 where
+  pub more : List Told
+  pub told : new.told ≡ old.told ++ more
+  pub out : List Sent
+  pub sent : new.sent ≡ old.sent ++ out
+  pub runs : (w : World) → LeadsTo old w → (v : World) × Run old.jobs w (map happened_of more) v × LeadsTo new v

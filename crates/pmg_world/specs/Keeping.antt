@@ -42,7 +42,7 @@ pub record IsNodeOf (jobs : Jobs) (node : ℕ) (h : Holding) (s : Server) : Type
 pub record AreNodes (jobs : Jobs) (items : List Server) (nodes : ℕ → Holding) : Type 0 where
   pub count : length items ≡ length jobs.nodes
   pub each : (node : ℕ) (d : Server) → node < length items → IsNodeOf jobs node (nodes node) (slice_index_or items node d)
-  pub servers : (node : ℕ) → IsServer jobs node (nodes node)
+  pub servers : (node : ℕ) → node < length items → IsServer jobs node (nodes node)
 
 -- The group stands for the world: its nodes hold what they hold there, its clients' caches are those of the scripts, and the frames
 -- are those sent, each to a node of the group.

@@ -17,7 +17,7 @@ use Rattle.pmg_jobinfo.specs.Refusing.{new_cause, register_cause}
 use Rattle.pmg_rules.specs.Acts.{Request, Reply, also}
 use Rattle.pmg_node.specs.Members.{members_cause, members_known}
 use Rattle.pmg_node.specs.Servers.{Server}
-use Rattle.pmg_world.specs.Accounts.{Account, IsRun, IsKept}
+use Rattle.pmg_world.specs.Accounts.{Account, GoesOn, IsRun, IsKept}
 use Rattle.pmg_world.specs.Asking.{Asked, asks}
 use Rattle.pmg_world.specs.Delivering.{undelivered}
 use Rattle.pmg_world.specs.ReplyLines.{reply_line, flow_line, members_line}
@@ -48,12 +48,13 @@ told_line h = reply_line (is_deletion h.event) h.reply
 
 -- ---- what is asked of the world
 
--- These events happen, each once and in their order, with these answers. What is told then is a run of the model, and the laws of
--- every run hold of it.
+-- These events happen, each once and in their order, with these answers, and the world goes on by them from where it stood. What is
+-- told then is a run of the model, and the laws of every run hold of it.
 pub record Happen (w : Account) (events : List Event) (more : List Told) (v : Account) : Type 0 where
   pub jobs : v.jobs ≡ w.jobs
   pub told : v.told ≡ w.told ++ more
   pub asked : map (λ t. event_of t.event) more ≡ events
+  pub goes_on : GoesOn w v
   pub run : IsRun v
   pub lawful : IsKept v
 

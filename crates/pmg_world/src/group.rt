@@ -9,7 +9,7 @@ ghost use Rattle.pmg_scope.specs.declared.scope.Reach.TheVariants as reach;
 ghost use Rattle.pmg_jobinfo.specs.Jobs.{AreJobs, home_of};
 ghost use Rattle.pmg_jobinfo.specs.Reserved.{is_general};
 ghost use Rattle.pmg_node.specs.Acting.{act_of, reply_as, request_of};
-ghost use Rattle.pmg_node.specs.Servers.{Server, IsAnswered, RepliesEntry, after, reply_to, sent_by};
+ghost use Rattle.pmg_node.specs.Servers.{Server, IsAnswered, RepliesAct, after, sent_by};
 ghost use Rattle.pmg_world.specs.Caching.{cached_by};
 ghost use Rattle.pmg_world.specs.Keeping.{AreNew, Happens, IsGroup, IsSame, Stands, own_answer, own_key, replied};
 ghost use Rattle.pmg_world.specs.Telling.{event_of};
@@ -128,7 +128,7 @@ impl Group {
     /// An act of the node of that index, whose frames are sent.
     fn act_at(&mut self, index: usize, act: &Act) -> Result<Reply, Refusal>
         requires { index < length self.old.nodes.items }
-        ensures reply { (d : Server) → RepliesEntry reply_as result (reply_to (slice_index_or self.old.nodes.items index d) (act_of act.now)) }
+        ensures reply { (d : Server) → RepliesAct reply_as result (slice_index_or self.old.nodes.items index d) (act_of act.now) }
         ensures nodes { (d : Server) → IsAnswered result
             → self.new.nodes.items ≡ slice_set self.old.nodes.items index (after (slice_index_or self.old.nodes.items index d) (act_of act.now)) }
         ensures sent { (d : Server) → IsAnswered result

@@ -1,9 +1,9 @@
 //! The nodes of a group and their clients together, event after event.
-ghost use Rattle.std.specs.Prelude.{◌≡◌, ◌≤◌, true, false, [], ◌∷◌, length, take, IfErr, IfOk, OnErr, OnOk, slice_get};
+ghost use Rattle.std.specs.Prelude.{◌≡◌, ◌<◌, true, false, [], ◌∷◌, length, take, IfErr, IfOk, OnErr, OnOk, slice_get};
 ghost use Rattle.std.specs.Option.{option_map};
 ghost use Rattle.pmg_node.specs.Servers.{IsAnswered};
 ghost use Rattle.pmg_value.specs.declared.refusal.Refusal.TheVariants as refusals;
-ghost use Rattle.pmg_world.specs.Accounts.{Adds, IsKept, IsRun};
+ghost use Rattle.pmg_world.specs.Accounts.{Adds, GoesOn, IsKept, IsRun};
 
 use crate::event::{Event, Told};
 use crate::group::Group;
@@ -68,6 +68,7 @@ impl World {
         ensures told { IfOk result (λ w. w.told ≡ []) }
         ensures sent { IfOk result (λ w. w.sent ≡ []) }
         ensures run { IfOk result IsRun }
+        ensures lawful { IfOk result IsKept }
     {
         let group = Group::new(registry)?;
         Ok(World {
@@ -109,6 +110,7 @@ impl World {
         ensures jobs { self.new.jobs ≡ self.old.jobs }
         ensures told { OnOk result (Adds self.old.told (event.now ∷ []) self.new.told) }
         ensures err { OnErr result (self.new ≡ self.old) }
+        ensures goes_on { GoesOn self.old self.new }
         ensures run { IsRun self.new }
         ensures lawful { IsKept self.new }
     {
@@ -129,10 +131,12 @@ impl World {
         ensures jobs { self.new.jobs ≡ self.old.jobs }
         ensures told { OnOk result (Adds self.old.told events.now self.new.told) }
         ensures done { IfErr result (λ e. Adds self.old.told (take e.done events.now) self.new.told) }
-        ensures few { IfErr result (λ e. e.done ≤ length events.now) }
+        ensures few { IfErr result (λ e. e.done < length events.now) }
+        ensures goes_on { GoesOn self.old self.new }
         ensures run { IsRun self.new }
         ensures lawful { IsKept self.new }
     {
+        // Where there are no events the world is what it was: the proof looks at it here, and the program does nothing.
         let _group = &self.group;
         for done in 0..events.len() {
             if let Err(AllocError) = self.step(&events[done]) {

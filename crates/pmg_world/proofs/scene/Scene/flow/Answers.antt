@@ -25,7 +25,7 @@ returns-in-Ok c =
     subst (λ (w : Account). Flows w text.items c.run.new.self) c.self.view_is
     (flows_all c.self.inside.world c.run.new.self c.note.new.self c.in_ok-events.events.items text.items c.in-Ok.ensures.jobs
     (subst (λ (xs : List Told). IsNoted xs c.note.new.self) c.events.ensures c.in_ok-note.ensures.noted) (c.in_ok-note.ensures.seen ∙ ap length c.events.ensures)
-    (c.in_ok-events.ensures ∙ ap (λ n. map Event.deliver (missing c.note.new.self.frames n)) count) adds c.in-Ok.ensures.run c.in-Ok.ensures.lawful
+    (c.in_ok-events.ensures ∙ ap (λ n. map Event.deliver (missing c.note.new.self.frames n)) count) adds c.in-Ok.ensures.goes_on c.in-Ok.ensures.run c.in-Ok.ensures.lawful
     (line ∙ ap flow_line size)))
     c.flow_line.ensures
 

@@ -26,5 +26,5 @@ returns c =
     (λ text line.
     subst (λ (w : Account). Answers w (event_of c.args.event.now) text.items c.step.new.self) c.self.view_is
     (answers_one c.self.inside.world c.step.new.self c.args.event.now c.in-Some.told.now text.items c.is_deletion.result c.in_ok-step.ensures.jobs c.in_ok-step.ensures.told
-    c.in_ok-step.ensures.run c.in_ok-step.ensures.lawful (c.in-Some.ensures.value ∙ ap (λ (xs : List Told). slice_get xs (length xs - 1)) c.events.ensures) c.is_deletion.ensures line))
+    c.in_ok-step.ensures.goes_on c.in_ok-step.ensures.run c.in_ok-step.ensures.lawful (c.in-Some.ensures.value ∙ ap (λ (xs : List Told). slice_get xs (length xs - 1)) c.events.ensures) c.is_deletion.ensures line))
     c.reply_line.ensures

@@ -1,7 +1,7 @@
 use Rattle.std.proofs.Common.{List, [], ◌∷◌, ◌++◌, refl, sym, ap, subst, ◌∙◌}
-use Rattle.pmg_world.specs.Accounts.{Account, IsLed, account_of}
+use Rattle.pmg_world.specs.Accounts.{Account, GoesOn, IsLed, account_of}
 use Rattle.pmg_world.specs.declared.event.Told.{Told}
-use Rattle.pmg_world.proofs.LedLemmas.{adds_one, happens_jobs, led_group, led_kept, led_more, led_run, same_account, same_led}
+use Rattle.pmg_world.proofs.LedLemmas.{adds_one, goes_on_same, happens_jobs, led_goes_on, led_group, led_kept, led_more, led_run, same_account, same_led}
 use Rattle.pmg_world.proofs.world.World.step.Goals as goal
 
 pub invariant_of-self : goal.invariant_of-self
@@ -13,6 +13,10 @@ returns-in_err-reserve-clause-run c = led_run c.self.inside.group c.reserve.new.
 pub returns-in_err-reserve-clause-lawful : goal.returns-in_err-reserve-clause-lawful
 returns-in_err-reserve-clause-lawful c = led_kept c.self.inside.group c.reserve.new.self.items (subst (IsLed c.self.inside.group) (sym c.reserve.ensures.items) c.self.invariant)
 
+pub returns-in_err-reserve-clause-goes_on : goal.returns-in_err-reserve-clause-goes_on
+returns-in_err-reserve-clause-goes_on c =
+    goes_on_same c.args.self.now (account_of c.self.inside.group c.reserve.new.self.items) (ap (account_of c.self.inside.group) c.reserve.ensures.items ∙ c.self.view_is)
+
 pub invariant_of-self-in_err-event : goal.invariant_of-self-in_err-event
 invariant_of-self-in_err-event c = subst (IsLed c.self.inside.group) (sym c.reserve.ensures.items) c.self.invariant
 
@@ -21,6 +25,10 @@ returns-in_err-event-clause-run c = led_run c.self.inside.group c.reserve.new.se
 
 pub returns-in_err-event-clause-lawful : goal.returns-in_err-event-clause-lawful
 returns-in_err-event-clause-lawful c = led_kept c.self.inside.group c.reserve.new.self.items (subst (IsLed c.self.inside.group) (sym c.reserve.ensures.items) c.self.invariant)
+
+pub returns-in_err-event-clause-goes_on : goal.returns-in_err-event-clause-goes_on
+returns-in_err-event-clause-goes_on c =
+    goes_on_same c.args.self.now (account_of c.self.inside.group c.reserve.new.self.items) (ap (account_of c.self.inside.group) c.reserve.ensures.items ∙ c.self.view_is)
 
 pub happen-answer-requires : goal.happen-answer-requires
 happen-answer-requires c = led_group c.self.inside.group c.reserve.new.self.items (subst (IsLed c.self.inside.group) (sym c.reserve.ensures.items) c.self.invariant)
@@ -50,6 +58,12 @@ returns-then-is_short-clause-lawful c =
     (same_led c.self.inside.group c.happen-answer.new.self c.reserve.new.self.items (c.happen-answer.ensures.memory (c.is_short.ensures.short c.if-is_short.true))
     (subst (IsLed c.self.inside.group) (sym c.reserve.ensures.items) c.self.invariant))
 
+pub returns-then-is_short-clause-goes_on : goal.returns-then-is_short-clause-goes_on
+returns-then-is_short-clause-goes_on c =
+    goes_on_same c.args.self.now (account_of c.happen-answer.new.self c.reserve.new.self.items)
+    (same_account c.self.inside.group c.happen-answer.new.self c.reserve.new.self.items (c.happen-answer.ensures.memory (c.is_short.ensures.short c.if-is_short.true))
+    ∙ ap (account_of c.self.inside.group) c.reserve.ensures.items ∙ c.self.view_is)
+
 -- the event, with its answer, is told
 led_after : (c : goal.In-Ok) → IsLed c.happen-answer.new.self c.push.new.self.items
 led_after c =
@@ -78,3 +92,13 @@ returns-clause-run c = led_run c.happen-answer.new.self c.push.new.self.items (l
 
 pub returns-clause-lawful : goal.returns-clause-lawful
 returns-clause-lawful c = led_kept c.happen-answer.new.self c.push.new.self.items (led_after c)
+
+pub returns-clause-goes_on : goal.returns-clause-goes_on
+returns-clause-goes_on c =
+    let t : Told = record { event = c.in_ok-event.event; answer = c.happen-answer.result } in
+    let on =
+    led_goes_on c.self.inside.group c.happen-answer.new.self c.reserve.new.self.items t c.happen-answer.result (subst (IsLed c.self.inside.group) (sym c.reserve.ensures.items) c.self.invariant)
+    (c.is_short.ensures.answered c.if-is_short.false) refl c.happen-answer.ensures.step in
+    let same = ap (account_of c.self.inside.group) c.reserve.ensures.items ∙ c.self.view_is in
+    subst (λ (a : Account). GoesOn a (account_of c.happen-answer.new.self c.push.new.self.items)) same
+    (subst (λ (l : List Told). GoesOn (account_of c.self.inside.group c.reserve.new.self.items) (account_of c.happen-answer.new.self l)) (sym c.in-Ok.ensures.items) on)
