@@ -1,6 +1,7 @@
 -- What an act leaves under the lock.
-use Rattle.std.proofs.Common.{◌≡◌, ◌⊎◌, inl, inr, ℕ, List, [], All, Option, Some, None, Result, Ok, Err, ◌+◌, length, refl, sym, ap, subst, ◌∙◌}
-use Rattle.std.specs.Prelude.{IfSome, IfOk, IfErr, OnErr}
+use Rattle.std.proofs.Common.{◌≡◌, ◌⊎◌, inl, inr, ℕ, true, List, [], All, Option, Some, None, Result, Ok, Err, ◌+◌, length, refl, sym, ap, subst, ◌∙◌}
+use Rattle.std.specs.Prelude.{IfSome, IfOk, IfErr, IsSome, OnErr, OnOk}
+use Rattle.std.proofs.lemmas.Bool.{false≢true}
 use Rattle.logbook.specs.Pages.{Book}
 use Rattle.pmg_value.specs.declared.refusal.Refusal.{Refusal}
 use Rattle.pmg_value.specs.declared.refusal.Refusal.TheVariants as refusals
@@ -30,8 +31,8 @@ module _ (p q : Parts) (kept : IsKept p) (at : IsAt p q) (viewers : q.viewers.it
 
   -- after one act more
   pub kept_on : (a : Act) (answer : Result Reply Refusal) → GoesOn p.node a answer (told_in p.journal) p.outbox.items p.publisher.log q.node (told_in q.journal) q.outbox.items q.publisher.log
-      → IsKept q
-  kept_on a answer goes = by_node p.node refl goes
+      → q.publisher.is_open ≡ true → IsKept q
+  kept_on a answer goes opened = by_node p.node refl goes
     where
       live_at : (s : Server) → p.node ≡ Some s → IsLive (start_of p.journal) (told_in p.journal) p.taken p.outbox.items s
       live_at s is = subst (λ (n : Option Server). IfSome n (IsLive (start_of p.journal) (told_in p.journal) p.taken p.outbox.items)) is kept.live
@@ -50,19 +51,26 @@ module _ (p q : Parts) (kept : IsKept p) (at : IsAt p q) (viewers : q.viewers.it
                 (subst (λ (x : Server). IsLive x (told_in q.journal) q.taken q.outbox.items (after s (act_of a))) start_same
                 (subst (λ (t : ℕ). IsLive (start_of p.journal) (told_in q.journal) t q.outbox.items (after s (act_of a))) (sym at.taken)
                 (subst (λ (out : List Sent). IsLive (start_of p.journal) (told_in q.journal) p.taken out (after s (act_of a))) (sym moves.outbox) lives)));
+            open_then = λ some. opened;
             viewers = viewers_still;
           }
 
   -- where nothing happened, or the node was given up
-  pub kept_still : told_in q.journal ≡ told_in p.journal → q.publisher.log ≡ p.publisher.log → (q.node ≡ None) ⊎ ((q.node ≡ p.node) × (q.outbox.items ≡ p.outbox.items)) → IsKept q
+  pub kept_still : told_in q.journal ≡ told_in p.journal → q.publisher.log ≡ p.publisher.log
+      → (q.node ≡ None) ⊎ ((q.node ≡ p.node) × (q.outbox.items ≡ p.outbox.items) × (q.publisher ≡ p.publisher)) → IsKept q
   kept_still events log ends = record {
     journal = subst (λ (x : Server). IsReplay x (told_in q.journal)) start_same (subst (IsReplay (start_of p.journal)) (sym events) kept.journal);
     published = log ∙ kept.published ∙ ap (published_over (start_of p.journal)) (sym events) ∙ ap (λ (x : Server). published_over x (told_in q.journal)) start_same;
     live = by_end ends;
+    open_then = open_by ends;
     viewers = viewers_still;
   }
     where
-      by_end : (q.node ≡ None) ⊎ ((q.node ≡ p.node) × (q.outbox.items ≡ p.outbox.items)) → IfSome q.node (IsLive (start_of q.journal) (told_in q.journal) q.taken q.outbox.items)
+      open_by : (q.node ≡ None) ⊎ ((q.node ≡ p.node) × (q.outbox.items ≡ p.outbox.items) × (q.publisher ≡ p.publisher)) → IsSome q.node → q.publisher.is_open ≡ true
+      open_by (inl none) some = absurd (false≢true (subst (λ (n : Option Server). IsSome n) none some))
+      open_by (inr same) some = ap (λ (x : Published). x.is_open) same.2 ∙ kept.open_then (subst (λ (n : Option Server). IsSome n) same.0 some)
+
+      by_end : (q.node ≡ None) ⊎ ((q.node ≡ p.node) × (q.outbox.items ≡ p.outbox.items) × (q.publisher ≡ p.publisher)) → IfSome q.node (IsLive (start_of q.journal) (told_in q.journal) q.taken q.outbox.items)
       by_end (inl none) = subst (λ (n : Option Server). IfSome n (IsLive (start_of q.journal) (told_in q.journal) q.taken q.outbox.items)) (sym none) tt
       by_end (inr same) =
           subst (λ (n : Option Server). IfSome n (IsLive (start_of q.journal) (told_in q.journal) q.taken q.outbox.items)) (sym same.0)
@@ -74,17 +82,13 @@ module _ (p q : Parts) (kept : IsKept p) (at : IsAt p q) (viewers : q.viewers.it
   -- after an act, whatever comes of it
   pub kept_after : (a : Act) (r : Result Twice Refusal)
       → IfOk r (λ t. GoesOn p.node a t.told (told_in p.journal) p.outbox.items p.publisher.log q.node (told_in q.journal) q.outbox.items q.publisher.log)
-      → OnErr r (told_in q.journal ≡ told_in p.journal) → OnErr r (q.publisher.log ≡ p.publisher.log)
+      → OnOk r (q.publisher.is_open ≡ true) → OnErr r (told_in q.journal ≡ told_in p.journal) → OnErr r (q.publisher.log ≡ p.publisher.log)
       → (r ≡ Err refusals.NoMemory → (q.node ≡ None) ⊎ ((q.node ≡ p.node) × (q.outbox.items ≡ p.outbox.items) × (q.publisher ≡ p.publisher)))
       → (r ≡ Err refusals.Closed → (p.node ≡ None) × (q.node ≡ p.node) × (q.outbox.items ≡ p.outbox.items) × (q.publisher ≡ p.publisher))
       → IfErr r (λ e. (e ≡ refusals.NoMemory) ⊎ (e ≡ refusals.Closed)) → IsKept q
-  kept_after a (Ok t) goes events log memory closed which = kept_on a t.told goes
-  kept_after a (Err e) goes events log memory closed (inl is) = kept_still events log (ends (memory (λ i. Err (is i))))
-    where
-      ends : (q.node ≡ None) ⊎ ((q.node ≡ p.node) × (q.outbox.items ≡ p.outbox.items) × (q.publisher ≡ p.publisher)) → (q.node ≡ None) ⊎ ((q.node ≡ p.node) × (q.outbox.items ≡ p.outbox.items))
-      ends (inl none) = inl none
-      ends (inr same) = inr (same.0, same.1)
-  kept_after a (Err e) goes events log memory closed (inr is) = let shut = closed (λ i. Err (is i)) in kept_still events log (inr (shut.1, shut.2))
+  kept_after a (Ok t) goes opened events log memory closed which = kept_on a t.told goes opened
+  kept_after a (Err e) goes opened events log memory closed (inl is) = kept_still events log (memory (λ i. Err (is i)))
+  kept_after a (Err e) goes opened events log memory closed (inr is) = let shut = closed (λ i. Err (is i)) in kept_still events log (inr (shut.1, shut.2, shut.3))
 
 -- once all frames of the outbox are taken
 pub kept_taken : (p q : Parts) → IsKept p → q.node ≡ p.node → q.journal ≡ p.journal → q.publisher ≡ p.publisher → q.viewers ≡ p.viewers → q.outbox.items ≡ []
@@ -96,6 +100,7 @@ kept_taken p q kept node journal publisher viewers out taken = record {
       (subst (λ (j : Journal). IfSome p.node (IsLive (start_of j) (told_in j) q.taken q.outbox.items)) (sym journal)
       (subst (λ (out : List Sent). IfSome p.node (IsLive (start_of p.journal) (told_in p.journal) q.taken out)) (sym out)
       (subst (λ (t : ℕ). IfSome p.node (IsLive (start_of p.journal) (told_in p.journal) t [])) (sym taken) (by_node p.node kept.live))));
+  open_then = λ some. ap (λ (x : Published). x.is_open) publisher ∙ kept.open_then (subst (λ (n : Option Server). IsSome n) node some);
   viewers = subst (λ (x : Published). All (λ (v : Publications). v.book ≡ x.book) q.viewers.items) (sym publisher)
       (subst (λ vs. All (λ (v : Publications). v.book ≡ p.publisher.book) vs) (λ i. (sym viewers i).items) kept.viewers);
 }

@@ -14,3 +14,4 @@ mod OutLemmas
 mod BoardLemmas
 mod SeenLemmas
 mod ClientLemmas
+mod WaitLemmas

@@ -13,7 +13,7 @@ use Rattle.pmg_rules.specs.Holdings.{Get, Holding, Standing, answer_in, call_of}
 use Rattle.pmg_rules.specs.Sending.{is_quiet}
 use Rattle.pmg_node.specs.Acting.{acted_reply}
 use Rattle.pmg_node.specs.Joining.{act_joins, joins, no_joins}
-use Rattle.pmg_node.specs.Servers.{IsAnswered, RepliesEntry, Server, reply_in, reply_to}
+use Rattle.pmg_node.specs.Servers.{IsAnswered, RepliesAct, Server, reply_in, reply_to}
 use Rattle.pmg_node.specs.declared.act.Acted.{Acted}
 use Rattle.pmg_node.specs.declared.act.Reply.{Reply as GivenReply}
 use Rattle.pmg_desk.specs.Journals.{IsEvent, is_memory}
@@ -110,7 +110,7 @@ event_by s a refusals.Closed answered is = subst IsOpen is (acts_open s.jobs s.i
 event_by s a e answered is = tt
 
 -- what is told is what is due, where no allocation failed
-pub due_told : (s : Server) (a : Act) (answer : Result Acted Refusal) → IsAnswered answer → RepliesEntry acted_reply answer (reply_to s a) → reply_to s a ≡ reply_in acted_reply answer
+pub due_told : (s : Server) (a : Act) (answer : Result Acted Refusal) → IsAnswered answer → RepliesAct acted_reply answer s a → reply_to s a ≡ reply_in acted_reply answer
 due_told s a (Ok acted) answered is = is
 due_told s a (Err refusals.NoMemory) answered is = absurd answered
 due_told s a (Err e) answered is = is

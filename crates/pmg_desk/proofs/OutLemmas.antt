@@ -1,5 +1,5 @@
 -- What the lock lets out: viewers for processes at home, frames, and a dump.
-use Rattle.std.proofs.Common.{◌≡◌, ℕ, List, Bool, true, false, is_none, Option, Some, None, Result, Ok, Err, drop, inl, inr, refl, sym, ap, subst, ◌∙◌}
+use Rattle.std.proofs.Common.{◌≡◌, ℕ, List, false, is_none, Option, Some, None, Result, Ok, Err, drop, inl, inr, sym, ap, subst, ◌∙◌}
 use Rattle.std.specs.Prelude.{IfSome}
 use Rattle.std.specs.Option.{option_map}
 use Rattle.pmg_value.specs.CheckOrder.{first_of}

@@ -1,6 +1,6 @@
 -- Whoever is released was so at a time when its fence was ready.
 use Rattle.std.specs.Prelude.{IfOk}
-use Rattle.std.proofs.Common.{◌≡◌, ◌⊎◌, inl, inr, ℕ, true, List, [], ◌∷◌, ◌++◌, Option, Some, None, Result, Ok, Err, refl, sym, ap, subst, ◌∙◌}
+use Rattle.std.proofs.Common.{◌≡◌, ◌≤◌, ◌⊎◌, inl, inr, ℕ, true, List, [], ◌∷◌, ◌++◌, Option, Some, None, Result, Ok, Err, refl, sym, ap, subst, ◌∙◌}
 use Rattle.std.proofs.lemmas.List.{append_assoc}
 use Rattle.std.specs.FinMap as finite
 use mathlib.Core.List.{IsPrefix}
@@ -10,6 +10,8 @@ use Rattle.pmg_value.specs.Signatures.{FenceName}
 use Rattle.pmg_value.specs.declared.process.Proc.{Proc}
 use Rattle.pmg_value.specs.declared.refusal.Refusal.{Refusal}
 use Rattle.pmg_jobinfo.specs.Jobs.{Jobs}
+use Rattle.pmg_commit.specs.Data.{Data, level_at}
+use Rattle.pmg_fence.proofs.FitLemmas.{ready_stays}
 use Rattle.pmg_fence.specs.Tables.{gone_by}
 use Rattle.pmg_rules.proofs.AfterActs.{freed_by_ready}
 use Rattle.pmg_rules.specs.Acts.{Act, Reply, Request, cause, does, leaves, serves}
@@ -19,13 +21,16 @@ use Rattle.pmg_node.specs.Replies.{release_reply}
 use Rattle.pmg_node.specs.Servers.{Server, after, reply_in, reply_to}
 use Rattle.pmg_node.specs.declared.leaving.Release.{Release}
 use Rattle.pmg_node.specs.declared.leaving.Release.TheVariants as releases
+use Rattle.pmg_publish.specs.Publications.{far_of}
 use Rattle.pmg_publish.specs.declared.counting.Publication.{Publication}
-use Rattle.pmg_desk.specs.Clients.{Client, KnowsReady, Tells}
+use Rattle.pmg_desk.specs.Clients.{Client, KnowsReady, Tells, proc_of}
 use Rattle.pmg_desk.specs.Journals.{IsEvent}
 use Rattle.pmg_desk.specs.Replays.{Happening, IsReplay, after_all, happening, published_by, published_over}
 use Rattle.pmg_desk.specs.Telling.{IsToldOf, WasReady}
 use Rattle.pmg_desk.proofs.OpenLemmas.{over_first}
+use Rattle.pmg_desk.proofs.BoardLemmas.{publishes_what_is_held}
 use Rattle.pmg_desk.proofs.ReplayLemmas.{last_is}
+use Rattle.pmg_desk.proofs.SeenLemmas.{far_longer}
 use Rattle.pmg_publish.proofs.Prefixes.{prefix_trans}
 
 module _ (p : Proc) (f : FenceName) (gone : List Proc) where
@@ -95,7 +100,7 @@ replay_first s (e ∷ one) two replay = (replay.0, replay_first (after s e.act) 
 
 -- so the client's viewer knows of a time when its fence was ready
 pub ready_told : (jobs : Jobs) (id : ℕ) (p : Proc) (n : ℕ) (gone : List Proc) (known : List Publication)
-    → IsToldOf jobs id (happening (Act.request (Request.leave p)) (Reply.released n gone)) known → WasReady jobs id n gone known
+    → IsToldOf jobs id (happening (Act.request (Request.leave p)) (Reply.released n gone)) known → WasReady jobs id p n gone known
 ready_told jobs id p n gone known told = at_first (released_by (after_all start es) p n gone (last_is start es leave (Reply.released n gone) replay))
   where
     start : Server
@@ -119,31 +124,48 @@ ready_told jobs id p n gone known told = at_first (released_by (after_all start 
         by_none : None ≡ Some (Standing.released f gone) → ⊥
         by_none same = cc
 
-    made : (f : FenceName) → f.instance ≡ n → (one two : List Happening) → es ≡ one ++ two → IsReadyThen p f gone (after_all start one) → WasReady jobs id n gone known
-    made f same one two is ready =
-        let whole : es ++ happening leave (Reply.released n gone) ∷ [] ≡ one ++ (two ++ happening leave (Reply.released n gone) ∷ []) =
-        (λ i. is i ++ happening leave (Reply.released n gone) ∷ []) ∙ append_assoc one two (happening leave (Reply.released n gone) ∷ []) in
+    -- what was published until it left is known
+    until : IsPrefix (published_over start es) known
+    until = prefix_trans (published_over start es) _ known (published_first start es (happening leave (Reply.released n gone) ∷ [])) shown
+
+    -- what is known of a process is no less than what the node held at any time before
+    more_known : (one two : List Happening) → es ≡ one ++ two → (q : Proc) → level_at (after_all start one).holding.far q ≤ level_at (far_of known) q
+    more_known one two is q =
+        let first : IsPrefix (published_over start one) known =
+        prefix_trans (published_over start one) _ known (published_first start one two) (subst (λ (xs : List Happening). IsPrefix (published_over start xs) known) is until) in
+        subst (λ (d : Data). level_at d q ≤ level_at (far_of known) q) (publishes_what_is_held jobs id one).1
+        (subst (λ (ps : List Publication). level_at (far_of (published_over start one)) q ≤ level_at (far_of ps) q) first.1 (far_longer (published_over start one) first.0 q))
+
+    made : (f : FenceName) → IsReleased p f gone (after_all start es) → f.instance ≡ n → (one two : List Happening) → es ≡ one ++ two → IsReadyThen p f gone (after_all start one)
+        → WasReady jobs id p n gone known
+    made f released same one two is ready =
+        let then : is_ready_at jobs id (after_all start one).holding f ≡ true =
+        (λ i. is_ready_at (sym (jobs_same start one) i) (sym (id_same start one) i) (after_all start one).holding f) ∙ ready.0 in
+        let table = (after_all start one).holding.table in
         record {
           es = one;
+          later = two;
           fence = f;
-          replay = replay_first start one (two ++ happening leave (Reply.released n gone) ∷ []) (subst (IsReplay start) whole replay);
-          ready = (λ i. is_ready_at (sym (jobs_same start one) i) (sym (id_same start one) i) (after_all start one).holding f) ∙ ready.0;
+          replay = subst (IsReplay start) is (replay_first start es (happening leave (Reply.released n gone) ∷ []) replay);
+          released = subst (λ (xs : List Happening). IsReleased p f gone (after_all start xs)) is released;
           of_instance = same;
-          gone_then = ready.1 ∙ (λ i. gone_by (jobs_same start one i) (id_same start one i) (after_all start one).holding.table f);
-          is_known = prefix_trans (published_over start one) _ known (published_first start one (two ++ happening leave (Reply.released n gone) ∷ []))
-              (subst (λ (xs : List Happening). IsPrefix (published_over start xs) known) whole shown);
+          ready = then;
+          gone_then = ready.1 ∙ (λ i. gone_by (jobs_same start one i) (id_same start one i) table f);
+          is_known = subst (λ (xs : List Happening). IsPrefix (published_over start xs) known) is until;
+          levels_known = ready_stays jobs id table table f (level_at (after_all start one).holding.far) (level_at (far_of known)) (λ other ls there. there) (more_known one two is) then;
         }
 
-    at_first : (f : FenceName) × (call_of (after_all start es).holding p ≡ Some (Standing.released f gone)) × (f.instance ≡ n) → WasReady jobs id n gone known
+    at_first : (f : FenceName) × (call_of (after_all start es).holding p ≡ Some (Standing.released f gone)) × (f.instance ≡ n) → WasReady jobs id p n gone known
     at_first (f, is, same) = by_way (since p f gone start es is)
       where
-        by_way : IsReleased p f gone start ⊎ ((one : List Happening) × (two : List Happening) × (es ≡ one ++ two) × IsReadyThen p f gone (after_all start one)) → WasReady jobs id n gone known
+        by_way : IsReleased p f gone start ⊎ ((one : List Happening) × (two : List Happening) × (es ≡ one ++ two) × IsReadyThen p f gone (after_all start one)) → WasReady jobs id p n gone known
         by_way (inl old) = absurd (nobody f old)
-        by_way (inr (one, two, way, ready)) = made f same one two way ready
+        by_way (inr (one, two, way, ready)) = made f is same one two way ready
 
 -- who is answered so knows it
-pub ready_known : (d : Client) (p : Proc) (r : Result Release Refusal) → (IsEvent r → Tells d (Act.request (Request.leave p)) (reply_in release_reply r)) → IfOk r (KnowsReady d)
-ready_known d p (Err e) told = tt
-ready_known d p (Ok releases.Idle) told = tt
-ready_known d p (Ok releases.Waiting) told = tt
-ready_known d p (Ok (releases.Released instance gone)) told = ready_told d.jobs d.node p instance gone.items d.viewer.log (told tt)
+pub ready_known : (d : Client) (p : Proc) (r : Result Release Refusal) → proc_of d ≡ p → (IsEvent r → Tells d (Act.request (Request.leave p)) (reply_in release_reply r)) → IfOk r (KnowsReady d)
+ready_known d p (Err e) same told = tt
+ready_known d p (Ok releases.Idle) same told = tt
+ready_known d p (Ok releases.Waiting) same told = tt
+ready_known d p (Ok (releases.Released instance gone)) same told =
+    subst (λ (q : Proc). WasReady d.jobs d.node q instance gone.items d.viewer.log) (sym same) (ready_told d.jobs d.node p instance gone.items d.viewer.log (told tt))

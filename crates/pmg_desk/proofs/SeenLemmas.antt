@@ -190,7 +190,7 @@ zero_below n = omega arith
 in_new : (jobs : Jobs) (id : ℕ) → IsInAt (new_server jobs id)
 in_new jobs id = (new_is_server jobs id, λ q home. subst (λ (n : ℕ). n ≤ level_at (new_holding jobs id).far q) (sym (none_sealed jobs id q)) (zero_below _))
 
-far_longer : (xs ys : List Publication) (p : Proc) → level_at (far_of xs) p ≤ level_at (far_of (xs ++ ys)) p
+pub far_longer : (xs ys : List Publication) (p : Proc) → level_at (far_of xs) p ≤ level_at (far_of (xs ++ ys)) p
 unfolding far_of
 far_longer xs ys p =
     subst (λ (d : Data). level_at (far_of xs) p ≤ level_at d p) (same_in_any_grouping (flat_map (λ (x : Publication). x.far) xs) (flat_map (λ (x : Publication). x.far) ys)

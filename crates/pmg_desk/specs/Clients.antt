@@ -72,8 +72,8 @@ NotesFence c d list collect result =
 abbrev pub Tells : Client → Act → Reply → Type 0
 Tells d act reply = IsToldOf d.jobs d.node (happening act reply) d.viewer.log
 
--- who is released knows of a time when its fence was ready
+-- who is released knows of a time when its own fence was ready
 abbrev pub KnowsReady : Client → Release → Type 0
-KnowsReady d (releases.Released instance gone) = WasReady d.jobs d.node instance gone.items d.viewer.log
+KnowsReady d (releases.Released instance gone) = WasReady d.jobs d.node (proc_of d) instance gone.items d.viewer.log
 KnowsReady d releases.Idle = Unit {0}
 KnowsReady d releases.Waiting = Unit {0}

@@ -9,3 +9,4 @@ pub mod Reading
 pub mod Kinds
 pub mod Boards
 pub mod Answered
+pub mod Awaiting

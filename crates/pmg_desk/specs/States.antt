@@ -1,5 +1,5 @@
 -- What lies under the lock of a desk.
-use Rattle.std.specs.Prelude.{◌≡◌, ℕ, ◌≤◌, List, [], ◌∷◌, ◌++◌, length, drop, All, Option, Some, None, IfSome, Result}
+use Rattle.std.specs.Prelude.{◌≡◌, ℕ, ◌≤◌, true, List, [], ◌∷◌, ◌++◌, length, drop, All, Option, Some, None, IfSome, IsSome, Result}
 use Rattle.pmg_value.specs.declared.refusal.Refusal.{Refusal}
 use Rattle.pmg_rules.specs.declared.sent.Sent.{Sent}
 use Rattle.pmg_node.specs.Acting.{act_of, reply_as}
@@ -18,11 +18,13 @@ pub record IsLive (start : Server) (es : List Happening) (taken : ℕ) (outbox :
   pub outbox_is : outbox ≡ drop taken (sent_over start es)
   pub bound : taken ≤ length (sent_over start es)
 
--- What is kept: the journal is a replay, what is published is what it published, and while there is a node it is the replay's.
+-- What is kept: the journal is a replay, what is published is what it published, and while there is a node it is the replay's, and the
+-- publisher is open.
 pub record IsKept (p : Parts) : Type 0 where
   pub journal : IsJournal p.journal
   pub published : p.publisher.log ≡ published_over (start_of p.journal) (told_in p.journal)
   pub live : IfSome p.node (IsLive (start_of p.journal) (told_in p.journal) p.taken p.outbox.items)
+  pub open_then : IsSome p.node → p.publisher.is_open ≡ true
   pub viewers : All (λ (v : Publications). v.book ≡ p.publisher.book) p.viewers.items
 
 -- the same desk: its node's index and group, its publisher's book, and the frames that were taken

@@ -1,13 +1,15 @@
 -- What was told of a journal.
-use Rattle.std.specs.Prelude.{◌≡◌, ℕ, true, List, [], ◌∷◌, ◌++◌, drop}
+use Rattle.std.specs.Prelude.{◌≡◌, ℕ, true, List, [], ◌∷◌, ◌++◌, Some, drop}
 use mathlib.Core.List.{IsPrefix}
 use Rattle.pmg_value.specs.Signatures.{FenceName}
 use Rattle.pmg_value.specs.declared.process.Proc.{Proc}
 use Rattle.pmg_jobinfo.specs.Jobs.{Jobs}
-use Rattle.pmg_fence.specs.Tables.{gone_by}
-use Rattle.pmg_rules.specs.Holdings.{is_ready_at}
+use Rattle.pmg_commit.specs.Data.{level_at}
+use Rattle.pmg_fence.specs.Tables.{gone_by, is_ready}
+use Rattle.pmg_rules.specs.Holdings.{Standing, call_of, is_ready_at}
 use Rattle.pmg_rules.specs.declared.sent.Sent.{Sent}
 use Rattle.pmg_node.specs.Opening.{new_server}
+use Rattle.pmg_publish.specs.Publications.{far_of}
 use Rattle.pmg_publish.specs.declared.counting.Publication.{Publication}
 use Rattle.pmg_store.specs.Dump.{dump}
 use Rattle.pmg_desk.specs.Replays.{Happening, IsReplay, after_all, published_over, sent_over}
@@ -18,16 +20,20 @@ pub record IsToldOf (jobs : Jobs) (id : ℕ) (e : Happening) (known : List Publi
   pub replay : IsReplay (new_server jobs id) (es ++ e ∷ [])
   pub is_known : IsPrefix (published_over (new_server jobs id) (es ++ e ∷ [])) known
 
--- At some time of a journal of the node, which is a replay, the fence was ready there, with those that were gone by then; and all is known that
--- was published until then.
-pub record WasReady (jobs : Jobs) (id instance : ℕ) (gone : List Proc) (known : List Publication) : Type 0 where
+-- The process was released from its fence, of that instance, at the end of some journal of the node, which is a replay. At some time
+-- of the journal the fence was ready there, with those that were gone by then. All is known that was published until the end, and so
+-- the fence is ready at the levels that are known.
+pub record WasReady (jobs : Jobs) (id : ℕ) (p : Proc) (instance : ℕ) (gone : List Proc) (known : List Publication) : Type 0 where
   pub es : List Happening
+  pub later : List Happening
   pub fence : FenceName
-  pub replay : IsReplay (new_server jobs id) es
-  pub ready : is_ready_at jobs id (after_all (new_server jobs id) es).holding fence ≡ true
+  pub replay : IsReplay (new_server jobs id) (es ++ later)
+  pub released : call_of (after_all (new_server jobs id) (es ++ later)).holding p ≡ Some (Standing.released fence gone)
   pub of_instance : fence.instance ≡ instance
+  pub ready : is_ready_at jobs id (after_all (new_server jobs id) es).holding fence ≡ true
   pub gone_then : gone ≡ gone_by jobs id (after_all (new_server jobs id) es).holding.table fence
-  pub is_known : IsPrefix (published_over (new_server jobs id) es) known
+  pub is_known : IsPrefix (published_over (new_server jobs id) (es ++ later)) known
+  pub levels_known : is_ready jobs id (after_all (new_server jobs id) es).holding.table fence (level_at (far_of known)) ≡ true
 
 -- The frames are all that some journal of the node sent, which is a replay, but for the first ones.
 pub record WasSent (jobs : Jobs) (id : ℕ) (frames : List Sent) : Type 0 where

@@ -1,5 +1,5 @@
 //! A client: one process of a node, as one thread calls its server.
-ghost use Rattle.std.specs.Prelude.{◌≡◌, ◌≤◌, ◌⊎◌, ◌∷◌, ◌++◌, ℕ, [], false, true, Err, IfErr, IfOk};
+ghost use Rattle.std.specs.Prelude.{◌≡◌, ◌≢◌, ◌≤◌, ◌⊎◌, ◌∷◌, ◌++◌, ℕ, [], false, true, Err, IfErr, IfOk, IfSome};
 ghost use Rattle.pmg_value.specs.CheckOrder.{first_of};
 ghost use Rattle.pmg_value.specs.Spelling.{spelling};
 ghost use Rattle.pmg_commit.specs.Data.{level_at};
@@ -9,8 +9,9 @@ ghost use Rattle.pmg_get.specs.declared.view.Mode.TheVariants as modes;
 ghost use Rattle.pmg_holding.specs.Calls.{get_of};
 ghost use Rattle.pmg_rules.specs.Acts.{Act as ModelAct, Reply as ModelReply, Request as ModelRequest};
 ghost use Rattle.pmg_node.specs.Acting.{act_of, reply_as, request_of};
-ghost use Rattle.pmg_node.specs.Replies.{asked_reply, release_reply, taking_reply};
+ghost use Rattle.pmg_node.specs.Replies.{asked_reply, release_reply, status_in, taking_reply};
 ghost use Rattle.pmg_node.specs.Servers.{reply_in};
+ghost use Rattle.pmg_desk.specs.Awaiting.{RepliesPast, RepliesThere};
 ghost use Rattle.pmg_desk.specs.Clients.{IsLater, KnowsReady, Notes as NotesOf, NotesFence, Tells, batch_of, is_waiting, proc_of, puts_of};
 ghost use Rattle.pmg_desk.specs.Journals.{IsEvent};
 ghost use Rattle.pmg_desk.specs.Transcripts.{Answers, Calling, NotesCall, calling_of, is_put, noted, noted_in, put_cause_of};
@@ -87,7 +88,9 @@ pub(crate) fn copies_of(alloc: Global, procs: &[Proc]) -> Result<Vec<Proc>, Allo
 }
 
 /// What the process waits for, where it waits until it stands otherwise.
-fn awaited_by(proc: &Proc, past: Option<Status>) -> Awaited<'_> {
+fn awaited_by(proc: &Proc, past: Option<Status>) -> Awaited<'_>
+    ensures { (act : ModelAct) (reply : ModelReply) → RepliesThere result act reply → IfSome past (λ status. RepliesPast proc.now (status_in status) act reply) }
+{
     match past {
         Some(status) => Awaited::Past(proc, status),
         None => Awaited::Nothing,
@@ -153,6 +156,7 @@ impl<'d> Client<'d> {
     ) -> Result<Reply, Refusal>
         requires { is_put (calling_of call) ≡ false }
         ensures told { IsEvent result → Tells self.new (act_of act.now) (reply_in reply_as result) }
+        ensures past { IfOk result (λ r. IfSome past (λ status. RepliesPast (proc_of self.old) (status_in status) (act_of act.now) (reply_as r))) }
         ensures noted { NotesOf self.old self.new (calling_of call) reply_as result }
         ensures later { IsLater self.old self.new }
     {
@@ -171,6 +175,7 @@ impl<'d> Client<'d> {
         request: Request,
     ) -> Result<Reply, Refusal>
         ensures told { IsEvent result → Tells self.new (ModelAct.request (request_of request)) (reply_in reply_as result) }
+        ensures past { IfOk result (λ r. IfSome past (λ status. RepliesPast (proc_of self.old) (status_in status) (ModelAct.request (request_of request)) (reply_as r))) }
         ensures noted { NotesOf self.old self.new (Calling.request (request_of request)) reply_as result }
         ensures later { IsLater self.old self.new }
     {
@@ -207,6 +212,7 @@ impl<'d> Client<'d> {
     /// gone.
     pub fn leave<R: Wait>(&mut self, rt: &R) -> Result<Release, Refusal>
         ensures told { IsEvent result → Tells self.new (ModelAct.request (ModelRequest.leave (proc_of self.old))) (reply_in release_reply result) }
+        ensures waited { IfOk result (λ r. r ≢ Release.Waiting) }
         ensures ready { IfOk result (KnowsReady self.new) }
         ensures noted { NotesOf self.old self.new (Calling.request (ModelRequest.leave (proc_of self.old))) release_reply result }
         ensures later { IsLater self.old self.new }
@@ -224,6 +230,7 @@ impl<'d> Client<'d> {
     ) -> Result<Release, Refusal>
         ensures told { IsEvent result → (Tells self.new (ModelAct.request (ModelRequest.enter (proc_of self.old) list.now collect)) (reply_in release_reply result))
             ⊎ (Tells self.new (ModelAct.request (ModelRequest.leave (proc_of self.old))) (reply_in release_reply result)) }
+        ensures waited { IfOk result (λ r. r ≢ Release.Waiting) }
         ensures ready { IfOk result (KnowsReady self.new) }
         ensures noted { NotesFence self.old self.new list.now collect result }
         ensures later { IsLater self.old self.new }
@@ -251,6 +258,7 @@ impl<'d> Client<'d> {
     /// It waits until its get is answered, and takes the answer.
     pub fn take<R: Wait>(&mut self, rt: &R) -> Result<Taking, Refusal>
         ensures told { IsEvent result → Tells self.new (ModelAct.request (ModelRequest.take (proc_of self.old))) (reply_in taking_reply result) }
+        ensures waited { IfOk result (λ r. r ≢ Taking.Waiting) }
         ensures noted { NotesOf self.old self.new (Calling.request (ModelRequest.take (proc_of self.old))) taking_reply result }
         ensures later { IsLater self.old self.new }
     {

@@ -7,6 +7,7 @@ ghost use Rattle.pmg_rules.specs.Kept.{IsOwn};
 ghost use Rattle.pmg_node.specs.Acting.{act_of, reply_as, request_of};
 ghost use Rattle.pmg_node.specs.Replies.{delivery_reply};
 ghost use Rattle.pmg_node.specs.Servers.{reply_in};
+ghost use Rattle.pmg_desk.specs.Awaiting.{RepliesThere};
 ghost use Rattle.pmg_desk.specs.Clients.{proc_of};
 ghost use Rattle.pmg_desk.specs.Journals.{IsEvent, IsJournal, happened};
 ghost use Rattle.pmg_desk.specs.Kinds.{IsChange, IsReplyTo};
@@ -76,6 +77,7 @@ impl Desk {
     ) -> Result<Twice, Refusal>
         requires { viewer.old.book ≡ self.now.place.told.book }
         ensures told { IfOk result (λ t. IsToldOf self.now.place.registry self.now.place.node (happened act.now t.told) viewer.new.log) }
+        ensures there { IfOk result (λ t. RepliesThere awaited.now (act_of act.now) (reply_in reply_as t.told)) }
         ensures copy { IfOk result (λ t. reply_in reply_as t.kept ≡ reply_in reply_as t.told) }
         ensures kind { IfOk result (λ t. IsEvent t.told) }
         ensures err { IfErr result (λ e. (e ≡ refusals.NoMemory) ⊎ (e ≡ refusals.Closed)) }

@@ -1,5 +1,6 @@
 //! The lock of a desk, and what waits for it.
 ghost use Rattle.std.specs.Prelude.{◌≡◌, IfSome, IfOk, true};
+ghost use Rattle.pmg_desk.specs.Awaiting.{IsThere};
 ghost use Rattle.pmg_desk.specs.Places.{LiesAt};
 ghost use Rattle.pmg_jobinfo.specs.Jobs.{is_node};
 ghost use Rattle.pmg_rules.specs.Kept.{IsOwn};
@@ -61,7 +62,9 @@ pub(crate) enum Awaited<'a> {
 
 impl Awaited<'_> {
     /// Whether it is there. Who waits at a closed desk waits no longer.
-    fn is_there(&self, state: &State) -> bool {
+    fn is_there(&self, state: &State) -> bool
+        ensures { result ≡ true → IsThere self.now state.now.node }
+    {
         match self {
             Awaited::Nothing => true,
             Awaited::Frames => state.has_frames() || state.is_closed(),
@@ -142,6 +145,7 @@ impl Desk {
     /// Takes the lock, once that is there which is waited for. None where no state lies in the room, which is so only once the desk
     /// has ended.
     pub(crate) fn hold<R: Wait>(&self, rt: &R, awaited: &Awaited<'_>) -> Option<Held<'_>>
+        ensures there { IfSome result (λ h. IsThere awaited.now h.state.node) }
         ensures state { IfSome result (λ h. LiesAt self.now.place h.state) }
         ensures desk { IfSome result (λ h. h.desk.now ≡ self.now) }
     {

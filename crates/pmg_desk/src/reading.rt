@@ -1,5 +1,5 @@
 //! What a client reads.
-ghost use Rattle.std.specs.Prelude.{◌≡◌, ◌&&◌, not, false, true, IfOk};
+ghost use Rattle.std.specs.Prelude.{◌≡◌, ◌&&◌, not, false, true, IfErr, IfOk};
 ghost use Rattle.std.specs.FinMap as finite;
 ghost use Rattle.pmg_value.specs.CheckOrder.{first_of};
 ghost use Rattle.pmg_value.specs.Names.{is_reserved};
@@ -199,11 +199,12 @@ impl Client<'_> {
         plain_now(registry, *node, target, key, &sight)
     }
 
-    /// The level of the process as other nodes see it. It waits for nobody.
+    /// The level of the process as other nodes see it. It waits for nobody. Closed where the desk's publisher is closed.
     pub fn level_now(&mut self, proc: &Proc) -> Result<u64, Refusal>
         ensures later { IsLater self.old self.new }
         ensures calls { self.new.transcript ≡ self.old.transcript }
         ensures level { IfOk result (λ n. n ≡ level_at (far_of self.new.viewer.log) proc.now) }
+        ensures refusals { IfErr result (λ e. e ≡ refusals.Closed) }
     {
         self.viewer.level(proc)
     }

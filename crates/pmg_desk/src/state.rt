@@ -119,6 +119,7 @@ fn done_by(node: &mut Node, act: &Act, outbox: &mut VecDeque<Sent>) -> Result<Do
 fn publish<R: Wait>(publisher: &mut Publisher, rt: &R, joined: &Joined) -> Result<(), Refusal>
     ensures book { publisher.new.book ≡ publisher.old.book }
     ensures ok { OnOk result (publisher.new.log ≡ publisher.old.log ++ publication_of (joins_in joined.now) ∷ []) }
+    ensures open { OnOk result (publisher.new.is_open ≡ true) }
     ensures err { OnErr result (publisher.new.log ≡ publisher.old.log) }
 {
     publisher.publish(rt, joined.near.as_slice(), joined.far.as_slice())
@@ -145,6 +146,7 @@ fn publish_done<R: Wait>(
     ensures kept { IfSome result (λ r. reply_in reply_as r.1.kept ≡ reply_in reply_as done.told) }
     ensures book { publisher.new.book ≡ publisher.old.book }
     ensures some { IsSome result → publisher.new.log ≡ publisher.old.log ++ publication_of (joins_in done.joined) ∷ [] }
+    ensures open { IsSome result → publisher.new.is_open ≡ true }
     ensures none { IsNone result → publisher.new.log ≡ publisher.old.log }
 {
     let Done { told, joined } = done;
@@ -169,6 +171,7 @@ fn happen_in<R: Wait>(
 ) -> Result<Twice, Refusal>
     ensures ok { IfOk result (λ t. GoesOn node.old act.now t.told (told_in journal.old) outbox.old.items publisher.old.log
         node.new (told_in journal.new) outbox.new.items publisher.new.log) }
+    ensures open { OnOk result (publisher.new.is_open ≡ true) }
     ensures kind { IfOk result (λ t. IsEvent t.told) }
     ensures copy { IfOk result (λ t. reply_in reply_as t.kept ≡ reply_in reply_as t.told) }
     ensures events { OnErr result (told_in journal.new ≡ told_in journal.old) }
@@ -277,6 +280,7 @@ impl State {
         ensures event { IsEvent result → told_in self.new.journal ≡ told_in self.old.journal ++ happened act.now result ∷ [] }
         ensures step { IsEvent result → IfSome self.old.node (λ s. Steps s act.now result self.new.node) }
         ensures none { result ≡ Err refusals.NoMemory → told_in self.new.journal ≡ told_in self.old.journal }
+        ensures kept { result ≡ Err refusals.Closed → told_in self.new.journal ≡ told_in self.old.journal }
         ensures memory { result ≡ Err refusals.NoMemory → (self.new.node ≡ None) ⊎ IsSame self.old self.new }
         ensures shut { self.old.node ≡ None → result ≡ Err refusals.Closed }
         ensures closed { result ≡ Err refusals.Closed → (self.old.node ≡ None) × IsSame self.old self.new }
@@ -297,6 +301,8 @@ impl State {
     ) -> Result<Twice, Refusal>
         requires { viewer.old.book ≡ self.old.publisher.book }
         ensures told { IfOk result (λ t. IsToldOf self.old.journal.registry self.old.journal.node (happened act.now t.told) viewer.new.log) }
+        ensures step { IfOk result (λ t. IfSome self.old.node (λ s. reply_to s (act_of act.now) ≡ reply_in reply_as t.told)) }
+        ensures shut { self.old.node ≡ None → result ≡ Err refusals.Closed }
         ensures copy { IfOk result (λ t. reply_in reply_as t.kept ≡ reply_in reply_as t.told) }
         ensures kind { IfOk result (λ t. IsEvent t.told) }
         ensures err { IfErr result (λ e. (e ≡ refusals.NoMemory) ⊎ (e ≡ refusals.Closed)) }

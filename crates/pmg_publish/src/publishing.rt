@@ -35,7 +35,7 @@ pub struct Publisher {
 }
 
 impl Model for Publisher {
-    ghost use Rattle.std.specs.Prelude.{◌≡◌, [], true, IfSome};
+    ghost use Rattle.std.specs.Prelude.{◌≡◌, [], true, IfSome, IsSome};
     ghost use Rattle.std.specs.Prelude.{drop as after};
     ghost use Rattle.left_right.specs.Sides.{view as known_at};
     ghost use Rattle.pmg_publish.specs.Publications.{Published};
@@ -47,8 +47,10 @@ impl Model for Publisher {
     ghost view = { λ p. record { is_open = p.is_open; book = p.history.book; log = p.history.log } };
 
     ghost invariant = { λ p. (p.counter ≡ counter_of p.history.book)
+        × (p.is_open ≡ true → IsSome p.writer)
         × IfSome p.writer (λ w. IsOf p.history.book (known_at w.desk.place)
-        × (p.is_open ≡ true → (w.desk.shown.value.history ≡ p.history) × (after w.behind w.log.items ≡ []))) };
+        × (w.desk.shown.value.history ≡ p.history)
+        × (p.is_open ≡ true → after w.behind w.log.items ≡ [])) };
 }
 
 impl Publisher {
@@ -114,7 +116,7 @@ impl Publisher {
         self.is_open = false;
         let history = issue.history.again();
         let Some(mut writer) = self.writer.take() else {
-            return Err(Refusal::NoMemory);
+            unreachable!()
         };
         if let Err(_) = writer.append(issue) {
             put_back(&mut self.writer, writer, rt);

@@ -39,6 +39,7 @@ impl Model for Told {
 /// One who reads what is published, and waits for nobody. Contracts see it as the list of publications that it saw last or
 /// was told of.
 pub struct Viewer {
+    /// Its place, which it always has but while it reads.
     place: Option<Place>,
     history: History,
 }
@@ -53,7 +54,7 @@ impl Drop for Viewer {
 }
 
 impl Model for Viewer {
-    ghost use Rattle.std.specs.Prelude.{IfSome};
+    ghost use Rattle.std.specs.Prelude.{IfSome, IsSome};
     ghost use Rattle.left_right.specs.Sides.{view as known_at};
     ghost use Rattle.pmg_publish.specs.Publications.{Publications};
     ghost use Rattle.pmg_publish.specs.Rule.{IsOf};
@@ -62,7 +63,7 @@ impl Model for Viewer {
 
     ghost view = { λ v. v.history };
 
-    ghost invariant = { λ v. IfSome v.place (λ p. IsOf v.history.book (known_at p.place)) };
+    ghost invariant = { λ v. IsSome v.place × IfSome v.place (λ p. IsOf v.history.book (known_at p.place)) };
 }
 
 impl Viewer {
@@ -106,14 +107,24 @@ impl Viewer {
         ensures err { OnErr result (self.new ≡ self.old) }
         ensures refusals { IfErr result (λ e. (e ≡ refusals.Closed) ⊎ (e ≡ refusals.NoMemory)) }
     {
-        let entered = self.enter()?;
-        let shown = entered.get();
-        let sight = sight_of(&shown.board, proc, key);
-        let history = shown.history.again();
-        self.put_back(entered.leave());
-        let sight = sight?;
-        self.history = history;
-        Ok(sight)
+        let Some(place) = self.place.take() else {
+            unreachable!()
+        };
+        match enter(place, &self.history) {
+            Ok(entered) => {
+                let shown = entered.get();
+                let sight = sight_of(&shown.board, proc, key);
+                let history = shown.history.again();
+                self.place = Some(entered.leave());
+                let sight = sight?;
+                self.history = history;
+                Ok(sight)
+            }
+            Err(place) => {
+                self.place = Some(place);
+                Err(Refusal::Closed)
+            }
+        }
     }
 
     /// The level of the process in the far store, in the board that a list of publications makes. The list begins with all
@@ -126,47 +137,37 @@ impl Viewer {
         ensures err { OnErr result (self.new ≡ self.old) }
         ensures refusals { IfErr result (λ e. e ≡ refusals.Closed) }
     {
-        let entered = self.enter()?;
-        let shown = entered.get();
-        let level = shown.board.far().level(proc);
-        let history = shown.history.again();
-        self.put_back(entered.leave());
-        self.history = history;
-        Ok(level)
-    }
-
-    /// Enters what is shown, which goes on from what this viewer saw or was told of.
-    fn enter(&mut self) -> Result<Entered, Refusal>
-        ensures same { self.new ≡ self.old }
-        ensures place { IfOk result (λ r. IsOf self.old.book (known_at r.place)) }
-        ensures book { IfOk result (λ r. r.part.value.history.book ≡ self.old.book) }
-        ensures seen { IfOk result (λ r. IsPrefix self.old.log r.part.value.history.log) }
-        ensures made { IfOk result (λ r. IsMade r.part.value) }
-        ensures refusals { IfErr result (λ e. e ≡ refusals.Closed) }
-    {
         let Some(place) = self.place.take() else {
-            return Err(Refusal::Closed);
+            unreachable!()
         };
-        match place.enter_as::<Sees>() {
+        match enter(place, &self.history) {
             Ok(entered) => {
-                if entered.get().history.continues(&self.history) {
-                    return Ok(entered);
-                }
-                self.put_back(entered.leave());
-                Err(Refusal::Closed)
+                let shown = entered.get();
+                let level = shown.board.far().level(proc);
+                self.history = shown.history.again();
+                self.place = Some(entered.leave());
+                Ok(level)
             }
             Err(place) => {
-                self.put_back(place);
+                self.place = Some(place);
                 Err(Refusal::Closed)
             }
         }
     }
+}
 
-    /// Takes its place again.
-    fn put_back(&mut self, place: Place)
-        requires { IsOf self.old.book (known_at place.place) }
-        ensures { self.new ≡ self.old }
-    {
-        self.place = Some(place);
+/// Enters what is shown, where it goes on from what was seen or told of; else the place comes back.
+fn enter(place: Place, history: &History) -> Result<Entered, Place>
+    requires { IsOf history.now.book (known_at place.place) }
+    ensures place { IfOk result (λ r. IsOf history.now.book (known_at r.place)) }
+    ensures book { IfOk result (λ r. r.part.value.history.book ≡ history.now.book) }
+    ensures seen { IfOk result (λ r. IsPrefix history.now.log r.part.value.history.log) }
+    ensures made { IfOk result (λ r. IsMade r.part.value) }
+    ensures back { IfErr result (λ p. IsOf history.now.book (known_at p.place)) }
+{
+    let entered = place.enter_as::<Sees>()?;
+    if entered.get().history.continues(history) {
+        return Ok(entered);
     }
+    Err(entered.leave())
 }
