@@ -1,5 +1,5 @@
--- The ends of links, and what a client has to report, may cross threads.
-use denote.Param.Send.{IsSend, sendable, shr_slice_send}
+-- The ends of links, what a client has to report, and the word of a failed allocation may cross threads.
+use denote.Param.Send.{IsSend, IsSync, sendable, shr_slice_send}
 use denote.Ref.{NamedLft}
 use denote.Struct.Field.{shr_slice_field}
 use Rattle.std.proofs.Crossing.{crosses as owners}
@@ -13,6 +13,7 @@ use Rattle.pmg_publish.proofs.Crossing.{nspace_send, proc_sync}
 use Rattle.pmg_desk.proofs.Crossing.{desk_sync, frame_send}
 use Rattle.pmg_desk.specs.contracts.lock.Desk as Desk
 use Rattle.pmg_launch.specs.contracts.program.Report as Report
+use Rattle.pmg_launch.specs.contracts.shortage.Shortage as Shortage
 
 pub sender_send : IsSend (Sender.the_row Frame.the_row Heap.the_row ghosts)
 sender_send = search (frame_send, owners, sendable) depth 60 fits 40000
@@ -31,3 +32,6 @@ desks_send a = shr_slice_send a.mir a.lft Desk.the_row desk_sync
 
 pub procs_send : (a : NamedLft) → IsSend (shr_slice_field a Proc.the_row tt).row
 procs_send a = shr_slice_send a.mir a.lft Proc.the_row proc_sync
+
+pub shortage_sync : IsSync Shortage.the_row
+shortage_sync = search (owners, sendable) depth 40

@@ -4,6 +4,7 @@ ghost use Rattle.std.specs.Prelude.{◌≡◌, length};
 use crate::desks::{close_desks, end_desks, open_desks};
 use crate::links::{Link, deliver_frames, link_desks, send_frames};
 use crate::program::{Outcome, Program, Report};
+use crate::shortage::Shortage;
 use pmg_desk::{Client, Desk};
 use pmg_job::Job;
 use pmg_jobinfo::Registry;
@@ -22,8 +23,9 @@ struct Work<'d> {
 }
 
 /// Runs the job, with these programs for its processes, which rise by namespace and rank: a thread a client, and two a node for
-/// the links. Refused as BadParam where the number of programs is not that of the processes, as Closed where a desk was closed
-/// before all clients had ended, and as NoMemory, also where a thread cannot be started.
+/// the links. Refused as BadParam where the number of programs is not that of the processes, as NoMemory where an allocation failed
+/// that a desk cannot go on without, or a thread cannot be started, and as Closed where a desk was closed for another cause before
+/// all clients had ended.
 pub fn run<R: Threads + Wait + Sync>(
     rt: &R,
     job: Job,
@@ -106,6 +108,8 @@ fn run_linked<R: Threads + Wait + Sync>(
     links: Vec<Link<'_>>,
     work: Vec<Work<'_>>,
 ) -> Result<Outcome, Refusal> {
+    let shortage = Shortage::new();
+    let shortage = &shortage;
     thread::scope(
         thread::scope_env(),
         rt,
@@ -114,15 +118,15 @@ fn run_linked<R: Threads + Wait + Sync>(
             for link in links {
                 let Link { desk, to, from } = link;
                 let sends = scope
-                    .spawn(move || send_frames(rt, desks, desk, &to))
+                    .spawn(move || send_frames(rt, desks, shortage, desk, &to))
                     .is_ok();
                 let delivers = scope
-                    .spawn(move || deliver_frames(rt, desks, desk, &from))
+                    .spawn(move || deliver_frames(rt, desks, shortage, desk, &from))
                     .is_ok();
                 all_started = all_started && sends && delivers;
             }
             let outcome = if all_started {
-                run_clients(rt, alloc, desks, procs, work)
+                run_clients(rt, alloc, desks, shortage, procs, work)
             } else {
                 Err(Refusal::NoMemory)
             };
@@ -137,12 +141,18 @@ fn run_clients<R: Threads + Wait + Sync>(
     rt: &R,
     alloc: Global,
     desks: &[Desk],
+    shortage: &Shortage,
     procs: &[Proc],
     work: Vec<Work<'_>>,
 ) -> Result<Outcome, Refusal> {
     let reports = reports_of(rt, alloc, desks, procs, work)?;
-    let dump = last_dump(rt, alloc, desks)?;
-    Ok(Outcome { reports, dump })
+    match last_dump(rt, alloc, desks) {
+        Ok(dump) => Ok(Outcome { reports, dump }),
+        Err(Refusal::Closed) if shortage.is_noted(rt) || is_short(&reports) => {
+            Err(Refusal::NoMemory)
+        }
+        Err(refusal) => Err(refusal),
+    }
 }
 
 /// The reports of the clients, once all have ended. Where a thread cannot be started every desk is closed.
@@ -183,6 +193,13 @@ fn reports_of<R: Threads + Wait + Sync>(
             Ok(reports)
         },
     )
+}
+
+/// Whether an allocation failed in a call of a client.
+fn is_short(reports: &[Report]) -> bool {
+    reports
+        .iter()
+        .any(|report| report.answer == Err(Refusal::NoMemory))
 }
 
 /// Runs the program of one client. Where it answers a refusal the client is terminated; and where that is refused too, every

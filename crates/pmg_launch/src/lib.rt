@@ -7,6 +7,7 @@ mod exchange;
 mod launch;
 mod links;
 mod program;
+mod shortage;
 
 pub use exchange::Exchange;
 pub use launch::run;

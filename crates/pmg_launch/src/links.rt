@@ -1,6 +1,7 @@
 //! The links of a job: they carry frames from server to server.
 
 use crate::desks::close_desks;
+use crate::shortage::Shortage;
 use crossbeam_channel::{Receiver, Sender, unbounded};
 use pmg_desk::Desk;
 use pmg_frame::Frame;
@@ -61,13 +62,21 @@ fn join_ends<'d>(
 }
 
 /// Carries the frames that the desk's node sent to the links of their nodes, until the desk is closed or one cannot be carried.
-/// Then all desks are closed: clients of other nodes would wait for what this one tells no more.
-pub fn send_frames<R: Wait>(rt: &R, desks: &[Desk], desk: &Desk, to: &[Sender<Frame, Global>]) {
+/// Then all desks are closed: clients of other nodes would wait for what this one tells no more. A channel takes no frame where
+/// there is no memory for it.
+pub fn send_frames<R: Wait>(
+    rt: &R,
+    desks: &[Desk],
+    shortage: &Shortage,
+    desk: &Desk,
+    to: &[Sender<Frame, Global>],
+) {
     for _ in rt.forever() {
         let Ok(frames) = desk.take_frames(rt) else {
             break;
         };
         if !carry(rt, frames, to) {
+            shortage.note(rt);
             break;
         }
     }
@@ -92,6 +101,7 @@ fn carry<R: Wait>(rt: &R, frames: VecDeque<Sent>, to: &[Sender<Frame, Global>]) 
 pub fn deliver_frames<R: Wait>(
     rt: &R,
     desks: &[Desk],
+    shortage: &Shortage,
     desk: &Desk,
     from: &Receiver<Frame, Global>,
 ) {
@@ -99,7 +109,8 @@ pub fn deliver_frames<R: Wait>(
         let Ok(frame) = from.recv(rt) else {
             return;
         };
-        if desk.deliver(rt, frame).is_err() {
+        if let Err(refusal) = desk.deliver(rt, frame) {
+            shortage.note_refusal(rt, refusal);
             close_desks(rt, desks);
             return;
         }
