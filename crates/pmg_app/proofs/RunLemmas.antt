@@ -97,3 +97,9 @@ pub known_runs : {D E : Type 0} (known old mid new : Option (List ℕ)) (read : 
     Prints mid new write status (outcome_output outcome) → IfSome known (λ text. PrintsDue old new read write status (output_of (due text)))
 known_runs None old mid new read write status outcome due dumps told prints = tt
 known_runs (Some text) old mid new read write status outcome due dumps told prints = runs old mid new read write status outcome (due text) dumps told prints
+
+-- a read fault was answered, and nothing written before its line
+pub tells : {E : Type 0} (old mid new : Option (List ℕ)) (write : Option E) (status : ℕ) (outcome : Result (Unit {0}) Failure) → outcome ≡ Err failures.Read → mid ≡ old →
+    Prints mid new write status (outcome_output outcome) → Prints old new write status (failure_output failures.Read)
+tells old mid new write status outcome is same prints =
+    subst (λ known. Prints known new write status (failure_output failures.Read)) same (subst (λ o. Prints mid new write status (outcome_output {T = Unit {0}} o)) is prints)

@@ -1,12 +1,13 @@
 -- What `hex` decodes is what the digits spell in pairs.
 use Rattle.std.proofs.Common.{arith, ◌-◌, ◌≡◌, inl, inr, ℕ, suc, ◌++◌, ◌<◌, ◌≤◌, append_assoc, append-nil, drop-cons, drop-drop, get_or, subst, take, drop, ◌==◌, Bool, true, false, cond, ◌&&◌, not, ◌+◌, ◌*◌, ◌%◌, List, [], ◌∷◌, length, Option, Some, None, Result, Ok, Err, unwrap_or, refl, sym, ap, ◌∙◌}
-use Rattle.std.specs.Prelude.{is_some}
-use Rattle.std.specs.List.{position, position_or_len}
+use Rattle.std.specs.Prelude.{is_some, IsErr}
+use Rattle.std.specs.List.{position, position_or_len, AllPass}
 use Rattle.std.proofs.lemmas.List.{take-append-drop, take_all, drop_all, length-drop}
-use Rattle.std.proofs.lemmas.Bool.{le-ltb, false≢true, false_from_ne_true, or_cases, eqb-true}
+use Rattle.std.proofs.lemmas.List.Elements.{All-nil, All-cons}
+use Rattle.std.proofs.lemmas.Bool.{le-ltb, lt-ltb, false≢true, false_from_ne_true, or_cases, eqb-true, cases_lt}
 use Rattle.hex.specs.Hex.{decode_of, decode_pairs, digit_or_error, hex_digit_value, is_hex_digit, ◌>>=◌}
 use Rattle.hex.specs.declared.error.FromHexError.{FromHexError}
-use Rattle.hex.proofs.HexLemmas.{decode_of-even, decode_of-ok, decode_pairs-ok}
+use Rattle.hex.proofs.HexLemmas.{decode_of-even, decode_of-ok, decode_of-digits, decode_pairs-ok}
 use Rattle.pmg_value.specs.declared.refusal.Cause.TheVariants as causes
 use Rattle.pmg_wire.specs.Reading.{fault}
 use Rattle.pmg_app.specs.Text.{is_blank, is_stray, digits_of, paired, unless_stray, decoded, Spells}
@@ -77,6 +78,38 @@ none_stray (x ∷ xs) all = go (λ rest. none_stray xs rest) (is_blank x) refl a
 
 no_stray : (text : List ℕ) → AllHex (digits_of text) → position is_stray text ≡ None
 no_stray text all = rw (none_stray text all, le-ltb (length text) (length text) (omega arith)) refl
+
+-- without a stray byte all that is not blank is a digit
+all_hex : (text : List ℕ) → length text ≤ position_or_len is_stray text → AllHex (digits_of text)
+all_hex [] all = tt
+all_hex (x ∷ xs) all = go (λ rest. all_hex xs rest) (is_blank x) refl (is_hex_digit x) refl all
+  where
+    one_less : suc (length xs) ≤ 1 + position_or_len is_stray xs → length xs ≤ position_or_len is_stray xs
+    one_less h = omega (arith, h)
+
+    go : (length xs ≤ position_or_len is_stray xs → AllHex (digits_of xs)) → (b : Bool) → is_blank x ≡ b → (h : Bool) → is_hex_digit x ≡ h
+        → suc (length xs) ≤ cond (not (not b && not h)) (1 + position_or_len is_stray xs) 0 → AllHex (cond (not b) (x ∷ digits_of xs) (digits_of xs))
+    go rest true blank h digit all = rest (one_less all)
+    go rest false blank true digit all = (digit, rest (one_less all))
+    go rest false blank false digit all = absurd (omega (arith, all))
+
+all_pass : (digits : List ℕ) → AllHex digits → AllPass is_hex_digit digits
+all_pass [] all = All-nil (λ x. is_hex_digit x ≡ true)
+all_pass (x ∷ xs) all = All-cons (λ x. is_hex_digit x ≡ true) x xs all.0 (all_pass xs all.1)
+
+none_found : (text : List ℕ) → position is_stray text ≡ None → length text ≤ position_or_len is_stray text
+none_found text none = elim (cases_lt (position_or_len is_stray text) (length text)) [
+  | inl less ↦
+      let found = ap (λ b. cond b (Some (position_or_len is_stray text)) None) (lt-ltb (position_or_len is_stray text) (length text) less) in
+      absurd (let bad = sym found ∙ none in cc)
+  | inr past ↦ past
+]
+
+-- an even number of digits without a stray byte is decoded
+pub even_decodes : (text : List ℕ) → length (digits_of text) % 2 ≡ 0 → position is_stray text ≡ None → IsErr (decode_of (digits_of text)) → ⊥
+even_decodes text even none err =
+    let decodes = decode_of-digits (digits_of text) even (all_pass (digits_of text) (all_hex text (none_found text none))) in
+    false≢true (subst IsErr decodes.1 err)
 
 -- pairs of digits
 pub clean_text : (text bytes : List ℕ) → length (digits_of text) % 2 ≡ 0 → decode_of (digits_of text) ≡ Ok bytes →

@@ -74,3 +74,9 @@ PrintsDue old new read_failure write_failure status due =
     Prints old new write_failure status due
     ⊎ (Prints old new write_failure status (failure_output (Refused NoMemory))
     ⊎ (IsSome read_failure × Prints old new write_failure status (failure_output Read)))
+
+-- A reader that fails is told, whatever else came in the way: where it has failed, and had not before, the output of a read fault
+-- is printed.
+abbrev pub TellsReadFault : {D E : Type 0} → Option (List ℕ) → Option (List ℕ) → Option D → Option D → Option E → ℕ → Type 0
+TellsReadFault old new before now write_failure status =
+    IsSome now → IsSome before ⊎ Prints old new write_failure status (failure_output Read)

@@ -2,14 +2,14 @@
 //! script or a job says. Each command of the program is a function over a reader and a writer, which answers the status.
 #![tactic(auto)]
 
-ghost use Rattle.std.specs.Prelude.{◌≡◌, ◌≤◌, ◌+◌, ◌↔◌, ℕ, IfOk, IfSome, IsNone, IsTrue};
+ghost use Rattle.std.specs.Prelude.{◌≡◌, ◌≢◌, ◌≤◌, ◌+◌, ◌⊎◌, ◌↔◌, ℕ, IfOk, IfSome, IsNone, IsTrue};
 ghost use Rattle.std.specs.IoError.{error_kind};
 ghost use Rattle.pmg_value.specs.declared.refusal.Refusal.TheVariants.{NoMemory};
 ghost use Rattle.pmg_store.specs.declared.failure.Failure.TheVariants.{Refused};
 ghost use Rattle.pmg_app.specs.CommandLine.{HasStatus};
 ghost use Rattle.pmg_app.specs.Dump.{dump_output};
 ghost use Rattle.pmg_app.specs.Merge.{merge_output};
-ghost use Rattle.pmg_app.specs.Output.{failure_output, Prints, PrintsDue};
+ghost use Rattle.pmg_app.specs.Output.{failure_output, Prints, PrintsDue, TellsReadFault};
 ghost use Rattle.pmg_app.specs.Replay.{PrintsReplies};
 
 mod command;
@@ -72,6 +72,9 @@ pub fn carry_out<T: AllocGlobal + Threads + Wait + Sync, R: Read, W: Write>(
     ensures merge { chosen ≡ Chosen.Merge → IfSome (R.remaining reader.old.reader) (λ text.
         PrintsDue (W.contents writer.old.writer) (W.contents writer.new.writer) reader.new.failure writer.new.failure
         result (merge_output text)) }
+    ensures read_fault { (chosen ≡ Chosen.Dump) ⊎ (chosen ≡ Chosen.Merge)
+        → TellsReadFault (W.contents writer.old.writer) (W.contents writer.new.writer) reader.old.failure reader.new.failure
+        writer.new.failure result }
     ensures replay { chosen ≡ Chosen.Replay → IfSome (R.remaining reader.old.reader) (λ text.
         PrintsReplies text (R.remaining reader.new.reader) (W.contents writer.old.writer) (W.contents writer.new.writer)
         reader.new.failure writer.new.failure result) }
@@ -99,6 +102,7 @@ pub fn end_with<W: Write>(rt: &impl Eprint, writer: &mut WatchedWriter<W>, error
     ensures memory { error_kind error.now ≡ ErrorKind.OutOfMemory
         → Prints (W.contents writer.old.writer) (W.contents writer.new.writer) writer.new.failure
         result (failure_output (Refused NoMemory)) }
+    ensures other { error_kind error.now ≢ ErrorKind.OutOfMemory → error_kind error.now ≢ ErrorKind.InvalidData → result ≡ 1 }
     ensures bound { result ≤ 3 }
 {
     match error.kind() {

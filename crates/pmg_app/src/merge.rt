@@ -1,10 +1,10 @@
 //! The command `merge`.
-ghost use Rattle.std.specs.Prelude.{◌≡◌, ◌+◌, ◌≤◌, map, length, count_by, IfOk, IfErr, IfSome, IsNone, IsSome, IsTrue};
+ghost use Rattle.std.specs.Prelude.{◌≡◌, ◌+◌, ◌≤◌, ◌⊎◌, map, length, count_by, IfOk, IfErr, IfSome, IsNone, IsSome, IsTrue};
 ghost use Rattle.bstr.specs.Text.{lines_of};
 ghost use Rattle.pmg_wire.specs.Reading.{FailsReading};
 ghost use Rattle.pmg_store.specs.Outcomes.{Dumps};
 ghost use Rattle.pmg_app.specs.Merge.{is_separator, span, spans_of, decoded_at, decoded_all, merge_text, merge_output};
-ghost use Rattle.pmg_app.specs.Output.{IsStatus, PrintsDue};
+ghost use Rattle.pmg_app.specs.Output.{IsStatus, PrintsDue, TellsReadFault};
 
 use crate::reporting::conclude;
 use crate::text::decode_text;
@@ -19,7 +19,8 @@ use std::io::{Read, Write};
 ///
 /// Nothing is printed before the whole input was read without a fault. Status 1 for a refused input, a read fault and
 /// a write fault, 3 where an allocation failed. A refusal and a read fault print a line, that of a stream's fault with
-/// the stream's number, counted from 1; where the writer fails, nothing more is printed.
+/// the stream's number, counted from 1, and a reader that failed is always told as a read fault; where the writer fails,
+/// nothing more is printed.
 pub fn run_merge<R: Read, W: Write>(
     alloc: Global,
     reader: &mut WatchedReader<R>,
@@ -28,6 +29,8 @@ pub fn run_merge<R: Read, W: Write>(
     ensures printed { IfSome (R.remaining reader.old.reader) (λ text.
         PrintsDue (W.contents writer.old.writer) (W.contents writer.new.writer) reader.new.failure writer.new.failure
         result (merge_output text)) }
+    ensures read_fault { TellsReadFault (W.contents writer.old.writer) (W.contents writer.new.writer)
+        reader.old.failure reader.new.failure writer.new.failure result }
     ensures flushed { IsNone writer.new.failure → IsTrue writer.new.is_flushed }
     ensures few { reader.new.reads ≤ reader.old.reads + MOST_READS }
     ensures status { IsStatus result }
@@ -44,6 +47,9 @@ fn merge_text<R: Read, W: Write>(
     ensures dumps { IfSome (R.remaining reader.old.reader) (λ text.
         Dumps (W.contents writer.old.writer) (W.contents writer.new.writer) result (merge_text text)) }
     ensures read_fault { IfErr result (λ e. e ≡ Failure.Read → IsSome reader.new.failure) }
+    ensures failed { IsSome reader.new.failure → IsSome reader.old.failure ⊎ (result
+        ≡ Err Failure.Read) }
+    ensures unwritten { result ≡ Err Failure.Read → writer.new ≡ writer.old }
     ensures write_fault { IfErr result (λ e. e ≡ Failure.Write → IsSome writer.new.failure) }
     ensures few { reader.new.reads ≤ reader.old.reads + MOST_READS }
 {

@@ -1,10 +1,11 @@
 //! Hexadecimal text.
-ghost use Rattle.std.specs.Prelude.{◌≡◌, ◌≤◌, ◌++◌, ℕ, List, length, take, drop, IfOk, IfErr, IfSome};
+ghost use Rattle.std.specs.Prelude.{◌≡◌, ◌≤◌, ◌++◌, ℕ, List, length, take, drop, IfOk, IfErr, IfSome, IsErr, MatchOption};
 ghost use Rattle.std.specs.List.{position};
 ghost use Rattle.pmg_wire.specs.Reading.{FailsReading};
 ghost use Rattle.hex.specs.Hex.{decode_of};
 ghost use Rattle.pmg_app.specs.Text.{is_blank, is_stray, digits_of, decoded, Spells};
 
+use hex::FromHexError;
 use pmg_value::{Cause, Fault, Refusal};
 use std::alloc::{AllocError, Global};
 
@@ -22,7 +23,7 @@ struct Run {
 /// ignored wherever they stand.
 ///
 /// Refused as `BadFrame` with the cause Hex: at the end of the text where an odd number of its bytes is not
-/// ignored, else at the first of them that is no digit. `NoMemory` where memory was wanted and not given.
+/// ignored, else at the first of them that is no digit. An allocation that fails is `NoMemory`, and ends the call.
 pub fn decode_text(alloc: Global, text: &[u8]) -> Result<Vec<u8>, Refusal>
     ensures bytes { IfOk result (λ bytes. decoded text.now ≡ Ok bytes.items) }
     ensures fault { IfErr result (λ refusal. FailsReading refusal (decoded text.now)) }
@@ -42,12 +43,24 @@ fn decode_digits(alloc: Global, text: &[u8]) -> Result<Vec<u8>, Refusal>
     if digits.len() % 2 == 1 {
         return Err(hex_fault(text.len()));
     }
-    match hex::decode(alloc, digits) {
-        Ok(bytes) => Ok(bytes),
-        Err(_) => match first_stray(text) {
+    match bytes_of(alloc, &digits)? {
+        Some(bytes) => Ok(bytes),
+        None => match first_stray(text) {
             Some(offset) => Err(hex_fault(offset)),
-            None => Err(Refusal::NoMemory),
+            None => unreachable!(),
         },
+    }
+}
+
+/// The bytes that digits spell, two each; none where they spell none.
+fn bytes_of(alloc: Global, digits: &[u8]) -> Result<Option<Vec<u8>>, AllocError>
+    ensures { IfOk result (λ found. MatchOption found (IsErr (decode_of digits.now))
+        (λ bytes. decode_of digits.now ≡ Ok bytes.items)) }
+{
+    match hex::decode(alloc, digits) {
+        Ok(bytes) => Ok(Some(bytes)),
+        Err(FromHexError::OutOfMemory) => Err(AllocError),
+        Err(_) => Ok(None),
     }
 }
 
@@ -58,7 +71,7 @@ fn decode_runs(alloc: Global, text: &[u8]) -> Result<Option<Vec<u8>>, AllocError
     let mut bytes = Vec::with_capacity(alloc, text.len() / 2)?;
     let mut at = 0;
     while at < text.len() {
-        match first_run(alloc, &text[at..]) {
+        match first_run(alloc, &text[at..])? {
             Some(run) if run.size > 0 => {
                 bytes.extend_from_slice(&run.bytes)?;
                 at += run.size;
@@ -69,20 +82,22 @@ fn decode_runs(alloc: Global, text: &[u8]) -> Result<Option<Vec<u8>>, AllocError
     Ok(Some(bytes))
 }
 
-/// The first run of digits, or as much of it as a line has.
-fn first_run(alloc: Global, text: &[u8]) -> Option<Run>
-    ensures within { IfSome result (λ run. run.size ≤ length text.now) }
-    ensures spells { IfSome result (λ run. (more : List ℕ) → Spells (drop run.size text.now) more
-        → Spells text.now (run.bytes.items ++ more)) }
+/// The first run of digits, or as much of it as a line has; none where the text does not begin with one of even length.
+fn first_run(alloc: Global, text: &[u8]) -> Result<Option<Run>, AllocError>
+    ensures within { IfOk result (λ found. IfSome found (λ run. run.size ≤ length text.now)) }
+    ensures spells { IfOk result (λ found. IfSome found (λ run. (more : List ℕ)
+        → Spells (drop run.size text.now) more → Spells text.now (run.bytes.items ++ more))) }
 {
     let line = text.len().min(LINE);
-    if let Ok(bytes) = hex::decode(alloc, &text[..line]) {
-        return Some(run_of(text, bytes, line));
+    if let Some(bytes) = bytes_of(alloc, &text[..line])? {
+        return Ok(Some(run_of(text, bytes, line)));
     }
-    let size = text[..line].iter().position(|byte| is_blank(*byte))?;
-    match hex::decode(alloc, &text[..size]) {
-        Ok(bytes) => Some(run_of(text, bytes, size)),
-        Err(_) => None,
+    let Some(size) = text[..line].iter().position(|byte| is_blank(*byte)) else {
+        return Ok(None);
+    };
+    match bytes_of(alloc, &text[..size])? {
+        Some(bytes) => Ok(Some(run_of(text, bytes, size))),
+        None => Ok(None),
     }
 }
 
