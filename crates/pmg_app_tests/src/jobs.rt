@@ -1,4 +1,5 @@
 //! What jobs print, and what they end with.
+use crate::programs::Refused;
 use pmg_app::run_job;
 use pmg_launch::{Exchange, Program};
 use pmg_store::WatchedReader;
@@ -68,5 +69,35 @@ fn addresses_are_exchanged(rt: HostRuntime) -> Result<(), AllocError> {
         proc j 2 level 1\n  string:6a2f32 addr\nproc j 3 level 1\n  string:6a2f33 addr\n";
     assert_eq!(rt; str::from_utf8(&printed).unwrap_or("no text"), want);
     assert_eq!(rt; status, 0);
+    Ok(())
+}
+
+#[test]
+fn a_node_without_processes_is_told_nothing(rt: HostRuntime) -> Result<(), AllocError> {
+    let job = br#"{"nodes":["n0","n1"],"spaces":[{"name":"j","homes":[1,1]}]}"#;
+    let alloc = rt.alloc();
+    let mut programs: Vec<Box<dyn Program>> = Vec::new(alloc);
+    for _ in 0..2 {
+        programs.push(Box::new(alloc, Exchange::new(rt, alloc))?)?;
+    }
+    let (status, printed) = run_on(&rt, alloc, programs, job);
+    let want = "client j 0 found 1 own 1\nclient j 1 found 1 own 1\n";
+    assert_eq!(rt; str::from_utf8(&printed).unwrap_or("no text"), want);
+    assert_eq!(rt; status, 0);
+    Ok(())
+}
+
+#[test]
+fn a_refused_client_ends_the_job_with_1(rt: HostRuntime) -> Result<(), AllocError> {
+    let job = br#"{"nodes":["n0"],"spaces":[{"name":"j","homes":[0,0]}]}"#;
+    let alloc = rt.alloc();
+    let mut programs: Vec<Box<dyn Program>> = Vec::new(alloc);
+    programs.push(Box::new(alloc, Refused)?)?;
+    programs.push(Box::new(alloc, Exchange::new(rt, alloc))?)?;
+    let (status, printed) = run_on(&rt, alloc, programs, job);
+    let want = "noclient j 1 found 0 own 1\n\
+        proc j 0 level 1\n  bool:true pmix.term\nproc j 1 level 1\n  string:6a2f31 addr\n";
+    assert_eq!(rt; str::from_utf8(&printed).unwrap_or("no text"), want);
+    assert_eq!(rt; status, 1);
     Ok(())
 }
