@@ -11,13 +11,7 @@ const PROCESSES: u32 = 100;
 /// One client reads so often, without a wait, the addresses of all processes in turn: how many reads found the value.
 pub fn read_now<R: Wait>(rt: &R, alloc: Global, count: u64) -> Result<u64, Refusal> {
     let id = NodeId::new(0)?;
-    let names: [&[u8]; 1] = [b"n0"];
-    let mut homes = Vec::new(alloc);
-    for _ in 0..PROCESSES {
-        homes.push(id)?;
-    }
-    let mut registry = Registry::new(alloc, &names)?;
-    registry.register(Nspace::read(alloc, b"job")?, &homes)?;
+    let registry = registry(alloc, id)?;
     if !registry.has_node(id) {
         return Err(Refusal::BadParam);
     }
@@ -25,6 +19,18 @@ pub fn read_now<R: Wait>(rt: &R, alloc: Global, count: u64) -> Result<u64, Refus
     let found = found_at(rt, alloc, &desk, count);
     desk.into_journal(rt);
     found
+}
+
+/// A group of one node, at which all processes are at home.
+fn registry(alloc: Global, id: NodeId) -> Result<Registry, Refusal> {
+    let names: [&[u8]; 1] = [b"n0"];
+    let mut homes = Vec::new(alloc);
+    for _ in 0..PROCESSES {
+        homes.push(id)?;
+    }
+    let mut registry = Registry::new(alloc, &names)?;
+    registry.register(Nspace::read(alloc, b"job")?, &homes)?;
+    Ok(registry)
 }
 
 /// All put and commit their addresses, and then process 0 reads.
@@ -35,12 +41,7 @@ fn found_at<R: Wait>(rt: &R, alloc: Global, desk: &Desk, count: u64) -> Result<u
     for rank in 0..PROCESSES {
         let proc = Proc::new(Nspace::read(alloc, b"job")?, Rank::new(rank));
         let mut client = desk.client(rt, &proc)?;
-        client.put(
-            Scope::Global,
-            key.copy()?,
-            Value::string(alloc, b"tcp://10.0.0.1:40000")?,
-        )?;
-        client.commit(rt)?;
+        put_address(rt, alloc, &mut client, &key)?;
         clients.push(client)?;
         procs.push(proc)?;
     }
@@ -48,6 +49,19 @@ fn found_at<R: Wait>(rt: &R, alloc: Global, desk: &Desk, count: u64) -> Result<u
         Some(client) => count_found(client, &procs, &key, count),
         None => Ok(0),
     }
+}
+
+/// The client puts its address and commits it.
+fn put_address<R: Wait>(
+    rt: &R,
+    alloc: Global,
+    client: &mut Client<'_>,
+    key: &Key,
+) -> Result<(), Refusal> {
+    let address = Value::string(alloc, b"tcp://10.0.0.1:40000")?;
+    client.put(Scope::Global, key.copy()?, address)?;
+    client.commit(rt)?;
+    Ok(())
 }
 
 /// Reads so often the key of one process after the other.

@@ -11,10 +11,15 @@ const PARTICIPANTS: u32 = 32;
 const FIRST_HALF: u32 = 16;
 
 /// The tables of two nodes.
-#[derive(Drop)]
 struct Group {
     zero: Table,
     one: Table,
+}
+
+impl Drop for Group {
+    fn drop(self) {
+        let Group { zero: _, one: _ } = self;
+    }
 }
 
 /// Enters and releases so many fences one after another, and tells whether each was ready at both nodes, with nobody gone.
@@ -50,13 +55,19 @@ fn processes(alloc: Global) -> Result<Vec<Proc>, Refusal> {
 /// The table of the node of that index.
 fn table(alloc: Global, node: u32) -> Result<Table, Refusal> {
     let names: [&[u8]; 2] = [b"n0", b"n1"];
+    let homes = homes(alloc)?;
+    let mut registry = Registry::new(alloc, &names)?;
+    registry.register(Nspace::read(alloc, b"job")?, &homes)?;
+    Ok(Table::new(NodeId::new(node)?, registry))
+}
+
+/// Where the participants are at home, by rank.
+fn homes(alloc: Global) -> Result<Vec<NodeId>, Refusal> {
     let mut homes = Vec::new(alloc);
     for rank in 0..PARTICIPANTS {
         homes.push(NodeId::new(u32::from(rank >= FIRST_HALF))?)?;
     }
-    let mut registry = Registry::new(alloc, &names)?;
-    registry.register(Nspace::read(alloc, b"job")?, &homes)?;
-    Ok(Table::new(NodeId::new(node)?, registry))
+    Ok(homes)
 }
 
 /// All enter the next fence at their homes, and the headers are handed across: whether it is ready at both nodes then, with

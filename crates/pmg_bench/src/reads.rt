@@ -9,11 +9,20 @@ use std::sync::{Mutex, Wait};
 const PROCESSES: u32 = 100;
 
 /// What is read, of whom, and the pieces that say it.
-#[derive(Drop)]
 struct Asked {
     key: Key,
     procs: Vec<Proc>,
     pieces: Vec<Piece>,
+}
+
+impl Drop for Asked {
+    fn drop(self) {
+        let Asked {
+            key: _,
+            procs: _,
+            pieces: _,
+        } = self;
+    }
 }
 
 /// Reads so often from what is published, by one viewer: how many reads found the value.
@@ -81,20 +90,28 @@ fn copy_of(value: Option<&Value>) -> Result<Option<Value>, AllocError> {
 
 /// The processes of one namespace, and of each a commit of the key with a string.
 fn make_asked(alloc: Global) -> Result<Asked, Refusal> {
-    let nspace = Nspace::read(alloc, b"job")?;
-    let key = Key::read(alloc, b"addr")?;
-    let mut procs = Vec::new(alloc);
-    let mut pieces = Vec::new(alloc);
+    let mut asked = Asked {
+        key: Key::read(alloc, b"addr")?,
+        procs: Vec::new(alloc),
+        pieces: Vec::new(alloc),
+    };
     for rank in 0..PROCESSES {
-        let proc = Proc::new(nspace.copy()?, Rank::new(rank));
-        let mut entries = Vec::new(alloc);
-        entries.push(PieceEntry {
-            key: key.copy()?,
-            number: 1,
-            value: Value::string(alloc, b"tcp://10.0.0.1:40000")?,
-        })?;
-        pieces.push(Piece::new(proc.copy()?, 0, 1, entries)?)?;
-        procs.push(proc)?;
+        let proc = Proc::new(Nspace::read(alloc, b"job")?, Rank::new(rank));
+        asked.pieces.push(piece_of(alloc, &proc, &asked.key)?)?;
+        asked.procs.push(proc)?;
     }
-    Ok(Asked { key, procs, pieces })
+    Ok(asked)
+}
+
+/// A commit of the process, of the key with a string.
+fn piece_of(alloc: Global, proc: &Proc, key: &Key) -> Result<Piece, Refusal> {
+    let value = Value::string(alloc, b"tcp://10.0.0.1:40000")?;
+    let key = key.copy()?;
+    let mut entries = Vec::new(alloc);
+    entries.push(PieceEntry {
+        key,
+        number: 1,
+        value,
+    })?;
+    Piece::new(proc.copy()?, 0, 1, entries)
 }
