@@ -1,18 +1,18 @@
 -- What a command prints, once its work is done and its end is told.
 use Rattle.std.proofs.Common.{◌≡◌, ℕ, List, [], ◌++◌, inl, inr, subst, take, append-nil, arith, Ok, Err, None, Some}
-use Rattle.std.specs.Prelude.{IfErr, IfSome, IsSome}
+use Rattle.std.specs.Prelude.{IfErr, IfSome, IsSome, OnErr}
 use Rattle.std.specs.declared.option.Option.{Option}
 use Rattle.std.specs.declared.result.Result.{Result}
 use Rattle.std.specs.Io.KnownBytes.{Appends, Keeps}
 use Rattle.std.proofs.lemmas.Bool.{false≢true}
 use Rattle.std.proofs.lemmas.Grind.{common_steps}
 use Rattle.pmg_value.specs.declared.refusal.Refusal.TheVariants as refusals
-use Rattle.pmg_value.specs.Written.{AppendsFront}
+use Rattle.pmg_value.specs.Written.{AppendsFront, Writes}
 use Rattle.pmg_value.proofs.WrittenLemmas.{appends_then, front_of_all}
 use Rattle.pmg_store.specs.declared.failure.Failure.{Failure}
 use Rattle.pmg_store.specs.declared.failure.Failure.TheVariants as failures
 use Rattle.pmg_store.specs.Outcomes.{Stops, Dumps}
-use Rattle.pmg_app.specs.Output.{Output, Prints, PrintsDue, output_of, outcome_output, failure_output, failure_line}
+use Rattle.pmg_app.specs.Output.{Output, Prints, PrintsDue, output_of, outcome_output, failure_output, failure_line, status_alone}
 
 -- nothing, and then a text
 kept_appends : (old mid new : Option (List ℕ)) (a : List ℕ) → Keeps old mid → Appends mid new a → Appends old new a
@@ -97,6 +97,15 @@ pub known_runs : {D E : Type 0} (known old mid new : Option (List ℕ)) (read : 
     Prints mid new write status (outcome_output outcome) → IfSome known (λ text. PrintsDue old new read write status (output_of (due text)))
 known_runs None old mid new read write status outcome due dumps told prints = tt
 known_runs (Some text) old mid new read write status outcome due dumps told prints = runs old mid new read write status outcome (due text) dumps told prints
+
+-- a text was written, or a prefix of it, and then the command ended with this status
+pub printed_whole : {T D E : Type 0} (old mid new : Option (List ℕ)) (result : Result T D) (failed write : Option E) (due status : ℕ) (text : List ℕ) → Writes old mid result text →
+    OnErr result (IsSome failed) → (IsSome failed → IsSome write) → Prints mid new write status (status_alone due) → Prints old new write status (record { status = due; printed = text })
+printed_whole old mid new (Ok done) failed None due status text writes fails kept (is, nothing) = (is, then_nothing old mid new text nothing writes.1)
+printed_whole old mid new (Ok done) failed (Some e) due status text writes fails kept (is, front) =
+    (is, front_of_all old new text (then_nothing old mid new text (nothing_more mid new front) writes.1))
+printed_whole old mid new (Err e) failed None due status text writes fails kept prints = absurd (false≢true (kept fails))
+printed_whole old mid new (Err e) failed (Some f) due status text writes fails kept (is, front) = (is, front_then_nothing old mid new text writes.0 (nothing_more mid new front))
 
 -- a read fault was answered, and nothing written before its line
 pub tells : {E : Type 0} (old mid new : Option (List ℕ)) (write : Option E) (status : ℕ) (outcome : Result (Unit {0}) Failure) → outcome ≡ Err failures.Read → mid ≡ old →

@@ -1,5 +1,6 @@
 pub mod CommandLine
 pub mod Dump
+pub mod Job
 pub mod Merge
 pub mod Output
 pub mod Replay

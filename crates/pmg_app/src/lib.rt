@@ -2,12 +2,15 @@
 //! script or a job says. Each command of the program is a function over a reader and a writer, which answers the status.
 #![tactic(auto)]
 
-ghost use Rattle.std.specs.Prelude.{◌≡◌, ◌≢◌, ◌≤◌, ◌+◌, ◌⊎◌, ◌↔◌, ℕ, IfOk, IfSome, IsNone, IsTrue};
+ghost use Rattle.std.specs.Prelude.{◌≡◌, ◌≢◌, ◌≤◌, ◌+◌, ◌⊎◌, ◌↔◌, ℕ, IfOk, IfSome, IsNone, IsTrue, Result};
 ghost use Rattle.std.specs.IoError.{error_kind};
 ghost use Rattle.pmg_value.specs.declared.refusal.Refusal.TheVariants.{NoMemory};
+ghost use Rattle.pmg_launch.specs.declared.program.Outcome.{Outcome};
+ghost use Rattle.pmg_store.specs.declared.failure.Failure.{Failure as Failed};
 ghost use Rattle.pmg_store.specs.declared.failure.Failure.TheVariants.{Refused};
 ghost use Rattle.pmg_app.specs.CommandLine.{HasStatus};
 ghost use Rattle.pmg_app.specs.Dump.{dump_output};
+ghost use Rattle.pmg_app.specs.Job.{job_output};
 ghost use Rattle.pmg_app.specs.Merge.{merge_output};
 ghost use Rattle.pmg_app.specs.Output.{failure_output, Prints, PrintsDue, TellsReadFault};
 ghost use Rattle.pmg_app.specs.Replay.{PrintsReplies};
@@ -78,6 +81,8 @@ pub fn carry_out<T: AllocGlobal + Threads + Wait + Sync, R: Read, W: Write>(
     ensures replay { chosen ≡ Chosen.Replay → IfSome (R.remaining reader.old.reader) (λ text.
         PrintsReplies text (R.remaining reader.new.reader) (W.contents writer.old.writer) (W.contents writer.new.writer)
         reader.new.failure writer.new.failure result) }
+    ensures run { chosen ≡ Chosen.Run → (outcome : Result Outcome Failed)
+        × Prints (W.contents writer.old.writer) (W.contents writer.new.writer) writer.new.failure result (job_output outcome) }
     ensures shown { (status : ℕ) → chosen ≡ Chosen.Shown status
         → (result ≡ status) × (reader.new ≡ reader.old) × (writer.new ≡ writer.old) }
     ensures flushed { IsTrue writer.old.is_flushed → IsNone writer.new.failure
