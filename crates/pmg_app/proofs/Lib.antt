@@ -1,5 +1,0 @@
-pub mod CommandLemmas
-pub mod MergeLemmas
-pub mod TextLemmas
-pub mod RunLemmas
-pub mod ScriptLemmas

@@ -1,7 +1,1 @@
-pub mod CommandLine
-pub mod Dump
 pub mod Job
-pub mod Merge
-pub mod Output
-pub mod Replay
-pub mod Text

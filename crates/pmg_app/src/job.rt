@@ -1,30 +1,40 @@
 //! The command `run`.
-ghost use Rattle.std.specs.Prelude.{◌≡◌, ◌≤◌, ◌+◌, IsNone, IsSome, IsTrue, Ok, OnErr, Result};
+ghost use Rattle.std.specs.Prelude.{◌≡◌, ◌≤◌, ◌+◌, ◌⊎◌, Err, IfOk, IsNone, IsSome, IsTrue, Ok, OnErr, Result};
 ghost use Rattle.std.specs.List.{list_all};
 ghost use Rattle.pmg_value.specs.Written.{Writes};
 ghost use Rattle.pmg_store.specs.declared.failure.Failure.{Failure as AnyFailure};
+ghost use Rattle.pmg_store.specs.declared.failure.Failure.TheVariants as failures;
 ghost use Rattle.pmg_launch.specs.declared.program.Outcome.{Outcome as AnyOutcome};
-ghost use Rattle.pmg_app.specs.Job.{is_done, job_output, outcome_status, outcome_text, reports_text};
-ghost use Rattle.pmg_app.specs.Output.{IsStatus, Prints};
+ghost use Rattle.pmg_app.specs.Job.{IsJobStatus, audit_line, audit_output, audited_text, far_text, is_audit_fault, is_done, job_failure, job_output, outcome_status, outcome_text, reports_text};
+ghost use Rattle.pmg_commands.specs.Output.{IsStatus, Prints, TellsReadFault};
 
-use crate::reporting::{conclude, finish};
-use crate::status::{DONE, FAILED};
+use pmg_audit::Run;
+use pmg_commands::{AUDIT_FAULT, DONE, FAILED, conclude, finish};
 use pmg_job::Job;
 use pmg_launch::{Outcome, Program, Report, run};
 use pmg_store::{Failure, MOST_READS, WatchedReader, read_input};
-use pmg_value::{Refusal, WatchedWriter, WriteFault};
+use pmg_value::{NodeId, Refusal, WatchedWriter, WriteFault};
 use std::alloc::Global;
 use std::io::{Read, Write};
 use std::sync::Wait;
 use std::thread::Threads;
+use std::time::Clock;
 
-/// Reads a job as JSON to its end, runs these programs as its processes, by namespace and rank, prints their reports and then
-/// the far dump of node 0, and answers the status. Programs past the number of the processes are dropped.
+/// What came of a job, with what is printed of its run.
+#[derive(Drop)]
+struct Ran {
+    outcome: Outcome,
+    audited: Vec<u8>,
+}
+
+/// Reads a job as JSON to its end, runs these programs as its processes, by namespace and rank, prints their reports, the far dump
+/// of node 0 and `audit ok`, and answers the status. Programs past the number of the processes are dropped.
 ///
-/// Nothing is printed before the job has ended. What is printed is what `pmg_launch::run` answered, whole. Status 1 for a refused job, where a client's program answered a refusal, for a
-/// read fault and a write fault, 3 where an allocation failed. A refusal of the job and a read fault print a line; where the
-/// writer fails, nothing more is printed.
-pub fn run_job<T: Threads + Wait + Sync, R: Read, W: Write>(
+/// Nothing is printed before the job has ended and was audited. Status 1 for a refused job, where a client's program answered a
+/// refusal, for a read fault and a write fault, 3 where an allocation failed, 4 where the audit found a fault. A refusal of the job, a
+/// read fault and an audit's fault print a line, and a reader that failed is always told as a read fault; where the writer fails,
+/// nothing more is printed.
+pub fn run_job<T: Threads + Wait + Clock + Sync, R: Read, W: Write>(
     rt: &T,
     alloc: Global,
     programs: Vec<Box<dyn Program>>,
@@ -33,31 +43,38 @@ pub fn run_job<T: Threads + Wait + Sync, R: Read, W: Write>(
 ) -> u8
     ensures printed { (outcome : Result AnyOutcome AnyFailure)
         × Prints (W.contents writer.old.writer) (W.contents writer.new.writer) writer.new.failure result (job_output outcome) }
+    ensures read_fault { TellsReadFault (W.contents writer.old.writer) (W.contents writer.new.writer)
+        reader.old.failure reader.new.failure writer.new.failure result }
     ensures flushed { IsNone writer.new.failure → IsTrue writer.new.is_flushed }
     ensures few { reader.new.reads ≤ reader.old.reads + MOST_READS }
-    ensures status { IsStatus result }
+    ensures status { IsJobStatus result }
 {
     match read_and_run(rt, alloc, programs, reader) {
-        Ok(outcome) => print_outcome(writer, &outcome),
-        Err(failure) => conclude(writer, Err(failure)),
+        Ok(ran) => print_outcome(writer, &ran.outcome, &ran.audited),
+        Err(failure) => print_failure(writer, failure),
     }
 }
 
 /// Reads the job and runs it.
-fn read_and_run<T: Threads + Wait + Sync, R: Read>(
+fn read_and_run<T: Threads + Wait + Clock + Sync, R: Read>(
     rt: &T,
     alloc: Global,
     programs: Vec<Box<dyn Program>>,
     reader: &mut WatchedReader<R>,
-) -> Result<Outcome, Failure>
-    ensures { reader.new.reads ≤ reader.old.reads + MOST_READS }
+) -> Result<Ran, Failure>
+    ensures audited { IfOk result (λ ran. ran.audited.items ≡ audited_text ran.outcome.run) }
+    ensures failed { IsSome reader.new.failure → IsSome reader.old.failure ⊎ (result
+        ≡ Err failures.Read) }
+    ensures few { reader.new.reads ≤ reader.old.reads + MOST_READS }
 {
     let text = read_input(alloc, reader)?;
-    Ok(run_text(rt, alloc, programs, text)?)
+    let outcome = run_text(rt, alloc, programs, text)?;
+    let audited = audited_text(alloc, &outcome.run)?;
+    Ok(Ran { outcome, audited })
 }
 
 /// Runs the job that the text describes.
-fn run_text<T: Threads + Wait + Sync>(
+fn run_text<T: Threads + Wait + Clock + Sync>(
     rt: &T,
     alloc: Global,
     mut programs: Vec<Box<dyn Program>>,
@@ -69,28 +86,102 @@ fn run_text<T: Threads + Wait + Sync>(
     run(rt, job, programs)
 }
 
-/// Prints the reports and the dump, and answers the status.
-fn print_outcome<W: Write>(writer: &mut WatchedWriter<W>, outcome: &Outcome) -> u8
+/// The far dump of the first node, as the run leaves it.
+fn far_dump(alloc: Global, run: &Run) -> Result<Vec<u8>, Refusal>
+    ensures { IfOk result (λ text. text.items ≡ far_text run.now) }
+{
+    let mut writer = WatchedWriter::new(Vec::new(alloc));
+    if let Some(node) = run.node(NodeId::new(0)?) {
+        if node.board().far().dump(&mut writer).is_err() {
+            return Err(Refusal::NoMemory);
+        }
+    }
+    Ok(writer.into_inner())
+}
+
+/// The same, and that the run was audited.
+#[tactic(auto, unfolding(crate::specs::Job::audited_text))]
+fn audited_text(alloc: Global, run: &Run) -> Result<Vec<u8>, Refusal>
+    ensures { IfOk result (λ text. text.items ≡ audited_text run.now) }
+{
+    let mut text = far_dump(alloc, run)?;
+    text.extend_from_slice(b"audit ok\n")?;
+    Ok(text)
+}
+
+/// Prints why nothing came of a job, and answers the status.
+fn print_failure<W: Write>(writer: &mut WatchedWriter<W>, failure: Failure) -> u8
+    ensures printed { Prints (W.contents writer.old.writer) (W.contents writer.new.writer) writer.new.failure
+        result (job_failure failure) }
+    ensures flushed { IsNone writer.new.failure → IsTrue writer.new.is_flushed }
+    ensures status { IsJobStatus result }
+{
+    match failure {
+        Failure::Refused(refusal) if is_audit_fault(refusal) => print_audit_fault(writer, refusal),
+        other => conclude(writer, Err(other)),
+    }
+}
+
+/// Whether an audit finds such a fault.
+fn is_audit_fault(refusal: Refusal) -> bool
+    ensures { result ≡ is_audit_fault refusal }
+{
+    matches!(
+        refusal,
+        Refusal::Collision | Refusal::Stale | Refusal::Unordered
+    )
+}
+
+/// Prints the fault that the audit found, and answers the status.
+fn print_audit_fault<W: Write>(writer: &mut WatchedWriter<W>, refusal: Refusal) -> u8
+    ensures printed { Prints (W.contents writer.old.writer) (W.contents writer.new.writer) writer.new.failure
+        result (audit_output refusal) }
+    ensures flushed { IsNone writer.new.failure → IsTrue writer.new.is_flushed }
+    ensures status { IsJobStatus result }
+{
+    let _ = write_audit_fault(writer, refusal);
+    finish(writer, AUDIT_FAULT)
+}
+
+/// The line of a fault that the audit found.
+#[tactic(auto, using(pmg_value::proofs::WrittenLemmas::written_in_parts), unfolding(crate::specs::Job::audit_line))]
+fn write_audit_fault<W: Write>(
+    writer: &mut WatchedWriter<W>,
+    refusal: Refusal,
+) -> Result<(), WriteFault>
+    ensures text { Writes (W.contents writer.old.writer) (W.contents writer.new.writer) result (audit_line refusal) }
+    ensures failed { OnErr result (IsSome writer.new.failure) }
+{
+    writer.put_text(b"audit fault ")?;
+    refusal.write_text(writer)?;
+    writer.put_text(b"\n")
+}
+
+/// Prints the reports, and after them this, which is told of the run, and answers the status.
+fn print_outcome<W: Write>(writer: &mut WatchedWriter<W>, outcome: &Outcome, audited: &[u8]) -> u8
+    requires { audited.now ≡ audited_text outcome.now.run }
     ensures printed { Prints (W.contents writer.old.writer) (W.contents writer.new.writer) writer.new.failure
         result (job_output (Ok outcome.now)) }
     ensures flushed { IsNone writer.new.failure → IsTrue writer.new.is_flushed }
-    ensures status { IsStatus result }
+    ensures status { IsJobStatus result }
 {
-    let _ = write_outcome(writer, outcome);
+    let _ = write_outcome(writer, outcome, audited);
     finish(writer, status_of(outcome))
 }
 
-/// The reports, and after them the dump.
+/// The reports, and after them what is told of the run.
 #[tactic(auto, using(pmg_value::proofs::WrittenLemmas::written_in_parts), unfolding(crate::specs::Job::outcome_text))]
 fn write_outcome<W: Write>(
     writer: &mut WatchedWriter<W>,
     outcome: &Outcome,
+    audited: &[u8],
 ) -> Result<(), WriteFault>
+    requires { audited.now ≡ audited_text outcome.now.run }
     ensures text { Writes (W.contents writer.old.writer) (W.contents writer.new.writer) result (outcome_text outcome.now) }
     ensures failed { OnErr result (IsSome writer.new.failure) }
 {
     write_reports(writer, &outcome.reports)?;
-    writer.put_text(&outcome.dump)
+    writer.put_text(audited)
 }
 
 /// The reports, in their order.

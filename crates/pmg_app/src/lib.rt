@@ -8,45 +8,36 @@ ghost use Rattle.pmg_value.specs.declared.refusal.Refusal.TheVariants.{NoMemory}
 ghost use Rattle.pmg_launch.specs.declared.program.Outcome.{Outcome};
 ghost use Rattle.pmg_store.specs.declared.failure.Failure.{Failure as Failed};
 ghost use Rattle.pmg_store.specs.declared.failure.Failure.TheVariants.{Refused};
-ghost use Rattle.pmg_app.specs.CommandLine.{HasStatus};
-ghost use Rattle.pmg_app.specs.Dump.{dump_output};
+ghost use Rattle.pmg_commands.specs.CommandLine.{HasStatus};
+ghost use Rattle.pmg_commands.specs.Dump.{dump_output};
 ghost use Rattle.pmg_app.specs.Job.{job_output};
-ghost use Rattle.pmg_app.specs.Merge.{merge_output};
-ghost use Rattle.pmg_app.specs.Output.{failure_output, Prints, PrintsDue, TellsReadFault};
-ghost use Rattle.pmg_app.specs.Replay.{PrintsReplies};
+ghost use Rattle.pmg_commands.specs.Merge.{merge_output};
+ghost use Rattle.pmg_commands.specs.Output.{failure_output, Prints, PrintsDue, TellsReadFault};
+ghost use Rattle.pmg_commands.specs.Replay.{PrintsReplies};
 
-mod command;
-mod dump;
 mod job;
-mod merge;
-mod replay;
-mod reporting;
-mod status;
-mod text;
 
-pub use command::{Chosen, choose, read_command_line};
-pub use dump::run_dump;
 pub use job::run_job;
-pub use merge::run_merge;
+use pmg_commands::{
+    Chosen, FAILED, USAGE_FAULT, conclude, read_command_line, run_dump, run_merge, run_replay,
+};
 use pmg_launch::Program;
 use pmg_store::{Failure, MOST_READS, WatchedReader};
 use pmg_value::{Refusal, WatchedWriter};
-pub use replay::run_replay;
-use reporting::conclude;
-pub use status::{DONE, FAILED, NO_MEMORY, USAGE_FAULT};
 use std::io;
 use std::io::{BufReader, BufWriter, ErrorKind, Read, Write};
 use std::rt::Env;
 use std::sync::Wait;
 use std::thread::Threads;
+use std::time::Clock;
 
 /// Carries out what the command line asks for, from standard input to standard output. Why one of them failed is told
 /// on standard error. The processes of a job run these programs.
 pub fn run(
-    rt: &(impl Env + Input + Print + Eprint + AllocGlobal + Threads + Wait + Sync),
+    rt: &(impl Env + Input + Print + Eprint + AllocGlobal + Threads + Wait + Clock + Sync),
     programs: Vec<Box<dyn Program>>,
 ) -> io::Result<u8>
-    ensures { IfOk result (λ status. status ≤ 3) }
+    ensures { IfOk result (λ status. status ≤ 4) }
 {
     let chosen = read_command_line(rt)?;
     let mut reader = WatchedReader::new(BufReader::new(rt.alloc(), rt.reader())?);
@@ -62,7 +53,7 @@ pub fn run(
 }
 
 /// Carries out what was chosen, and answers the status. A job's processes run these programs.
-pub fn carry_out<T: AllocGlobal + Threads + Wait + Sync, R: Read, W: Write>(
+pub fn carry_out<T: AllocGlobal + Threads + Wait + Clock + Sync, R: Read, W: Write>(
     rt: &T,
     chosen: Chosen,
     programs: Vec<Box<dyn Program>>,
@@ -75,12 +66,12 @@ pub fn carry_out<T: AllocGlobal + Threads + Wait + Sync, R: Read, W: Write>(
     ensures merge { chosen ≡ Chosen.Merge → IfSome (R.remaining reader.old.reader) (λ text.
         PrintsDue (W.contents writer.old.writer) (W.contents writer.new.writer) reader.new.failure writer.new.failure
         result (merge_output text)) }
-    ensures read_fault { (chosen ≡ Chosen.Dump) ⊎ (chosen ≡ Chosen.Merge)
+    ensures read_fault { (chosen ≡ Chosen.Dump) ⊎ ((chosen ≡ Chosen.Merge) ⊎ (chosen ≡ Chosen.Run))
         → TellsReadFault (W.contents writer.old.writer) (W.contents writer.new.writer) reader.old.failure reader.new.failure
         writer.new.failure result }
     ensures replay { chosen ≡ Chosen.Replay → IfSome (R.remaining reader.old.reader) (λ text.
         PrintsReplies text (R.remaining reader.new.reader) (W.contents writer.old.writer) (W.contents writer.new.writer)
-        reader.new.failure writer.new.failure result) }
+        reader.old.failure reader.new.failure writer.new.failure result) }
     ensures run { chosen ≡ Chosen.Run → (outcome : Result Outcome Failed)
         × Prints (W.contents writer.old.writer) (W.contents writer.new.writer) writer.new.failure result (job_output outcome) }
     ensures shown { (status : ℕ) → chosen ≡ Chosen.Shown status
@@ -88,7 +79,7 @@ pub fn carry_out<T: AllocGlobal + Threads + Wait + Sync, R: Read, W: Write>(
     ensures flushed { IsTrue writer.old.is_flushed → IsNone writer.new.failure
         → IsTrue writer.new.is_flushed }
     ensures few { reader.new.reads ≤ reader.old.reads + MOST_READS }
-    ensures status { HasStatus chosen → result ≤ 3 }
+    ensures status { HasStatus chosen → result ≤ 4 }
 {
     let alloc = rt.alloc();
     match chosen {

@@ -1,7 +1,8 @@
 //! What no clause says: that the word `dump` is taken, that input is read and printed, and what readers and
 //! writers that fail leave.
 use crate::running::{FailingWriter, run_failing, run_into, run_on};
-use pmg_app::{Chosen, carry_out, choose};
+use pmg_app::carry_out;
+use pmg_commands::{Chosen, choose};
 use pmg_store::WatchedReader;
 use pmg_value::WatchedWriter;
 use std::io;

@@ -1,7 +1,7 @@
 //! What streams print, from their hexadecimal text: dumps and first faults. The rows that have the name of an input in
 //! `examples/dump` are that input, and print what stands beside it.
 use crate::running::run_on;
-use pmg_app::Chosen;
+use pmg_commands::Chosen;
 
 #[test]
 fn streams_print_their_dump_or_their_first_fault(rt: HostRuntime) {

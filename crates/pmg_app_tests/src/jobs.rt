@@ -9,9 +9,10 @@ use std::process::Abort;
 use std::str;
 use std::sync::Wait;
 use std::thread::Threads;
+use std::time::Clock;
 
 // The status that `run` ends with, and what it prints, for this job and these programs.
-fn run_on<R: Threads + Wait + Sync>(
+fn run_on<R: Threads + Wait + Clock + Sync>(
     rt: &R,
     alloc: Global,
     programs: Vec<Box<dyn Program>>,
@@ -46,12 +47,12 @@ fn a_refused_job_prints_its_line(rt: HostRuntime) {
 }
 
 #[test]
-fn a_job_without_processes_prints_nothing(rt: HostRuntime) {
+fn a_job_without_processes_is_audited(rt: HostRuntime) {
     let alloc = rt.alloc();
     let job = br#"{"nodes":["n0"],"spaces":[]}"#;
     let (status, printed) = run_on(&rt, alloc, Vec::new(alloc), job);
+    assert_eq!(rt; str::from_utf8(&printed).unwrap_or("no text"), "audit ok\n");
     assert_eq!(rt; status, 0);
-    assert!(rt; printed.is_empty());
 }
 
 #[test]
@@ -66,7 +67,7 @@ fn addresses_are_exchanged(rt: HostRuntime) -> Result<(), AllocError> {
     let want =
         "client j 0 found 3 own 1\nclient j 1 found 3 own 1\nclient j 2 found 3 own 1\nclient j 3 found 3 own 1\n\
         proc j 0 level 1\n  string:6a2f30 addr\nproc j 1 level 1\n  string:6a2f31 addr\n\
-        proc j 2 level 1\n  string:6a2f32 addr\nproc j 3 level 1\n  string:6a2f33 addr\n";
+        proc j 2 level 1\n  string:6a2f32 addr\nproc j 3 level 1\n  string:6a2f33 addr\naudit ok\n";
     assert_eq!(rt; str::from_utf8(&printed).unwrap_or("no text"), want);
     assert_eq!(rt; status, 0);
     Ok(())
@@ -81,7 +82,7 @@ fn a_node_without_processes_is_told_nothing(rt: HostRuntime) -> Result<(), Alloc
         programs.push(Box::new(alloc, Exchange::new(rt, alloc))?)?;
     }
     let (status, printed) = run_on(&rt, alloc, programs, job);
-    let want = "client j 0 found 1 own 1\nclient j 1 found 1 own 1\n";
+    let want = "client j 0 found 1 own 1\nclient j 1 found 1 own 1\naudit ok\n";
     assert_eq!(rt; str::from_utf8(&printed).unwrap_or("no text"), want);
     assert_eq!(rt; status, 0);
     Ok(())
@@ -96,7 +97,7 @@ fn a_refused_client_ends_the_job_with_1(rt: HostRuntime) -> Result<(), AllocErro
     programs.push(Box::new(alloc, Exchange::new(rt, alloc))?)?;
     let (status, printed) = run_on(&rt, alloc, programs, job);
     let want = "noclient j 1 found 0 own 1\n\
-        proc j 0 level 1\n  bool:true pmix.term\nproc j 1 level 1\n  string:6a2f31 addr\n";
+        proc j 0 level 1\n  bool:true pmix.term\nproc j 1 level 1\n  string:6a2f31 addr\naudit ok\n";
     assert_eq!(rt; str::from_utf8(&printed).unwrap_or("no text"), want);
     assert_eq!(rt; status, 1);
     Ok(())

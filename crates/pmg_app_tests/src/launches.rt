@@ -1,12 +1,15 @@
 //! Jobs that are run, with reports found by hand.
-use crate::programs::{Fencing, Meeting, Refused};
+use crate::programs::{Fencing, Meeting, Refused, Reporting, number_in, push_line};
 use pmg_job::Job;
-use pmg_launch::{Exchange, Outcome, Program, run};
-use pmg_value::Refusal;
+use pmg_launch::{Exchange, Links, Outcome, Program, run, run_linked};
+use pmg_node::{Reply, Request};
+use pmg_value::{NodeId, Proc, Refusal, WatchedWriter};
+use pmg_world::{Event, Told};
 use std::alloc::{AllocError, Global};
 use std::process::Abort;
 use std::sync::Wait;
 use std::thread::Threads;
+use std::time::Clock;
 
 /// The runs of one job that are compared.
 const RUNS: u32 = 200;
@@ -15,43 +18,82 @@ const TWO_NODES: &[u8] = br#"{"nodes":["n0","n1"],"spaces":[{"name":"j","homes":
 
 const TWO_CLIENTS: &[u8] = br#"{"nodes":["n0"],"spaces":[{"name":"j","homes":[0,0]}]}"#;
 
+const ACROSS: &[u8] = br#"{"nodes":["n0","n1"],"spaces":[{"name":"j","homes":[0,1]}]}"#;
+
+const FOUR_ADDRESSES: &str =
+    "client j 0 found 3 own 1\nclient j 1 found 3 own 1\nclient j 2 found 3 own 1\nclient j 3 found 3 own 1\n\
+    proc j 0 level 1\n  string:6a2f30 addr\nproc j 1 level 1\n  string:6a2f31 addr\n\
+    proc j 2 level 1\n  string:6a2f32 addr\nproc j 3 level 1\n  string:6a2f33 addr\n";
+
 const MOST: &[u8] = br#"{"nodes":["a","b","c","d","e","f","g","h"],"spaces":[
     {"name":"k","homes":[0,1,2,3,4,5,6,7,0,1,2,3,4,5,6,7]},{"name":"j","homes":[7,7,7,6,5,4,3,2,1,0,0,0,1,2,3,4]}]}"#;
 
-// All that the clients reported, and behind it the dump.
-fn text_of(alloc: Global, outcome: &Outcome) -> Result<Vec<u8>, AllocError> {
-    let mut text = Vec::new(alloc);
+// All that the clients reported, and behind it the far dump of node 0.
+fn text_of(alloc: Global, outcome: &Outcome) -> Result<Vec<u8>, Refusal> {
+    let mut writer = WatchedWriter::new(Vec::new(alloc));
     for report in &outcome.reports {
-        text.extend_from_slice(&report.text)?;
+        let _ = writer.put_text(&report.text);
     }
-    text.extend_from_slice(&outcome.dump)?;
-    Ok(text)
+    if let Some(node) = outcome.run.node(NodeId::new(0)?) {
+        let _ = node.board().far().dump(&mut writer);
+    }
+    if writer.has_failed() {
+        return Err(Refusal::NoMemory);
+    }
+    Ok(writer.into_inner())
 }
 
-// Runs the job with these programs, and gives the text of its outcome.
-fn text_by<R: Threads + Wait + Sync>(
+// Runs the job over such links with these programs, and gives the text of its outcome.
+fn text_by<R: Threads + Wait + Clock + Sync>(
     rt: &R,
     alloc: Global,
     job: &[u8],
     programs: Vec<Box<dyn Program>>,
+    links: Links,
 ) -> Result<Vec<u8>, Refusal> {
-    let outcome = run(rt, Job::read(alloc, job)?, programs)?;
-    Ok(text_of(alloc, &outcome)?)
+    let outcome = run_linked(rt, Job::read(alloc, job)?, programs, links)?;
+    text_of(alloc, &outcome)
+}
+
+// Links over which frames are lost, sent twice and held back as often, and nodes ask again for 20 seconds.
+fn links_of(lose: u32, repeat: u32, hold: u32) -> Links {
+    Links {
+        lose,
+        repeat,
+        hold,
+        nudges: 20_000,
+    }
 }
 
 #[test]
 fn addresses_of_two_nodes(rt: HostRuntime) -> Result<(), Refusal> {
     let alloc = rt.alloc();
-    let mut programs: Vec<Box<dyn Program>> = Vec::new(alloc);
-    for _ in 0..4 {
-        programs.push(Box::new(alloc, Exchange::new(rt, alloc))?)?;
+    for links in [Links::default(), links_of(3, 4, 2)] {
+        let mut programs: Vec<Box<dyn Program>> = Vec::new(alloc);
+        for _ in 0..4 {
+            programs.push(Box::new(alloc, Exchange::new(rt, alloc))?)?;
+        }
+        let text = text_by(&rt, alloc, TWO_NODES, programs, links)?;
+        assert_eq!(rt; text.as_slice(), FOUR_ADDRESSES.as_bytes());
     }
-    let text = text_by(&rt, alloc, TWO_NODES, programs)?;
-    let wanted =
-        "client j 0 found 3 own 1\nclient j 1 found 3 own 1\nclient j 2 found 3 own 1\nclient j 3 found 3 own 1\n\
-        proc j 0 level 1\n  string:6a2f30 addr\nproc j 1 level 1\n  string:6a2f31 addr\n\
-        proc j 2 level 1\n  string:6a2f32 addr\nproc j 3 level 1\n  string:6a2f33 addr\n";
-    assert_eq!(rt; text.as_slice(), wanted.as_bytes());
+    Ok(())
+}
+
+// Whatever links lose, repeat and hold back, the clients report the same.
+#[test]
+fn bad_links_change_no_report(rt: HostRuntime) -> Result<(), Refusal> {
+    let alloc = rt.alloc();
+    for turn in 0..RUNS {
+        // of links that lose each second frame, each answer may be the one that is lost
+        let lose = [0, 3, 4, 5][turn as usize % 4];
+        let links = links_of(lose, turn / 4 % 6, turn / 24 % 6);
+        let mut programs: Vec<Box<dyn Program>> = Vec::new(alloc);
+        for _ in 0..4 {
+            programs.push(Box::new(alloc, Exchange::new(rt, alloc))?)?;
+        }
+        let text = text_by(&rt, alloc, TWO_NODES, programs, links)?;
+        assert_eq!(rt; text.as_slice(), FOUR_ADDRESSES.as_bytes());
+    }
     Ok(())
 }
 
@@ -63,7 +105,7 @@ fn a_job_has_a_program_for_each_process(rt: HostRuntime) -> Result<(), Refusal> 
         for _ in 0..count {
             programs.push(Box::new(alloc, Refused)?)?;
         }
-        let text = text_by(&rt, alloc, TWO_NODES, programs);
+        let text = text_by(&rt, alloc, TWO_NODES, programs, Links::default());
         assert_eq!(rt; text.err(), Some(Refusal::BadParam));
     }
     Ok(())
@@ -121,14 +163,14 @@ fn runs_of_the_largest_job_say_the_same(rt: HostRuntime) -> Result<(), Refusal> 
         for _ in 0..32 {
             programs.push(Box::new(alloc, Exchange::new(rt, alloc))?)?;
         }
-        let text = text_by(&rt, alloc, MOST, programs)?;
+        let text = text_by(&rt, alloc, MOST, programs, Links::default())?;
         assert_eq!(rt; text.as_slice(), wanted.as_slice());
     }
     Ok(())
 }
 
 // Runs two clients of one node with these programs, and gives what each reported and answered.
-fn run_two<R: Threads + Wait + Sync>(
+fn run_two<R: Threads + Wait + Clock + Sync>(
     rt: &R,
     alloc: Global,
     first: Box<dyn Program>,
@@ -178,5 +220,61 @@ fn who_refused_is_gone_from_the_fence(rt: HostRuntime) -> Result<(), Refusal> {
     assert_eq!(rt; second.answer, Ok(()));
     assert!(rt; first.text.as_slice() == b"no".as_slice());
     assert!(rt; second.text.as_slice() == b"0".as_slice());
+    Ok(())
+}
+
+// What a client reports of an event that it made, as `Reporting` does; none of other events.
+fn told_line(told: &Told, proc: &Proc) -> Option<(u8, u64)> {
+    match (&told.event, &told.answer) {
+        (Event::Commit(_, by), Ok(Reply::Committed(number))) if by == proc => Some((b'c', *number)),
+        (Event::Request(_, Request::Enter(by, ..)), Ok(Reply::Entered(instance))) if by == proc => {
+            Some((b'e', *instance))
+        }
+        (Event::Request(_, Request::Leave(by)), Ok(Reply::Released(instance, _))) if by == proc => {
+            Some((b'l', *instance))
+        }
+        (Event::Request(_, Request::Ask(by, ..) | Request::Take(by)), Ok(Reply::Found(value)))
+            if by == proc => { Some((b'f', number_in(value))) }
+        _ => None,
+    }
+}
+
+// What the run tells of the process, as `Reporting` reports it.
+fn told_of(alloc: Global, outcome: &Outcome, proc: &Proc) -> Result<Vec<u8>, Refusal> {
+    let mut text = Vec::new(alloc);
+    for told in outcome.run.events() {
+        if let Some((letter, number)) = told_line(told, proc) {
+            push_line(&mut text, letter, number)?;
+        }
+    }
+    Ok(text)
+}
+
+// The run that is audited is the one that the clients saw: each of its answers is one that a client reported, in its order.
+#[test]
+fn the_run_is_what_the_clients_saw(rt: HostRuntime) -> Result<(), Refusal> {
+    let alloc = rt.alloc();
+    let one = Reporting {
+        rt,
+        alloc,
+        is_first: true,
+    };
+    let two = Reporting {
+        rt,
+        alloc,
+        is_first: false,
+    };
+    let mut programs: Vec<Box<dyn Program>> = Vec::new(alloc);
+    programs.push(Box::new(alloc, one)?)?;
+    programs.push(Box::new(alloc, two)?)?;
+    let outcome = run(&rt, Job::read(alloc, ACROSS)?, programs)?;
+    let wanted: [&[u8]; 2] = [
+        b"c1\ne1\nl1\nf20\nc2\ne2\nl2\nf21\n",
+        b"c1\ne1\nl1\nf10\nc2\ne2\nl2\nf11\n",
+    ];
+    for (report, want) in outcome.reports.iter().zip(wanted) {
+        assert!(rt; report.text.as_slice() == want);
+        assert!(rt; told_of(alloc, &outcome, &report.proc)?.as_slice() == want);
+    }
     Ok(())
 }

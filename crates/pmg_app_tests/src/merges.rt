@@ -1,7 +1,7 @@
 //! What streams merged print, from their hexadecimal text: dumps and first faults, and what separates streams. The rows
 //! that have the name of an input in `examples/merge` are that input, and print what stands beside it.
 use crate::running::run_on;
-use pmg_app::Chosen;
+use pmg_commands::Chosen;
 use std::alloc::AllocError;
 
 #[test]

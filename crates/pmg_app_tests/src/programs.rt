@@ -103,3 +103,72 @@ impl<R: Wait + Send + Drop> Program for Fencing<R> {
         Ok(())
     }
 }
+
+/// A client that reports each reply of its node, as a letter and a number: the commit's number, the fence's instance as it is entered
+/// and left, and the number that it finds. Twice it puts, under another key each time, meets all, and asks for what the other put.
+#[derive(Drop)]
+pub struct Reporting<R: Wait> {
+    pub rt: R,
+    pub alloc: Global,
+    pub is_first: bool,
+}
+
+/// The letter and the number, on a line.
+pub fn push_line(out: &mut Vec<u8>, letter: u8, number: u64) -> Result<(), Refusal> {
+    out.push(letter)?;
+    push_number(out, number)?;
+    out.push(b'\n')?;
+    Ok(())
+}
+
+/// The number that the value is; 0 where it is none.
+pub fn number_in(value: &Value) -> u64 {
+    match value {
+        Value::U32(number) => u64::from(*number),
+        _ => 0,
+    }
+}
+
+// Meets all in a fence, and reports it.
+fn meet<R: Wait>(
+    rt: &R,
+    client: &mut Client<'_>,
+    procs: &[Proc],
+    out: &mut Vec<u8>,
+) -> Result<(), Refusal> {
+    push_line(out, b'e', client.enter(rt, procs, true)?)?;
+    match &client.leave(rt)? {
+        Release::Released(instance, _) => push_line(out, b'l', *instance),
+        _ => Err(Refusal::NotFound),
+    }
+}
+
+impl<R: Wait + Send + Drop> Program for Reporting<R> {
+    fn run(
+        &mut self,
+        client: &mut Client<'_>,
+        procs: &[Proc],
+        out: &mut Vec<u8>,
+    ) -> Result<(), Refusal> {
+        let (Some(first), Some(second)) = (procs.first(), procs.last()) else {
+            return Err(Refusal::BadParam);
+        };
+        let (other, own) = if self.is_first {
+            (second, 10)
+        } else {
+            (first, 20)
+        };
+        for round in 0..2 {
+            let key = Key::read(self.alloc, &[b'a' + round])?;
+            client.put(
+                Scope::Global,
+                key.copy()?,
+                Value::U32(own + u32::from(round)),
+            )?;
+            push_line(out, b'c', client.commit(&self.rt)?)?;
+            meet(&self.rt, client, procs, out)?;
+            push_line(out, b'f', number_in(&client.get(&self.rt, other, &key)?))?;
+        }
+        Ok(())
+    }
+}

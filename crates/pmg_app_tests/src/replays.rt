@@ -1,12 +1,13 @@
 //! What scripts print, and what they end with. The scripts that have the name of an input in `examples/replay` are that input,
 //! and print what stands beside it: found by hand, frame by frame.
 use crate::running::{FailingWriter, run_failing, run_into, run_on};
-use pmg_app::Chosen;
+use pmg_commands::Chosen;
 use std::alloc::{AllocError, Global};
 use std::process::Abort;
 use std::str;
 use std::sync::Wait;
 use std::thread::Threads;
+use std::time::Clock;
 
 // The lines that begin with a blank, without it, or the others.
 fn lines_of(alloc: Global, text: &str, is_reply: bool) -> Result<Vec<u8>, AllocError> {
@@ -22,7 +23,7 @@ fn lines_of(alloc: Global, text: &str, is_reply: bool) -> Result<Vec<u8>, AllocE
 }
 
 // The script prints that, and ends with that status.
-fn prints<T: Abort + AllocGlobal + Threads + Wait + Sync>(
+fn prints<T: Abort + AllocGlobal + Threads + Wait + Clock + Sync>(
     rt: &T,
     script: &[u8],
     status: u8,
@@ -34,7 +35,7 @@ fn prints<T: Abort + AllocGlobal + Threads + Wait + Sync>(
 }
 
 // Each line of a script is answered by what stands after it, a blank before each line of that; and all is done.
-fn plays<T: Abort + AllocGlobal + Threads + Wait + Sync>(
+fn plays<T: Abort + AllocGlobal + Threads + Wait + Clock + Sync>(
     rt: &T,
     transcript: &str,
 ) -> Result<(), AllocError> {

@@ -1,5 +1,6 @@
 //! Commands that are run on a text: on one that is given whole, by a reader that fails, and into a writer that fails.
-use pmg_app::{Chosen, carry_out};
+use pmg_app::carry_out;
+use pmg_commands::Chosen;
 use pmg_store::WatchedReader;
 use pmg_value::WatchedWriter;
 use std::alloc::Global;
@@ -7,6 +8,7 @@ use std::io;
 use std::io::{ErrorKind, Read, Write};
 use std::sync::Wait;
 use std::thread::Threads;
+use std::time::Clock;
 
 // Gives `text`, at most ten bytes a read, and fails at the read of number `fails_at`.
 #[derive(Drop)]
@@ -67,7 +69,7 @@ impl Write for FailingWriter {
 }
 
 /// The status that the command ends with, and what it prints, for this text on standard input.
-pub(crate) fn run_on<T: AllocGlobal + Threads + Wait + Sync>(
+pub(crate) fn run_on<T: AllocGlobal + Threads + Wait + Clock + Sync>(
     rt: &T,
     chosen: Chosen,
     text: &[u8],
@@ -79,7 +81,7 @@ pub(crate) fn run_on<T: AllocGlobal + Threads + Wait + Sync>(
 }
 
 /// The same with this writer: the status, and the writer.
-pub(crate) fn run_into<T: AllocGlobal + Threads + Wait + Sync>(
+pub(crate) fn run_into<T: AllocGlobal + Threads + Wait + Clock + Sync>(
     rt: &T,
     chosen: Chosen,
     text: &[u8],
@@ -92,7 +94,7 @@ pub(crate) fn run_into<T: AllocGlobal + Threads + Wait + Sync>(
 }
 
 /// The same with a reader that fails at the read of that number: the status, how often it was read, and what is printed.
-pub(crate) fn run_failing<T: AllocGlobal + Threads + Wait + Sync>(
+pub(crate) fn run_failing<T: AllocGlobal + Threads + Wait + Clock + Sync>(
     rt: &T,
     chosen: Chosen,
     text: &[u8],

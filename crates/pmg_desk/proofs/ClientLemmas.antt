@@ -10,12 +10,12 @@ use Rattle.pmg_node.specs.declared.act.Act.{Act as GivenAct}
 use Rattle.pmg_node.specs.declared.act.Reply.{Reply as GivenReply}
 use Rattle.pmg_publish.specs.declared.counting.Publication.{Publication}
 use Rattle.pmg_desk.specs.Answered.{SameAnswer}
-use Rattle.pmg_desk.specs.Journals.{IsEvent, happened}
+use Rattle.pmg_journal.specs.Journals.{IsEvent, happened}
 use Rattle.pmg_desk.specs.Kinds.{IsReplyTo}
-use Rattle.pmg_desk.specs.Replays.{happening}
-use Rattle.pmg_desk.specs.Transcripts.{Calling, Noted, NotesCall, noted}
+use Rattle.pmg_journal.specs.Replays.{happening}
+use Rattle.pmg_journal.specs.Transcripts.{Calling, Noted, NotesCall, noted}
 use Rattle.pmg_desk.specs.Telling.{IsToldOf}
-use Rattle.pmg_desk.specs.declared.state.Twice.{Twice}
+use Rattle.pmg_journal.specs.declared.notes.Twice.{Twice}
 
 -- a call that an allocation failed, or at a closed desk, is no event
 no_event : (e : Refusal) → (e ≡ refusals.NoMemory) ⊎ (e ≡ refusals.Closed) → IsEvent {X = GivenReply} (Err e) → ⊥

@@ -35,13 +35,13 @@ use Rattle.pmg_scope.specs.contracts.cache.Cache as Cache
 use Rattle.pmg_publish.specs.contracts.viewer.Told as Told
 use Rattle.pmg_alone.proofs.Alone.TheSendSync as Lonely
 use Rattle.counted_slot.proofs.Counted.TheSendSync as Counted
-use Rattle.pmg_desk.specs.contracts.journal.Event as Event
-use Rattle.pmg_desk.specs.contracts.journal.Journal as Journal
+use Rattle.pmg_journal.specs.contracts.journal.Event as Event
+use Rattle.pmg_journal.specs.contracts.journal.Journal as Journal
 use Rattle.pmg_desk.specs.contracts.state.State as State
 use Rattle.pmg_desk.specs.contracts.lock.Gate as Gate
 use Rattle.pmg_desk.specs.contracts.lock.Desk as Desk
-use Rattle.pmg_desk.specs.contracts.transcript.Transcript as Transcript
-use Rattle.pmg_desk.specs.contracts.notes.Notes as Notes
+use Rattle.pmg_journal.specs.contracts.transcript.Transcript as Transcript
+use Rattle.pmg_journal.specs.contracts.notes.Notes as Notes
 use Rattle.pmg_desk.specs.contracts.client.Client as Client
 
 text_send : IsSend Text.the_row
@@ -155,7 +155,7 @@ gate_send = search (proc_send, maps, owners, sendable) depth 60 fits 20000
 pub desk_sync : IsSync Desk.the_row
 desk_sync = search (registry_sync, told_sync, gate_send, state_send, Lonely.the_send, Lonely.the_sync, Counted.the_sync, owners, sendable) depth 80 fits 40000
 
-transcript_send : IsSend (Transcript.the_field).row
+pub transcript_send : IsSend (Transcript.the_field).row
 transcript_send = search (values, proc_part, key_send, value_part, request_part, reply_send, owners, sendable) depth 80 fits 40000
 
 cache_send : IsSend Cache.the_row

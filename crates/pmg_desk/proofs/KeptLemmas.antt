@@ -12,11 +12,12 @@ use Rattle.pmg_node.specs.Servers.{Server, after, reply_in}
 use Rattle.pmg_node.specs.declared.act.Act.{Act}
 use Rattle.pmg_node.specs.declared.act.Reply.{Reply}
 use Rattle.pmg_publish.specs.Publications.{Publications, Published}
-use Rattle.pmg_desk.specs.declared.journal.Journal.{Journal}
+use Rattle.pmg_journal.specs.declared.journal.Journal.{Journal}
 use Rattle.pmg_desk.specs.declared.state.Parts.{Parts}
-use Rattle.pmg_desk.specs.declared.state.Twice.{Twice}
-use Rattle.pmg_desk.specs.Journals.{IsJournal, start_of, told_in}
-use Rattle.pmg_desk.specs.Replays.{Happening, IsReplay, published_over}
+use Rattle.pmg_journal.specs.declared.notes.Twice.{Twice}
+use Rattle.pmg_journal.specs.Journals.{IsJournal, start_of, told_in}
+use Rattle.pmg_journal.specs.Replays.{Happening, IsReplay}
+use Rattle.pmg_desk.specs.Publishing.{published_over}
 use Rattle.pmg_desk.specs.States.{GoesOn, IsAt, IsKept, IsLive}
 use Rattle.pmg_desk.proofs.ReplayLemmas.{live_on, live_taken, published_on, replay_on}
 
@@ -31,7 +32,7 @@ module _ (p q : Parts) (kept : IsKept p) (at : IsAt p q) (viewers : q.viewers.it
 
   -- after one act more
   pub kept_on : (a : Act) (answer : Result Reply Refusal) → GoesOn p.node a answer (told_in p.journal) p.outbox.items p.publisher.log q.node (told_in q.journal) q.outbox.items q.publisher.log
-      → q.publisher.is_open ≡ true → IsKept q
+      → (p.publisher.is_open ≡ true → q.publisher.is_open ≡ true) → IsKept q
   kept_on a answer goes opened = by_node p.node refl goes
     where
       live_at : (s : Server) → p.node ≡ Some s → IsLive (start_of p.journal) (told_in p.journal) p.taken p.outbox.items s
@@ -51,7 +52,7 @@ module _ (p q : Parts) (kept : IsKept p) (at : IsAt p q) (viewers : q.viewers.it
                 (subst (λ (x : Server). IsLive x (told_in q.journal) q.taken q.outbox.items (after s (act_of a))) start_same
                 (subst (λ (t : ℕ). IsLive (start_of p.journal) (told_in q.journal) t q.outbox.items (after s (act_of a))) (sym at.taken)
                 (subst (λ (out : List Sent). IsLive (start_of p.journal) (told_in q.journal) p.taken out (after s (act_of a))) (sym moves.outbox) lives)));
-            open_then = λ some. opened;
+            open_then = λ some. opened (kept.open_then (subst (λ (n : Option Server). IsSome n) (sym is) refl));
             viewers = viewers_still;
           }
 
@@ -82,7 +83,7 @@ module _ (p q : Parts) (kept : IsKept p) (at : IsAt p q) (viewers : q.viewers.it
   -- after an act, whatever comes of it
   pub kept_after : (a : Act) (r : Result Twice Refusal)
       → IfOk r (λ t. GoesOn p.node a t.told (told_in p.journal) p.outbox.items p.publisher.log q.node (told_in q.journal) q.outbox.items q.publisher.log)
-      → OnOk r (q.publisher.is_open ≡ true) → OnErr r (told_in q.journal ≡ told_in p.journal) → OnErr r (q.publisher.log ≡ p.publisher.log)
+      → (p.publisher.is_open ≡ true → OnOk r (q.publisher.is_open ≡ true)) → OnErr r (told_in q.journal ≡ told_in p.journal) → OnErr r (q.publisher.log ≡ p.publisher.log)
       → (r ≡ Err refusals.NoMemory → (q.node ≡ None) ⊎ ((q.node ≡ p.node) × (q.outbox.items ≡ p.outbox.items) × (q.publisher ≡ p.publisher)))
       → (r ≡ Err refusals.Closed → (p.node ≡ None) × (q.node ≡ p.node) × (q.outbox.items ≡ p.outbox.items) × (q.publisher ≡ p.publisher))
       → IfErr r (λ e. (e ≡ refusals.NoMemory) ⊎ (e ≡ refusals.Closed)) → IsKept q

@@ -19,13 +19,13 @@ use Rattle.pmg_node.specs.declared.act.Act.{Act as GivenAct}
 use Rattle.pmg_node.specs.declared.act.Reply.{Reply as GivenReply}
 use Rattle.pmg_node.specs.declared.act.Reply.TheVariants as replies
 use Rattle.pmg_publish.specs.declared.counting.Publication.{Publication}
-use Rattle.pmg_desk.specs.Journals.{IsEvent}
+use Rattle.pmg_journal.specs.Journals.{IsEvent}
 use Rattle.pmg_desk.specs.Kinds.{IsChange, IsKind, IsReplyTo, OrRefused, Tell}
-use Rattle.pmg_desk.specs.Replays.{after_all, happening}
+use Rattle.pmg_journal.specs.Replays.{after_all, happening}
 use Rattle.pmg_desk.specs.States.{Steps}
 use Rattle.pmg_desk.specs.Telling.{IsToldOf}
 use Rattle.pmg_desk.proofs.OpenLemmas.{over_first}
-use Rattle.pmg_desk.proofs.ReplayLemmas.{last_is}
+use Rattle.pmg_journal.proofs.ReplayLemmas.{last_is}
 
 refused_kind : (a : Act) (e : Refusal) → IsKind a (Reply.refused e)
 refused_kind a e = tt

@@ -4,7 +4,6 @@ mod KeptLemmas
 mod KindLemmas
 mod TakeLemmas
 pub mod Crossing
-mod NoteLemmas
 mod OwnLemmas
 mod ReadLemmas
 mod GetLemmas

@@ -16,7 +16,7 @@ use Rattle.pmg_node.specs.Joining.{act_joins, joins, no_joins}
 use Rattle.pmg_node.specs.Servers.{IsAnswered, RepliesAct, Server, reply_in, reply_to}
 use Rattle.pmg_node.specs.declared.act.Acted.{Acted}
 use Rattle.pmg_node.specs.declared.act.Reply.{Reply as GivenReply}
-use Rattle.pmg_desk.specs.Journals.{IsEvent, is_memory}
+use Rattle.pmg_journal.specs.Journals.{IsEvent, is_memory}
 
 -- the reply is no refusal as Closed
 abbrev IsOpen : Reply → Type 0

@@ -15,8 +15,8 @@ use Rattle.pmg_rules.proofs.KeptBasics.{caller_is}
 use Rattle.pmg_node.specs.Opening.{new_server}
 use Rattle.pmg_node.specs.Servers.{Server}
 use Rattle.pmg_desk.specs.declared.state.Parts.{Parts}
-use Rattle.pmg_desk.specs.Journals.{start_of, told_in}
-use Rattle.pmg_desk.specs.Replays.{Happening, sent_over}
+use Rattle.pmg_journal.specs.Journals.{start_of, told_in}
+use Rattle.pmg_journal.specs.Replays.{Happening, sent_over}
 use Rattle.pmg_desk.specs.States.{IsKept, IsLive}
 use Rattle.pmg_desk.specs.Telling.{WasFarDump, WasSent}
 use Rattle.pmg_desk.proofs.ReadyLemmas.{id_same, jobs_same}

@@ -6,7 +6,7 @@ use Rattle.pmg_rules.specs.Kept.{IsOwn}
 use Rattle.pmg_rules.specs.declared.sent.Sent.{Sent}
 use Rattle.pmg_publish.specs.declared.counting.Publication.{Publication}
 use Rattle.pmg_desk.specs.Places.{LiesAt}
-use Rattle.pmg_desk.specs.Replays.{Happening}
+use Rattle.pmg_journal.specs.Replays.{Happening}
 use Rattle.pmg_desk.specs.States.{IsAt}
 use Rattle.pmg_desk.specs.Telling.{IsToldOf, WasFarDump, WasSent}
 use Rattle.pmg_desk.specs.declared.lock.Place.{Place}

@@ -24,12 +24,13 @@ use Rattle.pmg_node.specs.declared.leaving.Release.TheVariants as releases
 use Rattle.pmg_publish.specs.Publications.{far_of}
 use Rattle.pmg_publish.specs.declared.counting.Publication.{Publication}
 use Rattle.pmg_desk.specs.Clients.{Client, KnowsReady, Tells, proc_of}
-use Rattle.pmg_desk.specs.Journals.{IsEvent}
-use Rattle.pmg_desk.specs.Replays.{Happening, IsReplay, after_all, happening, published_by, published_over}
+use Rattle.pmg_journal.specs.Journals.{IsEvent}
+use Rattle.pmg_journal.specs.Replays.{Happening, IsReplay, after_all, happening}
+use Rattle.pmg_desk.specs.Publishing.{published_by, published_over}
 use Rattle.pmg_desk.specs.Telling.{IsToldOf, WasReady}
 use Rattle.pmg_desk.proofs.OpenLemmas.{over_first}
 use Rattle.pmg_desk.proofs.BoardLemmas.{publishes_what_is_held}
-use Rattle.pmg_desk.proofs.ReplayLemmas.{last_is}
+use Rattle.pmg_journal.proofs.ReplayLemmas.{last_is}
 use Rattle.pmg_desk.proofs.SeenLemmas.{far_longer}
 use Rattle.pmg_publish.proofs.Prefixes.{prefix_trans}
 
@@ -84,7 +85,10 @@ released_by s p n gone =
 published_first : (s : Server) (one two : List Happening) → IsPrefix (published_over s one) (published_over s (one ++ two))
 published_first s [] two = (published_over s two, refl)
 published_first s (e ∷ one) two =
-    let rest = published_first (after s e.act) one two in (rest.0, ap (λ (ps : List Publication). published_by s e.act ∷ ps) rest.1)
+    let rest = published_first (after s e.act) one two in (
+      rest.0,
+      append_assoc (published_by s e.act) (published_over (after s e.act) one) rest.0 ∙ ap (λ (ps : List Publication). published_by s e.act ++ ps) rest.1,
+    )
 
 pub jobs_same : (s : Server) (es : List Happening) → (after_all s es).jobs ≡ s.jobs
 jobs_same s [] = refl

@@ -37,8 +37,9 @@ use Rattle.pmg_node.specs.Opening.{new_server}
 use Rattle.pmg_node.specs.Servers.{Server, after, reply_in}
 use Rattle.pmg_publish.specs.Publications.{far_of}
 use Rattle.pmg_publish.specs.declared.counting.Publication.{Publication}
-use Rattle.pmg_desk.specs.Journals.{IsEvent}
-use Rattle.pmg_desk.specs.Replays.{Happening, IsReplay, after_all, happening, published_over}
+use Rattle.pmg_journal.specs.Journals.{IsEvent}
+use Rattle.pmg_journal.specs.Replays.{Happening, IsReplay, after_all, happening}
+use Rattle.pmg_desk.specs.Publishing.{published_over}
 use Rattle.pmg_desk.specs.Telling.{IsToldOf}
 use Rattle.pmg_desk.proofs.BoardLemmas.{publishes_what_is_held}
 

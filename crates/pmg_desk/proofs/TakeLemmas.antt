@@ -22,13 +22,13 @@ use Rattle.pmg_node.specs.Opening.{new_server}
 use Rattle.pmg_node.specs.Servers.{Server, after, reply_in, reply_to}
 use Rattle.pmg_node.specs.declared.act.Reply.{Reply as GivenReply}
 use Rattle.pmg_publish.specs.declared.counting.Publication.{Publication}
-use Rattle.pmg_desk.specs.Journals.{IsEvent}
+use Rattle.pmg_journal.specs.Journals.{IsEvent}
 use Rattle.pmg_desk.specs.Kinds.{OrRefused}
-use Rattle.pmg_desk.specs.Replays.{Happening, after_all, happening}
+use Rattle.pmg_journal.specs.Replays.{Happening, after_all, happening}
 use Rattle.pmg_desk.specs.Telling.{IsToldOf}
 use Rattle.pmg_desk.proofs.KindLemmas.{plain}
 use Rattle.pmg_desk.proofs.OpenLemmas.{over_first}
-use Rattle.pmg_desk.proofs.ReplayLemmas.{last_is}
+use Rattle.pmg_journal.proofs.ReplayLemmas.{last_is}
 
 -- whatever is answered has an outcome that is told
 abbrev HasOutcome : Option Standing → Type 0

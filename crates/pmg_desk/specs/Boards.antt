@@ -3,7 +3,8 @@ use Rattle.std.specs.Prelude.{◌≡◌, ℕ, List}
 use Rattle.pmg_jobinfo.specs.Jobs.{Jobs}
 use Rattle.pmg_node.specs.Opening.{new_server}
 use Rattle.pmg_publish.specs.Publications.{far_of, near_of}
-use Rattle.pmg_desk.specs.Replays.{Happening, after_all, published_over}
+use Rattle.pmg_journal.specs.Replays.{Happening, after_all}
+use Rattle.pmg_desk.specs.Publishing.{published_over}
 
 -- whatever happens at a node, what it published makes its two stores
 abbrev pub PublishesWhatIsHeld : Type 0

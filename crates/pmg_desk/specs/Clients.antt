@@ -11,10 +11,10 @@ use Rattle.pmg_rules.specs.Acts.{Act, Reply, Request}
 use Rattle.pmg_node.specs.Replies.{release_reply}
 use Rattle.pmg_node.specs.declared.leaving.Release.{Release}
 use Rattle.pmg_node.specs.declared.leaving.Release.TheVariants as releases
-use Rattle.pmg_desk.specs.Replays.{happening}
+use Rattle.pmg_journal.specs.Replays.{happening}
 use Rattle.pmg_desk.specs.Telling.{IsToldOf, WasReady}
-use Rattle.pmg_desk.specs.Transcripts.{Calling, Noted, NotesCall, cached_after, noted_in, waits_after}
-use Rattle.pmg_desk.specs.declared.transcript.Transcript.{Transcript}
+use Rattle.pmg_journal.specs.Transcripts.{Calling, Noted, NotesCall, cached_after, noted_in, waits_after}
+use Rattle.pmg_journal.specs.declared.transcript.Transcript.{Transcript}
 
 -- A client: the group and the index of its node, what its viewer knows of what is published there, and what it called.
 pub record Client : Type 0 where

@@ -1,9 +1,7 @@
-pub mod Replays
-pub mod Journals
+pub mod Publishing
 pub mod States
 pub mod Telling
 pub mod Places
-pub mod Transcripts
 pub mod Clients
 pub mod Reading
 pub mod Kinds

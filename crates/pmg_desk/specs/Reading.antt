@@ -24,7 +24,7 @@ use Rattle.pmg_node.specs.declared.parking.Asked.{Asked}
 use Rattle.pmg_node.specs.declared.parking.Asked.TheVariants as askeds
 use Rattle.pmg_node.specs.declared.taking.Taking.{Taking}
 use Rattle.pmg_desk.specs.Clients.{Client, Tells, is_waiting, proc_of, puts_of}
-use Rattle.pmg_desk.specs.Transcripts.{Calling, Noted, NotesCall, noted_in}
+use Rattle.pmg_journal.specs.Transcripts.{Calling, Noted, NotesCall, noted_in}
 
 -- the key is one of the process's own, and none of the standard's
 abbrev pub is_own : Proc → Get → Bool

@@ -9,8 +9,9 @@ use Rattle.pmg_node.specs.declared.act.Reply.{Reply}
 use Rattle.pmg_publish.specs.Publications.{Publications}
 use Rattle.pmg_publish.specs.declared.counting.Publication.{Publication}
 use Rattle.pmg_desk.specs.declared.state.Parts.{Parts}
-use Rattle.pmg_desk.specs.Journals.{IsJournal, happened, start_of, told_in}
-use Rattle.pmg_desk.specs.Replays.{Happening, after_all, published_by, published_over, sent_over}
+use Rattle.pmg_journal.specs.Journals.{IsJournal, happened, start_of, told_in}
+use Rattle.pmg_journal.specs.Replays.{Happening, after_all, sent_over}
+use Rattle.pmg_desk.specs.Publishing.{published_by, published_over}
 
 -- The node is the one that the replay leaves, and its outbox what the replay sent without the frames that were taken.
 pub record IsLive (start : Server) (es : List Happening) (taken : ℕ) (outbox : List Sent) (node : Server) : Type 0 where
@@ -51,7 +52,7 @@ pub record MovesOn (s : Server) (a : Act) (answer : Result Reply Refusal) (es : 
   pub steps : Steps s a answer node
   pub event : es' ≡ es ++ happened a answer ∷ []
   pub outbox : out' ≡ out ++ sent_by s (act_of a)
-  pub published : log' ≡ log ++ published_by s (act_of a) ∷ []
+  pub published : log' ≡ log ++ published_by s (act_of a)
 
 abbrev pub GoesOn : Option Server → Act → Result Reply Refusal → List Happening → List Sent → List Publication → Option Server → List Happening → List Sent
     → List Publication → Type 0

@@ -12,7 +12,8 @@ use Rattle.pmg_node.specs.Opening.{new_server}
 use Rattle.pmg_publish.specs.Publications.{far_of}
 use Rattle.pmg_publish.specs.declared.counting.Publication.{Publication}
 use Rattle.pmg_store.specs.Dump.{dump}
-use Rattle.pmg_desk.specs.Replays.{Happening, IsReplay, after_all, published_over, sent_over}
+use Rattle.pmg_journal.specs.Replays.{Happening, IsReplay, after_all, sent_over}
+use Rattle.pmg_desk.specs.Publishing.{published_over}
 
 -- What is known begins with what some journal of the node published, which is a replay and ends with this.
 pub record IsToldOf (jobs : Jobs) (id : ℕ) (e : Happening) (known : List Publication) : Type 0 where

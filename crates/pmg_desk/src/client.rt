@@ -13,14 +13,13 @@ ghost use Rattle.pmg_node.specs.Replies.{asked_reply, release_reply, status_in, 
 ghost use Rattle.pmg_node.specs.Servers.{reply_in};
 ghost use Rattle.pmg_desk.specs.Awaiting.{RepliesPast, RepliesThere};
 ghost use Rattle.pmg_desk.specs.Clients.{IsLater, KnowsReady, Notes as NotesOf, NotesFence, Tells, batch_of, is_waiting, proc_of, puts_of};
-ghost use Rattle.pmg_desk.specs.Journals.{IsEvent};
-ghost use Rattle.pmg_desk.specs.Transcripts.{Answers, Calling, NotesCall, calling_of, is_put, noted, noted_in, put_cause_of};
+ghost use Rattle.pmg_journal.specs.Journals.{IsEvent};
+ghost use Rattle.pmg_journal.specs.Transcripts.{Answers, Calling, NotesCall, calling_of, is_put, noted, noted_in, put_cause_of};
 
 use crate::lock::{Awaited, Desk};
-use crate::notes::Notes;
 use crate::replies::{asked_by, committed_by, ended_by, entered_by, release_by, taking_by};
-use crate::transcript::{Call, Transcript};
 use pmg_get::Mode;
+use pmg_journal::{Call, Notes, Transcript};
 use pmg_node::{Act, Asked, Release, Reply, Request, Status, Taking};
 use pmg_publish::Viewer;
 use pmg_scope::Scope;
@@ -50,7 +49,7 @@ impl<'d> Model for Client<'d> {
     ghost use Rattle.std.specs.Prelude.{◌≡◌, true};
     ghost use Rattle.pmg_jobinfo.specs.Jobs.{is_node};
     ghost use Rattle.pmg_desk.specs.Clients.{Client as ModelClient, coded_client};
-    ghost use Rattle.pmg_desk.specs.contracts.transcript.Transcript.{the_row as transcript_row};
+    ghost use Rattle.pmg_journal.specs.contracts.transcript.Transcript.{the_row as transcript_row};
     ghost use Rattle.pmg_publish.specs.contracts.viewer.Viewer.{the_row as viewer_row};
 
     ghost Value = { ModelClient };
@@ -266,6 +265,18 @@ impl<'d> Client<'d> {
         taking_by(self.request(rt, Some(Status::Parked), request))
     }
 
+    /// What it called so far, in the place of the client: it calls no more, and its process has not ended by this.
+    pub fn into_transcript(self) -> Transcript
+        ensures { result ≡ self.entry.transcript }
+    {
+        let Client {
+            desk: _,
+            viewer: _,
+            notes,
+        } = self;
+        notes.into_transcript()
+    }
+
     /// It ends (PMIx Standard 5.0, PMIx_Finalize): its transcript.
     pub fn terminate<R: Wait>(mut self, rt: &R) -> Result<Transcript, Unended<'d>>
         ensures proc { IfOk result (λ t. t.proc ≡ proc_of self.entry) }
@@ -276,14 +287,7 @@ impl<'d> Client<'d> {
     {
         let answer = self.end(rt);
         match answer {
-            Ok(_) => {
-                let Client {
-                    desk: _,
-                    viewer: _,
-                    notes,
-                } = self;
-                Ok(notes.into_transcript())
-            }
+            Ok(_) => Ok(self.into_transcript()),
             Err(refusal) => Err(Unended {
                 refusal,
                 client: self,

@@ -9,17 +9,15 @@ ghost use Rattle.pmg_node.specs.Replies.{delivery_reply};
 ghost use Rattle.pmg_node.specs.Servers.{reply_in};
 ghost use Rattle.pmg_desk.specs.Awaiting.{RepliesThere};
 ghost use Rattle.pmg_desk.specs.Clients.{proc_of};
-ghost use Rattle.pmg_desk.specs.Journals.{IsEvent, IsJournal, happened};
+ghost use Rattle.pmg_journal.specs.Journals.{IsEvent, IsJournal, happened};
 ghost use Rattle.pmg_desk.specs.Kinds.{IsChange, IsReplyTo};
 ghost use Rattle.pmg_desk.specs.Telling.{IsToldOf, WasFarDump, WasSent};
 
 use crate::client::{Client, copies_of};
-use crate::journal::Journal;
 use crate::lock::{Awaited, Desk};
 use crate::replies::{defined_by, delivery_by, nudged_by};
-use crate::state::Twice;
-use crate::transcript::Transcript;
 use pmg_frame::Frame;
+use pmg_journal::{Journal, Transcript, Twice};
 use pmg_node::{Act, Delivery, Reply, Request};
 use pmg_publish::Viewer;
 use pmg_rules::Sent;
@@ -62,6 +60,7 @@ impl Desk {
             return Err(Refusal::Closed);
         };
         let answer = held.state.act(rt, act);
+        held.wake();
         held.put_back(rt);
         answer
     }
@@ -88,6 +87,7 @@ impl Desk {
             return Err(Refusal::Closed);
         };
         let answer = held.state.act_for(rt, act, viewer);
+        held.wake();
         held.put_back(rt);
         answer
     }
@@ -158,10 +158,21 @@ impl Desk {
         }
     }
 
+    /// Whether the desk is closed: its node was given up, and every call that needs it is refused as Closed.
+    pub fn is_closed<R: Wait>(&self, rt: &R) -> bool {
+        let Some(held) = self.hold(rt, &Awaited::Nothing) else {
+            return true;
+        };
+        let closed = held.state.is_closed();
+        held.put_back(rt);
+        closed
+    }
+
     /// Closes the desk.
     pub fn close<R: Wait>(&self, rt: &R) {
         if let Some(mut held) = self.hold(rt, &Awaited::Nothing) {
             held.state.close();
+            held.wake();
             held.put_back(rt);
         }
     }

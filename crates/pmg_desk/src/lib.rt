@@ -3,16 +3,11 @@
 
 mod client;
 mod desk;
-mod journal;
 pub mod laws;
 mod lock;
-mod notes;
 mod reading;
 mod replies;
 mod state;
-mod transcript;
 
 pub use client::{Client, Unended};
-pub use journal::{Event, Journal};
 pub use lock::Desk;
-pub use transcript::{Call, Called, Transcript};

@@ -12,7 +12,7 @@ use pmg_jobinfo::Registry;
 use pmg_node::Status;
 use pmg_publish::{Told, Viewer};
 use pmg_value::{NodeId, Proc, Refusal};
-use std::collections::BTreeSet;
+use std::collections::BTreeMap;
 use std::sync::{Condvar, Mutex, MutexGuard, Wait};
 
 /// Which desk it is: its node's index, its group, and its publisher, by what that told at the start.
@@ -33,10 +33,12 @@ impl Fits for State {
 /// What only who has the lock may look at.
 #[derive(Drop)]
 struct Gate {
-    /// How often something happened; it starts again past its end.
-    turn: u64,
-    /// The processes that were given a client.
-    clients: BTreeSet<Proc>,
+    /// How often there were frames after something happened; it starts again past its end.
+    sent: u64,
+    /// How often a client that waits could go on after something happened; it starts again past its end.
+    settled: u64,
+    /// The processes that were given a client, and how each stands that waits until it stands otherwise.
+    clients: BTreeMap<Proc, Option<Status>>,
 }
 
 /// One server as threads share it: its node, its journal and the publisher of its board, under one lock. It is not dropped: end it
@@ -44,7 +46,8 @@ struct Gate {
 pub struct Desk {
     pub(crate) place: Place,
     gate: Mutex<Gate>,
-    moved: Condvar,
+    sent: Condvar,
+    settled: Condvar,
     room: Counted<Option<Alone<State>>>,
     ghost same: { room ≡ place },
 }
@@ -76,6 +79,27 @@ impl Awaited<'_> {
     }
 }
 
+/// Whether one of the clients that wait can go on.
+fn can_go_on(clients: &BTreeMap<Proc, Option<Status>>, state: &State) -> bool {
+    for (proc, past) in clients.iter() {
+        if let Some(status) = past {
+            if Awaited::Past(proc, *status).is_there(state) {
+                return true;
+            }
+        }
+    }
+    false
+}
+
+impl Gate {
+    /// The process waits until it does not stand so any more; or, with none, it waits no longer.
+    fn note_past(&mut self, proc: &Proc, past: Option<Status>) {
+        if let Some(noted) = self.clients.get_mut(proc) {
+            *noted = past;
+        }
+    }
+}
+
 /// The lock, with what lies under it. It is not dropped: end it by `put_back`.
 pub(crate) struct Held<'d> {
     desk: &'d Desk,
@@ -101,13 +125,15 @@ impl Desk {
         };
         let room = Counted::new(Some(Alone::new(state)), &place);
         let gate = Gate {
-            turn: 0,
-            clients: BTreeSet::new(alloc),
+            sent: 0,
+            settled: 0,
+            clients: BTreeMap::new(alloc),
         };
         Ok(Desk {
             place,
             gate: Mutex::new(gate),
-            moved: Condvar::new(),
+            sent: Condvar::new(),
+            settled: Condvar::new(),
             room,
         })
     }
@@ -160,10 +186,34 @@ impl Desk {
                 });
             }
             self.put_in(rt, state);
-            let turn = gate.turn;
-            gate = self.moved.wait_while(rt, gate, |gate| gate.turn == turn);
+            gate = self.sleep(rt, gate, awaited);
         }
         unreachable!()
+    }
+
+    /// Gives the lock up, and takes it again once that may be there which is waited for.
+    fn sleep<'d, R: Wait>(
+        &'d self,
+        rt: &R,
+        mut gate: MutexGuard<'d, Gate>,
+        awaited: &Awaited<'_>,
+    ) -> MutexGuard<'d, Gate> {
+        match awaited {
+            Awaited::Nothing => gate,
+            Awaited::Frames => {
+                let sent = gate.sent;
+                self.sent.wait_while(rt, gate, |gate| gate.sent == sent)
+            }
+            Awaited::Past(proc, status) => {
+                gate.note_past(proc, Some(*status));
+                let settled = gate.settled;
+                let mut gate = self
+                    .settled
+                    .wait_while(rt, gate, |gate| gate.settled == settled);
+                gate.note_past(proc, None);
+                gate
+            }
+        }
     }
 
     /// What lies in the room of a desk that nobody shares any more.
@@ -174,7 +224,8 @@ impl Desk {
         let Desk {
             place,
             gate: _,
-            moved: _,
+            sent: _,
+            settled: _,
             room,
         } = self;
         match room.into_inner() {
@@ -197,26 +248,37 @@ impl Held<'_> {
             Some(Err(refusal)) => return Err(refusal),
             None => return Err(Refusal::Closed),
         }
-        if !self.gate.clients.insert(proc)? {
+        if self.gate.clients.contains_key(&proc) {
             return Err(Refusal::Exists);
         }
+        let _ = self.gate.clients.insert(proc, None)?;
         match self.state.take_viewer() {
             Some(viewer) => Ok(viewer),
             None => Err(Refusal::Exists),
         }
     }
 
-    /// Puts the state back, and wakes who waits.
+    /// Something happened: wakes who waits for frames where there are some, and the clients that wait where one of them can go on.
+    pub(crate) fn wake(&mut self)
+        ensures state { self.new.state ≡ self.old.state }
+        ensures desk { self.new.desk.now ≡ self.old.desk.now }
+    {
+        if Awaited::Frames.is_there(&self.state) {
+            self.gate.sent = self.gate.sent.wrapping_add(1);
+            self.desk.sent.notify_all();
+        }
+        if can_go_on(&self.gate.clients, &self.state) {
+            self.gate.settled = self.gate.settled.wrapping_add(1);
+            self.desk.settled.notify_all();
+        }
+    }
+
+    /// Puts the state back, and gives the lock up.
     pub(crate) fn put_back<R: Wait>(self, rt: &R)
         requires { LiesAt self.desk.now.place self.state }
     {
-        let Held {
-            desk,
-            mut gate,
-            state,
-        } = self;
+        let Held { desk, gate, state } = self;
         desk.put_in(rt, state);
-        gate.turn = gate.turn.wrapping_add(1);
-        desk.moved.notify_all();
+        drop(gate);
     }
 }

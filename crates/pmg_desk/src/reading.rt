@@ -19,14 +19,14 @@ ghost use Rattle.pmg_get.specs.declared.view.Mode.TheVariants as modes;
 ghost use Rattle.pmg_rules.specs.Acts.{Reply as ModelReply, is_misnamed, reply_of};
 ghost use Rattle.pmg_node.specs.Replies.{taking_reply};
 ghost use Rattle.pmg_desk.specs.Clients.{IsLater, is_waiting, proc_of, puts_of};
-ghost use Rattle.pmg_desk.specs.Journals.{IsEvent};
+ghost use Rattle.pmg_journal.specs.Journals.{IsEvent};
 ghost use Rattle.pmg_desk.specs.Reading.{IsDue, IsGot, IsOwnGet, IsReadNow, NotesGet, got_as, got_in, is_own, now_cause, reserved_seen};
 
 use crate::client::Client;
 use crate::lock::Place;
-use crate::transcript::Call;
 use pmg_get::{Answer, Mode, View, resolve};
 use pmg_jobinfo::Registry;
+use pmg_journal::Call;
 use pmg_node::{Asked, Request, Taking, is_bad_target, is_registered};
 use pmg_publish::Sight;
 use pmg_value::{Key, NodeId, Proc, Refusal, Value};

@@ -13,13 +13,13 @@ ghost use Rattle.pmg_node.specs.Joining.{joins};
 ghost use Rattle.pmg_node.specs.Opening.{new_server};
 ghost use Rattle.pmg_node.specs.Replies.{status_in};
 ghost use Rattle.pmg_node.specs.Servers.{after, reply_in, reply_to, sent_by};
-ghost use Rattle.pmg_desk.specs.Journals.{IsEvent, IsJournal, happened, is_memory, start_of, told_in};
-ghost use Rattle.pmg_desk.specs.Replays.{publication_of, published_over};
+ghost use Rattle.pmg_journal.specs.Journals.{IsEvent, IsJournal, happened, is_memory, start_of, told_in};
+ghost use Rattle.pmg_desk.specs.Publishing.{published_of, published_over};
 ghost use Rattle.pmg_desk.specs.States.{GoesOn, IsAt, IsSame, Steps};
 ghost use Rattle.pmg_desk.specs.Telling.{IsToldOf, WasFarDump, WasSent};
 
-use crate::journal::{Journal, copy_of_answer};
 use pmg_jobinfo::Registry;
+use pmg_journal::{Journal, Twice, copy_of_answer};
 use pmg_node::{Act, Joined, Node, Reply, Status};
 use pmg_publish::{MAX_VIEWERS, Publisher, Told, Viewer, publisher};
 use pmg_rules::Sent;
@@ -66,15 +66,6 @@ impl Model for State {
     ghost invariant = { λ s. IsKept s.parts };
 }
 
-/// The answer to an act, for who asked and for its transcript.
-#[derive(Drop)]
-pub struct Twice {
-    /// For who asked.
-    pub told: Result<Reply, Refusal>,
-    /// For its transcript.
-    pub kept: Result<Reply, Refusal>,
-}
-
 /// What a node answers to an act, and what it joined.
 #[derive(Drop)]
 struct Done {
@@ -115,13 +106,16 @@ fn done_by(node: &mut Node, act: &Act, outbox: &mut VecDeque<Sent>) -> Result<Do
     }
 }
 
-/// Publishes what was joined.
+/// Publishes what was joined, if something was.
 fn publish<R: Wait>(publisher: &mut Publisher, rt: &R, joined: &Joined) -> Result<(), Refusal>
     ensures book { publisher.new.book ≡ publisher.old.book }
-    ensures ok { OnOk result (publisher.new.log ≡ publisher.old.log ++ publication_of (joins_in joined.now) ∷ []) }
-    ensures open { OnOk result (publisher.new.is_open ≡ true) }
+    ensures ok { OnOk result (publisher.new.log ≡ publisher.old.log ++ published_of (joins_in joined.now)) }
+    ensures open { publisher.old.is_open ≡ true → OnOk result (publisher.new.is_open ≡ true) }
     ensures err { OnErr result (publisher.new.log ≡ publisher.old.log) }
 {
+    if joined.near.is_none() && joined.far.is_none() {
+        return Ok(());
+    }
     publisher.publish(rt, joined.near.as_slice(), joined.far.as_slice())
 }
 
@@ -145,8 +139,8 @@ fn publish_done<R: Wait>(
     ensures told { IfSome result (λ r. r.1.told ≡ done.told) }
     ensures kept { IfSome result (λ r. reply_in reply_as r.1.kept ≡ reply_in reply_as done.told) }
     ensures book { publisher.new.book ≡ publisher.old.book }
-    ensures some { IsSome result → publisher.new.log ≡ publisher.old.log ++ publication_of (joins_in done.joined) ∷ [] }
-    ensures open { IsSome result → publisher.new.is_open ≡ true }
+    ensures some { IsSome result → publisher.new.log ≡ publisher.old.log ++ published_of (joins_in done.joined) }
+    ensures open { publisher.old.is_open ≡ true → IsSome result → publisher.new.is_open ≡ true }
     ensures none { IsNone result → publisher.new.log ≡ publisher.old.log }
 {
     let Done { told, joined } = done;
@@ -171,7 +165,7 @@ fn happen_in<R: Wait>(
 ) -> Result<Twice, Refusal>
     ensures ok { IfOk result (λ t. GoesOn node.old act.now t.told (told_in journal.old) outbox.old.items publisher.old.log
         node.new (told_in journal.new) outbox.new.items publisher.new.log) }
-    ensures open { OnOk result (publisher.new.is_open ≡ true) }
+    ensures open { publisher.old.is_open ≡ true → OnOk result (publisher.new.is_open ≡ true) }
     ensures kind { IfOk result (λ t. IsEvent t.told) }
     ensures copy { IfOk result (λ t. reply_in reply_as t.kept ≡ reply_in reply_as t.told) }
     ensures events { OnErr result (told_in journal.new ≡ told_in journal.old) }

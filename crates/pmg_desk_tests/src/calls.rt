@@ -1,6 +1,7 @@
 //! What clients of one thread are answered, with answers found by hand.
 use crate::group::{desk, key, number_in, process};
-use pmg_desk::{Call, Client, Desk};
+use pmg_desk::{Client, Desk};
+use pmg_journal::Call;
 use pmg_node::{Release, Reply, Request, Taking};
 use pmg_scope::Scope;
 use pmg_value::{Key, Nspace, Proc, Rank, Refusal, Value};

@@ -1,8 +1,10 @@
 //! Clients that wait in threads of their own.
-use crate::group::{desk, process};
+use crate::group::{desk, key, number_in, process};
 use pmg_desk::{Client, Desk};
-use pmg_node::Release;
-use pmg_value::Refusal;
+use pmg_journal::Journal;
+use pmg_node::{Release, Reply};
+use pmg_scope::Scope;
+use pmg_value::{Refusal, Value};
 use std::alloc::Global;
 use std::process::Abort;
 use std::sync::Wait;
@@ -48,4 +50,79 @@ fn who_waits_at_a_desk_that_is_closed_is_told_so(rt: HostRuntime) -> Result<(), 
     desk.into_journal(&rt);
     assert!(rt; answer? == Some(Refusal::Closed));
     Ok(())
+}
+
+// What a client is answered that asks for the number of process 1.
+fn get_number<R: Wait + AllocGlobal>(
+    rt: &R,
+    mut client: Client<'_>,
+) -> Result<Option<u32>, Refusal> {
+    let alloc = rt.alloc();
+    let value = client.get(rt, &process(alloc, 1)?, &key(alloc, b"a")?)?;
+    Ok(number_in(value))
+}
+
+// A client puts a number, for all, and commits it.
+fn put_number<R: Wait + AllocGlobal>(rt: &R, mut client: Client<'_>) -> Result<u64, Refusal> {
+    client.put(Scope::Global, key(rt.alloc(), b"a")?, Value::U32(7))?;
+    client.commit(rt)
+}
+
+// What the one client is answered that asks, while the other puts. Where that fails the desk is closed, so that nobody waits.
+fn get_while_put<R: Threads + Wait + AllocGlobal + Sync>(
+    rt: &R,
+    desk: &Desk,
+    asks: Client<'_>,
+    puts: Client<'_>,
+) -> Option<Result<Option<u32>, Refusal>> {
+    thread::scope(
+        thread::scope_env(),
+        rt,
+        move |scope| -> Option<Result<Option<u32>, Refusal>> {
+            let waits = scope.spawn(move || get_number(rt, asks)).ok()?;
+            if put_number(rt, puts).is_err() {
+                desk.close(rt);
+            }
+            Some(waits.join(rt))
+        },
+    )
+}
+
+// The same from new clients of the desk.
+fn ask_and_put<R: Threads + Wait + AllocGlobal + Sync>(
+    rt: &R,
+    alloc: Global,
+    desk: &Desk,
+) -> Result<Option<u32>, Refusal> {
+    let asks = desk.client(rt, &process(alloc, 0)?)?;
+    let puts = desk.client(rt, &process(alloc, 1)?)?;
+    match get_while_put(rt, desk, asks, puts) {
+        Some(answer) => answer,
+        None => Err(Refusal::NoMemory),
+    }
+}
+
+// Whether a get was parked there.
+fn has_parked(journal: &Journal) -> bool {
+    journal
+        .events
+        .iter()
+        .any(|event| matches!(event.answer, Ok(Reply::Parked)))
+}
+
+// A get that comes before the put waits, and is answered then. Which of the two threads is first is not known: in a thousand turns some
+// get waits.
+#[test]
+fn a_get_that_waits_is_answered(rt: HostRuntime) -> Result<(), Refusal> {
+    let alloc = rt.alloc();
+    for _ in 0..1000 {
+        let desk = desk(&rt, alloc, 0)?;
+        let answer = ask_and_put(&rt, alloc, &desk);
+        let journal = desk.into_journal(&rt);
+        assert!(rt; answer? == Some(7));
+        if has_parked(&journal) {
+            return Ok(());
+        }
+    }
+    Err(Refusal::NotFound)
 }

@@ -3,7 +3,9 @@ ghost use Rattle.std.specs.Prelude.{◌≡◌, ◌+◌, length, OnOk, IfOk, vec_
 
 use pmg_desk::Desk;
 use pmg_jobinfo::Registry;
+use pmg_journal::Journal;
 use pmg_value::{NodeId, Refusal};
+use std::alloc::{AllocError, Global};
 use std::sync::Wait;
 
 /// Opens the desks of the group's nodes, by index.
@@ -14,7 +16,7 @@ pub fn open_desks<R: Wait>(rt: &R, registry: &Registry) -> Result<Vec<Desk>, Ref
     match push_desks(rt, registry, &mut desks) {
         Ok(()) => Ok(desks),
         Err(refusal) => {
-            end_desks(rt, desks);
+            let _ = end_desks(rt, registry.allocator(), desks);
             Err(refusal)
         }
     }
@@ -42,10 +44,31 @@ pub fn close_desks<R: Wait>(rt: &R, desks: &[Desk]) {
     }
 }
 
-/// Ends the desks.
-pub fn end_desks<R: Wait>(rt: &R, mut desks: Vec<Desk>) {
+/// Whether one of the desks is closed.
+pub fn is_one_closed<R: Wait>(rt: &R, desks: &[Desk]) -> bool {
+    for desk in desks {
+        if desk.is_closed(rt) {
+            return true;
+        }
+    }
+    false
+}
+
+/// Ends the desks: their journals. All are ended, also where an allocation fails.
+pub fn end_desks<R: Wait>(
+    rt: &R,
+    alloc: Global,
+    mut desks: Vec<Desk>,
+) -> Result<Vec<Journal>, AllocError> {
+    let mut journals = Vec::new(alloc);
+    let mut is_short = false;
     while let Some(desk) = desks.pop() {
-        desk.into_journal(rt);
+        let journal = desk.into_journal(rt);
+        is_short = journals.push(journal).is_err() || is_short;
     }
     desks.destroy_empty();
+    if is_short {
+        return Err(AllocError);
+    }
+    Ok(journals)
 }

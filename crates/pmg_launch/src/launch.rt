@@ -1,18 +1,22 @@
 //! A job is run: its desks, the threads of its links and of its clients.
-ghost use Rattle.std.specs.Prelude.{◌≡◌, length};
+ghost use Rattle.std.specs.Prelude.{◌≡◌, length, IfOk};
+ghost use Rattle.pmg_launch.specs.Audited.{IsAudited};
 
-use crate::desks::{close_desks, end_desks, open_desks};
-use crate::links::{Link, deliver_frames, link_desks, send_frames};
-use crate::program::{Outcome, Program, Report};
+use crate::desks::{close_desks, end_desks, is_one_closed, open_desks};
+use crate::links::{Ends, Links, deliver_frames, link_desks, nudge_desk, send_frames};
+use crate::program::{Ended, Outcome, Program, Report, Reported};
 use crate::shortage::Shortage;
-use pmg_desk::{Client, Desk};
+use pmg_audit::audit;
+use pmg_desk::{Client, Desk, Unended};
 use pmg_job::Job;
 use pmg_jobinfo::Registry;
+use pmg_journal::Transcript;
 use pmg_value::{Proc, Refusal};
 use std::alloc::Global;
 use std::sync::Wait;
 use std::thread;
 use std::thread::Threads;
+use std::time::Clock;
 
 /// What the thread of one client has to do.
 #[derive(Drop)]
@@ -22,40 +26,64 @@ struct Work<'d> {
     report: Report,
 }
 
-/// Runs the job, with these programs for its processes, which rise by namespace and rank: a thread a client, and two a node for
-/// the links. Refused as BadParam where the number of programs is not that of the processes, as NoMemory where an allocation failed
-/// that a desk cannot go on without, or a thread cannot be started, and as Closed where a desk was closed for another cause before
-/// all clients had ended.
-pub fn run<R: Threads + Wait + Sync>(
+/// Runs the job, with these programs for its processes, which rise by namespace and rank, over links that lose no frame, repeat none
+/// and hold none back, as `run_linked` does.
+pub fn run<R: Threads + Wait + Clock + Sync>(
     rt: &R,
     job: Job,
     programs: Vec<Box<dyn Program>>,
-) -> Result<Outcome, Refusal> {
+) -> Result<Outcome, Refusal>
+    ensures audited { IfOk result (λ o. IsAudited o.run) }
+{
+    run_linked(rt, job, programs, Links::default())
+}
+
+/// Runs the job over such links, with these programs for its processes, which rise by namespace and rank: a thread a client, two a
+/// node for the links, and one a node that asks other nodes again, where the links say so. Once all clients have ended, the journals
+/// of the nodes and the transcripts of the clients are audited. Refused as BadParam where the number of programs is not that of the
+/// processes; as NoMemory where an allocation failed that a desk cannot go on without, or a thread cannot be started; as Closed where
+/// a desk was closed for another cause before all clients had ended; and as `pmg_audit::audit` refuses.
+pub fn run_linked<R: Threads + Wait + Clock + Sync>(
+    rt: &R,
+    job: Job,
+    programs: Vec<Box<dyn Program>>,
+    links: Links,
+) -> Result<Outcome, Refusal>
+    ensures audited { IfOk result (λ o. IsAudited o.run) }
+{
     let procs = job.procs()?;
     if programs.len() != procs.len() {
         return Err(Refusal::BadParam);
     }
     let registry = job.registry();
+    let alloc = registry.allocator();
     let desks = open_desks(rt, registry)?;
-    let outcome = run_group(rt, registry, &desks, &procs, programs);
-    end_desks(rt, desks);
-    outcome
+    let ended = run_group(rt, registry, &desks, &procs, programs, links);
+    let journals = end_desks(rt, alloc, desks);
+    let Reported {
+        reports,
+        transcripts,
+        is_cut: _,
+    } = ended?;
+    let run = audit(alloc, &journals?, &transcripts)?;
+    Ok(Outcome { reports, run })
 }
 
 /// Runs the job on its desks.
-fn run_group<R: Threads + Wait + Sync>(
+fn run_group<R: Threads + Wait + Clock + Sync>(
     rt: &R,
     registry: &Registry,
     desks: &[Desk],
     procs: &[Proc],
     programs: Vec<Box<dyn Program>>,
-) -> Result<Outcome, Refusal>
+    links: Links,
+) -> Result<Reported, Refusal>
     requires { length desks.now ≡ length registry.now.nodes }
 {
     let alloc = registry.allocator();
     let work = share_out(rt, registry, desks, procs, programs)?;
-    let links = link_desks(alloc, desks)?;
-    run_linked(rt, alloc, desks, procs, links, work)
+    let ends = link_desks(alloc, desks, links)?;
+    run_threads(rt, alloc, desks, procs, ends, links.nudges, work)
 }
 
 /// The work of each client, by process.
@@ -100,73 +128,85 @@ fn work_of<'d, R: Wait>(
 }
 
 /// Starts the threads of the links, runs the clients, and closes the desks, so that the links end.
-fn run_linked<R: Threads + Wait + Sync>(
+fn run_threads<R: Threads + Wait + Clock + Sync>(
     rt: &R,
     alloc: Global,
     desks: &[Desk],
     procs: &[Proc],
-    links: Vec<Link<'_>>,
+    ends: Vec<Ends<'_>>,
+    nudges: u32,
     work: Vec<Work<'_>>,
-) -> Result<Outcome, Refusal> {
+) -> Result<Reported, Refusal> {
     let shortage = Shortage::new();
-    let shortage = &shortage;
-    thread::scope(
+    let noted = &shortage;
+    let reported = thread::scope(
         thread::scope_env(),
         rt,
-        move |scope| -> Result<Outcome, Refusal> {
+        move |scope| -> Result<Reported, Refusal> {
             let mut all_started = true;
-            for link in links {
-                let Link { desk, to, from } = link;
+            for one in ends {
+                let Ends { desk, to, from } = one;
                 let sends = scope
-                    .spawn(move || send_frames(rt, desks, shortage, desk, &to))
+                    .spawn(move || send_frames(rt, desks, noted, desk, to))
                     .is_ok();
                 let delivers = scope
-                    .spawn(move || deliver_frames(rt, desks, shortage, desk, &from))
+                    .spawn(move || deliver_frames(rt, desks, noted, desk, &from))
                     .is_ok();
-                all_started = all_started && sends && delivers;
+                let asks = nudges == 0
+                    || scope
+                        .spawn(move || nudge_desk(rt, desks, noted, desk, nudges))
+                        .is_ok();
+                all_started = all_started && sends && delivers && asks;
             }
-            let outcome = if all_started {
-                run_clients(rt, alloc, desks, shortage, procs, work)
+            let reported = if all_started {
+                run_clients(rt, alloc, desks, procs, work)
             } else {
                 Err(Refusal::NoMemory)
             };
             close_desks(rt, desks);
-            outcome
+            reported
         },
-    )
+    )?;
+    judge(reported, shortage.is_noted(rt))
 }
 
-/// Runs the clients, a thread each, and takes the far dump of node 0.
+/// Runs the clients, a thread each, and sees whether a desk was closed meanwhile.
 fn run_clients<R: Threads + Wait + Sync>(
     rt: &R,
     alloc: Global,
     desks: &[Desk],
-    shortage: &Shortage,
     procs: &[Proc],
     work: Vec<Work<'_>>,
-) -> Result<Outcome, Refusal> {
-    let reports = reports_of(rt, alloc, desks, procs, work)?;
-    match last_dump(rt, alloc, desks) {
-        Ok(dump) => Ok(Outcome { reports, dump }),
-        Err(Refusal::Closed) if shortage.is_noted(rt) || is_short(&reports) => {
-            Err(Refusal::NoMemory)
-        }
-        Err(refusal) => Err(refusal),
-    }
+) -> Result<Reported, Refusal> {
+    let mut reported = tell_clients(rt, alloc, desks, procs, work)?;
+    reported.is_cut = is_one_closed(rt, desks);
+    Ok(reported)
 }
 
-/// The reports of the clients, once all have ended. Where a thread cannot be started every desk is closed.
-fn reports_of<R: Threads + Wait + Sync>(
+/// What was reported, where no desk was closed before all clients had ended. Else NoMemory where an allocation failed in a call of a
+/// client, or in one of the links, which is known once these have ended; and Closed where a desk was closed for another cause.
+fn judge(reported: Reported, is_noted: bool) -> Result<Reported, Refusal> {
+    if !reported.is_cut {
+        return Ok(reported);
+    }
+    if is_noted || is_short(&reported.reports) {
+        return Err(Refusal::NoMemory);
+    }
+    Err(Refusal::Closed)
+}
+
+/// What the clients report and what they called, once all have ended. Where a thread cannot be started every desk is closed.
+fn tell_clients<R: Threads + Wait + Sync>(
     rt: &R,
     alloc: Global,
     desks: &[Desk],
     procs: &[Proc],
     work: Vec<Work<'_>>,
-) -> Result<Vec<Report>, Refusal> {
+) -> Result<Reported, Refusal> {
     thread::scope(
         thread::scope_env(),
         rt,
-        move |scope| -> Result<Vec<Report>, Refusal> {
+        move |scope| -> Result<Reported, Refusal> {
             let mut threads = Vec::new(alloc);
             for one in work {
                 let Work {
@@ -186,11 +226,11 @@ fn reports_of<R: Threads + Wait + Sync>(
                     return Err(Refusal::NoMemory);
                 }
             }
-            let mut reports = Vec::new(alloc);
+            let mut reported = Reported::new(alloc);
             for thread in threads {
-                reports.push(thread.join(rt))?;
+                reported.push(thread.join(rt))?;
             }
-            Ok(reports)
+            Ok(reported)
         },
     )
 }
@@ -202,8 +242,7 @@ fn is_short(reports: &[Report]) -> bool {
         .any(|report| report.answer == Err(Refusal::NoMemory))
 }
 
-/// Runs the program of one client. Where it answers a refusal the client is terminated; and where that is refused too, every
-/// desk is closed.
+/// Runs the program of one client. Where it answers a refusal the client is terminated.
 fn run_client<R: Wait>(
     rt: &R,
     desks: &[Desk],
@@ -211,19 +250,24 @@ fn run_client<R: Wait>(
     mut program: Box<dyn Program>,
     mut client: Client<'_>,
     mut report: Report,
-) -> Report {
+) -> Ended {
     report.answer = program.run(&mut client, procs, &mut report.text);
-    if report.answer.is_err() && client.terminate(rt).is_err() {
-        close_desks(rt, desks);
-    }
-    report
+    let transcript = if report.answer.is_err() {
+        terminate(rt, desks, client)
+    } else {
+        client.into_transcript()
+    };
+    Ended { report, transcript }
 }
 
-/// The far dump of the first desk. Refused as Closed where one of the desks is closed, and as NoMemory.
-fn last_dump<R: Wait>(rt: &R, alloc: Global, desks: &[Desk]) -> Result<Vec<u8>, Refusal> {
-    let mut dump = Vec::new(alloc);
-    for desk in desks.iter().rev() {
-        dump = desk.far_dump(rt)?;
+/// Terminates the client; where that is refused, every desk is closed.
+fn terminate<R: Wait>(rt: &R, desks: &[Desk], client: Client<'_>) -> Transcript {
+    match client.terminate(rt) {
+        Ok(transcript) => transcript,
+        Err(unended) => {
+            close_desks(rt, desks);
+            let Unended { refusal: _, client } = unended;
+            client.into_transcript()
+        }
     }
-    Ok(dump)
 }

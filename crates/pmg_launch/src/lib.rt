@@ -10,5 +10,6 @@ mod program;
 mod shortage;
 
 pub use exchange::Exchange;
-pub use launch::run;
+pub use launch::{run, run_linked};
+pub use links::Links;
 pub use program::{Outcome, Program, Report};

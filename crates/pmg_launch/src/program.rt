@@ -1,7 +1,10 @@
-//! What the clients of a job run, and what they report.
+//! What the clients of a job run, and what comes of it.
 
+use pmg_audit::Run;
 use pmg_desk::Client;
+use pmg_journal::Transcript;
 use pmg_value::{Proc, Refusal};
+use std::alloc::{AllocError, Global};
 use std::marker::Send;
 
 /// What one client of a job runs.
@@ -27,11 +30,46 @@ pub struct Report {
     pub answer: Result<(), Refusal>,
 }
 
+/// What came of one client, and what it called.
+#[derive(Drop)]
+pub(crate) struct Ended {
+    pub(crate) report: Report,
+    pub(crate) transcript: Transcript,
+}
+
+/// What the clients of a job report, and what they called.
+#[derive(Drop)]
+pub(crate) struct Reported {
+    pub(crate) reports: Vec<Report>,
+    pub(crate) transcripts: Vec<Transcript>,
+    /// Whether a desk was closed before all of them had ended.
+    pub(crate) is_cut: bool,
+}
+
+impl Reported {
+    /// Nothing is reported yet.
+    pub(crate) fn new(alloc: Global) -> Reported {
+        Reported {
+            reports: Vec::new(alloc),
+            transcripts: Vec::new(alloc),
+            is_cut: false,
+        }
+    }
+
+    /// One client more has ended.
+    pub(crate) fn push(&mut self, ended: Ended) -> Result<(), AllocError> {
+        let Ended { report, transcript } = ended;
+        self.reports.push(report)?;
+        self.transcripts.push(transcript)?;
+        Ok(())
+    }
+}
+
 /// What came of a job.
 #[derive(Drop)]
 pub struct Outcome {
     /// The reports of the clients, rising by namespace and rank.
     pub reports: Vec<Report>,
-    /// The far dump of node 0, once all clients had ended.
-    pub dump: Vec<u8>,
+    /// What happened at the nodes, as one run of the model.
+    pub run: Run,
 }

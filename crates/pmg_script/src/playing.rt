@@ -1,5 +1,5 @@
 //! Doing a script line by line, each reply written before the next line is read.
-ghost use Rattle.std.specs.Prelude.{◌≡◌, ◌≤◌, ◌+◌, ℕ, Bool, false, List, Option, IfErr, IfOk, IfSome, IsSome};
+ghost use Rattle.std.specs.Prelude.{◌≡◌, ◌≤◌, ◌+◌, ◌⊎◌, ℕ, Bool, Err, false, List, Option, IfErr, IfOk, IfSome, IsSome};
 ghost use Rattle.pmg_store.specs.declared.input.TheConstants.{INPUT_LIMIT, MOST_READS};
 ghost use Rattle.pmg_store.specs.declared.failure.Failure.TheVariants as failures;
 ghost use Rattle.pmg_value.specs.declared.refusal.Refusal.TheVariants as refusals;
@@ -76,6 +76,8 @@ fn turn<P: Player, R: Read, W: Write>(
         → IsGoing P.plays P.stops P.over start text (R.remaining reader.old.reader) first (W.contents writer.old.writer) player.old offset.old
         → Turned P.plays P.stops P.over start text (R.remaining reader.new.reader) first (W.contents writer.new.writer) player.new offset.new result }
     ensures read_fault { IfErr result (λ e. e ≡ failures.Read → IsSome reader.new.failure) }
+    ensures failed { IsSome reader.new.failure → IsSome reader.old.failure ⊎ (result
+        ≡ Err failures.Read) }
     ensures write_fault { IfErr result (λ e. e ≡ failures.Write → IsSome writer.new.failure) }
 {
     line.clear();
@@ -113,6 +115,8 @@ pub fn play_script<P: Player, R: Read, W: Write>(
     ensures replayed { IfSome (R.remaining reader.old.reader) (λ text.
         Replayed P.plays P.stops P.over player.old text (R.remaining reader.new.reader) (W.contents writer.old.writer) (W.contents writer.new.writer) result) }
     ensures read_fault { IfErr result (λ e. e ≡ failures.Read → IsSome reader.new.failure) }
+    ensures failed { IsSome reader.new.failure → IsSome reader.old.failure ⊎ (result
+        ≡ Err failures.Read) }
     ensures write_fault { IfErr result (λ e. e ≡ failures.Write → IsSome writer.new.failure) }
 {
     let mut offset = 0;

@@ -1,5 +1,5 @@
 //! Reading a script line by line.
-ghost use Rattle.std.specs.Prelude.{◌≡◌, ◌+◌, ◌≤◌, [], length, IfErr, IsSome};
+ghost use Rattle.std.specs.Prelude.{◌≡◌, ◌+◌, ◌≤◌, ◌⊎◌, [], length, Err, IfErr, IsSome};
 ghost use Rattle.pmg_store.specs.declared.input.TheConstants.{INPUT_LIMIT};
 ghost use Rattle.pmg_store.specs.declared.failure.Failure.TheVariants as failures;
 ghost use Rattle.pmg_script.specs.Reading.{NextLine, CountsReads};
@@ -23,6 +23,8 @@ pub fn next_line<R: Read>(
     ensures few { CountsReads reader.old.reads reader.new.reads (length line.new.items) result }
     ensures within { start + length line.new.items ≤ INPUT_LIMIT }
     ensures read_fault { IfErr result (λ e. e ≡ failures.Read → IsSome reader.new.failure) }
+    ensures failed { IsSome reader.new.failure → IsSome reader.old.failure ⊎ (result
+        ≡ Err failures.Read) }
 {
     let mut byte = [0u8; 1];
     for _ in start..MOST_READS {

@@ -3,6 +3,8 @@
 #![tactic(auto)]
 
 #[cfg(test)]
+mod asked_again;
+#[cfg(test)]
 mod frames;
 #[cfg(test)]
 mod lanes;

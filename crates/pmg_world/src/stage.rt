@@ -1,5 +1,5 @@
 //! What does the lines of a script, from the names of the nodes on; and whole scripts.
-ghost use Rattle.std.specs.Prelude.{◌≡◌, ◌≢◌, ◌≤◌, ◌+◌, ℕ, List, Ok, Err, IfOk, IfErr, IfSome, IsSome, OnOk, OnErr};
+ghost use Rattle.std.specs.Prelude.{◌≡◌, ◌≢◌, ◌≤◌, ◌+◌, ◌⊎◌, ℕ, List, Ok, Err, IfOk, IfErr, IfSome, IsSome, OnOk, OnErr};
 ghost use Rattle.pmg_store.specs.declared.failure.Failure.TheVariants as failures;
 ghost use Rattle.pmg_store.specs.declared.input.TheConstants.{MOST_READS};
 ghost use Rattle.pmg_value.specs.declared.refusal.Refusal.TheVariants as refusals;
@@ -205,6 +205,8 @@ pub fn replay<R: Read, W: Write>(
     ensures replayed { IfSome (R.remaining reader.old.reader) (λ text.
         Replayed PlaysLine Stops is_over phases.Fresh text (R.remaining reader.new.reader) (W.contents writer.old.writer) (W.contents writer.new.writer) result) }
     ensures read_fault { IfErr result (λ e. e ≡ failures.Read → IsSome reader.new.failure) }
+    ensures failed { IsSome reader.new.failure → IsSome reader.old.failure ⊎ (result
+        ≡ Err failures.Read) }
     ensures write_fault { IfErr result (λ e. e ≡ failures.Write → IsSome writer.new.failure) }
 {
     let mut stage = Stage::new(alloc);

@@ -1,5 +1,7 @@
 //! What no clause says: that events happen where there is memory, and that a world tells them; runs
 //! whose answers were worked out by hand.
+mod asked_again;
+
 use crate::nodes::group::registry;
 use crate::nodes::text::{put_line, shown};
 use crate::nodes::words::{key, number, process, request, scope_of, value, word, words_of};

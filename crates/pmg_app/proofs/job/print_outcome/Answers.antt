@@ -1,7 +1,7 @@
 use Rattle.std.proofs.Common.{ℕ, subst}
 use Rattle.pmg_app.specs.Job.{outcome_status, outcome_text}
-use Rattle.pmg_app.specs.Output.{Prints, status_alone}
-use Rattle.pmg_app.proofs.RunLemmas.{printed_whole}
+use Rattle.pmg_commands.specs.Output.{Prints, status_alone}
+use Rattle.pmg_commands.proofs.RunLemmas.{printed_whole}
 use Rattle.pmg_app.proofs.job.print_outcome.Goals as goal
 
 pub returns-clause-printed : goal.returns-clause-printed

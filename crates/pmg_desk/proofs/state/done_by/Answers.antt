@@ -2,7 +2,7 @@ use Rattle.std.proofs.Common.{rules, ◌≡◌, false, Err}
 use Rattle.pmg_node.specs.Acting.{act_of}
 use Rattle.pmg_node.specs.Servers.{IsAnswered}
 use Rattle.pmg_node.specs.declared.act.Acted.{Acted}
-use Rattle.pmg_desk.specs.Journals.{is_memory}
+use Rattle.pmg_journal.specs.Journals.{is_memory}
 use Rattle.pmg_desk.proofs.OpenLemmas.{is_answered, event_by, due_told, refused_joins}
 use Rattle.pmg_desk.proofs.state.done_by.Goals as goal
 

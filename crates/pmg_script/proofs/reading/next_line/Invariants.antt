@@ -7,6 +7,7 @@ use Rattle.pmg_script.proofs.reading.next_line.Given as goal
 -- what was read is the line so far, which no byte ended
 abbrev pub invariant-loop : goal.invariant-loop
 invariant-loop g l = record {
+  failure : l.reader.failure ≡ l.fn.reader.failure;
   reads : l.reader.reads ≤ l.fn.reader.reads + length l.line.items;
   count : l.start + length l.line.items ≡ l.counter;
   within : l.start + length l.line.items ≤ INPUT_LIMIT;

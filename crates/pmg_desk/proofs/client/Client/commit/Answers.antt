@@ -3,7 +3,7 @@ use Rattle.pmg_rules.specs.Acts.{Act, Reply}
 use Rattle.pmg_node.specs.Acting.{reply_as}
 use Rattle.pmg_node.specs.Servers.{reply_in}
 use Rattle.pmg_desk.specs.Clients.{batch_of, proc_of}
-use Rattle.pmg_desk.specs.Replays.{happening}
+use Rattle.pmg_journal.specs.Replays.{happening}
 use Rattle.pmg_desk.specs.Telling.{IsToldOf}
 use Rattle.pmg_desk.proofs.ClientLemmas.{same_told}
 use Rattle.pmg_desk.proofs.KindLemmas.{told_kind}

@@ -1,6 +1,6 @@
 use Rattle.pmg_node.specs.Acting.{act_of, reply_as}
 use Rattle.pmg_node.specs.Servers.{reply_in}
-use Rattle.pmg_desk.specs.declared.state.Twice.{Twice}
+use Rattle.pmg_journal.specs.declared.notes.Twice.{Twice}
 use Rattle.pmg_desk.proofs.WaitLemmas.{replies_there}
 use Rattle.pmg_desk.proofs.lock.Desk.act_for.Goals as goal
 

@@ -1,6 +1,0 @@
-use Rattle.pmg_app.specs.Output.{failure_line}
-use Rattle.pmg_app.proofs.reporting.write_line.Goals as goal
-
-pub returns-in-Read-clause-text : goal.returns-in-Read-clause-text
-unfolding failure_line
-returns-in-Read-clause-text g c = rw c.in-Read.is c.put_text.ensures.text

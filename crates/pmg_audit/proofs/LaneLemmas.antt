@@ -1,0 +1,92 @@
+-- Moves of nodes in code, and lists one item further.
+use Rattle.std.proofs.Common.{◌≡◌, ◌⊎◌, ℕ, zero, suc, ◌+◌, ◌<◌, ◌≤◌, List, [], ◌∷◌, ◌++◌, length, map, get_or, take, drop, slice_index, Bool, true, false, nat_lt, ltb, ltb-true, ltb-false, Option, Some, None, slice_get, inl, inr, refl, sym, ap, subst, ◌∙◌, append_assoc, arith}
+use Rattle.std.proofs.lemmas.List.{take_all, take_more, map-append, drop_all, length-map}
+use Rattle.std.proofs.lemmas.Option.{slice_get-get_or, slice_get_past, slice_get-map, get_or_from_slice_get}
+use Rattle.pmg_value.specs.Lists.{In}
+use Rattle.pmg_runs.specs.Worlds.{nth, numbered}
+use Rattle.pmg_audit.specs.Codes.{all_of, lane_of, move_in}
+use Rattle.pmg_audit.specs.Moves.{Move}
+use Rattle.pmg_audit.specs.Orders.{list_or_none, moves_at, rests}
+use Rattle.pmg_audit.specs.declared.moves.Lane.{Lane}
+use Rattle.pmg_audit.specs.declared.moves.Move.{Move as KeptMove}
+
+-- the moves of a node in code
+pub lane_at : (lanes : List Lane) (n : ℕ) (d : Lane) → n < length lanes → moves_at (all_of lanes) n ≡ lane_of (get_or lanes n d)
+lane_at lanes n d inside =
+    ap list_or_none (slice_get-map lane_of lanes n) ∙ (λ i. list_or_none (mapped (slice_get-get_or lanes n d inside i)))
+  where
+    mapped : Option Lane → Option (List Move)
+    mapped None = None
+    mapped (Some l) = Some (lane_of l)
+
+pub lane_past : (lanes : List Lane) (n : ℕ) → length lanes ≤ n → moves_at (all_of lanes) n ≡ []
+lane_past lanes n past = ap list_or_none (slice_get_past (all_of lanes) n (subst (λ l. l ≤ n) (sym (length-map lanes lane_of)) past))
+
+-- the next one of them
+pub next_there : (l : Lane) (k : ℕ) (x : KeptMove) → slice_get l.moves.items k ≡ Some x → slice_get (lane_of l) k ≡ Some (move_in x)
+next_there l k x is = slice_get-map move_in l.moves.items k ∙ (λ i. mapped (is i))
+  where
+    mapped : Option KeptMove → Option Move
+    mapped None = None
+    mapped (Some m) = Some (move_in m)
+
+pub next_none : (l : Lane) (k : ℕ) → slice_get l.moves.items k ≡ None → slice_get (lane_of l) k ≡ None
+next_none l k is = slice_get-map move_in l.moves.items k ∙ (λ i. mapped (is i))
+  where
+    mapped : Option KeptMove → Option Move
+    mapped None = None
+    mapped (Some m) = Some (move_in m)
+
+-- what a node's next place has
+pub next_of : (lanes : List Lane) (n : ℕ) (lane : Lane) (items : List KeptMove) (k : ℕ) (x : KeptMove) → n < length lanes → items ≡ (get_or lanes n lane).moves.items
+    → true ≡ ltb k (length items) → x ≡ get_or items k x → slice_get (moves_at (all_of lanes) n) k ≡ Some (move_in x)
+next_of lanes n lane items k x inside is less there =
+    ap (λ l. slice_get l k) (lane_at lanes n lane inside)
+    ∙ next_there (get_or lanes n lane) k x (ap (λ l. slice_get l k) (sym is) ∙ slice_get-get_or items k x (ltb-true k (length items) (sym less)) ∙ ap Some (sym there))
+
+pub none_of : (lanes : List Lane) (n : ℕ) (lane : Lane) (items : List KeptMove) (k : ℕ) → n < length lanes → items ≡ (get_or lanes n lane).moves.items
+    → false ≡ ltb k (length items) → slice_get (moves_at (all_of lanes) n) k ≡ None
+none_of lanes n lane items k inside is more =
+    ap (λ l. slice_get l k) (lane_at lanes n lane inside)
+    ∙ next_none (get_or lanes n lane) k (ap (λ l. slice_get l k) (sym is) ∙ slice_get_past items k (ltb-false k (length items) (sym more)))
+
+-- ---- frames by their numbers
+
+pub numbered_at : {A : Type 0} (xs : List A) (k : ℕ) (x d : A) → k < length xs → get_or xs k d ≡ x → numbered xs (k + 1) ≡ Some x
+numbered_at xs k x d inside is = let next : k + 1 ≡ suc k = omega arith in ap (numbered xs) next ∙ there xs k inside ∙ ap Some is
+  where
+    there : (ys : List _) (k : ℕ) → k < length ys → nth ys k ≡ Some (get_or ys k d)
+    there ys k inside = slice_get-get_or ys k d inside
+
+not_in_push : {A : Type 0} (xs : List A) (x y : A) → (In y xs → ⊥) → (y ≡ x → ⊥) → In y (xs ++ x ∷ []) → ⊥
+not_in_push [] x y none other i = elim i [ inl same ↦ other same | inr later ↦ absurd later ]
+not_in_push (z ∷ xs) x y none other i = elim i [ inl same ↦ none (inl same) | inr later ↦ not_in_push xs x y (λ j. none (inr j)) other later ]
+
+pub not_in_more : {A : Type 0} (xs : List A) (k : ℕ) (d y : A) → k < length xs → (In y (take k xs) → ⊥) → (get_or xs k d ≡ y → ⊥) → In y (take (k + 1) xs) → ⊥
+not_in_more xs k d y inside none other i =
+    not_in_push (take k xs) (get_or xs k d) y none (λ same. other (sym same)) (subst (In y) (take_more xs k d inside) i)
+
+pub not_in_all : {A : Type 0} (xs : List A) (k : ℕ) (y : A) → length xs ≤ k → (In y (take k xs) → ⊥) → In y xs → ⊥
+not_in_all xs k y past none i = none (subst (In y) (sym (take_all k xs past)) i)
+
+-- what comes of the items of a list, one item further
+pub map_more : {A B : Type 0} (f : A → B) (before now : List B) (xs : List A) (k : ℕ) (d : A) → k < length xs → now ≡ before ++ map f (take k xs) → now ++ f (get_or xs k d) ∷ [] ≡ before ++ map f (take (k + 1) xs)
+map_more f before now xs k d inside is =
+    ap (λ l. l ++ f (get_or xs k d) ∷ []) is ∙ append_assoc before (map f (take k xs)) (f (get_or xs k d) ∷ [])
+    ∙ ap (λ l. before ++ l) (sym (map-append f (take k xs) (get_or xs k d ∷ [])) ∙ ap (map f) (sym (take_more xs k d inside)))
+
+pub in_get : {A : Type 0} (xs : List A) (k : ℕ) (x : A) → k < length xs → x ≡ get_or xs k x → In x xs
+in_get [] k x inside is = absurd (omega (arith, inside))
+in_get (y ∷ xs) zero x inside is = inl is
+in_get (y ∷ xs) (suc k) x inside is = inr (in_get xs k x (omega (arith, inside)) is)
+
+-- ---- what is left
+
+pub closed_all : (lanes : List Lane) (done : List ℕ) (k : ℕ) → length lanes ≤ k → ((n : ℕ) → n < k → length (moves_at (all_of lanes) n) ≤ slice_index done n) → (n : ℕ) → rests (all_of lanes) done n ≡ []
+closed_all lanes done k past each n = by (nat_lt n k) refl
+  where
+    by : (b : Bool) → nat_lt n k ≡ b → rests (all_of lanes) done n ≡ []
+    by true e = drop_all (slice_index done n) (moves_at (all_of lanes) n) (each n (ltb-true n k e))
+    by false e =
+        let out : k ≤ n = ltb-false n k e in
+        ap (drop (slice_index done n)) (lane_past lanes n (omega (arith, past, out))) ∙ drop_all (slice_index done n) [] (omega arith)

@@ -1,0 +1,174 @@
+-- What clients say of their events: where it stands, and with some of it told.
+use Rattle.std.proofs.Common.{◌≡◌, ℕ, zero, suc, ◌+◌, ◌-◌, ◌<◌, ◌≤◌, Bool, true, false, ◌&&◌, cond, List, [], ◌∷◌, ◌++◌, length, map, get_or, set, take, drop, Option, Some, None, is_some, IfSome, IsNone, option_to_list, inl, inr, refl, sym, ap, subst, ◌∙◌, arith}
+use Rattle.std.proofs.lemmas.Bool.{false≢true}
+use Rattle.std.proofs.lemmas.List.{drop_more, length-drop, nil_from_length, take-append-drop, take_all, take_more}
+use Rattle.pmg_value.specs.Lists.{In, Each}
+use Rattle.std.specs.Cmp.{Equal-is}
+use Rattle.pmg_value.proofs.ProcessOrder.{exact_procs}
+use Rattle.pmg_value.specs.declared.process.Proc.{Proc}
+use Rattle.pmg_scope.specs.Cached.{no_puts}
+use Rattle.pmg_fence.specs.Entering.{same_proc}
+use Rattle.pmg_fence.proofs.EntryLemmas.{proc_itself}
+use Rattle.pmg_fence.proofs.HeaderLemmas.{by_proc}
+use Rattle.pmg_journal.specs.Transcripts.{noted_in}
+use Rattle.pmg_journal.specs.declared.transcript.Transcript.{Transcript}
+use Rattle.pmg_audit.specs.Agreeing.{AreApart, said_for}
+use Rattle.pmg_audit.specs.Codes.{rest_of, said_in}
+use Rattle.pmg_audit.specs.Dues.{Due, said_by, takes_all}
+use Rattle.pmg_audit.specs.Taking.{AreSayings, IsPlace, NoneOf, Takes, procs_of}
+use Rattle.pmg_audit.specs.declared.moves.Due.{Due as KeptDue}
+use Rattle.pmg_audit.specs.declared.moves.Saying.{Saying}
+
+same_proc_is : (p q : Proc) → same_proc p q ≡ true → p ≡ q
+same_proc_is p q e = exact_procs p q ((Equal-is _).0 e)
+
+-- ---- lists
+
+pub each_push : {A : Type 0} (P : A → Type 0) (xs : List A) (x : A) → Each P xs → P x → Each P (xs ++ x ∷ [])
+each_push P [] x each last = (last, tt)
+each_push P (y ∷ xs) x each last = (each.0, each_push P xs x each.1 last)
+
+pub each_in : {A : Type 0} (P : A → Type 0) (xs : List A) (x : A) → Each P xs → In x xs → P x
+each_in P [] x each i = absurd i
+each_in P (y ∷ xs) x each i = elim i [ inl same ↦ subst P (sym same) each.0 | inr later ↦ each_in P xs x each.1 later ]
+
+pub each_head : {A : Type 0} (P : A → Type 0) (xs : List A) (x : A) (ys : List A) → Each P (xs ++ x ∷ ys) → P x
+each_head P [] x ys each = each.0
+each_head P (y ∷ xs) x ys each = each_head P xs x ys each.1
+
+-- a loop one item further, and at its end
+pub each_more : {A : Type 0} (P : A → Type 0) (xs : List A) (k : ℕ) (d : A) → k < length xs → Each P (take k xs) → P (get_or xs k d) → Each P (take (k + 1) xs)
+each_more P xs k d inside each one = subst (Each P) (sym (take_more xs k d inside)) (each_push P (take k xs) (get_or xs k d) each one)
+
+pub each_all : {A : Type 0} (P : A → Type 0) (xs : List A) (k : ℕ) → length xs ≤ k → Each P (take k xs) → Each P xs
+each_all P xs k past each = subst (Each P) (take_all k xs past) each
+
+-- ---- places
+
+pub place_here : (ss : List Saying) (p : Proc) (k : ℕ) (d : Saying) → k < length ss → NoneOf (take k ss) p → same_proc p (get_or ss k d).proc ≡ true → IsPlace ss p k
+place_here [] p k d inside none same = absurd (omega (arith, inside))
+place_here (s ∷ ss) p zero d inside none same = same
+place_here (s ∷ ss) p (suc k) d inside none same = (none.0, place_here ss p k d (omega (arith, inside)) none.1 same)
+
+pub place_inside : (ss : List Saying) (p : Proc) (k : ℕ) → IsPlace ss p k → k < length ss
+place_inside [] p k place = absurd place
+place_inside (s ∷ ss) p zero place = omega arith
+place_inside (s ∷ ss) p (suc k) place = let rest = place_inside ss p k place.1 in omega (arith, rest)
+
+pub none_rest : (ss : List Saying) (p : Proc) → NoneOf ss p → rest_of ss p ≡ []
+none_rest [] p none = refl
+none_rest (s ∷ ss) p none = ap (λ b. cond b (map said_in s.dues.items) (rest_of ss p)) none.0 ∙ none_rest ss p none.1
+
+pub empty_at : (ss : List Saying) (p : Proc) (k : ℕ) (d : Saying) → IsPlace ss p k → (get_or ss k d).dues.items ≡ [] → rest_of ss p ≡ []
+empty_at [] p k d place empty = absurd place
+empty_at (s ∷ ss) p zero d place empty = ap (λ b. cond b (map said_in s.dues.items) (rest_of ss p)) place ∙ ap (map said_in) empty
+empty_at (s ∷ ss) p (suc k) d place empty = ap (λ b. cond b (map said_in s.dues.items) (rest_of ss p)) place.0 ∙ empty_at ss p k d place.1 empty
+
+-- the first event that is said there is taken
+module _ (p : Proc) (d : KeptDue) (ds : List KeptDue) (x : Saying) where
+  here_taken : (ss : List Saying) (k : ℕ) (e : Saying) → IsPlace ss p k → x.proc ≡ (get_or ss k e).proc → (get_or ss k e).dues.items ≡ d ∷ ds → x.dues.items ≡ ds
+      → rest_of ss p ≡ said_in d ∷ rest_of (set ss k x) p
+  here_taken [] k e place same was now = absurd place
+  here_taken (s ∷ ss) zero e place same was now =
+      ap (λ b. cond b (map said_in s.dues.items) (rest_of ss p)) place ∙ ap (map said_in) (was ∙ ap (λ l. d ∷ l) (sym now))
+      ∙ ap (λ l. said_in d ∷ l) (sym (ap (λ b. cond b (map said_in x.dues.items) (rest_of ss p)) (ap (same_proc p) same ∙ place)))
+  here_taken (s ∷ ss) (suc k) e place same was now =
+      ap (λ b. cond b (map said_in s.dues.items) (rest_of ss p)) place.0 ∙ here_taken ss k e place.1 same was now
+      ∙ ap (λ l. said_in d ∷ l) (sym (ap (λ b. cond b (map said_in s.dues.items) (rest_of (set ss k x) p)) place.0))
+
+  others_stay : (q : Proc) → same_proc q p ≡ false → (ss : List Saying) (k : ℕ) (e : Saying) → IsPlace ss p k → x.proc ≡ (get_or ss k e).proc → rest_of (set ss k x) q ≡ rest_of ss q
+  others_stay q apart [] k e place same = absurd place
+  others_stay q apart (s ∷ ss) zero e place same =
+      let not : same_proc q s.proc ≡ false = ap (same_proc q) (sym (same_proc_is p s.proc place)) ∙ apart in
+      ap (λ b. cond b (map said_in x.dues.items) (rest_of ss q)) (ap (same_proc q) same ∙ not) ∙ sym (ap (λ b. cond b (map said_in s.dues.items) (rest_of ss q)) not)
+  others_stay q apart (s ∷ ss) (suc k) e place same = ap (cond (same_proc q s.proc) (map said_in s.dues.items)) (others_stay q apart ss k e place.1 same)
+
+  procs_stay : (ss : List Saying) (k : ℕ) (e : Saying) → IsPlace ss p k → x.proc ≡ (get_or ss k e).proc → procs_of (set ss k x) ≡ procs_of ss
+  procs_stay [] k e place same = absurd place
+  procs_stay (s ∷ ss) zero e place same = ap (λ r. r ∷ procs_of ss) same
+  procs_stay (s ∷ ss) (suc k) e place same = ap (λ l. s.proc ∷ l) (procs_stay ss k e place.1 same)
+
+  pub taken_at : (ss : List Saying) (k : ℕ) (e : Saying) → IsPlace ss p k → x.proc ≡ (get_or ss k e).proc → (get_or ss k e).dues.items ≡ d ∷ ds → x.dues.items ≡ ds
+      → Takes ss p (said_in d) (set ss k x)
+  taken_at ss k e place same was now = record {
+    here = here_taken ss k e place same was now;
+    others = λ q apart. others_stay q apart ss k e place same;
+    procs = procs_stay ss k e place same;
+  }
+
+-- ---- sayings and transcripts
+
+pub sayings_more : (ss : List Saying) (ts : List Transcript) (s : Saying) (t : Transcript) → AreSayings ss ts → s.proc ≡ t.proc → map said_in s.dues.items ≡ said_by t
+    → AreSayings (ss ++ s ∷ []) (ts ++ t ∷ [])
+unfolding AreSayings
+sayings_more [] [] s t are proc said = (proc, said, tt)
+sayings_more [] (u ∷ ts) s t are proc said = absurd are
+sayings_more (r ∷ ss) [] s t are proc said = absurd are
+sayings_more (r ∷ ss) (u ∷ ts) s t are proc said = (are.0, are.1, sayings_more ss ts s t are.2 proc said)
+
+pub rest_is : (ss : List Saying) (ts : List Transcript) → AreSayings ss ts → (p : Proc) → rest_of ss p ≡ said_for ts p
+unfolding AreSayings
+rest_is [] [] are p = refl
+rest_is [] (u ∷ ts) are p = absurd are
+rest_is (r ∷ ss) [] are p = absurd are
+rest_is (r ∷ ss) (u ∷ ts) are p = (λ i. cond (same_proc p (are.0 i)) (are.1 i) (rest_is ss ts are.2 p i))
+
+-- none of the transcripts is of the process, where none of the sayings is
+none_apart : (ss : List Saying) (ts : List Transcript) (p : Proc) → AreSayings ss ts → NoneOf ss p → Each (λ (u : Transcript). u.proc ≡ p → ⊥) ts
+unfolding AreSayings
+none_apart [] [] p are none = tt
+none_apart [] (u ∷ ts) p are none = absurd are
+none_apart (r ∷ ss) [] p are none = absurd are
+none_apart (r ∷ ss) (u ∷ ts) p are none =
+    (λ same. absurd (false≢true (sym none.0 ∙ ap (same_proc p) (are.0 ∙ same) ∙ proc_itself p)), none_apart ss ts p are.2 none.1)
+
+apart_push : (ts : List Transcript) (t : Transcript) → AreApart ts → Each (λ (u : Transcript). u.proc ≡ t.proc → ⊥) ts → AreApart (ts ++ t ∷ [])
+apart_push [] t apart each = (tt, tt)
+apart_push (u ∷ ts) t apart each = (each_push (λ (v : Transcript). u.proc ≡ v.proc → ⊥) ts t apart.0 each.0, apart_push ts t apart.1 each.1)
+
+pub apart_more : (ss : List Saying) (ts : List Transcript) (t : Transcript) → AreApart ts → AreSayings ss ts → NoneOf ss t.proc → AreApart (ts ++ t ∷ [])
+apart_more ss ts t apart are none = apart_push ts t apart (none_apart ss ts t.proc are none)
+
+-- a transcript of the process stands before, where a saying of it does
+pub not_apart : (ss : List Saying) (ts : List Transcript) (t : Transcript) (us : List Transcript) (k : ℕ) → AreSayings ss ts → IsPlace ss t.proc k → AreApart (ts ++ t ∷ us) → ⊥
+unfolding AreSayings
+not_apart [] ts t us k are place apart = absurd place
+not_apart (r ∷ ss) [] t us k are place apart = absurd are
+not_apart (r ∷ ss) (u ∷ ts) t us zero are place apart =
+    each_head (λ (v : Transcript). u.proc ≡ v.proc → ⊥) ts t us apart.0 (sym are.0 ∙ sym (same_proc_is t.proc r.proc place))
+not_apart (r ∷ ss) (u ∷ ts) t us (suc k) are place apart = not_apart ss ts t us k are.2 place.1 apart.1
+
+pub sayings_none : AreSayings [] []
+unfolding AreSayings
+sayings_none = tt
+
+-- a list at one of its items
+pub cut_at : {A : Type 0} (xs : List A) (k : ℕ) (x : A) → k < length xs → x ≡ get_or xs k x → xs ≡ take k xs ++ x ∷ drop (k + 1) xs
+cut_at xs k x inside is = sym (take-append-drop k xs) ∙ ap (λ l. take k xs ++ l) (drop_more xs k x inside ∙ ap (λ y. y ∷ drop (k + 1) xs) (sym is))
+
+pub some_is : {A : Type 0} {P : A → Type 0} (o : Option A) → is_some o ≡ true → IfSome o P → (x : A) × P x
+some_is None e is = absurd cc
+some_is (Some x) e is = (x, is)
+
+pub none_is : {A : Type 0} (o : Option A) → is_some o ≡ false → IsNone o
+none_is None e = refl
+none_is (Some x) e = absurd cc
+
+pub take_is : {A : Type 0} (xs : List A) (k : ℕ) (x : A) → k < length xs → x ≡ get_or xs k x → take (k + 1) xs ≡ take k xs ++ x ∷ []
+take_is xs k x inside is = take_more xs k x inside ∙ ap (λ y. take k xs ++ y ∷ []) (sym is)
+
+-- the first event that is said there is taken, if there is one
+pub popped_some : (p : Proc) (ss : List Saying) (k : ℕ) (e x : Saying) (o : Option KeptDue) → IsPlace ss p k → x.proc ≡ (get_or ss k e).proc
+    → (get_or ss k e).dues.items ≡ option_to_list o ++ x.dues.items → IfSome o (λ d. Takes ss p (said_in d) (set ss k x))
+popped_some p ss k e x None place same is = tt
+popped_some p ss k e x (Some d) place same is = taken_at p d x.dues.items x ss k e place same is refl
+
+no_items : (xs ys : List KeptDue) → xs ≡ ys → ys ≡ drop 1 xs → xs ≡ []
+no_items xs ys same rest =
+    let count : length xs ≡ length xs - 1 = ap length (same ∙ rest) ∙ length-drop 1 xs in
+    nil_from_length xs (omega (arith, count))
+
+pub popped_none : (p : Proc) (ss : List Saying) (k : ℕ) (e : Saying) (xs : List KeptDue) (o : Option KeptDue) → IsPlace ss p k → (get_or ss k e).dues.items ≡ option_to_list o ++ xs
+    → xs ≡ drop 1 (get_or ss k e).dues.items → IsNone o → rest_of ss p ≡ []
+popped_none p ss k e xs None place is rest none = empty_at ss p k e place (no_items (get_or ss k e).dues.items xs is rest)
+popped_none p ss k e xs (Some d) place is rest none = absurd cc

@@ -1,0 +1,7 @@
+use Rattle.std.proofs.Common.{◌≡◌, take}
+use Rattle.pmg_value.specs.Lists.{Each}
+use Rattle.pmg_journal.specs.declared.journal.Journal.{Journal}
+use Rattle.pmg_audit.proofs.auditing.are_of.Given as goal
+
+abbrev pub invariant-loop-journal : goal.invariant-loop-journal
+invariant-loop-journal l = Each (λ (j : Journal). j.registry ≡ l.registry) (take l.journal-index l.journals)

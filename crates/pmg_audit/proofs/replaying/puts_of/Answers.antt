@@ -1,0 +1,63 @@
+use Rattle.std.proofs.Common.{◌≡◌, ℕ, true, false, ◌==◌, List, map, Option, Some, refl, sym, subst, ◌∙◌, arith}
+use Rattle.std.proofs.lemmas.Bool.{false≢true}
+use Rattle.std.proofs.lemmas.Bool.Decides.{nat_tests}
+use Rattle.pmg_value.specs.declared.process.Proc.{Proc}
+use Rattle.pmg_jobinfo.specs.Jobs.{home_of}
+use Rattle.pmg_node.specs.Servers.{Server}
+use Rattle.pmg_journal.specs.Journals.{happening_of}
+use Rattle.pmg_journal.specs.Replays.{Happening}
+use Rattle.pmg_audit.specs.Agreeing.{IsSaidBy, MayPut}
+use Rattle.pmg_audit.specs.Codes.{put_in, rest_of, said_in}
+use Rattle.pmg_audit.specs.Replaying.{TakesPuts}
+use Rattle.pmg_audit.specs.declared.moves.Put.{Put as KeptPut}
+use Rattle.pmg_audit.proofs.ReplaySteps.{caller_takes, none_left, not_home, other_said}
+use Rattle.pmg_audit.proofs.replaying.puts_of.Goals as goal
+
+same_number : (m n : ℕ) → (m == n) ≡ true → m ≡ n
+same_number m n e = grind (arith, nat_tests)
+
+other_number : (m n : ℕ) → (m == n) ≡ false → m ≡ n → ⊥
+other_number m n e same = grind (arith, nat_tests)
+
+pub returns-then-not-is_home-clause-none : goal.returns-then-not-is_home-clause-none
+returns-then-not-is_home-clause-none c = λ _ said.
+    let s : Server = c.args.node.now in
+    let p : Proc = c.args.proc.now in
+    let e : Happening = happening_of c.args.event.now in
+    let far : (home_of s.jobs p == s.id) ≡ false = (λ i. home_of (sym c.registry.ensures i) p == sym c.id.ensures.value i) ∙ sym c.is_home.ensures ∙ c.if-not-is_home.true in
+    not_home s (rest_of c.args.sayings.now) p e (other_number (home_of s.jobs p) s.id far) (subst (λ (o : Option Proc). IsSaidBy s (rest_of c.args.sayings.now) o e) c.requires said)
+
+pub returns-in_default-clause-none : goal.returns-in_default-clause-none
+returns-in_default-clause-none c = λ _ said.
+    let s : Server = c.args.node.now in
+    let p : Proc = c.args.proc.now in
+    let e : Happening = happening_of c.args.event.now in
+    none_left s (rest_of c.args.sayings.now) p e (c.in_default.ensures.none refl) (subst (λ (o : Option Proc). IsSaidBy s (rest_of c.args.sayings.now) o e) c.requires said)
+
+pub returns-then-not-is_said-clause-none : goal.returns-then-not-is_said-clause-none
+returns-then-not-is_said-clause-none c = λ _ said.
+    let s : Server = c.args.node.now in
+    let p : Proc = c.args.proc.now in
+    let e : Happening = happening_of c.args.event.now in
+    other_said s (rest_of c.args.sayings.now) p e (said_in c.in-Some.due) (rest_of c.take_due.new.sayings p) c.in-Some.ensures.some.here
+    (λ same may. false≢true (sym c.if-not-is_said.true ∙ c.is_said.ensures.1 same)) (subst (λ (o : Option Proc). IsSaidBy s (rest_of c.args.sayings.now) o e) c.requires said)
+
+pub returns-then-not-may_put-clause-none : goal.returns-then-not-may_put-clause-none
+returns-then-not-may_put-clause-none c = λ _ said.
+    let s : Server = c.args.node.now in
+    let p : Proc = c.args.proc.now in
+    let e : Happening = happening_of c.args.event.now in
+    other_said s (rest_of c.args.sayings.now) p e (said_in c.in-Some.due) (rest_of c.take_due.new.sayings p) c.in-Some.ensures.some.here
+    (λ same may. false≢true (sym c.if-not-may_put.true ∙ c.may_put.ensures.1 (subst (λ (xs : List KeptPut). MayPut s p (map put_in xs)) (sym c.deref.ensures.value) may)))
+    (subst (λ (o : Option Proc). IsSaidBy s (rest_of c.args.sayings.now) o e) c.requires said)
+
+pub returns-clause-some : goal.returns-clause-some
+returns-clause-some c =
+    let s : Server = c.args.node.now in
+    let p : Proc = c.args.proc.now in
+    let e : Happening = happening_of c.args.event.now in
+    let near : (home_of s.jobs p == s.id) ≡ true = (λ i. home_of (sym c.registry.ensures i) p == sym c.id.ensures.value i) ∙ sym c.is_home.ensures ∙ c.if-not-is_home.false in
+    let may : MayPut s p (map put_in c.in-Some.due.puts.items) = subst (λ (xs : List KeptPut). MayPut s p (map put_in xs)) c.deref.ensures.value (c.may_put.ensures.0 c.if-not-may_put.false) in
+    rw c.into_puts.ensures
+    (caller_takes s c.args.sayings.now p (said_in c.in-Some.due) c.take_due.new.sayings e c.requires (same_number (home_of s.jobs p) s.id near) c.in-Some.ensures.some
+    (c.is_said.ensures.0 c.if-not-is_said.false) may)

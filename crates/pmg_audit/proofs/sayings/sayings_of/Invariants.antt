@@ -1,0 +1,16 @@
+use Rattle.std.proofs.Common.{◌≡◌, true, take}
+use Rattle.pmg_value.specs.Lists.{Each}
+use Rattle.pmg_scope.specs.Cached.{no_puts}
+use Rattle.pmg_journal.specs.Transcripts.{noted_in}
+use Rattle.pmg_journal.specs.declared.transcript.Transcript.{Transcript}
+use Rattle.pmg_audit.specs.Agreeing.{AreApart}
+use Rattle.pmg_audit.specs.Dues.{takes_all}
+use Rattle.pmg_audit.specs.Taking.{AreSayings}
+use Rattle.pmg_audit.proofs.sayings.sayings_of.Given as goal
+
+abbrev pub invariant-loop-transcript : goal.invariant-loop-transcript
+invariant-loop-transcript l = record {
+  said : AreSayings l.sayings.items (take l.transcript-index l.transcripts);
+  apart : AreApart (take l.transcript-index l.transcripts);
+  taken : Each (λ (t : Transcript). takes_all no_puts (noted_in t) ≡ true) (take l.transcript-index l.transcripts);
+}

@@ -1,0 +1,65 @@
+-- Whether what transcripts say is what journals tell.
+use Rattle.std.specs.Prelude.{◌≡◌, ◌⊎◌, ℕ, ◌<◌, true, false, List, [], ◌∷◌, ◌++◌, length, map, Option, Some, None, Ok, if◌then◌else◌}
+use Rattle.std.specs.List.{filter}
+use Rattle.pmg_value.specs.CheckOrder.{first_of}
+use Rattle.pmg_value.specs.Lists.{Each}
+use Rattle.pmg_value.specs.declared.process.Proc.{Proc}
+use Rattle.pmg_scope.specs.Cached.{no_puts}
+use Rattle.pmg_jobinfo.specs.Jobs.{Jobs, home_of}
+use Rattle.pmg_fence.specs.Entering.{same_proc}
+use Rattle.pmg_rules.specs.Acts.{Act, free_cause}
+use Rattle.pmg_node.specs.Opening.{new_server}
+use Rattle.pmg_node.specs.Servers.{Server, after}
+use Rattle.pmg_journal.specs.Replays.{Happening}
+use Rattle.pmg_journal.specs.Transcripts.{noted_in}
+use Rattle.pmg_journal.specs.declared.journal.Journal.{Journal}
+use Rattle.pmg_journal.specs.declared.transcript.Transcript.{Transcript}
+use Rattle.pmg_audit.specs.Dues.{Due, due_event, said_by, takes_all}
+use Rattle.pmg_audit.specs.Moves.{Move, Put, caller_of, is_by}
+use Rattle.pmg_audit.specs.Runs.{TellsOf, told_at}
+
+-- no two transcripts are of one process
+abbrev pub AreApart : List Transcript → Type 0
+AreApart [] = Unit {0}
+AreApart (t ∷ ts) = Each (λ (u : Transcript). t.proc ≡ u.proc → ⊥) ts × AreApart ts
+
+-- the events that the process says it made, by its transcript
+abbrev pub said_for : List Transcript → Proc → List Due
+said_for [] p = []
+said_for (t ∷ ts) p = if same_proc p t.proc then said_by t else said_for ts p
+
+-- where something was put, the process is in no call at the server, and has not ended
+abbrev pub MayPut : Server → Proc → List Put → Type 0
+MayPut s p puts = (puts ≡ []) ⊎ (first_of (free_cause s.jobs s.id s.holding p) (tt {0}) ≡ Ok tt)
+
+-- the first event that is said is this one, and what was put before it may be
+abbrev pub BeginsWith : Server → Proc → List Due → Happening → Type 0
+BeginsWith s p [] e = ⊥
+BeginsWith s p (d ∷ ds) e = (due_event d ≡ e) × MayPut s p d.puts
+
+-- who makes the event is at home at the node, and says so
+abbrev pub IsSaidBy : Server → (Proc → List Due) → Option Proc → Happening → Type 0
+IsSaidBy s rest None e = Unit {0}
+IsSaidBy s rest (Some p) e = (home_of s.jobs p ≡ s.id) × BeginsWith s p (rest p) e
+
+abbrev pub tail_of : List Due → List Due
+tail_of [] = []
+tail_of (d ∷ ds) = ds
+
+-- what is said of later events, once the process's next one is told
+abbrev pub rest_after : (Proc → List Due) → Option Proc → Proc → List Due
+rest_after rest None q = rest q
+rest_after rest (Some p) q = if same_proc q p then tail_of (rest q) else rest q
+
+-- Each event that a process makes at the node is the next one that it says it made.
+unfoldable pub AreSaid : Server → (Proc → List Due) → List Happening → Type 0
+AreSaid s rest [] = Unit {0}
+AreSaid s rest (e ∷ es) = IsSaidBy s rest (caller_of e.act) e × AreSaid (after s e.act) (rest_after rest (caller_of e.act)) es
+
+-- No two transcripts are of one process; each client's cache takes what it is said to have put; each event that a process makes is at its
+-- home, and in its transcript; and each transcript says just the events that its process made there.
+pub record AreAgreed (jobs : Jobs) (js : List Journal) (ts : List Transcript) : Type 0 where
+  pub apart : AreApart ts
+  pub taken : Each (λ (t : Transcript). takes_all no_puts (noted_in t) ≡ true) ts
+  pub said : (n : ℕ) → n < length jobs.nodes → AreSaid (new_server jobs n) (said_for ts) (told_at js n)
+  pub calls : Each (TellsOf jobs js) ts

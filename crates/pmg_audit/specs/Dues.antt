@@ -1,0 +1,81 @@
+-- What a transcript says of its client's events.
+use Rattle.std.specs.Prelude.{◌≡◌, ℕ, Bool, true, false, ◌&&◌, List, [], ◌∷◌, ◌++◌, Option, Some, None, is_ok, if◌then◌else◌}
+use Rattle.pmg_value.specs.CheckOrder.{first_of}
+use Rattle.pmg_value.specs.declared.process.Proc.{Proc}
+use Rattle.pmg_value.specs.declared.refusal.Refusal.TheVariants as refusals
+use Rattle.pmg_scope.specs.Cached.{Cached, no_puts, put_cause, unsealed_of}
+use Rattle.pmg_scope.specs.declared.scope.Scope.{Scope}
+use Rattle.pmg_rules.specs.Acts.{Act, Reply}
+use Rattle.pmg_journal.specs.Replays.{Happening, happening}
+use Rattle.pmg_journal.specs.Transcripts.{Calling, Noted, cached_by, noted_in}
+use Rattle.pmg_journal.specs.declared.transcript.Transcript.{Transcript}
+use Rattle.pmg_audit.specs.Moves.{Move, Put, is_own_ask}
+
+-- a part that an allocation failed, or that found its desk closed, is passed over: it is no event
+abbrev pub is_passed : Reply → Bool
+is_passed (Reply.refused refusals.NoMemory) = true
+is_passed (Reply.refused refusals.Closed) = true
+is_passed _ = false
+
+-- an event that a client says it made: what it put since its event before, the act, and its reply
+pub record Due : Type 0 where
+  pub puts : List Put
+  pub act : Act
+  pub reply : Reply
+
+abbrev pub due : List Put → Act → Reply → Due
+due puts act reply = record { puts = puts; act = act; reply = reply }
+
+-- the event, as a journal has it
+abbrev pub due_event : Due → Happening
+due_event d = happening d.act d.reply
+
+-- the move as its client says it
+abbrev pub due_in : Move → Due
+due_in m = due m.puts m.act m.reply
+
+abbrev pub put_of : Scope → List ℕ → List ℕ → Put
+put_of scope key value = record { scope = scope; key = key; value = value }
+
+-- the act of a call, where the process's cache is this; a put, and a get of a key of its own, are none
+abbrev pub act_by : Proc → Cached → Calling → Option Act
+act_by p c (Calling.put scope key value) = None
+act_by p c Calling.commit = Some (Act.commit p (unsealed_of c))
+act_by p c (Calling.request r) = if is_own_ask (Act.request r) then None else Some (Act.request r)
+
+abbrev pub act_said : Proc → Cached → Noted → Option Act
+act_said p c n = if is_passed n.reply then None else act_by p c n.call
+
+-- what is put by then, and by no event told
+abbrev pub put_by_call : List Put → Calling → Reply → List Put
+put_by_call puts (Calling.put scope key value) Reply.done = puts ++ put_of scope key value ∷ []
+put_by_call puts call reply = puts
+
+abbrev pub due_of : List Put → Reply → Option Act → List Due
+due_of puts reply None = []
+due_of puts reply (Some a) = due puts a reply ∷ []
+
+-- the puts that no event was told of, after the call
+abbrev pub puts_next : List Put → Noted → Option Act → List Put
+puts_next puts n None = put_by_call puts n.call n.reply
+puts_next puts n (Some a) = []
+
+-- The events that the calls say, where the cache is this, and these puts are the last of it, since the event before. A commit carries
+-- what the cache has that no commit sealed.
+unfoldable pub dues : Proc → Cached → List Put → List Noted → List Due
+dues p c puts [] = []
+dues p c puts (n ∷ ns) = due_of puts n.reply (act_said p c n) ++ dues p (cached_by c n.call n.reply) (puts_next puts n (act_said p c n)) ns
+
+-- the events of a client, by its transcript
+abbrev pub said_by : Transcript → List Due
+said_by t = dues t.proc no_puts [] (noted_in t)
+
+-- the cache takes the put, where that is said to be done
+abbrev pub takes : Cached → Calling → Reply → Bool
+takes c (Calling.put scope key value) Reply.done = is_ok (first_of (put_cause c scope key value) (tt {0}))
+takes c call reply = true
+
+-- each put that is said to be done
+unfoldable pub takes_all : Cached → List Noted → Bool
+takes_all c [] = true
+takes_all c (n ∷ ns) = takes c n.call n.reply && takes_all (cached_by c n.call n.reply) ns

@@ -1,0 +1,15 @@
+pub mod Sameness
+pub mod Moves
+pub mod Dues
+pub mod Orders
+pub mod Runs
+pub mod Agreeing
+pub mod Going
+pub mod Codes
+pub mod Reading
+pub mod Taking
+pub mod Telling
+pub mod Faults
+pub mod Replaying
+pub mod RunDumps
+pub mod Laws

@@ -1,0 +1,115 @@
+-- What happened at one node of a group, event after event: what its clients put, what was replied, and what it sent.
+use Rattle.std.specs.Prelude.{◌≡◌, ◌⊎◌, ℕ, Bool, true, false, List, [], ◌∷◌, Option, Some, None, Ok, if◌then◌else◌}
+use Rattle.pmg_value.specs.CheckOrder.{first_of}
+use Rattle.pmg_value.specs.declared.process.Proc.{Proc}
+use Rattle.pmg_scope.specs.Cached.{Cached, put_cause, unsealed_of, with_put}
+use Rattle.pmg_scope.specs.declared.scope.Scope.{Scope}
+use Rattle.pmg_jobinfo.specs.Jobs.{home_of}
+use Rattle.pmg_fence.specs.Entering.{same_proc}
+use Rattle.pmg_rules.specs.Acts.{Act, Reply, Request, free_cause}
+use Rattle.pmg_rules.specs.declared.sent.Sent.{Sent}
+use Rattle.pmg_node.specs.Servers.{Server, after, reply_to, sent_by}
+use Rattle.pmg_runs.specs.Worlds.{is_own}
+use Rattle.pmg_journal.specs.Replays.{Happening, happening}
+use Rattle.pmg_journal.specs.Transcripts.{commit_by}
+
+-- a put that is done
+pub record Put : Type 0 where
+  pub scope : Scope
+  pub key : List ℕ
+  pub value : List ℕ
+
+-- An event of a journal: what its client put since its event before, the act, its reply, and the frames that the node sent then.
+pub record Move : Type 0 where
+  pub puts : List Put
+  pub act : Act
+  pub reply : Reply
+  pub frames : List Sent
+
+-- the event of it, as the journal has it
+abbrev pub event_in : Move → Happening
+event_in m = happening m.act m.reply
+
+-- ---- who calls
+
+abbrev pub caller_in : Request → Option Proc
+caller_in (Request.enter p list collect) = Some p
+caller_in (Request.leave p) = Some p
+caller_in (Request.ask p get mode) = Some p
+caller_in (Request.take p) = Some p
+caller_in (Request.terminate p) = Some p
+caller_in (Request.define name list) = None
+caller_in (Request.delete name) = None
+caller_in Request.nudge = None
+
+-- the process that calls; none calls where a frame is delivered, sets are changed, or others are asked again
+abbrev pub caller_of : Act → Option Proc
+caller_of (Act.request r) = caller_in r
+caller_of (Act.commit p b) = Some p
+caller_of (Act.deliver frame) = None
+
+abbrev pub is_caller : Proc → Option Proc → Bool
+is_caller p None = false
+is_caller p (Some q) = same_proc p q
+
+-- whether the process calls
+abbrev pub is_by : Proc → Act → Bool
+is_by p a = is_caller p (caller_of a)
+
+-- a get of a key of one's own, which no node is asked for
+abbrev pub is_own_ask : Act → Bool
+is_own_ask (Act.request (Request.ask p get mode)) = is_own p get
+is_own_ask _ = false
+
+-- ---- what is put
+
+abbrev pub put_all : Cached → List Put → Cached
+put_all c [] = c
+put_all c (x ∷ xs) = put_all (with_put c x.scope x.key x.value) xs
+
+-- the cache refuses none of the puts
+abbrev pub AllPut : Cached → List Put → Type 0
+AllPut c [] = Unit {0}
+AllPut c (x ∷ xs) = (first_of (put_cause c x.scope x.key x.value) (tt {0}) ≡ Ok tt) × AllPut (with_put c x.scope x.key x.value) xs
+
+-- the cache once the act was replied so
+abbrev pub cache_then : Cached → Act → Reply → Cached
+cache_then c (Act.commit p b) r = commit_by c r
+cache_then c (Act.request q) r = c
+cache_then c (Act.deliver frame) r = c
+
+-- a commit seals what the cache has that no commit sealed
+abbrev pub Seals : Cached → Act → Type 0
+Seals c (Act.commit p b) = b ≡ unsealed_of c
+Seals c (Act.request q) = Unit {0}
+Seals c (Act.deliver frame) = Unit {0}
+
+-- the cache of the process after the move
+abbrev pub cache_next : Proc → Cached → Move → Cached
+cache_next p c m = if is_by p m.act then cache_then (put_all c m.puts) m.act m.reply else c
+
+-- the cache takes the puts before the process's event, and where that is a commit it carries them
+abbrev pub FitsMove : Proc → Cached → Move → Type 0
+FitsMove p c m = is_by p m.act ≡ true → AllPut c m.puts × Seals (put_all c m.puts) m.act × (is_own_ask m.act ≡ false)
+
+-- so it is for all moves
+unfoldable pub PutsFit : Proc → Cached → List Move → Type 0
+PutsFit p c [] = Unit {0}
+PutsFit p c (m ∷ ms) = FitsMove p c m × PutsFit p (cache_next p c m) ms
+
+-- ---- replays
+
+-- who calls is at home at the node; and where it put something, it was in no call there, and had not ended
+abbrev pub PutsAt : Server → Option Proc → List Put → Type 0
+PutsAt s None puts = puts ≡ []
+PutsAt s (Some p) puts = (home_of s.jobs p ≡ s.id) × ((puts ≡ []) ⊎ (first_of (free_cause s.jobs s.id s.holding p) (tt {0}) ≡ Ok tt))
+
+-- each reply is that of the server there, and so are the frames
+unfoldable pub Replays : Server → List Move → Type 0
+Replays s [] = Unit {0}
+Replays s (m ∷ ms) = (reply_to s m.act ≡ m.reply) × (m.frames ≡ sent_by s m.act) × PutsAt s (caller_of m.act) m.puts × Replays (after s m.act) ms
+
+-- the server after them
+abbrev pub end_of : Server → List Move → Server
+end_of s [] = s
+end_of s (m ∷ ms) = end_of (after s m.act) ms

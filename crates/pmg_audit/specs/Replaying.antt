@@ -1,0 +1,142 @@
+-- Journals in code that are replayed, as far as that has come.
+use Rattle.std.specs.Prelude.{◌≡◌, ◌⊎◌, ℕ, ◌+◌, ◌<◌, true, false, List, [], ◌∷◌, ◌++◌, length, map, Option, slice_index_or, if◌then◌else◌}
+use Rattle.std.specs.List.{filter}
+use Rattle.pmg_value.specs.Lists.{Each}
+use Rattle.pmg_value.specs.declared.process.Proc.{Proc}
+use Rattle.pmg_value.specs.declared.refusal.Refusal.{Refusal}
+use Rattle.pmg_value.specs.declared.refusal.Refusal.TheVariants as refusals
+use Rattle.pmg_jobinfo.specs.Jobs.{Jobs, home_of}
+use Rattle.pmg_rules.specs.declared.sent.Sent.{Sent}
+use Rattle.pmg_node.specs.Opening.{new_server}
+use Rattle.pmg_node.specs.Servers.{Server, after, reply_to, sent_by}
+use Rattle.pmg_journal.specs.Replays.{Happening, IsReplay}
+use Rattle.pmg_journal.specs.declared.journal.Journal.{Journal}
+use Rattle.pmg_journal.specs.declared.transcript.Transcript.{Transcript}
+use Rattle.pmg_audit.specs.Agreeing.{AreSaid, IsSaidBy}
+use Rattle.pmg_audit.specs.Codes.{all_of, lane_of, rest_of}
+use Rattle.pmg_audit.specs.Dues.{Due, due, due_in}
+use Rattle.pmg_audit.specs.Faults.{AreStale}
+use Rattle.pmg_audit.specs.Moves.{Move, Put, PutsAt, Replays, caller_of, end_of, event_in, is_by}
+use Rattle.pmg_audit.specs.Orders.{moves_at}
+use Rattle.pmg_audit.specs.Runs.{AreEnds, AreMoves, ArePut, TellsOf, told_at}
+use Rattle.pmg_audit.specs.Taking.{SomeLeft, procs_of}
+use Rattle.pmg_audit.specs.declared.moves.Saying.{Saying}
+use Rattle.pmg_audit.specs.declared.replaying.Replay.{Replay}
+use Rattle.pmg_audit.specs.declared.replaying.AllReplayed.{AllReplayed}
+
+-- the moves that the process made
+abbrev pub moves_by : Proc → List Move → List Move
+moves_by p ms = filter (λ (m : Move). is_by p m.act) ms
+
+-- the event after these puts, of which no frames are sent
+abbrev pub unsent_move : List Put → Happening → Move
+unsent_move puts e = record { puts = puts; act = e.act; reply = e.reply; frames = [] }
+
+-- and these frames are sent then
+abbrev pub sent_more : Move → List Sent → Move
+sent_more m frames = record { puts = m.puts; act = m.act; reply = m.reply; frames = m.frames ++ frames }
+
+-- the event that the server takes, after these puts
+abbrev pub move_by : Server → List Put → Happening → Move
+move_by s puts e = record { puts = puts; act = e.act; reply = e.reply; frames = sent_by s e.act }
+
+-- these are the puts before the event, as its caller says, and what is said of it is told
+pub record TakesPuts (s : Server) (old : List Saying) (e : Happening) (puts : List Put) (new : List Saying) : Type 0 where
+  pub at : PutsAt s (caller_of e.act) puts
+  pub rests : (p : Proc) → rest_of old p ≡ (if is_by p e.act then due puts e.act e.reply ∷ rest_of new p else rest_of new p)
+  pub procs : procs_of new ≡ procs_of old
+
+-- what the event adds to the replay
+pub record IsAdded (r : Replay) (puts : List Put) (e : Happening) (r2 : Replay) : Type 0 where
+  pub node : r2.node ≡ after r.node e.act
+  pub lane : lane_of r2.lane ≡ lane_of r.lane ++ move_by r.node puts e ∷ []
+  pub fresh : r2.is_stale ≡ false → (r.is_stale ≡ false) × (reply_to r.node e.act ≡ e.reply)
+  pub stale : r2.is_stale ≡ true → (r.is_stale ≡ true) ⊎ (reply_to r.node e.act ≡ e.reply → ⊥)
+
+-- these events are replayed, from the server on, and what is said of them is told
+pub record IsReplayed (s : Server) (old : List Saying) (es : List Happening) (r : Replay) (new : List Saying) : Type 0 where
+  pub node : r.node ≡ end_of s (lane_of r.lane)
+  pub events : map event_in (lane_of r.lane) ≡ es
+  pub fresh : r.is_stale ≡ false → Replays s (lane_of r.lane)
+  pub stale : r.is_stale ≡ true → IsReplay s es → ⊥
+  pub rests : (p : Proc) → rest_of old p ≡ map due_in (moves_by p (lane_of r.lane)) ++ rest_of new p
+  pub home : (p : Proc) → (home_of s.jobs p ≡ s.id → ⊥) → moves_by p (lane_of r.lane) ≡ []
+  pub procs : procs_of new ≡ procs_of old
+
+-- the journals of so many nodes are replayed, and what is said of their events is told
+pub record AreReplayed (jobs : Jobs) (js : List Journal) (old : List Saying) (count : ℕ) (r : AllReplayed) (new : List Saying) : Type 0 where
+  pub nodes : length r.nodes.items ≡ count
+  pub lanes : length r.lanes.items ≡ count
+  pub ends : (n : ℕ) (d : Server) → n < count → slice_index_or r.nodes.items n d ≡ end_of (new_server jobs n) (moves_at (all_of r.lanes.items) n)
+  pub events : (n : ℕ) → n < count → map event_in (moves_at (all_of r.lanes.items) n) ≡ told_at js n
+  pub fresh : r.is_stale ≡ false → (n : ℕ) → n < count → Replays (new_server jobs n) (moves_at (all_of r.lanes.items) n)
+  pub stale : r.is_stale ≡ true → AreStale jobs js
+  pub rests : (p : Proc) → rest_of old p ≡ map due_in (moves_by p (moves_at (all_of r.lanes.items) (home_of jobs p))) ++ rest_of new p
+  pub procs : procs_of new ≡ procs_of old
+
+-- all journals are replayed, and the transcripts tell the same
+pub record AreWhole (jobs : Jobs) (js : List Journal) (ts : List Transcript) (r : AllReplayed) : Type 0 where
+  pub moves : AreMoves jobs js (all_of r.lanes.items)
+  pub put : ArePut jobs (all_of r.lanes.items)
+  pub calls : Each (TellsOf jobs js) ts
+  pub ends : AreEnds jobs (all_of r.lanes.items) r.nodes.items
+
+-- some event is not said, of those that a process made at a node
+abbrev pub AreUnsaid : Jobs → List Journal → (Proc → List Due) → Type 0
+AreUnsaid jobs js rest = (n : ℕ) × (n < length jobs.nodes) × (AreSaid (new_server jobs n) rest (told_at js n) → ⊥)
+
+-- ---- as clauses say it
+
+-- a refusal is Collision, for this reason, unless an allocation failed
+abbrev pub RefusesFor : Refusal → Type 0 → Type 0
+RefusesFor refusals.NoMemory P = Unit {0}
+RefusesFor refusals.Collision P = P
+RefusesFor e P = ⊥
+
+-- whatever was replayed before, the event is replayed after it
+unfoldable pub Continues : Replay → List Saying → Happening → Replay → List Saying → Type 0
+Continues r ss e r2 ss2 = (s : Server) (first : List Saying) (es : List Happening) → IsReplayed s first es r ss → IsReplayed s first (es ++ e ∷ []) r2 ss2
+
+-- these events are replayed
+unfoldable pub HaveHappened : Server → List Saying → List Happening → Replay → List Saying → Type 0
+HaveHappened s first es r ss = IsReplayed s first es r ss
+
+-- the event is not the next one that is said
+unfoldable pub IsUnsaid : Server → List Saying → Happening → Type 0
+IsUnsaid s ss e = IsSaidBy s (rest_of ss) (caller_of e.act) e → ⊥
+
+-- some of the events is not said
+unfoldable pub AllUnsaid : Server → List Saying → List Happening → Type 0
+AllUnsaid s ss es = AreSaid s (rest_of ss) es → ⊥
+
+-- whatever journals were replayed before, the one of the next node is replayed after them
+unfoldable pub AddsNode : Jobs → List Journal → ℕ → AllReplayed → List Saying → AllReplayed → List Saying → Type 0
+AddsNode jobs js n r ss r2 ss2 = (first : List Saying) → AreReplayed jobs js first n r ss → AreReplayed jobs js first (n + 1) r2 ss2
+
+-- some event of some node is not said
+unfoldable pub SomeUnsaid : Jobs → List Journal → List Saying → Type 0
+SomeUnsaid jobs js ss = AreUnsaid jobs js (rest_of ss)
+
+-- all that the journals tell is replayed, and nothing is left that is said
+pub record AreEnded (jobs : Jobs) (js : List Journal) (first : List Saying) (r : AllReplayed) (ss : List Saying) : Type 0 where
+  pub done : AreReplayed jobs js first (length jobs.nodes) r ss
+  pub told : Each (λ (s : Saying). s.dues.items ≡ []) ss
+  pub fresh : r.is_stale ≡ false
+
+-- something is left that is said, of all that the journals tell
+pub record IsLeft (jobs : Jobs) (js : List Journal) (first : List Saying) : Type 0 where
+  pub r : AllReplayed
+  pub ss : List Saying
+  pub done : AreReplayed jobs js first (length jobs.nodes) r ss
+  pub left : SomeLeft ss
+
+-- why the journals and what is said are no whole
+abbrev pub EndsFor : Jobs → List Journal → List Saying → Refusal → Type 0
+EndsFor jobs js first refusals.NoMemory = Unit {0}
+EndsFor jobs js first refusals.Collision = SomeUnsaid jobs js first ⊎ IsLeft jobs js first
+EndsFor jobs js first refusals.Stale = AreStale jobs js
+EndsFor jobs js first e = ⊥
+
+-- nothing is left that is said
+unfoldable pub EndsWell : Jobs → List Journal → List Saying → AllReplayed → Type 0
+EndsWell jobs js first r = (ss : List Saying) × AreEnded jobs js first r ss

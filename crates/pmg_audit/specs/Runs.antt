@@ -1,0 +1,103 @@
+-- Journals and transcripts of one run.
+use Rattle.std.specs.Prelude.{◌≡◌, ℕ, ◌<◌, ◌==◌, List, [], ◌∷◌, length, map, Option, Some, None, slice_index_or, if◌then◌else◌}
+use Rattle.std.specs.List.{filter}
+use Rattle.std.specs.Option.{option_map}
+use Rattle.pmg_value.specs.Lists.{In, Each}
+use Rattle.pmg_value.specs.declared.process.Proc.{Proc}
+use Rattle.pmg_scope.specs.Cached.{no_puts, unsealed_of}
+use Rattle.pmg_jobinfo.specs.Jobs.{Jobs, home_of}
+use Rattle.pmg_fence.specs.Rules.{Scripts}
+use Rattle.pmg_rules.specs.Acts.{Act, Reply}
+use Rattle.pmg_rules.specs.Fitting.{is_refusal, unless_refused}
+use Rattle.pmg_rules.specs.declared.sent.Sent.{Sent}
+use Rattle.pmg_node.specs.Opening.{new_server}
+use Rattle.pmg_node.specs.Servers.{Server}
+use Rattle.pmg_runs.specs.Worlds.{Event, Happened, cache_of, numbered, said_in}
+use Rattle.pmg_world.specs.Accounts.{Account, IsKept, IsRun}
+use Rattle.pmg_world.specs.Telling.{happened_of}
+use Rattle.pmg_world.specs.declared.event.Told.{Told}
+use Rattle.pmg_journal.specs.Journals.{told_in}
+use Rattle.pmg_journal.specs.Replays.{Happening, happening}
+use Rattle.pmg_journal.specs.declared.journal.Journal.{Journal}
+use Rattle.pmg_journal.specs.declared.transcript.Transcript.{Transcript}
+use Rattle.pmg_audit.specs.Dues.{due_event, said_by}
+use Rattle.pmg_audit.specs.Moves.{Move, PutsFit, Replays, end_of, event_in, is_by}
+use Rattle.pmg_audit.specs.Orders.{moves_at}
+
+-- ---- what a run tells of its nodes
+
+-- At which node an event is, and what happened there; a put is at none. A commit carries what its process put that no commit sealed.
+abbrev pub place_of : Scripts → List Sent → Event → Reply → Option (ℕ × Happening)
+place_of scripts frames (Event.put p scope key value) r = None
+place_of scripts frames (Event.commit node p) r = Some (node, happening (Act.commit p (unsealed_of (cache_of (scripts p)))) r)
+place_of scripts frames (Event.request node q) r = Some (node, happening (Act.request q) r)
+place_of scripts frames (Event.deliver i) r = option_map (λ s. (s.to, happening (Act.deliver s.frame) r)) (numbered frames i)
+
+abbrev pub with_place : ℕ → Option (ℕ × Happening) → List Happening → List Happening
+with_place n None es = es
+with_place n (Some x) es = if n == x.0 then x.1 ∷ es else es
+
+-- what happened at the node, in its order
+unfoldable pub events_at : Jobs → Scripts → List Sent → ℕ → List Happened → List Happening
+events_at jobs scripts frames n [] = []
+events_at jobs scripts frames n (x ∷ xs) =
+    with_place n (place_of scripts frames x.event x.reply) (events_at jobs (unless_refused (is_refusal x.reply) scripts (said_in jobs x.event)) frames n xs)
+
+-- ---- journals
+
+-- what the journal of the node tells
+abbrev pub told_at : List Journal → ℕ → List Happening
+told_at [] n = []
+told_at (j ∷ js) n = if j.node == n then told_in j else told_at js n
+
+-- one of the journals is the node's
+abbrev pub HasJournal : List Journal → ℕ → Type 0
+HasJournal js n = (j : Journal) × In j js × (j.node ≡ n)
+
+-- one journal for each node of the group
+pub record AreJournals (jobs : Jobs) (js : List Journal) : Type 0 where
+  pub count : length js ≡ length jobs.nodes
+  pub same : Each (λ (j : Journal). j.registry ≡ jobs) js
+  pub there : (n : ℕ) → n < length jobs.nodes → HasJournal js n
+
+-- ---- transcripts
+
+-- the events that the process made at its home
+abbrev pub made_by : Jobs → List Journal → Proc → List Happening
+made_by jobs js p = filter (λ e. is_by p e.act) (told_at js (home_of jobs p))
+
+-- the transcript's events are those that its process made at its home
+abbrev pub TellsOf : Jobs → List Journal → Transcript → Type 0
+TellsOf jobs js t = map due_event (said_by t) ≡ made_by jobs js t.proc
+
+-- ---- moves
+
+-- moves that are the journals, replayed
+pub record AreMoves (jobs : Jobs) (js : List Journal) (all : List (List Move)) : Type 0 where
+  pub count : length all ≡ length jobs.nodes
+  pub events : (n : ℕ) → n < length jobs.nodes → map event_in (moves_at all n) ≡ told_at js n
+  pub replays : (n : ℕ) → n < length jobs.nodes → Replays (new_server jobs n) (moves_at all n)
+
+-- the puts before them are those of their clients, and commits carry them
+unfoldable pub ArePut : Jobs → List (List Move) → Type 0
+ArePut jobs all = (p : Proc) → PutsFit p no_puts (moves_at all (home_of jobs p))
+
+-- these are the nodes after all of them
+pub record AreEnds (jobs : Jobs) (all : List (List Move)) (nodes : List Server) : Type 0 where
+  pub count : length nodes ≡ length jobs.nodes
+  pub each : (n : ℕ) (d : Server) → n < length nodes → slice_index_or nodes n d ≡ end_of (new_server jobs n) (moves_at all n)
+
+-- ---- one run
+
+abbrev pub account_by : Jobs → List Server → List Sent → List Told → Account
+account_by jobs nodes frames told = record { jobs = jobs; nodes = nodes; sent = frames; told = told }
+
+-- The account is a run of the model, of which the laws of every run hold. What it tells of each node is the node's journal, each event
+-- once and in its order, each commit with what its client put since the one before; and what each process made at its home is its
+-- transcript.
+pub record IsOneRun (js : List Journal) (ts : List Transcript) (a : Account) : Type 0 where
+  pub run : IsRun a
+  pub lawful : IsKept a
+  pub journals : AreJournals a.jobs js
+  pub events : (n : ℕ) → n < length a.jobs.nodes → events_at a.jobs (λ _. []) a.sent n (map happened_of a.told) ≡ told_at js n
+  pub calls : Each (TellsOf a.jobs js) ts

@@ -1,0 +1,189 @@
+//! Whether journals and transcripts are one run.
+ghost use Rattle.std.specs.Prelude.{◌≡◌, ◌<◌, ◌⊎◌, ℕ, true, false, length, map, IfOk, IfErr};
+ghost use Rattle.pmg_value.specs.Lists.{Each, In};
+ghost use Rattle.pmg_jobinfo.specs.Jobs.{AreJobs};
+ghost use Rattle.pmg_journal.specs.declared.journal.Journal.{Journal as JournalOf};
+ghost use Rattle.pmg_audit.specs.Faults.{IsFault, IsReplayFault};
+ghost use Rattle.pmg_audit.specs.Replaying.{AreWhole, EndsFor, EndsWell};
+ghost use Rattle.pmg_audit.specs.Runs.{AreJournals, HasJournal, IsOneRun, account_by};
+ghost use Rattle.pmg_world.specs.Accounts.{IsKept, IsRun};
+
+use crate::moves::Saying;
+use crate::ordering::{Order, make_order};
+use crate::replaying::{AllReplayed, replay_all};
+use crate::run::Run;
+use crate::sayings::{are_told, sayings_of};
+use pmg_jobinfo::Registry;
+use pmg_journal::{Journal, Transcript};
+use pmg_value::{NodeId, Refusal};
+use std::alloc::Global;
+
+/// Whether one of the journals is the node's.
+fn has_journal(journals: &[Journal], node: NodeId) -> bool
+    ensures some { result ≡ true → HasJournal journals.now node }
+    ensures none { result ≡ false → Each (λ (j : JournalOf). j.node ≡ node → ⊥) journals.now }
+{
+    for journal in journals {
+        if journal.node == node {
+            return true;
+        }
+    }
+    false
+}
+
+/// Whether each journal is of a node of that group.
+fn are_of(journals: &[Journal], registry: &Registry) -> bool
+    ensures all { result ≡ true → Each (λ (j : JournalOf). j.registry ≡ registry.now) journals.now }
+    ensures other { result ≡ false → Each (λ (j : JournalOf). j.registry ≡ registry.now) journals.now → ⊥ }
+{
+    for journal in journals {
+        if !journal.registry.is_same(registry) {
+            return false;
+        }
+    }
+    true
+}
+
+/// Whether each node of the group has a journal.
+fn have_all(journals: &[Journal], registry: &Registry) -> bool
+    ensures all { result ≡ true → (n : ℕ) → n < length registry.now.nodes → HasJournal journals.now n }
+    ensures other { result ≡ false → ((n : ℕ) → n < length registry.now.nodes → HasJournal journals.now n) → ⊥ }
+    ensures jobs { AreJobs registry.now }
+{
+    for index in 0..registry.node_count() {
+        if !has_journal(journals, NodeId::from_checked(index as u32)) {
+            return false;
+        }
+    }
+    true
+}
+
+/// Whether there is one journal for each node of that group.
+fn are_journals(journals: &[Journal], registry: &Registry) -> bool
+    ensures are { result ≡ true → AreJournals registry.now journals.now }
+    ensures other { result ≡ false → AreJournals registry.now journals.now → ⊥ }
+    ensures jobs { AreJobs registry.now }
+{
+    if journals.len() != registry.node_count() {
+        return false;
+    }
+    if !are_of(journals, registry) {
+        return false;
+    }
+    have_all(journals, registry)
+}
+
+/// The replays of all journals, of which all that is said is told.
+fn replays_with(
+    alloc: Global,
+    registry: &Registry,
+    journals: &[Journal],
+    mut sayings: Vec<Saying>,
+) -> Result<AllReplayed, Refusal>
+    ensures ok { IfOk result (λ all. EndsWell registry.now journals.now sayings.items all) }
+    ensures refused { IfErr result (λ e. EndsFor registry.now journals.now sayings.items e) }
+{
+    replays_among(alloc, registry, journals, &mut sayings)
+}
+
+/// The replays of all journals, of which all that is said is told; what is said is used up.
+fn replays_among(
+    alloc: Global,
+    registry: &Registry,
+    journals: &[Journal],
+    sayings: &mut [Saying],
+) -> Result<AllReplayed, Refusal>
+    ensures ok { IfOk result (λ all. EndsWell registry.now journals.now sayings.old all) }
+    ensures refused { IfErr result (λ e. EndsFor registry.now journals.now sayings.old e) }
+{
+    match replay_all(alloc, registry, journals, sayings) {
+        Ok(all) => {
+            if !are_told(sayings) {
+                return Err(Refusal::Collision);
+            }
+            if all.is_stale {
+                return Err(Refusal::Stale);
+            }
+            Ok(all)
+        }
+        Err(refusal) => Err(refusal),
+    }
+}
+
+/// The replays of all journals, of which the transcripts tell the same. Refused as Collision where they do not, and as Stale where a
+/// reply on replay is another.
+fn replays_of(
+    alloc: Global,
+    registry: &Registry,
+    journals: &[Journal],
+    transcripts: &[Transcript],
+) -> Result<AllReplayed, Refusal>
+    requires { AreJobs registry.now }
+    ensures ok { IfOk result (λ all. AreWhole registry.now journals.now transcripts.now all) }
+    ensures refused { IfErr result (λ e. IsReplayFault registry.now journals.now transcripts.now e) }
+{
+    match sayings_of(alloc, transcripts) {
+        Ok(sayings) => replays_with(alloc, registry, journals, sayings),
+        Err(refusal) => Err(refusal),
+    }
+}
+
+/// The run of these replays in that order.
+fn run_with(registry: Registry, all: AllReplayed, order: Order) -> Run
+    requires run { IsRun (account_by registry all.nodes.items order.sent.items order.told.items) }
+    requires lawful { IsKept (account_by registry all.nodes.items order.sent.items order.told.items) }
+    ensures { result ≡ account_by registry all.nodes.items order.sent.items order.told.items }
+{
+    let (sent, told) = order.into_parts();
+    Run {
+        registry,
+        nodes: all.into_nodes(),
+        sent,
+        told,
+    }
+}
+
+/// The one run of that group that the journals and the transcripts tell.
+fn run_of(
+    alloc: Global,
+    registry: &Registry,
+    journals: &[Journal],
+    transcripts: &[Transcript],
+) -> Result<Run, Refusal>
+    requires jobs { AreJobs registry.now }
+    requires journals { AreJournals registry.now journals.now }
+    ensures ok { IfOk result (λ run. IsOneRun journals.now transcripts.now run) }
+    ensures refused { IfErr result (λ e. IsFault journals.now transcripts.now e) }
+{
+    let registry_copy = registry.copy()?;
+    match replays_of(alloc, registry, journals, transcripts) {
+        Ok(all) => match make_order(alloc, &all.lanes) {
+            Ok(order) => Ok(run_with(registry_copy, all, order)),
+            Err(refusal) => Err(refusal),
+        },
+        Err(refusal) => Err(refusal),
+    }
+}
+
+/// The one run that the journals and the transcripts tell. Refused as BadParam where there is not one journal for each node of one
+/// group; as Collision where two transcripts are of one process, a process that made an event has none, or one differs from its
+/// process's events in its home's journal; as Stale where the reply of an event is another on replay; as Unordered where no order
+/// delivers each frame after it was sent; each only where none of those before it is there.
+pub fn audit(
+    alloc: Global,
+    journals: &[Journal],
+    transcripts: &[Transcript],
+) -> Result<Run, Refusal>
+    ensures ok { IfOk result (λ run. IsOneRun journals.now transcripts.now run) }
+    ensures refused { IfErr result (λ e. IsFault journals.now transcripts.now e) }
+{
+    match journals.first() {
+        Some(first) => {
+            if !are_journals(journals, &first.registry) {
+                return Err(Refusal::BadParam);
+            }
+            run_of(alloc, &first.registry, journals, transcripts)
+        }
+        None => Err(Refusal::BadParam),
+    }
+}

@@ -1,0 +1,111 @@
+//! What happened at a node, event after event, and what its clients say of it.
+ghost use Rattle.std.specs.Prelude.{◌≡◌};
+
+use pmg_node::{Act, Reply};
+use pmg_rules::Sent;
+use pmg_scope::Scope;
+use pmg_value::{Key, Proc, Refusal, Value};
+use std::collections::VecDeque;
+
+/// A put that is done.
+pub(crate) struct Put {
+    /// Who may see it.
+    pub(crate) scope: Scope,
+    /// Its key.
+    pub(crate) key: Key,
+    /// Its value.
+    pub(crate) value: Value,
+}
+
+impl Drop for Put {
+    fn drop(self) {
+        let Put {
+            scope: _,
+            key: _,
+            value: _,
+        } = self;
+    }
+}
+
+/// An event that a client says it made.
+pub(crate) struct Due {
+    /// What it put since its event before.
+    pub(crate) puts: Vec<Put>,
+    /// The act.
+    pub(crate) act: Act,
+    /// Its answer.
+    pub(crate) answer: Result<Reply, Refusal>,
+}
+
+impl Drop for Due {
+    fn drop(self) {
+        let Due {
+            puts: _,
+            act: _,
+            answer: _,
+        } = self;
+    }
+}
+
+impl Due {
+    /// The puts before it.
+    pub(crate) fn into_puts(self) -> Vec<Put>
+        ensures { result ≡ self.puts }
+    {
+        let Due {
+            puts,
+            act: _,
+            answer: _,
+        } = self;
+        puts
+    }
+}
+
+/// The events that a client says it made, of which no journal told yet.
+pub(crate) struct Saying {
+    /// The client's process.
+    pub(crate) proc: Proc,
+    /// The events, in their order.
+    pub(crate) dues: VecDeque<Due>,
+}
+
+impl Drop for Saying {
+    fn drop(self) {
+        let Saying { proc: _, dues: _ } = self;
+    }
+}
+
+/// An event of a journal, replayed.
+pub(crate) struct Move {
+    /// What its client put since its event before.
+    pub(crate) puts: Vec<Put>,
+    /// The act.
+    pub(crate) act: Act,
+    /// Its answer.
+    pub(crate) answer: Result<Reply, Refusal>,
+    /// The frames that the node sent then.
+    pub(crate) frames: VecDeque<Sent>,
+}
+
+impl Drop for Move {
+    fn drop(self) {
+        let Move {
+            puts: _,
+            act: _,
+            answer: _,
+            frames: _,
+        } = self;
+    }
+}
+
+/// The events of one journal, replayed.
+pub(crate) struct Lane {
+    /// The events, in their order.
+    pub(crate) moves: Vec<Move>,
+}
+
+impl Drop for Lane {
+    fn drop(self) {
+        let Lane { moves: _ } = self;
+    }
+}

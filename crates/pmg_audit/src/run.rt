@@ -1,0 +1,95 @@
+//! One run of a group, told by its journals.
+ghost use Rattle.std.specs.Prelude.{◌≡◌, slice_get};
+ghost use Rattle.std.specs.Option.{option_map};
+ghost use Rattle.pmg_store.specs.Outcomes.{Dumps};
+ghost use Rattle.pmg_world.specs.Accounts.{IsKept, IsRun};
+ghost use Rattle.pmg_audit.specs.RunDumps.{dump_due};
+
+use pmg_jobinfo::Registry;
+use pmg_node::Node;
+use pmg_rules::Sent;
+use pmg_store::Failure;
+use pmg_value::{NodeId, Refusal, WatchedWriter};
+use pmg_world::Told;
+use std::io::Write;
+use std::marker::Model;
+
+/// One run of a group of nodes with their clients: all events in one order, each with its answer, all frames that were sent, and the
+/// nodes after them. It is a run of the model, and the laws of every run hold of it.
+pub struct Run {
+    pub(crate) registry: Registry,
+    pub(crate) nodes: Vec<Node>,
+    pub(crate) sent: Vec<Sent>,
+    pub(crate) told: Vec<Told>,
+}
+
+impl Drop for Run {
+    fn drop(self) {
+        let Run {
+            registry: _,
+            nodes: _,
+            sent: _,
+            told: _,
+        } = self;
+    }
+}
+
+impl Model for Run {
+    ghost use Rattle.pmg_rules.specs.contracts.sent.Sent.{the_row as sent_row};
+    ghost use Rattle.pmg_world.specs.Accounts.{Account, IsKept, IsRun, coded_account};
+    ghost use Rattle.pmg_world.specs.contracts.event.Told.{the_row as told_row};
+    ghost use Rattle.pmg_audit.specs.Runs.{account_by};
+
+    ghost Value = { Account };
+
+    ghost coded = { coded_account sent_row.coded told_row.coded };
+
+    ghost view = { λ a. account_by a.registry a.nodes.items a.sent.items a.told.items };
+
+    ghost invariant = { λ a. IsRun (account_by a.registry a.nodes.items a.sent.items a.told.items)
+        × IsKept (account_by a.registry a.nodes.items a.sent.items a.told.items) };
+}
+
+impl Run {
+    /// The registry of the group.
+    pub fn registry(&self) -> &Registry
+        ensures { result.now ≡ self.now.jobs }
+    {
+        &self.registry
+    }
+
+    /// All that happened, each event with its answer, in one order. It is a run of the model, and the laws of every run hold of it.
+    pub fn events(&self) -> &[Told]
+        ensures told { result.now ≡ self.now.told }
+        ensures run { IsRun self.now }
+        ensures lawful { IsKept self.now }
+    {
+        &self.told
+    }
+
+    /// All frames that were sent, each with the node that it was sent to, in their order.
+    pub fn sent(&self) -> &[Sent]
+        ensures { result.now ≡ self.now.sent }
+    {
+        &self.sent
+    }
+
+    /// The node of that index after all that happened, if the group has one.
+    pub fn node(&self, node: NodeId) -> Option<&Node>
+        ensures { option_map (λ n. n.now) result ≡ slice_get self.now.nodes node }
+    {
+        self.nodes.get(node.index() as usize)
+    }
+
+    /// Writes the dump of what the node of that index tells other nodes, after all that happened. Refused as BadParam where the group
+    /// has no such node, and as NoMemory, with nothing written; where the writer fails, a prefix of the dump was written.
+    pub fn dump<W: Write>(&self, node: NodeId, writer: &mut WatchedWriter<W>) -> Result<(), Failure>
+        ensures { Dumps (W.contents writer.old.writer) (W.contents writer.new.writer) result
+            (dump_due (slice_get self.now.nodes node)) }
+    {
+        match self.node(node) {
+            Some(node) => node.board().far().dump(writer),
+            None => Err(Failure::Refused(Refusal::BadParam)),
+        }
+    }
+}

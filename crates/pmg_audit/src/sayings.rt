@@ -1,0 +1,263 @@
+//! What transcripts say of their clients' events.
+ghost use Rattle.std.specs.Prelude.{◌≡◌, ◌≢◌, ◌<◌, ◌++◌, ◌∷◌, [], true, false, length, map, IfOk, IfErr, IfSome, IsNone, OnOk};
+ghost use Rattle.pmg_value.specs.Lists.{In, Each};
+ghost use Rattle.pmg_value.specs.Spelling.{spelling};
+ghost use Rattle.pmg_value.specs.declared.refusal.Refusal.TheVariants as refusals;
+ghost use Rattle.pmg_value.specs.declared.process.Proc.{Proc as ProcOf};
+ghost use Rattle.pmg_scope.specs.Cached.{no_puts};
+ghost use Rattle.pmg_rules.specs.Acts.{Act as ModelAct, Reply as ModelReply};
+ghost use Rattle.pmg_node.specs.Acting.{act_of, reply_as, request_of};
+ghost use Rattle.pmg_node.specs.Servers.{reply_in};
+ghost use Rattle.pmg_journal.specs.Transcripts.{Calling, calling_of, noted, noted_in, noted_of};
+ghost use Rattle.pmg_journal.specs.declared.transcript.Transcript.{Transcript as TranscriptOf};
+ghost use Rattle.pmg_audit.specs.Agreeing.{AreApart};
+ghost use Rattle.pmg_audit.specs.Codes.{put_in, rest_of, said_in};
+ghost use Rattle.pmg_audit.specs.Dues.{due, dues, is_passed, said_by, takes, takes_all};
+ghost use Rattle.pmg_audit.specs.Moves.{is_own_ask};
+ghost use Rattle.pmg_audit.specs.Reading.{Reads};
+ghost use Rattle.pmg_audit.specs.Taking.{AreSayings, IsPlace, NoneOf, SomeLeft, Takes, procs_of};
+ghost use Rattle.pmg_audit.specs.declared.moves.Saying.{Saying as SayingOf};
+
+use crate::moves::{Due, Put, Saying};
+use pmg_journal::{Call, Called, Transcript, copy_of_answer};
+use pmg_node::{Act, Reply, Request};
+use pmg_scope::{Cache, Scope};
+use pmg_value::{Key, Proc, Refusal, Value};
+use std::alloc::{AllocError, Global};
+use std::collections::VecDeque;
+use std::mem;
+
+/// A transcript that is read: what its client's cache holds, what it put since its last event, and its events.
+struct Reading {
+    alloc: Global,
+    cache: Cache,
+    puts: Vec<Put>,
+    dues: VecDeque<Due>,
+}
+
+impl Drop for Reading {
+    fn drop(self) {
+        let Reading {
+            alloc: _,
+            cache: _,
+            puts: _,
+            dues: _,
+        } = self;
+    }
+}
+
+/// Whether the call is no event: an allocation failed, or its desk was closed.
+fn is_passed(answer: &Result<Reply, Refusal>) -> bool
+    ensures { result ≡ is_passed (reply_in reply_as answer.now) }
+{
+    match answer {
+        Err(Refusal::NoMemory) => true,
+        Err(Refusal::Closed) => true,
+        _ => false,
+    }
+}
+
+/// Whether the request is a get of a key of one's own, which no node is asked for.
+fn is_own_ask(request: &Request) -> bool
+    ensures { result ≡ is_own_ask (ModelAct.request (request_of request.now)) }
+{
+    match request {
+        Request::Ask(proc, target, key, _) => proc.cmp(target).is_eq() && !key.is_reserved(),
+        _ => false,
+    }
+}
+
+impl Reading {
+    /// A put that is done, if the cache takes it.
+    fn put(&mut self, scope: Scope, key: &Key, value: &Value) -> Result<bool, AllocError>
+        ensures takes { IfOk result (λ t. t ≡ takes self.old.cache (Calling.put scope key.now (spelling value.now)) ModelReply.done) }
+        ensures reads { IfOk result (λ t. t ≡ true
+            → (p : ProcOf) → Reads p self.old (noted (Calling.put scope key.now (spelling value.now)) ModelReply.done) self.new) }
+    {
+        self.puts.push(Put {
+            scope,
+            key: key.copy()?,
+            value: value.copy()?,
+        })?;
+        match self.cache.put(scope, key.copy()?, value.copy()?) {
+            Ok(()) => Ok(true),
+            Err(Refusal::NoMemory) => Err(AllocError),
+            Err(_) => Ok(false),
+        }
+    }
+
+    /// The act is an event, with the puts since the one before.
+    fn tell(&mut self, act: Act, answer: &Result<Reply, Refusal>) -> Result<(), AllocError>
+        ensures cache { self.new.cache ≡ self.old.cache }
+        ensures puts { OnOk result (self.new.puts.items ≡ []) }
+        ensures dues { OnOk result (map said_in self.new.dues.items
+            ≡ map said_in self.old.dues.items ++ due (map put_in self.old.puts.items) (act_of act) (reply_in reply_as answer.now) ∷ []) }
+    {
+        let answer = copy_of_answer(answer)?;
+        self.dues.reserve(1)?;
+        let puts = mem::replace(&mut self.puts, Vec::new(self.alloc));
+        self.dues.push_back(Due { puts, act, answer })?;
+        Ok(())
+    }
+
+    /// A commit is an event, and seals what the cache has.
+    fn commit(&mut self, proc: &Proc, answer: &Result<Reply, Refusal>) -> Result<(), AllocError>
+        ensures { OnOk result (Reads proc.now self.old (noted Calling.commit (reply_in reply_as answer.now)) self.new) }
+    {
+        if is_passed(answer) {
+            return Ok(());
+        }
+        let batch = self.cache.unsealed()?;
+        self.tell(Act::Commit(proc.copy()?, batch), answer)?;
+        if let Ok(Reply::Committed(_)) = answer {
+            self.cache.mark_sealed();
+        }
+        Ok(())
+    }
+
+    /// A request is an event, unless it is a get of a key of one's own.
+    fn request(
+        &mut self,
+        request: &Request,
+        answer: &Result<Reply, Refusal>,
+    ) -> Result<(), AllocError>
+        ensures { OnOk result ((p : ProcOf)
+            → Reads p self.old (noted (Calling.request (request_of request.now)) (reply_in reply_as answer.now)) self.new) }
+    {
+        if is_passed(answer) || is_own_ask(request) {
+            return Ok(());
+        }
+        self.tell(Act::Request(request.copy()?), answer)
+    }
+
+    /// The next call of the process; whether its client's cache takes what it is said to have put.
+    fn read(&mut self, proc: &Proc, called: &Called) -> Result<bool, AllocError>
+        ensures takes { IfOk result (λ t. t ≡ takes self.old.cache (calling_of called.now.call) (reply_in reply_as called.now.answer)) }
+        ensures reads { IfOk result (λ t. t ≡ true → Reads proc.now self.old (noted_of called.now) self.new) }
+    {
+        match &called.call {
+            Call::Put(scope, key, value) => match &called.answer {
+                Ok(reply) => match reply {
+                    Reply::Done => self.put(*scope, key, value),
+                    _ => Ok(true),
+                },
+                Err(_) => Ok(true),
+            },
+            Call::Commit => {
+                self.commit(proc, &called.answer)?;
+                Ok(true)
+            }
+            Call::Request(request) => {
+                self.request(request, &called.answer)?;
+                Ok(true)
+            }
+        }
+    }
+}
+
+impl Reading {
+    /// All calls of the process; whether its client's cache takes what it is said to have put.
+    fn read_all(&mut self, proc: &Proc, calls: &[Called]) -> Result<bool, AllocError>
+        ensures taken { IfOk result (λ t. t ≡ takes_all self.old.cache (map noted_of calls.now)) }
+        ensures said { IfOk result (λ t. t ≡ true → map said_in self.new.dues.items
+            ≡ map said_in self.old.dues.items ++ dues proc.now self.old.cache (map put_in self.old.puts.items) (map noted_of calls.now)) }
+    {
+        for called in calls {
+            if !self.read(proc, called)? {
+                return Ok(false);
+            }
+        }
+        Ok(true)
+    }
+
+    /// The events.
+    fn into_dues(self) -> VecDeque<Due>
+        ensures { result ≡ self.dues }
+    {
+        let Reading {
+            alloc: _,
+            cache: _,
+            puts: _,
+            dues,
+        } = self;
+        dues
+    }
+}
+
+/// The events that the transcript says its client made; none where the client's cache would not take what it is said to have put.
+fn dues_of(alloc: Global, transcript: &Transcript) -> Result<Option<VecDeque<Due>>, AllocError>
+    ensures said { IfOk result (λ o. IfSome o (λ dues. map said_in dues.items ≡ said_by transcript.now)) }
+    ensures taken { IfOk result (λ o. IfSome o (λ dues. takes_all no_puts (noted_in transcript.now) ≡ true)) }
+    ensures none { IfOk result (λ o. IsNone o → takes_all no_puts (noted_in transcript.now) ≡ false) }
+{
+    let mut reading = Reading {
+        alloc,
+        cache: Cache::new(alloc),
+        puts: Vec::new(alloc),
+        dues: VecDeque::new(alloc),
+    };
+    if !reading.read_all(&transcript.proc, &transcript.calls)? {
+        return Ok(None);
+    }
+    Ok(Some(reading.into_dues()))
+}
+
+/// The place of the process's saying.
+fn place_of(sayings: &[Saying], proc: &Proc) -> Option<usize>
+    ensures some { IfSome result (λ k. IsPlace sayings.now proc.now k) }
+    ensures inside { IfSome result (λ k. k < length sayings.now) }
+    ensures none { IsNone result → NoneOf sayings.now proc.now }
+{
+    for place in 0..sayings.len() {
+        if proc.cmp(&sayings[place].proc).is_eq() {
+            return Some(place);
+        }
+    }
+    None
+}
+
+/// What each transcript says. Refused as Collision where two are of one process, or one is of no client.
+pub(crate) fn sayings_of(alloc: Global, transcripts: &[Transcript]) -> Result<Vec<Saying>, Refusal>
+    ensures said { IfOk result (λ sayings. AreSayings sayings.items transcripts.now) }
+    ensures apart { IfOk result (λ sayings. AreApart transcripts.now) }
+    ensures taken { IfOk result (λ sayings. Each (λ (t : TranscriptOf). takes_all no_puts (noted_in t) ≡ true) transcripts.now) }
+    ensures refused { IfErr result (λ e. e ≢ refusals.NoMemory → (e ≡ refusals.Collision)
+        × (AreApart transcripts.now → Each (λ (t : TranscriptOf). takes_all no_puts (noted_in t) ≡ true) transcripts.now → ⊥)) }
+{
+    let mut sayings = Vec::new(alloc);
+    for transcript in transcripts {
+        if place_of(&sayings, &transcript.proc).is_some() {
+            return Err(Refusal::Collision);
+        }
+        let Some(dues) = dues_of(alloc, transcript)? else {
+            return Err(Refusal::Collision);
+        };
+        let proc = transcript.proc.copy()?;
+        sayings.push(Saying { proc, dues })?;
+    }
+    Ok(sayings)
+}
+
+/// The next event that the process says it made.
+pub(crate) fn take_due(sayings: &mut [Saying], proc: &Proc) -> Option<Due>
+    ensures some { IfSome result (λ d. Takes sayings.old proc.now (said_in d) sayings.new) }
+    ensures none { IsNone result → rest_of sayings.old proc.now ≡ [] }
+{
+    match place_of(sayings, proc) {
+        Some(place) => sayings[place].dues.pop_front(),
+        None => None,
+    }
+}
+
+/// Whether no event is left that a client says it made.
+pub(crate) fn are_told(sayings: &[Saying]) -> bool
+    ensures told { result ≡ true → Each (λ (s : SayingOf). s.dues.items ≡ []) sayings.now }
+    ensures left { result ≡ false → SomeLeft sayings.now }
+{
+    for saying in sayings {
+        if !saying.dues.is_empty() {
+            return false;
+        }
+    }
+    true
+}

@@ -1,0 +1,9 @@
+//! Tests of audits: of journals and transcripts of two nodes, as they happened and with one thing changed.
+#![tactic(auto)]
+
+#[cfg(test)]
+mod audits;
+#[cfg(test)]
+mod changes;
+#[cfg(test)]
+mod recorded;

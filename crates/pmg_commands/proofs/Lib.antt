@@ -1,0 +1,5 @@
+pub mod CommandLemmas
+pub mod MergeLemmas
+pub mod TextLemmas
+pub mod RunLemmas
+pub mod ScriptLemmas

@@ -1,0 +1,27 @@
+-- What a replay publishes.
+use Rattle.std.specs.Prelude.{List, [], ◌∷◌, ◌++◌, Option, None}
+use Rattle.std.specs.Option.{option_to_list}
+use Rattle.pmg_commit.specs.Knowledge.{Contribution}
+use Rattle.pmg_rules.specs.Acts.{Act}
+use Rattle.pmg_node.specs.Joining.{Joins, joins}
+use Rattle.pmg_node.specs.Servers.{Server, after}
+use Rattle.pmg_publish.specs.Publications.{publication}
+use Rattle.pmg_publish.specs.declared.counting.Publication.{Publication}
+use Rattle.pmg_journal.specs.Replays.{Happening}
+
+-- what is joined, as one publication; none where nothing is joined
+abbrev pub publications_of : Option Contribution → Option Contribution → List Publication
+publications_of None None = []
+publications_of near far = publication (option_to_list near) (option_to_list far) ∷ []
+
+abbrev pub published_of : Joins → List Publication
+published_of j = publications_of j.near j.far
+
+-- what an act of the server publishes
+abbrev pub published_by : Server → Act → List Publication
+published_by s a = published_of (joins s.jobs s.id s.holding a)
+
+-- what is published meanwhile: one publication for each act that joins something
+abbrev pub published_over : Server → List Happening → List Publication
+published_over s [] = []
+published_over s (e ∷ es) = published_by s e.act ++ published_over (after s e.act) es

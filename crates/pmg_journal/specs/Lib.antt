@@ -1,0 +1,3 @@
+pub mod Replays
+pub mod Journals
+pub mod Transcripts

@@ -1,0 +1,116 @@
+"""Each allocation, read and write of the program fails in turn, on each of the examples."""
+import functools
+import glob
+import os
+import re
+
+from failing import PROGRAM, ROOT, run, spread
+
+NO_MEMORY = b"refused 0 NoMemory\n"
+READ_FAULT = b"read fault\n"
+LINE = re.compile(rb"client \S+ \d+ (found \d+ own \d+|refused \d+ \w+)|proc \S+ \d+ level \d+|  \S+ \S+|audit ok")
+
+
+def follows(output, whole, last):
+    """Whether the output is some whole first lines of another one, and then this last line."""
+    first = output[: -len(last)]
+    return output.endswith(last) and whole.startswith(first) and (not first or first.endswith(b"\n"))
+
+
+def is_whole(output):
+    """Whether each line of a job's output is a whole one."""
+    return all(LINE.fullmatch(line) for line in output.splitlines()) and (not output or output.endswith(b"\n"))
+
+
+class Example:
+    """An example, and how the program may end on it."""
+
+    def __init__(self, library, path):
+        self.library = library
+        self.name = os.path.relpath(path, ROOT)
+        self.command = os.path.basename(os.path.dirname(path))
+        with open(path, "rb") as source:
+            self.data = source.read()
+        plain = self.run()
+        self.status, self.output = plain.status, plain.output
+
+    def run(self, **failing):
+        return run(self.library, [PROGRAM, self.command], self.data, **failing)
+
+    @functools.lru_cache(maxsize=None)
+    def replies_to(self, size):
+        """What is replied to so many first bytes of a script."""
+        return run(self.library, [PROGRAM, "replay"], self.data[:size]).output
+
+    def may_end(self, _, ran):
+        """As if nothing had failed."""
+        return (ran.status, ran.output) == (self.status, self.output)
+
+    def may_lack_memory(self, number, ran):
+        """An allocation failed."""
+        if self.may_end(number, ran) or (ran.status, ran.output) == (3, NO_MEMORY):
+            return True
+        if self.command == "replay":
+            return ran.status == 3 and follows(ran.output, self.output, NO_MEMORY)
+        return self.command == "run" and ran.status == 1 and is_whole(ran.output)
+
+    def may_lack_input(self, _, ran):
+        """A read failed."""
+        if self.command == "replay":
+            return ran.status == 1 and follows(ran.output, self.output, READ_FAULT)
+        return (ran.status, ran.output) == (1, READ_FAULT)
+
+    def may_lack_byte(self, number, ran):
+        """The read of the byte of this number failed: a script has the replies to its lines before."""
+        if self.command != "replay":
+            return self.may_lack_input(number, ran)
+        before = self.replies_to(self.data.rfind(b"\n", 0, number - 1) + 1)
+        return (ran.status, ran.output) == (1, before + READ_FAULT)
+
+    def may_lack_output(self, _, ran):
+        """A write failed."""
+        return ran.status == 1 and self.output.startswith(ran.output)
+
+    def may_lack_written(self, number, ran):
+        """The write of the byte of this number failed, and all after it."""
+        return (ran.status, ran.output) == (1, self.output[: number - 1])
+
+
+# What fails, what it is counted by, how it is asked for, and how a run may end.
+KINDS = [
+    ("allocations", "allocations", "FAIL_ALLOCATION", {}, Example.may_lack_memory),
+    ("reads", "reads", "FAIL_READ", {}, Example.may_lack_input),
+    ("interrupted reads", "reads", "FAIL_READ", {"FAIL_AS": "interrupt"}, Example.may_lack_input),
+    ("reads that would wait", "reads", "FAIL_READ", {"FAIL_AS": "wait"}, Example.may_lack_input),
+    ("reads of one byte", "reads", "FAIL_READ", {"FAIL_SHORT": 1}, Example.may_lack_byte),
+    ("writes", "writes", "FAIL_WRITE", {}, Example.may_lack_output),
+    ("interrupted writes", "writes", "FAIL_WRITE", {"FAIL_AS": "interrupt"}, Example.may_end),
+    ("writes that would wait", "writes", "FAIL_WRITE", {"FAIL_AS": "wait"}, Example.may_lack_output),
+    ("writes that take nothing", "writes", "FAIL_WRITE", {"FAIL_AS": "nothing"}, Example.may_lack_output),
+    ("writes of one byte, and all after", "writes", "FAIL_WRITE", {"FAIL_SHORT": 1, "FAIL_ON": 1}, Example.may_lack_written),
+]
+
+
+def paths_of(names):
+    """The examples in whose path one of these words stands; all of them, where there is no word."""
+    paths = [it for it in sorted(glob.glob(os.path.join(ROOT, "examples", "*", "*"))) if not it.endswith(".out")]
+    return [it for it in paths if not names or any(name in it for name in names)]
+
+
+def try_example(report, library, pool, most, path):
+    """Tries at most so many numbers of each kind on one example."""
+    example = Example(library, path)
+    short = example.run(FAIL_SHORT=1)
+    counts = {True: short.counts, False: example.run().counts}
+    report.add(f"{example.name}: one byte at a time", 1, [] if example.may_end(0, short) else [short[:2]])
+    for kind, counted, asked, more, may_end in KINDS:
+        numbers = spread(getattr(counts["FAIL_SHORT" in more], counted), most)
+        runs = pool.map(lambda number: example.run(**{asked: number}, **more), numbers)
+        bad = [(number, *ran[:2]) for number, ran in zip(numbers, runs) if not may_end(example, number, ran)]
+        report.add(f"{example.name}: {kind}", len(numbers), bad)
+
+
+def try_examples(report, library, pool, most, names):
+    """Tries at most so many numbers of each kind on each of these examples."""
+    for path in paths_of(names):
+        try_example(report, library, pool, most, path)
