@@ -6,10 +6,9 @@ use Rattle.std.specs.declared.result.Result.TheVariants.{Ok, Err}
 use Rattle.pmg_value.specs.RefusalText.{refusal_text}
 use Rattle.pmg_value.specs.declared.refusal.Refusal.{Refusal}
 use Rattle.pmg_value.specs.declared.refusal.Refusal.TheVariants as refusals
-use Rattle.pmg_store.specs.Dump.{dump}
 use Rattle.pmg_store.specs.declared.failure.Failure.{Failure}
 use Rattle.pmg_store.specs.declared.failure.Failure.TheVariants.{Refused}
-use Rattle.pmg_node.specs.Servers.{Server}
+use Rattle.pmg_audit.specs.RunDumps.{dump_due}
 use Rattle.pmg_world.specs.Accounts.{Account}
 use Rattle.pmg_launch.specs.declared.program.Outcome.{Outcome}
 use Rattle.pmg_launch.specs.declared.program.Report.{Report}
@@ -23,13 +22,13 @@ is_done r = is_ok r.answer
 unfoldable pub reports_text : List Report → List ℕ
 reports_text reports = flat_map (λ r. r.text.items) reports
 
-abbrev pub far_dump : Option Server → List ℕ
-far_dump None = []
-far_dump (Some s) = dump s.holding.far
+abbrev pub text_due : Result (List ℕ) Failure → List ℕ
+text_due (Ok text) = text
+text_due (Err failure) = []
 
--- the far dump of the first node, as the run leaves it
+-- the far dump of the first node, as the run leaves it; nothing, where the group has no nodes
 abbrev pub far_text : Account → List ℕ
-far_text run = far_dump (slice_get run.nodes 0)
+far_text run = text_due (dump_due (slice_get run.nodes 0))
 
 -- and that the run was audited
 unfoldable pub audited_text : Account → List ℕ

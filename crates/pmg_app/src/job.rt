@@ -86,17 +86,15 @@ fn run_text<T: Threads + Wait + Clock + Sync>(
     run(rt, job, programs)
 }
 
-/// The far dump of the first node, as the run leaves it.
+/// The far dump of the first node, as the run leaves it; nothing, where the group has no nodes.
 fn far_dump(alloc: Global, run: &Run) -> Result<Vec<u8>, Refusal>
     ensures { IfOk result (λ text. text.items ≡ far_text run.now) }
 {
     let mut writer = WatchedWriter::new(Vec::new(alloc));
-    if let Some(node) = run.node(NodeId::new(0)?) {
-        if node.board().far().dump(&mut writer).is_err() {
-            return Err(Refusal::NoMemory);
-        }
+    match run.dump(NodeId::new(0)?, &mut writer) {
+        Ok(()) | Err(Failure::Refused(Refusal::BadParam)) => Ok(writer.into_inner()),
+        Err(_) => Err(Refusal::NoMemory),
     }
-    Ok(writer.into_inner())
 }
 
 /// The same, and that the run was audited.

@@ -1,15 +1,16 @@
 -- An order of moves, one move further, and where it ends.
-use Rattle.std.proofs.Common.{◌≡◌, ◌⊎◌, ℕ, zero, suc, ◌+◌, ◌-◌, ◌<◌, ◌≤◌, Bool, true, false, ◌==◌, cond, List, [], ◌∷◌, ◌++◌, length, get_or, set, take, drop, replicate, Option, Some, None, slice_get, slice_index, inl, inr, refl, sym, ap, subst, ◌∙◌, append_assoc, arith}
+use Rattle.std.proofs.Common.{◌≡◌, ◌⊎◌, ℕ, zero, suc, ◌+◌, ◌-◌, ◌<◌, ◌≤◌, Bool, true, false, ◌==◌, cond, List, [], ◌∷◌, ◌++◌, length, map, get_or, set, take, drop, replicate, Option, Some, None, slice_get, slice_index, inl, inr, refl, sym, ap, subst, ◌∙◌, append_assoc, arith}
 use Rattle.std.proofs.lemmas.Bool.Decides.{nat_tests}
 use Rattle.std.proofs.lemmas.List.{append-nil, drop_all, drop_more, get_or-replicate, get_or-set_other, get_or-set_same, get_or_past, length-replicate, length-set, length-drop, take_more}
 use Rattle.std.proofs.lemmas.Option.{get_or_from_slice_get, slice_get-get_or, slice_get_within}
 use Rattle.std.specs.List.{flat_map}
 use Rattle.pmg_value.specs.Lists.{In, Each}
+use Rattle.pmg_value.proofs.ListLemmas.{in_append_left, in_append_right, in_map, in_parts}
 use Rattle.pmg_rules.specs.Acts.{Act}
 use Rattle.pmg_rules.specs.Sending.{sent}
 use Rattle.pmg_rules.specs.declared.sent.Sent.{Sent}
 use Rattle.pmg_runs.specs.Worlds.{Event, Happened, nth, numbered}
-use Rattle.pmg_audit.specs.Going.{IsGoing, IsNext, IsOpen, IsReady, MayGoNext, frames_of, left}
+use Rattle.pmg_audit.specs.Going.{IsGoing, IsNext, IsOpen, IsReady, MayGoNext, frames_of, left, weight}
 use Rattle.pmg_audit.specs.Moves.{Move, caller_of}
 use Rattle.pmg_audit.specs.Orders.{AreTold, Goes, IsEventOf, MayGo, NoOrder, Tells, happened, list_or_none, moves_at, put_rest, puts_told, rests}
 
@@ -20,20 +21,6 @@ other_index : (k n : ℕ) → (k == n) ≡ false → k ≡ n → ⊥
 other_index k n e same = grind (arith, nat_tests)
 
 -- ---- frames that were sent
-
-in_left : {A : Type 0} (x : A) (xs ys : List A) → In x xs → In x (xs ++ ys)
-in_left x [] ys i = absurd i
-in_left x (y ∷ xs) ys (inl same) = inl same
-in_left x (y ∷ xs) ys (inr later) = inr (in_left x xs ys later)
-
-in_right : {A : Type 0} (x : A) (xs ys : List A) → In x ys → In x (xs ++ ys)
-in_right x [] ys i = i
-in_right x (y ∷ xs) ys i = inr (in_right x xs ys i)
-
-in_either : {A : Type 0} (x : A) (xs ys : List A) → In x (xs ++ ys) → In x xs ⊎ In x ys
-in_either x [] ys i = inr i
-in_either x (y ∷ xs) ys (inl same) = inl (inl same)
-in_either x (y ∷ xs) ys (inr later) = elim (in_either x xs ys later) [ inl i ↦ inl (inr i) | inr i ↦ inr i ]
 
 -- all of these frames are among those
 abbrev Among : List Sent → List Sent → Type 0
@@ -49,7 +36,7 @@ among_each frames [] among = tt
 among_each frames (x ∷ some) among = (among x (inl refl), among_each frames some (λ s i. among s (inr i)))
 
 each_on : (some frames more : List Sent) → Each (λ s. In s frames) some → Each (λ s. In s (frames ++ more)) some
-each_on some frames more each = among_each (frames ++ more) some (λ s i. in_left s frames more (each_among frames some each s i))
+each_on some frames more each = among_each (frames ++ more) some (λ s i. in_append_left frames more s (each_among frames some each s i))
 
 may_go_on : (n : ℕ) (a : Act) (some frames : List Sent) → Among some frames → MayGo n a some → MayGo n a frames
 may_go_on n (Act.deliver frame) some frames among may = among (sent n frame) may
@@ -66,8 +53,8 @@ frames_at [] k n m is less s i = absurd cc
 frames_at (x ∷ ms) k zero m is less s i = absurd (omega (arith, less))
 frames_at (x ∷ ms) zero (suc n) m is less s i =
     let same : x ≡ m = cc in
-    in_left s x.frames (frames_of (take n ms)) (subst (λ (y : Move). In s y.frames) (sym same) i)
-frames_at (x ∷ ms) (suc k) (suc n) m is less s i = in_right s x.frames (frames_of (take n ms)) (frames_at ms k n m is (omega (arith, less)) s i)
+    in_append_left x.frames (frames_of (take n ms)) s (subst (λ (y : Move). In s y.frames) (sym same) i)
+frames_at (x ∷ ms) (suc k) (suc n) m is less s i = in_append_right x.frames (frames_of (take n ms)) s (frames_at ms k n m is (omega (arith, less)) s i)
 
 -- ---- what is left of a list
 
@@ -126,7 +113,7 @@ module _ (all : List (List Move)) (done : List ℕ) (frames : List Sent) (told :
         at = λ k. cond (k == n) (suc (b.at n)) (b.at k);
         rest = λ k. by k (k == n) refl place.1;
         behind = λ k. still k (k == n) refl;
-        among = λ s i. elim (in_either s some m.frames i) [ inl j ↦ b.among s j | inr j ↦ done_next n (b.at n) m place.0 less s j ];
+        among = λ s i. elim (in_parts some m.frames s i) [ inl j ↦ b.among s j | inr j ↦ done_next n (b.at n) m place.0 less s j ];
       }
     where
       by : (k : ℕ) (t : Bool) → (k == n) ≡ t → rest ≡ drop (suc (b.at n)) (moves_at all n) → cond t rest (js k) ≡ drop (cond t (suc (b.at n)) (b.at k)) (moves_at all k)
@@ -180,9 +167,9 @@ module _ (all : List (List Move)) (done : List ℕ) (frames : List Sent) (told :
       (subst (λ l. Each (λ s. In s (frames ++ m.frames)) (frames_of l)) (sym (take_place (moves_at all n) (slice_index done n) m there))
       (subst (Each (λ s. In s (frames ++ m.frames))) (sym (flat_append (take (slice_index done n) (moves_at all n)) (m ∷ []) ∙ ap (λ l. frames_of (take (slice_index done n) (moves_at all n)) ++ l) (append-nil m.frames)))
       (among_each (frames ++ m.frames) _ (λ s i.
-      elim (in_either s (frames_of (take (slice_index done n) (moves_at all n))) m.frames i) [
-        | inl j ↦ in_left s frames m.frames (each_among frames _ (going.covered n) s j)
-        | inr j ↦ in_right s frames m.frames j
+      elim (in_parts (frames_of (take (slice_index done n) (moves_at all n))) m.frames s i) [
+        | inl j ↦ in_append_left frames m.frames s (each_among frames _ (going.covered n) s j)
+        | inr j ↦ in_append_right frames m.frames s j
       ]))))
   covered_at going k false e = each_on _ frames m.frames (going.covered k)
 
@@ -214,6 +201,30 @@ module _ (all : List (List Move)) (done : List ℕ) (frames : List Sent) (told :
     sound = told_on going event;
   }
 
+  -- who may go on then either might before, or was sent something
+  may_cut : (k : ℕ) (o : Option Move) → MayGoNext k o (frames ++ m.frames) → MayGoNext k o frames ⊎ In k (map (λ (s : Sent). s.to) m.frames)
+  may_cut k None may = absurd may
+  may_cut k (Some x) may = by_act x.act may
+    where
+      by_act : (a : Act) → MayGo k a (frames ++ m.frames) → MayGo k a frames ⊎ In k (map (λ (s : Sent). s.to) m.frames)
+      by_act (Act.deliver frame) i = elim (in_parts frames m.frames (sent k frame) i) [
+        | inl before ↦ inl before
+        | inr now ↦ inr (in_map (λ (s : Sent). s.to) m.frames (sent k frame) now)
+      ]
+      by_act (Act.request r) i = inl tt
+      by_act (Act.commit p b) i = inl tt
+
+  pub awake_next : (awake : List ℕ) → ((k : ℕ) → IsReady all done frames k → In k awake) → In n awake
+      → (k : ℕ) → IsReady all done2 (frames ++ m.frames) k → In k (awake ++ map (λ (s : Sent). s.to) m.frames)
+  awake_next awake was here k ready = by (k == n) refl
+    where
+      by : (b : Bool) → (k == n) ≡ b → In k (awake ++ map (λ (s : Sent). s.to) m.frames)
+      by true e = in_append_left awake (map (λ (s : Sent). s.to) m.frames) k (subst (λ i. In i awake) (sym (same_index k n e)) here)
+      by false e = elim (may_cut k (slice_get (moves_at all k) (slice_index done k)) (subst (λ d. MayGoNext k (slice_get (moves_at all k) d) (frames ++ m.frames)) (done_at k false e) ready)) [
+        | inl before ↦ in_append_left awake (map (λ (s : Sent). s.to) m.frames) k (was k before)
+        | inr now ↦ in_append_right awake (map (λ (s : Sent). s.to) m.frames) k now
+      ]
+
 -- ---- the start, and the end
 
 zeros_at : (count k : ℕ) → slice_index (replicate count 0) k ≡ 0
@@ -238,10 +249,21 @@ going_end all done frames told going none = subst (λ l. AreTold all l frames) (
 
 -- ---- how many are left
 
-pub left_less : (all : List (List Move)) (done : List ℕ) (n : ℕ) → length done ≡ length all → slice_index done n < length (moves_at all n) → left all (set done n (slice_index done n + 1)) < left all done
-left_less [] done n same less = absurd (omega (arith, less))
-left_less (ms ∷ all) [] n same less = absurd (omega (arith, same))
-left_less (ms ∷ all) (d ∷ ds) zero same less = omega (arith, less)
-left_less (ms ∷ all) (d ∷ ds) (suc n) same less =
-    let rest = left_less all ds n (omega (arith, same)) less in
+-- one move less, and the frames that it sends
+weight_less : (ms : List Move) (k : ℕ) (m : Move) → slice_get ms k ≡ Some m → weight (drop (k + 1) ms) + suc (length m.frames) ≡ weight (drop k ms)
+weight_less ms k m there =
+    let number : k + 1 ≡ suc k = omega arith in
+    let next : weight (drop (k + 1) ms) ≡ weight (drop (suc k) ms) = ap (λ i. weight (drop i ms)) number in
+    let here = ap weight (place_at ms k m there) in
+    omega (arith, next, here)
+
+pub left_less : (all : List (List Move)) (done : List ℕ) (n : ℕ) (m : Move) → n < length done → slice_index done n < length (moves_at all n) → slice_get (moves_at all n) (slice_index done n) ≡ Some m
+    → left all (set done n (slice_index done n + 1)) + suc (length m.frames) ≡ left all done
+left_less [] done n m inside less there = absurd (omega (arith, less))
+left_less (ms ∷ all) [] n m inside less there = absurd (omega (arith, inside))
+left_less (ms ∷ all) (d ∷ ds) zero m inside less there =
+    let one = weight_less ms d m there in
+    omega (arith, one)
+left_less (ms ∷ all) (d ∷ ds) (suc n) m inside less there =
+    let rest = left_less all ds n m (omega (arith, inside)) less there in
     omega (arith, rest)

@@ -3,6 +3,7 @@ use Rattle.std.proofs.Common.{◌≡◌, ◌⊎◌, ℕ, zero, suc, ◌+◌, ◌
 use Rattle.std.proofs.lemmas.List.{take_all, take_more, map-append, drop_all, length-map}
 use Rattle.std.proofs.lemmas.Option.{slice_get-get_or, slice_get_past, slice_get-map, get_or_from_slice_get}
 use Rattle.pmg_value.specs.Lists.{In}
+use Rattle.pmg_value.proofs.ListLemmas.{in_append_left, in_append_right}
 use Rattle.pmg_runs.specs.Worlds.{nth, numbered}
 use Rattle.pmg_audit.specs.Codes.{all_of, lane_of, move_in}
 use Rattle.pmg_audit.specs.Moves.{Move}
@@ -58,6 +59,15 @@ numbered_at xs k x d inside is = let next : k + 1 ≡ suc k = omega arith in ap 
     there : (ys : List _) (k : ℕ) → k < length ys → nth ys k ≡ Some (get_or ys k d)
     there ys k inside = slice_get-get_or ys k d inside
 
+nth_stays : {A : Type 0} (xs ys : List A) (i : ℕ) (x : A) → nth xs i ≡ Some x → nth (xs ++ ys) i ≡ Some x
+nth_stays [] ys i x is = absurd cc
+nth_stays (z ∷ xs) ys zero x is = is
+nth_stays (z ∷ xs) ys (suc i) x is = nth_stays xs ys i x is
+
+pub numbered_stays : {A : Type 0} (xs ys : List A) (i : ℕ) (x : A) → numbered xs i ≡ Some x → numbered (xs ++ ys) i ≡ Some x
+numbered_stays xs ys zero x is = absurd cc
+numbered_stays xs ys (suc i) x is = nth_stays xs ys i x is
+
 not_in_push : {A : Type 0} (xs : List A) (x y : A) → (In y xs → ⊥) → (y ≡ x → ⊥) → In y (xs ++ x ∷ []) → ⊥
 not_in_push [] x y none other i = elim i [ inl same ↦ other same | inr later ↦ absurd later ]
 not_in_push (z ∷ xs) x y none other i = elim i [ inl same ↦ none (inl same) | inr later ↦ not_in_push xs x y (λ j. none (inr j)) other later ]
@@ -79,6 +89,21 @@ pub in_get : {A : Type 0} (xs : List A) (k : ℕ) (x : A) → k < length xs → 
 in_get [] k x inside is = absurd (omega (arith, inside))
 in_get (y ∷ xs) zero x inside is = inl is
 in_get (y ∷ xs) (suc k) x inside is = inr (in_get xs k x (omega (arith, inside)) is)
+
+pub first_in : {A : Type 0} (xs : List A) (x : A) → slice_get xs 0 ≡ Some x → In x xs
+first_in [] x is = absurd cc
+first_in (y ∷ xs) x is = let same : y ≡ x = cc in inl (sym same)
+
+-- all below a number, and that number
+pub in_next : (xs : List ℕ) (k : ℕ) → ((n : ℕ) → n < k → In n xs) → (n : ℕ) → n < k + 1 → In n (xs ++ k ∷ [])
+in_next xs k below n less = by (nat_lt n k) refl
+  where
+    by : (b : Bool) → nat_lt n k ≡ b → In n (xs ++ k ∷ [])
+    by true e = in_append_left xs (k ∷ []) n (below n (ltb-true n k e))
+    by false e =
+        let past : k ≤ n = ltb-false n k e in
+        let same : n ≡ k = omega (arith, past, less) in
+        in_append_right xs (k ∷ []) n (inl same)
 
 -- ---- what is left
 

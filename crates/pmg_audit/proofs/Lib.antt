@@ -7,6 +7,7 @@ pub mod DueLemmas
 pub mod SameActs
 pub mod SayingLemmas
 pub mod LaneLemmas
+pub mod SendLemmas
 pub mod StepLemmas
 pub mod ReplaySteps
 pub mod NodeSteps

@@ -3,8 +3,10 @@ use Rattle.std.proofs.Common.{◌≡◌, ℕ, zero, suc, ◌+◌, ◌-◌, ◌<�
 use Rattle.std.proofs.lemmas.Bool.{false≢true}
 use Rattle.std.proofs.lemmas.List.{drop_more, length-drop, nil_from_length, take-append-drop, take_all, take_more}
 use Rattle.pmg_value.specs.Lists.{In, Each}
-use Rattle.std.specs.Cmp.{Equal-is}
-use Rattle.pmg_value.proofs.ProcessOrder.{exact_procs}
+use Rattle.std.specs.BTreeMap.{is_at}
+use Rattle.std.specs.Cmp.{Equal-is, eq_by_cmp_equiv}
+use Rattle.pmg_value.specs.Process.{proc_cmp}
+use Rattle.pmg_value.proofs.ProcessOrder.{exact_procs, procs_total}
 use Rattle.pmg_value.specs.declared.process.Proc.{Proc}
 use Rattle.pmg_scope.specs.Cached.{no_puts}
 use Rattle.pmg_fence.specs.Entering.{same_proc}
@@ -15,7 +17,7 @@ use Rattle.pmg_journal.specs.declared.transcript.Transcript.{Transcript}
 use Rattle.pmg_audit.specs.Agreeing.{AreApart, said_for}
 use Rattle.pmg_audit.specs.Codes.{rest_of, said_in}
 use Rattle.pmg_audit.specs.Dues.{Due, said_by, takes_all}
-use Rattle.pmg_audit.specs.Taking.{AreSayings, IsPlace, NoneOf, Takes, procs_of}
+use Rattle.pmg_audit.specs.Taking.{ArePlaces, AreSayings, IsAbsent, IsPlace, NoneOf, StandsAt, Takes, place_at, procs_of}
 use Rattle.pmg_audit.specs.declared.moves.Due.{Due as KeptDue}
 use Rattle.pmg_audit.specs.declared.moves.Saying.{Saying}
 
@@ -45,15 +47,55 @@ each_all P xs k past each = subst (Each P) (take_all k xs past) each
 
 -- ---- places
 
-pub place_here : (ss : List Saying) (p : Proc) (k : ℕ) (d : Saying) → k < length ss → NoneOf (take k ss) p → same_proc p (get_or ss k d).proc ≡ true → IsPlace ss p k
-place_here [] p k d inside none same = absurd (omega (arith, inside))
-place_here (s ∷ ss) p zero d inside none same = same
-place_here (s ∷ ss) p (suc k) d inside none same = (none.0, place_here ss p k d (omega (arith, inside)) none.1 same)
-
 pub place_inside : (ss : List Saying) (p : Proc) (k : ℕ) → IsPlace ss p k → k < length ss
 place_inside [] p k place = absurd place
 place_inside (s ∷ ss) p zero place = omega arith
 place_inside (s ∷ ss) p (suc k) place = let rest = place_inside ss p k place.1 in omega (arith, rest)
+
+pub no_places : ArePlaces [] []
+no_places = record { found = λ p k is. absurd cc; none = λ p is. tt }
+
+stands_last : (ps : List Proc) (p : Proc) → IsAbsent ps p → StandsAt (ps ++ p ∷ []) p (length ps)
+stands_last [] p none = proc_itself p
+stands_last (q ∷ ps) p none = (none.0, stands_last ps p none.1)
+
+stands_on : (ps : List Proc) (p q : Proc) (k : ℕ) → StandsAt ps q k → StandsAt (ps ++ p ∷ []) q k
+stands_on [] p q k at = absurd at
+stands_on (r ∷ ps) p q zero at = at
+stands_on (r ∷ ps) p q (suc k) at = (at.0, stands_on ps p q k at.1)
+
+-- one process more
+pub places_more : (ps : List Proc) (p : Proc) (rows rows2 : List (Proc × ℕ)) → ArePlaces ps rows → IsAbsent ps p
+    → ((q : Proc) → place_at rows2 q ≡ cond (is_at (proc_cmp p) q) (Some (length ps)) (place_at rows q)) → ArePlaces (ps ++ p ∷ []) rows2
+places_more ps p rows rows2 are absent more = record {
+  found = λ q k is. found_by q k (is_at (proc_cmp p) q) refl (sym (more q) ∙ is);
+  none = λ q is. none_by q (is_at (proc_cmp p) q) refl (sym (more q) ∙ is);
+}
+  where
+    found_by : (q : Proc) (k : ℕ) (b : Bool) → is_at (proc_cmp p) q ≡ b → cond b (Some (length ps)) (place_at rows q) ≡ Some k → StandsAt (ps ++ p ∷ []) q k
+    found_by q k true tie is =
+        let place : length ps ≡ k = cc in
+        subst (StandsAt (ps ++ p ∷ []) q) place (subst (λ r. StandsAt (ps ++ p ∷ []) r (length ps)) (same_proc_is p q tie) (stands_last ps p absent))
+    found_by q k false tie is = stands_on ps p q k (are.found q k is)
+
+    none_by : (q : Proc) (b : Bool) → is_at (proc_cmp p) q ≡ b → cond b (Some (length ps)) (place_at rows q) ≡ None → IsAbsent (ps ++ p ∷ []) q
+    none_by q true tie is = absurd cc
+    none_by q false tie is = each_push (λ r. same_proc q r ≡ false) ps p (are.none q is) ((eq_by_cmp_equiv procs_total).symm q p ∙ tie)
+
+-- whether a process has a place
+pub kept_place : (ss : List Saying) (p : Proc) (rows : List (Proc × ℕ)) → ArePlaces (procs_of ss) rows → is_some (place_at rows p) ≡ true → (k : ℕ) × IsPlace ss p k
+kept_place ss p rows are there = by (place_at rows p) refl there
+  where
+    by : (o : Option ℕ) → place_at rows p ≡ o → is_some o ≡ true → (k : ℕ) × IsPlace ss p k
+    by None is some = absurd (false≢true some)
+    by (Some k) is some = (k, are.found p k is)
+
+pub no_place : (ss : List Saying) (p : Proc) (rows : List (Proc × ℕ)) → ArePlaces (procs_of ss) rows → is_some (place_at rows p) ≡ false → NoneOf ss p
+no_place ss p rows are there = by (place_at rows p) refl there
+  where
+    by : (o : Option ℕ) → place_at rows p ≡ o → is_some o ≡ false → NoneOf ss p
+    by None is some = are.none p is
+    by (Some k) is some = absurd (false≢true (sym some))
 
 pub none_rest : (ss : List Saying) (p : Proc) → NoneOf ss p → rest_of ss p ≡ []
 none_rest [] p none = refl
@@ -63,6 +105,16 @@ pub empty_at : (ss : List Saying) (p : Proc) (k : ℕ) (d : Saying) → IsPlace 
 empty_at [] p k d place empty = absurd place
 empty_at (s ∷ ss) p zero d place empty = ap (λ b. cond b (map said_in s.dues.items) (rest_of ss p)) place ∙ ap (map said_in) empty
 empty_at (s ∷ ss) p (suc k) d place empty = ap (λ b. cond b (map said_in s.dues.items) (rest_of ss p)) place.0 ∙ empty_at ss p k d place.1 empty
+
+procs_stay : (p : Proc) (x : Saying) (ss : List Saying) (k : ℕ) (e : Saying) → IsPlace ss p k → x.proc ≡ (get_or ss k e).proc → procs_of (set ss k x) ≡ procs_of ss
+procs_stay p x [] k e place same = absurd place
+procs_stay p x (s ∷ ss) zero e place same = ap (λ r. r ∷ procs_of ss) same
+procs_stay p x (s ∷ ss) (suc k) e place same = ap (λ l. s.proc ∷ l) (procs_stay p x ss k e place.1 same)
+
+-- what a process says takes no place
+pub places_stay : (p : Proc) (x : Saying) (ss : List Saying) (k : ℕ) (e : Saying) (rows : List (Proc × ℕ)) → IsPlace ss p k → x.proc ≡ (get_or ss k e).proc → ArePlaces (procs_of ss) rows
+    → ArePlaces (procs_of (set ss k x)) rows
+places_stay p x ss k e rows place same are = subst (λ (ps : List Proc). ArePlaces ps rows) (sym (procs_stay p x ss k e place same)) are
 
 -- the first event that is said there is taken
 module _ (p : Proc) (d : KeptDue) (ds : List KeptDue) (x : Saying) where
@@ -83,17 +135,12 @@ module _ (p : Proc) (d : KeptDue) (ds : List KeptDue) (x : Saying) where
       ap (λ b. cond b (map said_in x.dues.items) (rest_of ss q)) (ap (same_proc q) same ∙ not) ∙ sym (ap (λ b. cond b (map said_in s.dues.items) (rest_of ss q)) not)
   others_stay q apart (s ∷ ss) (suc k) e place same = ap (cond (same_proc q s.proc) (map said_in s.dues.items)) (others_stay q apart ss k e place.1 same)
 
-  procs_stay : (ss : List Saying) (k : ℕ) (e : Saying) → IsPlace ss p k → x.proc ≡ (get_or ss k e).proc → procs_of (set ss k x) ≡ procs_of ss
-  procs_stay [] k e place same = absurd place
-  procs_stay (s ∷ ss) zero e place same = ap (λ r. r ∷ procs_of ss) same
-  procs_stay (s ∷ ss) (suc k) e place same = ap (λ l. s.proc ∷ l) (procs_stay ss k e place.1 same)
-
   pub taken_at : (ss : List Saying) (k : ℕ) (e : Saying) → IsPlace ss p k → x.proc ≡ (get_or ss k e).proc → (get_or ss k e).dues.items ≡ d ∷ ds → x.dues.items ≡ ds
       → Takes ss p (said_in d) (set ss k x)
   taken_at ss k e place same was now = record {
     here = here_taken ss k e place same was now;
     others = λ q apart. others_stay q apart ss k e place same;
-    procs = procs_stay ss k e place same;
+    procs = procs_stay p x ss k e place same;
   }
 
 -- ---- sayings and transcripts
@@ -145,14 +192,6 @@ sayings_none = tt
 -- a list at one of its items
 pub cut_at : {A : Type 0} (xs : List A) (k : ℕ) (x : A) → k < length xs → x ≡ get_or xs k x → xs ≡ take k xs ++ x ∷ drop (k + 1) xs
 cut_at xs k x inside is = sym (take-append-drop k xs) ∙ ap (λ l. take k xs ++ l) (drop_more xs k x inside ∙ ap (λ y. y ∷ drop (k + 1) xs) (sym is))
-
-pub some_is : {A : Type 0} {P : A → Type 0} (o : Option A) → is_some o ≡ true → IfSome o P → (x : A) × P x
-some_is None e is = absurd cc
-some_is (Some x) e is = (x, is)
-
-pub none_is : {A : Type 0} (o : Option A) → is_some o ≡ false → IsNone o
-none_is None e = refl
-none_is (Some x) e = absurd cc
 
 pub take_is : {A : Type 0} (xs : List A) (k : ℕ) (x : A) → k < length xs → x ≡ get_or xs k x → take (k + 1) xs ≡ take k xs ++ x ∷ []
 take_is xs k x inside is = take_more xs k x inside ∙ ap (λ y. take k xs ++ y ∷ []) (sym is)

@@ -19,7 +19,7 @@ use Rattle.pmg_rules.specs.Holdings.{Holding}
 use Rattle.pmg_rules.specs.Sending.{NodeStep}
 use Rattle.pmg_rules.specs.declared.sent.Sent.{Sent}
 use Rattle.pmg_node.specs.Servers.{Server, after, reply_to, sent_by}
-use Rattle.pmg_runs.specs.Worlds.{Doing, Does, Event, Happened, Run, Step, World, changed_at, nth, numbered, said_in}
+use Rattle.pmg_runs.specs.Worlds.{Doing, Does, Event, Happened, Run, Step, World, changed_at, numbered, said_in}
 use Rattle.pmg_world.specs.Caching.{AllCached, cached_by}
 use Rattle.pmg_world.specs.Keeping.{AreCaches, AreNodes, IsNodeOf}
 use Rattle.pmg_world.proofs.ActLemmas.{act_keeps, act_steps}
@@ -31,6 +31,7 @@ use Rattle.pmg_audit.specs.Orders.{IsEventOf, Tells, happened, put_rest, puts_to
 use Rattle.pmg_audit.specs.Runs.{events_at, place_of, with_place}
 use Rattle.pmg_audit.proofs.ActSteps.{IsDone, act_done}
 use Rattle.pmg_audit.proofs.PutSteps.{PutsDone, puts_done, with_scripts}
+use Rattle.pmg_audit.proofs.LaneLemmas.{numbered_stays}
 
 -- ---- basics
 
@@ -281,15 +282,6 @@ tells_grow [] js frames xs final tells = record { more = []; is = tells.2 ∙ sy
 tells_grow (n ∷ order) js frames xs final tells =
     let later = tells_grow order (put_rest js n tells.1) (frames ++ tells.0.frames) tells.3 final tells.7 in
     record { more = tells.0.frames ++ later.more; is = later.is ∙ append_assoc frames tells.0.frames later.more }
-
-nth_stays : {A : Type 0} (xs ys : List A) (i : ℕ) (x : A) → nth xs i ≡ Some x → nth (xs ++ ys) i ≡ Some x
-nth_stays [] ys i x is = absurd cc
-nth_stays (z ∷ xs) ys zero x is = is
-nth_stays (z ∷ xs) ys (suc i) x is = nth_stays xs ys i x is
-
-pub numbered_stays : {A : Type 0} (xs ys : List A) (i : ℕ) (x : A) → numbered xs i ≡ Some x → numbered (xs ++ ys) i ≡ Some x
-numbered_stays xs ys zero x is = absurd cc
-numbered_stays xs ys (suc i) x is = nth_stays xs ys i x is
 
 -- what is told is a run, and tells each node's moves
 pub record Woven (jobs : Jobs) (final : List Sent) (js : ℕ → List Move) (servers : List Server) (w : World) (xs : List Happened) : Type 0 where

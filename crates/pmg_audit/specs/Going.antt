@@ -1,5 +1,5 @@
 -- How far an order of the moves of several nodes has come.
-use Rattle.std.specs.Prelude.{◌≡◌, ℕ, ◌+◌, ◌-◌, ◌<◌, List, [], ◌∷◌, ◌++◌, length, Option, Some, None, slice_get, slice_index, take}
+use Rattle.std.specs.Prelude.{◌≡◌, ℕ, suc, ◌+◌, ◌<◌, List, [], ◌∷◌, ◌++◌, length, Option, Some, None, slice_get, slice_index, take, drop}
 use Rattle.std.specs.List.{flat_map}
 use Rattle.pmg_value.specs.Lists.{In, Each}
 use Rattle.pmg_rules.specs.declared.sent.Sent.{Sent}
@@ -37,11 +37,16 @@ pub record IsGoing (all : List (List Move)) (done : List ℕ) (frames : List Sen
   pub covered : (n : ℕ) → Each (λ s. In s frames) (frames_of (take (slice_index done n) (moves_at all n)))
   pub sound : (order : List ℕ) (others : List Happened) (final : List Sent) → Tells (rests all done) frames order others final → AreTold all (told ++ others) final
 
--- how many moves are not done
+-- how many moves these are, with the frames that they sent
+abbrev pub weight : List Move → ℕ
+weight [] = 0
+weight (m ∷ ms) = suc (length m.frames) + weight ms
+
+-- the weight of those that are not done
 abbrev pub left : List (List Move) → List ℕ → ℕ
 left [] ds = 0
 left (ms ∷ all) [] = 0
-left (ms ∷ all) (d ∷ ds) = (length ms - d) + left all ds
+left (ms ∷ all) (d ∷ ds) = weight (drop d ms) + left all ds
 
 -- some node has moves that are not done
 abbrev pub SomeOpen : List (List Move) → List ℕ → Type 0

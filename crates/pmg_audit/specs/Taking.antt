@@ -1,6 +1,9 @@
 -- What clients say of their events, of which some are told.
-use Rattle.std.specs.Prelude.{◌≡◌, ℕ, zero, suc, true, false, List, [], ◌∷◌, map, if◌then◌else◌}
+use Rattle.std.specs.Prelude.{◌≡◌, ℕ, zero, suc, true, false, List, [], ◌∷◌, map, Option, Some, None}
+use Rattle.std.specs.BTreeMap.{is_at}
+use Rattle.std.specs.Map.{lookup}
 use Rattle.pmg_value.specs.Lists.{In, Each}
+use Rattle.pmg_value.specs.Process.{proc_cmp}
 use Rattle.pmg_value.specs.declared.process.Proc.{Proc}
 use Rattle.pmg_fence.specs.Entering.{same_proc}
 use Rattle.pmg_journal.specs.declared.transcript.Transcript.{Transcript}
@@ -14,19 +17,36 @@ AreSayings [] [] = Unit {0}
 AreSayings (s ∷ ss) (t ∷ ts) = (s.proc ≡ t.proc) × (map said_in s.dues.items ≡ said_by t) × AreSayings ss ts
 AreSayings _ _ = ⊥
 
--- none is of the process
-abbrev pub NoneOf : List Saying → Proc → Type 0
-NoneOf ss p = Each (λ (s : Saying). same_proc p s.proc ≡ false) ss
-
--- the first of the process stands there
-abbrev pub IsPlace : List Saying → Proc → ℕ → Type 0
-IsPlace [] p k = ⊥
-IsPlace (s ∷ ss) p zero = same_proc p s.proc ≡ true
-IsPlace (s ∷ ss) p (suc k) = (same_proc p s.proc ≡ false) × IsPlace ss p k
-
 -- of which processes they are
 abbrev pub procs_of : List Saying → List Proc
 procs_of ss = map (λ (s : Saying). s.proc) ss
+
+-- the process is none of these
+abbrev pub IsAbsent : List Proc → Proc → Type 0
+IsAbsent ps p = Each (λ q. same_proc p q ≡ false) ps
+
+-- the process stands there first
+abbrev pub StandsAt : List Proc → Proc → ℕ → Type 0
+StandsAt [] p k = ⊥
+StandsAt (q ∷ ps) p zero = same_proc p q ≡ true
+StandsAt (q ∷ ps) p (suc k) = (same_proc p q ≡ false) × StandsAt ps p k
+
+-- none is of the process
+abbrev pub NoneOf : List Saying → Proc → Type 0
+NoneOf ss p = IsAbsent (procs_of ss) p
+
+-- the first of the process stands there
+abbrev pub IsPlace : List Saying → Proc → ℕ → Type 0
+IsPlace ss p k = StandsAt (procs_of ss) p k
+
+-- the place that is kept of the process
+abbrev pub place_at : List (Proc × ℕ) → Proc → Option ℕ
+place_at rows p = lookup (is_at (proc_cmp p)) rows
+
+-- the places that are kept are those where the processes stand
+pub record ArePlaces (ps : List Proc) (rows : List (Proc × ℕ)) : Type 0 where
+  pub found : (p : Proc) (k : ℕ) → place_at rows p ≡ Some k → StandsAt ps p k
+  pub none : (p : Proc) → place_at rows p ≡ None → IsAbsent ps p
 
 -- the next event that the process says is this one, and is told
 pub record Takes (old : List Saying) (p : Proc) (d : Due) (new : List Saying) : Type 0 where

@@ -1,22 +1,23 @@
--- An order in code, one event further.
-use Rattle.std.specs.Prelude.{◌≡◌, ℕ, ◌<◌, List, length, map}
+-- An order in code, as far as it has come.
+use Rattle.std.specs.Prelude.{ℕ, ◌+◌, ◌<◌, List, length, map}
+use Rattle.pmg_value.specs.Lists.{In}
 use Rattle.pmg_world.specs.Telling.{happened_of}
 use Rattle.pmg_audit.specs.Going.{IsGoing, IsReady, left}
 use Rattle.pmg_audit.specs.Moves.{Move}
-use Rattle.pmg_audit.specs.declared.ordering.Order.{Order}
+use Rattle.pmg_audit.specs.Sends.{AreNumbered}
+use Rattle.pmg_audit.specs.declared.ordering.Making.{Making}
 
--- how far the order has come
-abbrev pub Reaches : List (List Move) → List ℕ → Order → Type 0
-Reaches all done o = IsGoing all done o.sent.items (map happened_of o.told.items)
+-- So far the order has come. Each node whose next move may come is awake.
+pub record IsMaking (all : List (List Move)) (m : Making) : Type 0 where
+  pub going : IsGoing all m.done.items m.sends.frames.items (map happened_of m.told.items)
+  pub numbered : AreNumbered m.sends
+  pub awake : (n : ℕ) → IsReady all m.done.items m.sends.frames.items n → In n m.awake.items
 
--- it comes one event further
-pub record GoesOn (all : List (List Move)) (done : List ℕ) (o : Order) (done2 : List ℕ) (o2 : Order) : Type 0 where
-  pub count : length done2 ≡ length done
-  pub fewer : left all done2 < left all done
-  pub reaches : Reaches all done o → Reaches all done2 o2
+-- how much is left to do: what the moves weigh that are not done, and how many nodes are to be looked at
+abbrev pub work : List (List Move) → Making → ℕ
+work all m = left all m.done.items + length m.awake.items
 
--- it stays, since nothing may come next
-pub record Stays (all : List (List Move)) (done : List ℕ) (o : Order) (done2 : List ℕ) (o2 : Order) : Type 0 where
-  pub same : done2 ≡ done
-  pub order : o2 ≡ o
-  pub none : (n : ℕ) → IsReady all done o.sent.items n → ⊥
+-- the order is made on, and less is left to do
+pub record GoesOn (all : List (List Move)) (m m2 : Making) : Type 0 where
+  pub making : IsMaking all m2
+  pub less : work all m2 < work all m

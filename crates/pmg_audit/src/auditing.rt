@@ -8,11 +8,10 @@ ghost use Rattle.pmg_audit.specs.Replaying.{AreWhole, EndsFor, EndsWell};
 ghost use Rattle.pmg_audit.specs.Runs.{AreJournals, HasJournal, IsOneRun, account_by};
 ghost use Rattle.pmg_world.specs.Accounts.{IsKept, IsRun};
 
-use crate::moves::Saying;
 use crate::ordering::{Order, make_order};
 use crate::replaying::{AllReplayed, replay_all};
 use crate::run::Run;
-use crate::sayings::{are_told, sayings_of};
+use crate::sayings::{Sayings, sayings_of};
 use pmg_jobinfo::Registry;
 use pmg_journal::{Journal, Transcript};
 use pmg_value::{NodeId, Refusal};
@@ -78,10 +77,10 @@ fn replays_with(
     alloc: Global,
     registry: &Registry,
     journals: &[Journal],
-    mut sayings: Vec<Saying>,
+    mut sayings: Sayings,
 ) -> Result<AllReplayed, Refusal>
-    ensures ok { IfOk result (λ all. EndsWell registry.now journals.now sayings.items all) }
-    ensures refused { IfErr result (λ e. EndsFor registry.now journals.now sayings.items e) }
+    ensures ok { IfOk result (λ all. EndsWell registry.now journals.now sayings all) }
+    ensures refused { IfErr result (λ e. EndsFor registry.now journals.now sayings e) }
 {
     replays_among(alloc, registry, journals, &mut sayings)
 }
@@ -91,14 +90,14 @@ fn replays_among(
     alloc: Global,
     registry: &Registry,
     journals: &[Journal],
-    sayings: &mut [Saying],
+    sayings: &mut Sayings,
 ) -> Result<AllReplayed, Refusal>
     ensures ok { IfOk result (λ all. EndsWell registry.now journals.now sayings.old all) }
     ensures refused { IfErr result (λ e. EndsFor registry.now journals.now sayings.old e) }
 {
     match replay_all(alloc, registry, journals, sayings) {
         Ok(all) => {
-            if !are_told(sayings) {
+            if !sayings.are_told() {
                 return Err(Refusal::Collision);
             }
             if all.is_stale {

@@ -9,6 +9,7 @@ mod replaying;
 mod run;
 mod same;
 mod sayings;
+mod sends;
 
 pub use auditing::audit;
 pub use laws::audit_rules;

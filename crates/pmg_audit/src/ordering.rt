@@ -1,21 +1,21 @@
 //! An order of what happened at several nodes, in which each frame is delivered after it was sent.
-ghost use Rattle.std.specs.Prelude.{◌≡◌, ◌↔◌, ◌⊎◌, ◌<◌, ◌++◌, ℕ, true, false, [], ◌∷◌, length, map, Some, IfOk, IfErr, IfSome, IsNone, IsTrue, OnOk};
+ghost use Rattle.std.specs.Prelude.{◌≡◌, ◌↔◌, ◌⊎◌, ◌<◌, ◌++◌, ℕ, true, false, [], ◌∷◌, length, map, slice_get, Some, IfOk, IfErr, IfSome, IsNone, OnOk};
 ghost use Rattle.std.specs.Option.{option_map};
 ghost use Rattle.pmg_value.specs.Lists.{In};
 ghost use Rattle.pmg_value.specs.declared.refusal.Refusal.TheVariants as refusals;
 ghost use Rattle.pmg_node.specs.Acting.{act_of, reply_as};
 ghost use Rattle.pmg_node.specs.Servers.{reply_in};
-ghost use Rattle.pmg_rules.specs.Sending.{sent as sent_to};
-ghost use Rattle.pmg_runs.specs.Worlds.{numbered};
+ghost use Rattle.pmg_rules.specs.declared.sent.Sent.{Sent as SentFrame};
 ghost use Rattle.pmg_world.specs.Telling.{event_of, happened_of};
 ghost use Rattle.pmg_audit.specs.Codes.{all_of, put_in};
 ghost use Rattle.pmg_audit.specs.Moves.{caller_of};
 ghost use Rattle.pmg_audit.specs.Orders.{AreTold, IsEventOf, MayGo, NoOrder, happened, put_told, puts_told, rests};
 ghost use Rattle.pmg_audit.specs.Going.{IsNext, IsReady, SomeOpen};
-ghost use Rattle.pmg_audit.specs.Telling.{GoesOn, Stays};
+ghost use Rattle.pmg_audit.specs.Sends.{AreNumbered};
+ghost use Rattle.pmg_audit.specs.Telling.{GoesOn, IsMaking};
 
 use crate::moves::{Lane, Move, Put};
-use pmg_frame::Frame;
+use crate::sends::Sends;
 use pmg_journal::copy_of_answer;
 use pmg_node::{Act, Reply, Request};
 use pmg_rules::Sent;
@@ -49,57 +49,41 @@ impl Order {
     }
 }
 
-/// An event that may come next.
-struct Next {
-    node: usize,
-    event: Event,
+/// An order that is made, event after event.
+struct Making {
+    /// How many events of each node are told.
+    done: Vec<usize>,
+    /// What is told of them.
+    told: Vec<Told>,
+    /// What they sent.
+    sends: Sends,
+    /// The nodes to be looked at: no other has an event that may come next.
+    awake: VecDeque<usize>,
 }
 
-impl Drop for Next {
+impl Drop for Making {
     fn drop(self) {
-        let Next { node: _, event: _ } = self;
+        let Making {
+            done: _,
+            told: _,
+            sends: _,
+            awake: _,
+        } = self;
     }
-}
-
-impl Next {
-    /// The event.
-    fn into_event(self) -> Event
-        ensures { result ≡ self.event }
-    {
-        let Next { node: _, event } = self;
-        event
-    }
-}
-
-/// Whether that frame was sent to the node.
-fn is_sent(sent: &Sent, node: u64, frame: &Frame) -> bool
-    ensures { IsTrue result ↔ (sent.now ≡ sent_to node frame.now) }
-{
-    sent.to.index() as u64 == node && sent.frame.is_same(frame)
-}
-
-/// The number of the first frame that was sent to the node and says the same.
-fn number_of(sent: &[Sent], node: u64, frame: &Frame) -> Option<u64>
-    ensures some { IfSome result (λ i. numbered sent.now i ≡ Some (sent_to node frame.now)) }
-    ensures none { IsNone result → In (sent_to node frame.now) sent.now → ⊥ }
-{
-    for index in 0..sent.len() {
-        if is_sent(&sent[index], node, frame) {
-            return Some(index as u64 + 1);
-        }
-    }
-    None
 }
 
 /// The act of the node as an event, if it may come next.
-fn event_for(sent: &[Sent], node: u64, act: &Act) -> Result<Option<Event>, AllocError>
-    ensures some { IfOk result (λ o. IfSome o (λ e. IsEventOf sent.now node (act_of act.now) (event_of e))) }
-    ensures none { IfOk result (λ o. IsNone o → MayGo node (act_of act.now) sent.now → ⊥) }
+fn event_for(sends: &Sends, node: u64, act: &Act) -> Result<Option<Event>, AllocError>
+    requires { AreNumbered sends.now }
+    ensures some { IfOk result (λ o. IfSome o (λ e.
+        IsEventOf sends.now.frames.items node (act_of act.now) (event_of e))) }
+    ensures none { IfOk result (λ o. IsNone o
+        → MayGo node (act_of act.now) sends.now.frames.items → ⊥) }
 {
     match act {
         Act::Commit(proc, _) => Ok(Some(Event::Commit(node, proc.copy()?))),
         Act::Request(request) => Ok(Some(Event::Request(node, request.copy()?))),
-        Act::Deliver(frame) => match number_of(sent, node, frame) {
+        Act::Deliver(frame) => match sends.number_of(node, frame)? {
             Some(number) => Ok(Some(Event::Deliver(number))),
             None => Ok(None),
         },
@@ -110,32 +94,23 @@ fn event_for(sent: &[Sent], node: u64, act: &Act) -> Result<Option<Event>, Alloc
 fn next_at(
     lanes: &[Lane],
     done: &[usize],
-    sent: &[Sent],
+    sends: &Sends,
     node: usize,
 ) -> Result<Option<Event>, AllocError>
-    requires inside { node < length lanes.now }
-    requires done { node < length done.now }
-    ensures some { IfOk result (λ o. IfSome o (λ e. IsNext (all_of lanes.now) done.now sent.now node (event_of e))) }
-    ensures none { IfOk result (λ o. IsNone o → IsReady (all_of lanes.now) done.now sent.now node → ⊥) }
+    requires done { length done.now ≡ length lanes.now }
+    requires numbered { AreNumbered sends.now }
+    ensures some { IfOk result (λ o. IfSome o (λ e.
+        IsNext (all_of lanes.now) done.now sends.now.frames.items node (event_of e))) }
+    ensures none { IfOk result (λ o. IsNone o
+        → IsReady (all_of lanes.now) done.now sends.now.frames.items node → ⊥) }
 {
+    if node >= lanes.len() {
+        return Ok(None);
+    }
     match lanes[node].moves.get(done[node]) {
-        Some(next) => event_for(sent, node as u64, &next.act),
+        Some(next) => event_for(sends, node as u64, &next.act),
         None => Ok(None),
     }
-}
-
-/// The first event that may come next.
-fn next_ready(lanes: &[Lane], done: &[usize], sent: &[Sent]) -> Result<Option<Next>, AllocError>
-    requires { length done.now ≡ length lanes.now }
-    ensures some { IfOk result (λ o. IfSome o (λ next. IsNext (all_of lanes.now) done.now sent.now next.node (event_of next.event))) }
-    ensures none { IfOk result (λ o. IsNone o → (n : ℕ) → IsReady (all_of lanes.now) done.now sent.now n → ⊥) }
-{
-    for node in 0..lanes.len() {
-        if let Some(event) = next_at(lanes, done, sent, node)? {
-            return Ok(Some(Next { node, event }));
-        }
-    }
-    Ok(None)
 }
 
 /// The process that calls, if one does.
@@ -174,51 +149,115 @@ fn tell_puts(told: &mut Vec<Told>, proc: &Proc, puts: &[Put]) -> Result<(), Allo
     Ok(())
 }
 
-/// Copies of the frames are sent after the others.
-fn send_copies(sent: &mut Vec<Sent>, frames: &VecDeque<Sent>) -> Result<(), AllocError>
-    ensures { OnOk result (sent.new.items ≡ sent.old.items ++ frames.now.items) }
+/// All nodes, so many.
+fn all_awake(alloc: Global, count: usize) -> Result<VecDeque<usize>, AllocError>
+    ensures { IfOk result (λ awake. (n : ℕ) → n < count → In n awake.items) }
 {
-    for index in 0..frames.len() {
-        let frame = &frames[index];
-        sent.push(Sent {
-            to: frame.to,
-            frame: frame.frame.copy()?,
-        })?;
+    let mut awake = VecDeque::new(alloc);
+    for node in 0..count {
+        awake.push_back(node)?;
     }
-    Ok(())
+    Ok(awake)
 }
 
-impl Order {
+impl Making {
+    /// Nothing is told yet.
+    fn new(alloc: Global, lanes: &[Lane]) -> Result<Making, AllocError>
+        ensures { IfOk result (IsMaking (all_of lanes.now)) }
+    {
+        Ok(Making {
+            done: vec![in alloc; 0usize; lanes.len()]?,
+            told: Vec::new(alloc),
+            sends: Sends::new(alloc),
+            awake: all_awake(alloc, lanes.len())?,
+        })
+    }
+
+    /// The frames are sent after the others, and who they are sent to is looked at.
+    fn send_all(&mut self, frames: &VecDeque<Sent>) -> Result<(), AllocError>
+        requires { AreNumbered self.old.sends }
+        ensures told { self.new.told ≡ self.old.told }
+        ensures done { self.new.done ≡ self.old.done }
+        ensures sent { OnOk result (self.new.sends.frames.items
+            ≡ self.old.sends.frames.items ++ frames.now.items) }
+        ensures numbered { OnOk result (AreNumbered self.new.sends) }
+        ensures awake { OnOk result (self.new.awake.items
+            ≡ self.old.awake.items ++ map (λ (s : SentFrame). s.to) frames.now.items) }
+    {
+        for index in 0..frames.len() {
+            let frame = &frames[index];
+            self.sends.push(frame)?;
+            self.awake.push_back(frame.to.index() as usize)?;
+        }
+        Ok(())
+    }
+
     /// The event is told, after the puts before it, and its frames are sent.
     fn tell(&mut self, next: &Move, event: Event) -> Result<(), AllocError>
+        requires { AreNumbered self.old.sends }
         ensures told { OnOk result (map happened_of self.new.told.items
-            ≡ map happened_of self.old.told.items ++ (puts_told (caller_of (act_of next.now.act)) (map put_in next.now.puts.items)
+            ≡ map happened_of self.old.told.items
+            ++ (puts_told (caller_of (act_of next.now.act)) (map put_in next.now.puts.items)
             ++ happened (event_of event) (reply_in reply_as next.now.answer) ∷ [])) }
-        ensures sent { OnOk result (self.new.sent.items ≡ self.old.sent.items ++ next.now.frames.items) }
+        ensures done { self.new.done ≡ self.old.done }
+        ensures sent { OnOk result (self.new.sends.frames.items
+            ≡ self.old.sends.frames.items ++ next.now.frames.items) }
+        ensures numbered { OnOk result (AreNumbered self.new.sends) }
+        ensures awake { OnOk result (self.new.awake.items
+            ≡ self.old.awake.items ++ map (λ (s : SentFrame). s.to) next.now.frames.items) }
     {
         if let Some(proc) = caller_of(&next.act) {
             tell_puts(&mut self.told, proc, &next.puts)?;
         }
         let answer = copy_of_answer(&next.answer)?;
         self.told.push(Told { event, answer })?;
-        send_copies(&mut self.sent, &next.frames)
+        self.send_all(&next.frames)
     }
-}
 
-/// One event more is told, if one may come next.
-fn take_step(lanes: &[Lane], done: &mut Vec<usize>, order: &mut Order) -> Result<bool, AllocError>
-    requires { length done.old.items ≡ length lanes.now }
-    ensures next { IfOk result (λ more. more ≡ true → GoesOn (all_of lanes.now) done.old.items order.old done.new.items order.new) }
-    ensures none { IfOk result (λ more. more ≡ false → Stays (all_of lanes.now) done.old.items order.old done.new.items order.new) }
-{
-    let Some(next) = next_ready(lanes, done, &order.sent)? else {
-        return Ok(false);
-    };
-    let node = next.node;
-    let lane = &lanes[node];
-    order.tell(&lane.moves[done[node]], next.into_event())?;
-    done[node] += 1;
-    Ok(true)
+    /// The node's next event is told.
+    fn go_on(&mut self, lanes: &[Lane], node: usize, event: Event) -> Result<(), AllocError>
+        requires making { IsMaking (all_of lanes.now) self.old }
+        requires awake { In node self.old.awake.items }
+        requires next { IsNext (all_of lanes.now) self.old.done.items self.old.sends.frames.items node (event_of event) }
+        ensures { OnOk result (GoesOn (all_of lanes.now) self.old self.new) }
+    {
+        let place = self.done[node];
+        self.tell(&lanes[node].moves[place], event)?;
+        self.done[node] = place + 1;
+        Ok(())
+    }
+
+    /// The first node that is to be looked at goes on, or is not looked at again until something is sent to it.
+    fn look(&mut self, lanes: &[Lane], node: usize) -> Result<(), AllocError>
+        requires making { IsMaking (all_of lanes.now) self.old }
+        requires first { slice_get self.old.awake.items 0 ≡ Some node }
+        ensures { OnOk result (GoesOn (all_of lanes.now) self.old self.new) }
+    {
+        match next_at(lanes, &self.done, &self.sends, node)? {
+            Some(event) => self.go_on(lanes, node, event)?,
+            None => {
+                self.awake.pop_front();
+            }
+        }
+        Ok(())
+    }
+
+    /// What is told, and what was sent.
+    fn into_order(self) -> Order
+        ensures sent { result.sent ≡ self.sends.frames }
+        ensures told { result.told ≡ self.told }
+    {
+        let Making {
+            done: _,
+            told,
+            sends,
+            awake: _,
+        } = self;
+        Order {
+            sent: sends.into_frames(),
+            told,
+        }
+    }
 }
 
 /// Whether a node has events that are not told.
@@ -235,20 +274,27 @@ fn is_open(lanes: &[Lane], done: &[usize]) -> bool
     false
 }
 
+/// All events are told that may be.
+fn make_all(alloc: Global, lanes: &[Lane]) -> Result<Making, AllocError>
+    ensures making { IfOk result (IsMaking (all_of lanes.now)) }
+    ensures ended { IfOk result (λ m. m.awake.items ≡ []) }
+{
+    let mut making = Making::new(alloc, lanes)?;
+    while let Some(&node) = making.awake.front() {
+        making.look(lanes, node)?;
+    }
+    Ok(making)
+}
+
 /// An order of all events. Refused as Unordered where no order delivers each frame after it was sent.
 pub(crate) fn make_order(alloc: Global, lanes: &[Lane]) -> Result<Order, Refusal>
     ensures ok { IfOk result (λ o. AreTold (all_of lanes.now) (map happened_of o.told.items) o.sent.items) }
     ensures unordered { IfErr result (λ e. e ≡ refusals.Unordered → NoOrder (all_of lanes.now)) }
     ensures few { IfErr result (λ e. (e ≡ refusals.NoMemory) ⊎ (e ≡ refusals.Unordered)) }
 {
-    let mut order = Order {
-        sent: Vec::new(alloc),
-        told: Vec::new(alloc),
-    };
-    let mut done = vec![in alloc; 0usize; lanes.len()]?;
-    while take_step(lanes, &mut done, &mut order)? {}
-    if is_open(lanes, &done) {
+    let making = make_all(alloc, lanes)?;
+    if is_open(lanes, &making.done) {
         return Err(Refusal::Unordered);
     }
-    Ok(order)
+    Ok(making.into_order())
 }

@@ -11,10 +11,10 @@ ghost use Rattle.pmg_audit.specs.Moves.{caller_of};
 ghost use Rattle.pmg_audit.specs.Replaying.{AddsNode, AllUnsaid, AreReplayed, Continues, HaveHappened, IsAdded, IsUnsaid, RefusesFor, SomeUnsaid, TakesPuts, sent_more, unsent_move};
 ghost use Rattle.pmg_audit.specs.Runs.{told_at};
 
-use crate::moves::{Due, Lane, Move, Put, Saying};
+use crate::moves::{Due, Lane, Move, Put};
 use crate::ordering::caller_of;
 use crate::same::{is_same_act, is_same_answer};
-use crate::sayings::take_due;
+use crate::sayings::Sayings;
 use pmg_jobinfo::Registry;
 use pmg_journal::{Event, Journal, copy_of_act, copy_of_answer};
 use pmg_node::{Act, Node, Reply};
@@ -55,7 +55,7 @@ fn may_put(node: &Node, proc: &Proc, puts: &[Put]) -> bool
 }
 
 /// The puts of the process before the event, if it says that it made the event, and is at home at the node.
-fn puts_of(sayings: &mut [Saying], node: &Node, proc: &Proc, event: &Event) -> Option<Vec<Put>>
+fn puts_of(sayings: &mut Sayings, node: &Node, proc: &Proc, event: &Event) -> Option<Vec<Put>>
     requires { caller_of (act_of event.now.act) ≡ Some proc.now }
     ensures some { IfSome result (λ puts. TakesPuts node.now sayings.old (happening_of event.now) (map put_in puts.items) sayings.new) }
     ensures none { IsNone result → IsSaidBy node.now (rest_of sayings.old) (caller_of (act_of event.now.act)) (happening_of event.now) → ⊥ }
@@ -63,7 +63,7 @@ fn puts_of(sayings: &mut [Saying], node: &Node, proc: &Proc, event: &Event) -> O
     if !node.registry().is_home(node.id(), proc) {
         return None;
     }
-    let Some(due) = take_due(sayings, proc) else {
+    let Some(due) = sayings.take_due(proc) else {
         return None;
     };
     if !is_said(&due, event) {
@@ -76,12 +76,7 @@ fn puts_of(sayings: &mut [Saying], node: &Node, proc: &Proc, event: &Event) -> O
 }
 
 /// The puts before the event: those of its caller.
-fn puts_before(
-    alloc: Global,
-    sayings: &mut [Saying],
-    node: &Node,
-    event: &Event,
-) -> Option<Vec<Put>>
+fn puts_before(alloc: Global, sayings: &mut Sayings, node: &Node, event: &Event) -> Option<Vec<Put>>
     ensures some { IfSome result (λ puts. TakesPuts node.now sayings.old (happening_of event.now) (map put_in puts.items) sayings.new) }
     ensures none { IsNone result → IsSaidBy node.now (rest_of sayings.old) (caller_of (act_of event.now.act)) (happening_of event.now) → ⊥ }
 {
@@ -150,7 +145,7 @@ impl Replay {
         &mut self,
         alloc: Global,
         event: &Event,
-        sayings: &mut [Saying],
+        sayings: &mut Sayings,
     ) -> Result<(), Refusal>
         ensures ok { OnOk result (Continues self.old sayings.old (happening_of event.now) self.new sayings.new) }
         ensures refused { IfErr result (λ e. RefusesFor e (IsUnsaid self.old.node sayings.old (happening_of event.now))) }
@@ -169,7 +164,7 @@ impl Replay {
         &mut self,
         alloc: Global,
         events: &[Event],
-        sayings: &mut [Saying],
+        sayings: &mut Sayings,
     ) -> Result<(), Refusal>
         requires fresh { self.old.is_stale ≡ false }
         requires empty { lane_of self.old.lane ≡ [] }
@@ -204,7 +199,7 @@ fn replay_journal(
     registry: &Registry,
     node: NodeId,
     events: &[Event],
-    sayings: &mut [Saying],
+    sayings: &mut Sayings,
 ) -> Result<Replay, Refusal>
     requires { node < length registry.now.nodes }
     ensures ok { IfOk result (λ r. HaveHappened (new_server registry.now node) sayings.old (map happening_of events.now) r sayings.new) }
@@ -290,7 +285,7 @@ impl AllReplayed {
         registry: &Registry,
         node: NodeId,
         journals: &[Journal],
-        sayings: &mut [Saying],
+        sayings: &mut Sayings,
     ) -> Result<(), Refusal>
         requires { node < length registry.now.nodes }
         ensures ok { OnOk result (AddsNode registry.now journals.now node self.old sayings.old self.new sayings.new) }
@@ -312,7 +307,7 @@ pub(crate) fn replay_all(
     alloc: Global,
     registry: &Registry,
     journals: &[Journal],
-    sayings: &mut [Saying],
+    sayings: &mut Sayings,
 ) -> Result<AllReplayed, Refusal>
     ensures ok { IfOk result (λ all. AreReplayed registry.now journals.now sayings.old (length registry.now.nodes) all sayings.new) }
     ensures refused { IfErr result (λ e. RefusesFor e (SomeUnsaid registry.now journals.now sayings.old)) }

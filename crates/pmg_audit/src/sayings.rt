@@ -15,7 +15,7 @@ ghost use Rattle.pmg_audit.specs.Codes.{put_in, rest_of, said_in};
 ghost use Rattle.pmg_audit.specs.Dues.{due, dues, is_passed, said_by, takes, takes_all};
 ghost use Rattle.pmg_audit.specs.Moves.{is_own_ask};
 ghost use Rattle.pmg_audit.specs.Reading.{Reads};
-ghost use Rattle.pmg_audit.specs.Taking.{AreSayings, IsPlace, NoneOf, SomeLeft, Takes, procs_of};
+ghost use Rattle.pmg_audit.specs.Taking.{ArePlaces, AreSayings, NoneOf, SomeLeft, Takes, procs_of};
 ghost use Rattle.pmg_audit.specs.declared.moves.Saying.{Saying as SayingOf};
 
 use crate::moves::{Due, Put, Saying};
@@ -24,7 +24,8 @@ use pmg_node::{Act, Reply, Request};
 use pmg_scope::{Cache, Scope};
 use pmg_value::{Key, Proc, Refusal, Value};
 use std::alloc::{AllocError, Global};
-use std::collections::VecDeque;
+use std::collections::{BTreeMap, VecDeque};
+use std::marker::Model;
 use std::mem;
 
 /// A transcript that is read: what its client's cache holds, what it put since its last event, and its events.
@@ -202,62 +203,98 @@ fn dues_of(alloc: Global, transcript: &Transcript) -> Result<Option<VecDeque<Due
     Ok(Some(reading.into_dues()))
 }
 
-/// The place of the process's saying.
-fn place_of(sayings: &[Saying], proc: &Proc) -> Option<usize>
-    ensures some { IfSome result (λ k. IsPlace sayings.now proc.now k) }
-    ensures inside { IfSome result (λ k. k < length sayings.now) }
-    ensures none { IsNone result → NoneOf sayings.now proc.now }
-{
-    for place in 0..sayings.len() {
-        if proc.cmp(&sayings[place].proc).is_eq() {
-            return Some(place);
-        }
+/// What clients say, each found by its process.
+pub(crate) struct Sayings {
+    items: Vec<Saying>,
+    places: BTreeMap<Proc, usize>,
+}
+
+impl Drop for Sayings {
+    fn drop(self) {
+        let Sayings {
+            items: _,
+            places: _,
+        } = self;
     }
-    None
+}
+
+impl Model for Sayings {
+    ghost use Rattle.std.specs.Prelude.{List};
+    ghost use Rattle.std.specs.Coded.{coded_list};
+    ghost use Rattle.pmg_audit.specs.Taking.{ArePlaces, procs_of};
+    ghost use Rattle.pmg_audit.specs.contracts.moves.Saying.{the_row as saying_row};
+    ghost use Rattle.pmg_audit.specs.declared.moves.Saying.{Saying};
+
+    ghost Value = { List Saying };
+
+    ghost coded = { coded_list saying_row.coded };
+
+    ghost view = { λ a. a.items.items };
+
+    ghost invariant = { λ a. ArePlaces (procs_of a.items.items) a.places.entries };
+}
+
+/// The saying after the others, and its place.
+fn add(
+    items: &mut Vec<Saying>,
+    places: &mut BTreeMap<Proc, usize>,
+    saying: Saying,
+) -> Result<(), AllocError>
+    requires places { ArePlaces (procs_of items.old.items) places.old.entries }
+    requires none { NoneOf items.old.items saying.proc }
+    ensures items { OnOk result (items.new.items ≡ items.old.items ++ saying ∷ []) }
+    ensures places { OnOk result (ArePlaces (procs_of items.new.items) places.new.entries) }
+{
+    places.insert(saying.proc.copy()?, items.len())?;
+    items.push(saying)?;
+    Ok(())
 }
 
 /// What each transcript says. Refused as Collision where two are of one process, or one is of no client.
-pub(crate) fn sayings_of(alloc: Global, transcripts: &[Transcript]) -> Result<Vec<Saying>, Refusal>
-    ensures said { IfOk result (λ sayings. AreSayings sayings.items transcripts.now) }
+pub(crate) fn sayings_of(alloc: Global, transcripts: &[Transcript]) -> Result<Sayings, Refusal>
+    ensures said { IfOk result (λ sayings. AreSayings sayings transcripts.now) }
     ensures apart { IfOk result (λ sayings. AreApart transcripts.now) }
     ensures taken { IfOk result (λ sayings. Each (λ (t : TranscriptOf). takes_all no_puts (noted_in t) ≡ true) transcripts.now) }
     ensures refused { IfErr result (λ e. e ≢ refusals.NoMemory → (e ≡ refusals.Collision)
         × (AreApart transcripts.now → Each (λ (t : TranscriptOf). takes_all no_puts (noted_in t) ≡ true) transcripts.now → ⊥)) }
 {
-    let mut sayings = Vec::new(alloc);
+    let mut items = Vec::new(alloc);
+    let mut places = BTreeMap::new(alloc);
     for transcript in transcripts {
-        if place_of(&sayings, &transcript.proc).is_some() {
+        if places.contains_key(&transcript.proc) {
             return Err(Refusal::Collision);
         }
         let Some(dues) = dues_of(alloc, transcript)? else {
             return Err(Refusal::Collision);
         };
         let proc = transcript.proc.copy()?;
-        sayings.push(Saying { proc, dues })?;
+        add(&mut items, &mut places, Saying { proc, dues })?;
     }
-    Ok(sayings)
+    Ok(Sayings { items, places })
 }
 
-/// The next event that the process says it made.
-pub(crate) fn take_due(sayings: &mut [Saying], proc: &Proc) -> Option<Due>
-    ensures some { IfSome result (λ d. Takes sayings.old proc.now (said_in d) sayings.new) }
-    ensures none { IsNone result → rest_of sayings.old proc.now ≡ [] }
-{
-    match place_of(sayings, proc) {
-        Some(place) => sayings[place].dues.pop_front(),
-        None => None,
-    }
-}
-
-/// Whether no event is left that a client says it made.
-pub(crate) fn are_told(sayings: &[Saying]) -> bool
-    ensures told { result ≡ true → Each (λ (s : SayingOf). s.dues.items ≡ []) sayings.now }
-    ensures left { result ≡ false → SomeLeft sayings.now }
-{
-    for saying in sayings {
-        if !saying.dues.is_empty() {
-            return false;
+impl Sayings {
+    /// The next event that the process says it made.
+    pub(crate) fn take_due(&mut self, proc: &Proc) -> Option<Due>
+        ensures some { IfSome result (λ d. Takes self.old proc.now (said_in d) self.new) }
+        ensures none { IsNone result → rest_of self.old proc.now ≡ [] }
+    {
+        match self.places.get(proc).copied() {
+            Some(place) => self.items[place].dues.pop_front(),
+            None => None,
         }
     }
-    true
+
+    /// Whether no event is left that a client says it made.
+    pub(crate) fn are_told(&self) -> bool
+        ensures told { result ≡ true → Each (λ (s : SayingOf). s.dues.items ≡ []) self.now }
+        ensures left { result ≡ false → SomeLeft self.now }
+    {
+        for saying in &self.items {
+            if !saying.dues.is_empty() {
+                return false;
+            }
+        }
+        true
+    }
 }

@@ -10,6 +10,7 @@ use std::process::Abort;
 use std::sync::Wait;
 use std::thread;
 use std::thread::Threads;
+use std::time::{Clock, Duration};
 
 // What a client is answered that waits in a fence while the desk is closed.
 fn leave_closed<R: Threads + Wait + Sync>(
@@ -68,10 +69,12 @@ fn put_number<R: Wait + AllocGlobal>(rt: &R, mut client: Client<'_>) -> Result<u
     client.commit(rt)
 }
 
-// What the one client is answered that asks, while the other puts. Where that fails the desk is closed, so that nobody waits.
-fn get_while_put<R: Threads + Wait + AllocGlobal + Sync>(
+// What the one client is answered that asks, while the other puts so long after. Where that fails the desk is closed, so that nobody
+// waits.
+fn get_while_put<R: Threads + Wait + Clock + AllocGlobal + Sync>(
     rt: &R,
     desk: &Desk,
+    pause: Duration,
     asks: Client<'_>,
     puts: Client<'_>,
 ) -> Option<Result<Option<u32>, Refusal>> {
@@ -80,6 +83,7 @@ fn get_while_put<R: Threads + Wait + AllocGlobal + Sync>(
         rt,
         move |scope| -> Option<Result<Option<u32>, Refusal>> {
             let waits = scope.spawn(move || get_number(rt, asks)).ok()?;
+            thread::sleep(rt, pause);
             if put_number(rt, puts).is_err() {
                 desk.close(rt);
             }
@@ -89,14 +93,15 @@ fn get_while_put<R: Threads + Wait + AllocGlobal + Sync>(
 }
 
 // The same from new clients of the desk.
-fn ask_and_put<R: Threads + Wait + AllocGlobal + Sync>(
+fn ask_and_put<R: Threads + Wait + Clock + AllocGlobal + Sync>(
     rt: &R,
     alloc: Global,
     desk: &Desk,
+    pause: Duration,
 ) -> Result<Option<u32>, Refusal> {
     let asks = desk.client(rt, &process(alloc, 0)?)?;
     let puts = desk.client(rt, &process(alloc, 1)?)?;
-    match get_while_put(rt, desk, asks, puts) {
+    match get_while_put(rt, desk, pause, asks, puts) {
         Some(answer) => answer,
         None => Err(Refusal::NoMemory),
     }
@@ -110,14 +115,14 @@ fn has_parked(journal: &Journal) -> bool {
         .any(|event| matches!(event.answer, Ok(Reply::Parked)))
 }
 
-// A get that comes before the put waits, and is answered then. Which of the two threads is first is not known: in a thousand turns some
-// get waits.
+// A get that comes before the put waits, and is answered then. Which of the two threads is first is not known, so the one that puts
+// waits longer at each turn.
 #[test]
 fn a_get_that_waits_is_answered(rt: HostRuntime) -> Result<(), Refusal> {
     let alloc = rt.alloc();
-    for _ in 0..1000 {
+    for pause in 1..100 {
         let desk = desk(&rt, alloc, 0)?;
-        let answer = ask_and_put(&rt, alloc, &desk);
+        let answer = ask_and_put(&rt, alloc, &desk, Duration::from_millis(pause));
         let journal = desk.into_journal(&rt);
         assert!(rt; answer? == Some(7));
         if has_parked(&journal) {

@@ -136,8 +136,9 @@ impl World {
         ensures run { IsRun self.new }
         ensures lawful { IsKept self.new }
     {
-        // Where there are no events the world is what it was: the proof looks at it here, and the program does nothing.
-        let _group = &self.group;
+        if self.told.reserve(events.len()).is_err() {
+            return Err(RunFailed { done: 0 });
+        }
         for done in 0..events.len() {
             if let Err(AllocError) = self.step(&events[done]) {
                 return Err(RunFailed { done });

@@ -9,7 +9,7 @@ returns-in-Ok-clause-ok c =
     let jobs = c.args.registry.now in
     let js = c.args.journals.now in
     let ts = c.args.transcripts.now in
-    let first = c.in-Ok.sayings.items in
+    let first = c.in-Ok.sayings in
     ok_on c.replays_with.result (EndsWell jobs js first) (AreWhole jobs js ts) c.replays_with.ensures.ok
     (λ r ended. whole_by jobs c.requires js ts first c.in-Ok.ensures.said c.in-Ok.ensures.apart c.in-Ok.ensures.taken r ended)
 
@@ -18,7 +18,7 @@ returns-in-Ok-clause-refused c =
     let jobs = c.args.registry.now in
     let js = c.args.journals.now in
     let ts = c.args.transcripts.now in
-    let first = c.in-Ok.sayings.items in
+    let first = c.in-Ok.sayings in
     err_on c.replays_with.result (EndsFor jobs js first) (IsReplayFault jobs js ts) c.replays_with.ensures.refused
     (λ e ended. fault_by jobs c.requires js ts first c.in-Ok.ensures.said c.in-Ok.ensures.apart e ended)
 

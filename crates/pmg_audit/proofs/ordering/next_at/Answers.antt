@@ -1,4 +1,4 @@
-use Rattle.std.proofs.Common.{◌≡◌, ◌<◌, Option, Some, None, Result, Ok, Err, IfOk, IfSome, IsNone, slice_get, slice_index, length, subst}
+use Rattle.std.proofs.Common.{◌≡◌, ◌<◌, Option, Some, None, Result, Ok, Err, IfOk, IfSome, IsNone, slice_get, slice_index, length, subst, rules}
 use Rattle.pmg_node.specs.Acting.{act_of}
 use Rattle.pmg_world.specs.Telling.{event_of}
 use Rattle.pmg_world.specs.declared.event.Event.{Event}
@@ -19,30 +19,33 @@ none_on (Err x) P Q is on = tt
 
 pub returns-in-Some-clause-some : goal.returns-in-Some-clause-some
 returns-in-Some-clause-some c =
+    let inside : c.args.node < length c.args.lanes.now = search rules in
     let lanes = c.args.lanes.now in
     let done = c.args.done.now in
-    let frames = c.args.sent.now in
+    let frames = c.args.sends.now.frames.items in
     let n = c.args.node in
     let x = c.in-Some.next.now in
     let there : slice_get (moves_at (all_of lanes) n) (slice_index done n) ≡ Some (move_in x) =
-    next_of lanes n c.index-lanes-node.result c.deref.result.now (slice_index done n) x c.requires.inside c.deref.ensures.value c.in-Some.ensures.lookup.0 c.in-Some.ensures.lookup.1 in
+    next_of lanes n c.index-lanes-node.result c.deref.result.now (slice_index done n) x inside c.deref.ensures.value c.in-Some.ensures.lookup.0 c.in-Some.ensures.lookup.1 in
     some_on c.event_for.result (λ e. IsEventOf frames n (act_of x.act) (event_of e)) (λ e. IsNext (all_of lanes) done frames n (event_of e)) c.event_for.ensures.some
     (λ e is. record { next = move_in x; there = there; event = is })
 
 pub returns-in-Some-clause-none : goal.returns-in-Some-clause-none
 returns-in-Some-clause-none c =
+    let inside : c.args.node < length c.args.lanes.now = search rules in
     let lanes = c.args.lanes.now in
     let done = c.args.done.now in
-    let frames = c.args.sent.now in
+    let frames = c.args.sends.now.frames.items in
     let n = c.args.node in
     let x = c.in-Some.next.now in
     let there : slice_get (moves_at (all_of lanes) n) (slice_index done n) ≡ Some (move_in x) =
-    next_of lanes n c.index-lanes-node.result c.deref.result.now (slice_index done n) x c.requires.inside c.deref.ensures.value c.in-Some.ensures.lookup.0 c.in-Some.ensures.lookup.1 in
+    next_of lanes n c.index-lanes-node.result c.deref.result.now (slice_index done n) x inside c.deref.ensures.value c.in-Some.ensures.lookup.0 c.in-Some.ensures.lookup.1 in
     none_on c.event_for.result (MayGo n (act_of x.act) frames) (IsReady (all_of lanes) done frames n) c.event_for.ensures.none
     (λ ready. subst (λ o. MayGoNext n o frames) there ready)
 
 pub returns-in-None-clause-none : goal.returns-in-None-clause-none
 returns-in-None-clause-none c =
-    λ e ready. subst (λ o. MayGoNext c.args.node o c.args.sent.now)
-    (none_of c.args.lanes.now c.args.node c.index-lanes-node.result c.deref.result.now (slice_index c.args.done.now c.args.node) c.requires.inside c.deref.ensures.value c.in-None.ensures.lookup.0)
+    let inside : c.args.node < length c.args.lanes.now = search rules in
+    λ e ready. subst (λ o. MayGoNext c.args.node o c.args.sends.now.frames.items)
+    (none_of c.args.lanes.now c.args.node c.index-lanes-node.result c.deref.result.now (slice_index c.args.done.now c.args.node) inside c.deref.ensures.value c.in-None.ensures.lookup.0)
     ready

@@ -39,7 +39,7 @@ returns-then-not-is_said-clause-none c = λ _ said.
     let s : Server = c.args.node.now in
     let p : Proc = c.args.proc.now in
     let e : Happening = happening_of c.args.event.now in
-    other_said s (rest_of c.args.sayings.now) p e (said_in c.in-Some.due) (rest_of c.take_due.new.sayings p) c.in-Some.ensures.some.here
+    other_said s (rest_of c.args.sayings.now) p e (said_in c.in-Some.due) (rest_of c.take_due.new.self p) c.in-Some.ensures.some.here
     (λ same may. false≢true (sym c.if-not-is_said.true ∙ c.is_said.ensures.1 same)) (subst (λ (o : Option Proc). IsSaidBy s (rest_of c.args.sayings.now) o e) c.requires said)
 
 pub returns-then-not-may_put-clause-none : goal.returns-then-not-may_put-clause-none
@@ -47,7 +47,7 @@ returns-then-not-may_put-clause-none c = λ _ said.
     let s : Server = c.args.node.now in
     let p : Proc = c.args.proc.now in
     let e : Happening = happening_of c.args.event.now in
-    other_said s (rest_of c.args.sayings.now) p e (said_in c.in-Some.due) (rest_of c.take_due.new.sayings p) c.in-Some.ensures.some.here
+    other_said s (rest_of c.args.sayings.now) p e (said_in c.in-Some.due) (rest_of c.take_due.new.self p) c.in-Some.ensures.some.here
     (λ same may. false≢true (sym c.if-not-may_put.true ∙ c.may_put.ensures.1 (subst (λ (xs : List KeptPut). MayPut s p (map put_in xs)) (sym c.deref.ensures.value) may)))
     (subst (λ (o : Option Proc). IsSaidBy s (rest_of c.args.sayings.now) o e) c.requires said)
 
@@ -59,5 +59,5 @@ returns-clause-some c =
     let near : (home_of s.jobs p == s.id) ≡ true = (λ i. home_of (sym c.registry.ensures i) p == sym c.id.ensures.value i) ∙ sym c.is_home.ensures ∙ c.if-not-is_home.false in
     let may : MayPut s p (map put_in c.in-Some.due.puts.items) = subst (λ (xs : List KeptPut). MayPut s p (map put_in xs)) c.deref.ensures.value (c.may_put.ensures.0 c.if-not-may_put.false) in
     rw c.into_puts.ensures
-    (caller_takes s c.args.sayings.now p (said_in c.in-Some.due) c.take_due.new.sayings e c.requires (same_number (home_of s.jobs p) s.id near) c.in-Some.ensures.some
+    (caller_takes s c.args.sayings.now p (said_in c.in-Some.due) c.take_due.new.self e c.requires (same_number (home_of s.jobs p) s.id near) c.in-Some.ensures.some
     (c.is_said.ensures.0 c.if-not-is_said.false) may)

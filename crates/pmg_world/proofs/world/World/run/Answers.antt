@@ -1,18 +1,53 @@
-use Rattle.std.proofs.Common.{◌≡◌, List, length, take, refl, sym, ap, subst, ◌∙◌, add-one, arith}
+use Rattle.std.proofs.Common.{◌≡◌, List, [], length, take, sym, ap, subst, ◌∙◌, add-one, arith}
 use Rattle.std.proofs.Math.Seq.{take-length}
-use Rattle.pmg_world.specs.Accounts.{Account, Adds, GoesOn, IsKept, IsRun}
+use Rattle.pmg_world.specs.Accounts.{Account, Adds, GoesOn, IsKept, IsLed, IsRun, account_of}
+use Rattle.pmg_world.specs.declared.event.Told.{Told}
+use Rattle.pmg_world.specs.declared.group.Group.{Group}
 use Rattle.pmg_world.specs.declared.event.Event.{Event as ToldEvent}
 use Rattle.pmg_world.proofs.LedLemmas.{adds_next, adds_none, goes_on_more, goes_on_same, led_kept, led_run}
 use Rattle.pmg_world.proofs.world.World.run.Goals as goal
 
+-- a world with room for more is the world that it was
+module _ (group : Group) (old new : List Told) (now : Account) (led : IsLed group old) (view : account_of group old ≡ now) (kept : new ≡ old) where
+  same_world : account_of group new ≡ now
+  same_world = ap (account_of group) kept ∙ view
+
+  no_event : Adds now.told [] (account_of group new).told
+  no_event = subst (λ (a : Account). Adds now.told [] a.told) (sym same_world) (adds_none now.told)
+
+  run_still : IsRun (account_of group new)
+  run_still = subst (λ (l : List Told). IsRun (account_of group l)) (sym kept) (led_run group old led)
+
+  kept_still : IsKept (account_of group new)
+  kept_still = subst (λ (l : List Told). IsKept (account_of group l)) (sym kept) (led_kept group old led)
+
+  goes_on_still : GoesOn now (account_of group new)
+  goes_on_still = goes_on_same now (account_of group new) same_world
+
 pub loop-done-init : goal.loop-done-init
-loop-done-init c = (
-  adds_none c.args.self.now.told,
-  refl,
-  subst IsRun c.self.view_is (led_run c.self.inside.group c.self.inside.told.items c.self.invariant),
-  subst IsKept c.self.view_is (led_kept c.self.inside.group c.self.inside.told.items c.self.invariant),
-  goes_on_same c.args.self.now c.args.self.now refl,
-)
+loop-done-init c =
+    let group = c.self.inside.group in
+    let old = c.self.inside.told.items in
+    let new = c.reserve.new.self.items in
+    let now = c.args.self.now in (
+      no_event group old new now c.self.invariant c.self.view_is c.reserve.ensures.items,
+      ap (λ (a : Account). a.jobs) (same_world group old new now c.self.invariant c.self.view_is c.reserve.ensures.items),
+      run_still group old new now c.self.invariant c.self.view_is c.reserve.ensures.items,
+      kept_still group old new now c.self.invariant c.self.view_is c.reserve.ensures.items,
+      goes_on_still group old new now c.self.invariant c.self.view_is c.reserve.ensures.items,
+    )
+
+pub returns-then-is_err-clause-done : goal.returns-then-is_err-clause-done
+returns-then-is_err-clause-done c = no_event c.self.inside.group c.self.inside.told.items c.reserve.new.self.items c.args.self.now c.self.invariant c.self.view_is c.reserve.ensures.items
+
+pub returns-then-is_err-clause-goes_on : goal.returns-then-is_err-clause-goes_on
+returns-then-is_err-clause-goes_on c = goes_on_still c.self.inside.group c.self.inside.told.items c.reserve.new.self.items c.args.self.now c.self.invariant c.self.view_is c.reserve.ensures.items
+
+pub returns-then-is_err-clause-run : goal.returns-then-is_err-clause-run
+returns-then-is_err-clause-run c = run_still c.self.inside.group c.self.inside.told.items c.reserve.new.self.items c.args.self.now c.self.invariant c.self.view_is c.reserve.ensures.items
+
+pub returns-then-is_err-clause-lawful : goal.returns-then-is_err-clause-lawful
+returns-then-is_err-clause-lawful c = kept_still c.self.inside.group c.self.inside.told.items c.reserve.new.self.items c.args.self.now c.self.invariant c.self.view_is c.reserve.ensures.items
 
 pub loop-done-preserved : goal.loop-done-preserved
 loop-done-preserved c = (
