@@ -1,5 +1,5 @@
 -- An act of a node, as an event of the world.
-use Rattle.std.proofs.Common.{◌≡◌, ◌⊎◌, ℕ, Bool, true, false, cond, List, [], ◌∷◌, ◌++◌, Option, Some, None, is_some, option_map, inl, inr, refl, sym, ap, subst, ◌∙◌}
+use Rattle.std.proofs.Common.{◌≡◌, ◌⊎◌, ℕ, Bool, true, false, cond, List, Option, Some, None, is_some, option_map, inl, inr, refl, sym, ap, subst, ◌∙◌}
 use Rattle.std.specs.FinMap as finite
 use Rattle.std.specs.Option.{unwrap_or}
 use Rattle.pmg_value.specs.Rows.{changed_at}
@@ -10,7 +10,7 @@ use Rattle.pmg_scope.specs.Cached.{Cached, Unsealed, after_commit, no_puts, unse
 use Rattle.pmg_jobinfo.specs.Jobs.{Jobs, is_node}
 use Rattle.pmg_fence.specs.Entering.{same_proc}
 use Rattle.pmg_fence.proofs.EntryLemmas.{proc_itself}
-use Rattle.pmg_rules.specs.Acts.{Act, Done, Reply, Request, acts, does, says}
+use Rattle.pmg_rules.specs.Acts.{Act, Done, Reply, Request, does, says}
 use Rattle.pmg_rules.specs.Fitting.{is_refusal, unless_refused}
 use Rattle.pmg_rules.specs.Sending.{sent}
 use Rattle.pmg_rules.specs.declared.sent.Sent.{Sent}
@@ -22,7 +22,7 @@ use Rattle.pmg_world.specs.Caching.{AllCached, cached_by}
 use Rattle.pmg_world.specs.Keeping.{AreCaches, own_key}
 use Rattle.pmg_world.proofs.ClientLemmas.{commit_seals, frame_keeps, request_keeps, unsealed_is}
 use Rattle.pmg_world.proofs.HappenLemmas.{at_node_is, commit_there, frame_there, request_there}
-use Rattle.pmg_journal.specs.Replays.{Happening, happening}
+use Rattle.pmg_journal.specs.Replays.{happening}
 use Rattle.pmg_journal.specs.Transcripts.{commit_by}
 use Rattle.pmg_audit.specs.Moves.{Seals, cache_then, is_by, is_own_ask}
 use Rattle.pmg_audit.specs.Orders.{IsEventOf}

@@ -1,5 +1,5 @@
 -- What audits answer, from what their parts answer.
-use Rattle.std.proofs.Common.{◌≡◌, ◌⊎◌, ◌<◌, true, false, List, [], ◌∷◌, length, map, get_or, slice_get, Some, Result, Ok, Err, IfOk, IfErr, inl, inr, refl, sym, ap, subst, ◌∙◌, arith}
+use Rattle.std.proofs.Common.{◌≡◌, ◌⊎◌, true, List, [], ◌∷◌, length, map, slice_get, Some, Result, Ok, Err, IfOk, IfErr, inl, inr, sym, subst, arith}
 use Rattle.pmg_value.specs.Lists.{Each}
 use Rattle.pmg_value.specs.declared.refusal.Refusal.{Refusal}
 use Rattle.pmg_value.specs.declared.refusal.Refusal.TheVariants as refusals
@@ -8,9 +8,9 @@ use Rattle.pmg_jobinfo.specs.Jobs.{Jobs, AreJobs}
 use Rattle.pmg_journal.specs.Transcripts.{noted_in}
 use Rattle.pmg_journal.specs.declared.journal.Journal.{Journal}
 use Rattle.pmg_journal.specs.declared.transcript.Transcript.{Transcript}
-use Rattle.pmg_audit.specs.Agreeing.{AreAgreed, AreApart}
+use Rattle.pmg_audit.specs.Agreeing.{AreApart}
 use Rattle.pmg_audit.specs.Dues.{takes_all}
-use Rattle.pmg_audit.specs.Faults.{AreOne, AreStale, AreUnordered, IsFault, IsReplayFault}
+use Rattle.pmg_audit.specs.Faults.{AreOne, IsFault, IsReplayFault}
 use Rattle.pmg_audit.specs.Moves.{Move}
 use Rattle.pmg_audit.specs.Orders.{AreTold, NoOrder}
 use Rattle.pmg_audit.specs.Codes.{all_of}
@@ -18,7 +18,7 @@ use Rattle.pmg_audit.specs.declared.moves.Lane.{Lane}
 use Rattle.pmg_audit.specs.declared.ordering.Order.{Order}
 use Rattle.pmg_audit.proofs.OneRun.{moves_are_one_run}
 use Rattle.pmg_world.specs.Telling.{happened_of}
-use Rattle.pmg_audit.specs.Replaying.{AreEnded, AreWhole, EndsFor, EndsWell, IsLeft, RefusesFor, SomeUnsaid}
+use Rattle.pmg_audit.specs.Replaying.{AreEnded, AreWhole, EndsFor, EndsWell, RefusesFor, SomeUnsaid}
 use Rattle.pmg_audit.specs.Runs.{AreJournals, AreMoves, IsOneRun, account_by}
 use Rattle.pmg_audit.specs.Taking.{AreSayings}
 use Rattle.pmg_audit.specs.declared.moves.Saying.{Saying}

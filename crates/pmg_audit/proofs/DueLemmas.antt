@@ -1,18 +1,17 @@
 -- What a transcript says of its client's events.
-use Rattle.std.proofs.Common.{◌≡◌, ℕ, Bool, true, false, ◌&&◌, cond, List, [], ◌∷◌, ◌++◌, ◌+◌, ◌<◌, ◌≤◌, length, get_or, drop, map, filter, is_ok, Option, Some, None, Result, Ok, Err, refl, sym, ap, subst, ◌∙◌, append_assoc}
+use Rattle.std.proofs.Common.{◌≡◌, ℕ, Bool, true, false, ◌&&◌, cond, List, [], ◌∷◌, ◌++◌, ◌+◌, ◌<◌, ◌≤◌, length, get_or, drop, map, filter, is_ok, Some, None, Result, Ok, Err, refl, sym, ap, subst, ◌∙◌, append_assoc}
 use Rattle.std.proofs.lemmas.Bool.{and_parts, false≢true}
 use Rattle.std.proofs.lemmas.List.{append-nil, drop_all, drop_more}
 use Rattle.pmg_value.specs.CheckOrder.{first_of}
 use Rattle.pmg_value.specs.declared.process.Proc.{Proc}
 use Rattle.pmg_value.specs.declared.refusal.Refusal.{Refusal}
-use Rattle.pmg_value.specs.declared.refusal.Refusal.TheVariants as refusals
 use Rattle.pmg_scope.specs.Cached.{Cached, no_puts, put_cause, unsealed_of, with_put}
 use Rattle.pmg_scope.specs.declared.scope.Scope.{Scope}
 use Rattle.pmg_rules.specs.Acts.{Act, Reply, Request}
 use Rattle.pmg_journal.specs.Transcripts.{Calling, Noted, cached_by, commit_by, noted, noted_of}
 use Rattle.pmg_journal.specs.declared.transcript.Called.{Called}
 use Rattle.pmg_audit.specs.Dues.{Due, act_by, act_said, due, due_in, due_of, dues, is_passed, put_by_call, put_of, puts_next, takes, takes_all}
-use Rattle.pmg_audit.specs.Moves.{AllPut, FitsMove, Move, Put, PutsFit, Seals, cache_next, cache_then, is_by, is_own_ask, put_all}
+use Rattle.pmg_audit.specs.Moves.{AllPut, Move, Put, PutsFit, Seals, cache_then, is_by, is_own_ask, put_all}
 
 -- ---- events that are said, as moves
 

@@ -1,18 +1,16 @@
 -- An order of moves, one move further, and where it ends.
-use Rattle.std.proofs.Common.{◌≡◌, ◌⊎◌, ℕ, zero, suc, ◌+◌, ◌-◌, ◌<◌, ◌≤◌, Bool, true, false, ◌==◌, cond, List, [], ◌∷◌, ◌++◌, length, map, get_or, set, take, drop, replicate, Option, Some, None, slice_get, slice_index, inl, inr, refl, sym, ap, subst, ◌∙◌, append_assoc, arith}
+use Rattle.std.proofs.Common.{◌≡◌, ◌⊎◌, ℕ, zero, suc, ◌+◌, ◌<◌, ◌≤◌, Bool, true, false, ◌==◌, cond, List, [], ◌∷◌, ◌++◌, length, map, set, take, drop, replicate, Option, Some, None, slice_get, slice_index, inl, inr, refl, sym, ap, subst, ◌∙◌, append_assoc, arith}
 use Rattle.std.proofs.lemmas.Bool.Decides.{nat_tests}
-use Rattle.std.proofs.lemmas.List.{append-nil, drop_all, drop_more, get_or-replicate, get_or-set_other, get_or-set_same, get_or_past, length-replicate, length-set, length-drop, take_more}
-use Rattle.std.proofs.lemmas.Option.{get_or_from_slice_get, slice_get-get_or, slice_get_within}
-use Rattle.std.specs.List.{flat_map}
+use Rattle.std.proofs.lemmas.List.{append-nil, get_or-set_other, get_or-set_same, length-replicate, length-set}
 use Rattle.pmg_value.specs.Lists.{In, Each}
 use Rattle.pmg_value.proofs.ListLemmas.{in_append_left, in_append_right, in_map, in_parts}
 use Rattle.pmg_rules.specs.Acts.{Act}
 use Rattle.pmg_rules.specs.Sending.{sent}
 use Rattle.pmg_rules.specs.declared.sent.Sent.{Sent}
-use Rattle.pmg_runs.specs.Worlds.{Event, Happened, nth, numbered}
-use Rattle.pmg_audit.specs.Going.{IsGoing, IsNext, IsOpen, IsReady, MayGoNext, frames_of, left, weight}
+use Rattle.pmg_runs.specs.Worlds.{Event, Happened}
+use Rattle.pmg_audit.specs.Going.{IsGoing, IsOpen, IsReady, MayGoNext, frames_of, left, weight}
 use Rattle.pmg_audit.specs.Moves.{Move, caller_of}
-use Rattle.pmg_audit.specs.Orders.{AreTold, Goes, IsEventOf, MayGo, NoOrder, Tells, happened, list_or_none, moves_at, put_rest, puts_told, rests}
+use Rattle.pmg_audit.specs.Orders.{AreTold, Goes, IsEventOf, MayGo, NoOrder, Tells, happened, moves_at, put_rest, puts_told, rests}
 
 same_index : (k n : ℕ) → (k == n) ≡ true → k ≡ n
 same_index k n e = grind (arith, nat_tests)

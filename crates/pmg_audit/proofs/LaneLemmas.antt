@@ -1,7 +1,7 @@
 -- Moves of nodes in code, and lists one item further.
-use Rattle.std.proofs.Common.{◌≡◌, ◌⊎◌, ℕ, zero, suc, ◌+◌, ◌<◌, ◌≤◌, List, [], ◌∷◌, ◌++◌, length, map, get_or, take, drop, slice_index, Bool, true, false, nat_lt, ltb, ltb-true, ltb-false, Option, Some, None, slice_get, inl, inr, refl, sym, ap, subst, ◌∙◌, append_assoc, arith}
-use Rattle.std.proofs.lemmas.List.{take_all, take_more, map-append, drop_all, length-map}
-use Rattle.std.proofs.lemmas.Option.{slice_get-get_or, slice_get_past, slice_get-map, get_or_from_slice_get}
+use Rattle.std.proofs.Common.{◌≡◌, ℕ, zero, suc, ◌+◌, ◌<◌, ◌≤◌, List, [], ◌∷◌, ◌++◌, length, map, get_or, take, drop, slice_index, Bool, true, false, nat_lt, ltb, ltb-true, ltb-false, Option, Some, None, slice_get, inl, inr, refl, sym, ap, subst, ◌∙◌, append_assoc, arith}
+use Rattle.std.proofs.lemmas.List.{take_more, map-append, drop_all, length-map}
+use Rattle.std.proofs.lemmas.Option.{slice_get-get_or, slice_get_past, slice_get-map}
 use Rattle.pmg_value.specs.Lists.{In}
 use Rattle.pmg_value.proofs.ListLemmas.{in_append_left, in_append_right}
 use Rattle.pmg_runs.specs.Worlds.{nth, numbered}
@@ -53,12 +53,6 @@ none_of lanes n lane items k inside is more =
 
 -- ---- frames by their numbers
 
-pub numbered_at : {A : Type 0} (xs : List A) (k : ℕ) (x d : A) → k < length xs → get_or xs k d ≡ x → numbered xs (k + 1) ≡ Some x
-numbered_at xs k x d inside is = let next : k + 1 ≡ suc k = omega arith in ap (numbered xs) next ∙ there xs k inside ∙ ap Some is
-  where
-    there : (ys : List _) (k : ℕ) → k < length ys → nth ys k ≡ Some (get_or ys k d)
-    there ys k inside = slice_get-get_or ys k d inside
-
 nth_stays : {A : Type 0} (xs ys : List A) (i : ℕ) (x : A) → nth xs i ≡ Some x → nth (xs ++ ys) i ≡ Some x
 nth_stays [] ys i x is = absurd cc
 nth_stays (z ∷ xs) ys zero x is = is
@@ -67,17 +61,6 @@ nth_stays (z ∷ xs) ys (suc i) x is = nth_stays xs ys i x is
 pub numbered_stays : {A : Type 0} (xs ys : List A) (i : ℕ) (x : A) → numbered xs i ≡ Some x → numbered (xs ++ ys) i ≡ Some x
 numbered_stays xs ys zero x is = absurd cc
 numbered_stays xs ys (suc i) x is = nth_stays xs ys i x is
-
-not_in_push : {A : Type 0} (xs : List A) (x y : A) → (In y xs → ⊥) → (y ≡ x → ⊥) → In y (xs ++ x ∷ []) → ⊥
-not_in_push [] x y none other i = elim i [ inl same ↦ other same | inr later ↦ absurd later ]
-not_in_push (z ∷ xs) x y none other i = elim i [ inl same ↦ none (inl same) | inr later ↦ not_in_push xs x y (λ j. none (inr j)) other later ]
-
-pub not_in_more : {A : Type 0} (xs : List A) (k : ℕ) (d y : A) → k < length xs → (In y (take k xs) → ⊥) → (get_or xs k d ≡ y → ⊥) → In y (take (k + 1) xs) → ⊥
-not_in_more xs k d y inside none other i =
-    not_in_push (take k xs) (get_or xs k d) y none (λ same. other (sym same)) (subst (In y) (take_more xs k d inside) i)
-
-pub not_in_all : {A : Type 0} (xs : List A) (k : ℕ) (y : A) → length xs ≤ k → (In y (take k xs) → ⊥) → In y xs → ⊥
-not_in_all xs k y past none i = none (subst (In y) (sym (take_all k xs past)) i)
 
 -- what comes of the items of a list, one item further
 pub map_more : {A B : Type 0} (f : A → B) (before now : List B) (xs : List A) (k : ℕ) (d : A) → k < length xs → now ≡ before ++ map f (take k xs) → now ++ f (get_or xs k d) ∷ [] ≡ before ++ map f (take (k + 1) xs)

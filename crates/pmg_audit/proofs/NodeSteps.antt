@@ -1,37 +1,27 @@
 -- All journals that are replayed, one node further, and at their end.
-use Rattle.std.proofs.Common.{◌≡◌, ◌⊎◌, ℕ, zero, suc, ◌+◌, ◌<◌, ◌≤◌, Bool, true, false, ◌==◌, cond, nat_lt, List, [], ◌∷◌, ◌++◌, length, map, filter, get_or, Option, Some, None, slice_get, inl, inr, refl, sym, ap, subst, ◌∙◌, append_assoc, ltb-true, ltb-false, arith}
+use Rattle.std.proofs.Common.{◌≡◌, ◌⊎◌, ℕ, zero, suc, ◌+◌, ◌<◌, ◌≤◌, true, false, ◌==◌, cond, List, [], ◌∷◌, ◌++◌, length, map, get_or, Option, Some, None, inl, inr, refl, sym, ap, subst, ◌∙◌, arith}
 use Rattle.std.proofs.lemmas.Bool.{false≢true}
 use Rattle.std.proofs.lemmas.Bool.Decides.{nat_tests}
-use Rattle.std.proofs.lemmas.List.{append-nil, append_cancel_left, map-append, length-map, length_push, get_or_append_left, get_or_push}
+use Rattle.std.proofs.lemmas.List.{map-append, length-map, length_push, get_or_append_left, get_or_push}
 use Rattle.std.proofs.lemmas.Option.{slice_get-get_or, slice_get_past}
-use Rattle.pmg_value.specs.Lists.{In, Each}
 use Rattle.pmg_value.specs.declared.process.Proc.{Proc}
-use Rattle.pmg_scope.specs.Cached.{no_puts}
-use Rattle.pmg_jobinfo.specs.Jobs.{Jobs, AreJobs, home_of, is_node}
+use Rattle.pmg_jobinfo.specs.Jobs.{Jobs, home_of}
 use Rattle.pmg_fence.specs.Entering.{same_proc}
-use Rattle.pmg_fence.proofs.EntryLemmas.{proc_itself}
-use Rattle.pmg_rules.proofs.KeptBasics.{home_is_node}
 use Rattle.pmg_node.specs.Opening.{new_server}
 use Rattle.pmg_node.specs.Servers.{Server, after}
-use Rattle.pmg_journal.specs.Replays.{Happening, IsReplay}
-use Rattle.pmg_journal.specs.Transcripts.{noted_in}
+use Rattle.pmg_journal.specs.Replays.{Happening}
 use Rattle.pmg_journal.specs.declared.journal.Journal.{Journal}
-use Rattle.pmg_journal.specs.declared.transcript.Transcript.{Transcript}
-use Rattle.pmg_audit.specs.Agreeing.{AreAgreed, AreApart, AreSaid, BeginsWith, IsSaidBy, rest_after, said_for, tail_of}
-use Rattle.pmg_audit.specs.Codes.{all_of, lane_of, rest_of, said_in}
-use Rattle.pmg_audit.specs.Dues.{Due, due_event, due_in, dues, said_by, takes_all}
+use Rattle.pmg_audit.specs.Agreeing.{AreSaid, BeginsWith, IsSaidBy, rest_after, tail_of}
+use Rattle.pmg_audit.specs.Codes.{all_of, lane_of, rest_of}
+use Rattle.pmg_audit.specs.Dues.{Due, due_in}
 use Rattle.pmg_audit.specs.Faults.{AreStale}
-use Rattle.pmg_audit.specs.Moves.{Move, PutsFit, Replays, caller_of, end_of, event_in, is_by}
+use Rattle.pmg_audit.specs.Moves.{Move, Replays, caller_of, end_of, event_in}
 use Rattle.pmg_audit.specs.Orders.{list_or_none, moves_at}
 use Rattle.pmg_audit.specs.Replaying.{AddsNode, AllUnsaid, AreReplayed, AreUnsaid, HaveHappened, IsReplayed, SomeUnsaid, moves_by}
-use Rattle.pmg_audit.specs.Runs.{AreEnds, AreJournals, AreMoves, ArePut, TellsOf, made_by, told_at}
-use Rattle.pmg_audit.specs.Taking.{AreSayings, procs_of}
-use Rattle.pmg_audit.specs.declared.moves.Lane.{Lane}
+use Rattle.pmg_audit.specs.Runs.{told_at}
 use Rattle.pmg_audit.specs.declared.moves.Saying.{Saying}
 use Rattle.pmg_audit.specs.declared.replaying.AllReplayed.{AllReplayed}
 use Rattle.pmg_audit.specs.declared.replaying.Replay.{Replay}
-use Rattle.pmg_audit.proofs.DueLemmas.{none_fit, said_fit}
-use Rattle.pmg_audit.proofs.SayingLemmas.{rest_is}
 
 same_index : (k n : ℕ) → (k == n) ≡ true → k ≡ n
 same_index k n e = grind (arith, nat_tests)

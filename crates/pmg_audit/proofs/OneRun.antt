@@ -1,11 +1,10 @@
 -- Journals that are replayed and told in an order are one run.
-use Rattle.std.proofs.Common.{◌≡◌, ℕ, zero, suc, ◌+◌, ◌<◌, List, [], ◌∷◌, ◌++◌, length, map, get_or, Option, Some, None, refl, sym, ap, subst, ◌∙◌, arith}
+use Rattle.std.proofs.Common.{◌≡◌, ℕ, zero, suc, ◌<◌, List, [], ◌∷◌, ◌++◌, length, map, get_or, Option, Some, None, refl, sym, ap, subst, ◌∙◌, arith}
 use Rattle.std.proofs.lemmas.Option.{slice_get_within}
 use Rattle.std.specs.FinMap as finite
 use Rattle.std.specs.List.{slice_get}
 use Rattle.std.specs.Option.{unwrap_or}
 use Rattle.pmg_value.specs.Process.{proc_cmp}
-use Rattle.pmg_value.specs.Lists.{Each}
 use Rattle.pmg_value.specs.declared.process.Proc.{Proc}
 use Rattle.pmg_scope.specs.Cached.{Cached, no_puts}
 use Rattle.pmg_jobinfo.specs.Jobs.{Jobs, AreJobs, home_of}
@@ -13,21 +12,20 @@ use Rattle.pmg_rules.specs.declared.sent.Sent.{Sent}
 use Rattle.pmg_rules.proofs.KeptActs.{new_is_server}
 use Rattle.pmg_node.specs.Opening.{new_server}
 use Rattle.pmg_node.specs.Servers.{Server}
-use Rattle.pmg_runs.specs.Worlds.{Happened, World, cache_of, start}
+use Rattle.pmg_runs.specs.Worlds.{Happened, cache_of, start}
 use Rattle.pmg_runs.specs.Worlds.{Run}
 use Rattle.pmg_world.specs.Accounts.{Account, IsKept, IsRun, LeadsTo}
-use Rattle.pmg_world.specs.Caching.{AllCached, cached_by}
-use Rattle.pmg_world.specs.Keeping.{AreCaches, AreNew, AreNodes, IsNodeOf}
+use Rattle.pmg_world.specs.Caching.{cached_by}
+use Rattle.pmg_world.specs.Keeping.{AreCaches, AreNew, IsNodeOf}
 use Rattle.pmg_world.specs.Telling.{happened_of}
 use Rattle.pmg_world.specs.declared.event.Told.{Told}
 use Rattle.pmg_world.proofs.RunLemmas.{run_cut, run_is_lawful}
 use Rattle.pmg_world.proofs.StartLemmas.{more_new, none_new}
 use Rattle.pmg_journal.specs.declared.journal.Journal.{Journal}
-use Rattle.pmg_journal.specs.declared.transcript.Transcript.{Transcript}
 use Rattle.pmg_audit.specs.Laws.{MovesAreOneRun}
 use Rattle.pmg_audit.specs.Moves.{Move, PutsFit, Replays, end_of}
-use Rattle.pmg_audit.specs.Orders.{AreTold, Tells, list_or_none, moves_at}
-use Rattle.pmg_audit.specs.Runs.{AreEnds, AreJournals, AreMoves, ArePut, IsOneRun, TellsOf}
+use Rattle.pmg_audit.specs.Orders.{AreTold, list_or_none, moves_at}
+use Rattle.pmg_audit.specs.Runs.{AreEnds, AreMoves, ArePut}
 use Rattle.pmg_audit.proofs.Weaving.{IsAt, Woven, weave}
 
 -- ---- the start

@@ -1,32 +1,23 @@
 -- A journal that is replayed, one event further, and all journals, one node further.
-use Rattle.std.proofs.Common.{◌≡◌, ◌⊎◌, ℕ, zero, suc, ◌+◌, ◌<◌, ◌≤◌, Bool, true, false, cond, nat_lt, List, [], ◌∷◌, ◌++◌, length, map, filter, get_or, Option, Some, None, slice_get, inl, inr, refl, sym, ap, subst, ◌∙◌, append_assoc, ltb-true, ltb-false, arith}
+use Rattle.std.proofs.Common.{◌≡◌, ◌⊎◌, Bool, true, false, cond, List, [], ◌∷◌, ◌++◌, map, Option, Some, None, inl, inr, refl, sym, ap, subst, ◌∙◌, append_assoc}
 use Rattle.std.proofs.lemmas.Bool.{false≢true}
-use Rattle.std.proofs.lemmas.List.{append-nil, append_cancel_left, map-append, length_push, get_or_append_left, get_or_push}
-use Rattle.std.proofs.lemmas.Option.{slice_get-get_or, slice_get_past}
+use Rattle.std.proofs.lemmas.List.{append-nil, map-append}
 use Rattle.std.specs.Cmp.{Equal-is}
-use Rattle.pmg_value.specs.Lists.{In, Each}
 use Rattle.pmg_value.specs.declared.process.Proc.{Proc}
 use Rattle.pmg_value.specs.declared.refusal.Refusal.{Refusal}
 use Rattle.pmg_value.specs.declared.refusal.Refusal.TheVariants as refusals
 use Rattle.pmg_value.proofs.ProcessOrder.{exact_procs}
 use Rattle.pmg_jobinfo.specs.Jobs.{Jobs, home_of}
 use Rattle.pmg_fence.specs.Entering.{same_proc}
-use Rattle.pmg_fence.proofs.EntryLemmas.{proc_itself}
-use Rattle.pmg_fence.proofs.HeaderLemmas.{by_proc}
-use Rattle.pmg_rules.specs.Acts.{Act, Reply}
-use Rattle.pmg_rules.specs.declared.sent.Sent.{Sent}
-use Rattle.pmg_node.specs.Opening.{new_server}
 use Rattle.pmg_node.specs.Servers.{Server, after, reply_to, sent_by}
-use Rattle.pmg_journal.specs.Replays.{Happening, IsReplay, after_all, happening}
-use Rattle.pmg_journal.specs.declared.journal.Journal.{Journal}
-use Rattle.pmg_journal.specs.declared.transcript.Transcript.{Transcript}
+use Rattle.pmg_journal.specs.Replays.{Happening, IsReplay, after_all}
 use Rattle.pmg_journal.proofs.ReplayLemmas.{last_is}
 use Rattle.pmg_audit.specs.Agreeing.{AreSaid, BeginsWith, IsSaidBy, MayPut, rest_after, tail_of}
-use Rattle.pmg_audit.specs.Codes.{all_of, lane_of, rest_of}
+use Rattle.pmg_audit.specs.Codes.{lane_of, rest_of}
 use Rattle.pmg_audit.specs.Dues.{Due, due, due_event, due_in}
 use Rattle.pmg_audit.specs.Moves.{Move, Put, PutsAt, Replays, caller_of, end_of, event_in, is_by, is_caller}
 use Rattle.pmg_audit.specs.Replaying.{AllUnsaid, Continues, HaveHappened, IsAdded, IsReplayed, IsUnsaid, RefusesFor, TakesPuts, move_by, moves_by}
-use Rattle.pmg_audit.specs.Taking.{Takes, procs_of}
+use Rattle.pmg_audit.specs.Taking.{Takes}
 use Rattle.pmg_audit.specs.declared.moves.Saying.{Saying}
 use Rattle.pmg_audit.specs.declared.replaying.Replay.{Replay}
 

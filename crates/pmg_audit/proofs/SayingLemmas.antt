@@ -1,5 +1,5 @@
 -- What clients say of their events: where it stands, and with some of it told.
-use Rattle.std.proofs.Common.{◌≡◌, ℕ, zero, suc, ◌+◌, ◌-◌, ◌<◌, ◌≤◌, Bool, true, false, ◌&&◌, cond, List, [], ◌∷◌, ◌++◌, length, map, get_or, set, take, drop, Option, Some, None, is_some, IfSome, IsNone, option_to_list, inl, inr, refl, sym, ap, subst, ◌∙◌, arith}
+use Rattle.std.proofs.Common.{◌≡◌, ℕ, zero, suc, ◌+◌, ◌-◌, ◌<◌, ◌≤◌, Bool, true, false, cond, List, [], ◌∷◌, ◌++◌, length, map, get_or, set, take, drop, Option, Some, None, is_some, IfSome, IsNone, option_to_list, inl, inr, refl, sym, ap, subst, ◌∙◌, arith}
 use Rattle.std.proofs.lemmas.Bool.{false≢true}
 use Rattle.std.proofs.lemmas.List.{drop_more, length-drop, nil_from_length, take-append-drop, take_all, take_more}
 use Rattle.pmg_value.specs.Lists.{In, Each}
@@ -8,15 +8,12 @@ use Rattle.std.specs.Cmp.{Equal-is, eq_by_cmp_equiv}
 use Rattle.pmg_value.specs.Process.{proc_cmp}
 use Rattle.pmg_value.proofs.ProcessOrder.{exact_procs, procs_total}
 use Rattle.pmg_value.specs.declared.process.Proc.{Proc}
-use Rattle.pmg_scope.specs.Cached.{no_puts}
 use Rattle.pmg_fence.specs.Entering.{same_proc}
 use Rattle.pmg_fence.proofs.EntryLemmas.{proc_itself}
-use Rattle.pmg_fence.proofs.HeaderLemmas.{by_proc}
-use Rattle.pmg_journal.specs.Transcripts.{noted_in}
 use Rattle.pmg_journal.specs.declared.transcript.Transcript.{Transcript}
 use Rattle.pmg_audit.specs.Agreeing.{AreApart, said_for}
 use Rattle.pmg_audit.specs.Codes.{rest_of, said_in}
-use Rattle.pmg_audit.specs.Dues.{Due, said_by, takes_all}
+use Rattle.pmg_audit.specs.Dues.{said_by}
 use Rattle.pmg_audit.specs.Taking.{ArePlaces, AreSayings, IsAbsent, IsPlace, NoneOf, StandsAt, Takes, place_at, procs_of}
 use Rattle.pmg_audit.specs.declared.moves.Due.{Due as KeptDue}
 use Rattle.pmg_audit.specs.declared.moves.Saying.{Saying}

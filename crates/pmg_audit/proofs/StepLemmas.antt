@@ -1,12 +1,12 @@
 -- An order in code, one event further.
-use Rattle.std.proofs.Common.{◌≡◌, ◌⊎◌, ℕ, ◌+◌, ◌<◌, ◌≤◌, Bool, true, false, nat_lt, List, [], ◌∷◌, ◌++◌, length, map, get_or, set, Option, Some, None, slice_get, slice_index, option_to_list, inl, inr, refl, sym, ap, subst, ◌∙◌, ltb-true, ltb-false, arith}
+use Rattle.std.proofs.Common.{◌≡◌, ℕ, ◌+◌, ◌<◌, Bool, true, false, nat_lt, List, [], ◌∷◌, ◌++◌, length, map, get_or, set, Option, Some, None, slice_get, slice_index, refl, sym, ap, subst, ◌∙◌, ltb-true, ltb-false, arith}
 use Rattle.std.proofs.lemmas.List.{get_or_read, length-append, length-map}
 use Rattle.pmg_value.specs.Lists.{In}
 use Rattle.std.proofs.lemmas.Option.{slice_get-get_or, slice_get_within}
 use Rattle.pmg_node.specs.Acting.{act_of, reply_as}
 use Rattle.pmg_node.specs.Servers.{reply_in}
 use Rattle.pmg_rules.specs.declared.sent.Sent.{Sent}
-use Rattle.pmg_runs.specs.Worlds.{Event, Happened}
+use Rattle.pmg_runs.specs.Worlds.{Event}
 use Rattle.pmg_world.specs.Telling.{happened_of}
 use Rattle.pmg_audit.specs.Codes.{all_of, lane_of, move_in, put_in}
 use Rattle.pmg_audit.specs.Going.{IsGoing, IsNext, IsReady, MayGoNext, left}
@@ -17,7 +17,6 @@ use Rattle.pmg_audit.specs.Telling.{GoesOn, IsMaking, work}
 use Rattle.pmg_audit.specs.declared.moves.Lane.{Lane}
 use Rattle.pmg_audit.specs.declared.moves.Move.{Move as KeptMove}
 use Rattle.pmg_audit.specs.declared.ordering.Making.{Making}
-use Rattle.pmg_audit.specs.declared.sends.Sends.{Sends}
 use Rattle.pmg_audit.proofs.GoingSteps.{awake_next, going_next, left_less}
 use Rattle.pmg_audit.proofs.LaneLemmas.{lane_at, lane_past, next_there}
 

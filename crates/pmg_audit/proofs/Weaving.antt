@@ -1,5 +1,5 @@
 -- What is told in an order is a run of the world.
-use Rattle.std.proofs.Common.{◌≡◌, ◌⊎◌, ℕ, zero, suc, ◌<◌, Bool, true, false, ◌==◌, cond, List, [], ◌∷◌, ◌++◌, length, map, get_or, set, Option, Some, None, inl, inr, Ok, refl, sym, ap, subst, ◌∙◌, append_assoc, arith, lt-ltb}
+use Rattle.std.proofs.Common.{◌≡◌, ◌⊎◌, ℕ, ◌<◌, Bool, true, false, ◌==◌, cond, List, [], ◌∷◌, ◌++◌, length, map, get_or, set, Option, Some, None, inl, inr, Ok, refl, sym, ap, subst, ◌∙◌, append_assoc, arith, lt-ltb}
 use Rattle.std.proofs.lemmas.Bool.{false≢true}
 use Rattle.std.proofs.lemmas.Bool.Decides.{nat_tests}
 use Rattle.std.proofs.lemmas.List.{append-nil, get_or_default, get_or-set_same, get_or-set_other, length-set}
@@ -12,7 +12,6 @@ use Rattle.pmg_jobinfo.specs.Jobs.{Jobs, AreJobs, home_of, is_node}
 use Rattle.pmg_fence.specs.Entering.{same_proc}
 use Rattle.pmg_fence.specs.Rules.{Scripts}
 use Rattle.pmg_fence.proofs.EntryLemmas.{proc_itself}
-use Rattle.pmg_fence.proofs.HeaderLemmas.{by_proc}
 use Rattle.pmg_rules.specs.Acts.{Act, Reply, Request, free_cause, says}
 use Rattle.pmg_rules.specs.Fitting.{is_refusal, unless_refused}
 use Rattle.pmg_rules.specs.Holdings.{Holding}

@@ -1,13 +1,12 @@
 -- Whether what transcripts say is what journals tell.
-use Rattle.std.specs.Prelude.{◌≡◌, ◌⊎◌, ℕ, ◌<◌, true, false, List, [], ◌∷◌, ◌++◌, length, map, Option, Some, None, Ok, if◌then◌else◌}
-use Rattle.std.specs.List.{filter}
+use Rattle.std.specs.Prelude.{◌≡◌, ◌⊎◌, ℕ, ◌<◌, true, List, [], ◌∷◌, length, Option, Some, None, Ok, if◌then◌else◌}
 use Rattle.pmg_value.specs.CheckOrder.{first_of}
 use Rattle.pmg_value.specs.Lists.{Each}
 use Rattle.pmg_value.specs.declared.process.Proc.{Proc}
 use Rattle.pmg_scope.specs.Cached.{no_puts}
 use Rattle.pmg_jobinfo.specs.Jobs.{Jobs, home_of}
 use Rattle.pmg_fence.specs.Entering.{same_proc}
-use Rattle.pmg_rules.specs.Acts.{Act, free_cause}
+use Rattle.pmg_rules.specs.Acts.{free_cause}
 use Rattle.pmg_node.specs.Opening.{new_server}
 use Rattle.pmg_node.specs.Servers.{Server, after}
 use Rattle.pmg_journal.specs.Replays.{Happening}
@@ -15,7 +14,7 @@ use Rattle.pmg_journal.specs.Transcripts.{noted_in}
 use Rattle.pmg_journal.specs.declared.journal.Journal.{Journal}
 use Rattle.pmg_journal.specs.declared.transcript.Transcript.{Transcript}
 use Rattle.pmg_audit.specs.Dues.{Due, due_event, said_by, takes_all}
-use Rattle.pmg_audit.specs.Moves.{Move, Put, caller_of, is_by}
+use Rattle.pmg_audit.specs.Moves.{Put, caller_of}
 use Rattle.pmg_audit.specs.Runs.{TellsOf, told_at}
 
 -- no two transcripts are of one process

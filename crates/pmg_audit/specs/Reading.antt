@@ -1,5 +1,5 @@
 -- A transcript that is read, one call further.
-use Rattle.std.specs.Prelude.{◌≡◌, ◌++◌, List, map}
+use Rattle.std.specs.Prelude.{◌≡◌, ◌++◌, map}
 use Rattle.pmg_value.specs.declared.process.Proc.{Proc}
 use Rattle.pmg_journal.specs.Transcripts.{Noted, cached_by}
 use Rattle.pmg_audit.specs.Codes.{put_in, said_in}

@@ -1,4 +1,4 @@
-use Rattle.std.proofs.Common.{◌≡◌, ℕ, ◌<◌, ◌+◌, length, inl, inr, refl, sym, subst, ◌∙◌, rules, arith}
+use Rattle.std.proofs.Common.{◌≡◌, ◌<◌, length, inl, inr, refl, sym, subst, ◌∙◌, rules, arith}
 use Rattle.pmg_journal.specs.declared.journal.Journal.{Journal}
 use Rattle.pmg_audit.specs.Runs.{HasJournal}
 use Rattle.pmg_audit.proofs.NodeSteps.{three}

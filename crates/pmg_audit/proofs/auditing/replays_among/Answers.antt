@@ -1,4 +1,4 @@
-use Rattle.std.proofs.Common.{◌≡◌, true, false, inr, refl, rules}
+use Rattle.std.proofs.Common.{◌≡◌, false, inr, refl, rules}
 use Rattle.pmg_audit.proofs.AuditLemmas.{ends_by, well_by}
 use Rattle.pmg_audit.proofs.auditing.replays_among.Goals as goal
 

@@ -1,4 +1,3 @@
-use Rattle.std.proofs.Common.{sym, subst}
 use Rattle.pmg_audit.specs.Faults.{IsReplayFault}
 use Rattle.pmg_audit.specs.Replaying.{AreWhole, EndsFor, EndsWell}
 use Rattle.pmg_audit.proofs.AuditLemmas.{collision_by, err_on, fault_by, ok_on, whole_by}

@@ -1,4 +1,4 @@
-use Rattle.std.proofs.Common.{ℕ, sym, subst, arith}
+use Rattle.std.proofs.Common.{sym, subst, arith}
 use Rattle.pmg_value.specs.Lists.{In}
 use Rattle.pmg_audit.proofs.LaneLemmas.{in_next}
 use Rattle.pmg_audit.proofs.ordering.all_awake.Goals as goal

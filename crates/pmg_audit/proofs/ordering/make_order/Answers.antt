@@ -1,8 +1,6 @@
 use Rattle.std.proofs.Common.{◌≡◌, ℕ, List, [], map, refl, sym, subst}
 use Rattle.pmg_value.specs.Lists.{In}
-use Rattle.pmg_rules.specs.declared.sent.Sent.{Sent}
 use Rattle.pmg_world.specs.Telling.{happened_of}
-use Rattle.pmg_world.specs.declared.event.Told.{Told}
 use Rattle.pmg_audit.specs.Codes.{all_of}
 use Rattle.pmg_audit.specs.Going.{SomeOpen}
 use Rattle.pmg_audit.specs.Orders.{AreTold, rests}

@@ -1,7 +1,6 @@
-use Rattle.std.proofs.Common.{◌≡◌, true, false, ◌==◌, ◌+◌, cond, List, ◌∷◌, map, drop, refl, sym, ap, ◌∙◌, rules}
+use Rattle.std.proofs.Common.{◌≡◌, true, false, ◌==◌, ◌+◌, cond, List, ◌∷◌, map, drop, sym, ap, ◌∙◌, rules}
 use Rattle.std.proofs.lemmas.List.{drop_all, drop_more}
 use Rattle.pmg_journal.specs.Journals.{happening_of, told_in}
-use Rattle.pmg_journal.specs.declared.journal.Event.{Event}
 use Rattle.pmg_journal.specs.declared.journal.Journal.{Journal}
 use Rattle.pmg_audit.specs.Runs.{told_at}
 use Rattle.pmg_audit.proofs.replaying.events_of.Goals as goal

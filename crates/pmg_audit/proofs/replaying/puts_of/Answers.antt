@@ -1,4 +1,4 @@
-use Rattle.std.proofs.Common.{◌≡◌, ℕ, true, false, ◌==◌, List, map, Option, Some, refl, sym, subst, ◌∙◌, arith}
+use Rattle.std.proofs.Common.{◌≡◌, ℕ, true, false, ◌==◌, List, map, Option, refl, sym, subst, ◌∙◌, arith}
 use Rattle.std.proofs.lemmas.Bool.{false≢true}
 use Rattle.std.proofs.lemmas.Bool.Decides.{nat_tests}
 use Rattle.pmg_value.specs.declared.process.Proc.{Proc}
@@ -8,7 +8,6 @@ use Rattle.pmg_journal.specs.Journals.{happening_of}
 use Rattle.pmg_journal.specs.Replays.{Happening}
 use Rattle.pmg_audit.specs.Agreeing.{IsSaidBy, MayPut}
 use Rattle.pmg_audit.specs.Codes.{put_in, rest_of, said_in}
-use Rattle.pmg_audit.specs.Replaying.{TakesPuts}
 use Rattle.pmg_audit.specs.declared.moves.Put.{Put as KeptPut}
 use Rattle.pmg_audit.proofs.ReplaySteps.{caller_takes, none_left, not_home, other_said}
 use Rattle.pmg_audit.proofs.replaying.puts_of.Goals as goal

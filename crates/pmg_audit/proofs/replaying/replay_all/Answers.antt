@@ -1,4 +1,4 @@
-use Rattle.std.proofs.Common.{◌≡◌, ℕ, ◌<◌, ◌+◌, length, sym, ap, subst, rules, refl}
+use Rattle.std.proofs.Common.{◌≡◌, ◌<◌, length, subst, rules, refl}
 use Rattle.pmg_node.specs.Opening.{new_server}
 use Rattle.pmg_audit.specs.Replaying.{AddsNode, AllUnsaid, AreReplayed, SomeUnsaid}
 use Rattle.pmg_audit.specs.Runs.{told_at}

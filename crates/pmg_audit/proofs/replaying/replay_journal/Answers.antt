@@ -1,5 +1,4 @@
 use Rattle.std.proofs.Common.{◌≡◌, map, subst, ◌∙◌}
-use Rattle.pmg_jobinfo.specs.Jobs.{Jobs}
 use Rattle.pmg_node.specs.Opening.{new_server}
 use Rattle.pmg_node.specs.Servers.{Server}
 use Rattle.pmg_journal.specs.Journals.{happening_of}

@@ -1,4 +1,4 @@
-use Rattle.std.proofs.Common.{◌≡◌, ◌<◌, ℕ, true, List, [], ◌∷◌, ◌++◌, map, take, drop, ◌+◌, refl, sym, ap, subst, ◌∙◌, rules}
+use Rattle.std.proofs.Common.{◌≡◌, ℕ, true, List, [], ◌∷◌, ◌++◌, map, take, drop, ◌+◌, refl, sym, subst, rules}
 use Rattle.pmg_value.specs.Lists.{Each}
 use Rattle.pmg_scope.specs.Cached.{no_puts}
 use Rattle.pmg_journal.specs.Transcripts.{noted_in}

@@ -1,4 +1,4 @@
-use Rattle.std.proofs.Common.{◌≡◌, List, map, subst}
+use Rattle.std.proofs.Common.{List, subst}
 use Rattle.pmg_node.specs.Opening.{new_server}
 use Rattle.pmg_journal.specs.Replays.{Happening}
 use Rattle.pmg_audit.specs.Replaying.{AllUnsaid, HaveHappened, RefusesFor}

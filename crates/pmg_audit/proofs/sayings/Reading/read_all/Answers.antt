@@ -1,4 +1,4 @@
-use Rattle.std.proofs.Common.{◌≡◌, ◌<◌, ◌≤◌, ◌++◌, ◌+◌, List, length, map, drop, refl, sym, ap, ◌∙◌, rules}
+use Rattle.std.proofs.Common.{◌++◌, ◌+◌, List, map, drop, sym, ap, ◌∙◌, rules}
 use Rattle.pmg_journal.specs.Transcripts.{Noted, noted_of}
 use Rattle.pmg_audit.specs.Codes.{put_in, said_in}
 use Rattle.pmg_audit.specs.Dues.{dues, takes_all}
