@@ -1,38 +1,118 @@
-//! What audits answer.
-use crate::recorded::{Recorded, two_fences};
-use pmg_audit::audit;
-use pmg_value::Refusal;
+//! What audits answer of accounts as they were made, and of those in which an account as a whole is another.
+use crate::accounts::{Accounts, NO_CHANGE, registry};
+use crate::words::process;
+use crate::{exchange, fences};
+use pmg_journal::Transcript;
+use pmg_value::{NodeId, Refusal};
 use std::alloc::Global;
 use std::process::Abort;
 
-/// The number of the refusal, or how many events the run has.
-pub(crate) fn answer(both: &Recorded) -> Result<usize, Refusal> {
-    match audit(both.alloc, &both.journals, &both.transcripts) {
-        Ok(run) => Ok(run.events().len()),
-        Err(refusal) => Err(refusal),
+// The accounts of the exchange.
+fn exchange_of(alloc: Global) -> Result<Accounts, Refusal> {
+    Accounts::new(alloc, [exchange::AT_ZERO, exchange::AT_ONE], &NO_CHANGE)
+}
+
+// The accounts of the exchange, of whose journals the first is of that node and group.
+fn journal_answer(
+    alloc: Global,
+    node: u32,
+    first: &[u8],
+    nspace: &[u8],
+    homes: [u32; 2],
+) -> Result<Result<usize, Refusal>, Refusal> {
+    let mut accounts = exchange_of(alloc)?;
+    if let Some(journal) = accounts.journals.first_mut() {
+        journal.node = NodeId::new(node)?;
+        journal.registry = registry(alloc, first, nspace, homes)?;
     }
+    Ok(accounts.answer())
+}
+
+// The accounts of the exchange, of whose transcripts the first is of that process.
+fn transcript_answer(alloc: Global, proc: &str) -> Result<Result<usize, Refusal>, Refusal> {
+    let mut accounts = exchange_of(alloc)?;
+    if let Some(transcript) = accounts.transcripts.first_mut() {
+        transcript.proc = process(alloc, proc)?;
+    }
+    Ok(accounts.answer())
+}
+
+// The accounts of the exchange, and a transcript of that process without calls.
+fn further_answer(alloc: Global, proc: &str) -> Result<Result<usize, Refusal>, Refusal> {
+    let mut accounts = exchange_of(alloc)?;
+    accounts.transcripts.push(Transcript {
+        proc: process(alloc, proc)?,
+        calls: Vec::new(alloc),
+    })?;
+    Ok(accounts.answer())
 }
 
 #[test]
-fn two_fences_are_one_run(rt: HostRuntime) -> Result<(), Refusal> {
-    let both = two_fences(rt.alloc())?;
-    assert!(rt; answer(&both)? == 15);
+fn accounts_as_they_were_made_are_one_run(rt: HostRuntime) -> Result<(), Refusal> {
+    let alloc = rt.alloc();
+    assert!(rt; exchange_of(alloc)?.answer() == Ok(exchange::EVENTS));
+    let fences = Accounts::new(alloc, [fences::AT_ZERO, fences::AT_ONE], &NO_CHANGE)?;
+    assert!(rt; fences.answer() == Ok(fences::EVENTS));
     Ok(())
 }
 
 #[test]
-fn nothing_is_no_run(rt: HostRuntime) -> Result<(), Refusal> {
-    let mut both = two_fences(rt.alloc())?;
-    both.journals.clear();
-    assert!(rt; answer(&both) == Err(Refusal::BadParam));
+fn accounts_may_stand_in_any_order(rt: HostRuntime) -> Result<(), Refusal> {
+    let mut accounts = exchange_of(rt.alloc())?;
+    accounts.journals.reverse();
+    accounts.transcripts.reverse();
+    assert!(rt; accounts.answer() == Ok(exchange::EVENTS));
     Ok(())
 }
 
 #[test]
-fn journals_may_stand_in_any_order(rt: HostRuntime) -> Result<(), Refusal> {
-    let mut both = two_fences(rt.alloc())?;
-    both.journals.reverse();
-    both.transcripts.reverse();
-    assert!(rt; answer(&both)? == 15);
+fn each_node_of_a_group_has_one_journal(rt: HostRuntime) -> Result<(), Refusal> {
+    let alloc = rt.alloc();
+    let bad = Err(Refusal::BadParam);
+    let made = Ok(exchange::EVENTS);
+    assert!(rt; journal_answer(alloc, 0, b"n0", b"j", [0, 1])? == made);
+    assert!(rt; journal_answer(alloc, 1, b"n0", b"j", [0, 1])? == bad);
+    assert!(rt; journal_answer(alloc, 0, b"m0", b"j", [0, 1])? == bad);
+    assert!(rt; journal_answer(alloc, 0, b"n0", b"k", [0, 1])? == bad);
+    assert!(rt; journal_answer(alloc, 0, b"n0", b"j", [0, 0])? == bad);
+    Ok(())
+}
+
+#[test]
+fn journals_are_as_many_as_nodes(rt: HostRuntime) -> Result<(), Refusal> {
+    let alloc = rt.alloc();
+    let bad = Err(Refusal::BadParam);
+    let mut accounts = exchange_of(alloc)?;
+    let mut others = exchange_of(alloc)?;
+    accounts.journals.append(&mut others.journals)?;
+    assert!(rt; accounts.answer() == bad);
+    accounts.journals.truncate(1);
+    assert!(rt; accounts.answer() == bad);
+    accounts.journals.clear();
+    assert!(rt; accounts.answer() == bad);
+    Ok(())
+}
+
+#[test]
+fn each_process_has_its_transcript(rt: HostRuntime) -> Result<(), Refusal> {
+    let alloc = rt.alloc();
+    let differs = Err(Refusal::Collision);
+    let made = Ok(exchange::EVENTS);
+    assert!(rt; transcript_answer(alloc, "j0")? == made);
+    // two of one process, and none of one that made an event
+    assert!(rt; transcript_answer(alloc, "j1")? == differs);
+    assert!(rt; transcript_answer(alloc, "j2")? == differs);
+    assert!(rt; further_answer(alloc, "j0")? == differs);
+    // of processes that made none
+    assert!(rt; further_answer(alloc, "j2")? == made);
+    assert!(rt; further_answer(alloc, "pmix.host0")? == made);
+    Ok(())
+}
+
+#[test]
+fn a_missing_transcript_is_a_collision(rt: HostRuntime) -> Result<(), Refusal> {
+    let mut accounts = exchange_of(rt.alloc())?;
+    let _last = accounts.transcripts.pop();
+    assert!(rt; accounts.answer() == Err(Refusal::Collision));
     Ok(())
 }

@@ -1,113 +1,95 @@
-//! Journals and transcripts in which one thing is changed.
-use crate::audits::answer;
-use crate::recorded::{Recorded, process, two_fences};
-use pmg_journal::{Call, Called, Transcript};
-use pmg_node::Reply;
-use pmg_scope::Scope;
-use pmg_value::{Key, Refusal, Value};
+//! What is answered where one line of an account is changed.
+use crate::accounts::{Account, Accounts, Change};
+use crate::{exchange, fences};
+use pmg_value::Refusal;
+use std::alloc::Global;
 use std::process::Abort;
+use std::str;
 
-// Whether the answer is that of an entry.
-fn is_entry(answer: &Result<Reply, Refusal>) -> bool {
-    match answer {
-        Ok(Reply::Entered(_)) => true,
-        _ => false,
+/// A change, and what is answered then.
+#[derive(Clone, Copy)]
+struct Row<'a> {
+    change: Change<'a>,
+    wanted: &'a str,
+}
+
+// Which account a letter stands for.
+fn account_of(letter: &str) -> Account {
+    match letter {
+        "J" => Account::Journal,
+        "T" => Account::Transcript,
+        "B" => Account::Both,
+        _ => Account::Neither,
     }
 }
 
-// The first entry of the journal is answered by 7.
-fn turn_journal(both: &mut Recorded) {
-    let Some(journal) = both.journals.first_mut() else {
-        return;
+// The row of a text at that node, under that line.
+fn row_of<'a>(node: u32, line: usize, text: &'a str) -> Option<Row<'a>> {
+    let (letter, rest) = text.split_once(' ')?;
+    let (wanted, text) = rest.split_once(' ')?;
+    let change = Change {
+        node,
+        account: account_of(letter),
+        line,
+        text,
     };
-    for event in journal.events.iter_mut() {
-        if is_entry(&event.answer) {
-            event.answer = Ok(Reply::Entered(7));
-            return;
-        }
-    }
+    Some(Row { change, wanted })
 }
 
-// The first entry of the transcript is answered by 7.
-fn turn_transcript(both: &mut Recorded) {
-    let Some(transcript) = both.transcripts.first_mut() else {
-        return;
+// Whether it is a row, and that is answered.
+fn is_answered(alloc: Global, texts: [&str; 2], row: Option<Row<'_>>) -> Result<bool, Refusal> {
+    let Some(Row { change, wanted }) = row else {
+        return Ok(false);
     };
-    for called in transcript.calls.iter_mut() {
-        if is_entry(&called.answer) {
-            called.answer = Ok(Reply::Entered(7));
-            return;
+    let accounts = Accounts::new(alloc, texts, &change)?;
+    Ok(match accounts.answer() {
+        Ok(_) => wanted == "fine",
+        Err(refusal) => wanted == refusal.name(),
+    })
+}
+
+// Puts the rows of that node that are answered otherwise.
+fn put_wrong(
+    wrong: &mut Vec<u8>,
+    alloc: Global,
+    texts: [&str; 2],
+    node: u32,
+    text: &str,
+) -> Result<(), Refusal> {
+    let mut base = 0;
+    for (number, line) in text.lines().enumerate() {
+        let Some(told) = line.strip_prefix("  ") else {
+            base = number;
+            continue;
+        };
+        if told.starts_with('#') || is_answered(alloc, texts, row_of(node, base, told))? {
+            continue;
         }
+        wrong.extend_from_slice(line.as_bytes())?;
+        wrong.push(b'\n')?;
     }
+    Ok(())
+}
+
+// The rows that are answered otherwise.
+fn wrong_rows(alloc: Global, texts: [&str; 2]) -> Result<Vec<u8>, Refusal> {
+    let mut wrong = Vec::new(alloc);
+    let [zero, one] = texts;
+    put_wrong(&mut wrong, alloc, texts, 0, zero)?;
+    put_wrong(&mut wrong, alloc, texts, 1, one)?;
+    Ok(wrong)
 }
 
 #[test]
-fn a_transcript_twice_is_a_collision(rt: HostRuntime) -> Result<(), Refusal> {
-    let mut both = two_fences(rt.alloc())?;
-    both.transcripts.push(Transcript {
-        proc: process(rt.alloc(), 0)?,
-        calls: Vec::new(rt.alloc()),
-    })?;
-    assert!(rt; answer(&both) == Err(Refusal::Collision));
+fn each_line_of_an_exchange_is_changed(rt: HostRuntime) -> Result<(), Refusal> {
+    let wrong = wrong_rows(rt.alloc(), [exchange::AT_ZERO, exchange::AT_ONE])?;
+    assert_eq!(rt; str::from_utf8(&wrong).unwrap_or("no text"), "");
     Ok(())
 }
 
 #[test]
-fn a_missing_transcript_is_a_collision(rt: HostRuntime) -> Result<(), Refusal> {
-    let mut both = two_fences(rt.alloc())?;
-    let _last = both.transcripts.pop();
-    assert!(rt; answer(&both) == Err(Refusal::Collision));
-    Ok(())
-}
-
-#[test]
-fn a_missing_journal_is_bad(rt: HostRuntime) -> Result<(), Refusal> {
-    let mut both = two_fences(rt.alloc())?;
-    let _last = both.journals.pop();
-    assert!(rt; answer(&both) == Err(Refusal::BadParam));
-    Ok(())
-}
-
-#[test]
-fn a_reply_of_one_account_is_a_collision(rt: HostRuntime) -> Result<(), Refusal> {
-    let mut both = two_fences(rt.alloc())?;
-    turn_journal(&mut both);
-    assert!(rt; answer(&both) == Err(Refusal::Collision));
-    Ok(())
-}
-
-#[test]
-fn a_reply_of_both_accounts_is_stale(rt: HostRuntime) -> Result<(), Refusal> {
-    let mut both = two_fences(rt.alloc())?;
-    turn_journal(&mut both);
-    turn_transcript(&mut both);
-    assert!(rt; answer(&both) == Err(Refusal::Stale));
-    Ok(())
-}
-
-#[test]
-fn a_put_that_no_commit_carries_is_a_collision(rt: HostRuntime) -> Result<(), Refusal> {
-    let mut both = two_fences(rt.alloc())?;
-    let key = Key::read(rt.alloc(), b"c")?;
-    let call = Call::Put(Scope::Global, key, Value::U8(3));
-    let answer_of_put = Ok(Reply::Done);
-    let mut calls = Vec::new(rt.alloc());
-    calls.push(Called {
-        call,
-        answer: answer_of_put,
-    })?;
-    if let Some(transcript) = both.transcripts.first_mut() {
-        calls.append(&mut transcript.calls)?;
-        transcript.calls = calls;
-    }
-    assert!(rt; answer(&both) == Err(Refusal::Collision));
-    Ok(())
-}
-
-#[test]
-fn a_frame_that_nobody_sent_is_unordered(rt: HostRuntime) -> Result<(), Refusal> {
-    let mut both = two_fences(rt.alloc())?;
-    both.misdeliver(1)?;
-    assert!(rt; answer(&both) == Err(Refusal::Unordered));
+fn fences_are_changed(rt: HostRuntime) -> Result<(), Refusal> {
+    let wrong = wrong_rows(rt.alloc(), [fences::AT_ZERO, fences::AT_ONE])?;
+    assert_eq!(rt; str::from_utf8(&wrong).unwrap_or("no text"), "");
     Ok(())
 }

@@ -2,8 +2,14 @@
 #![tactic(auto)]
 
 #[cfg(test)]
+mod accounts;
+#[cfg(test)]
 mod audits;
 #[cfg(test)]
 mod changes;
 #[cfg(test)]
-mod recorded;
+mod exchange;
+#[cfg(test)]
+mod fences;
+#[cfg(test)]
+mod words;

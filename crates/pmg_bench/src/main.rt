@@ -1,6 +1,7 @@
-//! What fences, reads and jobs cost: each line on standard input is a number and, if it is not of fences, what is done so often.
+//! What fences, reads, jobs and audits cost: each line on standard input is a number and, if it is not of fences, what is done so often.
 #![tactic(auto)]
 
+mod audits;
 mod calls;
 mod fences;
 mod jobs;
@@ -20,6 +21,7 @@ enum Work {
     LockedReads,
     ReadsOfClient,
     Jobs,
+    Audits,
 }
 
 impl Work {
@@ -31,6 +33,7 @@ impl Work {
             Work::LockedReads => "reads of 100 processes under a lock",
             Work::ReadsOfClient => "reads of 100 processes by a client",
             Work::Jobs => "jobs of 8 nodes and 32 clients",
+            Work::Audits => "events of 4 nodes audited",
         }
     }
 }
@@ -70,6 +73,9 @@ fn work_of(line: &str) -> (Work, &str) {
     if let Some(number) = line.strip_suffix(" jobs") {
         return (Work::Jobs, number);
     }
+    if let Some(number) = line.strip_suffix(" events") {
+        return (Work::Audits, number);
+    }
     (Work::Fences, line)
 }
 
@@ -92,6 +98,7 @@ fn done<R: Wait>(rt: &R, alloc: Global, work: Work, text: &str) -> Result<u64, R
         Work::LockedReads => reads::read_locked(rt, alloc, count),
         Work::ReadsOfClient => calls::read_now(rt, alloc, count),
         Work::Jobs => Ok(0),
+        Work::Audits => audits::audit_rounds(alloc, count),
     }
 }
 
