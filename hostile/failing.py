@@ -1,7 +1,9 @@
 """Runs of a program in which an allocation, a read or a write fails, and what is told of them."""
 import collections
 import os
+import shutil
 import subprocess
+import sys
 import tempfile
 
 HERE = os.path.dirname(os.path.realpath(__file__))
@@ -17,6 +19,8 @@ Ran = collections.namedtuple("Ran", "status output errors counts")
 
 def library_in(folder):
     """Builds in this folder the library that lets things fail: its path."""
+    if not shutil.which("cc"):
+        sys.exit("hostile/run needs a C compiler, and there is no command cc")
     library = os.path.join(folder, "fail.so")
     subprocess.run(["cc", "-shared", "-fPIC", "-O1", "-o", library, os.path.join(HERE, "fail.c"), "-ldl"], check=True)
     return library

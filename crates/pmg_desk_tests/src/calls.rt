@@ -1,5 +1,5 @@
 //! What clients of one thread are answered, with answers found by hand.
-use crate::group::{desk, key, number_in, process};
+use crate::group::{check_memory, desk, key, number_in, process};
 use pmg_desk::{Client, Desk};
 use pmg_journal::Call;
 use pmg_node::{Release, Reply, Request, Taking};
@@ -68,8 +68,9 @@ fn two_clients_of_a_node_meet(rt: HostRuntime) -> Result<(), Refusal> {
     Ok(())
 }
 
-// The answers to one who is no process of the node, to one who asks for a second client, and to one of another node.
-fn refused<R: Wait>(rt: &R, alloc: Global, desk: &Desk) -> Result<[Option<Refusal>; 5], Refusal> {
+// Why these have no client: a process that has one, one of another node, one that is not there, one of another namespace, and one that
+// ended; between the last two, why it did not end.
+fn refused<R: Wait>(rt: &R, alloc: Global, desk: &Desk) -> Result<[Option<Refusal>; 6], Refusal> {
     let first = process(alloc, 0)?;
     let client = desk.client(rt, &first)?;
     let again = desk.client(rt, &first).err();
@@ -77,13 +78,12 @@ fn refused<R: Wait>(rt: &R, alloc: Global, desk: &Desk) -> Result<[Option<Refusa
     let none = desk.client(rt, &process(alloc, 9)?).err();
     let unknown = Proc::new(Nspace::read(alloc, b"k")?, Rank::new(0));
     let unknown = desk.client(rt, &unknown).err();
-    let ended = client.terminate(rt).is_ok();
+    let unended = match client.terminate(rt) {
+        Ok(_) => None,
+        Err(unended) => Some(unended.refusal),
+    };
     let gone = desk.client(rt, &first).err();
-    Ok(if ended {
-        [again, other, none, unknown, gone]
-    } else {
-        [None, None, None, None, None]
-    })
+    Ok([again, other, none, unknown, unended, gone])
 }
 
 #[test]
@@ -92,13 +92,16 @@ fn a_process_has_one_client(rt: HostRuntime) -> Result<(), Refusal> {
     let desk = desk(&rt, alloc, 0)?;
     let answers = refused(&rt, alloc, &desk);
     desk.into_journal(&rt);
+    let answers = answers?;
+    check_memory(&answers)?;
     assert!(rt;
-        answers?
+        answers
             == [
                 Some(Refusal::Exists),
                 Some(Refusal::NotMine),
                 Some(Refusal::BadParam),
                 Some(Refusal::UnknownNamespace),
+                None,
                 Some(Refusal::Terminated),
             ]
     );
@@ -128,7 +131,10 @@ fn readers_go_on_at_a_closed_desk(rt: HostRuntime) -> Result<(), Refusal> {
     let desk = desk(&rt, alloc, 0)?;
     let answers = at_closed(&rt, alloc, &desk);
     desk.into_journal(&rt);
-    assert!(rt; answers? == (Some(Refusal::Closed), Some(5), Some(Refusal::Closed)));
+    let (commit, read, frames) = answers?;
+    check_memory(&[commit, frames])?;
+    assert!(rt; commit == Some(Refusal::Closed) && frames == Some(Refusal::Closed));
+    assert!(rt; read == Some(5));
     Ok(())
 }
 
@@ -152,20 +158,24 @@ fn letters<R: Wait>(rt: &R, alloc: Global, desk: &Desk) -> Result<Vec<u8>, Refus
     let other = process(alloc, 1)?;
     let name = key(alloc, b"a")?;
     put_number(rt, alloc, &mut client, 1)?;
-    let bad = client.put(Scope::Undef, key(alloc, b"a")?, Value::Bool(true));
+    let bad = client
+        .put(Scope::Undef, key(alloc, b"a")?, Value::Bool(true))
+        .err();
+    check_memory(&[bad])?;
     let own = client.get(rt, &process(alloc, 0)?, &name)?;
     let idle = client.take(rt)?;
-    let reserved = client.get(rt, &other, &Key::read_any(alloc, b"pmix.rank")?);
+    client.get(rt, &other, &Key::read_any(alloc, b"pmix.rank")?)?;
     let fence = client.fence(rt, &[process(alloc, 0)?], false)?;
     let late = client.leave(rt)?;
-    if bad.is_ok() || number_in(own) != Some(1) || reserved.is_err() || !is_whole(&fence) {
+    if bad.is_none() || number_in(own) != Some(1) || !is_whole(&fence) {
         return Err(Refusal::Unordered);
     }
     if !matches!(idle, Taking::Idle) || !matches!(late, Release::Idle) {
         return Err(Refusal::Unordered);
     }
-    let Ok(transcript) = client.terminate(rt) else {
-        return Err(Refusal::Busy);
+    let transcript = match client.terminate(rt) {
+        Ok(transcript) => transcript,
+        Err(unended) => return Err(unended.refusal),
     };
     let mut letters = Vec::new(alloc);
     for called in &transcript.calls {

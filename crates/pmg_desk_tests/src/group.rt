@@ -23,6 +23,16 @@ pub(crate) fn number_in(value: Value) -> Option<u32> {
     }
 }
 
+/// Refused as NoMemory where one of these calls was.
+pub(crate) fn check_memory(refusals: &[Option<Refusal>]) -> Result<(), Refusal> {
+    for refusal in refusals {
+        if *refusal == Some(Refusal::NoMemory) {
+            return Err(Refusal::NoMemory);
+        }
+    }
+    Ok(())
+}
+
 // Nodes n0 and n1, and namespace j, whose processes 0 and 1 are at home at node 0, and 2 at node 1.
 fn registry(alloc: Global) -> Result<Registry, Refusal> {
     let names: [&[u8]; 2] = [b"n0", b"n1"];

@@ -1,5 +1,5 @@
 //! Process sets at desks, and the frames that carry them to another node.
-use crate::group::{desk, key, process};
+use crate::group::{check_memory, desk, key, process};
 use pmg_desk::Desk;
 use pmg_node::Delivery;
 use pmg_value::Refusal;
@@ -85,6 +85,7 @@ fn sets_spread_to_the_other_node(rt: HostRuntime) -> Result<(), Refusal> {
     zero.into_journal(&rt);
     one.into_journal(&rt);
     let (changed, refused) = told?;
+    check_memory(&refused)?;
     assert!(rt; changed == ([1, 2], [true, true]));
     assert!(rt;
         refused

@@ -181,15 +181,15 @@ impl Group {
         Ok(acted.reply)
     }
 
-    // The same. Where an allocation fails, nothing that is seen may change, and the act is asked
-    // for again.
-    fn answer(&mut self, at: usize, act: &Act) -> Result<Reply, Refusal> {
+    // The same. Where an allocation of the act fails, nothing that is seen may change, and the act
+    // is asked for again; where another one fails, there is no answer.
+    fn answer(&mut self, at: usize, act: &Act) -> Result<Result<Reply, Refusal>, Refusal> {
         let before = self.seen(at)?;
         let answer = self.act_once(at, act);
         if !matches!(answer, Err(Refusal::NoMemory)) || self.seen(at)? != before {
-            return answer;
+            return Ok(answer);
         }
-        self.act_once(at, act)
+        Ok(self.act_once(at, act))
     }
 
     // The lines of the answer, and of the frames that were sent after so many.
@@ -225,7 +225,7 @@ impl Group {
             return self.look(at, &words);
         };
         let before = self.sent.len();
-        let answer = self.answer(at, &act);
+        let answer = self.answer(at, &act)?;
         self.lines(&answer, before)
     }
 

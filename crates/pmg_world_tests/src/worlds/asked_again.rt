@@ -53,8 +53,9 @@ fn after(alloc: Global, events: &[Event]) -> Result<World, Refusal> {
     Ok(world)
 }
 
-// A set is defined, a get of process 1 waits for a value of process 0, both meet in a fence,
-// process 0 ends, and the set is deleted.
+// A set is defined, and a get of process 1 waits for a value of process 0. Both meet in a fence,
+// whose header node 0 asks for, and in another, before which process 0 commits what node 1 asks
+// for. Process 0 ends, and the set is deleted.
 const ROWS: &str = "\
 0 define s j0 j1|defined 1
 - deliver 1|delivered 1
@@ -71,8 +72,21 @@ const ROWS: &str = "\
 0 leave j0|waiting
 - deliver 6|delivered 1
 1 leave j1|released 1 gone -
+0 nudge|ok
+- deliver 8|delivered 1
+- deliver 9|delivered 1
+0 leave j0|released 1 gone -
+0 commit j0|commit 2
+0 enter j0 collect j0 j1|entered 2
+1 enter j1 collect j0 j1|entered 2
+- deliver 10|delivered 1
+1 nudge|ok
+- deliver 13|delivered 1
+1 leave j1|waiting
+- deliver 15|delivered 1
+1 leave j1|released 2 gone -
 1 now j1 j0 a|found u8:7
-0 end j0|ended 2
+0 end j0|ended 3
 0 delete s|defined 2
 ";
 
