@@ -8,7 +8,7 @@ use Rattle.pmg_jobinfo.specs.Jobs.{Jobs, AreJobs}
 use Rattle.pmg_journal.specs.Transcripts.{noted_in}
 use Rattle.pmg_journal.specs.declared.journal.Journal.{Journal}
 use Rattle.pmg_journal.specs.declared.transcript.Transcript.{Transcript}
-use Rattle.pmg_audit.specs.Agreeing.{AreApart}
+use Rattle.pmg_audit.specs.Agreeing.{AreAgreed, AreApart}
 use Rattle.pmg_audit.specs.Dues.{takes_all}
 use Rattle.pmg_audit.specs.Faults.{AreOne, IsFault, IsReplayFault}
 use Rattle.pmg_audit.specs.Moves.{Move}
@@ -23,7 +23,7 @@ use Rattle.pmg_audit.specs.Runs.{AreJournals, AreMoves, IsOneRun, account_by}
 use Rattle.pmg_audit.specs.Taking.{AreSayings}
 use Rattle.pmg_audit.specs.declared.moves.Saying.{Saying}
 use Rattle.pmg_audit.specs.declared.replaying.AllReplayed.{AllReplayed}
-use Rattle.pmg_audit.proofs.EndSteps.{are_whole, left_unlike, unsaid_unlike}
+use Rattle.pmg_audit.proofs.EndSteps.{agreed, are_whole, left_unlike, unsaid_unlike}
 
 pub ends_by : (jobs : Jobs) (js : List Journal) (first : List Saying) (e : Refusal) → RefusesFor e (SomeUnsaid jobs js first) → EndsFor jobs js first e
 ends_by jobs js first refusals.NoMemory is = tt
@@ -44,12 +44,12 @@ module _ (jobs : Jobs) (are : AreJobs jobs) (js : List Journal) (ts : List Trans
   unfolding EndsWell
   whole_by taken r ended = are_whole jobs are js ts first sayings apart r ended.0 ended.1.done taken ended.1.told ended.1.fresh
 
-  pub fault_by : (e : Refusal) → EndsFor jobs js first e → IsReplayFault jobs js ts e
-  fault_by refusals.NoMemory is = tt
-  fault_by refusals.Collision (inl unsaid) = unsaid_unlike jobs js ts first sayings unsaid
-  fault_by refusals.Collision (inr left) = left_unlike jobs are js ts first sayings apart left.r left.ss left.done left.left
-  fault_by refusals.Stale is = is
-  fault_by e is = absurd is
+  pub fault_by : Each (λ (t : Transcript). takes_all no_puts (noted_in t) ≡ true) ts → (e : Refusal) → EndsFor jobs js first e → IsReplayFault jobs js ts e
+  fault_by taken refusals.NoMemory is = tt
+  fault_by taken refusals.Collision (inl unsaid) = unsaid_unlike jobs js ts first sayings unsaid
+  fault_by taken refusals.Collision (inr left) = left_unlike jobs are js ts first sayings apart left.r left.ss left.done left.left
+  fault_by taken refusals.Stale is = (agreed jobs are js ts first sayings apart is.0.r is.0.ss is.0.done taken is.0.told, is.1)
+  fault_by taken e is = absurd is
 
 -- a refusal of the transcripts alone
 pub collision_by : (jobs : Jobs) (js : List Journal) (ts : List Transcript) (e : Refusal)
@@ -61,13 +61,13 @@ collision_by jobs js ts e is = let same = (is (λ same. absurd cc)).0 in absurd 
 pub replay_fault : (jobs : Jobs) (js : List Journal) (ts : List Transcript) → AreJournals jobs js → (e : Refusal) → IsReplayFault jobs js ts e → IsFault js ts e
 replay_fault jobs js ts journals refusals.NoMemory is = tt
 replay_fault jobs js ts journals refusals.Collision is = (jobs, journals, is)
-replay_fault jobs js ts journals refusals.Stale is = (jobs, journals, is)
+replay_fault jobs js ts journals refusals.Stale is = (jobs, journals, is.0, is.1)
 replay_fault jobs js ts journals e is = absurd is
 
-pub order_fault : (jobs : Jobs) (js : List Journal) (ts : List Transcript) (all : List (List Move)) → AreJournals jobs js → AreMoves jobs js all → (e : Refusal)
+pub order_fault : (jobs : Jobs) (js : List Journal) (ts : List Transcript) (all : List (List Move)) → AreJournals jobs js → AreMoves jobs js all → AreAgreed jobs js ts → (e : Refusal)
     → (e ≡ refusals.NoMemory) ⊎ (e ≡ refusals.Unordered) → (e ≡ refusals.Unordered → NoOrder all) → IsFault js ts e
-order_fault jobs js ts all journals moves e (inl same) none = subst (IsFault js ts) (sym same) tt
-order_fault jobs js ts all journals moves e (inr same) none = subst (IsFault js ts) (sym same) (jobs, journals, record { all = all; moves = moves; none = none same })
+order_fault jobs js ts all journals moves agree e (inl same) none = subst (IsFault js ts) (sym same) tt
+order_fault jobs js ts all journals moves agree e (inr same) none = subst (IsFault js ts) (sym same) (jobs, journals, agree, record { all = all; moves = moves; none = none same })
 
 -- the journals are not of the first one's group
 pub not_one : (js : List Journal) (x : Journal) → slice_get js 0 ≡ Some x → (AreJournals x.registry js → ⊥) → AreOne js → ⊥
@@ -88,5 +88,5 @@ pub one_by : (jobs : Jobs) → AreJobs jobs → (js : List Journal) (ts : List T
     → IsOneRun js ts (account_by registry r.nodes.items o.sent.items o.told.items)
 one_by jobs are js ts journals r whole o registry same lanes is order =
     subst (λ (j : Jobs). IsOneRun js ts (account_by j r.nodes.items o.sent.items o.told.items)) (sym same)
-    (moves_are_one_run jobs are js ts journals (all_of r.lanes.items) whole.moves whole.put whole.calls r.nodes.items o.sent.items o.told.items
+    (moves_are_one_run jobs are js ts journals (all_of r.lanes.items) whole.moves whole.put whole.agreed.calls r.nodes.items o.sent.items o.told.items
     (subst (λ (ls : List Lane). AreTold (all_of ls) (map happened_of o.told.items) o.sent.items) is order) whole.ends)

@@ -158,7 +158,7 @@ module _ (jobs : Jobs) (are : AreJobs jobs) (js : List Journal) (ts : List Trans
   made_is : (p : Proc) → map due_event (map due_in (moves_by p (moves_at all (home_of jobs p)))) ≡ filter (λ (e : Happening). is_by p e.act) (told_at js (home_of jobs p))
   made_is p = events_by p (moves_at all (home_of jobs p)) ∙ ap (filter (λ (e : Happening). is_by p e.act)) (done.events (home_of jobs p) (home_inside p))
 
-  module _ (taken : Each IsTaken ts) (told : Each (λ (s : Saying). s.dues.items ≡ []) ss) (fresh : r.is_stale ≡ false) where
+  module _ (taken : Each IsTaken ts) (told : Each (λ (s : Saying). s.dues.items ≡ []) ss) where
     all_said : (p : Proc) → map due_in (moves_by p (moves_at all (home_of jobs p))) ≡ said_for ts p
     all_said p = sym (said_is p ∙ ap (λ l. map due_in (moves_by p (moves_at all (home_of jobs p))) ++ l) (rest_empty ss p told) ∙ append-nil _)
 
@@ -174,11 +174,19 @@ module _ (jobs : Jobs) (are : AreJobs jobs) (js : List Journal) (ts : List Trans
     are_told : Each (TellsOf jobs js) ts
     are_told = each_by_in (TellsOf jobs js) ts (λ t i. ap (map due_event) (sym (said_own ts t apart i) ∙ sym (all_said t.proc)) ∙ made_is t.proc)
 
-    pub are_whole : AreWhole jobs js ts r
-    are_whole = record {
+    pub agreed : AreAgreed jobs js ts
+    agreed = record {
+      apart = apart;
+      taken = taken;
+      said = λ n inside. subst (λ (rest : Proc → List Due). AreSaid (new_server jobs n) rest (told_at js n)) (λ i p. rest_is first ts sayings p i) (done.said n inside);
+      calls = are_told;
+    }
+
+    pub are_whole : r.is_stale ≡ false → AreWhole jobs js ts r
+    are_whole fresh = record {
       moves = record { count = length-map r.lanes.items _ ∙ done.lanes; events = done.events; replays = done.fresh fresh };
       put = are_put;
-      calls = are_told;
+      agreed = agreed;
       ends = record { count = done.nodes; each = λ n d inside. done.ends n d (subst (λ l. n < l) done.nodes inside) };
     }
 

@@ -63,6 +63,24 @@ not_away n k less same = omega (arith, less, same)
 not_away_more : (n k : ℕ) → k < n → n ≡ k → ⊥
 not_away_more n k less same = omega (arith, less, same)
 
+-- ---- what is said by those at home
+
+after_alike : (rest other : Proc → List Due) (caller : Option Proc) (p : Proc) → rest p ≡ other p → rest_after rest caller p ≡ rest_after other caller p
+after_alike rest other None p same = same
+after_alike rest other (Some q) p same = (λ i. cond (same_proc p q) (tail_of (same i)) (same i))
+
+said_by_alike : (s : Server) (rest other : Proc → List Due) (caller : Option Proc) (e : Happening) → ((p : Proc) → home_of s.jobs p ≡ s.id → rest p ≡ other p) → IsSaidBy s rest caller e → IsSaidBy s other caller e
+said_by_alike s rest other None e same said = tt
+said_by_alike s rest other (Some p) e same said = (said.0, subst (λ ds. BeginsWith s p ds e) (same p said.0) said.1)
+
+said_home : (es : List Happening) (s : Server) (rest other : Proc → List Due) → ((p : Proc) → home_of s.jobs p ≡ s.id → rest p ≡ other p) → AreSaid s rest es → AreSaid s other es
+unfolding AreSaid
+said_home [] s rest other same said = tt
+said_home (e ∷ es) s rest other same said = (
+  said_by_alike s rest other (caller_of e.act) e same said.0,
+  said_home es (after s e.act) (rest_after rest (caller_of e.act)) (rest_after other (caller_of e.act)) (λ p home. after_alike rest other (caller_of e.act) p (same p home)) said.1,
+)
+
 -- ---- one node more
 
 module _ (jobs : Jobs) (js : List Journal) (first : List Saying) (k : ℕ) (r : AllReplayed) (ss : List Saying) (done : AreReplayed jobs js first k r ss) (inside : k < length jobs.nodes)
@@ -127,6 +145,20 @@ module _ (jobs : Jobs) (js : List Journal) (first : List Saying) (k : ℕ) (r : 
       away : (home_of jobs p ≡ k → ⊥) → rest_of ss p ≡ rest_of ss2 p
       away far = replay.rests p ∙ ap (λ l. map due_in l ++ rest_of ss2 p) (replay.home p far)
 
+  said_here : AreSaid (new_server jobs k) (rest_of first) (told_at js k)
+  said_here =
+      said_home (told_at js k) (new_server jobs k) (rest_of ss) (rest_of first)
+      (λ p home. sym (done.rests p ∙ ap (λ l. map due_in (moves_by p l) ++ rest_of ss p) (none_at (home_of jobs p) (omega (arith, home))))) replay.said
+
+  said_now : (n : ℕ) → n < k + 1 → AreSaid (new_server jobs n) (rest_of first) (told_at js n)
+  said_now n less = elim (three n k) [
+    | inl l ↦ done.said n l
+    | inr rest ↦ elim rest [
+      | inl same ↦ subst (λ i. AreSaid (new_server jobs i) (rest_of first) (told_at js i)) (sym same) said_here
+      | inr more ↦ absurd (omega (arith, less, more))
+    ]
+  ]
+
   stale_now : (r.is_stale ≡ true) ⊎ (one.is_stale ≡ true) → AreStale jobs js
   unfolding AreStale
   stale_now (inl before) = done.stale before
@@ -141,6 +173,7 @@ module _ (jobs : Jobs) (js : List Journal) (first : List Saying) (k : ℕ) (r : 
     fresh = λ f. let both = fresh f in for_each (λ n l. Replays (new_server jobs n) l) (done.fresh both.0) (replay.fresh both.1);
     stale = λ t. stale_now (stale t);
     rests = rests_now;
+    said = said_now;
     procs = replay.procs ∙ done.procs;
   }
 
@@ -154,26 +187,11 @@ nodes_none jobs js first r nodes lanes stale = record {
   fresh = λ f n less. absurd (omega (arith, less));
   stale = λ t. absurd (false≢true (sym stale ∙ t));
   rests = λ p. sym (ap (λ l. map due_in (moves_by p l) ++ rest_of first p) (ap (λ xs. moves_at (all_of xs) (home_of jobs p)) lanes));
+  said = λ n less. absurd (omega (arith, less));
   procs = refl;
 }
 
 -- ---- an event that is not said
-
-after_alike : (rest other : Proc → List Due) (caller : Option Proc) (p : Proc) → rest p ≡ other p → rest_after rest caller p ≡ rest_after other caller p
-after_alike rest other None p same = same
-after_alike rest other (Some q) p same = (λ i. cond (same_proc p q) (tail_of (same i)) (same i))
-
-said_by_alike : (s : Server) (rest other : Proc → List Due) (caller : Option Proc) (e : Happening) → ((p : Proc) → home_of s.jobs p ≡ s.id → rest p ≡ other p) → IsSaidBy s rest caller e → IsSaidBy s other caller e
-said_by_alike s rest other None e same said = tt
-said_by_alike s rest other (Some p) e same said = (said.0, subst (λ ds. BeginsWith s p ds e) (same p said.0) said.1)
-
-said_home : (es : List Happening) (s : Server) (rest other : Proc → List Due) → ((p : Proc) → home_of s.jobs p ≡ s.id → rest p ≡ other p) → AreSaid s rest es → AreSaid s other es
-unfolding AreSaid
-said_home [] s rest other same said = tt
-said_home (e ∷ es) s rest other same said = (
-  said_by_alike s rest other (caller_of e.act) e same said.0,
-  said_home es (after s e.act) (rest_after rest (caller_of e.act)) (rest_after other (caller_of e.act)) (λ p home. after_alike rest other (caller_of e.act) p (same p home)) said.1,
-)
 
 pub not_said_at : (jobs : Jobs) (js : List Journal) (first : List Saying) (k : ℕ) (r : AllReplayed) (ss : List Saying) → AreReplayed jobs js first k r ss → k < length jobs.nodes
     → (AreSaid (new_server jobs k) (rest_of ss) (told_at js k) → ⊥) → AreUnsaid jobs js (rest_of first)

@@ -9,6 +9,7 @@ use Rattle.pmg_value.specs.declared.refusal.Refusal.TheVariants as refusals
 use Rattle.pmg_value.proofs.ProcessOrder.{exact_procs}
 use Rattle.pmg_jobinfo.specs.Jobs.{Jobs, home_of}
 use Rattle.pmg_fence.specs.Entering.{same_proc}
+use Rattle.pmg_fence.proofs.EntryLemmas.{proc_itself}
 use Rattle.pmg_node.specs.Servers.{Server, after, reply_to, sent_by}
 use Rattle.pmg_journal.specs.Replays.{Happening, IsReplay, after_all}
 use Rattle.pmg_journal.proofs.ReplayLemmas.{last_is}
@@ -87,53 +88,7 @@ none_by p ms m none away = moves_by_more p ms m ∙ (λ i. none i ++ cond (not_s
     not_so true e = absurd (away e)
     not_so false e = refl
 
--- ---- one event further
-
-module _ (s : Server) (old : List Saying) (es : List Happening) (r : Replay) (ss : List Saying) (done : IsReplayed s old es r ss) (e : Happening) (puts : List Put) (ss2 : List Saying)
-    (takes : TakesPuts r.node ss e puts ss2) (r2 : Replay) (added : IsAdded r puts e r2) where
-  abbrev ms : List Move
-  ms = lane_of r.lane
-
-  abbrev m : Move
-  m = move_by r.node puts e
-
-  not_replay : (r.is_stale ≡ true) ⊎ (reply_to r.node e.act ≡ e.reply → ⊥) → IsReplay s (es ++ e ∷ []) → ⊥
-  not_replay (inl stale) all = done.stale stale (replay_front s es e all)
-  not_replay (inr other) all =
-      other (subst (λ (x : Server). reply_to x e.act ≡ e.reply) (ap (after_all s) (sym done.events) ∙ sym (end_is s ms) ∙ sym done.node) (last_is s es e.act e.reply all))
-
-  at_end : PutsAt (end_of s ms) (caller_of e.act) puts
-  at_end = subst (λ (x : Server). PutsAt x (caller_of e.act) puts) done.node takes.at
-
-  away : (p : Proc) → (home_of s.jobs p ≡ s.id → ⊥) → is_by p e.act ≡ true → ⊥
-  away p far by = far (ap (λ (j : Jobs). home_of j p) (sym (end_jobs s ms)) ∙ caller_home (end_of s ms) (caller_of e.act) puts p at_end by ∙ end_id s ms)
-
-  pub replayed_more : IsReplayed s old (es ++ e ∷ []) r2 ss2
-  replayed_more = record {
-    node = added.node ∙ ap (λ (x : Server). after x e.act) done.node ∙ sym (ap (end_of s) added.lane ∙ ends_more s ms m);
-    events = ap (map event_in) added.lane ∙ map-append event_in ms (m ∷ []) ∙ ap (λ l. l ++ e ∷ []) done.events;
-    fresh = λ f. let both = added.fresh f in
-        subst (Replays s) (sym added.lane)
-        (replays_more s ms m (done.fresh both.0) (subst (λ (x : Server). reply_to x e.act ≡ e.reply) done.node both.1) (ap (λ (x : Server). sent_by x e.act) done.node) at_end);
-    stale = λ t. not_replay (added.stale t);
-    rests = λ p. subst (λ l. rest_of old p ≡ map due_in (moves_by p l) ++ rest_of ss2 p) (sym added.lane) (rests_more p ms m (rest_of old p) (rest_of ss p) (rest_of ss2 p) (done.rests p) (takes.rests p));
-    home = λ p far. ap (moves_by p) added.lane ∙ none_by p ms m (done.home p far) (away p far);
-    procs = takes.procs ∙ done.procs;
-  }
-
--- nothing is replayed yet
-pub replayed_none : (s : Server) (old : List Saying) (r : Replay) → r.node ≡ s → lane_of r.lane ≡ [] → r.is_stale ≡ false → IsReplayed s old [] r old
-replayed_none s old r node lane stale = record {
-  node = node ∙ sym (ap (end_of s) lane);
-  events = ap (map event_in) lane;
-  fresh = λ f. subst (Replays s) (sym lane) (none_replayed s);
-  stale = λ t. absurd (false≢true (sym stale ∙ t));
-  rests = λ p. sym (ap (λ l. map due_in (moves_by p l) ++ rest_of old p) lane);
-  home = λ p far. ap (moves_by p) lane;
-  procs = refl;
-}
-
--- ---- an event that is not said
+-- ---- what is said
 
 -- what is said after some events
 rests_after : (Proc → List Due) → List Happening → Proc → List Due
@@ -167,6 +122,82 @@ rests_are p rest (m ∷ ms) now is = rests_are p (rest_after rest (caller_of m.a
 said_alike : (s : Server) (rest other : Proc → List Due) (caller : Option Proc) (e : Happening) → ((p : Proc) → rest p ≡ other p) → IsSaidBy s rest caller e → IsSaidBy s other caller e
 said_alike s rest other None e same said = tt
 said_alike s rest other (Some p) e same said = (said.0, subst (λ ds. BeginsWith s p ds e) (same p) said.1)
+
+-- one event more is said
+said_on : (s : Server) (rest : Proc → List Due) (es : List Happening) (e : Happening) → AreSaid s rest es → IsSaidBy (after_all s es) (rests_after rest es) (caller_of e.act) e
+    → AreSaid s rest (es ++ e ∷ [])
+unfolding AreSaid rests_after
+said_on s rest [] e all said = (said, tt)
+said_on s rest (x ∷ es) e all said = (all.0, said_on (after s x.act) (rest_after rest (caller_of x.act)) es e all.1 said)
+
+-- who makes the event says so, where the puts before it are as its caller says
+said_takes : (s : Server) (old : List Saying) (e : Happening) (puts : List Put) (new : List Saying) → TakesPuts s old e puts new → (caller : Option Proc) → caller_of e.act ≡ caller
+    → IsSaidBy s (rest_of old) caller e
+said_takes s old e puts new takes None is = tt
+said_takes s old e puts new takes (Some p) is =
+    let at : PutsAt s (Some p) puts = subst (λ (o : Option Proc). PutsAt s o puts) is takes.at in
+    let by : is_by p e.act ≡ true = ap (is_caller p) is ∙ proc_itself p in
+    let rest : rest_of old p ≡ due puts e.act e.reply ∷ rest_of new p = takes.rests p ∙ ap (λ b. cond b (due puts e.act e.reply ∷ rest_of new p) (rest_of new p)) by in
+    (at.0, subst (λ ds. BeginsWith s p ds e) (sym rest) (refl, at.1))
+
+-- ---- one event further
+
+module _ (s : Server) (old : List Saying) (es : List Happening) (r : Replay) (ss : List Saying) (done : IsReplayed s old es r ss) (e : Happening) (puts : List Put) (ss2 : List Saying)
+    (takes : TakesPuts r.node ss e puts ss2) (r2 : Replay) (added : IsAdded r puts e r2) where
+  abbrev ms : List Move
+  ms = lane_of r.lane
+
+  abbrev m : Move
+  m = move_by r.node puts e
+
+  not_replay : (r.is_stale ≡ true) ⊎ (reply_to r.node e.act ≡ e.reply → ⊥) → IsReplay s (es ++ e ∷ []) → ⊥
+  not_replay (inl stale) all = done.stale stale (replay_front s es e all)
+  not_replay (inr other) all =
+      other (subst (λ (x : Server). reply_to x e.act ≡ e.reply) (ap (after_all s) (sym done.events) ∙ sym (end_is s ms) ∙ sym done.node) (last_is s es e.act e.reply all))
+
+  at_end : PutsAt (end_of s ms) (caller_of e.act) puts
+  at_end = subst (λ (x : Server). PutsAt x (caller_of e.act) puts) done.node takes.at
+
+  away : (p : Proc) → (home_of s.jobs p ≡ s.id → ⊥) → is_by p e.act ≡ true → ⊥
+  away p far by = far (ap (λ (j : Jobs). home_of j p) (sym (end_jobs s ms)) ∙ caller_home (end_of s ms) (caller_of e.act) puts p at_end by ∙ end_id s ms)
+
+  server : after_all s es ≡ r.node
+  server = ap (after_all s) (sym done.events) ∙ sym (end_is s ms) ∙ sym done.node
+
+  rest_now : (p : Proc) → rests_after (rest_of old) es p ≡ rest_of ss p
+  rest_now p = ap (λ l. rests_after (rest_of old) l p) (sym done.events) ∙ rests_are p (rest_of old) ms (rest_of ss p) (done.rests p)
+
+  pub replayed_more : IsReplayed s old (es ++ e ∷ []) r2 ss2
+  replayed_more = record {
+    node = added.node ∙ ap (λ (x : Server). after x e.act) done.node ∙ sym (ap (end_of s) added.lane ∙ ends_more s ms m);
+    events = ap (map event_in) added.lane ∙ map-append event_in ms (m ∷ []) ∙ ap (λ l. l ++ e ∷ []) done.events;
+    fresh = λ f. let both = added.fresh f in
+        subst (Replays s) (sym added.lane)
+        (replays_more s ms m (done.fresh both.0) (subst (λ (x : Server). reply_to x e.act ≡ e.reply) done.node both.1) (ap (λ (x : Server). sent_by x e.act) done.node) at_end);
+    stale = λ t. not_replay (added.stale t);
+    rests = λ p. subst (λ l. rest_of old p ≡ map due_in (moves_by p l) ++ rest_of ss2 p) (sym added.lane) (rests_more p ms m (rest_of old p) (rest_of ss p) (rest_of ss2 p) (done.rests p) (takes.rests p));
+    home = λ p far. ap (moves_by p) added.lane ∙ none_by p ms m (done.home p far) (away p far);
+    said = said_on s (rest_of old) es e done.said
+        (subst (λ (x : Server). IsSaidBy x (rests_after (rest_of old) es) (caller_of e.act) e) (sym server)
+        (said_alike r.node (rest_of ss) (rests_after (rest_of old) es) (caller_of e.act) e (λ p. sym (rest_now p)) (said_takes r.node ss e puts ss2 takes (caller_of e.act) refl)));
+    procs = takes.procs ∙ done.procs;
+  }
+
+-- nothing is replayed yet
+pub replayed_none : (s : Server) (old : List Saying) (r : Replay) → r.node ≡ s → lane_of r.lane ≡ [] → r.is_stale ≡ false → IsReplayed s old [] r old
+unfolding AreSaid
+replayed_none s old r node lane stale = record {
+  node = node ∙ sym (ap (end_of s) lane);
+  events = ap (map event_in) lane;
+  fresh = λ f. subst (Replays s) (sym lane) (none_replayed s);
+  stale = λ t. absurd (false≢true (sym stale ∙ t));
+  rests = λ p. sym (ap (λ l. map due_in (moves_by p l) ++ rest_of old p) lane);
+  home = λ p far. ap (moves_by p) lane;
+  said = tt;
+  procs = refl;
+}
+
+-- ---- an event that is not said
 
 -- where the next event is not said the transcripts do not agree
 pub not_said : (s : Server) (old : List Saying) (es : List Happening) (r : Replay) (ss : List Saying) → IsReplayed s old es r ss → (e : Happening) (more : List Happening)

@@ -27,20 +27,21 @@ pub record AreUnordered (jobs : Jobs) (js : List Journal) : Type 0 where
   pub moves : AreMoves jobs js all
   pub none : NoOrder all
 
--- Each refusal is for its fault: BadParam where there is not one journal for each node of one group; of journals of one group, Collision
--- where transcripts differ from them, Stale where a reply on replay is another, Unordered where no order puts each delivered frame
--- after its sending. NoMemory is left open; there is no other one.
+-- Each refusal is for its fault, and none of those before it is there: BadParam where there is not one journal for each node of one
+-- group; of journals of one group, Collision where transcripts differ from them; of journals with which they agree, Stale where a reply
+-- on replay is another; of journals whose replies are those of the replay, Unordered where no order puts each delivered frame after its
+-- sending. NoMemory is left open; there is no other one.
 abbrev pub IsFault : List Journal → List Transcript → Refusal → Type 0
 IsFault js ts refusals.NoMemory = Unit {0}
 IsFault js ts refusals.BadParam = AreOne js → ⊥
 IsFault js ts refusals.Collision = (jobs : Jobs) × AreJournals jobs js × (AreAgreed jobs js ts → ⊥)
-IsFault js ts refusals.Stale = (jobs : Jobs) × AreJournals jobs js × AreStale jobs js
-IsFault js ts refusals.Unordered = (jobs : Jobs) × AreJournals jobs js × AreUnordered jobs js
+IsFault js ts refusals.Stale = (jobs : Jobs) × AreJournals jobs js × AreAgreed jobs js ts × AreStale jobs js
+IsFault js ts refusals.Unordered = (jobs : Jobs) × AreJournals jobs js × AreAgreed jobs js ts × AreUnordered jobs js
 IsFault js ts e = ⊥
 
 -- so it is where the journals are of this group, and are replayed
 abbrev pub IsReplayFault : Jobs → List Journal → List Transcript → Refusal → Type 0
 IsReplayFault jobs js ts refusals.NoMemory = Unit {0}
 IsReplayFault jobs js ts refusals.Collision = AreAgreed jobs js ts → ⊥
-IsReplayFault jobs js ts refusals.Stale = AreStale jobs js
+IsReplayFault jobs js ts refusals.Stale = AreAgreed jobs js ts × AreStale jobs js
 IsReplayFault jobs js ts e = ⊥

@@ -12,13 +12,13 @@ use Rattle.pmg_node.specs.Servers.{Server, after, reply_to, sent_by}
 use Rattle.pmg_journal.specs.Replays.{Happening, IsReplay}
 use Rattle.pmg_journal.specs.declared.journal.Journal.{Journal}
 use Rattle.pmg_journal.specs.declared.transcript.Transcript.{Transcript}
-use Rattle.pmg_audit.specs.Agreeing.{AreSaid, IsSaidBy}
+use Rattle.pmg_audit.specs.Agreeing.{AreAgreed, AreSaid, IsSaidBy}
 use Rattle.pmg_audit.specs.Codes.{all_of, lane_of, rest_of}
 use Rattle.pmg_audit.specs.Dues.{Due, due, due_in}
 use Rattle.pmg_audit.specs.Faults.{AreStale}
 use Rattle.pmg_audit.specs.Moves.{Move, Put, PutsAt, Replays, caller_of, end_of, event_in, is_by}
 use Rattle.pmg_audit.specs.Orders.{moves_at}
-use Rattle.pmg_audit.specs.Runs.{AreEnds, AreMoves, ArePut, TellsOf, told_at}
+use Rattle.pmg_audit.specs.Runs.{AreEnds, AreMoves, ArePut, told_at}
 use Rattle.pmg_audit.specs.Taking.{SomeLeft, procs_of}
 use Rattle.pmg_audit.specs.declared.moves.Saying.{Saying}
 use Rattle.pmg_audit.specs.declared.replaying.Replay.{Replay}
@@ -61,6 +61,7 @@ pub record IsReplayed (s : Server) (old : List Saying) (es : List Happening) (r 
   pub stale : r.is_stale ≡ true → IsReplay s es → ⊥
   pub rests : (p : Proc) → rest_of old p ≡ map due_in (moves_by p (lane_of r.lane)) ++ rest_of new p
   pub home : (p : Proc) → (home_of s.jobs p ≡ s.id → ⊥) → moves_by p (lane_of r.lane) ≡ []
+  pub said : AreSaid s (rest_of old) es
   pub procs : procs_of new ≡ procs_of old
 
 -- the journals of so many nodes are replayed, and what is said of their events is told
@@ -72,13 +73,14 @@ pub record AreReplayed (jobs : Jobs) (js : List Journal) (old : List Saying) (co
   pub fresh : r.is_stale ≡ false → (n : ℕ) → n < count → Replays (new_server jobs n) (moves_at (all_of r.lanes.items) n)
   pub stale : r.is_stale ≡ true → AreStale jobs js
   pub rests : (p : Proc) → rest_of old p ≡ map due_in (moves_by p (moves_at (all_of r.lanes.items) (home_of jobs p))) ++ rest_of new p
+  pub said : (n : ℕ) → n < count → AreSaid (new_server jobs n) (rest_of old) (told_at js n)
   pub procs : procs_of new ≡ procs_of old
 
 -- all journals are replayed, and the transcripts tell the same
 pub record AreWhole (jobs : Jobs) (js : List Journal) (ts : List Transcript) (r : AllReplayed) : Type 0 where
   pub moves : AreMoves jobs js (all_of r.lanes.items)
   pub put : ArePut jobs (all_of r.lanes.items)
-  pub calls : Each (TellsOf jobs js) ts
+  pub agreed : AreAgreed jobs js ts
   pub ends : AreEnds jobs (all_of r.lanes.items) r.nodes.items
 
 -- some event is not said, of those that a process made at a node
@@ -130,11 +132,18 @@ pub record IsLeft (jobs : Jobs) (js : List Journal) (first : List Saying) : Type
   pub done : AreReplayed jobs js first (length jobs.nodes) r ss
   pub left : SomeLeft ss
 
+-- nothing is left that is said, once all that the journals tell is replayed
+pub record IsDone (jobs : Jobs) (js : List Journal) (first : List Saying) : Type 0 where
+  pub r : AllReplayed
+  pub ss : List Saying
+  pub done : AreReplayed jobs js first (length jobs.nodes) r ss
+  pub told : Each (λ (s : Saying). s.dues.items ≡ []) ss
+
 -- why the journals and what is said are no whole
 abbrev pub EndsFor : Jobs → List Journal → List Saying → Refusal → Type 0
 EndsFor jobs js first refusals.NoMemory = Unit {0}
 EndsFor jobs js first refusals.Collision = SomeUnsaid jobs js first ⊎ IsLeft jobs js first
-EndsFor jobs js first refusals.Stale = AreStale jobs js
+EndsFor jobs js first refusals.Stale = IsDone jobs js first × AreStale jobs js
 EndsFor jobs js first e = ⊥
 
 -- nothing is left that is said

@@ -19,7 +19,7 @@ returns-in-Ok-clause-refused c =
     let ts = c.args.transcripts.now in
     let first = c.in-Ok.sayings in
     err_on c.replays_with.result (EndsFor jobs js first) (IsReplayFault jobs js ts) c.replays_with.ensures.refused
-    (λ e ended. fault_by jobs c.requires js ts first c.in-Ok.ensures.said c.in-Ok.ensures.apart e ended)
+    (λ e ended. fault_by jobs c.requires js ts first c.in-Ok.ensures.said c.in-Ok.ensures.apart c.in-Ok.ensures.taken e ended)
 
 pub returns-in-Err-clause-refused : goal.returns-in-Err-clause-refused
 returns-in-Err-clause-refused c = collision_by c.args.registry.now c.args.journals.now c.args.transcripts.now c.in-Err.refusal c.in-Err.ensures.refused

@@ -24,7 +24,7 @@ returns-in-Err-make_order-clause-refused c =
     let jobs = c.args.registry.now in
     let js = c.args.journals.now in
     let whole = c.in-Ok.ensures.ok in
-    order_fault jobs js c.args.transcripts.now (all_of c.in-Ok.all.lanes.items) c.requires.journals whole.moves c.in-Err-make_order.refusal c.in-Err-make_order.ensures.few
+    order_fault jobs js c.args.transcripts.now (all_of c.in-Ok.all.lanes.items) c.requires.journals whole.moves whole.agreed c.in-Err-make_order.refusal c.in-Err-make_order.ensures.few
     (λ e. subst (λ (ls : List Lane). NoOrder (all_of ls)) c.deref.ensures.value (c.in-Err-make_order.ensures.unordered e))
 
 pub returns-in-Err-clause-refused : goal.returns-in-Err-clause-refused
