@@ -5,18 +5,27 @@ use pmg_value::Refusal;
 use std::alloc::Global;
 use std::process::Abort;
 
-/// The number of the refusal, or how many events the run has.
-pub(crate) fn answer(both: &Recorded) -> Result<usize, Refusal> {
+// How many events the run has.
+fn length(both: &Recorded) -> Result<usize, Refusal> {
     match audit(both.alloc, &both.journals, &both.transcripts) {
         Ok(run) => Ok(run.events().len()),
         Err(refusal) => Err(refusal),
     }
 }
 
+/// Why there is no run, if there is none.
+pub(crate) fn refusal(both: &Recorded) -> Result<Option<Refusal>, Refusal> {
+    match length(both) {
+        Ok(_) => Ok(None),
+        Err(Refusal::NoMemory) => Err(Refusal::NoMemory),
+        Err(refusal) => Ok(Some(refusal)),
+    }
+}
+
 #[test]
 fn two_fences_are_one_run(rt: HostRuntime) -> Result<(), Refusal> {
     let both = two_fences(rt.alloc())?;
-    assert!(rt; answer(&both)? == 15);
+    assert!(rt; length(&both)? == 15);
     Ok(())
 }
 
@@ -24,7 +33,7 @@ fn two_fences_are_one_run(rt: HostRuntime) -> Result<(), Refusal> {
 fn nothing_is_no_run(rt: HostRuntime) -> Result<(), Refusal> {
     let mut both = two_fences(rt.alloc())?;
     both.journals.clear();
-    assert!(rt; answer(&both) == Err(Refusal::BadParam));
+    assert!(rt; refusal(&both)? == Some(Refusal::BadParam));
     Ok(())
 }
 
@@ -33,6 +42,6 @@ fn journals_may_stand_in_any_order(rt: HostRuntime) -> Result<(), Refusal> {
     let mut both = two_fences(rt.alloc())?;
     both.journals.reverse();
     both.transcripts.reverse();
-    assert!(rt; answer(&both)? == 15);
+    assert!(rt; length(&both)? == 15);
     Ok(())
 }

@@ -1,5 +1,5 @@
 //! Journals and transcripts in which one thing is changed.
-use crate::audits::answer;
+use crate::audits::refusal;
 use crate::recorded::{Recorded, process, two_fences};
 use pmg_journal::{Call, Called, Transcript};
 use pmg_node::Reply;
@@ -48,7 +48,7 @@ fn a_transcript_twice_is_a_collision(rt: HostRuntime) -> Result<(), Refusal> {
         proc: process(rt.alloc(), 0)?,
         calls: Vec::new(rt.alloc()),
     })?;
-    assert!(rt; answer(&both) == Err(Refusal::Collision));
+    assert!(rt; refusal(&both)? == Some(Refusal::Collision));
     Ok(())
 }
 
@@ -56,7 +56,7 @@ fn a_transcript_twice_is_a_collision(rt: HostRuntime) -> Result<(), Refusal> {
 fn a_missing_transcript_is_a_collision(rt: HostRuntime) -> Result<(), Refusal> {
     let mut both = two_fences(rt.alloc())?;
     let _last = both.transcripts.pop();
-    assert!(rt; answer(&both) == Err(Refusal::Collision));
+    assert!(rt; refusal(&both)? == Some(Refusal::Collision));
     Ok(())
 }
 
@@ -64,7 +64,7 @@ fn a_missing_transcript_is_a_collision(rt: HostRuntime) -> Result<(), Refusal> {
 fn a_missing_journal_is_bad(rt: HostRuntime) -> Result<(), Refusal> {
     let mut both = two_fences(rt.alloc())?;
     let _last = both.journals.pop();
-    assert!(rt; answer(&both) == Err(Refusal::BadParam));
+    assert!(rt; refusal(&both)? == Some(Refusal::BadParam));
     Ok(())
 }
 
@@ -72,7 +72,7 @@ fn a_missing_journal_is_bad(rt: HostRuntime) -> Result<(), Refusal> {
 fn a_reply_of_one_account_is_a_collision(rt: HostRuntime) -> Result<(), Refusal> {
     let mut both = two_fences(rt.alloc())?;
     turn_journal(&mut both);
-    assert!(rt; answer(&both) == Err(Refusal::Collision));
+    assert!(rt; refusal(&both)? == Some(Refusal::Collision));
     Ok(())
 }
 
@@ -81,7 +81,7 @@ fn a_reply_of_both_accounts_is_stale(rt: HostRuntime) -> Result<(), Refusal> {
     let mut both = two_fences(rt.alloc())?;
     turn_journal(&mut both);
     turn_transcript(&mut both);
-    assert!(rt; answer(&both) == Err(Refusal::Stale));
+    assert!(rt; refusal(&both)? == Some(Refusal::Stale));
     Ok(())
 }
 
@@ -100,7 +100,7 @@ fn a_put_that_no_commit_carries_is_a_collision(rt: HostRuntime) -> Result<(), Re
         calls.append(&mut transcript.calls)?;
         transcript.calls = calls;
     }
-    assert!(rt; answer(&both) == Err(Refusal::Collision));
+    assert!(rt; refusal(&both)? == Some(Refusal::Collision));
     Ok(())
 }
 
@@ -108,6 +108,6 @@ fn a_put_that_no_commit_carries_is_a_collision(rt: HostRuntime) -> Result<(), Re
 fn a_frame_that_nobody_sent_is_unordered(rt: HostRuntime) -> Result<(), Refusal> {
     let mut both = two_fences(rt.alloc())?;
     both.misdeliver(1)?;
-    assert!(rt; answer(&both) == Err(Refusal::Unordered));
+    assert!(rt; refusal(&both)? == Some(Refusal::Unordered));
     Ok(())
 }

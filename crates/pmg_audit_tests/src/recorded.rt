@@ -87,7 +87,7 @@ impl Recorded {
         Ok(())
     }
 
-    /// The act happens at the node.
+    /// The act happens at the node. Where an allocation fails it is none that happened.
     pub(crate) fn act(
         &mut self,
         index: usize,
@@ -98,6 +98,7 @@ impl Recorded {
         }
         let answer = match self.sites[index].node.act_into(&act, &mut self.sent) {
             Ok(acted) => Ok(acted.reply),
+            Err(Refusal::NoMemory) => return Err(Refusal::NoMemory),
             Err(refusal) => Err(refusal),
         };
         let copy = copy_of_answer(&answer)?;
