@@ -256,11 +256,12 @@ impl Accounts {
         Ok(())
     }
 
-    /// How many events the run has, or why there is none.
-    pub(crate) fn answer(&self) -> Result<usize, Refusal> {
+    /// How many events the run has, or why there is none. Where an allocation fails that is no answer.
+    pub(crate) fn answer(&self) -> Result<Result<usize, Refusal>, Refusal> {
         match audit(self.alloc, &self.journals, &self.transcripts) {
-            Ok(run) => Ok(run.events().len()),
-            Err(refusal) => Err(refusal),
+            Ok(run) => Ok(Ok(run.events().len())),
+            Err(Refusal::NoMemory) => Err(Refusal::NoMemory),
+            Err(refusal) => Ok(Err(refusal)),
         }
     }
 }

@@ -25,7 +25,7 @@ fn journal_answer(
         journal.node = NodeId::new(node)?;
         journal.registry = registry(alloc, first, nspace, homes)?;
     }
-    Ok(accounts.answer())
+    accounts.answer()
 }
 
 // The accounts of the exchange, of whose transcripts the first is of that process.
@@ -34,7 +34,7 @@ fn transcript_answer(alloc: Global, proc: &str) -> Result<Result<usize, Refusal>
     if let Some(transcript) = accounts.transcripts.first_mut() {
         transcript.proc = process(alloc, proc)?;
     }
-    Ok(accounts.answer())
+    accounts.answer()
 }
 
 // The accounts of the exchange, and a transcript of that process without calls.
@@ -44,15 +44,15 @@ fn further_answer(alloc: Global, proc: &str) -> Result<Result<usize, Refusal>, R
         proc: process(alloc, proc)?,
         calls: Vec::new(alloc),
     })?;
-    Ok(accounts.answer())
+    accounts.answer()
 }
 
 #[test]
 fn accounts_as_they_were_made_are_one_run(rt: HostRuntime) -> Result<(), Refusal> {
     let alloc = rt.alloc();
-    assert!(rt; exchange_of(alloc)?.answer() == Ok(exchange::EVENTS));
+    assert!(rt; exchange_of(alloc)?.answer()? == Ok(exchange::EVENTS));
     let fences = Accounts::new(alloc, [fences::AT_ZERO, fences::AT_ONE], &NO_CHANGE)?;
-    assert!(rt; fences.answer() == Ok(fences::EVENTS));
+    assert!(rt; fences.answer()? == Ok(fences::EVENTS));
     Ok(())
 }
 
@@ -61,7 +61,7 @@ fn accounts_may_stand_in_any_order(rt: HostRuntime) -> Result<(), Refusal> {
     let mut accounts = exchange_of(rt.alloc())?;
     accounts.journals.reverse();
     accounts.transcripts.reverse();
-    assert!(rt; accounts.answer() == Ok(exchange::EVENTS));
+    assert!(rt; accounts.answer()? == Ok(exchange::EVENTS));
     Ok(())
 }
 
@@ -85,11 +85,11 @@ fn journals_are_as_many_as_nodes(rt: HostRuntime) -> Result<(), Refusal> {
     let mut accounts = exchange_of(alloc)?;
     let mut others = exchange_of(alloc)?;
     accounts.journals.append(&mut others.journals)?;
-    assert!(rt; accounts.answer() == bad);
+    assert!(rt; accounts.answer()? == bad);
     accounts.journals.truncate(1);
-    assert!(rt; accounts.answer() == bad);
+    assert!(rt; accounts.answer()? == bad);
     accounts.journals.clear();
-    assert!(rt; accounts.answer() == bad);
+    assert!(rt; accounts.answer()? == bad);
     Ok(())
 }
 
@@ -113,6 +113,6 @@ fn each_process_has_its_transcript(rt: HostRuntime) -> Result<(), Refusal> {
 fn a_missing_transcript_is_a_collision(rt: HostRuntime) -> Result<(), Refusal> {
     let mut accounts = exchange_of(rt.alloc())?;
     let _last = accounts.transcripts.pop();
-    assert!(rt; accounts.answer() == Err(Refusal::Collision));
+    assert!(rt; accounts.answer()? == Err(Refusal::Collision));
     Ok(())
 }

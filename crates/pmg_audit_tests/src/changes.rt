@@ -42,7 +42,7 @@ fn is_answered(alloc: Global, texts: [&str; 2], row: Option<Row<'_>>) -> Result<
         return Ok(false);
     };
     let accounts = Accounts::new(alloc, texts, &change)?;
-    Ok(match accounts.answer() {
+    Ok(match accounts.answer()? {
         Ok(_) => wanted == "fine",
         Err(refusal) => wanted == refusal.name(),
     })

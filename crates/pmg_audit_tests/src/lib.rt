@@ -4,6 +4,8 @@
 #[cfg(test)]
 mod accounts;
 #[cfg(test)]
+mod asked_again;
+#[cfg(test)]
 mod audits;
 #[cfg(test)]
 mod changes;
