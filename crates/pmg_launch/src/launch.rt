@@ -253,20 +253,28 @@ fn run_client<R: Wait>(
 ) -> Ended {
     report.answer = program.run(&mut client, procs, &mut report.text);
     let transcript = if report.answer.is_err() {
-        terminate(rt, desks, client)
+        terminate(rt, desks, client, &mut report)
     } else {
         client.into_transcript()
     };
     Ended { report, transcript }
 }
 
-/// Terminates the client; where that is refused, every desk is closed.
-fn terminate<R: Wait>(rt: &R, desks: &[Desk], client: Client<'_>) -> Transcript {
+/// Terminates the client; where that is refused, every desk is closed, and the report tells of an allocation that failed.
+fn terminate<R: Wait>(
+    rt: &R,
+    desks: &[Desk],
+    client: Client<'_>,
+    report: &mut Report,
+) -> Transcript {
     match client.terminate(rt) {
         Ok(transcript) => transcript,
         Err(unended) => {
             close_desks(rt, desks);
-            let Unended { refusal: _, client } = unended;
+            let Unended { refusal, client } = unended;
+            if refusal == Refusal::NoMemory {
+                report.answer = Err(refusal);
+            }
             client.into_transcript()
         }
     }
