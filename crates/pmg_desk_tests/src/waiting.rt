@@ -38,8 +38,9 @@ fn waits_in_vain<R: Threads + Wait + Sync>(
     let mut client = desk.client(rt, &process(alloc, 0)?)?;
     client.enter(rt, &[process(alloc, 0)?, process(alloc, 1)?], true)?;
     match leave_closed(rt, desk, client) {
+        None | Some(Err(Refusal::NoMemory)) => Err(Refusal::NoMemory),
         Some(Err(refusal)) => Ok(Some(refusal)),
-        _ => Ok(None),
+        Some(Ok(_)) => Ok(None),
     }
 }
 
@@ -84,10 +85,16 @@ fn get_while_put<R: Threads + Wait + Clock + AllocGlobal + Sync>(
         move |scope| -> Option<Result<Option<u32>, Refusal>> {
             let waits = scope.spawn(move || get_number(rt, asks)).ok()?;
             thread::sleep(rt, pause);
-            if put_number(rt, puts).is_err() {
+            let put = put_number(rt, puts);
+            if put.is_err() {
                 desk.close(rt);
             }
-            Some(waits.join(rt))
+            let got = waits.join(rt);
+            Some(if put == Err(Refusal::NoMemory) {
+                Err(Refusal::NoMemory)
+            } else {
+                got
+            })
         },
     )
 }
