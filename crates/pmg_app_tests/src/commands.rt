@@ -1,10 +1,10 @@
 //! What no clause says: that the word `dump` is taken, that input is read and printed, and what readers and
 //! writers that fail leave.
-use crate::running::{FailingWriter, run_failing, run_into, run_on};
+use crate::running::{FailingWriter, check_memory, check_written, run_failing, run_into, run_on};
 use pmg_app::carry_out;
 use pmg_commands::{Chosen, choose};
 use pmg_store::WatchedReader;
-use pmg_value::WatchedWriter;
+use pmg_value::{Refusal, WatchedWriter};
 use std::io;
 
 const ONE_CONTRIBUTION: &[u8] =
@@ -37,14 +37,15 @@ fn words_ask_for_commands_help_and_the_version(rt: HostRuntime) -> io::Result<()
 }
 
 #[test]
-fn what_was_shown_ends_with_its_status(rt: HostRuntime) {
-    let (status, printed) = run_on(&rt, Chosen::Shown(2), ONE_CONTRIBUTION);
+fn what_was_shown_ends_with_its_status(rt: HostRuntime) -> Result<(), Refusal> {
+    let (status, printed) = run_on(&rt, Chosen::Shown(2), ONE_CONTRIBUTION)?;
     assert_eq!(rt; status, 2);
     assert!(rt; printed.is_empty());
+    Ok(())
 }
 
 #[test]
-fn text_is_decoded_in_either_case_and_without_blanks(rt: HostRuntime) {
+fn text_is_decoded_in_either_case_and_without_blanks(rt: HostRuntime) -> Result<(), Refusal> {
     let cases = [
         ("", ""),
         (
@@ -54,14 +55,15 @@ fn text_is_decoded_in_either_case_and_without_blanks(rt: HostRuntime) {
         ),
     ];
     for (text, want) in cases {
-        let (status, printed) = run_on(&rt, Chosen::Dump, text.as_bytes());
+        let (status, printed) = run_on(&rt, Chosen::Dump, text.as_bytes())?;
         assert_eq!(rt; printed.as_slice(), want.as_bytes(), "{text}");
         assert_eq!(rt; status, 0, "{text}");
     }
+    Ok(())
 }
 
 #[test]
-fn a_fault_prints_its_line_alone(rt: HostRuntime) {
+fn a_fault_prints_its_line_alone(rt: HostRuntime) -> Result<(), Refusal> {
     let cases = [
         ("0g", "refused 10 BadFrame: Hex at 1\n"),
         ("010", "refused 10 BadFrame: Hex at 3\n"),
@@ -71,46 +73,48 @@ fn a_fault_prints_its_line_alone(rt: HostRuntime) {
         ("030100000000", "refused 10 BadFrame: Version at 0\n"),
     ];
     for (text, want) in cases {
-        let (status, printed) = run_on(&rt, Chosen::Dump, text.as_bytes());
+        let (status, printed) = run_on(&rt, Chosen::Dump, text.as_bytes())?;
         assert_eq!(rt; printed.as_slice(), want.as_bytes(), "{text}");
         assert_eq!(rt; status, 1, "{text}");
     }
+    Ok(())
 }
 
 #[test]
-fn nothing_in_prints_nothing(rt: HostRuntime) {
+fn nothing_in_prints_nothing(rt: HostRuntime) -> Result<(), Refusal> {
     for chosen in [Chosen::Dump, Chosen::Merge, Chosen::Replay] {
-        let (status, printed) = run_on(&rt, chosen, b"");
+        let (status, printed) = run_on(&rt, chosen, b"")?;
         assert_eq!(rt; status, 0);
         assert!(rt; printed.is_empty());
     }
+    Ok(())
 }
 
 #[test]
-fn input_without_end_is_refused(rt: HostRuntime) {
+fn input_without_end_is_refused(rt: HostRuntime) -> Result<(), Refusal> {
     let mut reader = WatchedReader::new(io::repeat(b' '));
     let mut writer = WatchedWriter::new(Vec::new(rt.alloc()));
-    assert_eq!(rt;
-        carry_out(
-            &rt,
-            Chosen::Dump,
-            Vec::new(rt.alloc()),
-            &mut reader,
-            &mut writer
-        ),
-        1
+    let status = carry_out(
+        &rt,
+        Chosen::Dump,
+        Vec::new(rt.alloc()),
+        &mut reader,
+        &mut writer,
     );
+    check_memory(status, &writer)?;
+    assert_eq!(rt; status, 1);
     assert_eq!(rt;
         writer.into_inner().as_slice(),
         b"refused 10 BadFrame: Input at 67108864\n".as_slice()
     );
+    Ok(())
 }
 
 #[test]
-fn a_failing_reader_prints_read_fault_alone(rt: HostRuntime) {
+fn a_failing_reader_prints_read_fault_alone(rt: HostRuntime) -> Result<(), Refusal> {
     for chosen in [Chosen::Dump, Chosen::Merge] {
         for fails_at in 1..=10 {
-            let (status, reads, printed) = run_failing(&rt, chosen, ONE_CONTRIBUTION, fails_at);
+            let (status, reads, printed) = run_failing(&rt, chosen, ONE_CONTRIBUTION, fails_at)?;
             assert_eq!(rt; status, 1, "at {fails_at}");
             assert_eq!(rt; reads, fails_at);
             assert_eq!(rt;
@@ -120,28 +124,33 @@ fn a_failing_reader_prints_read_fault_alone(rt: HostRuntime) {
             );
         }
     }
+    Ok(())
 }
 
 #[test]
-fn a_failing_writer_holds_a_prefix_and_no_line(rt: HostRuntime) {
+fn a_failing_writer_holds_a_prefix_and_no_line(rt: HostRuntime) -> Result<(), Refusal> {
     for chosen in [Chosen::Dump, Chosen::Merge] {
         for text in [ONE_CONTRIBUTION, b"010".as_slice()] {
-            let (status, whole) = run_on(&rt, chosen, text);
+            let (status, whole) = run_on(&rt, chosen, text)?;
             for writes in 0..10 {
-                let writer = FailingWriter::new(rt.alloc(), writes, true);
-                let (failing, writer) = run_into(&rt, chosen, text, writer);
+                let writer = FailingWriter::new(rt.alloc(), writes, true)?;
+                let (failing, writer) = run_into(&rt, chosen, text, writer)?;
+                check_written(&writer.held, &whole)?;
                 assert!(rt; whole.starts_with(writer.held.as_slice()), "at {writes}");
                 let is_whole = writer.held.len() == whole.len();
                 assert_eq!(rt; failing, if is_whole { status } else { 1 }, "at {writes}");
             }
         }
     }
+    Ok(())
 }
 
 #[test]
-fn output_that_cannot_be_flushed_is_a_write_fault(rt: HostRuntime) {
-    let writer = FailingWriter::new(rt.alloc(), 100, false);
-    let (status, writer) = run_into(&rt, Chosen::Dump, b"", writer);
+fn output_that_cannot_be_flushed_is_a_write_fault(rt: HostRuntime) -> Result<(), Refusal> {
+    let writer = FailingWriter::new(rt.alloc(), 100, false)?;
+    let (status, writer) = run_into(&rt, Chosen::Dump, b"", writer)?;
+    check_written(&writer.held, b"")?;
     assert_eq!(rt; status, 1);
     assert!(rt; writer.held.is_empty());
+    Ok(())
 }

@@ -2,9 +2,10 @@
 //! `examples/dump` are that input, and print what stands beside it.
 use crate::running::run_on;
 use pmg_commands::Chosen;
+use pmg_value::Refusal;
 
 #[test]
-fn streams_print_their_dump_or_their_first_fault(rt: HostRuntime) {
+fn streams_print_their_dump_or_their_first_fault(rt: HostRuntime) -> Result<(), Refusal> {
     let cases = [
         (
             "one-contribution",
@@ -163,8 +164,9 @@ fn streams_print_their_dump_or_their_first_fault(rt: HostRuntime) {
         ),
     ];
     for (name, text, status, want) in cases {
-        let (answer, printed) = run_on(&rt, Chosen::Dump, text.as_bytes());
+        let (answer, printed) = run_on(&rt, Chosen::Dump, text.as_bytes())?;
         assert_eq!(rt; answer, status, "{name}");
         assert_eq!(rt; printed.as_slice(), want.as_bytes(), "{name}");
     }
+    Ok(())
 }

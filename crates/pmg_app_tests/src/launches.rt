@@ -28,16 +28,28 @@ const FOUR_ADDRESSES: &str =
 const MOST: &[u8] = br#"{"nodes":["a","b","c","d","e","f","g","h"],"spaces":[
     {"name":"k","homes":[0,1,2,3,4,5,6,7,0,1,2,3,4,5,6,7]},{"name":"j","homes":[7,7,7,6,5,4,3,2,1,0,0,0,1,2,3,4]}]}"#;
 
+// Refused as NoMemory where a client was.
+fn check_memory(outcome: &Outcome) -> Result<(), Refusal> {
+    for report in &outcome.reports {
+        if report.answer == Err(Refusal::NoMemory) {
+            return Err(Refusal::NoMemory);
+        }
+    }
+    Ok(())
+}
+
 // All that the clients reported, and behind it the far dump of node 0.
 fn text_of(alloc: Global, outcome: &Outcome) -> Result<Vec<u8>, Refusal> {
+    check_memory(outcome)?;
     let mut writer = WatchedWriter::new(Vec::new(alloc));
+    let mut is_whole = true;
     for report in &outcome.reports {
-        let _ = writer.put_text(&report.text);
+        is_whole = writer.put_text(&report.text).is_ok() && is_whole;
     }
     if let Some(node) = outcome.run.node(NodeId::new(0)?) {
-        let _ = node.board().far().dump(&mut writer);
+        is_whole = node.board().far().dump(&mut writer).is_ok() && is_whole;
     }
-    if writer.has_failed() {
+    if !is_whole {
         return Err(Refusal::NoMemory);
     }
     Ok(writer.into_inner())
@@ -105,8 +117,11 @@ fn a_job_has_a_program_for_each_process(rt: HostRuntime) -> Result<(), Refusal> 
         for _ in 0..count {
             programs.push(Box::new(alloc, Refused)?)?;
         }
-        let text = text_by(&rt, alloc, TWO_NODES, programs, Links::default());
-        assert_eq!(rt; text.err(), Some(Refusal::BadParam));
+        match text_by(&rt, alloc, TWO_NODES, programs, Links::default()) {
+            Err(Refusal::BadParam) => {}
+            Err(refusal) => return Err(refusal),
+            Ok(_) => return Err(Refusal::NotFound),
+        }
     }
     Ok(())
 }
@@ -179,7 +194,9 @@ fn run_two<R: Threads + Wait + Clock + Sync>(
     let mut programs = Vec::new(alloc);
     programs.push(first)?;
     programs.push(second)?;
-    run(rt, Job::read(alloc, TWO_CLIENTS)?, programs)
+    let outcome = run(rt, Job::read(alloc, TWO_CLIENTS)?, programs)?;
+    check_memory(&outcome)?;
+    Ok(outcome)
 }
 
 #[test]
@@ -268,6 +285,7 @@ fn the_run_is_what_the_clients_saw(rt: HostRuntime) -> Result<(), Refusal> {
     programs.push(Box::new(alloc, one)?)?;
     programs.push(Box::new(alloc, two)?)?;
     let outcome = run(&rt, Job::read(alloc, ACROSS)?, programs)?;
+    check_memory(&outcome)?;
     let wanted: [&[u8]; 2] = [
         b"c1\ne1\nl1\nf20\nc2\ne2\nl2\nf21\n",
         b"c1\ne1\nl1\nf10\nc2\ne2\nl2\nf11\n",

@@ -2,10 +2,10 @@
 //! that have the name of an input in `examples/merge` are that input, and print what stands beside it.
 use crate::running::run_on;
 use pmg_commands::Chosen;
-use std::alloc::AllocError;
+use pmg_value::Refusal;
 
 #[test]
-fn merged_streams_print_one_dump(rt: HostRuntime) {
+fn merged_streams_print_one_dump(rt: HostRuntime) -> Result<(), Refusal> {
     let cases = [
         (
             "two-servers",
@@ -51,14 +51,15 @@ fn merged_streams_print_one_dump(rt: HostRuntime) {
         ("streams-of-nothing", "--\n--\n--", ""),
     ];
     for (name, text, want) in cases {
-        let (status, printed) = run_on(&rt, Chosen::Merge, text.as_bytes());
+        let (status, printed) = run_on(&rt, Chosen::Merge, text.as_bytes())?;
         assert_eq!(rt; printed.as_slice(), want.as_bytes(), "{name}");
         assert_eq!(rt; status, 0, "{name}");
     }
+    Ok(())
 }
 
 #[test]
-fn the_first_fault_of_the_first_faulty_stream_is_told(rt: HostRuntime) {
+fn the_first_fault_of_the_first_faulty_stream_is_told(rt: HostRuntime) -> Result<(), Refusal> {
     let cases = [
         (
             "fault-in-the-second-stream",
@@ -102,23 +103,24 @@ fn the_first_fault_of_the_first_faulty_stream_is_told(rt: HostRuntime) {
         ),
     ];
     for (name, text, want) in cases {
-        let (status, printed) = run_on(&rt, Chosen::Merge, text.as_bytes());
+        let (status, printed) = run_on(&rt, Chosen::Merge, text.as_bytes())?;
         assert_eq!(rt; printed.as_slice(), want.as_bytes(), "{name}");
         assert_eq!(rt; status, 1, "{name}");
     }
+    Ok(())
 }
 
 #[test]
-fn sixty_four_streams_are_merged_and_no_more(rt: HostRuntime) -> Result<(), AllocError> {
+fn sixty_four_streams_are_merged_and_no_more(rt: HostRuntime) -> Result<(), Refusal> {
     let mut text = Vec::new(rt.alloc());
     for _ in 0..63 {
         text.extend_from_slice(b"--\n")?;
     }
-    let (status, printed) = run_on(&rt, Chosen::Merge, text.as_slice());
+    let (status, printed) = run_on(&rt, Chosen::Merge, text.as_slice())?;
     assert_eq!(rt; status, 0);
     assert!(rt; printed.is_empty());
     text.extend_from_slice(b"--\n0g")?;
-    let (status, printed) = run_on(&rt, Chosen::Merge, text.as_slice());
+    let (status, printed) = run_on(&rt, Chosen::Merge, text.as_slice())?;
     assert_eq!(rt; status, 1);
     assert_eq!(rt; printed.as_slice(), b"refused 9 TooMany\n".as_slice());
     Ok(())

@@ -1,7 +1,8 @@
 //! What scripts print, and what they end with. The scripts that have the name of an input in `examples/replay` are that input,
 //! and print what stands beside it: found by hand, frame by frame.
-use crate::running::{FailingWriter, run_failing, run_into, run_on};
+use crate::running::{FailingWriter, check_written, run_failing, run_into, run_on};
 use pmg_commands::Chosen;
+use pmg_value::Refusal;
 use std::alloc::{AllocError, Global};
 use std::process::Abort;
 use std::str;
@@ -28,17 +29,18 @@ fn prints<T: Abort + AllocGlobal + Threads + Wait + Clock + Sync>(
     script: &[u8],
     status: u8,
     want: &str,
-) {
-    let (answer, printed) = run_on(rt, Chosen::Replay, script);
+) -> Result<(), Refusal> {
+    let (answer, printed) = run_on(rt, Chosen::Replay, script)?;
     assert_eq!(rt; str::from_utf8(&printed).unwrap_or("no text"), want);
     assert_eq!(rt; answer, status);
+    Ok(())
 }
 
 // Each line of a script is answered by what stands after it, a blank before each line of that; and all is done.
 fn plays<T: Abort + AllocGlobal + Threads + Wait + Clock + Sync>(
     rt: &T,
     transcript: &str,
-) -> Result<(), AllocError> {
+) -> Result<(), Refusal> {
     let alloc = rt.alloc();
     let script = lines_of(alloc, transcript, false)?;
     let replies = lines_of(alloc, transcript, true)?;
@@ -47,12 +49,11 @@ fn plays<T: Abort + AllocGlobal + Threads + Wait + Clock + Sync>(
         &script,
         0,
         str::from_utf8(&replies).unwrap_or("no text"),
-    );
-    Ok(())
+    )
 }
 
 #[test]
-fn lost_piece_and_nudge(rt: HostRuntime) -> Result<(), AllocError> {
+fn lost_piece_and_nudge(rt: HostRuntime) -> Result<(), Refusal> {
     plays(
         &rt,
         "\
@@ -97,7 +98,7 @@ leave j 0
 }
 
 #[test]
-fn value_for_each_side(rt: HostRuntime) -> Result<(), AllocError> {
+fn value_for_each_side(rt: HostRuntime) -> Result<(), Refusal> {
     plays(
         &rt,
         "\
@@ -133,7 +134,7 @@ dump 0
 }
 
 #[test]
-fn gone_before_the_fence(rt: HostRuntime) -> Result<(), AllocError> {
+fn gone_before_the_fence(rt: HostRuntime) -> Result<(), Refusal> {
     plays(
         &rt,
         "\
@@ -172,7 +173,7 @@ get j 0 now j 2 a
 }
 
 #[test]
-fn get_answered_by_an_end(rt: HostRuntime) -> Result<(), AllocError> {
+fn get_answered_by_an_end(rt: HostRuntime) -> Result<(), Refusal> {
     plays(
         &rt,
         "\
@@ -209,7 +210,7 @@ get j 1 now j 0 b
 }
 
 #[test]
-fn sets_that_spread(rt: HostRuntime) -> Result<(), AllocError> {
+fn sets_that_spread(rt: HostRuntime) -> Result<(), Refusal> {
     plays(
         &rt,
         "\
@@ -266,7 +267,7 @@ members 2 fast
 }
 
 #[test]
-fn fence_twice(rt: HostRuntime) -> Result<(), AllocError> {
+fn fence_twice(rt: HostRuntime) -> Result<(), Refusal> {
     plays(
         &rt,
         "\
@@ -315,32 +316,34 @@ leave j 0
 }
 
 #[test]
-fn nothing_but_empty_lines_prints_nothing(rt: HostRuntime) {
+fn nothing_but_empty_lines_prints_nothing(rt: HostRuntime) -> Result<(), Refusal> {
     for script in [b"\n".as_slice(), b"\r\n\n\r\n".as_slice()] {
-        prints(&rt, script, 0, "");
+        prints(&rt, script, 0, "")?;
     }
+    Ok(())
 }
 
 #[test]
-fn a_cr_before_an_lf_is_no_part_of_a_name(rt: HostRuntime) {
+fn a_cr_before_an_lf_is_no_part_of_a_name(rt: HostRuntime) -> Result<(), Refusal> {
     let script = b"nodes n0\r\nspace j 0\r\n\r\nget j 0 now j 0 pmix.hname\r\n".as_slice();
-    prints(&rt, script, 0, "ok\nok\nfound string:6e30\n");
+    prints(&rt, script, 0, "ok\nok\nfound string:6e30\n")
 }
 
 #[test]
-fn refused_nodes_end_the_script(rt: HostRuntime) {
+fn refused_nodes_end_the_script(rt: HostRuntime) -> Result<(), Refusal> {
     let cases = [
         ("nodes\nspace j 0\n", "refused 1 BadParam\n"),
         ("nodes n0 n0\nhello\n", "refused 1 BadParam\n"),
         ("\nnodes n\u{e9}", "refused 1 BadParam\n"),
     ];
     for (script, want) in cases {
-        prints(&rt, script.as_bytes(), 1, want);
+        prints(&rt, script.as_bytes(), 1, want)?;
     }
+    Ok(())
 }
 
 #[test]
-fn a_refused_line_is_answered_and_the_script_goes_on(rt: HostRuntime) -> Result<(), AllocError> {
+fn a_refused_line_is_answered_and_the_script_goes_on(rt: HostRuntime) -> Result<(), Refusal> {
     plays(
         &rt,
         "\
@@ -371,7 +374,7 @@ flow
 }
 
 #[test]
-fn a_line_that_is_none_prints_its_fault_after_the_replies(rt: HostRuntime) {
+fn a_line_that_is_none_prints_its_fault_after_the_replies(rt: HostRuntime) -> Result<(), Refusal> {
     let cases = [
         ("hello", "refused 10 BadFrame: Script at 0\n"),
         ("flow\n", "refused 10 BadFrame: Script at 0\n"),
@@ -393,8 +396,9 @@ fn a_line_that_is_none_prints_its_fault_after_the_replies(rt: HostRuntime) {
         ),
     ];
     for (script, want) in cases {
-        prints(&rt, script.as_bytes(), 1, want);
+        prints(&rt, script.as_bytes(), 1, want)?;
     }
+    Ok(())
 }
 
 const SHORT: &str = "nodes n0\nspace j 0\nend j 0";
@@ -402,7 +406,7 @@ const SHORT: &str = "nodes n0\nspace j 0\nend j 0";
 const SHORT_REPLIES: &str = "ok\nok\nended 1\n";
 
 #[test]
-fn a_read_fault_is_told_after_the_replies_of_whole_lines(rt: HostRuntime) {
+fn a_read_fault_is_told_after_the_replies_of_whole_lines(rt: HostRuntime) -> Result<(), Refusal> {
     let cases = [
         (1, "read fault\n"),
         (9, "read fault\n"),
@@ -412,42 +416,52 @@ fn a_read_fault_is_told_after_the_replies_of_whole_lines(rt: HostRuntime) {
         (27, "ok\nok\nread fault\n"),
     ];
     for (fails_at, want) in cases {
-        let (status, reads, printed) = run_failing(&rt, Chosen::Replay, SHORT.as_bytes(), fails_at);
+        let (status, reads, printed) = run_failing(
+            &rt,
+            Chosen::Replay,
+            SHORT.as_bytes(),
+            fails_at,
+        )?;
         assert_eq!(rt; str::from_utf8(&printed).unwrap_or("no text"), want);
         assert_eq!(rt; status, 1);
         assert_eq!(rt; reads, fails_at);
     }
-    let (status, _, printed) = run_failing(&rt, Chosen::Replay, SHORT.as_bytes(), 28);
+    let (status, _, printed) = run_failing(&rt, Chosen::Replay, SHORT.as_bytes(), 28)?;
     assert_eq!(rt;
         str::from_utf8(&printed).unwrap_or("no text"),
         SHORT_REPLIES
     );
     assert_eq!(rt; status, 0);
+    Ok(())
 }
 
 #[test]
-fn a_failing_writer_holds_a_prefix_of_the_replies(rt: HostRuntime) {
+fn a_failing_writer_holds_a_prefix_of_the_replies(rt: HostRuntime) -> Result<(), Refusal> {
     for (writes, held) in [(0, 0), (1, 3), (2, 6), (3, 13)] {
-        let writer = FailingWriter::new(rt.alloc(), writes, true);
-        let (status, writer) = run_into(&rt, Chosen::Replay, SHORT.as_bytes(), writer);
+        let writer = FailingWriter::new(rt.alloc(), writes, true)?;
+        let (status, writer) = run_into(&rt, Chosen::Replay, SHORT.as_bytes(), writer)?;
+        check_written(&writer.held, SHORT_REPLIES.as_bytes())?;
         assert_eq!(rt; status, 1);
         assert_eq!(rt;
             writer.held.as_slice(),
             SHORT_REPLIES.as_bytes().get(..held).unwrap_or(b"")
         );
     }
-    let writer = FailingWriter::new(rt.alloc(), 4, true);
-    let (status, writer) = run_into(&rt, Chosen::Replay, SHORT.as_bytes(), writer);
+    let writer = FailingWriter::new(rt.alloc(), 4, true)?;
+    let (status, writer) = run_into(&rt, Chosen::Replay, SHORT.as_bytes(), writer)?;
+    check_written(&writer.held, SHORT_REPLIES.as_bytes())?;
     assert_eq!(rt; status, 0);
     assert_eq!(rt; writer.held.as_slice(), SHORT_REPLIES.as_bytes());
+    Ok(())
 }
 
 #[test]
-fn replies_that_cannot_be_flushed_are_a_write_fault(rt: HostRuntime) {
+fn replies_that_cannot_be_flushed_are_a_write_fault(rt: HostRuntime) -> Result<(), Refusal> {
     for script in [SHORT, "nodes"] {
-        let writer = FailingWriter::new(rt.alloc(), 100, false);
-        let (status, writer) = run_into(&rt, Chosen::Replay, script.as_bytes(), writer);
+        let writer = FailingWriter::new(rt.alloc(), 100, false)?;
+        let (status, writer) = run_into(&rt, Chosen::Replay, script.as_bytes(), writer)?;
         assert_eq!(rt; status, 1);
         assert!(rt; !writer.held.is_empty());
     }
+    Ok(())
 }
