@@ -128,7 +128,11 @@ fn stops(alloc: Global, fails_at: usize, kind: ErrorKind) -> Result<bool, Refusa
 #[test]
 fn a_writer_that_failed_is_not_called_again(rt: HostRuntime) -> Result<(), Refusal> {
     for fails_at in 1..24 {
-        for kind in [ErrorKind::StorageFull, ErrorKind::WriteZero] {
+        for kind in [
+            ErrorKind::StorageFull,
+            ErrorKind::WriteZero,
+            ErrorKind::WouldBlock,
+        ] {
             assert!(rt; stops(rt.alloc(), fails_at, kind)?, "at {fails_at}");
         }
     }
