@@ -6,7 +6,6 @@ use Rattle.std.proofs.Crossing.{crosses as owners}
 use Rattle.std_heap.specs.contracts.Global as Heap
 use Rattle.std_heap.specs.contracts.GlobalAllocator.TheImpl.{ghosts}
 use Rattle.crossbeam_channel.specs.contracts.channel.Receiver as Receiver
-use Rattle.crossbeam_channel.specs.contracts.channel.Sender as Sender
 use Rattle.pmg_frame.specs.contracts.frame.Frame as Frame
 use Rattle.pmg_value.specs.contracts.process.Proc as Proc
 use Rattle.pmg_publish.proofs.Crossing.{nspace_send, proc_sync}
