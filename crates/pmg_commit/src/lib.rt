@@ -10,6 +10,6 @@ mod stamps;
 
 pub use last_puts::SealedPut;
 pub use laws::{data_rules, honest_rules, knowledge_rules, sealer_rules};
-pub use piece::{MAX_COMMIT, MAX_ENTRIES, MAX_PIECE_SIZE, Piece, PieceEntry};
+pub use piece::{MAX_COMMIT, MAX_ENTRIES, MAX_PIECE_SIZE, Piece, PieceEntry, entries_size};
 pub use reading::best_of;
 pub use sealer::{Sealer, SealerBefore};

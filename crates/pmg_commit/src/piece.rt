@@ -143,7 +143,7 @@ fn are_numbered(from: u64, to: u64, entries: &[PieceEntry]) -> bool
 }
 
 /// The bytes that the entries take in a frame.
-fn entries_size(entries: &[PieceEntry]) -> usize
+pub fn entries_size(entries: &[PieceEntry]) -> usize
     requires { length entries.now ≤ 65536 }
     ensures value { result ≡ sum_by entry_size (map entry_of entries.now) }
     ensures bound { result < 2 ^ 40 }

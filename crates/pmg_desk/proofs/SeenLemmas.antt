@@ -102,6 +102,8 @@ module _ (jobs : Jobs) (id : ℕ) where
     receives_in (frames.FenceAsk a) = held
     receives_in (frames.RangeAsk a) = held
     receives_in (frames.DirectAsk a) = unless_in _ a.node a.proc a.level
+    receives_in (frames.RefreshAsk a) = held
+    receives_in (frames.RefreshReply r) = held
 
     delivers_in : (frame : Frame) (b : Bool) → IsIn (cond b (done_as Reply.taken (receives h frame)) (done_as Reply.ignored h)).left
     delivers_in frame true = receives_in frame

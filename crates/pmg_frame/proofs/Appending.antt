@@ -4,6 +4,9 @@ use Rattle.std.proofs.Common.{◌≡◌, ℕ, List, ◌++◌, ap, ◌∙◌, app
 pub appended_2 : (o x y a b : List ℕ) → x ≡ o ++ a → y ≡ x ++ b → y ≡ o ++ (a ++ b)
 appended_2 o x y a b p q = q ∙ ap (λ (t : List ℕ). t ++ b) p ∙ append_assoc o a b
 
+pub appended_3 : (o x y z a b c : List ℕ) → x ≡ o ++ a → y ≡ x ++ b → z ≡ y ++ c → z ≡ o ++ (a ++ (b ++ c))
+appended_3 o x y z a b c p q r = appended_2 o x z a (b ++ c) p (appended_2 x y z b c q r)
+
 pub appended_5 : (o x y z u v a b c d e : List ℕ) → x ≡ o ++ a → y ≡ x ++ b → z ≡ y ++ c → u ≡ z ++ d → v ≡ u ++ e → v ≡ o ++ (a ++ (b ++ (c ++ (d ++ e))))
 appended_5 o x y z u v a b c d e p q r s t =
     appended_2 o x v a (b ++ (c ++ (d ++ e))) p (appended_2 x y v b (c ++ (d ++ e)) q (appended_2 y z v c (d ++ e) r (appended_2 z u v d e s t)))

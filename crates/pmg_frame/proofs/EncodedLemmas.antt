@@ -1,5 +1,5 @@
 -- What is encoded keeps the rules of its kind, and is read back.
-use Rattle.std.proofs.Common.{◌≡◌, ℕ, ◌<◌, ◌≤◌, List, [], ◌∷◌, length, Result, Ok, Err, IsTrue, subst}
+use Rattle.std.proofs.Common.{◌≡◌, ℕ, ◌≤◌, false, List, [], ◌∷◌, length, Result, Ok, Err, IsTrue, subst}
 use Rattle.std.specs.Prelude.{OnOk, IfOk}
 use Rattle.std.specs.List.{list_all}
 use Rattle.std.proofs.lemmas.Bool.{and_parts}
@@ -11,8 +11,8 @@ use Rattle.pmg_value.specs.declared.process.Proc.{Proc}
 use Rattle.pmg_wire.specs.Reading.{Takes}
 use Rattle.pmg_frame.specs.declared.frame.Frame.{Frame}
 use Rattle.pmg_frame.specs.Frames.{ReadsBack}
-use Rattle.pmg_frame.specs.Grammar.{IsClient, IsFrame}
-use Rattle.pmg_frame.specs.Spelling.{kind_of, body_spelling, frame_spelling}
+use Rattle.pmg_frame.specs.Grammar.{IsClient, IsFrame, has_entries}
+use Rattle.pmg_frame.specs.Spelling.{body_spelling, frame_spelling}
 use Rattle.pmg_frame.proofs.FrameLaws.{frame_only}
 use Rattle.pmg_frame.proofs.HeaderTests.{are_fitting}
 
@@ -30,8 +30,8 @@ on_ok_always (Ok x) p = p
 on_ok_always (Err e) p = tt
 
 -- headers and asks that are encoded fit into a frame
-pub fits : {X E : Type 0} (frame : Frame) (r : Result X E) → 1 < kind_of frame → OnOk r (IsFrame frame) → OnOk r (length (body_spelling frame) ≤ 16777216)
-fits frame r kind valid = on_ok_weaker r (λ is. are_fitting frame is kind) valid
+pub fits : {X E : Type 0} (frame : Frame) (r : Result X E) → has_entries frame ≡ false → OnOk r (IsFrame frame) → OnOk r (length (body_spelling frame) ≤ 16777216)
+fits frame r few valid = on_ok_weaker r (λ is. are_fitting frame is few) valid
 
 -- the bytes of a frame that fits are read back as the frame
 pub reads_back : {X E : Type 0} (frame : Frame) (items : X → List ℕ) (r : Result X E) → IfOk r (λ x. items x ≡ frame_spelling frame)

@@ -14,10 +14,11 @@ use Rattle.pmg_frame.specs.Reading.{read_fields, read_frame_body, read_head, beh
 use Rattle.pmg_frame.specs.Spelling.{kind_of, body_spelling, head_spelling, frame_spelling}
 use Rattle.pmg_frame.proofs.PieceLaws.{piece_if, piece_again}
 use Rattle.pmg_frame.proofs.HeaderLaws.{header_if, header_again, fence_ask_if, fence_ask_again, commit_ask_if, commit_ask_again}
+use Rattle.pmg_frame.proofs.RefreshLaws.{refresh_if, ask_read_again, reply_read_again}
 
 -- the kinds of frames
 abbrev is_kind : ℕ → Bool
-is_kind k = nat_lt 0 k && nat_lt k 6
+is_kind k = nat_lt 0 k && nat_lt k 7
 
 -- what a head took
 pub record TakesHead (at : Place) (head : ℕ × ℕ) (after : Place) : Type 0 where
@@ -79,8 +80,8 @@ pub record TakesFields (kind : ℕ) (at : Place) (frame : Frame) (after : Place)
   pub is : IsFrame frame
   pub of_kind : kind ≡ kind_of frame
 
-last_kind : (k : ℕ) → IsTrue (is_kind k) → (k == 1) ≡ false → (k == 2) ≡ false → (k == 3) ≡ false → (k == 4) ≡ false → k ≡ 5
-last_kind k is n1 n2 n3 n4 = grind arith
+last_kind : (k : ℕ) → IsTrue (is_kind k) → (k == 1) ≡ false → (k == 2) ≡ false → (k == 3) ≡ false → (k == 4) ≡ false → (k == 5) ≡ false → k ≡ 6
+last_kind k is n1 n2 n3 n4 n5 = grind arith
 
 fields_if : (kind : ℕ) (at : Place) → IsTrue (is_kind kind) → IsBytes at.rest → IfRead (read_fields kind at) (TakesFields kind at)
 unfolding read_fields
@@ -89,7 +90,8 @@ fields_if kind at known fits =
     choice_if (kind == 2) (λ is. bind_if (λ x. Ok (frames.Header x.0, x.1)) (header_if at fits) (λ x after t. done_if (record { takes = t.takes; is = t.is; of_kind = eqb-true kind 2 is }))) (λ n2.
     choice_if (kind == 3) (λ is. bind_if (λ x. Ok (frames.FenceAsk x.0, x.1)) (fence_ask_if at fits) (λ x after t. done_if (record { takes = t.takes; is = t.is; of_kind = eqb-true kind 3 is }))) (λ n3.
     choice_if (kind == 4) (λ is. bind_if (λ x. Ok (frames.RangeAsk x.0, x.1)) (commit_ask_if at fits) (λ x after t. done_if (record { takes = t.takes; is = t.is; of_kind = eqb-true kind 4 is }))) (λ n4.
-    bind_if (λ x. Ok (frames.DirectAsk x.0, x.1)) (commit_ask_if at fits) (λ x after t. done_if (record { takes = t.takes; is = t.is; of_kind = last_kind kind known n1 n2 n3 n4 }))))))
+    choice_if (kind == 5) (λ is. bind_if (λ x. Ok (frames.DirectAsk x.0, x.1)) (commit_ask_if at fits) (λ x after t. done_if (record { takes = t.takes; is = t.is; of_kind = eqb-true kind 5 is }))) (λ n5.
+    record { holds = λ frame after e. let t = (refresh_if at fits).holds frame after e in record { takes = t.takes; is = t.is; of_kind = last_kind kind known n1 n2 n3 n4 n5 ∙ sym t.of_kind } })))))
 
 pub body_found : (kind : ℕ) (at : Place) (frame : Frame) → IsTrue (is_kind kind) → IsBytes at.rest → read_frame_body kind at ≡ Ok frame → IsBody kind at frame
 unfolding read_frame_body
@@ -112,6 +114,8 @@ fields_again o (frames.Header h) rest is = rw (header_again o h rest is) refl
 fields_again o (frames.FenceAsk a) rest is = rw (fence_ask_again o a rest is) refl
 fields_again o (frames.RangeAsk a) rest is = rw (commit_ask_again o a rest is) refl
 fields_again o (frames.DirectAsk a) rest is = rw (commit_ask_again o a rest is) refl
+fields_again o (frames.RefreshAsk a) rest is = ask_read_again o a rest is
+fields_again o (frames.RefreshReply r) rest is = reply_read_again o r rest is
 
 pub body_again : (o : ℕ) (frame : Frame) → IsFrame frame → read_frame_body (kind_of frame) (place o (body_spelling frame)) ≡ Ok frame
 unfolding read_frame_body
@@ -174,6 +178,8 @@ kind_known (frames.Header h) = refl
 kind_known (frames.FenceAsk a) = refl
 kind_known (frames.RangeAsk a) = refl
 kind_known (frames.DirectAsk a) = refl
+kind_known (frames.RefreshAsk a) = refl
+kind_known (frames.RefreshReply r) = refl
 
 pub frame_again : (o : ℕ) (frame : Frame) (rest : List ℕ) → length (body_spelling frame) ≤ 16777216 → IsFrame frame
     → read_frame (place o (frame_spelling frame ++ rest)) ≡ Ok (Some (frame, place (o + length (frame_spelling frame)) rest))

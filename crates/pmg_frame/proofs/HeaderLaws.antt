@@ -34,13 +34,13 @@ pub record TakesNode (at : Place) (n : ℕ) (after : Place) : Type 0 where
   pub takes : Takes at (to_be_bytes w32 n) after
   pub bound : n ≤ 63
 
-node_if : (at : Place) → IsBytes at.rest → IfRead (read_node at) (TakesNode at)
+pub node_if : (at : Place) → IsBytes at.rest → IfRead (read_node at) (TakesNode at)
 unfolding read_node
 node_if at fits =
     bind_if (λ node. check (nat_le node.0 63) (fault at.offset causes.Node) >>= λ _. Ok node) (number_if w32 (2 ^ 32) wide32 at fits) (λ n after t.
     check_if (nat_le n 63) (fault at.offset causes.Node) (λ _. Ok (n, after)) (λ small. done_if (record { takes = t.takes; bound = leb-true n 63 small })))
 
-node_again : (o n : ℕ) (rest : List ℕ) → n ≤ 63 → read_node (place o (to_be_bytes w32 n ++ rest)) ≡ Ok (n, place (o + 4) rest)
+pub node_again : (o n : ℕ) (rest : List ℕ) → n ≤ 63 → read_node (place o (to_be_bytes w32 n ++ rest)) ≡ Ok (n, place (o + 4) rest)
 unfolding read_node
 node_again o n rest small = rw (number_again w32 (2 ^ 32) wide32 o n rest (omega (arith, small)), le-leb n 63 small) refl
 
@@ -49,13 +49,13 @@ pub record TakesLevel (at : Place) (n : ℕ) (after : Place) : Type 0 where
   pub takes : Takes at (to_be_bytes w64 n) after
   pub is : IsTrue (is_level n)
 
-level_if : (at : Place) → IsBytes at.rest → IfRead (read_level at) (TakesLevel at)
+pub level_if : (at : Place) → IsBytes at.rest → IfRead (read_level at) (TakesLevel at)
 unfolding read_level
 level_if at fits =
     bind_if (λ level. check (is_level level.0) (fault at.offset causes.Level) >>= λ _. Ok level) (number_if w64 (2 ^ 64) wide64 at fits) (λ n after t.
     check_if (is_level n) (fault at.offset causes.Level) (λ _. Ok (n, after)) (λ is. done_if (record { takes = t.takes; is = is })))
 
-level_again : (o n : ℕ) (rest : List ℕ) → IsTrue (is_level n) → read_level (place o (to_be_bytes w64 n ++ rest)) ≡ Ok (n, place (o + 8) rest)
+pub level_again : (o n : ℕ) (rest : List ℕ) → IsTrue (is_level n) → read_level (place o (to_be_bytes w64 n ++ rest)) ≡ Ok (n, place (o + 8) rest)
 unfolding read_level
 level_again o n rest is = let small : n ≤ 4294967295 = leb-true n 4294967295 is in rw (number_again w64 (2 ^ 64) wide64 o n rest (omega (arith, small)), is) refl
 

@@ -1,5 +1,5 @@
 -- What passes the test of a header keeps the rules of one, and headers and asks fit into a frame.
-use Rattle.std.proofs.Common.{ℕ, ◌+◌, ◌*◌, ◌≤◌, ◌&&◌, nat_lt, nat_le, List, [], ◌∷◌, ◌++◌, length, Option, Some, None, IsTrue, refl, sym, subst, ◌∙◌, arith, inl, inr}
+use Rattle.std.proofs.Common.{ℕ, ◌+◌, ◌*◌, ◌≤◌, ◌&&◌, nat_lt, nat_le, List, [], ◌∷◌, ◌++◌, length, Option, Some, None, false, IsTrue, refl, sym, subst, ◌∙◌, arith, inl, inr}
 use Rattle.std.specs.FinSet as set
 use Rattle.std.specs.Cmp.{Equal-is}
 use Rattle.std.specs.Int.{w32, w64, to_be_bytes}
@@ -18,7 +18,7 @@ use Rattle.pmg_wire.specs.Many.{Chain}
 use Rattle.pmg_wire.specs.Spelling.{proc_spelling}
 use Rattle.pmg_frame.specs.Fences.{participants_of, is_gone, is_local_rising, is_listed, is_level, is_header, Header, CommitAsk}
 use Rattle.pmg_frame.specs.Grammar.{IsClient, IsName, FollowsLocal, IsHeader, IsCommitAsk, AreHeaders, AreFitting}
-use Rattle.pmg_frame.specs.Spelling.{flag_spelling, name_spelling, local_spelling, header_body, commit_ask_body}
+use Rattle.pmg_frame.specs.Spelling.{flag_spelling, name_spelling, local_spelling, header_body, commit_ask_body, asker_spelling}
 use Rattle.pmg_frame.specs.declared.frame.Frame.TheVariants as frames
 use Rattle.pmg_frame.specs.declared.local.Local.{Local}
 use Rattle.pmg_frame.proofs.FenceLaws.{length_4}
@@ -119,8 +119,13 @@ commit_ask_short : (a : CommitAsk) → IsCommitAsk a → length (commit_ask_body
 commit_ask_short a is = omega (arith, proc_short a.proc is.name, length_3 (to_be_bytes w32 a.node) (proc_spelling a.proc) (to_be_bytes w64 a.level))
 
 pub are_fitting : AreFitting
-are_fitting (frames.Piece c) is kind = absurd (omega arith)
+are_fitting (frames.Piece c) is kind = absurd cc
 are_fitting (frames.Header h) is kind = header_short h is
 are_fitting (frames.FenceAsk a) is kind = omega (arith, name_short a.name is.name, length-append (to_be_bytes w32 a.node) (name_spelling a.name))
 are_fitting (frames.RangeAsk a) is kind = commit_ask_short a is
 are_fitting (frames.DirectAsk a) is kind = commit_ask_short a is
+are_fitting (frames.RefreshAsk a) is kind =
+    let ask = proc_short a.ask.proc is.ask.name in
+    let tail = proc_spelling a.ask.proc ++ to_be_bytes w64 a.ask.level in
+    omega (arith, ask, length-append (asker_spelling a.ask.node a.request false) tail, length-append (proc_spelling a.ask.proc) (to_be_bytes w64 a.ask.level))
+are_fitting (frames.RefreshReply r) is kind = absurd cc

@@ -9,6 +9,8 @@ pub mod FenceLaws
 pub mod Lasts
 pub mod HeaderLaws
 pub mod HeaderTests
+pub mod RefreshLaws
+pub mod RefreshTests
 pub mod EncodedLemmas
 pub mod FenceOrderLemmas
 pub mod SameLemmas

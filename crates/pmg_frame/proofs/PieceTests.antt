@@ -14,7 +14,7 @@ use Rattle.pmg_commit.specs.Knowledge.{Contribution}
 use Rattle.pmg_commit.specs.Pieces.{entry_size, body_size, is_small, is_numbered, is_key_rising, is_piece}
 use Rattle.pmg_frame.specs.Grammar.{Follows, IsPiece, AreEntries, ArePieces}
 use Rattle.pmg_value.specs.Names.{is_nspace}
-use Rattle.pmg_frame.specs.Reading.{read_piece}
+use Rattle.pmg_frame.specs.PieceReading.{read_piece}
 use Rattle.pmg_frame.specs.Spelling.{entry_spelling, piece_body}
 use Rattle.pmg_frame.proofs.PieceLaws.{length_5, piece_if}
 
@@ -85,7 +85,7 @@ follows from to (e ∷ es) rises within are =
     let one : Follows from to None e = record { key = are.0.key; order = refl; above = ltb-true _ _ range.0; within = leb-true _ _ range.1; value = are.0.value; is = are.0.is; bytes = are.0.bytes } in
     (one, follows_behind from to e es rises number.1 are.1)
 
-piece_says : (c : Contribution) → IsTrue (is_nspace c.proc.nspace) → AreEntries c.entries → IsTrue (is_piece c) → IsPiece c × (length (piece_body c) ≤ 16777216)
+pub piece_says : (c : Contribution) → IsTrue (is_nspace c.proc.nspace) → AreEntries c.entries → IsTrue (is_piece c) → IsPiece c × (length (piece_body c) ≤ 16777216)
 unfolding is_piece
 piece_says c name are h =
     let numbered = and_parts _ _ h in

@@ -13,7 +13,8 @@ use Rattle.pmg_commit.specs.Entries.{Entry}
 use Rattle.pmg_commit.specs.Knowledge.{Contribution}
 use Rattle.pmg_frame.specs.FenceOrder.{name_cmp, name_total}
 use Rattle.pmg_frame.specs.Fences.{Header, FenceAsk}
-use Rattle.pmg_frame.specs.Sameness.{is_same_entry, is_same_piece, is_same_header, is_same_fence_ask}
+use Rattle.pmg_frame.specs.Refreshing.{RefreshReply}
+use Rattle.pmg_frame.specs.Sameness.{is_same_entry, is_same_piece, is_same_header, is_same_fence_ask, is_same_refresh_reply}
 use Rattle.pmg_frame.specs.contracts.local.LocalPartialEq.TheImpl as local_tests
 use Rattle.pmg_frame.specs.contracts.local.StatePartialEq.TheImpl as state_tests
 use Rattle.pmg_frame.specs.declared.local.Local.{Local}
@@ -88,3 +89,13 @@ same_fence_asks a b =
     ap (λ (n : ℕ). record { node = n; name = a.name }) h.0 ∙ ap (λ (n : FenceName). record { node = b.node; name = n }) h.1 in
     Decides-like _ forth (λ x. (ap (λ (z : FenceAsk). z.node) x, ap (λ (z : FenceAsk). z.name) x))
     (Decides-and (a.node == b.node) (eq_by_cmp name_cmp a.name b.name) (Decides-eqb a.node b.node) (same_names a.name b.name))
+
+pub same_refresh_replies : (r s : RefreshReply) → Decides (is_same_refresh_reply r s) (r ≡ s)
+same_refresh_replies r s =
+    let forth : (r.node ≡ s.node) × ((r.request ≡ s.request) × (r.told ≡ s.told)) → r ≡ s = λ h.
+    ap (λ (n : ℕ). record { node = n; request = r.request; told = r.told }) h.0
+    ∙ ap (λ (n : ℕ). record { node = s.node; request = n; told = r.told }) h.1.0
+    ∙ ap (λ (c : Contribution). record { node = s.node; request = s.request; told = c }) h.1.1 in
+    Decides-like _ forth (λ e. (ap (λ (x : RefreshReply). x.node) e, (ap (λ (x : RefreshReply). x.request) e, ap (λ (x : RefreshReply). x.told) e)))
+    (Decides-and (r.node == s.node) (r.request == s.request && is_same_piece r.told s.told) (Decides-eqb r.node s.node)
+    (Decides-and (r.request == s.request) (is_same_piece r.told s.told) (Decides-eqb r.request s.request) (same_pieces r.told s.told)))

@@ -1,5 +1,5 @@
 -- The grammar of frames: what stands between two places.
-use Rattle.std.specs.Prelude.{◌≡◌, ◌↔◌, ℕ, ◌<◌, ◌≤◌, List, [], ◌∷◌, ◌++◌, length, Option, Some, None, Ok, IsTrue}
+use Rattle.std.specs.Prelude.{◌≡◌, ◌↔◌, ℕ, ◌<◌, ◌≤◌, Bool, true, false, List, [], ◌∷◌, ◌++◌, length, Option, Some, None, Ok, IsTrue}
 use Rattle.std.specs.FinSet as set
 use Rattle.std.specs.Option.{option_map}
 use Rattle.pmg_value.specs.declared.value.Value.{Value}
@@ -21,8 +21,10 @@ use Rattle.pmg_frame.specs.FenceReading.{is_greater}
 use Rattle.pmg_frame.specs.declared.local.Local.{Local}
 use Rattle.pmg_frame.specs.declared.frame.Frame.{Frame}
 use Rattle.pmg_frame.specs.declared.frame.Frame.TheVariants as frames
-use Rattle.pmg_frame.specs.Reading.{is_after, read_frame}
-use Rattle.pmg_frame.specs.Spelling.{piece_body, kind_of, body_spelling, frame_spelling}
+use Rattle.pmg_frame.specs.PieceReading.{is_after, is_range}
+use Rattle.pmg_frame.specs.Reading.{read_frame}
+use Rattle.pmg_frame.specs.Refreshing.{RefreshAsk, RefreshReply, is_request, is_refresh_reply}
+use Rattle.pmg_frame.specs.Spelling.{piece_body, refresh_reply_body, body_spelling, frame_spelling}
 
 -- An entry of a piece of the commits from+1 to to: of a greater key than the entry before, of one of these
 -- commits, and with the canonical bytes of a value.
@@ -83,6 +85,25 @@ pub record IsCommitAsk (a : CommitAsk) : Type 0 where
   pub admitted : IsTrue (is_admitted admits.ClientsAndHost a.proc)
   pub level : IsTrue (is_level a.level)
 
+-- what a refresh ask says keeps its rules
+pub record IsRefreshAsk (a : RefreshAsk) : Type 0 where
+  pub request : IsTrue (is_request a.request)
+  pub ask : IsCommitAsk a.ask
+
+-- what is told of some commits of a process, or of none, where that may be, keeps its rules
+pub record IsTold (none : Bool) (c : Contribution) : Type 0 where
+  pub name : IsTrue (is_nspace c.proc.nspace)
+  pub admitted : IsTrue (is_admitted admits.ClientsAndHost c.proc)
+  pub range : IsTrue (is_range none c.from c.to)
+  pub count : length c.entries ≤ 65536
+  pub entries : Chain (Follows c.from c.to) None c.entries
+
+-- what a refresh reply says keeps its rules
+pub record IsRefreshReply (r : RefreshReply) : Type 0 where
+  pub node : r.node ≤ 63
+  pub request : IsTrue (is_request r.request)
+  pub told : IsTold true r.told
+
 -- what a frame says keeps the rules of its kind
 abbrev pub IsFrame : Frame → Type 0
 IsFrame (frames.Piece c) = IsPiece c
@@ -90,6 +111,8 @@ IsFrame (frames.Header h) = IsHeader h
 IsFrame (frames.FenceAsk a) = IsFenceAsk a
 IsFrame (frames.RangeAsk a) = IsCommitAsk a
 IsFrame (frames.DirectAsk a) = IsCommitAsk a
+IsFrame (frames.RefreshAsk a) = IsRefreshAsk a
+IsFrame (frames.RefreshReply r) = IsRefreshReply r
 
 -- a frame, spelled
 pub record SpellsFrame (at : Place) (frame : Frame) (after : Place) : Type 0 where
@@ -135,6 +158,21 @@ ArePieces = (c : Contribution) → IsTrue (is_nspace c.proc.nspace) → AreEntri
 abbrev pub AreHeaders : Type 0
 AreHeaders = (h : Header) → h.node ≤ 63 → IsName h.name → IsTrue (is_header h) ↔ IsHeader h
 
+-- Of replies to a node with names, keys and values, those that `RefreshReply::new` makes are those that a frame can say.
+abbrev pub AreReplies : Type 0
+AreReplies = (r : RefreshReply) → r.node ≤ 63 → IsTrue (is_nspace r.told.proc.nspace) → AreEntries r.told.entries
+    → IsTrue (is_refresh_reply r) ↔ (IsRefreshReply r × (length (refresh_reply_body r) ≤ 16777216))
+
+-- the frame has entries, which may be too many for a body
+abbrev pub has_entries : Frame → Bool
+has_entries (frames.Piece c) = true
+has_entries (frames.Header h) = false
+has_entries (frames.FenceAsk a) = false
+has_entries (frames.RangeAsk a) = false
+has_entries (frames.DirectAsk a) = false
+has_entries (frames.RefreshAsk a) = false
+has_entries (frames.RefreshReply r) = true
+
 -- each header, and each ask, fits into a frame
 abbrev pub AreFitting : Type 0
-AreFitting = (frame : Frame) → IsFrame frame → 1 < kind_of frame → length (body_spelling frame) ≤ 16777216
+AreFitting = (frame : Frame) → IsFrame frame → has_entries frame ≡ false → length (body_spelling frame) ≤ 16777216

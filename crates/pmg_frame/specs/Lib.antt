@@ -3,7 +3,10 @@ pub mod FenceReading
 pub mod Fences
 pub mod Frames
 pub mod Grammar
+pub mod PieceReading
 pub mod Reading
+pub mod RefreshReading
+pub mod Refreshing
 pub mod Sameness
 pub mod Spelling
 pub mod Streams

@@ -1,47 +1,15 @@
 -- How frames are read: the fields in order from the left, and the first fault.
-use Rattle.std.specs.Prelude.{ℕ, ◌==◌, Bool, true, ◌&&◌, nat_lt, nat_le, List, length, Option, Some, None, Result, Ok, if◌then◌else◌}
-use Rattle.std.specs.Ordering.{nat_cmp, is_lt}
-use Rattle.std.specs.Cmp.Lexicographic.{slice_cmp}
-use Rattle.std.specs.Int.{w32, w64}
+use Rattle.std.specs.Prelude.{ℕ, ◌==◌, ◌&&◌, nat_lt, nat_le, length, Option, Some, None, Result, Ok, if◌then◌else◌}
+use Rattle.std.specs.Int.{w32}
 use Rattle.pmg_value.specs.declared.refusal.Cause.TheVariants as causes
 use Rattle.pmg_value.specs.declared.refusal.Fault.{Fault}
-use Rattle.pmg_value.specs.Spelling.{spelling}
-use Rattle.pmg_wire.specs.declared.fields.Admits.TheVariants as admits
-use Rattle.pmg_wire.specs.Fields.{read_key, read_proc, read_value, made}
-use Rattle.pmg_wire.specs.Many.{many}
+use Rattle.pmg_wire.specs.Fields.{made}
 use Rattle.pmg_wire.specs.Reading.{Place, past, front, Read, fault, ◌>>=◌, check, byte_at, number_at}
-use Rattle.pmg_commit.specs.Entries.{Entry}
-use Rattle.pmg_commit.specs.Knowledge.{Contribution}
 use Rattle.pmg_frame.specs.FenceReading.{read_header, read_fence_ask, read_commit_ask}
+use Rattle.pmg_frame.specs.PieceReading.{read_piece}
+use Rattle.pmg_frame.specs.RefreshReading.{read_refresh}
 use Rattle.pmg_frame.specs.declared.frame.Frame.{Frame}
 use Rattle.pmg_frame.specs.declared.frame.Frame.TheVariants as frames
-
--- the key of an entry is greater than that of the entry before, where there is one
-abbrev pub is_after : Option Entry → List ℕ → Bool
-is_after None key = true
-is_after (Some before) key = is_lt (slice_cmp nat_cmp before.key key)
-
--- an entry of a piece of the commits from+1 to to, after another entry or none
-unfoldable pub read_entry : ℕ → ℕ → Option Entry → Place → Read Entry
-read_entry from to before at = do
-  key ← read_key at
-  _ ← check (is_after before key.0) (fault at.offset causes.Order)
-  number ← number_at w64 key.1
-  _ ← check (nat_lt from number.0 && nat_le number.0 to) (fault key.1.offset causes.Number)
-  value ← read_value number.1
-  Ok (record { key = key.0; number = number.0; bytes = spelling value.0 }, value.1)
-
--- the body of a piece
-unfoldable pub read_piece : Place → Read Contribution
-read_piece at = do
-  proc ← read_proc admits.ClientsAndHost at
-  from ← number_at w64 proc.1
-  to ← number_at w64 from.1
-  _ ← check (nat_lt from.0 to.0 && nat_le to.0 4294967295) (fault proc.1.offset causes.Range)
-  count ← number_at w32 to.1
-  _ ← check (nat_le count.0 65536) (fault to.1.offset causes.Count)
-  entries ← many (read_entry from.0 to.0) count.0 None count.1
-  Ok (record { proc = proc.0; from = from.0; to = to.0; entries = entries.0 }, entries.1)
 
 -- the fields of a body of that kind
 unfoldable pub read_fields : ℕ → Place → Read Frame
@@ -50,7 +18,8 @@ read_fields kind at =
     else if kind == 2 then made frames.Header (read_header at)
     else if kind == 3 then made frames.FenceAsk (read_fence_ask at)
     else if kind == 4 then made frames.RangeAsk (read_commit_ask at)
-    else made frames.DirectAsk (read_commit_ask at)
+    else if kind == 5 then made frames.DirectAsk (read_commit_ask at)
+    else read_refresh at
 
 -- a body: its fields, and nothing after them
 unfoldable pub read_frame_body : ℕ → Place → Result Frame Fault
@@ -65,7 +34,7 @@ read_head at = do
   version ← byte_at at
   _ ← check (version.0 == 1) (fault at.offset causes.Version)
   kind ← byte_at version.1
-  _ ← check (nat_lt 0 kind.0 && nat_lt kind.0 6) (fault version.1.offset causes.Kind)
+  _ ← check (nat_lt 0 kind.0 && nat_lt kind.0 7) (fault version.1.offset causes.Kind)
   len ← number_at w32 kind.1
   _ ← check (nat_le len.0 16777216) (fault kind.1.offset causes.Length)
   Ok ((kind.0, len.0), len.1)

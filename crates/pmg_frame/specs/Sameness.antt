@@ -7,6 +7,7 @@ use Rattle.pmg_commit.specs.Entries.{Entry}
 use Rattle.pmg_commit.specs.Knowledge.{Contribution}
 use Rattle.pmg_frame.specs.FenceOrder.{name_cmp}
 use Rattle.pmg_frame.specs.Fences.{Header, FenceAsk, CommitAsk}
+use Rattle.pmg_frame.specs.Refreshing.{RefreshAsk, RefreshReply}
 use Rattle.pmg_frame.specs.contracts.local.LocalPartialEq.TheImpl as local_tests
 
 -- the entries are one
@@ -28,3 +29,11 @@ is_same_fence_ask a b = a.node == b.node && eq_by_cmp name_cmp a.name b.name
 -- the asks for commits are one
 abbrev pub is_same_commit_ask : CommitAsk → CommitAsk → Bool
 is_same_commit_ask a b = a.node == b.node && (is_same_proc a.proc b.proc && (a.level == b.level))
+
+-- the refresh asks are one
+abbrev pub is_same_refresh_ask : RefreshAsk → RefreshAsk → Bool
+is_same_refresh_ask a b = a.request == b.request && is_same_commit_ask a.ask b.ask
+
+-- the replies are one
+abbrev pub is_same_refresh_reply : RefreshReply → RefreshReply → Bool
+is_same_refresh_reply r s = r.node == s.node && (r.request == s.request && is_same_piece r.told s.told)

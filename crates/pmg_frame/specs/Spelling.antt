@@ -1,5 +1,5 @@
 -- How frames are written: each has one spelling.
-use Rattle.std.specs.Prelude.{ℕ, Bool, if◌then◌else◌, List, [], ◌∷◌, ◌++◌, length}
+use Rattle.std.specs.Prelude.{ℕ, Bool, true, false, if◌then◌else◌, List, [], ◌∷◌, ◌++◌, length}
 use Rattle.std.specs.List.{flat_map}
 use Rattle.std.specs.Int.{w32, w64, to_be_bytes}
 use Rattle.pmg_value.specs.declared.process.Proc.{Proc}
@@ -8,6 +8,7 @@ use Rattle.pmg_commit.specs.Entries.{Entry}
 use Rattle.pmg_commit.specs.Knowledge.{Contribution}
 use Rattle.pmg_value.specs.Signatures.{FenceName}
 use Rattle.pmg_frame.specs.Fences.{participants_of, is_gone, Header, FenceAsk, CommitAsk}
+use Rattle.pmg_frame.specs.Refreshing.{RefreshAsk, RefreshReply}
 use Rattle.pmg_frame.specs.declared.local.Local.{Local}
 use Rattle.pmg_frame.specs.declared.frame.Frame.{Frame}
 use Rattle.pmg_frame.specs.declared.frame.Frame.TheVariants as frames
@@ -48,6 +49,18 @@ fence_ask_body a = to_be_bytes w32 a.node ++ name_spelling a.name
 abbrev pub commit_ask_body : CommitAsk → List ℕ
 commit_ask_body a = to_be_bytes w32 a.node ++ (proc_spelling a.proc ++ to_be_bytes w64 a.level)
 
+-- what begins the body of a refresh ask and of a reply: the node, the number of its request, and whether this is the reply
+abbrev pub asker_spelling : ℕ → ℕ → Bool → List ℕ
+asker_spelling node request role = to_be_bytes w32 node ++ (to_be_bytes w64 request ++ flag_spelling role)
+
+-- the body of a refresh ask: who asks, the process, and the level
+abbrev pub refresh_ask_body : RefreshAsk → List ℕ
+refresh_ask_body a = asker_spelling a.ask.node a.request false ++ (proc_spelling a.ask.proc ++ to_be_bytes w64 a.ask.level)
+
+-- the body of a reply: who asked, and then as the body of a piece
+abbrev pub refresh_reply_body : RefreshReply → List ℕ
+refresh_reply_body r = asker_spelling r.node r.request true ++ piece_body r.told
+
 -- the number of a frame's kind
 abbrev pub kind_of : Frame → ℕ
 kind_of (frames.Piece c) = 1
@@ -55,6 +68,8 @@ kind_of (frames.Header h) = 2
 kind_of (frames.FenceAsk a) = 3
 kind_of (frames.RangeAsk a) = 4
 kind_of (frames.DirectAsk a) = 5
+kind_of (frames.RefreshAsk a) = 6
+kind_of (frames.RefreshReply r) = 6
 
 -- a frame's body
 abbrev pub body_spelling : Frame → List ℕ
@@ -63,6 +78,8 @@ body_spelling (frames.Header h) = header_body h
 body_spelling (frames.FenceAsk a) = fence_ask_body a
 body_spelling (frames.RangeAsk a) = commit_ask_body a
 body_spelling (frames.DirectAsk a) = commit_ask_body a
+body_spelling (frames.RefreshAsk a) = refresh_ask_body a
+body_spelling (frames.RefreshReply r) = refresh_reply_body r
 
 -- a frame's head: the version, the kind, and the length of the body
 abbrev pub head_spelling : ℕ → ℕ → List ℕ

@@ -62,7 +62,7 @@ impl Model for CommitAsk {
 }
 
 /// Whether a frame can ask for commits of the process after that one.
-fn can_be_asked(proc: &Proc, level: u64) -> bool
+pub fn can_be_asked(proc: &Proc, level: u64) -> bool
     ensures { result ≡ is_ask (commit_ask 0 proc.now level) }
 {
     proc.can_commit() && level <= MAX_COMMIT

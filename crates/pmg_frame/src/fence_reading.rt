@@ -84,7 +84,7 @@ fn get_name(alloc: Global, at: &mut Cursor<'_>) -> Result<FenceName, Refusal>
 }
 
 #[tactic(auto, unfolding(crate::specs::FenceReading::read_node))]
-fn get_node(at: &mut Cursor<'_>) -> Result<NodeId, Refusal>
+pub fn get_node(at: &mut Cursor<'_>) -> Result<NodeId, Refusal>
     ensures { Reads (λ n. n) result at.new (read_node at.old) }
 {
     let start = at.offset();
@@ -96,7 +96,7 @@ fn get_node(at: &mut Cursor<'_>) -> Result<NodeId, Refusal>
 }
 
 #[tactic(auto, unfolding(crate::specs::FenceReading::read_level))]
-fn get_level(at: &mut Cursor<'_>) -> Result<u64, Refusal>
+pub fn get_level(at: &mut Cursor<'_>) -> Result<u64, Refusal>
     ensures { Reads (λ n. n) result at.new (read_level at.old) }
 {
     let start = at.offset();

@@ -5,8 +5,15 @@ ghost use Rattle.pmg_frame.specs.Spelling.{body_spelling, frame_spelling};
 
 use crate::asks::{CommitAsk, FenceAsk};
 use crate::header::Header;
-use crate::same::{is_same_commit_ask, is_same_fence_ask, is_same_header, is_same_piece};
-use crate::writing::{encode_commit_ask, encode_fence_ask, encode_header, encode_piece};
+use crate::refreshes::{RefreshAsk, RefreshReply};
+use crate::same::{
+    is_same_commit_ask, is_same_fence_ask, is_same_header, is_same_piece, is_same_refresh_ask,
+    is_same_refresh_reply,
+};
+use crate::writing::{
+    encode_commit_ask, encode_fence_ask, encode_header, encode_piece, encode_refresh_ask,
+    encode_refresh_reply,
+};
 use bytes::BytesMut;
 use pmg_commit::Piece;
 use std::alloc::{AllocError, Global};
@@ -30,6 +37,10 @@ pub enum Frame {
     RangeAsk(CommitAsk),
     /// A node asks for a process's commits after those that it knows, once there are any.
     DirectAsk(CommitAsk),
+    /// A node asks for a process's commits after those that it knows, under a number.
+    RefreshAsk(RefreshAsk),
+    /// The commits, or that there are none, under that number.
+    RefreshReply(RefreshReply),
 }
 
 impl Frame {
@@ -47,6 +58,8 @@ impl Frame {
             Frame::FenceAsk(ask) => encode_fence_ask(alloc, ask),
             Frame::RangeAsk(ask) => encode_commit_ask(alloc, 4, ask),
             Frame::DirectAsk(ask) => encode_commit_ask(alloc, 5, ask),
+            Frame::RefreshAsk(ask) => encode_refresh_ask(alloc, ask),
+            Frame::RefreshReply(reply) => encode_refresh_reply(alloc, reply),
         }
     }
 
@@ -60,6 +73,8 @@ impl Frame {
             Frame::FenceAsk(ask) => Frame::FenceAsk(ask.copy()?),
             Frame::RangeAsk(ask) => Frame::RangeAsk(ask.copy()?),
             Frame::DirectAsk(ask) => Frame::DirectAsk(ask.copy()?),
+            Frame::RefreshAsk(ask) => Frame::RefreshAsk(ask.copy()?),
+            Frame::RefreshReply(reply) => Frame::RefreshReply(reply.copy()?),
         })
     }
 
@@ -86,6 +101,14 @@ impl Frame {
             },
             Frame::DirectAsk(ask) => match other {
                 Frame::DirectAsk(other) => is_same_commit_ask(ask, other),
+                _ => false,
+            },
+            Frame::RefreshAsk(ask) => match other {
+                Frame::RefreshAsk(other) => is_same_refresh_ask(ask, other),
+                _ => false,
+            },
+            Frame::RefreshReply(reply) => match other {
+                Frame::RefreshReply(other) => is_same_refresh_reply(reply, other),
                 _ => false,
             },
         }

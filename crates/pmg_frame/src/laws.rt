@@ -1,9 +1,9 @@
 ghost use Rattle.pmg_frame.specs.FenceOrder.{AreSignaturesExact, AreNamesExact};
-ghost use Rattle.pmg_frame.specs.Grammar.{IsFound, IsOnly, IsOneSpelling, ArePieces, AreHeaders, AreFitting};
+ghost use Rattle.pmg_frame.specs.Grammar.{IsFound, IsOnly, IsOneSpelling, ArePieces, AreHeaders, AreReplies, AreFitting};
 ghost use Rattle.pmg_frame.specs.Streams.{Joins, StaysClosed, IsDetermined, AreSpelled, AreFound, IsSaid};
 
 /// The laws of frames: what is read as a frame is spelled so; what is spelled so is read; and no frame's
-/// spelling begins another's, so each frame has one. What a piece or a header can hold is what a frame can say,
+/// spelling begins another's, so each frame has one. What a piece, a header or a reply can hold is what a frame can say,
 /// and headers and asks fit into a frame.
 pub fn frame_rules()
     ensures found { IsFound }
@@ -11,6 +11,7 @@ pub fn frame_rules()
     ensures one_spelling { IsOneSpelling }
     ensures pieces { ArePieces }
     ensures headers { AreHeaders }
+    ensures replies { AreReplies }
     ensures fitting { AreFitting }
 {}
 

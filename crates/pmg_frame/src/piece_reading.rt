@@ -3,7 +3,7 @@ ghost use Rattle.std.specs.Option.{option_map};
 ghost use Rattle.pmg_wire.specs.Many.{many};
 ghost use Rattle.pmg_wire.specs.Reading.{Reads};
 ghost use Rattle.pmg_commit.specs.Pieces.{entry_of, contribution};
-ghost use Rattle.pmg_frame.specs.Reading.{is_after, read_entry, read_piece};
+ghost use Rattle.pmg_frame.specs.PieceReading.{is_after, read_entry, is_range, read_range, read_told, read_piece};
 
 use pmg_commit::{MAX_COMMIT, MAX_ENTRIES, Piece, PieceEntry};
 use pmg_value::{Cause, Key, Proc, Refusal};
@@ -20,7 +20,7 @@ fn is_key_after(before: Option<&PieceEntry>, key: &Key) -> bool
     }
 }
 
-#[tactic(auto, unfolding(crate::specs::Reading::read_entry))]
+#[tactic(auto, unfolding(crate::specs::PieceReading::read_entry))]
 fn get_entry(
     alloc: Global,
     from: u64,
@@ -61,21 +61,38 @@ fn get_entries(
     Ok(entries)
 }
 
-// The fields of a piece: the process, the last commit before it and its last one, and the entries.
-#[tactic(auto, unfolding(crate::specs::Reading::read_piece))]
-fn get_piece_fields(
-    alloc: Global,
-    at: &mut Cursor<'_>,
-) -> Result<(Proc, u64, u64, Vec<PieceEntry>), Refusal>
-    ensures { Reads (λ t. contribution t.0 t.1 t.2 t.3.items) result at.new (read_piece at.old) }
+// Whether these are the commits after one up to another, of which there is one at least, unless there may be none.
+fn is_range(none: bool, from: u64, to: u64) -> bool
+    ensures { result ≡ is_range none from to }
 {
-    let process = get_proc(alloc, Admits::ClientsAndHost, at)?;
+    (from < to || (none && from == to)) && to <= MAX_COMMIT
+}
+
+#[tactic(auto, unfolding(crate::specs::PieceReading::read_range))]
+fn get_range(none: bool, at: &mut Cursor<'_>) -> Result<(u64, u64), Refusal>
+    ensures { Reads (λ r. (r.0, r.1)) result at.new (read_range none at.old) }
+{
     let range_at = at.offset();
     let from = at.get_u64()?;
     let to = at.get_u64()?;
-    if to <= from || MAX_COMMIT < to {
+    if !is_range(none, from, to) {
         return Err(Refusal::bad_frame(range_at, Cause::Range));
     }
+    Ok((from, to))
+}
+
+/// What is told of some commits, or of none where that may be: the process, the last commit before them and their last one, and
+/// the entries.
+#[tactic(auto, unfolding(crate::specs::PieceReading::read_told))]
+pub fn get_told(
+    alloc: Global,
+    none: bool,
+    at: &mut Cursor<'_>,
+) -> Result<(Proc, u64, u64, Vec<PieceEntry>), Refusal>
+    ensures { Reads (λ t. contribution t.0 t.1 t.2 t.3.items) result at.new (read_told none at.old) }
+{
+    let process = get_proc(alloc, Admits::ClientsAndHost, at)?;
+    let (from, to) = get_range(none, at)?;
     let count_at = at.offset();
     let count = at.get_u32()?;
     if count as usize > MAX_ENTRIES {
@@ -92,6 +109,6 @@ pub fn get_piece(alloc: Global, at: &mut Cursor<'_>) -> Result<Piece, Refusal>
 {
     // No effect at run time: the proof reads here that what is left are bytes.
     let _start = at.offset();
-    let (process, from, to, entries) = get_piece_fields(alloc, at)?;
+    let (process, from, to, entries) = get_told(alloc, false, at)?;
     Ok(Piece::from_checked(process, from, to, entries))
 }

@@ -6,12 +6,13 @@ ghost use Rattle.pmg_frame.specs.Frames.{ReadsFrame};
 use crate::fence_reading::{get_commit_ask, get_fence_ask, get_header};
 use crate::frame::{Frame, HEAD_SIZE, MAX_BODY_SIZE};
 use crate::piece_reading::get_piece;
+use crate::refresh_reading::get_refresh;
 use pmg_value::{Cause, Refusal};
 use pmg_wire::Cursor;
 use std::alloc::Global;
 
 /// The greatest number of a kind: kinds are counted from 1.
-const MAX_KIND: u8 = 5;
+const MAX_KIND: u8 = 6;
 
 // The fields of a body of that kind.
 #[tactic(auto, unfolding(crate::specs::Reading::read_fields))]
@@ -24,7 +25,8 @@ fn get_fields(alloc: Global, kind: u8, at: &mut Cursor<'_>) -> Result<Frame, Ref
         2 => Ok(Frame::Header(get_header(alloc, at)?)),
         3 => Ok(Frame::FenceAsk(get_fence_ask(alloc, at)?)),
         4 => Ok(Frame::RangeAsk(get_commit_ask(alloc, at)?)),
-        _ => Ok(Frame::DirectAsk(get_commit_ask(alloc, at)?)),
+        5 => Ok(Frame::DirectAsk(get_commit_ask(alloc, at)?)),
+        _ => get_refresh(alloc, at),
     }
 }
 

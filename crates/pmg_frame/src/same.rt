@@ -2,10 +2,11 @@
 ghost use Rattle.std.specs.Prelude.{◌≡◌, map};
 ghost use Rattle.std.specs.Cmp.Lexicographic.{pointwise};
 ghost use Rattle.pmg_commit.specs.Pieces.{entry_of};
-ghost use Rattle.pmg_frame.specs.Sameness.{is_same_entry, is_same_piece, is_same_header, is_same_fence_ask, is_same_commit_ask};
+ghost use Rattle.pmg_frame.specs.Sameness.{is_same_entry, is_same_piece, is_same_header, is_same_fence_ask, is_same_commit_ask, is_same_refresh_ask, is_same_refresh_reply};
 
 use crate::asks::{CommitAsk, FenceAsk};
 use crate::header::Header;
+use crate::refreshes::{RefreshAsk, RefreshReply};
 use pmg_commit::{Piece, PieceEntry};
 
 /// Whether the entries are one.
@@ -61,4 +62,28 @@ pub fn is_same_commit_ask(ask: &CommitAsk, other: &CommitAsk) -> bool
     ensures { result ≡ is_same_commit_ask ask.now other.now }
 {
     ask.node() == other.node() && *ask.proc() == *other.proc() && ask.level() == other.level()
+}
+
+/// Whether the asks are one.
+pub fn is_same_refresh_ask(ask: &RefreshAsk, other: &RefreshAsk) -> bool
+    ensures { result ≡ is_same_refresh_ask ask.now other.now }
+{
+    ask.request() == other.request() && is_same_commit_ask(ask.ask(), other.ask())
+}
+
+/// Whether the replies are one.
+pub fn is_same_refresh_reply(reply: &RefreshReply, other: &RefreshReply) -> bool
+    ensures { result ≡ is_same_refresh_reply reply.now other.now }
+{
+    reply.node() == other.node() && reply.request() == other.request() && is_same_told(reply, other)
+}
+
+/// Whether what the replies tell is one.
+fn is_same_told(reply: &RefreshReply, other: &RefreshReply) -> bool
+    ensures { result ≡ is_same_piece reply.now.told other.now.told }
+{
+    *reply.proc() == *other.proc()
+        && reply.from() == other.from()
+        && reply.to() == other.to()
+        && are_same_entries(reply.entries(), other.entries())
 }

@@ -4,17 +4,19 @@ ghost use Rattle.std.specs.Int.{w32, to_be_bytes};
 ghost use Rattle.std.specs.List.{flat_map, list_all};
 ghost use Rattle.pmg_value.specs.Names.{is_nspace};
 ghost use Rattle.pmg_wire.specs.Spelling.{proc_spelling};
-ghost use Rattle.pmg_commit.specs.Pieces.{entry_of};
+ghost use Rattle.pmg_commit.specs.Pieces.{entry_of, contribution};
 ghost use Rattle.pmg_frame.specs.declared.frame.Frame.TheVariants as frames;
 ghost use Rattle.pmg_frame.specs.Fences.{is_gone};
-ghost use Rattle.pmg_frame.specs.Grammar.{IsEntry, AreEntries, IsName, IsHeader, IsFenceAsk, IsCommitAsk, IsFrame};
-ghost use Rattle.pmg_frame.specs.Spelling.{entry_spelling, piece_body, head_spelling, frame_spelling, flag_spelling, procs_spelling, name_spelling, local_spelling, header_body, fence_ask_body, commit_ask_body};
+ghost use Rattle.pmg_frame.specs.Grammar.{IsEntry, AreEntries, IsName, IsHeader, IsFenceAsk, IsCommitAsk, IsRefreshAsk, IsRefreshReply, IsFrame};
+ghost use Rattle.pmg_frame.specs.Refreshing.{is_request};
+ghost use Rattle.pmg_frame.specs.Spelling.{entry_spelling, piece_body, head_spelling, frame_spelling, flag_spelling, procs_spelling, name_spelling, local_spelling, header_body, fence_ask_body, commit_ask_body, asker_spelling, refresh_ask_body, refresh_reply_body};
 
 use crate::asks::{CommitAsk, FenceAsk};
 use crate::fence_name::FenceName;
 use crate::frame::HEAD_SIZE;
 use crate::header::Header;
 use crate::local::{Local, State};
+use crate::refreshes::{RefreshAsk, RefreshReply};
 use bytes::BytesMut;
 use pmg_commit::{Piece, PieceEntry};
 use pmg_value::{NodeId, Proc};
@@ -36,20 +38,33 @@ pub fn encode_piece(alloc: Global, piece: &Piece) -> Result<BytesMut, AllocError
     let size = piece.size();
     let mut out = BytesMut::with_capacity(alloc, HEAD_SIZE + size)?;
     put_head(&mut out, 1, size as u32)?;
-    put_piece(&mut out, piece)?;
+    put_told(
+        &mut out,
+        piece.proc(),
+        piece.from(),
+        piece.to(),
+        piece.entries(),
+    )?;
     Ok(out)
 }
 
-fn put_piece(out: &mut BytesMut, piece: &Piece) -> Result<(), AllocError>
-    ensures bytes { OnOk result (out.new.items ≡ out.old.items ++ piece_body piece.now) }
-    ensures name { OnOk result (IsTrue (is_nspace piece.now.proc.nspace)) }
-    ensures entries { OnOk result (AreEntries piece.now.entries) }
+fn put_told(
+    out: &mut BytesMut,
+    proc: &Proc,
+    from: u64,
+    to: u64,
+    entries: &[PieceEntry],
+) -> Result<(), AllocError>
+    requires { length entries.now ≤ 65536 }
+    ensures bytes { OnOk result (out.new.items ≡ out.old.items ++ piece_body (contribution proc.now from to entries.now)) }
+    ensures name { OnOk result (IsTrue (is_nspace proc.now.nspace)) }
+    ensures entries { OnOk result (AreEntries (map entry_of entries.now)) }
 {
-    put_proc(out, piece.proc())?;
-    out.extend_from_slice(&piece.from().to_be_bytes())?;
-    out.extend_from_slice(&piece.to().to_be_bytes())?;
-    out.extend_from_slice(&(piece.count() as u32).to_be_bytes())?;
-    put_entries(out, piece.entries())
+    put_proc(out, proc)?;
+    out.extend_from_slice(&from.to_be_bytes())?;
+    out.extend_from_slice(&to.to_be_bytes())?;
+    out.extend_from_slice(&(entries.len() as u32).to_be_bytes())?;
+    put_entries(out, entries)
 }
 
 fn put_entries(out: &mut BytesMut, entries: &[PieceEntry]) -> Result<(), AllocError>
@@ -232,5 +247,55 @@ pub fn encode_commit_ask(alloc: Global, kind: u8, ask: &CommitAsk) -> Result<Byt
     let mut out = BytesMut::with_capacity(alloc, HEAD_SIZE + size)?;
     put_head(&mut out, kind, size as u32)?;
     put_commit_ask(&mut out, ask)?;
+    Ok(out)
+}
+
+fn put_asker(out: &mut BytesMut, node: NodeId, request: u64, role: bool) -> Result<(), AllocError>
+    ensures bytes { OnOk result (out.new.items ≡ out.old.items ++ asker_spelling node request role) }
+    ensures bound { node ≤ 63 }
+{
+    put_node(out, node)?;
+    out.extend_from_slice(&request.to_be_bytes())?;
+    put_flag(out, role)
+}
+
+fn put_refresh_ask(out: &mut BytesMut, refresh: &RefreshAsk) -> Result<(), AllocError>
+    ensures bytes { OnOk result (out.new.items ≡ out.old.items ++ refresh_ask_body refresh.now) }
+    ensures valid { OnOk result (IsRefreshAsk refresh.now) }
+{
+    let ask = refresh.ask();
+    put_asker(out, ask.node(), refresh.request(), false)?;
+    put_proc(out, ask.proc())?;
+    out.extend_from_slice(&ask.level().to_be_bytes())
+}
+
+pub fn encode_refresh_ask(alloc: Global, refresh: &RefreshAsk) -> Result<BytesMut, AllocError>
+    ensures bytes { IfOk result (λ out. out.items ≡ frame_spelling (frames.RefreshAsk refresh.now)) }
+    ensures valid { OnOk result (IsFrame (frames.RefreshAsk refresh.now)) }
+{
+    let size = proc_size(refresh.ask().proc()) + 21;
+    let mut out = BytesMut::with_capacity(alloc, HEAD_SIZE + size)?;
+    put_head(&mut out, 6, size as u32)?;
+    put_refresh_ask(&mut out, refresh)?;
+    Ok(out)
+}
+
+fn put_refresh_reply(out: &mut BytesMut, reply: &RefreshReply) -> Result<(), AllocError>
+    ensures bytes { OnOk result (out.new.items ≡ out.old.items ++ refresh_reply_body reply.now) }
+    ensures valid { OnOk result (IsRefreshReply reply.now) }
+{
+    put_asker(out, reply.node(), reply.request(), true)?;
+    put_told(out, reply.proc(), reply.from(), reply.to(), reply.entries())
+}
+
+pub fn encode_refresh_reply(alloc: Global, reply: &RefreshReply) -> Result<BytesMut, AllocError>
+    ensures bytes { IfOk result (λ out. out.items ≡ frame_spelling (frames.RefreshReply reply.now)) }
+    ensures valid { OnOk result (IsFrame (frames.RefreshReply reply.now)) }
+    ensures small { OnOk result (length (refresh_reply_body reply.now) ≤ 16777216) }
+{
+    let size = reply.size();
+    let mut out = BytesMut::with_capacity(alloc, HEAD_SIZE + size)?;
+    put_head(&mut out, 6, size as u32)?;
+    put_refresh_reply(&mut out, reply)?;
     Ok(out)
 }

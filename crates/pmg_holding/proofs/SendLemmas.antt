@@ -37,6 +37,8 @@ no_piece m to (frames.Header hd) none = refl
 no_piece m to (frames.FenceAsk a) none = refl
 no_piece m to (frames.RangeAsk a) none = refl
 no_piece m to (frames.DirectAsk a) none = refl
+no_piece m to (frames.RefreshAsk a) none = refl
+no_piece m to (frames.RefreshReply r) none = refl
 
 module _ (m after : Levels) (bs : List MarkBefore) (b : MarkBefore) (x y : ℕ) (was : level_at m b.proc b.node ≡ Some x) (keeps : b.level ≡ x) (is : after ≡ with_level m b.proc b.node y) where
   -- a mark that is set can be set back

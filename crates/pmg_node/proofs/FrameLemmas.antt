@@ -4,17 +4,18 @@ use Rattle.std.proofs.lemmas.Bool.Decides.{nat_tests}
 use Rattle.pmg_value.specs.CheckOrder.{first_of}
 use Rattle.pmg_value.specs.declared.process.Proc.{Proc}
 use Rattle.pmg_frame.specs.Fences.{CommitAsk}
+use Rattle.pmg_frame.specs.Refreshing.{RefreshAsk, RefreshReply}
 use Rattle.pmg_frame.specs.declared.frame.Frame.{Frame}
 use Rattle.pmg_frame.specs.declared.frame.Frame.TheVariants as frames
 use Rattle.pmg_jobinfo.specs.Jobs.{Jobs, home_of}
 use Rattle.pmg_dmodex.specs.Levels.{Levels}
-use Rattle.pmg_rules.specs.Acts.{Act, Reply, done_as, holds_unless, cause, is_known, is_peer, is_taken, receives, does, acts}
+use Rattle.pmg_rules.specs.Acts.{Act, Done, Reply, done_as, holds_unless, cause, is_known, is_peer, is_taken, receives, does, acts}
 use Rattle.pmg_rules.specs.Choosing.{Out, asked_marks, answering, due_by, due_by_frame, marked_by_act, sends, chosen}
 use Rattle.pmg_rules.specs.Holdings.{Holding, sealer_of, holding_ask, settled}
 use Rattle.pmg_rules.specs.Kept.{IsSettled}
-use Rattle.pmg_node.specs.Servers.{Server}
+use Rattle.pmg_node.specs.Servers.{Server, IsNode, after, reply_to, sent_by}
 use Rattle.pmg_rules.proofs.KeptSettled.{settled_same}
-use Rattle.pmg_node.proofs.SilentLemmas.{act_free, sent_as, quiet_silent}
+use Rattle.pmg_node.proofs.SilentLemmas.{act_free, sent_as, quiet_silent, after_is, sent_none}
 
 pub below_is : (m n : ℕ) → m < n → nat_lt m n ≡ true
 below_is m n h = grind (arith, nat_tests)
@@ -97,3 +98,24 @@ module _ (jobs : Jobs) (id : ℕ) (h : Holding) where
     direct_sent marks a e =
         sent_as jobs id h (Act.deliver (frames.DirectAsk a)) marks (done_as Reply.taken (holds_unless (nat_lt a.level (sealer_of h a.proc).level) h a.node a.proc a.level)) (direct_is a e) refl
         ∙ same_out (nat_lt a.level (sealer_of h a.proc).level) (asked_marks marks (Some a)) a.node a.proc a.level
+
+-- refresh asks and their replies are not taken
+pub refresh_ask_ignored : (jobs : Jobs) (id : ℕ) (a : RefreshAsk) → is_taken jobs id (frames.RefreshAsk a) ≡ false
+unfolding is_taken
+refresh_ask_ignored jobs id a = refl
+
+pub refresh_reply_ignored : (jobs : Jobs) (id : ℕ) (r : RefreshReply) → is_taken jobs id (frames.RefreshReply r) ≡ false
+unfolding is_taken
+refresh_reply_ignored jobs id r = refl
+
+-- a frame that is not taken changes nothing, and nothing goes out
+pub record Ignores (s : Server) (frame : Frame) : Type 0 where
+  pub reply : reply_to s (Act.deliver frame) ≡ Reply.ignored
+  pub left : after s (Act.deliver frame) ≡ s
+  pub sent : sent_by s (Act.deliver frame) ≡ []
+
+pub ignores : (s : Server) → IsNode s → (frame : Frame) → is_taken s.jobs s.id frame ≡ false → Ignores s frame
+ignores s kept frame none =
+    let is = ignored_is s.jobs s.id s.holding kept.server.settled frame none in
+    let silent = ignored_silent s.jobs s.id s.holding kept.server.settled s.marks frame none in
+    record { reply = ap (λ (d : Done). d.reply) is; left = after_is s (Act.deliver frame) silent _ is; sent = sent_none s (Act.deliver frame) silent }

@@ -91,6 +91,8 @@ module _ (jobs : Jobs) (id : ℕ) (h : Holding) where
   taken_all (frames.FenceAsk a) = (refl, refl)
   taken_all (frames.RangeAsk a) = (refl, refl)
   taken_all (frames.DirectAsk a) = held_joins a _
+  taken_all (frames.RefreshAsk a) = (refl, refl)
+  taken_all (frames.RefreshReply r) = (refl, refl)
 
   frame_all : (frame : Frame) (b : Bool) → IsAll (Act.deliver frame)
       (done_as (if b then done_as Reply.taken (receives h frame) else done_as Reply.ignored h).reply (settled jobs id (if b then done_as Reply.taken (receives h frame) else done_as Reply.ignored h).left))

@@ -74,6 +74,8 @@ module _ (jobs : Jobs) (id : ℕ) (h : Holding) (has : HasSealers jobs id h) whe
   receive_has (frames.FenceAsk a) = has
   receive_has (frames.RangeAsk a) = has
   receive_has (frames.DirectAsk a) = hold_has (nat_lt a.level (sealer_of h a.proc).level) a.node a.proc a.level
+  receive_has (frames.RefreshAsk a) = has
+  receive_has (frames.RefreshReply r) = has
 
   deliver_has : (frame : Frame) (b : Bool) → Has (if b then done_as Reply.taken (receives h frame) else done_as Reply.ignored h).left
   deliver_has frame true = receive_has frame

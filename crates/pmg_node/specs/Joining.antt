@@ -40,6 +40,8 @@ frame_joins (frames.Header hd) = no_joins
 frame_joins (frames.FenceAsk a) = no_joins
 frame_joins (frames.RangeAsk a) = no_joins
 frame_joins (frames.DirectAsk a) = no_joins
+frame_joins (frames.RefreshAsk a) = no_joins
+frame_joins (frames.RefreshReply r) = no_joins
 
 abbrev pub act_joins : Holding → Act → Holding → Joins
 act_joins old (Act.request r) new = request_joins old r new

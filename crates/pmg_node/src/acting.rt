@@ -150,6 +150,8 @@ fn joined_by(frame: &Frame) -> Result<Joined, AllocError>
         Frame::FenceAsk(_) => None,
         Frame::RangeAsk(_) => None,
         Frame::DirectAsk(_) => None,
+        Frame::RefreshAsk(_) => None,
+        Frame::RefreshReply(_) => None,
     };
     Ok(Joined { near: None, far })
 }

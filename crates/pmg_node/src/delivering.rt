@@ -31,6 +31,8 @@ impl Node {
             Frame::FenceAsk(ask) => self.deliver_fence_ask(ask, out),
             Frame::RangeAsk(ask) => self.deliver_range_ask(ask, out),
             Frame::DirectAsk(ask) => self.deliver_direct_ask(ask, out),
+            Frame::RefreshAsk(_) => Ok(Delivery::Ignored),
+            Frame::RefreshReply(_) => Ok(Delivery::Ignored),
         }
     }
 }

@@ -237,6 +237,8 @@ module _ (jobs : Jobs) (scripts : Scripts) (node : ℕ) (h : Holding) (fits : Fi
   frame_fits (frames.FenceAsk a) taken honest = with_table_fits _ (learn_fits jobs node scripts h.table a.name fits.table)
   frame_fits (frames.RangeAsk a) taken honest = fits
   frame_fits (frames.DirectAsk a) taken honest = held_fits (nat_lt a.level (sealer_of h a.proc).level) a.node a.proc a.level
+  frame_fits (frames.RefreshAsk a) taken honest = fits
+  frame_fits (frames.RefreshReply r) taken honest = fits
 
   deliver_done : (frame : Frame) (b : Bool) → is_taken jobs node frame ≡ b → HonestFrame jobs scripts frame
       → DoneFits (cond b (done_as Reply.taken (receives h frame)) (done_as Reply.ignored h)) None

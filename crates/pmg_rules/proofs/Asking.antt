@@ -117,6 +117,8 @@ module _ (jobs : Jobs) (id : ℕ) (h : Holding) (own : HeldAreOwn jobs id h) whe
   frame_own (frames.FenceAsk a) taken = own
   frame_own (frames.RangeAsk a) taken = own
   frame_own (frames.DirectAsk a) taken = ask_held (nat_lt a.level (sealer_of h a.proc).level) a.node a.proc a.level taken
+  frame_own (frames.RefreshAsk a) taken = own
+  frame_own (frames.RefreshReply r) taken = own
 
   deliver_own : (frame : Frame) (b : Bool) → is_taken jobs id frame ≡ b → HeldAreOwn jobs id (cond b (done_as Reply.taken (receives h frame)) (done_as Reply.ignored h)).left
   deliver_own frame true taken = frame_own frame taken

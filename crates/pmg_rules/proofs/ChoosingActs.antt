@@ -112,6 +112,8 @@ module _ (jobs : Jobs) (are : AreJobs jobs) (id : ℕ) (old : Holding) (holds : 
       answering_fine jobs id new a.node a.proc a.level after (eqb-true (home_of jobs a.proc) id (and_parts _ _ taken).1) (and_parts _ _ (and_parts _ _ taken).0).0 d i
   frame_fine (frames.DirectAsk a) taken new is after d i =
       answering_fine jobs id new a.node a.proc a.level after (eqb-true (home_of jobs a.proc) id (and_parts _ _ taken).1) (and_parts _ _ (and_parts _ _ taken).0).0 d i
+  frame_fine (frames.RefreshAsk a) taken new is after d i = absurd i
+  frame_fine (frames.RefreshReply r) taken new is after d i = absurd i
 
   -- ---- what goes out
 

@@ -370,3 +370,11 @@ module _ (jobs : Jobs) (id : ℕ) (old : Holding) (holds : Holds jobs id old) wh
     where
       not_ask : (ask : FenceAsk) → frames.DirectAsk a ≡ frames.FenceAsk ask → ⊥
       not_ask ask is = cc
+  frame_covers (frames.RefreshAsk a) = idle_frame (frames.RefreshAsk a) _ _ same_stays (λ ask is. not_ask ask is) refl
+    where
+      not_ask : (ask : FenceAsk) → frames.RefreshAsk a ≡ frames.FenceAsk ask → ⊥
+      not_ask ask is = cc
+  frame_covers (frames.RefreshReply r) = idle_frame (frames.RefreshReply r) _ _ same_stays (λ ask is. not_ask ask is) refl
+    where
+      not_ask : (ask : FenceAsk) → frames.RefreshReply r ≡ frames.FenceAsk ask → ⊥
+      not_ask ask is = cc

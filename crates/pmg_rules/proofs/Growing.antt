@@ -99,6 +99,8 @@ module _ (jobs : Jobs) (id : ℕ) (h : Holding) where
   frame_gains (frames.FenceAsk a) = record { near = covers_same h.near; far = covers_same h.far }
   frame_gains (frames.RangeAsk a) = gains_still h
   frame_gains (frames.DirectAsk a) = held_gains (nat_lt a.level (sealer_of h a.proc).level) a.node a.proc a.level
+  frame_gains (frames.RefreshAsk a) = gains_still h
+  frame_gains (frames.RefreshReply r) = gains_still h
 
   deliver_gains : (frame : Frame) (b : Bool) → Gains h (cond b (done_as Reply.taken (receives h frame)) (done_as Reply.ignored h)).left
   deliver_gains frame true = frame_gains frame

@@ -221,6 +221,8 @@ module _ (jobs : Jobs) (id : ℕ) (h : Holding) (holds : Holds jobs id h) where
   receive_holds (frames.RangeAsk a) taken = holds
   receive_holds (frames.DirectAsk a) taken =
       unless_holds (nat_lt a.level (sealer_of h a.proc).level) a.node a.proc a.level refl (eqb-true (home_of jobs a.proc) id (and_parts _ _ taken).1) (and_parts _ _ (and_parts _ _ taken).0).0
+  receive_holds (frames.RefreshAsk a) taken = holds
+  receive_holds (frames.RefreshReply r) taken = holds
 
   deliver_by : (frame : Frame) (b : Bool) → is_taken jobs id frame ≡ b → Holds jobs id (if b then done_as Reply.taken (receives h frame) else done_as Reply.ignored h).left
   deliver_by frame true taken = receive_holds frame taken

@@ -81,6 +81,8 @@ module _
   frame_keeps (frames.FenceAsk a) = learn_keeps jobs node h.table a.name f
   frame_keeps (frames.RangeAsk a) = same_kept
   frame_keeps (frames.DirectAsk a) = held_keeps (nat_lt a.level (sealer_of h a.proc).level) a.node a.proc a.level
+  frame_keeps (frames.RefreshAsk a) = same_kept
+  frame_keeps (frames.RefreshReply r) = same_kept
 
   deliver_keeps : (frame : Frame) (b : Bool) → KeepsIn (cond b (done_as Reply.taken (receives h frame)) (done_as Reply.ignored h)).left.table
   deliver_keeps frame true = frame_keeps frame
@@ -241,6 +243,8 @@ module _ (jobs : Jobs) (id : ℕ) (h : Holding) (counted : IsCounted h) where
   frame_counts (frames.FenceAsk a) = known_counts a.name (fence_at h.table a.name) refl
   frame_counts (frames.RangeAsk a) = counted
   frame_counts (frames.DirectAsk a) = held_counts (nat_lt a.level (sealer_of h a.proc).level) a.node a.proc a.level
+  frame_counts (frames.RefreshAsk a) = counted
+  frame_counts (frames.RefreshReply r) = counted
 
   deliver_counts : (frame : Frame) (b : Bool) → IsCounted (cond b (done_as Reply.taken (receives h frame)) (done_as Reply.ignored h)).left
   deliver_counts frame true = frame_counts frame

@@ -86,6 +86,8 @@ module _ (jobs : Jobs) (id : ℕ) (h : Holding) (p : Proc) where
   frame_move (frames.FenceAsk a) = refl
   frame_move (frames.RangeAsk a) = refl
   frame_move (frames.DirectAsk a) = held_move (nat_lt a.level (sealer_of h a.proc).level) a.node a.proc a.level
+  frame_move (frames.RefreshAsk a) = refl
+  frame_move (frames.RefreshReply r) = refl
 
   deliver_move : (frame : Frame) (b : Bool) → call_of (cond b (done_as Reply.taken (receives h frame)) (done_as Reply.ignored h)).left p ≡ call_of h p
   deliver_move frame true = frame_move frame

@@ -190,6 +190,8 @@ is_taken jobs id (frames.Header hd) = is_peer jobs id hd.node && is_concerned jo
 is_taken jobs id (frames.FenceAsk a) = is_peer jobs id a.node && is_concerned jobs id a.name
 is_taken jobs id (frames.RangeAsk a) = is_peer jobs id a.node && is_known jobs a.proc && (home_of jobs a.proc == id)
 is_taken jobs id (frames.DirectAsk a) = is_peer jobs id a.node && is_known jobs a.proc && (home_of jobs a.proc == id)
+is_taken jobs id (frames.RefreshAsk a) = false
+is_taken jobs id (frames.RefreshReply r) = false
 
 -- ---- what is replied, and what is held then
 
@@ -270,6 +272,8 @@ receives h (frames.Header hd) = with_table h (with_header h.table hd)
 receives h (frames.FenceAsk a) = with_table h (learned h.table a.name)
 receives h (frames.RangeAsk a) = h
 receives h (frames.DirectAsk a) = holds_unless (nat_lt a.level (sealer_of h a.proc).level) h a.node a.proc a.level
+receives h (frames.RefreshAsk a) = h
+receives h (frames.RefreshReply r) = h
 
 unfoldable pub does : Jobs → ℕ → Holding → Act → Done
 does jobs id h (Act.request r) = serves jobs id h r

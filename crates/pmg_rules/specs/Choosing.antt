@@ -143,6 +143,8 @@ due_by_frame jobs id old (frames.FenceAsk a) new =
     telling_of jobs id a.node a.name (own_header_of jobs id old a.name) (flat_map (announcing jobs id) (news jobs id old.table new.table a.name))
 due_by_frame jobs id old (frames.RangeAsk a) new = answering new a.node a.proc a.level
 due_by_frame jobs id old (frames.DirectAsk a) new = answering new a.node a.proc a.level
+due_by_frame jobs id old (frames.RefreshAsk a) new = []
+due_by_frame jobs id old (frames.RefreshReply r) new = []
 
 -- what is due once the act took the node from old to new
 unfoldable pub due_by : Jobs → ℕ → Holding → Act → Holding → List Due
@@ -162,6 +164,8 @@ marked_by marks to (frames.Header hd) = marks
 marked_by marks to (frames.FenceAsk a) = marks
 marked_by marks to (frames.RangeAsk a) = marks
 marked_by marks to (frames.DirectAsk a) = marks
+marked_by marks to (frames.RefreshAsk a) = marks
+marked_by marks to (frames.RefreshReply r) = marks
 
 abbrev pub marked : Levels → Sent → Levels
 marked marks s = marked_by marks s.to s.frame

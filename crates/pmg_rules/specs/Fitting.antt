@@ -99,6 +99,8 @@ HonestFrame jobs scripts (frames.Header hd) = header_of jobs scripts hd.name hd.
 HonestFrame jobs scripts (frames.FenceAsk a) = Unit {0}
 HonestFrame jobs scripts (frames.RangeAsk a) = Unit {0}
 HonestFrame jobs scripts (frames.DirectAsk a) = Unit {0}
+HonestFrame jobs scripts (frames.RefreshAsk a) = Unit {0}
+HonestFrame jobs scripts (frames.RefreshReply r) = IsHonest (scripts r.told.proc) reach.Far r.told
 
 -- the process that stands for the group's host makes changes of the sets, and nothing else
 abbrev pub FitsHost : Script → Type 0

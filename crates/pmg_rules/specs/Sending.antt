@@ -44,6 +44,8 @@ Allowed jobs id h (frames.Header hd) = (hd.node ≡ id) × (own_header_of jobs i
 Allowed jobs id h (frames.FenceAsk a) = (a.node ≡ id) × (p : Proc) × WaitsIn jobs id h a.name p
 Allowed jobs id h (frames.RangeAsk a) = a.node ≡ id
 Allowed jobs id h (frames.DirectAsk a) = a.node ≡ id
+Allowed jobs id h (frames.RefreshAsk a) = ⊥
+Allowed jobs id h (frames.RefreshReply r) = ⊥
 
 -- another node has a participant in the fence
 abbrev pub TakesPart : Jobs → ℕ → FenceName → ℕ → Type 0

@@ -37,6 +37,8 @@ names_grown scripts grown grows (frames.Header hd) was = entered_grown scripts g
 names_grown scripts grown grows (frames.FenceAsk a) was = entered_grown scripts grown a.name grows was
 names_grown scripts grown grows (frames.RangeAsk a) was = tt
 names_grown scripts grown grows (frames.DirectAsk a) was = tt
+names_grown scripts grown grows (frames.RefreshAsk a) was = tt
+names_grown scripts grown grows (frames.RefreshReply r) was = tt
 
 -- ---- what a node may send names fences that were entered
 
@@ -55,6 +57,8 @@ allowed_named jobs scripts node h named (frames.Header hd) allowed = named.names
 allowed_named jobs scripts node h named (frames.FenceAsk a) allowed = named.names a.name (named.calls allowed.1 a.name allowed.2.1)
 allowed_named jobs scripts node h named (frames.RangeAsk a) allowed = tt
 allowed_named jobs scripts node h named (frames.DirectAsk a) allowed = tt
+allowed_named jobs scripts node h named (frames.RefreshAsk a) allowed = tt
+allowed_named jobs scripts node h named (frames.RefreshReply r) allowed = tt
 
 -- ---- which names there are after an act
 
@@ -123,6 +127,8 @@ module _ (jobs : Jobs) (scripts : Scripts) (node : ℕ) (h : Holding) (fits : Fi
   frame_names (frames.FenceAsk a) named = one_more scripts h.table a.name (fence_at h.table a.name) (series_at h.table a.name.signature).counts named
   frame_names (frames.RangeAsk a) named = same_names scripts h.table
   frame_names (frames.DirectAsk a) named = held_names scripts (nat_lt a.level (sealer_of h a.proc).level) a.node a.proc a.level
+  frame_names (frames.RefreshAsk a) named = same_names scripts h.table
+  frame_names (frames.RefreshReply r) named = same_names scripts h.table
 
   deliver_names : (frame : Frame) (b : Bool) → NamesEntered scripts frame
       → NamesAfter scripts h.table (cond b (done_as Reply.taken (receives h frame)) (done_as Reply.ignored h)).left.table

@@ -49,6 +49,9 @@ frame_stays jobs scripts grown grows (frames.Header hd) honest = header_stays jo
 frame_stays jobs scripts grown grows (frames.FenceAsk a) honest = tt
 frame_stays jobs scripts grown grows (frames.RangeAsk a) honest = tt
 frame_stays jobs scripts grown grows (frames.DirectAsk a) honest = tt
+frame_stays jobs scripts grown grows (frames.RefreshAsk a) honest = tt
+frame_stays jobs scripts grown grows (frames.RefreshReply r) honest =
+    subst (λ s. IsHonest s reach.Far r.told) (sym (grows r.told.proc).1) (honest_stays (scripts r.told.proc) (grows r.told.proc).0 reach.Far r.told honest)
 
 own_of_present : (b : Bool) (o : Option (List Local)) (ls : List Local) → cond b o None ≡ Some ls → o ≡ Some ls
 own_of_present true o ls e = e
@@ -68,6 +71,8 @@ allowed_honest jobs scripts node h fits (frames.Header hd) allowed =
 allowed_honest jobs scripts node h fits (frames.FenceAsk a) allowed = tt
 allowed_honest jobs scripts node h fits (frames.RangeAsk a) allowed = tt
 allowed_honest jobs scripts node h fits (frames.DirectAsk a) allowed = tt
+allowed_honest jobs scripts node h fits (frames.RefreshAsk a) allowed = tt
+allowed_honest jobs scripts node h fits (frames.RefreshReply r) allowed = absurd allowed
 
 pub each_both : {A : Type 0} (P : A → Type 0) (xs ys : List A) → Each P xs → Each P ys → Each P (xs ++ ys)
 each_both P [] ys one other = other

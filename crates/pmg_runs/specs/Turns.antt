@@ -30,6 +30,8 @@ NamesEntered scripts (frames.Header hd) = WasEntered scripts hd.name
 NamesEntered scripts (frames.FenceAsk a) = WasEntered scripts a.name
 NamesEntered scripts (frames.RangeAsk a) = Unit {0}
 NamesEntered scripts (frames.DirectAsk a) = Unit {0}
+NamesEntered scripts (frames.RefreshAsk a) = Unit {0}
+NamesEntered scripts (frames.RefreshReply r) = Unit {0}
 
 -- each name that a node has was entered, and so was each fence that a process is in
 pub record AreNamed (scripts : Scripts) (h : Holding) : Type 0 where

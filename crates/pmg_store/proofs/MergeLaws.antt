@@ -25,7 +25,8 @@ use Rattle.pmg_store.specs.declared.input.TheConstants.{INPUT_LIMIT}
 use Rattle.pmg_store.specs.Merged.{told_by_input, told_first, told_from, made_of, merge_of, too_many, one_after_the_other}
 use Rattle.pmg_store.specs.Outcomes.{Dumps, WritesDue}
 use Rattle.pmg_store.specs.Pieces.{data_of}
-use Rattle.pmg_store.specs.Told.{contributions, told_by_said, told_in, data_told}
+use Rattle.pmg_store.specs.Told.{contributions, with_told, told_by_said, told_in, data_told}
+use Rattle.pmg_frame.specs.Refreshing.{told_by}
 use Rattle.pmg_store.proofs.Converging.{same_in_any_order}
 use Rattle.pmg_store.proofs.MergeLemmas.{few_due}
 use Rattle.pmg_store.proofs.ToldLemmas.{start, told_of_feed}
@@ -163,6 +164,10 @@ are_both : (fs gs : List Frame) → AreFrames fs → AreFrames gs → AreFrames 
 are_both [] gs first second = second
 are_both (f ∷ fs) gs first second = (first.0, first.1, are_both fs gs first.2 second)
 
+with_both : (o : Option Contribution) (cs ds es : List Contribution) → cs ≡ ds ++ es → with_told o cs ≡ with_told o ds ++ es
+with_both None cs ds es e = e
+with_both (Some c) cs ds es e = ap (λ xs. c ∷ xs) e
+
 told_both : (fs gs : List Frame) → contributions (fs ++ gs) ≡ contributions fs ++ contributions gs
 told_both [] gs = refl
 told_both (frames.Piece c ∷ fs) gs = ap (λ cs. c ∷ cs) (told_both fs gs)
@@ -170,6 +175,8 @@ told_both (frames.Header h ∷ fs) gs = told_both fs gs
 told_both (frames.FenceAsk a ∷ fs) gs = told_both fs gs
 told_both (frames.RangeAsk a ∷ fs) gs = told_both fs gs
 told_both (frames.DirectAsk a ∷ fs) gs = told_both fs gs
+told_both (frames.RefreshAsk a ∷ fs) gs = told_both fs gs
+told_both (frames.RefreshReply r ∷ fs) gs = with_both (told_by r) (contributions (fs ++ gs)) (contributions fs) (contributions gs) (told_both fs gs)
 
 both_whole : (a b : List ℕ) (xs ys : List Contribution) → IsWhole a xs → IsWhole b ys → IsWhole (a ++ b) (xs ++ ys)
 both_whole a b xs ys v w = record {

@@ -20,7 +20,8 @@ use Rattle.pmg_frame.proofs.Cuts.{said_is, runs_none, runs_push}
 use Rattle.pmg_commit.specs.Knowledge.{Contribution}
 use Rattle.pmg_store.specs.Pieces.{data_of}
 use Rattle.pmg_store.proofs.OutcomeLemmas.{refused_first}
-use Rattle.pmg_store.specs.Told.{contributions, told_by_said, told_in, data_told}
+use Rattle.pmg_store.specs.Told.{contributions, with_told, told_by_said, told_in, data_told}
+use Rattle.pmg_frame.specs.Refreshing.{told_by}
 
 -- the start of a stream
 abbrev pub start : Place
@@ -81,6 +82,15 @@ IsTakenTo bytes old at new =
 pub none_taken : (bytes : List ℕ) (old : Data) → IsTakenTo bytes old (record { offset = 0; rest = bytes }) old
 none_taken bytes old = ([], runs_none (record { offset = 0; rest = bytes }), refl)
 
+-- with what is told, where something is
+abbrev with_one : Option Contribution → Data → Data
+with_one None d = d
+with_one (Some c) d = join_data d (of_contribution c)
+
+taken_told : (o : Option Contribution) (d : Data) (cs : List Contribution) → join_all join_data d (map of_contribution (with_told o cs)) ≡ join_all join_data (with_one o d) (map of_contribution cs)
+taken_told None d cs = refl
+taken_told (Some c) d cs = refl
+
 taken_more : (d : Data) (fs : List Frame) (frame : Frame)
     → join_all join_data (join_all join_data d (map of_contribution (contributions fs))) (map of_contribution (contributions (frame ∷ [])))
     ≡ join_all join_data d (map of_contribution (contributions (fs ++ frame ∷ [])))
@@ -90,6 +100,12 @@ taken_more d (frames.Header h ∷ fs) frame = taken_more d fs frame
 taken_more d (frames.FenceAsk a ∷ fs) frame = taken_more d fs frame
 taken_more d (frames.RangeAsk a ∷ fs) frame = taken_more d fs frame
 taken_more d (frames.DirectAsk a ∷ fs) frame = taken_more d fs frame
+taken_more d (frames.RefreshAsk a ∷ fs) frame = taken_more d fs frame
+taken_more d (frames.RefreshReply r ∷ fs) frame =
+    let last = map of_contribution (contributions (frame ∷ [])) in
+    ap (λ (x : Data). join_all join_data x last) (taken_told (told_by r) d (contributions fs))
+    ∙ taken_more (with_one (told_by r) d) fs frame
+    ∙ sym (taken_told (told_by r) d (contributions (fs ++ frame ∷ [])))
 
 pub one_taken :
     (bytes : List ℕ) (start_data old new : Data) (at mid : Place) (frame : Frame) → IsTakenTo bytes start_data at old → read_frame at ≡ Ok (Some (frame, mid))

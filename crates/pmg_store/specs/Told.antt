@@ -8,13 +8,20 @@ use Rattle.pmg_commit.specs.Knowledge.{Contribution}
 use Rattle.pmg_commit.specs.Data.{Data}
 use Rattle.pmg_frame.specs.declared.frame.Frame.{Frame}
 use Rattle.pmg_frame.specs.declared.frame.Frame.TheVariants as frames
+use Rattle.pmg_frame.specs.Refreshing.{told_by}
 use Rattle.pmg_frame.specs.Streams.{said_by}
 use Rattle.pmg_store.specs.Pieces.{data_of}
 
--- the contributions in frames: a frame that is no piece tells nothing
+-- what is told, where something is
+abbrev pub with_told : Option Contribution → List Contribution → List Contribution
+with_told None cs = cs
+with_told (Some c) cs = c ∷ cs
+
+-- the contributions in frames: pieces, and what refresh replies tell; any other frame tells nothing
 abbrev pub contributions : List Frame → List Contribution
 contributions [] = []
 contributions (frames.Piece c ∷ fs) = c ∷ contributions fs
+contributions (frames.RefreshReply r ∷ fs) = with_told (told_by r) (contributions fs)
 contributions (frame ∷ fs) = contributions fs
 
 -- the contributions in what was read, where all of it was whole frames

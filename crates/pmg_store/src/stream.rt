@@ -17,7 +17,7 @@ use pmg_wire::Cursor;
 use std::alloc::{AllocError, Global};
 use std::io::{Read, Write};
 
-/// Takes the contribution in the frame. A frame that is no piece tells nothing.
+/// Takes the contribution in the frame: a piece, or what a refresh reply tells. Any other frame tells nothing.
 fn take_frame(store: &mut Store, frame: Frame) -> Result<(), AllocError>
     ensures { OnOk result (store.new ≡ join_all join_data store.old (map of_contribution (contributions (frame ∷ [])))) }
 {
@@ -27,6 +27,11 @@ fn take_frame(store: &mut Store, frame: Frame) -> Result<(), AllocError>
         Frame::FenceAsk(_) => Ok(()),
         Frame::RangeAsk(_) => Ok(()),
         Frame::DirectAsk(_) => Ok(()),
+        Frame::RefreshAsk(_) => Ok(()),
+        Frame::RefreshReply(reply) => match reply.into_piece() {
+            Some(piece) => store.take(piece),
+            None => Ok(()),
+        },
     }
 }
 

@@ -102,7 +102,7 @@ fn a_fault_closes_the_stream(rt: HostRuntime) -> Result<(), Refusal> {
 const FAULTS: &str = "\
 piece 0=02 1=09 ..6: Version at 0
 piece 1=00 2=09 ..6: Kind at 1
-piece 1=06 ..6: Kind at 1
+piece 1=07 ..6: Kind at 1
 piece 2=01 5=01 ..6: Length at 2
 piece 6=00 11=01: Name at 6
 piece 7=20 19=01: Name at 6
@@ -152,6 +152,27 @@ range-ask 14=10: Rank at 12
 range-ask 19=01: Level at 16
 range-ask 5=11 ..23: Short at 16
 direct-ask 19=01: Level at 16
+refresh-ask 9=40: Node at 6
+refresh-ask 17=00 18=02: Number at 10
+refresh-ask 18=02 19=00: Bool at 18
+refresh-ask 19=00 28=01: Name at 19
+refresh-ask 23=10 28=01: Rank at 21
+refresh-ask 28=01: Level at 25
+refresh-ask 5=1a ..32: Short at 25
+refresh-ask 5=0c ..18: Short at 18
+refresh-ask 18=01: Short at 33
+refresh-reply 17=00: Number at 10
+refresh-reply 18=02: Bool at 18
+refresh-reply 18=00: Long at 33
+refresh-reply 32=02: Range at 25
+refresh-reply 36=01 44=09: Range at 25
+refresh-reply 32=01: Number at 48
+refresh-reply 44=02: Short at 58
+refresh-reply 42=01 44=01 46=00: Short at 46
+refresh-reply 44=00: Long at 45
+refresh-reply 57=02: Bool at 57
+refresh-none 40=02: Range at 25
+refresh-none 40=04 44=01: Short at 45
 ";
 
 // The fault of these bytes, which is found with the last of them.

@@ -1,7 +1,9 @@
 //! Frames for tests: their bytes as hexadecimal text, and the frames that these say.
 use crate::making::{fence_name, proc};
 use pmg_commit::{Piece, PieceEntry};
-use pmg_frame::{CommitAsk, FenceAsk, Frame, Header, Local, State};
+use pmg_frame::{
+    CommitAsk, FenceAsk, Frame, Header, Local, RefreshAsk, RefreshReply, State,
+};
 use pmg_value::{Key, NodeId, Proc, Refusal, Value};
 use std::alloc::Global;
 
@@ -17,6 +19,11 @@ fence-ask 01 03 0000001d 00000001 01 0000000000000001 00000002 016a 00000000 016
 range-ask 01 04 00000012 00000001 016a 00000000 0000000000000002
 direct-ask 01 05 00000012 00000001 016a 00000000 0000000000000003
 host-ask 01 04 0000001a 00000001 09706d69782e686f7374 00000000 0000000000000000
+refresh-ask 01 06 0000001b 00000001 0000000000000007 00 016a 00000000 0000000000000003
+refresh-reply 01 06 00000034 00000001 0000000000000001 01 016a 00000000 0000000000000000 \
+ 0000000000000001 00000001 0001 61 0000000000000001 01 01
+refresh-none 01 06 00000027 00000001 0000000000000002 01 016a 00000000 0000000000000003 \
+ 0000000000000003 00000000
 ";
 
 /// The dump of the frame `piece`, which has 45 bytes.
@@ -63,6 +70,18 @@ pub fn made(alloc: Global, name: &str) -> Result<Frame, Refusal> {
         }
         "range-ask" => Frame::RangeAsk(CommitAsk::new(node, proc(alloc, 0)?, 2)?),
         "direct-ask" => Frame::DirectAsk(CommitAsk::new(node, proc(alloc, 0)?, 3)?),
+        "refresh-ask" => {
+            let ask = CommitAsk::new(node, proc(alloc, 0)?, 3)?;
+            Frame::RefreshAsk(RefreshAsk::new(7, ask)?)
+        }
+        "refresh-reply" => {
+            let piece = first_commit(alloc, &[b"a"])?;
+            Frame::RefreshReply(RefreshReply::new(node, 1, piece)?)
+        }
+        "refresh-none" => {
+            let none = RefreshReply::nothing(alloc, node, 2, proc(alloc, 0)?, 3)?;
+            Frame::RefreshReply(none)
+        }
         _ => Frame::RangeAsk(CommitAsk::new(node, Proc::of_host(), 0)?),
     })
 }

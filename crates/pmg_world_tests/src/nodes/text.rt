@@ -104,6 +104,10 @@ fn put_frame(text: &mut Vec<u8>, frame: &Frame, alloc: Global) -> Result<(), All
         }
         Frame::RangeAsk(ask) => put_ask(text, "range ask ", ask),
         Frame::DirectAsk(ask) => put_ask(text, "direct ask ", ask),
+        Frame::RefreshAsk(refresh) => put_ask(text, "refresh ask ", refresh.ask()),
+        Frame::RefreshReply(reply) => {
+            put_with(text, "refresh reply ", u64::from(reply.node().index()))
+        }
     }
 }
 

@@ -5,7 +5,7 @@ use Rattle.pmg_wire.specs.Many.{many}
 use Rattle.pmg_wire.proofs.Counted.{goes_on, ends, is_done, last_seen, last_of}
 use Rattle.pmg_wire.specs.Reading.{FailsReading}
 use Rattle.pmg_commit.specs.Pieces.{entry_of}
-use Rattle.pmg_frame.specs.Reading.{read_entry}
+use Rattle.pmg_frame.specs.PieceReading.{read_entry}
 use Rattle.pmg_frame.proofs.piece_reading.get_entries.Goals as goal
 
 pub returns-in_err-entry : goal.returns-in_err-entry

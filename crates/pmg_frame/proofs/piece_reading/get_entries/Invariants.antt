@@ -2,7 +2,7 @@ use Rattle.std.proofs.Common.{◌≡◌, ◌-◌, map, None}
 use Rattle.pmg_wire.specs.Many.{many}
 use Rattle.pmg_wire.proofs.Counted.{with_front, last_of}
 use Rattle.pmg_commit.specs.Pieces.{entry_of}
-use Rattle.pmg_frame.specs.Reading.{read_entry}
+use Rattle.pmg_frame.specs.PieceReading.{read_entry}
 use Rattle.pmg_frame.proofs.piece_reading.get_entries.Given as goal
 
 -- the entries so far, and those that are still read, are all of them

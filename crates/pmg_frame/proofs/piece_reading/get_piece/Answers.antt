@@ -6,4 +6,4 @@ pub from_checked-requires : goal.from_checked-requires
 from_checked-requires c =
     let x = c.in_ok-process in
     let piece = contribution x.process x.from x.to x.entries.items in
-    read_passes c.args.at.now piece c.get_piece_fields.new.at c.offset-start.ensures.bytes c.requires x.ensures
+    read_passes c.args.at.now piece c.get_told.new.at c.offset-start.ensures.bytes c.requires x.ensures

@@ -2,7 +2,8 @@ use Rattle.std.proofs.Common.{◌≡◌, ap}
 use Rattle.pmg_commit.specs.Knowledge.{Contribution}
 use Rattle.pmg_frame.specs.Fences.{Header, FenceAsk}
 use Rattle.pmg_frame.specs.declared.frame.Frame.TheVariants as frames
-use Rattle.pmg_frame.proofs.SameLemmas.{same_pieces, same_headers, same_fence_asks}
+use Rattle.pmg_frame.specs.Refreshing.{RefreshReply}
+use Rattle.pmg_frame.proofs.SameLemmas.{same_pieces, same_headers, same_fence_asks, same_refresh_replies}
 use Rattle.pmg_frame.proofs.frame.Frame.is_same.Goals as goal
 
 of_piece : (x y : Contribution) → frames.Piece x ≡ frames.Piece y → x ≡ y
@@ -34,3 +35,15 @@ returns-in-FenceAsk-other c =
     let other = c.in-FenceAsk-other.other in
     rw (c.in-FenceAsk.is, c.in-FenceAsk-other.is, c.is_same_fence_ask.ensures)
     (λ h. ap (λ (x : FenceAsk). frames.FenceAsk x) ((same_fence_asks own other).0 h), λ e. (same_fence_asks own other).1 (of_fence_ask own other e))
+
+of_refresh_reply : (x y : RefreshReply) → frames.RefreshReply x ≡ frames.RefreshReply y → x ≡ y
+of_refresh_reply x y e = cc
+
+pub returns-in-RefreshReply-other : goal.returns-in-RefreshReply-other
+returns-in-RefreshReply-other c =
+    let own = c.in-RefreshReply.reply in
+    let other = c.in-RefreshReply-other.other in
+    rw (c.in-RefreshReply.is, c.in-RefreshReply-other.is, c.is_same_refresh_reply.ensures) (
+      λ h. ap (λ (x : RefreshReply). frames.RefreshReply x) ((same_refresh_replies own other).0 h),
+      λ e. (same_refresh_replies own other).1 (of_refresh_reply own other e),
+    )
