@@ -23,7 +23,7 @@ use Rattle.pmg_audit.specs.Runs.{AreJournals, AreMoves, IsOneRun, account_by}
 use Rattle.pmg_audit.specs.Taking.{AreSayings}
 use Rattle.pmg_audit.specs.declared.moves.Saying.{Saying}
 use Rattle.pmg_audit.specs.declared.replaying.AllReplayed.{AllReplayed}
-use Rattle.pmg_audit.proofs.EndSteps.{agreed, are_whole, left_unlike, unsaid_unlike}
+use Rattle.pmg_audit.proofs.EndSteps.{agreed, are_whole, barred_unlike, left_unlike, unsaid_unlike}
 
 pub ends_by : (jobs : Jobs) (js : List Journal) (first : List Saying) (e : Refusal) → RefusesFor e (SomeUnsaid jobs js first) → EndsFor jobs js first e
 ends_by jobs js first refusals.NoMemory is = tt
@@ -42,13 +42,14 @@ err_on (Err e) P Q is on = on e is
 module _ (jobs : Jobs) (are : AreJobs jobs) (js : List Journal) (ts : List Transcript) (first : List Saying) (sayings : AreSayings first ts) (apart : AreApart ts) where
   pub whole_by : Each (λ (t : Transcript). takes_all no_puts (noted_in t) ≡ true) ts → (r : AllReplayed) → EndsWell jobs js first r → AreWhole jobs js ts r
   unfolding EndsWell
-  whole_by taken r ended = are_whole jobs are js ts first sayings apart r ended.0 ended.1.done taken ended.1.told ended.1.fresh
+  whole_by taken r ended = are_whole jobs are js ts first sayings apart r ended.0 ended.1.done taken ended.1.told ended.1.last ended.1.fresh
 
   pub fault_by : Each (λ (t : Transcript). takes_all no_puts (noted_in t) ≡ true) ts → (e : Refusal) → EndsFor jobs js first e → IsReplayFault jobs js ts e
   fault_by taken refusals.NoMemory is = tt
   fault_by taken refusals.Collision (inl unsaid) = unsaid_unlike jobs js ts first sayings unsaid
-  fault_by taken refusals.Collision (inr left) = left_unlike jobs are js ts first sayings apart left.r left.ss left.done left.left
-  fault_by taken refusals.Stale is = (agreed jobs are js ts first sayings apart is.0.r is.0.ss is.0.done taken is.0.told, is.1)
+  fault_by taken refusals.Collision (inr (inl left)) = left_unlike jobs are js ts first sayings apart left.r left.ss left.done left.left
+  fault_by taken refusals.Collision (inr (inr last)) = barred_unlike jobs are js ts first sayings apart last.r last.ss last.done last.barred
+  fault_by taken refusals.Stale is = (agreed jobs are js ts first sayings apart is.0.r is.0.ss is.0.done taken is.0.told is.0.last, is.1)
   fault_by taken e is = absurd is
 
 -- a refusal of the transcripts alone

@@ -10,7 +10,7 @@ use Rattle.pmg_scope.specs.declared.scope.Scope.{Scope}
 use Rattle.pmg_rules.specs.Acts.{Act, Reply, Request}
 use Rattle.pmg_journal.specs.Transcripts.{Calling, Noted, cached_by, commit_by, noted, noted_of}
 use Rattle.pmg_journal.specs.declared.transcript.Called.{Called}
-use Rattle.pmg_audit.specs.Dues.{Due, act_by, act_said, due, due_in, due_of, dues, is_passed, put_by_call, put_of, puts_next, takes, takes_all}
+use Rattle.pmg_audit.specs.Dues.{Due, act_by, act_said, due, due_in, due_of, dues, is_passed, put_by_call, put_of, puts_after, puts_next, takes, takes_all}
 use Rattle.pmg_audit.specs.Moves.{AllPut, Move, Put, PutsFit, Seals, cache_then, is_by, is_own_ask, put_all}
 
 -- ---- events that are said, as moves
@@ -121,6 +121,15 @@ dues_next p c puts n ns before now d qs is cache put =
 pub dues_end : (p : Proc) (c : Cached) (puts : List Put) (now : List Due) → now ++ dues p c puts [] ≡ now
 unfolding dues
 dues_end p c puts now = append-nil now
+
+pub left_next : (p : Proc) (c : Cached) (puts : List Put) (n : Noted) (ns : List Noted) (d : Cached) (qs : List Put) → d ≡ cached_by c n.call n.reply → qs ≡ puts_next puts n (act_said p c n)
+    → puts_after p d qs ns ≡ puts_after p c puts (n ∷ ns)
+unfolding puts_after
+left_next p c puts n ns d qs cache put = (λ i. puts_after p (cache i) (put i) ns)
+
+pub left_end : (p : Proc) (c : Cached) (puts : List Put) → puts_after p c puts [] ≡ puts
+unfolding puts_after
+left_end p c puts = refl
 
 pub taken_stops : (c : Cached) (n : Noted) (ns : List Noted) → takes c n.call n.reply ≡ false → takes_all c (n ∷ ns) ≡ false
 unfolding takes_all

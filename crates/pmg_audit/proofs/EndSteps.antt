@@ -1,5 +1,5 @@
 -- All journals replayed, and what follows of the transcripts.
-use Rattle.std.proofs.Common.{◌≡◌, ◌⊎◌, ◌<◌, ltb-true, Bool, true, false, cond, List, [], ◌∷◌, ◌++◌, length, map, filter, inl, inr, refl, sym, ap, subst, ◌∙◌}
+use Rattle.std.proofs.Common.{◌≡◌, ◌⊎◌, ◌<◌, ltb-true, Bool, true, false, cond, List, [], ◌∷◌, ◌++◌, length, map, filter, get_or, inl, inr, refl, sym, ap, subst, ◌∙◌}
 use Rattle.std.proofs.lemmas.List.{append-nil, append_cancel_left, map-append, length-map}
 use Rattle.std.specs.Cmp.{Equal-is}
 use Rattle.pmg_value.specs.Lists.{In, Each}
@@ -12,23 +12,25 @@ use Rattle.pmg_fence.proofs.EntryLemmas.{proc_itself}
 use Rattle.pmg_fence.proofs.HeaderLemmas.{by_proc}
 use Rattle.pmg_rules.proofs.KeptBasics.{home_is_node}
 use Rattle.pmg_node.specs.Opening.{new_server}
-use Rattle.pmg_journal.specs.Replays.{Happening}
+use Rattle.pmg_node.specs.Servers.{Server}
+use Rattle.pmg_journal.specs.Replays.{Happening, after_all}
 use Rattle.pmg_journal.specs.Transcripts.{noted_in}
 use Rattle.pmg_journal.specs.declared.journal.Journal.{Journal}
 use Rattle.pmg_journal.specs.declared.transcript.Transcript.{Transcript}
-use Rattle.pmg_audit.specs.Agreeing.{AreAgreed, AreApart, AreSaid, said_for}
-use Rattle.pmg_audit.specs.Codes.{all_of, rest_of, said_in}
-use Rattle.pmg_audit.specs.Dues.{Due, due_event, due_in, said_by, takes_all}
-use Rattle.pmg_audit.specs.Moves.{Move, PutsFit, event_in, is_by}
+use Rattle.pmg_audit.specs.Agreeing.{AreAgreed, AreApart, AreSaid, MayPut, MayPutLast, home_after, said_for}
+use Rattle.pmg_audit.specs.Codes.{all_of, put_in, rest_of, said_in}
+use Rattle.pmg_audit.specs.Dues.{Due, due_event, due_in, last_puts, said_by, takes_all}
+use Rattle.pmg_audit.specs.Moves.{Move, Put, PutsFit, event_in, is_by}
 use Rattle.pmg_audit.specs.Orders.{moves_at}
-use Rattle.pmg_audit.specs.Replaying.{AreReplayed, AreWhole, SomeUnsaid, moves_by}
+use Rattle.pmg_audit.specs.Replaying.{AllMayPut, AreReplayed, AreWhole, MayPutAt, SomeUnsaid, moves_by}
 use Rattle.pmg_audit.specs.Runs.{ArePut, TellsOf, told_at}
-use Rattle.pmg_audit.specs.Taking.{AreSayings, SomeLeft, procs_of}
+use Rattle.pmg_audit.specs.Taking.{AreSayings, SomeLeft, last_of, lasts_of, procs_of}
 use Rattle.pmg_audit.specs.declared.moves.Due.{Due as KeptDue}
 use Rattle.pmg_audit.specs.declared.moves.Saying.{Saying}
 use Rattle.pmg_audit.specs.declared.replaying.AllReplayed.{AllReplayed}
 use Rattle.pmg_audit.proofs.DueLemmas.{none_fit, said_fit}
-use Rattle.pmg_audit.proofs.SayingLemmas.{rest_is}
+use Rattle.pmg_audit.proofs.ReplaySteps.{end_is}
+use Rattle.pmg_audit.proofs.SayingLemmas.{procs_by, rest_is}
 
 abbrev IsTaken : Transcript → Type 0
 IsTaken t = takes_all no_puts (noted_in t) ≡ true
@@ -96,7 +98,7 @@ unfolding AreSayings
 each_proc p [] [] are each = tt
 each_proc p [] (t ∷ ts) are each = absurd are
 each_proc p (s ∷ ss) [] are each = absurd are
-each_proc p (s ∷ ss) (t ∷ ts) are each = (λ same. each.0 (same ∙ are.0), each_proc p ss ts are.2 each.1)
+each_proc p (s ∷ ss) (t ∷ ts) are each = (λ same. each.0 (same ∙ are.0.proc), each_proc p ss ts are.1 each.1)
 
 are_distinct : (ss : List Saying) (ts : List Transcript) → AreSayings ss ts → AreApart ts → AreDistinct (procs_of ss)
 unfolding AreSayings AreDistinct
@@ -104,8 +106,8 @@ are_distinct [] [] are apart = tt
 are_distinct [] (t ∷ ts) are apart = absurd are
 are_distinct (s ∷ ss) [] are apart = absurd are
 are_distinct (s ∷ ss) (t ∷ ts) are apart = (
-  each_proc s.proc ss ts are.2 (each_by_in (λ (u : Transcript). s.proc ≡ u.proc → ⊥) ts (λ u i same. each_at (λ (v : Transcript). t.proc ≡ v.proc → ⊥) ts u apart.0 i (sym are.0 ∙ same))),
-  are_distinct ss ts are.2 apart.1,
+  each_proc s.proc ss ts are.1 (each_by_in (λ (u : Transcript). s.proc ≡ u.proc → ⊥) ts (λ u i same. each_at (λ (v : Transcript). t.proc ≡ v.proc → ⊥) ts u apart.0 i (sym are.0.proc ∙ same))),
+  are_distinct ss ts are.1 apart.1,
 )
 
 proc_in : (ss : List Saying) (s : Saying) → In s ss → In s.proc (procs_of ss)
@@ -131,9 +133,29 @@ transcript_of [] [] p are i = absurd i
 transcript_of [] (t ∷ ts) p are i = absurd i
 transcript_of (s ∷ ss) [] p are i = absurd are
 transcript_of (s ∷ ss) (t ∷ ts) p are i = elim i [
-  | inl same ↦ (t, inl refl, sym (same ∙ are.0))
-  | inr later ↦ let rest = transcript_of ss ts p are.2 later in (rest.0, inr rest.1, rest.2)
+  | inl same ↦ (t, inl refl, sym (same ∙ are.0.proc))
+  | inr later ↦ let rest = transcript_of ss ts p are.1 later in (rest.0, inr rest.1, rest.2)
 ]
+
+-- ---- what was put last
+
+each_to : {A B : Type 0} (f : A → B) (P : A → Type 0) (Q : B → Type 0) → ((x : A) → P x → Q (f x)) → (xs : List A) → Each P xs → Each Q (map f xs)
+each_to f P Q on [] each = tt
+each_to f P Q on (x ∷ xs) each = (on x each.0, each_to f P Q on xs each.1)
+
+each_from : {A B : Type 0} (f : A → B) (P : A → Type 0) (Q : B → Type 0) → ((x : A) → Q (f x) → P x) → (xs : List A) → Each Q (map f xs) → Each P xs
+each_from f P Q on [] each = tt
+each_from f P Q on (x ∷ xs) each = (on x each.0, each_from f P Q on xs each.1)
+
+abbrev last_said : Transcript → Proc × List Put
+last_said t = (t.proc, last_puts t)
+
+lasts_are : (ss : List Saying) (ts : List Transcript) → AreSayings ss ts → lasts_of ss ≡ map last_said ts
+unfolding AreSayings
+lasts_are [] [] are = refl
+lasts_are [] (t ∷ ts) are = absurd are
+lasts_are (s ∷ ss) [] are = absurd are
+lasts_are (s ∷ ss) (t ∷ ts) are = (λ i. (are.0.proc i, are.0.last i) ∷ lasts_are ss ts are.1 i)
 
 -- ---- the end
 
@@ -158,7 +180,33 @@ module _ (jobs : Jobs) (are : AreJobs jobs) (js : List Journal) (ts : List Trans
   made_is : (p : Proc) → map due_event (map due_in (moves_by p (moves_at all (home_of jobs p)))) ≡ filter (λ (e : Happening). is_by p e.act) (told_at js (home_of jobs p))
   made_is p = events_by p (moves_at all (home_of jobs p)) ∙ ap (filter (λ (e : Happening). is_by p e.act)) (done.events (home_of jobs p) (home_inside p))
 
-  module _ (taken : Each IsTaken ts) (told : Each (λ (s : Saying). s.dues.items ≡ []) ss) where
+  server_is : (p : Proc) (d : Server) → get_or r.nodes.items (home_of jobs p) d ≡ home_after jobs js p
+  server_is p d =
+      done.ends (home_of jobs p) d (home_inside p) ∙ end_is (new_server jobs (home_of jobs p)) (moves_at all (home_of jobs p))
+      ∙ ap (after_all (new_server jobs (home_of jobs p))) (done.events (home_of jobs p) (home_inside p))
+
+  lasts_said : lasts_of ss ≡ map last_said ts
+  lasts_said = done.lasts ∙ lasts_are first ts sayings
+
+  -- the process may put that, once all happened
+  abbrev MayLast : Proc × List Put → Type 0
+  MayLast x = MayPut (home_after jobs js x.0) x.0 x.1
+
+  all_may : AllMayPut jobs r.nodes.items ss → Each (MayPutLast jobs js) ts
+  all_may each =
+      each_from last_said (MayPutLast jobs js) MayLast (λ t may. may) ts
+      (subst (Each MayLast) lasts_said
+      (each_to last_of (MayPutAt jobs r.nodes.items) MayLast
+      (λ s may. let d = home_after jobs js s.proc in subst (λ (x : Server). MayPut x s.proc (map put_in s.last_puts.items)) (server_is s.proc d) (may d)) ss each))
+
+  -- where it may not the transcripts do not agree
+  pub barred_unlike : (AllMayPut jobs r.nodes.items ss → ⊥) → AreAgreed jobs js ts → ⊥
+  barred_unlike barred agreed =
+      barred (each_from last_of (MayPutAt jobs r.nodes.items) MayLast
+      (λ s may d. subst (λ (x : Server). MayPut x s.proc (map put_in s.last_puts.items)) (sym (server_is s.proc d)) may) ss
+      (subst (Each MayLast) (sym lasts_said) (each_to last_said (MayPutLast jobs js) MayLast (λ t may. may) ts agreed.last)))
+
+  module _ (taken : Each IsTaken ts) (told : Each (λ (s : Saying). s.dues.items ≡ []) ss) (last : AllMayPut jobs r.nodes.items ss) where
     all_said : (p : Proc) → map due_in (moves_by p (moves_at all (home_of jobs p))) ≡ said_for ts p
     all_said p = sym (said_is p ∙ ap (λ l. map due_in (moves_by p (moves_at all (home_of jobs p))) ++ l) (rest_empty ss p told) ∙ append-nil _)
 
@@ -180,6 +228,7 @@ module _ (jobs : Jobs) (are : AreJobs jobs) (js : List Journal) (ts : List Trans
       taken = taken;
       said = λ n inside. subst (λ (rest : Proc → List Due). AreSaid (new_server jobs n) rest (told_at js n)) (λ i p. rest_is first ts sayings p i) (done.said n inside);
       calls = are_told;
+      last = all_may last;
     }
 
     pub are_whole : r.is_stale ≡ false → AreWhole jobs js ts r
@@ -195,8 +244,9 @@ module _ (jobs : Jobs) (are : AreJobs jobs) (js : List Journal) (ts : List Trans
   left_unlike some agreed =
       let s : Saying = some.0 in
       let p = s.proc in
-      let distinct = subst AreDistinct (sym done.procs) (are_distinct first ts sayings apart) in
-      let of = transcript_of first ts p sayings (subst (In p) done.procs (proc_in ss s some.1)) in
+      let procs = procs_by ss first done.lasts in
+      let distinct = subst AreDistinct (sym procs) (are_distinct first ts sayings apart) in
+      let of = transcript_of first ts p sayings (subst (In p) procs (proc_in ss s some.1)) in
       let t : Transcript = of.0 in
       let tells : map due_event (said_by t) ≡ filter (λ (e : Happening). is_by t.proc e.act) (told_at js (home_of jobs t.proc)) = each_at (TellsOf jobs js) ts t agreed.calls of.1 in
       let own : said_by t ≡ map due_in (moves_by t.proc (moves_at all (home_of jobs t.proc))) ++ rest_of ss t.proc = sym (said_own ts t apart of.1) ∙ said_is t.proc in

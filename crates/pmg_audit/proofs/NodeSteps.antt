@@ -174,7 +174,7 @@ module _ (jobs : Jobs) (js : List Journal) (first : List Saying) (k : ℕ) (r : 
     stale = λ t. stale_now (stale t);
     rests = rests_now;
     said = said_now;
-    procs = replay.procs ∙ done.procs;
+    lasts = replay.lasts ∙ done.lasts;
   }
 
 -- no journal is replayed yet
@@ -188,7 +188,7 @@ nodes_none jobs js first r nodes lanes stale = record {
   stale = λ t. absurd (false≢true (sym stale ∙ t));
   rests = λ p. sym (ap (λ l. map due_in (moves_by p l) ++ rest_of first p) (ap (λ xs. moves_at (all_of xs) (home_of jobs p)) lanes));
   said = λ n less. absurd (omega (arith, less));
-  procs = refl;
+  lasts = refl;
 }
 
 -- ---- an event that is not said

@@ -39,7 +39,7 @@ end_id : (s : Server) (ms : List Move) → (end_of s ms).id ≡ s.id
 end_id s [] = refl
 end_id s (x ∷ ms) = end_id (after s x.act) ms
 
-end_is : (s : Server) (ms : List Move) → end_of s ms ≡ after_all s (map event_in ms)
+pub end_is : (s : Server) (ms : List Move) → end_of s ms ≡ after_all s (map event_in ms)
 end_is s [] = refl
 end_is s (x ∷ ms) = end_is (after s x.act) ms
 
@@ -180,7 +180,7 @@ module _ (s : Server) (old : List Saying) (es : List Happening) (r : Replay) (ss
     said = said_on s (rest_of old) es e done.said
         (subst (λ (x : Server). IsSaidBy x (rests_after (rest_of old) es) (caller_of e.act) e) (sym server)
         (said_alike r.node (rest_of ss) (rests_after (rest_of old) es) (caller_of e.act) e (λ p. sym (rest_now p)) (said_takes r.node ss e puts ss2 takes (caller_of e.act) refl)));
-    procs = takes.procs ∙ done.procs;
+    lasts = takes.lasts ∙ done.lasts;
   }
 
 -- nothing is replayed yet
@@ -194,7 +194,7 @@ replayed_none s old r node lane stale = record {
   rests = λ p. sym (ap (λ l. map due_in (moves_by p l) ++ rest_of old p) lane);
   home = λ p far. ap (moves_by p) lane;
   said = tt;
-  procs = refl;
+  lasts = refl;
 }
 
 -- ---- an event that is not said
@@ -220,7 +220,7 @@ pub caller_takes : (s : Server) (old : List Saying) (p : Proc) (d : Due) (new : 
 caller_takes s old p d new e caller home takes is may = record {
   at = subst (λ (o : Option Proc). PutsAt s o d.puts) (sym caller) (home, may);
   rests = λ q. subst (λ (o : Option Proc). rest_of old q ≡ cond (is_caller q o) (due d.puts e.act e.reply ∷ rest_of new q) (rest_of new q)) (sym caller) (by q (same_proc q p) refl);
-  procs = takes.procs;
+  lasts = takes.lasts;
 }
   where
     by : (q : Proc) (b : Bool) → same_proc q p ≡ b → rest_of old q ≡ cond b (due d.puts e.act e.reply ∷ rest_of new q) (rest_of new q)
@@ -232,7 +232,7 @@ pub none_takes : (s : Server) (old : List Saying) (e : Happening) → caller_of 
 none_takes s old e caller = record {
   at = subst (λ (o : Option Proc). PutsAt s o []) (sym caller) refl;
   rests = λ q. subst (λ (o : Option Proc). rest_of old q ≡ cond (is_caller q o) (due [] e.act e.reply ∷ rest_of old q) (rest_of old q)) (sym caller) refl;
-  procs = refl;
+  lasts = refl;
 }
 
 -- the reasons for which an event is not said

@@ -2,6 +2,8 @@
 use Rattle.std.proofs.Common.{◌≡◌, ℕ, zero, suc, ◌+◌, ◌-◌, ◌<◌, ◌≤◌, Bool, true, false, cond, List, [], ◌∷◌, ◌++◌, length, map, get_or, set, take, drop, Option, Some, None, is_some, IfSome, IsNone, option_to_list, inl, inr, refl, sym, ap, subst, ◌∙◌, arith}
 use Rattle.std.proofs.lemmas.Bool.{false≢true}
 use Rattle.std.proofs.lemmas.List.{drop_more, length-drop, nil_from_length, take-append-drop, take_all, take_more}
+use Rattle.std.proofs.lemmas.Simd.{map-map}
+use Rattle.std.proofs.Math.Seq.{map-set_same}
 use Rattle.pmg_value.specs.Lists.{In, Each}
 use Rattle.std.specs.BTreeMap.{is_at}
 use Rattle.std.specs.Cmp.{Equal-is, eq_by_cmp_equiv}
@@ -13,8 +15,8 @@ use Rattle.pmg_fence.proofs.EntryLemmas.{proc_itself}
 use Rattle.pmg_journal.specs.declared.transcript.Transcript.{Transcript}
 use Rattle.pmg_audit.specs.Agreeing.{AreApart, said_for}
 use Rattle.pmg_audit.specs.Codes.{rest_of, said_in}
-use Rattle.pmg_audit.specs.Dues.{said_by}
-use Rattle.pmg_audit.specs.Taking.{ArePlaces, AreSayings, IsAbsent, IsPlace, NoneOf, StandsAt, Takes, place_at, procs_of}
+use Rattle.pmg_audit.specs.Moves.{Put}
+use Rattle.pmg_audit.specs.Taking.{ArePlaces, AreSayings, IsAbsent, IsPlace, NoneOf, Says, StandsAt, Takes, last_of, lasts_of, place_at, procs_of}
 use Rattle.pmg_audit.specs.declared.moves.Due.{Due as KeptDue}
 use Rattle.pmg_audit.specs.declared.moves.Saying.{Saying}
 
@@ -103,15 +105,16 @@ empty_at [] p k d place empty = absurd place
 empty_at (s ∷ ss) p zero d place empty = ap (λ b. cond b (map said_in s.dues.items) (rest_of ss p)) place ∙ ap (map said_in) empty
 empty_at (s ∷ ss) p (suc k) d place empty = ap (λ b. cond b (map said_in s.dues.items) (rest_of ss p)) place.0 ∙ empty_at ss p k d place.1 empty
 
-procs_stay : (p : Proc) (x : Saying) (ss : List Saying) (k : ℕ) (e : Saying) → IsPlace ss p k → x.proc ≡ (get_or ss k e).proc → procs_of (set ss k x) ≡ procs_of ss
-procs_stay p x [] k e place same = absurd place
-procs_stay p x (s ∷ ss) zero e place same = ap (λ r. r ∷ procs_of ss) same
-procs_stay p x (s ∷ ss) (suc k) e place same = ap (λ l. s.proc ∷ l) (procs_stay p x ss k e place.1 same)
-
 -- what a process says takes no place
-pub places_stay : (p : Proc) (x : Saying) (ss : List Saying) (k : ℕ) (e : Saying) (rows : List (Proc × ℕ)) → IsPlace ss p k → x.proc ≡ (get_or ss k e).proc → ArePlaces (procs_of ss) rows
-    → ArePlaces (procs_of (set ss k x)) rows
-places_stay p x ss k e rows place same are = subst (λ (ps : List Proc). ArePlaces ps rows) (sym (procs_stay p x ss k e place same)) are
+pub places_stay : (x : Saying) (ss : List Saying) (k : ℕ) (e : Saying) (rows : List (Proc × ℕ)) → x.proc ≡ (get_or ss k e).proc → ArePlaces (procs_of ss) rows → ArePlaces (procs_of (set ss k x)) rows
+places_stay x ss k e rows same are = subst (λ (ps : List Proc). ArePlaces ps rows) (sym (map-set_same (λ (s : Saying). s.proc) ss k x e same)) are
+
+-- where what each put last is the same, the processes are
+pub procs_by : (ss rs : List Saying) → lasts_of ss ≡ lasts_of rs → procs_of ss ≡ procs_of rs
+procs_by ss rs same = sym (map-map first last_of ss) ∙ ap (map first) same ∙ map-map first last_of rs
+  where
+    first : Proc × List Put → Proc
+    first x = x.0
 
 -- the first event that is said there is taken
 module _ (p : Proc) (d : KeptDue) (ds : List KeptDue) (x : Saying) where
@@ -132,30 +135,29 @@ module _ (p : Proc) (d : KeptDue) (ds : List KeptDue) (x : Saying) where
       ap (λ b. cond b (map said_in x.dues.items) (rest_of ss q)) (ap (same_proc q) same ∙ not) ∙ sym (ap (λ b. cond b (map said_in s.dues.items) (rest_of ss q)) not)
   others_stay q apart (s ∷ ss) (suc k) e place same = ap (cond (same_proc q s.proc) (map said_in s.dues.items)) (others_stay q apart ss k e place.1 same)
 
-  pub taken_at : (ss : List Saying) (k : ℕ) (e : Saying) → IsPlace ss p k → x.proc ≡ (get_or ss k e).proc → (get_or ss k e).dues.items ≡ d ∷ ds → x.dues.items ≡ ds
+  pub taken_at : (ss : List Saying) (k : ℕ) (e : Saying) → IsPlace ss p k → last_of x ≡ last_of (get_or ss k e) → (get_or ss k e).dues.items ≡ d ∷ ds → x.dues.items ≡ ds
       → Takes ss p (said_in d) (set ss k x)
   taken_at ss k e place same was now = record {
-    here = here_taken ss k e place same was now;
-    others = λ q apart. others_stay q apart ss k e place same;
-    procs = procs_stay p x ss k e place same;
+    here = here_taken ss k e place (λ i. (same i).0) was now;
+    others = λ q apart. others_stay q apart ss k e place (λ i. (same i).0);
+    lasts = map-set_same last_of ss k x e same;
   }
 
 -- ---- sayings and transcripts
 
-pub sayings_more : (ss : List Saying) (ts : List Transcript) (s : Saying) (t : Transcript) → AreSayings ss ts → s.proc ≡ t.proc → map said_in s.dues.items ≡ said_by t
-    → AreSayings (ss ++ s ∷ []) (ts ++ t ∷ [])
+pub sayings_more : (ss : List Saying) (ts : List Transcript) (s : Saying) (t : Transcript) → AreSayings ss ts → Says s t → AreSayings (ss ++ s ∷ []) (ts ++ t ∷ [])
 unfolding AreSayings
-sayings_more [] [] s t are proc said = (proc, said, tt)
-sayings_more [] (u ∷ ts) s t are proc said = absurd are
-sayings_more (r ∷ ss) [] s t are proc said = absurd are
-sayings_more (r ∷ ss) (u ∷ ts) s t are proc said = (are.0, are.1, sayings_more ss ts s t are.2 proc said)
+sayings_more [] [] s t are says = (says, tt)
+sayings_more [] (u ∷ ts) s t are says = absurd are
+sayings_more (r ∷ ss) [] s t are says = absurd are
+sayings_more (r ∷ ss) (u ∷ ts) s t are says = (are.0, sayings_more ss ts s t are.1 says)
 
 pub rest_is : (ss : List Saying) (ts : List Transcript) → AreSayings ss ts → (p : Proc) → rest_of ss p ≡ said_for ts p
 unfolding AreSayings
 rest_is [] [] are p = refl
 rest_is [] (u ∷ ts) are p = absurd are
 rest_is (r ∷ ss) [] are p = absurd are
-rest_is (r ∷ ss) (u ∷ ts) are p = (λ i. cond (same_proc p (are.0 i)) (are.1 i) (rest_is ss ts are.2 p i))
+rest_is (r ∷ ss) (u ∷ ts) are p = (λ i. cond (same_proc p (are.0.proc i)) (are.0.dues i) (rest_is ss ts are.1 p i))
 
 -- none of the transcripts is of the process, where none of the sayings is
 none_apart : (ss : List Saying) (ts : List Transcript) (p : Proc) → AreSayings ss ts → NoneOf ss p → Each (λ (u : Transcript). u.proc ≡ p → ⊥) ts
@@ -164,7 +166,7 @@ none_apart [] [] p are none = tt
 none_apart [] (u ∷ ts) p are none = absurd are
 none_apart (r ∷ ss) [] p are none = absurd are
 none_apart (r ∷ ss) (u ∷ ts) p are none =
-    (λ same. absurd (false≢true (sym none.0 ∙ ap (same_proc p) (are.0 ∙ same) ∙ proc_itself p)), none_apart ss ts p are.2 none.1)
+    (λ same. absurd (false≢true (sym none.0 ∙ ap (same_proc p) (are.0.proc ∙ same) ∙ proc_itself p)), none_apart ss ts p are.1 none.1)
 
 apart_push : (ts : List Transcript) (t : Transcript) → AreApart ts → Each (λ (u : Transcript). u.proc ≡ t.proc → ⊥) ts → AreApart (ts ++ t ∷ [])
 apart_push [] t apart each = (tt, tt)
@@ -179,8 +181,8 @@ unfolding AreSayings
 not_apart [] ts t us k are place apart = absurd place
 not_apart (r ∷ ss) [] t us k are place apart = absurd are
 not_apart (r ∷ ss) (u ∷ ts) t us zero are place apart =
-    each_head (λ (v : Transcript). u.proc ≡ v.proc → ⊥) ts t us apart.0 (sym are.0 ∙ sym (same_proc_is t.proc r.proc place))
-not_apart (r ∷ ss) (u ∷ ts) t us (suc k) are place apart = not_apart ss ts t us k are.2 place.1 apart.1
+    each_head (λ (v : Transcript). u.proc ≡ v.proc → ⊥) ts t us apart.0 (sym are.0.proc ∙ sym (same_proc_is t.proc r.proc place))
+not_apart (r ∷ ss) (u ∷ ts) t us (suc k) are place apart = not_apart ss ts t us k are.1 place.1 apart.1
 
 pub sayings_none : AreSayings [] []
 unfolding AreSayings
@@ -194,7 +196,7 @@ pub take_is : {A : Type 0} (xs : List A) (k : ℕ) (x : A) → k < length xs →
 take_is xs k x inside is = take_more xs k x inside ∙ ap (λ y. take k xs ++ y ∷ []) (sym is)
 
 -- the first event that is said there is taken, if there is one
-pub popped_some : (p : Proc) (ss : List Saying) (k : ℕ) (e x : Saying) (o : Option KeptDue) → IsPlace ss p k → x.proc ≡ (get_or ss k e).proc
+pub popped_some : (p : Proc) (ss : List Saying) (k : ℕ) (e x : Saying) (o : Option KeptDue) → IsPlace ss p k → last_of x ≡ last_of (get_or ss k e)
     → (get_or ss k e).dues.items ≡ option_to_list o ++ x.dues.items → IfSome o (λ d. Takes ss p (said_in d) (set ss k x))
 popped_some p ss k e x None place same is = tt
 popped_some p ss k e x (Some d) place same is = taken_at p d x.dues.items x ss k e place same is refl

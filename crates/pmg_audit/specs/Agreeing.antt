@@ -9,11 +9,11 @@ use Rattle.pmg_fence.specs.Entering.{same_proc}
 use Rattle.pmg_rules.specs.Acts.{free_cause}
 use Rattle.pmg_node.specs.Opening.{new_server}
 use Rattle.pmg_node.specs.Servers.{Server, after}
-use Rattle.pmg_journal.specs.Replays.{Happening}
+use Rattle.pmg_journal.specs.Replays.{Happening, after_all}
 use Rattle.pmg_journal.specs.Transcripts.{noted_in}
 use Rattle.pmg_journal.specs.declared.journal.Journal.{Journal}
 use Rattle.pmg_journal.specs.declared.transcript.Transcript.{Transcript}
-use Rattle.pmg_audit.specs.Dues.{Due, due_event, said_by, takes_all}
+use Rattle.pmg_audit.specs.Dues.{Due, due_event, last_puts, said_by, takes_all}
 use Rattle.pmg_audit.specs.Moves.{Put, caller_of}
 use Rattle.pmg_audit.specs.Runs.{TellsOf, told_at}
 
@@ -55,10 +55,20 @@ unfoldable pub AreSaid : Server → (Proc → List Due) → List Happening → T
 AreSaid s rest [] = Unit {0}
 AreSaid s rest (e ∷ es) = IsSaidBy s rest (caller_of e.act) e × AreSaid (after s e.act) (rest_after rest (caller_of e.act)) es
 
+-- the server of the process's home, once all happened that its journal tells
+abbrev pub home_after : Jobs → List Journal → Proc → Server
+home_after jobs js p = after_all (new_server jobs (home_of jobs p)) (told_at js (home_of jobs p))
+
+-- what the process put after its last event may be put at its home by then
+abbrev pub MayPutLast : Jobs → List Journal → Transcript → Type 0
+MayPutLast jobs js t = MayPut (home_after jobs js t.proc) t.proc (last_puts t)
+
 -- No two transcripts are of one process; each client's cache takes what it is said to have put; each event that a process makes is at its
--- home, and in its transcript; and each transcript says just the events that its process made there.
+-- home, and in its transcript; each transcript says just the events that its process made there; and where it says that something was put
+-- after them, its process was in no call at the end of its home's journal, and had not ended.
 pub record AreAgreed (jobs : Jobs) (js : List Journal) (ts : List Transcript) : Type 0 where
   pub apart : AreApart ts
   pub taken : Each (λ (t : Transcript). takes_all no_puts (noted_in t) ≡ true) ts
   pub said : (n : ℕ) → n < length jobs.nodes → AreSaid (new_server jobs n) (said_for ts) (told_at js n)
   pub calls : Each (TellsOf jobs js) ts
+  pub last : Each (MayPutLast jobs js) ts

@@ -70,6 +70,15 @@ dues p c puts (n ∷ ns) = due_of puts n.reply (act_said p c n) ++ dues p (cache
 abbrev pub said_by : Transcript → List Due
 said_by t = dues t.proc no_puts [] (noted_in t)
 
+-- the puts that no event was told of, after the calls
+unfoldable pub puts_after : Proc → Cached → List Put → List Noted → List Put
+puts_after p c puts [] = puts
+puts_after p c puts (n ∷ ns) = puts_after p (cached_by c n.call n.reply) (puts_next puts n (act_said p c n)) ns
+
+-- what a client put after its last event, by its transcript
+abbrev pub last_puts : Transcript → List Put
+last_puts t = puts_after t.proc no_puts [] (noted_in t)
+
 -- the cache takes the put, where that is said to be done
 abbrev pub takes : Cached → Calling → Reply → Bool
 takes c (Calling.put scope key value) Reply.done = is_ok (first_of (put_cause c scope key value) (tt {0}))

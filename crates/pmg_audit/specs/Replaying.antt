@@ -12,14 +12,14 @@ use Rattle.pmg_node.specs.Servers.{Server, after, reply_to, sent_by}
 use Rattle.pmg_journal.specs.Replays.{Happening, IsReplay}
 use Rattle.pmg_journal.specs.declared.journal.Journal.{Journal}
 use Rattle.pmg_journal.specs.declared.transcript.Transcript.{Transcript}
-use Rattle.pmg_audit.specs.Agreeing.{AreAgreed, AreSaid, IsSaidBy}
-use Rattle.pmg_audit.specs.Codes.{all_of, lane_of, rest_of}
+use Rattle.pmg_audit.specs.Agreeing.{AreAgreed, AreSaid, IsSaidBy, MayPut}
+use Rattle.pmg_audit.specs.Codes.{all_of, lane_of, put_in, rest_of}
 use Rattle.pmg_audit.specs.Dues.{Due, due, due_in}
 use Rattle.pmg_audit.specs.Faults.{AreStale}
 use Rattle.pmg_audit.specs.Moves.{Move, Put, PutsAt, Replays, caller_of, end_of, event_in, is_by}
 use Rattle.pmg_audit.specs.Orders.{moves_at}
 use Rattle.pmg_audit.specs.Runs.{AreEnds, AreMoves, ArePut, told_at}
-use Rattle.pmg_audit.specs.Taking.{SomeLeft, procs_of}
+use Rattle.pmg_audit.specs.Taking.{SomeLeft, lasts_of}
 use Rattle.pmg_audit.specs.declared.moves.Saying.{Saying}
 use Rattle.pmg_audit.specs.declared.replaying.Replay.{Replay}
 use Rattle.pmg_audit.specs.declared.replaying.AllReplayed.{AllReplayed}
@@ -44,7 +44,7 @@ move_by s puts e = record { puts = puts; act = e.act; reply = e.reply; frames = 
 pub record TakesPuts (s : Server) (old : List Saying) (e : Happening) (puts : List Put) (new : List Saying) : Type 0 where
   pub at : PutsAt s (caller_of e.act) puts
   pub rests : (p : Proc) → rest_of old p ≡ (if is_by p e.act then due puts e.act e.reply ∷ rest_of new p else rest_of new p)
-  pub procs : procs_of new ≡ procs_of old
+  pub lasts : lasts_of new ≡ lasts_of old
 
 -- what the event adds to the replay
 pub record IsAdded (r : Replay) (puts : List Put) (e : Happening) (r2 : Replay) : Type 0 where
@@ -62,7 +62,7 @@ pub record IsReplayed (s : Server) (old : List Saying) (es : List Happening) (r 
   pub rests : (p : Proc) → rest_of old p ≡ map due_in (moves_by p (lane_of r.lane)) ++ rest_of new p
   pub home : (p : Proc) → (home_of s.jobs p ≡ s.id → ⊥) → moves_by p (lane_of r.lane) ≡ []
   pub said : AreSaid s (rest_of old) es
-  pub procs : procs_of new ≡ procs_of old
+  pub lasts : lasts_of new ≡ lasts_of old
 
 -- the journals of so many nodes are replayed, and what is said of their events is told
 pub record AreReplayed (jobs : Jobs) (js : List Journal) (old : List Saying) (count : ℕ) (r : AllReplayed) (new : List Saying) : Type 0 where
@@ -74,7 +74,7 @@ pub record AreReplayed (jobs : Jobs) (js : List Journal) (old : List Saying) (co
   pub stale : r.is_stale ≡ true → AreStale jobs js
   pub rests : (p : Proc) → rest_of old p ≡ map due_in (moves_by p (moves_at (all_of r.lanes.items) (home_of jobs p))) ++ rest_of new p
   pub said : (n : ℕ) → n < count → AreSaid (new_server jobs n) (rest_of old) (told_at js n)
-  pub procs : procs_of new ≡ procs_of old
+  pub lasts : lasts_of new ≡ lasts_of old
 
 -- all journals are replayed, and the transcripts tell the same
 pub record AreWhole (jobs : Jobs) (js : List Journal) (ts : List Transcript) (r : AllReplayed) : Type 0 where
@@ -119,10 +119,19 @@ AddsNode jobs js n r ss r2 ss2 = (first : List Saying) → AreReplayed jobs js f
 unfoldable pub SomeUnsaid : Jobs → List Journal → List Saying → Type 0
 SomeUnsaid jobs js ss = AreUnsaid jobs js (rest_of ss)
 
--- all that the journals tell is replayed, and nothing is left that is said
+-- the process may put at its home, of these nodes, what it put after its last event
+abbrev pub MayPutAt : Jobs → List Server → Saying → Type 0
+MayPutAt jobs nodes s = (d : Server) → MayPut (slice_index_or nodes (home_of jobs s.proc) d) s.proc (map put_in s.last_puts.items)
+
+-- so may each
+abbrev pub AllMayPut : Jobs → List Server → List Saying → Type 0
+AllMayPut jobs nodes ss = Each (MayPutAt jobs nodes) ss
+
+-- all that the journals tell is replayed, nothing is left that is said, and what was put last may be
 pub record AreEnded (jobs : Jobs) (js : List Journal) (first : List Saying) (r : AllReplayed) (ss : List Saying) : Type 0 where
   pub done : AreReplayed jobs js first (length jobs.nodes) r ss
   pub told : Each (λ (s : Saying). s.dues.items ≡ []) ss
+  pub last : AllMayPut jobs r.nodes.items ss
   pub fresh : r.is_stale ≡ false
 
 -- something is left that is said, of all that the journals tell
@@ -132,20 +141,28 @@ pub record IsLeft (jobs : Jobs) (js : List Journal) (first : List Saying) : Type
   pub done : AreReplayed jobs js first (length jobs.nodes) r ss
   pub left : SomeLeft ss
 
--- nothing is left that is said, once all that the journals tell is replayed
+-- what was put last may not be, once all that the journals tell is replayed
+pub record IsBarred (jobs : Jobs) (js : List Journal) (first : List Saying) : Type 0 where
+  pub r : AllReplayed
+  pub ss : List Saying
+  pub done : AreReplayed jobs js first (length jobs.nodes) r ss
+  pub barred : AllMayPut jobs r.nodes.items ss → ⊥
+
+-- nothing is left that is said, once all that the journals tell is replayed, and what was put last may be
 pub record IsDone (jobs : Jobs) (js : List Journal) (first : List Saying) : Type 0 where
   pub r : AllReplayed
   pub ss : List Saying
   pub done : AreReplayed jobs js first (length jobs.nodes) r ss
   pub told : Each (λ (s : Saying). s.dues.items ≡ []) ss
+  pub last : AllMayPut jobs r.nodes.items ss
 
 -- why the journals and what is said are no whole
 abbrev pub EndsFor : Jobs → List Journal → List Saying → Refusal → Type 0
 EndsFor jobs js first refusals.NoMemory = Unit {0}
-EndsFor jobs js first refusals.Collision = SomeUnsaid jobs js first ⊎ IsLeft jobs js first
+EndsFor jobs js first refusals.Collision = SomeUnsaid jobs js first ⊎ (IsLeft jobs js first ⊎ IsBarred jobs js first)
 EndsFor jobs js first refusals.Stale = IsDone jobs js first × AreStale jobs js
 EndsFor jobs js first e = ⊥
 
--- nothing is left that is said
+-- they are a whole
 unfoldable pub EndsWell : Jobs → List Journal → List Saying → AllReplayed → Type 0
 EndsWell jobs js first r = (ss : List Saying) × AreEnded jobs js first r ss

@@ -7,19 +7,33 @@ use Rattle.pmg_value.specs.Process.{proc_cmp}
 use Rattle.pmg_value.specs.declared.process.Proc.{Proc}
 use Rattle.pmg_fence.specs.Entering.{same_proc}
 use Rattle.pmg_journal.specs.declared.transcript.Transcript.{Transcript}
-use Rattle.pmg_audit.specs.Codes.{rest_of, said_in}
-use Rattle.pmg_audit.specs.Dues.{Due, said_by}
+use Rattle.pmg_audit.specs.Codes.{put_in, rest_of, said_in}
+use Rattle.pmg_audit.specs.Dues.{Due, last_puts, said_by}
+use Rattle.pmg_audit.specs.Moves.{Put}
 use Rattle.pmg_audit.specs.declared.moves.Saying.{Saying}
+
+-- it says what the transcript says
+pub record Says (s : Saying) (t : Transcript) : Type 0 where
+  pub proc : s.proc ≡ t.proc
+  pub dues : map said_in s.dues.items ≡ said_by t
+  pub last : map put_in s.last_puts.items ≡ last_puts t
 
 -- each says what a transcript says
 unfoldable pub AreSayings : List Saying → List Transcript → Type 0
 AreSayings [] [] = Unit {0}
-AreSayings (s ∷ ss) (t ∷ ts) = (s.proc ≡ t.proc) × (map said_in s.dues.items ≡ said_by t) × AreSayings ss ts
+AreSayings (s ∷ ss) (t ∷ ts) = Says s t × AreSayings ss ts
 AreSayings _ _ = ⊥
 
 -- of which processes they are
 abbrev pub procs_of : List Saying → List Proc
 procs_of ss = map (λ (s : Saying). s.proc) ss
+
+-- its process, and what that put after its last event
+abbrev pub last_of : Saying → Proc × List Put
+last_of s = (s.proc, map put_in s.last_puts.items)
+
+abbrev pub lasts_of : List Saying → List (Proc × List Put)
+lasts_of ss = map last_of ss
 
 -- the process is none of these
 abbrev pub IsAbsent : List Proc → Proc → Type 0
@@ -52,7 +66,7 @@ pub record ArePlaces (ps : List Proc) (rows : List (Proc × ℕ)) : Type 0 where
 pub record Takes (old : List Saying) (p : Proc) (d : Due) (new : List Saying) : Type 0 where
   pub here : rest_of old p ≡ d ∷ rest_of new p
   pub others : (q : Proc) → same_proc q p ≡ false → rest_of new q ≡ rest_of old q
-  pub procs : procs_of new ≡ procs_of old
+  pub lasts : lasts_of new ≡ lasts_of old
 
 -- something is left of what some process says
 abbrev pub SomeLeft : List Saying → Type 0

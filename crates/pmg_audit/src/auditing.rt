@@ -79,6 +79,7 @@ fn replays_with(
     journals: &[Journal],
     mut sayings: Sayings,
 ) -> Result<AllReplayed, Refusal>
+    requires { AreJobs registry.now }
     ensures ok { IfOk result (λ all. EndsWell registry.now journals.now sayings all) }
     ensures refused { IfErr result (λ e. EndsFor registry.now journals.now sayings e) }
 {
@@ -92,12 +93,16 @@ fn replays_among(
     journals: &[Journal],
     sayings: &mut Sayings,
 ) -> Result<AllReplayed, Refusal>
+    requires { AreJobs registry.now }
     ensures ok { IfOk result (λ all. EndsWell registry.now journals.now sayings.old all) }
     ensures refused { IfErr result (λ e. EndsFor registry.now journals.now sayings.old e) }
 {
     match replay_all(alloc, registry, journals, sayings) {
         Ok(all) => {
             if !sayings.are_told() {
+                return Err(Refusal::Collision);
+            }
+            if !all.may_put_last(registry, sayings.as_slice()) {
                 return Err(Refusal::Collision);
             }
             if all.is_stale {
@@ -165,9 +170,10 @@ fn run_of(
 }
 
 /// The one run that the journals and the transcripts tell. Refused as BadParam where there is not one journal for each node of one
-/// group; as Collision where two transcripts are of one process, a process that made an event has none, or one differs from its
-/// process's events in its home's journal; as Stale where the reply of an event is another on replay; as Unordered where no order
-/// delivers each frame after it was sent; each only where none of those before it is there.
+/// group; as Collision where two transcripts are of one process, a process that made an event has none, one differs from its
+/// process's events in its home's journal, or a put is said to be done that its client's cache refuses, or by a process that was in a
+/// call or had ended; as Stale where the reply of an event is another on replay; as Unordered where no order delivers each frame after
+/// it was sent; each only where none of those before it is there.
 pub fn audit(
     alloc: Global,
     journals: &[Journal],

@@ -61,17 +61,23 @@ impl Due {
     }
 }
 
-/// The events that a client says it made, of which no journal told yet.
+/// The events that a client says it made, of which no journal told yet, and what it put after them.
 pub(crate) struct Saying {
     /// The client's process.
     pub(crate) proc: Proc,
     /// The events, in their order.
     pub(crate) dues: VecDeque<Due>,
+    /// What it put after its last event.
+    pub(crate) last_puts: Vec<Put>,
 }
 
 impl Drop for Saying {
     fn drop(self) {
-        let Saying { proc: _, dues: _ } = self;
+        let Saying {
+            proc: _,
+            dues: _,
+            last_puts: _,
+        } = self;
     }
 }
 

@@ -1,5 +1,6 @@
 //! Journals that are replayed, each on a node of its own.
 ghost use Rattle.std.specs.Prelude.{◌≡◌, ◌≢◌, ◌<◌, ◌+◌, true, false, [], ◌∷◌, ◌++◌, length, map, List, Some, IfOk, IfErr, IfSome, IsNone, IsTrue, OnOk, ◌↔◌, ◌⊎◌};
+ghost use Rattle.pmg_jobinfo.specs.Jobs.{AreJobs};
 ghost use Rattle.pmg_node.specs.Acting.{act_of, reply_as};
 ghost use Rattle.pmg_node.specs.Opening.{new_server};
 ghost use Rattle.pmg_node.specs.Servers.{after, reply_in, reply_to, sent_by};
@@ -8,10 +9,10 @@ ghost use Rattle.pmg_audit.specs.Agreeing.{IsSaidBy, MayPut};
 ghost use Rattle.pmg_audit.specs.Codes.{lane_of, move_in, put_in, rest_of, said_in};
 ghost use Rattle.pmg_audit.specs.Dues.{due_event};
 ghost use Rattle.pmg_audit.specs.Moves.{caller_of};
-ghost use Rattle.pmg_audit.specs.Replaying.{AddsNode, AllUnsaid, AreReplayed, Continues, HaveHappened, IsAdded, IsUnsaid, RefusesFor, SomeUnsaid, TakesPuts, sent_more, unsent_move};
+ghost use Rattle.pmg_audit.specs.Replaying.{AddsNode, AllMayPut, AllUnsaid, AreReplayed, Continues, HaveHappened, IsAdded, IsUnsaid, RefusesFor, SomeUnsaid, TakesPuts, sent_more, unsent_move};
 ghost use Rattle.pmg_audit.specs.Runs.{told_at};
 
-use crate::moves::{Due, Lane, Move, Put};
+use crate::moves::{Due, Lane, Move, Put, Saying};
 use crate::ordering::caller_of;
 use crate::same::{is_same_act, is_same_answer};
 use crate::sayings::Sayings;
@@ -264,6 +265,22 @@ impl AllReplayed {
         self.nodes.push(node)?;
         self.lanes.push(lane)?;
         Ok(())
+    }
+
+    /// Whether each process, at its home after all that happened there, may have put what it put after its last event.
+    pub(crate) fn may_put_last(&self, registry: &Registry, sayings: &[Saying]) -> bool
+        requires jobs { AreJobs registry.now }
+        requires nodes { length self.now.nodes.items ≡ length registry.now.nodes }
+        ensures may { result ≡ true → AllMayPut registry.now self.now.nodes.items sayings.now }
+        ensures other { result ≡ false → AllMayPut registry.now self.now.nodes.items sayings.now → ⊥ }
+    {
+        for saying in sayings {
+            let home = registry.home_of(&saying.proc).index() as usize;
+            if !may_put(&self.nodes[home], &saying.proc, &saying.last_puts) {
+                return false;
+            }
+        }
+        true
     }
 
     /// The nodes.

@@ -12,10 +12,10 @@ ghost use Rattle.pmg_journal.specs.Transcripts.{Calling, calling_of, noted, note
 ghost use Rattle.pmg_journal.specs.declared.transcript.Transcript.{Transcript as TranscriptOf};
 ghost use Rattle.pmg_audit.specs.Agreeing.{AreApart};
 ghost use Rattle.pmg_audit.specs.Codes.{put_in, rest_of, said_in};
-ghost use Rattle.pmg_audit.specs.Dues.{due, dues, is_passed, said_by, takes, takes_all};
+ghost use Rattle.pmg_audit.specs.Dues.{due, dues, is_passed, puts_after, takes, takes_all};
 ghost use Rattle.pmg_audit.specs.Moves.{is_own_ask};
 ghost use Rattle.pmg_audit.specs.Reading.{Reads};
-ghost use Rattle.pmg_audit.specs.Taking.{ArePlaces, AreSayings, NoneOf, SomeLeft, Takes, procs_of};
+ghost use Rattle.pmg_audit.specs.Taking.{ArePlaces, AreSayings, NoneOf, Says, SomeLeft, Takes, procs_of};
 ghost use Rattle.pmg_audit.specs.declared.moves.Saying.{Saying as SayingOf};
 
 use crate::moves::{Due, Put, Saying};
@@ -162,6 +162,8 @@ impl Reading {
         ensures taken { IfOk result (λ t. t ≡ takes_all self.old.cache (map noted_of calls.now)) }
         ensures said { IfOk result (λ t. t ≡ true → map said_in self.new.dues.items
             ≡ map said_in self.old.dues.items ++ dues proc.now self.old.cache (map put_in self.old.puts.items) (map noted_of calls.now)) }
+        ensures left { IfOk result (λ t. t ≡ true → map put_in self.new.puts.items
+            ≡ puts_after proc.now self.old.cache (map put_in self.old.puts.items) (map noted_of calls.now)) }
     {
         for called in calls {
             if !self.read(proc, called)? {
@@ -171,24 +173,30 @@ impl Reading {
         Ok(true)
     }
 
-    /// The events.
-    fn into_dues(self) -> VecDeque<Due>
-        ensures { result ≡ self.dues }
+    /// What the process says: the events, and what it put after the last one.
+    fn into_saying(self, proc: Proc) -> Saying
+        ensures proc { result.proc ≡ proc }
+        ensures dues { result.dues ≡ self.dues }
+        ensures last { result.last_puts ≡ self.puts }
     {
         let Reading {
             alloc: _,
             cache: _,
-            puts: _,
+            puts,
             dues,
         } = self;
-        dues
+        Saying {
+            proc,
+            dues,
+            last_puts: puts,
+        }
     }
 }
 
-/// The events that the transcript says its client made; none where the client's cache would not take what it is said to have put.
-fn dues_of(alloc: Global, transcript: &Transcript) -> Result<Option<VecDeque<Due>>, AllocError>
-    ensures said { IfOk result (λ o. IfSome o (λ dues. map said_in dues.items ≡ said_by transcript.now)) }
-    ensures taken { IfOk result (λ o. IfSome o (λ dues. takes_all no_puts (noted_in transcript.now) ≡ true)) }
+/// What the transcript says; none where the client's cache would not take what it is said to have put.
+fn saying_of(alloc: Global, transcript: &Transcript) -> Result<Option<Saying>, AllocError>
+    ensures said { IfOk result (λ o. IfSome o (λ saying. Says saying transcript.now)) }
+    ensures taken { IfOk result (λ o. IfSome o (λ saying. takes_all no_puts (noted_in transcript.now) ≡ true)) }
     ensures none { IfOk result (λ o. IsNone o → takes_all no_puts (noted_in transcript.now) ≡ false) }
 {
     let mut reading = Reading {
@@ -200,7 +208,8 @@ fn dues_of(alloc: Global, transcript: &Transcript) -> Result<Option<VecDeque<Due
     if !reading.read_all(&transcript.proc, &transcript.calls)? {
         return Ok(None);
     }
-    Ok(Some(reading.into_dues()))
+    let proc = transcript.proc.copy()?;
+    Ok(Some(reading.into_saying(proc)))
 }
 
 /// What clients say, each found by its process.
@@ -264,11 +273,10 @@ pub(crate) fn sayings_of(alloc: Global, transcripts: &[Transcript]) -> Result<Sa
         if places.contains_key(&transcript.proc) {
             return Err(Refusal::Collision);
         }
-        let Some(dues) = dues_of(alloc, transcript)? else {
+        let Some(saying) = saying_of(alloc, transcript)? else {
             return Err(Refusal::Collision);
         };
-        let proc = transcript.proc.copy()?;
-        add(&mut items, &mut places, Saying { proc, dues })?;
+        add(&mut items, &mut places, saying)?;
     }
     Ok(Sayings { items, places })
 }
@@ -283,6 +291,13 @@ impl Sayings {
             Some(place) => self.items[place].dues.pop_front(),
             None => None,
         }
+    }
+
+    /// What each says.
+    pub(crate) fn as_slice(&self) -> &[Saying]
+        ensures { result.now ≡ self.now }
+    {
+        &self.items
     }
 
     /// Whether no event is left that a client says it made.

@@ -170,8 +170,8 @@ fn call_of(alloc: Global, words: &[&str]) -> Result<Call, Refusal> {
     }
 }
 
-// The call of a line.
-fn called_of(alloc: Global, line: &str) -> Result<Called, Refusal> {
+/// The call of a line.
+pub(crate) fn called_of(alloc: Global, line: &str) -> Result<Called, Refusal> {
     let (asked, told) = parts_of(line)?;
     let call = call_of(alloc, &words_of(alloc, asked)?)?;
     let answer = answer(alloc, &words_of(alloc, told)?)?;

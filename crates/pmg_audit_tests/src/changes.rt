@@ -1,6 +1,6 @@
 //! What is answered where one line of an account is changed.
 use crate::accounts::{Account, Accounts, Change};
-use crate::{exchange, fences};
+use crate::{exchange, fences, gets};
 use pmg_value::Refusal;
 use std::alloc::Global;
 use std::process::Abort;
@@ -90,6 +90,13 @@ fn each_line_of_an_exchange_is_changed(rt: HostRuntime) -> Result<(), Refusal> {
 #[test]
 fn fences_are_changed(rt: HostRuntime) -> Result<(), Refusal> {
     let wrong = wrong_rows(rt.alloc(), [fences::AT_ZERO, fences::AT_ONE])?;
+    assert_eq!(rt; str::from_utf8(&wrong).unwrap_or("no text"), "");
+    Ok(())
+}
+
+#[test]
+fn gets_are_changed(rt: HostRuntime) -> Result<(), Refusal> {
+    let wrong = wrong_rows(rt.alloc(), [gets::AT_ZERO, gets::AT_ONE])?;
     assert_eq!(rt; str::from_utf8(&wrong).unwrap_or("no text"), "");
     Ok(())
 }

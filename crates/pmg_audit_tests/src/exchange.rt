@@ -248,6 +248,9 @@ end j0: ended 3
   J Collision twice
   B Stale twice
   J fine swap
+  # who has ended can put nothing
+  T Collision also put j0 global d 1: ok
+  T fine also put j0 global d 1: Terminated
 delete s: defined 2
   J Stale delete t: defined 2
   J Stale delete s: defined 3
@@ -448,6 +451,9 @@ now j1 j0 a: found 3
   B fine wait j1 j0 a: found 3
   B fine out
   B fine twice
+  # what is put after the last event is lost
+  T fine also put j1 global d 1: ok
+  T Collision also put j1 undef d 1: ok
 ";
 
 /// How many events their run has: what is asked of the nodes, the frames that are delivered, and the puts that are done.

@@ -14,4 +14,6 @@ mod exchange;
 #[cfg(test)]
 mod fences;
 #[cfg(test)]
+mod gets;
+#[cfg(test)]
 mod words;

@@ -1,6 +1,6 @@
 use Rattle.std.proofs.Common.{◌≡◌, [], List, IfSome, IsNone, set, drop, sym, ap, subst, ◌∙◌, rules}
 use Rattle.pmg_audit.specs.Codes.{rest_of, said_in}
-use Rattle.pmg_audit.specs.Taking.{IsPlace, Takes}
+use Rattle.pmg_audit.specs.Taking.{IsPlace, Takes, last_of}
 use Rattle.pmg_audit.specs.declared.moves.Saying.{Saying}
 use Rattle.pmg_audit.proofs.SayingLemmas.{none_rest, place_inside, places_stay, popped_none, popped_some}
 use Rattle.pmg_audit.proofs.sayings.Sayings.take_due.Goals as goal
@@ -15,9 +15,8 @@ index_mut-requires c =
 pub invariant_of-self : goal.invariant_of-self
 invariant_of-self c =
     let ss = c.self.inside.items.items in
-    let place : IsPlace ss c.args.proc.now c.in-Some.place = c.self.invariant.found c.args.proc.now c.in-Some.place (sym (c.copied.ensures ∙ c.get.ensures.value) ∙ c.in-Some.is) in
     let e : Saying = c.index_mut.result.now in
-    places_stay c.args.proc.now _ ss c.in-Some.place e c.self.inside.places.entries place (ap (λ (s : Saying). s.proc) c.index_mut.ensures.value) c.self.invariant
+    places_stay _ ss c.in-Some.place e c.self.inside.places.entries (ap (λ (s : Saying). s.proc) c.index_mut.ensures.value) c.self.invariant
 
 pub returns-in-Some-clause-some : goal.returns-in-Some-clause-some
 returns-in-Some-clause-some c =
@@ -26,9 +25,9 @@ returns-in-Some-clause-some c =
     let k = c.in-Some.place in
     let place : IsPlace ss p k = c.self.invariant.found p k (sym (c.copied.ensures ∙ c.get.ensures.value) ∙ c.in-Some.is) in
     let e : Saying = c.index_mut.result.now in
-    let x : Saying = record { proc = e.proc; dues = c.pop_front.new.self } in
+    let x : Saying = record { proc = e.proc; dues = c.pop_front.new.self; last_puts = e.last_puts } in
     subst (λ (l : List Saying). IfSome c.pop_front.result (λ d. Takes l p (said_in d) (set ss k x))) c.self.view_is
-    (popped_some p ss k e x c.pop_front.result place (ap (λ (s : Saying). s.proc) c.index_mut.ensures.value)
+    (popped_some p ss k e x c.pop_front.result place (ap last_of c.index_mut.ensures.value)
     (ap (λ (s : Saying). s.dues.items) (sym c.index_mut.ensures.value) ∙ c.pop_front.ensures.items))
 
 pub returns-in-Some-clause-none : goal.returns-in-Some-clause-none
