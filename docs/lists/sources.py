@@ -85,6 +85,11 @@ def all_definitions():
     return [it for crate in crates() for path in files(crate, "specs", ".antt") for it in definitions_of(crate, path)]
 
 
+def home_of(it):
+    """The file of a definition, as pages name it: its crate and the file's name."""
+    return it.path.removeprefix("crates/").replace("/specs/", "/").removesuffix(".antt")
+
+
 # ---- functions
 
 def exported(crate):
