@@ -4,16 +4,20 @@ import os
 import re
 from collections import namedtuple
 
-# A definition: its crate, file, line, name, comment, whether it is public, and its lines without the comment.
-Definition = namedtuple("Definition", "crate path line name comment public text")
-# A function: its crate, file, line, path, first sentence, its clauses, as pairs of the word and the name, and whether the crate's
-# library exports it.
-Function = namedtuple("Function", "crate path line name sentence clauses exported")
+# A definition: its crate, file, line, name, comment, whether it is public, its lines without the comment, and whether it is a lemma,
+# which is proved and not believed.
+Definition = namedtuple("Definition", "crate path line name comment public text is_lemma")
+# A function: its crate, file, line, path, first sentence, its clauses, whether the crate's library exports it, and whether it is a law:
+# it has no arguments and an empty body, so that its clauses are all that it says.
+Function = namedtuple("Function", "crate path line name sentence clauses exported is_law")
+# A clause: `requires` or `ensures`, its name, if it has one, and what it says, if that stands on its line.
+Clause = namedtuple("Clause", "word name says")
 
 ITEM = re.compile(r"(?P<indent> *)(?:(?:abbrev|unfoldable) +)?(?P<public>pub +)?(?:(?:abbrev|unfoldable) +)?(?:(?:record|data) +)?(?P<name>[^\s:(){]+)(?= |$)")
 DECLARES = re.compile(r" *((abbrev|unfoldable)\b|(pub +)?(record|data) |pub [^\s:]+ :|[^\s:(){}]+ :( |$))")
+KEYWORD = re.compile(r" *(pub +)?(abbrev|unfoldable|record|data) ")
 NO_ITEM = re.compile(r" *(use|pub use|pub mod|unfoldable pub mod|module|infixl|infixr|infix)\b")
-CLAUSE = re.compile(r"\s*(requires|ensures)\b(?: (\w+))? *\{")
+CLAUSE = re.compile(r"\s*(requires|ensures)\b(?: (\w+))? *\{(?: (.*) \};?$)?")
 HEAD = re.compile(r"\s*(?P<public>pub )?(?:unsafe )?fn (?P<name>\w+)")
 BLOCK = re.compile(r"(?P<unsafe>unsafe )?(?P<kind>impl|pub trait|trait)\b(?P<rest>.*)")
 
@@ -77,7 +81,7 @@ def definitions_of(crate, path):
     found = list(starts(lines))
     ends = [at for at, _ in found[1:]] + [len(lines)]
     for (at, it), end in zip(found, ends):
-        yield Definition(crate, path, at + 1, it["name"], comment_above(lines, at), bool(it["public"]), text_of(lines, at, end))
+        yield Definition(crate, path, at + 1, it["name"], comment_above(lines, at), bool(it["public"]), text_of(lines, at, end), not KEYWORD.match(lines[at]))
 
 
 def all_definitions():
@@ -128,7 +132,7 @@ def clauses_below(lines, at):
     for line in lines[at + 1:]:
         clause = CLAUSE.match(line)
         if clause:
-            found.append((clause[1], clause[2]))
+            found.append(Clause(*clause.groups()))
         elif re.match(r"\s*(\{|pub |fn |///|\}\s*$)", line) or line.rstrip().endswith(";") and found:
             break
     return found
@@ -157,7 +161,9 @@ def functions_of(crate, path, names, modules):
         if implements and not clauses:
             continue
         name = f"{of}::{head['name']}" if inside else head["name"]
-        yield Function(crate, path, at + 1, f"{name} of {implements}" if implements else name, sentence_above(lines, at), clauses, is_there)
+        name = f"{name} of {implements}" if implements else name
+        is_law = "()" in line and lines[at + 1 + len(clauses)] == "{}"
+        yield Function(crate, path, at + 1, name, sentence_above(lines, at), clauses, is_there, is_law)
 
 
 def all_functions():
