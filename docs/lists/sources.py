@@ -36,7 +36,7 @@ def crates(every=False):
 def exceptions(part):
     """The exceptions of that part of the list of exceptions, as what stands before the colon and what after it."""
     found = re.search(rf"^## .*\b{part}\b.*\n((?:(?!##).*\n)*)", read("docs/lists/EXCEPTIONS.md"), re.M)
-    return [tuple(it.split(": ", 1)) for it in found[1].split("\n") if ": " in it]
+    return [tuple(it[2:].split(": ", 1)) for it in found[1].split("\n") if it.startswith("- ")]
 
 
 def files(crate, part, ending):
