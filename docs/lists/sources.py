@@ -13,13 +13,13 @@ Function = namedtuple("Function", "crate path line name sentence clauses exporte
 # A clause: `requires` or `ensures`, its name, if it has one, and what it says, if that stands on its line.
 Clause = namedtuple("Clause", "word name says")
 
-ITEM = re.compile(r"(?P<indent> *)(?:(?:abbrev|unfoldable) +)?(?P<public>pub +)?(?:(?:abbrev|unfoldable) +)?(?:(?:record|data) +)?(?P<name>[^\s:(){]+)(?= |$)")
+ITEM = re.compile(r" *(?:(?:abbrev|unfoldable) +)?(?P<public>pub +)?(?:(?:abbrev|unfoldable) +)?(?:(?:record|data) +)?(?P<name>[^\s:(){]+)(?= |$)")
 DECLARES = re.compile(r" *((abbrev|unfoldable)\b|(pub +)?(record|data) |pub [^\s:]+ :|[^\s:(){}]+ :( |$))")
 KEYWORD = re.compile(r" *(pub +)?(abbrev|unfoldable|record|data) ")
 NO_ITEM = re.compile(r" *(use|pub use|pub mod|unfoldable pub mod|module|infixl|infixr|infix)\b")
 CLAUSE = re.compile(r"\s*(requires|ensures)\b(?: (\w+))? *\{(?: (.*) \};?$)?")
 HEAD = re.compile(r"\s*(?P<public>pub )?(?:unsafe )?fn (?P<name>\w+)")
-BLOCK = re.compile(r"(?P<unsafe>unsafe )?(?P<kind>impl|pub trait|trait)\b(?P<rest>.*)")
+BLOCK = re.compile(r"(?:unsafe )?(?P<kind>impl|pub trait|trait)\b(?P<rest>.*)")
 
 
 def read(path):
