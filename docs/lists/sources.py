@@ -97,11 +97,14 @@ def home_of(it):
 # ---- functions
 
 def exported(crate):
-    """The names that the crate's library exports, and the modules of it that are public."""
-    text = read(f"crates/{crate}/src/lib.rt") if os.path.exists(f"crates/{crate}/src/lib.rt") else ""
+    """The names that the crate's library exports, itself or in a module that is public, and these modules."""
+    root = f"crates/{crate}/src/lib.rt"
+    text = read(root) if os.path.exists(root) else ""
+    modules = set(re.findall(r"^pub mod (\w+);", text, re.M))
+    text += "".join(read(f"crates/{crate}/src/{it}.rt") for it in sorted(modules))
     used = re.findall(r"pub use [\w:]+?::(?:\{([^}]*)\}|(\w+));", text)
     names = {it.strip() for many, one in used for it in (many or one).split(",")}
-    return names | set(re.findall(r"^pub (?:fn|struct|enum|trait) (\w+)", text, re.M)), set(re.findall(r"^pub mod (\w+);", text, re.M))
+    return names | set(re.findall(r"^pub (?:fn|struct|enum|trait) (\w+)", text, re.M)), modules
 
 
 def owner_of(line):
