@@ -1,10 +1,9 @@
 """Each allocation, read and write of the program fails in turn, on each of the examples."""
 import functools
-import glob
-import os
 import re
 
-from failing import PROGRAM, ROOT, run, spread
+from failing import PROGRAM, run, spread
+from rows import examples, files
 
 NO_MEMORY = b"refused 0 NoMemory\n"
 READ_FAULT = b"read fault\n"
@@ -25,14 +24,9 @@ def is_whole(output):
 class Example:
     """An example, and how the program may end on it."""
 
-    def __init__(self, library, path):
+    def __init__(self, library, example):
         self.library = library
-        self.name = os.path.relpath(path, ROOT)
-        self.command = os.path.basename(os.path.dirname(path))
-        with open(path, "rb") as source:
-            self.data = source.read()
-        plain = self.run()
-        self.status, self.output = plain.status, plain.output
+        self.name, self.command, self.data, self.output, self.status = example
 
     def run(self, **failing):
         return run(self.library, [PROGRAM, self.command], self.data, **failing)
@@ -91,15 +85,8 @@ KINDS = [
 ]
 
 
-def paths_of(names):
-    """The examples in whose path one of these words stands; all of them, where there is no word."""
-    paths = [it for it in sorted(glob.glob(os.path.join(ROOT, "examples", "*", "*"))) if not it.endswith(".out")]
-    return [it for it in paths if not names or any(name in it for name in names)]
-
-
-def try_example(report, library, pool, most, path):
+def try_example(report, library, pool, most, example):
     """Tries at most so many numbers of each kind on one example."""
-    example = Example(library, path)
     short = example.run(FAIL_SHORT=1)
     counts = {True: short.counts, False: example.run().counts}
     report.add(f"{example.name}: one byte at a time", 1, [] if example.may_end(0, short) else [short[:2]])
@@ -111,6 +98,7 @@ def try_example(report, library, pool, most, path):
 
 
 def try_examples(report, library, pool, most, names):
-    """Tries at most so many numbers of each kind on each of these examples."""
-    for path in paths_of(names):
-        try_example(report, library, pool, most, path)
+    """Tries at most so many numbers of each kind on each example in whose name one of these words stands; a brief report is of files alone."""
+    for it in files() if report.is_brief else examples():
+        if not names or any(name in it.name for name in names):
+            try_example(report, library, pool, most, Example(library, it))

@@ -1,12 +1,11 @@
 """Streams, scripts and jobs from a fixed seed: examples with a few bytes changed, and inputs that are drawn field by field."""
 import json
-import os
 import random
 import re
 import shutil
 
 from failing import PROGRAM, ended
-from examples import paths_of
+from rows import files
 
 SEED = 20
 REFUSED = re.compile(rb"(refused \d+ \w+(: .+)?|read fault)\n")
@@ -140,11 +139,10 @@ def mutated(rng, data):
 
 
 def examples_by_command():
-    """Of each command the examples."""
+    """Of each command the examples that are files."""
     found = {command: [] for command in DRAWN}
-    for path in paths_of([]):
-        with open(path, "rb") as source:
-            found[os.path.basename(os.path.dirname(path))].append(source.read())
+    for it in files():
+        found[it.command].append(it.data)
     return found
 
 

@@ -1,21 +1,13 @@
-//! Tests of jobs and of the program's commands, from without: how jobs are read, how threads run them, what the commands print for
-//! a text, and what they end with.
+//! Tests of jobs and of the program's commands, from without: how threads run jobs, and what the commands print and end with where a
+//! reader or a writer fails. What they print for a text is shown by the examples.
 #![tactic(auto)]
 
 #[cfg(test)]
-mod arguments;
-#[cfg(test)]
 mod commands;
-#[cfg(test)]
-mod descriptions;
-#[cfg(test)]
-mod dumps;
 #[cfg(test)]
 mod jobs;
 #[cfg(test)]
 mod launches;
-#[cfg(test)]
-mod merges;
 #[cfg(test)]
 mod programs;
 #[cfg(test)]

@@ -16,7 +16,7 @@ use Rattle.pmg_journal.specs.declared.transcript.Transcript.{Transcript}
 use Rattle.pmg_audit.specs.Agreeing.{AreApart, said_for}
 use Rattle.pmg_audit.specs.Codes.{rest_of, said_in}
 use Rattle.pmg_audit.specs.Moves.{Put}
-use Rattle.pmg_audit.specs.Taking.{ArePlaces, AreSayings, IsAbsent, IsPlace, NoneOf, Says, StandsAt, Takes, last_of, lasts_of, place_at, procs_of}
+use Rattle.pmg_audit.specs.Taking.{ArePlaces, AreSayings, IsAbsent, IsPlace, NoneOf, IsSayingOf, StandsAt, Takes, last_of, lasts_of, place_at, procs_of}
 use Rattle.pmg_audit.specs.declared.moves.Due.{Due as KeptDue}
 use Rattle.pmg_audit.specs.declared.moves.Saying.{Saying}
 
@@ -145,7 +145,7 @@ module _ (p : Proc) (d : KeptDue) (ds : List KeptDue) (x : Saying) where
 
 -- ---- sayings and transcripts
 
-pub sayings_more : (ss : List Saying) (ts : List Transcript) (s : Saying) (t : Transcript) → AreSayings ss ts → Says s t → AreSayings (ss ++ s ∷ []) (ts ++ t ∷ [])
+pub sayings_more : (ss : List Saying) (ts : List Transcript) (s : Saying) (t : Transcript) → AreSayings ss ts → IsSayingOf s t → AreSayings (ss ++ s ∷ []) (ts ++ t ∷ [])
 unfolding AreSayings
 sayings_more [] [] s t are says = (says, tt)
 sayings_more [] (u ∷ ts) s t are says = absurd are

@@ -12,8 +12,8 @@ use Rattle.pmg_audit.specs.Dues.{Due, last_puts, said_by}
 use Rattle.pmg_audit.specs.Moves.{Put}
 use Rattle.pmg_audit.specs.declared.moves.Saying.{Saying}
 
--- it says what the transcript says
-pub record Says (s : Saying) (t : Transcript) : Type 0 where
+-- the saying is what the transcript says
+pub record IsSayingOf (s : Saying) (t : Transcript) : Type 0 where
   pub proc : s.proc ≡ t.proc
   pub dues : map said_in s.dues.items ≡ said_by t
   pub last : map put_in s.last_puts.items ≡ last_puts t
@@ -21,7 +21,7 @@ pub record Says (s : Saying) (t : Transcript) : Type 0 where
 -- each says what a transcript says
 unfoldable pub AreSayings : List Saying → List Transcript → Type 0
 AreSayings [] [] = Unit {0}
-AreSayings (s ∷ ss) (t ∷ ts) = Says s t × AreSayings ss ts
+AreSayings (s ∷ ss) (t ∷ ts) = IsSayingOf s t × AreSayings ss ts
 AreSayings _ _ = ⊥
 
 -- of which processes they are
@@ -32,6 +32,7 @@ procs_of ss = map (λ (s : Saying). s.proc) ss
 abbrev pub last_of : Saying → Proc × List Put
 last_of s = (s.proc, map put_in s.last_puts.items)
 
+-- so for each saying
 abbrev pub lasts_of : List Saying → List (Proc × List Put)
 lasts_of ss = map last_of ss
 

@@ -15,7 +15,7 @@ ghost use Rattle.pmg_audit.specs.Codes.{put_in, rest_of, said_in};
 ghost use Rattle.pmg_audit.specs.Dues.{due, dues, is_passed, puts_after, takes, takes_all};
 ghost use Rattle.pmg_audit.specs.Moves.{is_own_ask};
 ghost use Rattle.pmg_audit.specs.Reading.{Reads};
-ghost use Rattle.pmg_audit.specs.Taking.{ArePlaces, AreSayings, NoneOf, Says, SomeLeft, Takes, procs_of};
+ghost use Rattle.pmg_audit.specs.Taking.{ArePlaces, AreSayings, NoneOf, IsSayingOf, SomeLeft, Takes, procs_of};
 ghost use Rattle.pmg_audit.specs.declared.moves.Saying.{Saying as SayingOf};
 
 use crate::moves::{Due, Put, Saying};
@@ -195,7 +195,7 @@ impl Reading {
 
 /// What the transcript says; none where the client's cache would not take what it is said to have put.
 fn saying_of(alloc: Global, transcript: &Transcript) -> Result<Option<Saying>, AllocError>
-    ensures said { IfOk result (λ o. IfSome o (λ saying. Says saying transcript.now)) }
+    ensures said { IfOk result (λ o. IfSome o (λ saying. IsSayingOf saying transcript.now)) }
     ensures taken { IfOk result (λ o. IfSome o (λ saying. takes_all no_puts (noted_in transcript.now) ≡ true)) }
     ensures none { IfOk result (λ o. IsNone o → takes_all no_puts (noted_in transcript.now) ≡ false) }
 {

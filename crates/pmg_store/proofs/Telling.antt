@@ -1,29 +1,17 @@
 -- What is held of a process is the core of the union of what the pieces tell of it.
-use Rattle.std.proofs.Common.{ℕ, List, [], ◌∷◌, ◌≡◌, inl, inr, Bool, true, false, ◌&&◌, ◌||◌, nat_lt, nat_le, map, refl, sym, ap, ◌∙◌}
+use Rattle.std.proofs.Common.{ℕ, List, [], ◌∷◌, ◌≡◌, Bool, true, false, map, refl, sym, ap, ◌∙◌}
 use Rattle.std.specs.Prelude.{Option, Some, None, if◌then◌else◌}
-use Rattle.std.specs.Option.{option_map}
-use Rattle.std.specs.List.{list_any, fold}
-use Rattle.std.specs.Ordering.{nat_cmp}
-use Rattle.std.specs.FinSet as set
 use Rattle.std.specs.FinMap as finite
-use Rattle.std.proofs.lemmas.Bool.{false≢true}
-use Rattle.std.proofs.lemmas.Cmp.{nat_cmp_total}
 use Rattle.pmg_value.specs.declared.process.Proc.{Proc}
 use Rattle.pmg_value.specs.Process.{proc_cmp}
-use Rattle.pmg_value.specs.Lists.{In}
-use Rattle.pmg_value.proofs.ListLemmas.{in_append_left, in_append_right, in_parts}
-use Rattle.pmg_value.proofs.SetLemmas.{in_from_list, from_list_in}
 use Rattle.pmg_join.specs.Joins.{join_all}
-use Rattle.pmg_commit.specs.Entries.{Entry, entry_cmp, best_of_two}
-use Rattle.pmg_commit.specs.EntryOrder.{entries_total, exact_entries}
 use Rattle.pmg_commit.specs.Levels.{level}
 use Rattle.pmg_commit.specs.Knowledge.{Contribution, nothing, union, knowledge_of, core, read}
-use Rattle.pmg_commit.specs.CoreLaws.{Has, numbers-core, core-union_left, has_union, union_has_left, union_has_right}
+use Rattle.pmg_commit.specs.CoreLaws.{numbers-core, core-union_left}
 use Rattle.pmg_commit.specs.Cores.{Core}
-use Rattle.pmg_commit.specs.Data.{Data, join_data, of_contribution, known, knowledge_in, level_at, read_at, taken_at}
+use Rattle.pmg_commit.specs.Data.{Data, join_data, of_contribution, known, knowledge_in, level_at, read_at}
 use Rattle.pmg_commit.proofs.Joining.{unions_assoc, unions_comm, union_nothing, core-union_right, core-nothing, known_together, known_of_one}
-use Rattle.pmg_commit.proofs.ReadLaws.{read-core, read_best}
-use Rattle.pmg_commit.proofs.Rules.{numbers_are_between}
+use Rattle.pmg_commit.proofs.ReadLaws.{read-core}
 use Rattle.pmg_store.specs.Pieces.{data_of, is_of, told_by, told_of}
 use Rattle.pmg_store.specs.Convergence.{HoldsUnion}
 

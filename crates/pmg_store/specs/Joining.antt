@@ -5,7 +5,6 @@ use Rattle.pmg_value.proofs.ProcessOrder.{procs_total, exact_procs}
 use Rattle.pmg_join.specs.Joins.{JoinLaws, JoinOrder}
 use Rattle.pmg_join.specs.Maps.{OptionWithin}
 use Rattle.pmg_join.proofs.MapsJoined.{maps_joined, maps_ordered}
-use Rattle.pmg_commit.specs.Cores.{join_cores}
 use Rattle.pmg_commit.specs.Data.{Data, join_data}
 use Rattle.pmg_commit.specs.Within.{CoreWithin}
 use Rattle.pmg_lane.specs.Joining.{cores_joined, cores_ordered}

@@ -168,7 +168,7 @@ refresh-reply 32=02: Range at 25
 refresh-reply 36=01 44=09: Range at 25
 refresh-reply 32=01: Number at 48
 refresh-reply 44=02: Short at 58
-refresh-reply 42=01 44=01 46=00: Short at 46
+refresh-reply 42=01 46=00: Count at 41
 refresh-reply 44=00: Long at 45
 refresh-reply 57=02: Bool at 57
 refresh-none 40=02: Range at 25

@@ -9,15 +9,9 @@ mod calls;
 #[cfg(test)]
 mod failing;
 #[cfg(test)]
-mod lines;
-#[cfg(test)]
-mod malformed;
-#[cfg(test)]
 mod nodes;
 #[cfg(test)]
 mod playing;
-#[cfg(test)]
-mod replies;
 #[cfg(test)]
 mod scripts;
 #[cfg(test)]

@@ -1,22 +1,38 @@
-//! What no clause says: that lines are answered where there is memory, and what is left where a
-//! reader, a writer or memory fails.
-mod faults;
-mod rows;
-
-use crate::failing::FailingWriter;
+//! What no clause says of whole scripts: what is written where a reader or a writer fails. What scripts are replied is shown by
+//! `examples/replay.rows`.
+use crate::failing::{FailingReader, FailingWriter};
 use crate::nodes::text::put_line;
 use pmg_script::Ended;
 use pmg_store::{Failure, WatchedReader};
 use pmg_value::{Refusal, WatchedWriter};
 use pmg_world::replay;
 use std::alloc::{AllocError, Global};
-use std::io::Read;
+use std::io::{ErrorKind, Read};
 
 const NO_MEMORY: Failure = Failure::Refused(Refusal::NoMemory);
 
-// More bytes than any of the scripts is replied with, so that what is written has its memory from
-// the start.
-const ROOM: usize = 1_048_576;
+// A script in which a fence that collects data is released once all is there: before the bar of a row
+// a line, and after it its reply.
+const COLLECTING: &str = "\
+nodes n0 n1|ok
+space j 0 1|ok
+put j 0 global 0907 a|ok
+commit j 0|commit 1
+enter j 0 collect|entered 1
+enter j 1 collect|entered 1
+deliver 1|delivered 1
+leave j 1|waiting
+deliver 3|delivered 1
+leave j 0|released 1 gone -
+nudge 1|ok
+deliver 4|delivered 1
+deliver 6|delivered 1
+leave j 1|released 1 gone -
+get j 1 now j 0 a|found u8:7
+";
+
+// More bytes than the script is replied with, so that what is written has its memory from the start.
+const ROOM: usize = 1024;
 
 // How a script ended, and what was written.
 #[derive(Drop)]
@@ -46,38 +62,67 @@ fn played<R: Read + Drop>(alloc: Global, reader: R, writes: usize) -> Outcome {
 
 // Whether the script ended so, with these replies, or where an allocation failed, with a beginning
 // of them.
-fn has_ended(played: &Outcome, ended: Result<Ended, Failure>, replies: &[u8]) -> bool {
+fn has_ended(played: &Outcome, failure: Failure, replies: &[u8]) -> bool {
     if played.result == Err(NO_MEMORY) {
         return replies.starts_with(&played.text);
     }
-    played.result == ended && played.text.as_slice() == replies
+    played.result == Err(failure) && played.text.as_slice() == replies
 }
 
-// The script of these rows, and the replies that are wanted.
-fn texts_of(alloc: Global, rows: &str) -> Result<(Vec<u8>, Vec<u8>), AllocError> {
+// The script, and its replies.
+fn texts(alloc: Global) -> Result<(Vec<u8>, Vec<u8>), AllocError> {
     let mut script = Vec::new(alloc);
     let mut replies = Vec::new(alloc);
-    for row in rows.lines() {
-        match row.split_once('|') {
-            Some((line, reply)) => {
-                put_line(&mut script, line)?;
-                if !reply.is_empty() {
-                    put_line(&mut replies, reply)?;
-                }
-            }
-            None => put_line(&mut replies, row)?,
+    for row in COLLECTING.lines() {
+        if let Some((line, reply)) = row.split_once('|') {
+            put_line(&mut script, line)?;
+            put_line(&mut replies, reply)?;
         }
     }
     Ok((script, replies))
 }
 
+// How long the replies are that stand whole before the byte of that number, each with its line
+// complete by then.
+fn told_before(reads: usize) -> usize {
+    let mut read: usize = 0;
+    let mut told: usize = 0;
+    for row in COLLECTING.lines() {
+        let (line, reply) = row.split_once('|').unwrap_or((row, ""));
+        read = read.saturating_add(line.len()).saturating_add(1);
+        if read > reads {
+            return told;
+        }
+        told = told.saturating_add(reply.len()).saturating_add(1);
+    }
+    told
+}
+
 #[test]
-fn each_line_of_a_script_is_replied_so(rt: HostRuntime) -> Result<(), AllocError> {
-    for (name, rows) in rows::SCRIPTS {
-        let (script, replies) = texts_of(rt.alloc(), rows)?;
-        let played = played(rt.alloc(), script.as_slice(), usize::MAX);
-        let is_replied = has_ended(&played, Ok(Ended::AtEnd), &replies);
-        assert_eq!(rt; (*name, is_replied), (*name, true));
+fn replies_before_a_read_fault_stay(rt: HostRuntime) -> Result<(), AllocError> {
+    let (script, replies) = texts(rt.alloc())?;
+    for fails_at in 1..=script.len().saturating_add(1) {
+        let reader = FailingReader {
+            left: &script,
+            most: 1,
+            fails_at,
+            fault: ErrorKind::Other,
+        };
+        let played = played(rt.alloc(), reader, usize::MAX);
+        let told = told_before(fails_at.saturating_sub(1));
+        let before = replies.get(..told).unwrap_or(b"");
+        assert!(rt; has_ended(&played, Failure::Read, before));
+    }
+    Ok(())
+}
+
+#[test]
+fn write_faults_leave_a_prefix(rt: HostRuntime) -> Result<(), AllocError> {
+    let (script, replies) = texts(rt.alloc())?;
+    for most in 0..replies.len() {
+        let played = played(rt.alloc(), script.as_slice(), most);
+        let before = replies.get(..most).unwrap_or(b"");
+        assert!(rt; has_ended(&played, Failure::Write, before));
     }
     Ok(())
 }

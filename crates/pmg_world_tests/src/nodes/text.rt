@@ -23,8 +23,8 @@ pub(crate) fn put_line(text: &mut Vec<u8>, line: &str) -> Result<(), AllocError>
     put(text, "\n")
 }
 
-/// Puts the word, and the number after it.
-pub(crate) fn put_with(text: &mut Vec<u8>, word: &str, number: u64) -> Result<(), AllocError> {
+// Puts the word, and the number after it.
+fn put_with(text: &mut Vec<u8>, word: &str, number: u64) -> Result<(), AllocError> {
     put(text, word)?;
     push_number(text, number)
 }

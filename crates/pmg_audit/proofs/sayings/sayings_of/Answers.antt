@@ -5,7 +5,7 @@ use Rattle.pmg_journal.specs.Transcripts.{noted_in}
 use Rattle.pmg_journal.specs.declared.transcript.Transcript.{Transcript}
 use Rattle.pmg_audit.specs.Agreeing.{AreApart}
 use Rattle.pmg_audit.specs.Dues.{takes_all}
-use Rattle.pmg_audit.specs.Taking.{ArePlaces, AreSayings, NoneOf, Says, procs_of}
+use Rattle.pmg_audit.specs.Taking.{ArePlaces, AreSayings, NoneOf, IsSayingOf, procs_of}
 use Rattle.pmg_value.specs.declared.process.Proc.{Proc}
 use Rattle.pmg_audit.specs.declared.moves.Saying.{Saying}
 use Rattle.pmg_audit.proofs.SayingLemmas.{apart_more, cut_at, each_push, kept_place, no_place, no_places, not_apart, sayings_more, sayings_none, take_is}
@@ -36,7 +36,7 @@ returns-then-contains_key-clause-refused c = λ _. (
 pub add-requires-clause-none : goal.add-requires-clause-none
 add-requires-clause-none c =
     let t : Transcript = c.transcript-item.result in
-    let says : Says c.in-Some.saying t = rw c.in-Some.is at c.in_ok-saying.ensures.said in
+    let says : IsSayingOf c.in-Some.saying t = rw c.in-Some.is at c.in_ok-saying.ensures.said in
     subst (NoneOf c.loop-transcript.items.items) (sym says.proc)
     (no_place c.loop-transcript.items.items c.transcript-item.result.proc c.loop-transcript.places.entries c.loop-transcript.invariant.places (sym c.if-contains_key.ensures))
 
@@ -49,7 +49,7 @@ loop-transcript-preserved c =
     let s : Saying = c.in-Some.saying in
     let more = take_is ts i t (search rules) c.transcript-item.is in
     let none : NoneOf ss t.proc = no_place ss t.proc c.loop-transcript.places.entries c.loop-transcript.invariant.places (sym c.if-contains_key.ensures) in
-    let says : Says s t = rw c.in-Some.is at c.in_ok-saying.ensures.said in
+    let says : IsSayingOf s t = rw c.in-Some.is at c.in_ok-saying.ensures.said in
     let taken : takes_all no_puts (noted_in t) ≡ true = rw c.in-Some.is at c.in_ok-saying.ensures.taken in
     record {
       places = c.in_ok-add.ensures.places;

@@ -1,0 +1,59 @@
+"""The examples: inputs of the program, with what it prints for them and the status that it ends with, as README.md says."""
+import collections
+import glob
+import os
+import re
+
+HERE = os.path.dirname(os.path.realpath(__file__))
+Example = collections.namedtuple("Example", "name command data output status")
+
+
+def read(path):
+    """What the file holds; nothing, where there is none."""
+    if not os.path.exists(path):
+        return None
+    with open(path, "rb") as source:
+        return source.read()
+
+
+def statuses():
+    """The statuses of the examples that are files, by command and name: those of the table in README.md."""
+    page = read(os.path.join(HERE, "README.md")).decode()
+    rows = re.findall(r"^\| `([\w-]+)`(?: \(`(\w+)`\))? \| .* \| (\d) \|$", page, re.MULTILINE)
+    return {(command or "dump", name): int(status) for name, command, status in rows}
+
+
+def files():
+    """The examples that are files, and those that the table lists."""
+    known = statuses()
+    paths = {tuple(it.split(os.sep)[-2:]): it for it in glob.glob(os.path.join(HERE, "*", "*")) if not it.endswith(".out")}
+    inputs = {(command, os.path.splitext(name)[0]): path for (command, name), path in paths.items()}
+    for command, name in sorted(set(inputs) | set(known)):
+        data = read(inputs.get((command, name), ""))
+        output = read(os.path.join(HERE, command, name + ".out"))
+        yield Example(f"{command}/{name}", command, data, output, known.get((command, name)))
+
+
+def text_of(lines):
+    """The bytes of lines in which a backslash begins an escape."""
+    return b"".join(lines).decode("unicode_escape").encode("latin-1")
+
+
+def rows_of(command):
+    """The examples of a command's rows: one for each bar, where a row has bars."""
+    source = read(os.path.join(HERE, command + ".rows"))
+    for head, body in re.findall(rb"^== (.*)\n((?:(?!== ).*\n)*)", source, re.MULTILINE):
+        name, _, status = head.decode().partition(": ")
+        lines = body.splitlines(keepends=True)
+        output = text_of(it[1:] for it in lines if it.startswith(b" "))
+        inputs = [it for it in lines if not it.startswith(b" ")]
+        bars = [number for number, line in enumerate(inputs) if line.startswith(b"|")]
+        for bar in bars or [None]:
+            data = text_of(it.removeprefix(b"|") for number, it in enumerate(inputs) if number == bar or number not in bars)
+            which = "" if bar is None else " " + inputs[bar].decode().rstrip("\n")
+            yield Example(f"{command}.rows {name}{which}", command, data, output, int(status or 0))
+
+
+def examples():
+    """All examples of the commands."""
+    return [*files(), *(row for command in ("dump", "merge", "replay", "run") for row in rows_of(command))]
