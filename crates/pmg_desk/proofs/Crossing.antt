@@ -16,6 +16,8 @@ use Rattle.pmg_frame.specs.contracts.local.Local as Local
 use Rattle.pmg_frame.specs.contracts.header.Header as Header
 use Rattle.pmg_frame.specs.contracts.asks.FenceAsk as FenceAsk
 use Rattle.pmg_frame.specs.contracts.asks.CommitAsk as CommitAsk
+use Rattle.pmg_frame.specs.contracts.refreshes.RefreshAsk as RefreshAsk
+use Rattle.pmg_frame.specs.contracts.refreshes.RefreshReply as RefreshReply
 use Rattle.pmg_frame.specs.contracts.frame.Frame as Frame
 use Rattle.pmg_rules.specs.contracts.sent.Sent as Sent
 use Rattle.pmg_commit.specs.contracts.last_puts.SealedPut as SealedPut
@@ -83,11 +85,17 @@ fence_ask_send = search (fence_name_send, sendable) depth 40
 commit_ask_send : IsSend CommitAsk.the_row
 commit_ask_send = search (proc_part, sendable) depth 40
 
+refresh_ask_send : IsSend RefreshAsk.the_row
+refresh_ask_send = search (commit_ask_send, sendable) depth 40
+
+refresh_reply_send : IsSend RefreshReply.the_row
+refresh_reply_send = search (values, value_send, Bytes.the_send, key_send, proc_send, sendable, owners) depth 60 fits 20000
+
 pub frame_send : IsSend Frame.the_row
-frame_send = search (piece_send, header_send, fence_ask_send, commit_ask_send, sendable) depth 40
+frame_send = search (piece_send, header_send, fence_ask_send, commit_ask_send, refresh_ask_send, refresh_reply_send, sendable) depth 60 fits 20000
 
 frame_part : IsSend (Frame.the_field).row
-frame_part = search (piece_send, header_send, fence_ask_send, commit_ask_send, sendable) depth 40
+frame_part = search (piece_send, header_send, fence_ask_send, commit_ask_send, refresh_ask_send, refresh_reply_send, sendable) depth 60 fits 20000
 
 sent_send : IsSend Sent.the_row
 sent_send = search (frame_part, sendable) depth 40
