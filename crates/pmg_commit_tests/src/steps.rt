@@ -36,11 +36,10 @@ pub fn put(cache: &mut Cache, alloc: Global, step: &str) -> Result<(), Refusal> 
     }
 }
 
-// The digit that the value is, or that tells how many items it has; a point for another value.
+// The digit that the value is; a point for another value.
 pub fn digit_of(value: &Value) -> u8 {
     match value {
         Value::U8(digit) => *digit,
-        Value::Array(array) => b'0' + array.items().len().min(9) as u8,
         _ => b'.',
     }
 }

@@ -1,6 +1,6 @@
 //! The words of the tables: a process is `j/2`, all of its namespace `j/*`, and one of no rank
 //! `j/?`; a refusal is its name.
-use pmg_value::{Nspace, Proc, Rank, Refusal, push_number};
+use pmg_value::{Nspace, Proc, Rank, Refusal};
 use std::alloc::Global;
 use std::process::Abort;
 
@@ -35,16 +35,6 @@ pub fn list_of(alloc: Global, words: &str) -> Result<Vec<Proc>, Refusal> {
         list.push(process_of(alloc, word)?)?;
     }
     Ok(list)
-}
-
-// The ranks, each after its namespace's name.
-pub fn text_of(alloc: Global, procs: &[Proc]) -> Result<Vec<u8>, Refusal> {
-    let mut text = Vec::new(alloc);
-    for process in procs {
-        text.extend_from_slice(process.nspace.as_bytes())?;
-        push_number(&mut text, u64::from(process.rank.number()))?;
-    }
-    Ok(text)
 }
 
 // Requires that this text was answered, or that the call was refused by this name.

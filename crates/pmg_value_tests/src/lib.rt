@@ -1,17 +1,9 @@
-//! Tests of names, values and their bytes, and of joins, from without.
+//! Tests of values, texts of refusals, and joins, from without.
 //! Where an allocation fails, a test ends with NoMemory, and with nothing else.
 #![tactic(auto)]
 
 #[cfg(test)]
-mod arrays;
-#[cfg(test)]
-mod fields;
-#[cfg(test)]
 mod joins;
-#[cfg(test)]
-mod names;
-#[cfg(test)]
-mod rows;
 #[cfg(test)]
 mod values;
 #[cfg(test)]

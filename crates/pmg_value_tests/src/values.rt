@@ -1,130 +1,219 @@
-//! The bytes and the text of each kind of value, both ways, and the first fault of bytes that are
-//! none: worked by hand, so that they show the definitions, and that values are read, copied and
-//! written where there is memory.
-use crate::rows::Field;
-use pmg_value::Refusal;
+//! What no dump shows of values: that they are made, copied and written where there is memory, which items make no array, and
+//! how long values may be.
+use bytes::BytesMut;
+use hex::FromHexError;
+use pmg_value::{Cause, MAX_BLOB_LEN, MAX_VALUE_SIZE, Refusal, Value};
+use pmg_wire::{put_value, value_from_bytes};
+use std::alloc::{AllocError, Global};
 
+// Values of each kind, by their bytes.
 const VALUES: &str = "\
-0100 bool:false
-0101 bool:true
-0200 byte:00
-02a9 byte:a9
-02ff byte:ff
-0300000000 string:
-03000000036a2f30 string:6a2f30
-030000000201ff string:01ff
-040000000000000000 size:0
-04ffffffffffffffff size:18446744073709551615
-0500 i8:0
-057f i8:127
-05ff i8:-1
-0580 i8:-128
-067fff i16:32767
-06fffe i16:-2
-068000 i16:-32768
-077fffffff i32:2147483647
-0780000000 i32:-2147483648
-087fffffffffffffff i64:9223372036854775807
-08ffffffffffffffff i64:-1
-088000000000000000 i64:-9223372036854775808
-0900 u8:0
-09ff u8:255
-0a0102 u16:258
-0affff u16:65535
-0b01020304 u32:16909060
-0bffffffff u32:4294967295
-0c0102030405060708 u64:72623859790382856
-0cffffffffffffffff u64:18446744073709551615
-0d7fffffff int:2147483647
-0dffffff00 int:-256
-0d80000000 int:-2147483648
-0e00000000 uint:0
-0effffffff uint:4294967295
-0f00000000 rank:0
-0ffffffffe rank:4294967294
-0fffffffff rank:4294967295
-10016a00000000 proc:6a/0
-1005706d69787e00001000 proc:706d69787e/4096
-100121ffffffff proc:21/4294967295
-1100000000 status:0
-11ffffffd2 status:-46
-1180000000 status:-2147483648
-1200000000 bytes:
-1200000003000af0 bytes:000af0
-130100000000 array:bool[]
-130300000000 array:string[]
-130c00000000 array:u64[]
-131000000000 array:proc[]
-131200000000 array:bytes[]
-130100000003010001 array:bool[true,false,true]
-13020000000200a9 array:byte[00,a9]
-130300000002000000026a2f00000000 array:string[6a2f,]
-1304000000010000000000000100 array:size[256]
-13050000000380ff7f array:i8[-128,-1,127]
-130a000000020102ffff array:u16[258,65535]
-130f0000000200000000fffffffe array:rank[0,4294967294]
-131000000002016a0000000005706d69787e00001000 array:proc[6a/0,706d69787e/4096]
-131100000001ffffffd2 array:status[-46]
-1312000000020000000100000000020af0 array:bytes[00,0af0]
+0101
+02a9
+03000000036a2f30
+04ffffffffffffffff
+0580
+068000
+0780000000
+088000000000000000
+09ff
+0a0102
+0b01020304
+0c0102030405060708
+0d80000000
+0effffffff
+0fffffffff
+1005706d69787e00001000
+11ffffffd2
+1200000003000af0
+131000000000
+130100000003010001
+13020000000200a9
+130300000002000000026a2f00000000
+1304000000010000000000000100
+13050000000380ff7f
+1306000000018000
+13070000000180000000
+1308000000018000000000000000
+130900000001ff
+130a000000020102ffff
+130b0000000101020304
+130c000000010102030405060708
+130d0000000180000000
+130e00000001ffffffff
+130f0000000200000000fffffffe
+131000000002016a0000000005706d69787e00001000
+131100000001ffffffd2
+1312000000020000000100000000020af0
 ";
 
-const FAULTS: &str = "\
-0000 Tag at 7
-1400 Tag at 7
-ff Tag at 7
- Short at 7
-01 Short at 8
-0102 Bool at 8
-03000000 Short at 8
-030000000261 Short at 12
-0300000003610000 Text at 13
-0400000000000000 Short at 8
-0680 Short at 8
-1000 Name at 8
-10026a Short at 9
-10026a200000 Name at 8
-10016a000000 Short at 10
-11000000 Short at 8
-12ffffffff61 Short at 12
-13 Short at 8
-130000000000 Tag at 8
-1313 Tag at 8
-13130100000000 Tag at 8
-1301000000 Short at 9
-130100000001 Short at 13
-1301000000020102 Bool at 14
-1301ffffffff01 Short at 14
-1303000000020000000161000000026200 Text at 23
-130a00000002010203 Short at 15
-130a00100000 Short at 13
-13100000000100 Name at 13
-131000000001016a000000 Short at 15
-131000000002016a00000000012000000000 Name at 19
-1312000000010000000261 Short at 17
-";
-
-// Offsets in bytes that are one value count from the first of them.
-const WHOLE: &str = "\
-09ff u8:255
-03000000026162 string:6162
-0102 Bool at 1
- Short at 0
-03000000036162 Short at 5
-09ff00 Long at 2
-130200000001a9a9 Long at 7
-";
+// The bytes of these digits.
+fn bytes_of(alloc: Global, digits: &str) -> Result<Vec<u8>, Refusal> {
+    match hex::decode(alloc, digits) {
+        Ok(bytes) => Ok(bytes),
+        Err(FromHexError::OutOfMemory) => Err(Refusal::NoMemory),
+        Err(_) => Err(Refusal::BadParam),
+    }
+}
 
 #[test]
-fn values_have_their_bytes_their_text_and_their_first_fault(
-    rt: HostRuntime,
-) -> Result<(), Refusal> {
-    let tables = [
-        (Field::Value, VALUES),
-        (Field::Value, FAULTS),
-        (Field::WholeValue, WHOLE),
-    ];
-    for (field, lines) in tables {
-        assert_eq!(rt; field.wrong(rt.alloc(), lines)?, None);
+fn a_copy_is_written_as_its_value_was_read(rt: HostRuntime) -> Result<(), Refusal> {
+    for digits in VALUES.lines() {
+        let bytes = bytes_of(rt.alloc(), digits)?;
+        let copy = value_from_bytes(rt.alloc(), &bytes)?.copy()?;
+        let mut out = BytesMut::new(rt.alloc());
+        put_value(&mut out, &copy)?;
+        assert!(rt; out.as_slice() == bytes.as_slice());
     }
+    Ok(())
+}
+
+// The array of the tag with items of these bytes: none where it is refused as BadParam.
+fn array_of(alloc: Global, tag: u8, items: &[&str]) -> Result<Option<Value>, Refusal> {
+    let mut values = Vec::new(alloc);
+    for digits in items {
+        values.push(value_from_bytes(alloc, &bytes_of(alloc, digits)?)?)?;
+    }
+    match Value::array(tag, values) {
+        Ok(array) => Ok(Some(array)),
+        Err(Refusal::BadParam) => Ok(None),
+        Err(refusal) => Err(refusal),
+    }
+}
+
+#[test]
+fn items_of_one_kind_make_an_array(rt: HostRuntime) -> Result<(), Refusal> {
+    let cases: [(u8, &[&str], bool); 14] = [
+        (9, &[], true),
+        (9, &["0900", "09ff", "0910"], true),
+        (0, &[], false),
+        (19, &[], false),
+        (20, &[], false),
+        (0, &["0901"], false),
+        (2, &["0901"], false),
+        (10, &["0901"], false),
+        (18, &["0901"], false),
+        (19, &["0901"], false),
+        (255, &["0901"], false),
+        (9, &["0901", "0201"], false),
+        (9, &["13090000000101"], false),
+        (19, &["13090000000101"], false),
+    ];
+    for (tag, items, is_array) in cases {
+        assert!(rt; array_of(rt.alloc(), tag, items)?.is_some() == is_array);
+    }
+    Ok(())
+}
+
+// These bytes, and so many of one byte between them.
+fn long(
+    alloc: Global,
+    front: &[u8],
+    count: usize,
+    byte: u8,
+    back: &[u8],
+) -> Result<Vec<u8>, AllocError> {
+    let mut bytes = Vec::with_capacity(alloc, 2_000_000)?;
+    bytes.extend_from_slice(front)?;
+    for _ in 0..count {
+        bytes.push(byte)?;
+    }
+    bytes.extend_from_slice(back)?;
+    Ok(bytes)
+}
+
+// The first fault of these bytes as a value, if they are none.
+fn fault_of(alloc: Global, bytes: &[u8]) -> Result<Option<(u64, Cause)>, Refusal> {
+    match value_from_bytes(alloc, bytes) {
+        Ok(_) => Ok(None),
+        Err(Refusal::BadFrame(fault)) => Ok(Some((fault.offset, fault.cause))),
+        Err(refusal) => Err(refusal),
+    }
+}
+
+// Values of the greatest size and longer ones, by what stands before and after bytes of one kind: strings, byte objects, arrays of
+// bytes, and an array of two strings, of which the first is too long, and the second has one byte, then lacks it, and then has a
+// zero in its place. Then short ones, whose faults count from the first of their bytes too.
+#[test]
+fn a_value_has_at_most_1048576_bytes(rt: HostRuntime) -> Result<(), Refusal> {
+    let size = Some((0, Cause::Size));
+    let two: &[u8] = b"\x13\x03\0\0\0\x02\x00\x0f\xff\xfc";
+    let rows: [(&[u8], usize, u8, &[u8], Option<(u64, Cause)>); 15] = [
+        (b"\x03\x00\x0f\xff\xfb", 1_048_571, 1, b"", None),
+        (b"\x03\x00\x0f\xff\xfc", 1_048_572, 1, b"", size),
+        (
+            b"\x03\x00\x0f\xff\xfc",
+            1_048_572,
+            0,
+            b"",
+            Some((5, Cause::Text)),
+        ),
+        (b"\x12\x00\x0f\xff\xfb", 1_048_571, 1, b"", None),
+        (b"\x12\x00\x0f\xff\xfc", 1_048_572, 1, b"", size),
+        (b"\x13\x02\x00\x0f\xff\xfa", 1_048_570, 9, b"", None),
+        (b"\x13\x02\x00\x0f\xff\xfb", 1_048_571, 9, b"", size),
+        (two, 1_048_572, 1, b"\0\0\0\x01\x01", size),
+        (
+            two,
+            1_048_572,
+            1,
+            b"\0\0\0\x01",
+            Some((1_048_586, Cause::Short)),
+        ),
+        (
+            two,
+            1_048_572,
+            1,
+            b"\0\0\0\x01\0",
+            Some((1_048_586, Cause::Text)),
+        ),
+        (b"\x01\x02", 0, 0, b"", Some((1, Cause::Bool))),
+        (b"", 0, 0, b"", Some((0, Cause::Short))),
+        (b"\x03\0\0\0\x03ab", 0, 0, b"", Some((5, Cause::Short))),
+        (b"\x09\xff\0", 0, 0, b"", Some((2, Cause::Long))),
+        (
+            b"\x13\x02\0\0\0\x01\xa9\xa9",
+            0,
+            0,
+            b"",
+            Some((7, Cause::Long)),
+        ),
+    ];
+    for (front, count, byte, back, want) in rows {
+        let bytes = long(rt.alloc(), front, count, byte, back)?;
+        assert!(rt; fault_of(rt.alloc(), &bytes)? == want);
+    }
+    Ok(())
+}
+
+// The size of the value; none, where it is refused as BadParam.
+fn size_of(value: Result<Value, Refusal>) -> Result<Option<usize>, Refusal> {
+    match &value {
+        Ok(value) => Ok(Some(value.size())),
+        Err(Refusal::BadParam) => Ok(None),
+        Err(refusal) => Err(*refusal),
+    }
+}
+
+// So many values of one byte.
+fn byte_values(alloc: Global, count: usize) -> Result<Vec<Value>, AllocError> {
+    let mut values = Vec::with_capacity(alloc, count)?;
+    for _ in 0..count {
+        values.push(Value::Byte(9))?;
+    }
+    Ok(values)
+}
+
+#[test]
+fn longer_strings_byte_objects_and_arrays_are_not_made(rt: HostRuntime) -> Result<(), Refusal> {
+    let alloc = rt.alloc();
+    let mut text = vec![in alloc; 1; MAX_BLOB_LEN]?;
+    assert!(rt; size_of(Value::string(alloc, &text))? == Some(MAX_VALUE_SIZE));
+    assert!(rt; size_of(Value::bytes(alloc, &text))? == Some(MAX_VALUE_SIZE));
+    text.push(1)?;
+    assert!(rt; size_of(Value::string(alloc, &text))? == None);
+    assert!(rt; size_of(Value::bytes(alloc, &text))? == None);
+    assert!(rt; size_of(Value::string(alloc, b"a\0b"))? == None);
+    assert!(rt; size_of(Value::array(2, byte_values(alloc, 1_048_571)?))? == None);
     Ok(())
 }

@@ -35,28 +35,40 @@ fn refusals_show_their_numbers_and_names(rt: HostRuntime) -> Result<(), Refusal>
     Ok(())
 }
 
-// Those that no row of this crate shows.
 #[test]
-fn other_causes_show_their_names(rt: HostRuntime) -> Result<(), Refusal> {
+fn causes_show_their_names(rt: HostRuntime) -> Result<(), Refusal> {
     let causes = [
         Cause::Version,
         Cause::Kind,
         Cause::Length,
+        Cause::Short,
+        Cause::Long,
+        Cause::Name,
+        Cause::Rank,
         Cause::Range,
         Cause::Count,
+        Cause::Key,
         Cause::Order,
         Cause::Member,
         Cause::Number,
         Cause::Level,
         Cause::Node,
+        Cause::Tag,
+        Cause::Bool,
+        Cause::Text,
+        Cause::Size,
         Cause::Cut,
+        Cause::Hex,
         Cause::Script,
+        Cause::Input,
     ];
     let mut text = String::new(rt.alloc());
     for cause in causes {
         write!(text, "{cause} ")?;
     }
-    let want = "Version Kind Length Range Count Order Member Number Level Node Cut Script ";
+    let want =
+        "Version Kind Length Short Long Name Rank Range Count Key Order Member Number Level Node \
+        Tag Bool Text Size Cut Hex Script Input ";
     assert_eq!(rt; text.as_str(), want);
     Ok(())
 }
