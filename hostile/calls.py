@@ -2,10 +2,16 @@
 import glob
 import os
 import re
+import signal
 
 from failing import ROOT, ended, run, spread
 
-NO_MEMORY = re.compile(rb"^Error: (NoMemory|Refused\(NoMemory\)|AllocError|Kind\(OutOfMemory\))\nthe test failed: .*\n\Z", re.MULTILINE)
+# The texts of the errors of a failed allocation, and how a test ends with one by its status: it answers the error, or aborts with it.
+NO_MEMORY = rb"(NoMemory|Refused\(NoMemory\)|AllocError|AllocFailed \{ \.\. \}|OutOfMemory|Kind\(OutOfMemory\))"
+GIVES_UP = {
+    101: re.compile(rb"^Error: " + NO_MEMORY + rb"\nthe test failed: .*\n\Z", re.MULTILINE),
+    -signal.SIGABRT: re.compile(rb"^memory: " + NO_MEMORY + rb"\n\Z", re.MULTILINE),
+}
 # Tests in files of this name pass whichever allocation fails.
 ALWAYS_PASSES = "asked_again::"
 # Tests that ask again where an allocation failed in the calls that they are of: the gate's part is of these.
@@ -30,7 +36,7 @@ def verdict(test, ran):
     """Whether a run of the test passed, gave up with NoMemory and nothing else, or deviated."""
     if ran.status == 0:
         return "passed"
-    gives_up = ran.status == 101 and NO_MEMORY.search(ran.errors) and ALWAYS_PASSES not in test
+    gives_up = ran.status in GIVES_UP and GIVES_UP[ran.status].search(ran.errors) and ALWAYS_PASSES not in test
     return "gave up" if gives_up else "deviated"
 
 

@@ -1,6 +1,6 @@
 //! What no clause says: that frames of which bytes, faults and offsets were found by hand are read and written so,
 //! however their bytes come.
-use crate::making::fence_name;
+use crate::making::{MEMORY, fence_name};
 use crate::spelled::{FRAMES, edited, made};
 use pmg_frame::{FenceName, Frame, Stream};
 use pmg_value::{Cause, Fault, Refusal};
@@ -8,70 +8,54 @@ use std::alloc::Global;
 use std::process::Abort;
 
 // Requires that these bytes say this frame alone, which is written so, and that a copy is the same.
-fn assert_one(rt: &impl Abort, alloc: Global, bytes: &[u8], frame: &Frame) -> Result<(), Refusal> {
-    assert!(rt; frame.encode(alloc)?.as_slice() == bytes);
-    let fed = Stream::new(alloc).feed(bytes)?;
+fn assert_one(rt: &impl Abort, alloc: Global, bytes: &[u8], frame: &Frame) {
+    assert!(rt; frame.encode(alloc).expect(rt, MEMORY).as_slice() == bytes);
+    let fed = Stream::new(alloc).feed(bytes).expect(rt, MEMORY);
     assert!(rt; fed.fault == None && fed.frames.len() == 1);
     for read in &fed.frames {
-        assert!(rt; read.is_same(frame) && read.copy()?.is_same(frame));
+        assert!(rt; read.is_same(frame) && read.copy().expect(rt, MEMORY).is_same(frame));
     }
-    Ok(())
 }
 
 // Requires that these bytes say the frame of that name alone.
-fn assert_kind(rt: &impl Abort, alloc: Global, bytes: &[u8], name: &str) -> Result<(), Refusal> {
-    assert_one(rt, alloc, bytes, &made(alloc, name)?)
+fn assert_kind(rt: &impl Abort, alloc: Global, bytes: &[u8], name: &str) {
+    assert_one(rt, alloc, bytes, &made(rt, alloc, name))
 }
 
 // Feeds bytes, and requires that so many frames are in them and no fault.
-fn assert_fed(
-    rt: &impl Abort,
-    stream: &mut Stream,
-    bytes: &[u8],
-    frames: usize,
-) -> Result<(), Refusal> {
-    let fed = stream.feed(bytes)?;
+fn assert_fed(rt: &impl Abort, stream: &mut Stream, bytes: &[u8], frames: usize) {
+    let fed = stream.feed(bytes).expect(rt, MEMORY);
     assert!(rt; fed.frames.len() == frames && fed.fault == None);
-    Ok(())
 }
 
 // Requires that a frame of which only a part has come is no frame and no fault, but cut where the stream ends.
-fn assert_splits(rt: &impl Abort, alloc: Global, bytes: &[u8]) -> Result<(), Refusal> {
+fn assert_splits(rt: &impl Abort, alloc: Global, bytes: &[u8]) {
     for cut in 1..bytes.len() {
         let (front, back) = bytes.split_at(cut);
         let mut stream = Stream::new(alloc);
-        assert_fed(rt, &mut stream, front, 0)?;
+        assert_fed(rt, &mut stream, front, 0);
         assert!(rt; stream.finish() == Err(Refusal::bad_frame(0, Cause::Cut)));
-        assert_fed(rt, &mut stream, back, 1)?;
+        assert_fed(rt, &mut stream, back, 1);
         assert!(rt; stream.finish() == Ok(()));
     }
-    Ok(())
 }
 
 #[test]
-fn each_kind_is_read_and_written_whole_and_split(rt: HostRuntime) -> Result<(), Refusal> {
+fn each_kind_is_read_and_written_whole_and_split(rt: HostRuntime) {
     let alloc = rt.alloc();
     for line in FRAMES.lines() {
         let (name, _) = line.split_once(' ').unwrap_or(("", ""));
-        let bytes = edited(alloc, name)?;
-        assert_kind(&rt, alloc, &bytes, name)?;
-        assert_splits(&rt, alloc, &bytes)?;
+        let bytes = edited(&rt, alloc, name);
+        assert_kind(&rt, alloc, &bytes, name);
+        assert_splits(&rt, alloc, &bytes);
     }
-    Ok(())
 }
 
 // Feeds bytes, and requires that so many frames are in them and then a fault at that offset.
-fn assert_fault(
-    rt: &impl Abort,
-    stream: &mut Stream,
-    bytes: &[u8],
-    frames: usize,
-    offset: u64,
-) -> Result<(), Refusal> {
-    let fed = stream.feed(bytes)?;
+fn assert_fault(rt: &impl Abort, stream: &mut Stream, bytes: &[u8], frames: usize, offset: u64) {
+    let fed = stream.feed(bytes).expect(rt, MEMORY);
     assert!(rt; fed.frames.len() == frames);
     assert!(rt; matches!(fed.fault, Some(fault) if fault.offset == offset));
-    Ok(())
 }
 
 // Requires that the stream takes no more.
@@ -82,20 +66,20 @@ fn assert_closed(rt: &impl Abort, stream: &mut Stream, more: &[u8]) {
 }
 
 #[test]
-fn a_fault_closes_the_stream(rt: HostRuntime) -> Result<(), Refusal> {
-    let mut bytes = edited(rt.alloc(), "piece")?;
+fn a_fault_closes_the_stream(rt: HostRuntime) {
+    let mut bytes = edited(&rt, rt.alloc(), "piece");
     for frame in ["piece 27=02 42=02", "piece 44=02", "piece"] {
-        bytes.extend_from_slice(&edited(rt.alloc(), frame)?)?;
+        let more = edited(&rt, rt.alloc(), frame);
+        bytes.extend_from_slice(&more).expect(&rt, MEMORY);
     }
     for cut in 0..bytes.len().min(135) {
         let (front, back) = bytes.split_at(cut);
         let whole = cut / 45;
         let mut stream = Stream::new(rt.alloc());
-        assert_fed(&rt, &mut stream, front, whole)?;
-        assert_fault(&rt, &mut stream, back, 2usize.wrapping_sub(whole), 134)?;
+        assert_fed(&rt, &mut stream, front, whole);
+        assert_fault(&rt, &mut stream, back, 2usize.wrapping_sub(whole), 134);
         assert_closed(&rt, &mut stream, back);
     }
-    Ok(())
 }
 
 // Frames with edits, and of each the first fault, which is found with its last byte.
@@ -176,44 +160,43 @@ refresh-none 40=04 44=01: Short at 45
 ";
 
 // The fault of these bytes, which is found with the last of them.
-fn last_fault(rt: &impl Abort, alloc: Global, bytes: &[u8]) -> Result<Option<Fault>, Refusal> {
+fn last_fault(rt: &impl Abort, alloc: Global, bytes: &[u8]) -> Option<Fault> {
     let (last, front) = bytes.split_last().unwrap_or((&0, &[]));
     let mut stream = Stream::new(alloc);
-    assert_fed(rt, &mut stream, front, 0)?;
-    let fed = stream.feed(&[*last])?;
+    assert_fed(rt, &mut stream, front, 0);
+    let fed = stream.feed(&[*last]).expect(rt, MEMORY);
     assert!(rt; fed.frames.is_empty());
-    Ok(fed.fault)
+    fed.fault
 }
 
 // The text of the fault.
-fn fault_text(alloc: Global, fault: Option<Fault>) -> Result<String, Refusal> {
+fn fault_text(rt: &impl Abort, alloc: Global, fault: Option<Fault>) -> String {
     match fault {
-        Some(fault) => Ok(format!(in alloc; "{fault}")?),
-        None => Ok(String::new(alloc)),
+        Some(fault) => format!(in alloc; "{fault}").expect(rt, MEMORY),
+        None => String::new(alloc),
     }
 }
 
 #[test]
-fn the_first_fault_is_found_with_its_last_byte(rt: HostRuntime) -> Result<(), Refusal> {
+fn the_first_fault_is_found_with_its_last_byte(rt: HostRuntime) {
     let alloc = rt.alloc();
     for line in FAULTS.lines() {
         let (text, want) = line.split_once(": ").unwrap_or(("", ""));
-        let fault = last_fault(&rt, alloc, &edited(alloc, text)?)?;
-        assert_eq!(rt; fault_text(alloc, fault)?.as_str(), want, "{line}");
+        let fault = last_fault(&rt, alloc, &edited(&rt, alloc, text));
+        assert_eq!(rt; fault_text(&rt, alloc, fault).as_str(), want, "{line}");
     }
-    Ok(())
 }
 
 // Fences of which each is less than those after it.
-fn rising(alloc: Global) -> Result<Vec<FenceName>, Refusal> {
-    let mut fences = Vec::with_capacity(alloc, 6)?;
-    fences.push(fence_name(alloc, &[0], false, 9)?)?;
-    fences.push(fence_name(alloc, &[0], true, 1)?)?;
-    fences.push(fence_name(alloc, &[0], true, 2)?)?;
-    fences.push(fence_name(alloc, &[1, 0], false, 1)?)?;
-    fences.push(fence_name(alloc, &[2, 0], false, 1)?)?;
-    fences.push(fence_name(alloc, &[1], false, 1)?)?;
-    Ok(fences)
+fn rising(rt: &impl Abort, alloc: Global) -> [FenceName; 6] {
+    [
+        fence_name(rt, alloc, &[0], false, 9),
+        fence_name(rt, alloc, &[0], true, 1),
+        fence_name(rt, alloc, &[0], true, 2),
+        fence_name(rt, alloc, &[1, 0], false, 1),
+        fence_name(rt, alloc, &[2, 0], false, 1),
+        fence_name(rt, alloc, &[1], false, 1),
+    ]
 }
 
 // Whether the fence is less than those after that place, and greater than those before it.
@@ -227,10 +210,9 @@ fn stands_at(fences: &[FenceName], place: usize, fence: &FenceName) -> bool {
 }
 
 #[test]
-fn fences_rise_by_participants_collecting_and_instance(rt: HostRuntime) -> Result<(), Refusal> {
-    let fences = rising(rt.alloc())?;
+fn fences_rise_by_participants_collecting_and_instance(rt: HostRuntime) {
+    let fences = rising(&rt, rt.alloc());
     for (place, fence) in fences.iter().enumerate() {
         assert!(rt; stands_at(&fences, place, fence));
     }
-    Ok(())
 }

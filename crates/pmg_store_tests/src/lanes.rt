@@ -1,64 +1,62 @@
 //! What no clause says: that calls succeed where there is memory, and what lanes and stores of some pieces hold, found
 //! by hand or by a slow program.
-use crate::making::{ORDERS, drawn, next_number, piece, proc, small, three};
+use crate::making::{MEMORY, ORDERS, drawn, next_number, piece, proc, small, three};
 use crate::plain::Plain;
 use pmg_commit::Piece;
 use pmg_join::Join;
 use pmg_lane::Lane;
 use pmg_store::Store;
-use pmg_value::{Key, Proc, Refusal};
+use pmg_value::{Key, Proc};
 use std::alloc::Global;
 use std::process::Abort;
 
 // A lane that took the pieces at these places, in this order.
-fn lane_of(alloc: Global, pieces: &[Piece], order: &[usize]) -> Result<Lane, Refusal> {
+fn lane_of(rt: &impl Abort, alloc: Global, pieces: &[Piece], order: &[usize]) -> Lane {
     let mut lane = Lane::new(alloc);
     for i in order {
         if let Some(piece) = pieces.get(*i) {
-            lane.absorb(piece)?;
+            lane.absorb(piece).expect(rt, MEMORY);
         }
     }
-    Ok(lane)
+    lane
 }
 
 // The level, and what is read under the keys a and b.
-fn seen(alloc: Global, lane: &Lane) -> Result<(u64, Option<u8>, Option<u8>), Refusal> {
-    let a = small(lane.read(&Key::read(alloc, b"a")?));
-    let b = small(lane.read(&Key::read(alloc, b"b")?));
-    Ok((lane.level(), a, b))
+fn seen(rt: &impl Abort, alloc: Global, lane: &Lane) -> (u64, Option<u8>, Option<u8>) {
+    let a = small(lane.read(&Key::read(alloc, b"a").expect(rt, MEMORY)));
+    let b = small(lane.read(&Key::read(alloc, b"b").expect(rt, MEMORY)));
+    (lane.level(), a, b)
 }
 
 #[test]
-fn each_order_ends_alike(rt: HostRuntime) -> Result<(), Refusal> {
+fn each_order_ends_alike(rt: HostRuntime) {
     let alloc = rt.alloc();
-    let pieces = three(alloc)?;
+    let pieces = three(&rt, alloc);
     for order in ORDERS {
-        let lane = lane_of(alloc, &pieces, &order)?;
-        assert!(rt; seen(alloc, &lane)? == (3, Some(2), Some(3)));
+        let lane = lane_of(&rt, alloc, &pieces, &order);
+        assert!(rt; seen(&rt, alloc, &lane) == (3, Some(2), Some(3)));
     }
-    Ok(())
 }
 
 // The lanes of the first and second piece, and of the third.
-fn two_lanes(alloc: Global) -> Result<(Lane, Lane), Refusal> {
-    let pieces = three(alloc)?;
-    let early = lane_of(alloc, &pieces, &[1, 0])?;
-    Ok((early, lane_of(alloc, &pieces, &[2])?))
+fn two_lanes(rt: &impl Abort, alloc: Global) -> (Lane, Lane) {
+    let pieces = three(rt, alloc);
+    let early = lane_of(rt, alloc, &pieces, &[1, 0]);
+    (early, lane_of(rt, alloc, &pieces, &[2]))
 }
 
 // A copy of what two lanes join to, where one is joined twice.
-fn joined(alloc: Global) -> Result<Lane, Refusal> {
-    let (early, mut late) = two_lanes(alloc)?;
-    Join::join(&mut late, Join::copy(&early)?)?;
-    late.join(early)?;
-    Ok(late.copy()?)
+fn joined(rt: &impl Abort, alloc: Global) -> Lane {
+    let (early, mut late) = two_lanes(rt, alloc);
+    Join::join(&mut late, Join::copy(&early).expect(rt, MEMORY)).expect(rt, MEMORY);
+    late.join(early).expect(rt, MEMORY);
+    late.copy().expect(rt, MEMORY)
 }
 
 #[test]
-fn lanes_join_to_what_both_took(rt: HostRuntime) -> Result<(), Refusal> {
-    let lane = joined(rt.alloc())?;
-    assert!(rt; seen(rt.alloc(), &lane)? == (3, Some(2), Some(3)));
-    Ok(())
+fn lanes_join_to_what_both_took(rt: HostRuntime) {
+    let lane = joined(&rt, rt.alloc());
+    assert!(rt; seen(&rt, rt.alloc(), &lane) == (3, Some(2), Some(3)));
 }
 
 // A piece with one entry: its first commit less one, its last, the commit of the entry, and the value under a.
@@ -82,49 +80,48 @@ const GREATER_SECOND: Part = (1, 2, 2, 7);
 type Row<'a> = (&'a [Part], u64, Option<u64>, Option<u8>);
 
 // The piece of these numbers.
-fn piece_of(alloc: Global, part: &Part) -> Result<Piece, Refusal> {
+fn piece_of(rt: &impl Abort, alloc: Global, part: &Part) -> Piece {
     let (from, to, number, value) = *part;
-    piece(alloc, 0, from, to, number, &[(b"a", value)])
+    piece(alloc, 0, from, to, number, &[(b"a", value)]).expect(rt, MEMORY)
 }
 
 // A lane that took the pieces.
-fn lane_of_parts(alloc: Global, parts: &[Part]) -> Result<Lane, Refusal> {
+fn lane_of_parts(rt: &impl Abort, alloc: Global, parts: &[Part]) -> Lane {
     let mut lane = Lane::new(alloc);
     for part in parts {
-        lane.absorb(&piece_of(alloc, part)?)?;
+        lane.absorb(&piece_of(rt, alloc, part)).expect(rt, MEMORY);
     }
-    Ok(lane)
+    lane
 }
 
 // A store that took the pieces.
-fn store_of_parts(alloc: Global, parts: &[Part]) -> Result<Store, Refusal> {
+fn store_of_parts(rt: &impl Abort, alloc: Global, parts: &[Part]) -> Store {
     let mut store = Store::new(alloc);
     for part in parts {
-        store.absorb(&piece_of(alloc, part)?)?;
+        store.absorb(&piece_of(rt, alloc, part)).expect(rt, MEMORY);
     }
-    Ok(store)
+    store
 }
 
 // The level of the process, and what is read under the key a.
-fn seen_in_store(alloc: Global, store: &Store) -> Result<(u64, Option<u8>), Refusal> {
-    let who = proc(alloc, 0)?;
-    let value = small(store.read(&who, &Key::read(alloc, b"a")?));
-    Ok((store.level(&who), value))
+fn seen_in_store(rt: &impl Abort, alloc: Global, store: &Store) -> (u64, Option<u8>) {
+    let who = proc(alloc, 0).expect(rt, MEMORY);
+    let value = small(store.read(&who, &Key::read(alloc, b"a").expect(rt, MEMORY)));
+    (store.level(&who), value)
 }
 
 // Requires that a lane and a store that took the pieces hold what the row says.
-fn assert_row(rt: &impl Abort, alloc: Global, row: Row<'_>) -> Result<(), Refusal> {
+fn assert_row(rt: &impl Abort, alloc: Global, row: Row<'_>) {
     let (parts, level, missing, value) = row;
-    let lane = lane_of_parts(alloc, parts)?;
-    assert!(rt; seen(alloc, &lane)? == (level, value, None));
+    let lane = lane_of_parts(rt, alloc, parts);
+    assert!(rt; seen(rt, alloc, &lane) == (level, value, None));
     assert!(rt; lane.missing_after(2) == missing);
-    let store = store_of_parts(alloc, parts)?;
-    assert!(rt; seen_in_store(alloc, &store)? == (level, value));
-    Ok(())
+    let store = store_of_parts(rt, alloc, parts);
+    assert!(rt; seen_in_store(rt, alloc, &store) == (level, value));
 }
 
 #[test]
-fn what_the_level_reaches_is_read(rt: HostRuntime) -> Result<(), Refusal> {
+fn what_the_level_reaches_is_read(rt: HostRuntime) {
     let rows: [Row<'_>; 12] = [
         (&[], 0, Some(0), None),
         (&[THIRD], 0, Some(0), None),
@@ -140,9 +137,8 @@ fn what_the_level_reaches_is_read(rt: HostRuntime) -> Result<(), Refusal> {
         (&[FIRST, GREATER_SECOND, SECOND], 2, None, Some(7)),
     ];
     for row in rows {
-        assert_row(&rt, rt.alloc(), row)?;
+        assert_row(&rt, rt.alloc(), row);
     }
-    Ok(())
 }
 
 // Whether the lane says of that process what the list does.
@@ -164,22 +160,20 @@ fn is_same(lane: &Lane, plain: &Plain) -> bool {
 }
 
 // Takes the piece that the number says.
-fn take(alloc: Global, lane: &mut Lane, plain: &mut Plain, number: u64) -> Result<(), Refusal> {
-    let next = drawn(alloc, 0, number)?;
-    lane.absorb(&next)?;
-    plain.absorb(next)?;
-    Ok(())
+fn take(rt: &impl Abort, alloc: Global, lane: &mut Lane, plain: &mut Plain, number: u64) {
+    let next = drawn(alloc, 0, number).expect(rt, MEMORY);
+    lane.absorb(&next).expect(rt, MEMORY);
+    plain.absorb(rt, next);
 }
 
 #[test]
-fn lanes_hold_what_a_list_of_pieces_does(rt: HostRuntime) -> Result<(), Refusal> {
-    let mut plain = Plain::new(rt.alloc())?;
+fn lanes_hold_what_a_list_of_pieces_does(rt: HostRuntime) {
+    let mut plain = Plain::new(&rt, rt.alloc());
     let mut lane = Lane::new(rt.alloc());
     let mut number = 7;
     for _ in 0..60 {
         number = next_number(number);
-        take(rt.alloc(), &mut lane, &mut plain, number)?;
+        take(&rt, rt.alloc(), &mut lane, &mut plain, number);
         assert!(rt; is_same(&lane, &plain));
     }
-    Ok(())
 }

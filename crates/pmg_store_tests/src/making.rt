@@ -1,12 +1,31 @@
-//! Processes, pieces and fences for tests.
+//! Processes, pieces and fences for tests. What tests that ask again also make answers a refusal.
 use pmg_commit::{Piece, PieceEntry};
 use pmg_frame::{FenceName, Signature};
 use pmg_value::{Key, Nspace, Proc, Rank, Refusal, Value};
 use std::alloc::Global;
+use std::process::Abort;
+
+/// A test gives up where a call of it fails, and says this word and the error.
+pub const MEMORY: &str = "memory";
 
 /// The process of that rank of the namespace j.
 pub fn proc(alloc: Global, rank: u32) -> Result<Proc, Refusal> {
     Ok(Proc::new(Nspace::read(alloc, b"j")?, Rank::new(rank)))
+}
+
+// Adds an entry of that commit with a small number under each key.
+fn add(
+    alloc: Global,
+    entries: &mut Vec<PieceEntry>,
+    number: u64,
+    values: &[(&[u8; 1], u8)],
+) -> Result<(), Refusal> {
+    for (name, value) in values {
+        let key = Key::read(alloc, *name)?;
+        let value = Value::U8(*value);
+        entries.push(PieceEntry { key, number, value })?;
+    }
+    Ok(())
 }
 
 /// A piece of the process of that rank, with small numbers under the keys, each of that commit.
@@ -18,24 +37,18 @@ pub fn piece(
     number: u64,
     values: &[(&[u8; 1], u8)],
 ) -> Result<Piece, Refusal> {
-    let mut entries = Vec::with_capacity(alloc, values.len())?;
-    for (name, value) in values {
-        entries.push(PieceEntry {
-            key: Key::read(alloc, *name)?,
-            number,
-            value: Value::U8(*value),
-        })?;
-    }
+    let mut entries = Vec::new(alloc);
+    add(alloc, &mut entries, number, values)?;
     Piece::new(proc(alloc, rank)?, from, to, entries)
 }
 
 /// Under a the value 1 of the first commit and 2 of the second, under b the value 3 of the third.
-pub fn three(alloc: Global) -> Result<[Piece; 3], Refusal> {
-    Ok([
-        piece(alloc, 0, 0, 1, 1, &[(b"a", 1)])?,
-        piece(alloc, 0, 1, 2, 2, &[(b"a", 2)])?,
-        piece(alloc, 0, 2, 3, 3, &[(b"b", 3)])?,
-    ])
+pub fn three(rt: &impl Abort, alloc: Global) -> [Piece; 3] {
+    [
+        piece(alloc, 0, 0, 1, 1, &[(b"a", 1)]).expect(rt, MEMORY),
+        piece(alloc, 0, 1, 2, 2, &[(b"a", 2)]).expect(rt, MEMORY),
+        piece(alloc, 0, 2, 3, 3, &[(b"b", 3)]).expect(rt, MEMORY),
+    ]
 }
 
 /// The orders of three.
@@ -50,16 +63,19 @@ pub const ORDERS: [[usize; 3]; 6] = [
 
 /// The name of that instance of the fence of these ranks of j.
 pub fn fence_name(
+    rt: &impl Abort,
     alloc: Global,
     ranks: &[u32],
     collect: bool,
     instance: u64,
-) -> Result<FenceName, Refusal> {
-    let mut list = Vec::with_capacity(alloc, ranks.len())?;
+) -> FenceName {
+    let mut list = Vec::new(alloc);
     for rank in ranks {
-        list.push(proc(alloc, *rank)?)?;
+        let proc = proc(alloc, *rank).expect(rt, MEMORY);
+        list.push(proc).expect(rt, MEMORY);
     }
-    FenceName::new(Signature::new(list, collect)?, instance)
+    let signature = Signature::new(list, collect).expect(rt, MEMORY);
+    FenceName::new(signature, instance).expect(rt, MEMORY)
 }
 
 /// The value, if it is a small number.

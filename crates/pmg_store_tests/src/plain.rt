@@ -1,8 +1,9 @@
 //! The slow program that tests compare lanes and stores with: a plain list of pieces.
-use crate::making::{proc, small};
+use crate::making::{MEMORY, proc, small};
 use pmg_commit::{Piece, best_of};
-use pmg_value::{Key, Proc, Refusal};
-use std::alloc::{AllocError, Global};
+use pmg_value::{Key, Proc};
+use std::alloc::Global;
+use std::process::Abort;
 
 /// The pieces that were taken, in the order in which they came, of these processes and keys.
 #[derive(Drop)]
@@ -14,26 +15,27 @@ pub struct Plain {
 
 impl Plain {
     /// A list of no pieces, of processes 0 to 3 of j and the keys a, b and c.
-    pub fn new(alloc: Global) -> Result<Plain, Refusal> {
-        let mut procs = Vec::with_capacity(alloc, 4)?;
+    pub fn new(rt: &impl Abort, alloc: Global) -> Plain {
+        let mut procs = Vec::new(alloc);
         for rank in 0..4 {
-            procs.push(proc(alloc, rank)?)?;
+            let proc = proc(alloc, rank).expect(rt, MEMORY);
+            procs.push(proc).expect(rt, MEMORY);
         }
-        let mut keys = Vec::with_capacity(alloc, 3)?;
+        let mut keys = Vec::new(alloc);
         for name in [b"a", b"b", b"c"] {
-            keys.push(Key::read(alloc, name)?)?;
+            let key = Key::read(alloc, name).expect(rt, MEMORY);
+            keys.push(key).expect(rt, MEMORY);
         }
-        Ok(Plain {
+        Plain {
             procs,
             keys,
             pieces: Vec::new(alloc),
-        })
+        }
     }
 
     /// Takes the piece.
-    pub fn absorb(&mut self, piece: Piece) -> Result<(), AllocError> {
-        self.pieces.push(piece)?;
-        Ok(())
+    pub fn absorb(&mut self, rt: &impl Abort, piece: Piece) {
+        self.pieces.push(piece).expect(rt, MEMORY);
     }
 
     /// Whether a piece has the commit of that number of the process.

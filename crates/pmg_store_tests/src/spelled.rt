@@ -1,11 +1,11 @@
 //! Frames for tests: their bytes as hexadecimal text, and the frames that these say.
-use crate::making::{fence_name, proc};
+use crate::making::{MEMORY, fence_name, proc};
+use hex::FromHexError;
 use pmg_commit::{Piece, PieceEntry};
-use pmg_frame::{
-    CommitAsk, FenceAsk, Frame, Header, Local, RefreshAsk, RefreshReply, State,
-};
-use pmg_value::{Key, NodeId, Proc, Refusal, Value};
+use pmg_frame::{CommitAsk, FenceAsk, Frame, Header, Local, RefreshAsk, RefreshReply, State};
+use pmg_value::{Key, NodeId, Proc, Value};
 use std::alloc::Global;
+use std::process::Abort;
 
 /// Of each kind of frame its name and its bytes, field by field as the formats list them.
 pub const FRAMES: &str = "\
@@ -30,110 +30,118 @@ refresh-none 01 06 00000027 00000001 0000000000000002 01 016a 00000000 000000000
 pub const PIECE_DUMPED: &[u8; 31] = b"proc j 0 level 1\n  bool:true a\n";
 
 /// The first commit of the process 0 of j, with true under each key.
-pub fn first_commit(alloc: Global, keys: &[&[u8]]) -> Result<Piece, Refusal> {
-    let mut entries = Vec::with_capacity(alloc, keys.len())?;
-    for key in keys {
-        entries.push(PieceEntry {
-            key: Key::read_any(alloc, *key)?,
+pub fn first_commit(rt: &impl Abort, alloc: Global, keys: &[&[u8]]) -> Piece {
+    let mut entries = Vec::new(alloc);
+    for name in keys {
+        let key = Key::read_any(alloc, *name).expect(rt, MEMORY);
+        let entry = PieceEntry {
+            key,
             number: 1,
             value: Value::Bool(true),
-        })?;
+        };
+        entries.push(entry).expect(rt, MEMORY);
     }
-    Piece::new(proc(alloc, 0)?, 0, 1, entries)
+    let proc = proc(alloc, 0).expect(rt, MEMORY);
+    Piece::new(proc, 0, 1, entries).expect(rt, MEMORY)
 }
 
 // Node 0 tells of the first collecting fence of 0 and 1 of j: 0 has entered at level 1.
-fn header(alloc: Global) -> Result<Header, Refusal> {
-    let mut locals = Vec::with_capacity(alloc, 1)?;
-    locals.push(Local {
-        proc: proc(alloc, 0)?,
+fn header(rt: &impl Abort, alloc: Global) -> Header {
+    let mut locals = Vec::new(alloc);
+    let local = Local {
+        proc: proc(alloc, 0).expect(rt, MEMORY),
         state: State::Entered,
         level: 1,
-    })?;
-    Header::new(
-        NodeId::new(0)?,
-        fence_name(alloc, &[1, 0, 1], true, 1)?,
-        locals,
-    )
+    };
+    locals.push(local).expect(rt, MEMORY);
+    let node = NodeId::new(0).expect(rt, MEMORY);
+    let fence = fence_name(rt, alloc, &[1, 0, 1], true, 1);
+    Header::new(node, fence, locals).expect(rt, MEMORY)
+}
+
+// The ask of that node for the commits of the process 0 of j after the level.
+fn commit_ask(rt: &impl Abort, alloc: Global, node: NodeId, level: u64) -> CommitAsk {
+    let proc = proc(alloc, 0).expect(rt, MEMORY);
+    CommitAsk::new(node, proc, level).expect(rt, MEMORY)
 }
 
 /// The frame of that name, made from what it says.
-pub fn made(alloc: Global, name: &str) -> Result<Frame, Refusal> {
-    let node = NodeId::new(1)?;
-    Ok(match name {
-        "piece" => Frame::Piece(first_commit(alloc, &[b"a"])?),
-        "pair" => Frame::Piece(first_commit(alloc, &[b"a", b"b"])?),
-        "header" => Frame::Header(header(alloc)?),
+pub fn made(rt: &impl Abort, alloc: Global, name: &str) -> Frame {
+    let node = NodeId::new(1).expect(rt, MEMORY);
+    match name {
+        "piece" => Frame::Piece(first_commit(rt, alloc, &[b"a"])),
+        "pair" => Frame::Piece(first_commit(rt, alloc, &[b"a", b"b"])),
+        "header" => Frame::Header(header(rt, alloc)),
         "fence-ask" => {
-            let fence = fence_name(alloc, &[1, 0, 1], true, 1)?;
+            let fence = fence_name(rt, alloc, &[1, 0, 1], true, 1);
             Frame::FenceAsk(FenceAsk::new(node, fence))
         }
-        "range-ask" => Frame::RangeAsk(CommitAsk::new(node, proc(alloc, 0)?, 2)?),
-        "direct-ask" => Frame::DirectAsk(CommitAsk::new(node, proc(alloc, 0)?, 3)?),
+        "range-ask" => Frame::RangeAsk(commit_ask(rt, alloc, node, 2)),
+        "direct-ask" => Frame::DirectAsk(commit_ask(rt, alloc, node, 3)),
         "refresh-ask" => {
-            let ask = CommitAsk::new(node, proc(alloc, 0)?, 3)?;
-            Frame::RefreshAsk(RefreshAsk::new(7, ask)?)
+            let ask = commit_ask(rt, alloc, node, 3);
+            Frame::RefreshAsk(RefreshAsk::new(7, ask).expect(rt, MEMORY))
         }
         "refresh-reply" => {
-            let piece = first_commit(alloc, &[b"a"])?;
-            Frame::RefreshReply(RefreshReply::new(node, 1, piece)?)
+            let piece = first_commit(rt, alloc, &[b"a"]);
+            Frame::RefreshReply(RefreshReply::new(node, 1, piece).expect(rt, MEMORY))
         }
         "refresh-none" => {
-            let none = RefreshReply::nothing(alloc, node, 2, proc(alloc, 0)?, 3)?;
-            Frame::RefreshReply(none)
+            let proc = proc(alloc, 0).expect(rt, MEMORY);
+            let none = RefreshReply::nothing(alloc, node, 2, proc, 3);
+            Frame::RefreshReply(none.expect(rt, MEMORY))
         }
-        _ => Frame::RangeAsk(CommitAsk::new(node, Proc::of_host(), 0)?),
-    })
+        _ => {
+            let ask = CommitAsk::new(node, Proc::of_host(), 0);
+            Frame::RangeAsk(ask.expect(rt, MEMORY))
+        }
+    }
 }
 
-// The bytes of hexadecimal text, in which blanks part the fields.
-fn decoded(alloc: Global, text: &str) -> Result<Vec<u8>, Refusal> {
+/// The bytes of hexadecimal text, in which blanks part the fields.
+pub fn decoded(alloc: Global, text: &str) -> Result<Vec<u8>, FromHexError> {
     let mut bytes = Vec::new(alloc);
     for field in text.split_whitespace() {
-        match hex::decode(alloc, field.as_bytes()) {
-            Ok(part) => bytes.extend_from_slice(&part)?,
-            Err(hex::FromHexError::OutOfMemory) => return Err(Refusal::NoMemory),
-            Err(_) => return Err(Refusal::BadParam),
-        }
+        bytes.extend_from_slice(&hex::decode(alloc, field.as_bytes())?)?;
     }
     Ok(bytes)
 }
 
 // The bytes of the frame of that name.
-fn bytes_of(alloc: Global, name: &str) -> Result<Vec<u8>, Refusal> {
+fn bytes_of(rt: &impl Abort, alloc: Global, name: &str) -> Vec<u8> {
     for line in FRAMES.lines() {
         let (first, text) = line.split_once(' ').unwrap_or(("", ""));
         if first == name {
-            return decoded(alloc, text);
+            return decoded(alloc, text).expect(rt, MEMORY);
         }
     }
-    Err(Refusal::NotFound)
+    panic!(rt; "there is no frame {name}")
 }
 
 // Does one edit: `7=20` writes a byte at a place, and `..6` cuts.
-fn edit(bytes: &mut Vec<u8>, text: &str) -> Result<(), Refusal> {
+fn edit(rt: &impl Abort, bytes: &mut Vec<u8>, text: &str) {
     if let Some(size) = text.strip_prefix("..")
         && let Ok(size) = size.parse::<usize>()
     {
         bytes.truncate(size);
-        return Ok(());
+        return;
     }
     if let Some((place, byte)) = text.split_once('=')
         && let (Ok(place), Ok(byte)) = (place.parse::<usize>(), u8::from_str_radix(byte, 16))
         && let Some(there) = bytes.get_mut(place)
     {
         *there = byte;
-        return Ok(());
+        return;
     }
-    Err(Refusal::BadParam)
+    panic!(rt; "{text} is no edit")
 }
 
 /// The bytes of the frame that is named first, with the edits that follow, as `piece 7=20 19=01`.
-pub fn edited(alloc: Global, text: &str) -> Result<Vec<u8>, Refusal> {
+pub fn edited(rt: &impl Abort, alloc: Global, text: &str) -> Vec<u8> {
     let mut words = text.split_whitespace();
-    let mut bytes = bytes_of(alloc, words.next().unwrap_or(""))?;
+    let mut bytes = bytes_of(rt, alloc, words.next().unwrap_or(""));
     for word in words {
-        edit(&mut bytes, word)?;
+        edit(rt, &mut bytes, word);
     }
-    Ok(bytes)
+    bytes
 }

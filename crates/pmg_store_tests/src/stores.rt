@@ -1,12 +1,12 @@
 //! What no clause says of stores and boards: that calls succeed where there is memory, the text of their dumps, and
 //! that they hold what a plain list of pieces does; and that they are as they were where memory ran out.
-use crate::making::{ORDERS, drawn, next_number, piece, small, three};
+use crate::making::{MEMORY, ORDERS, drawn, next_number, piece, small, three};
 use crate::plain::Plain;
 use crate::spelled::{PIECE_DUMPED, edited, first_commit};
 use pmg_commit::Piece;
 use pmg_join::{Join, join_all};
-use pmg_store::{Board, Failure, Store, store_of_stream};
-use pmg_value::{Proc, Refusal, WatchedWriter, push_number};
+use pmg_store::{Board, Store, store_of_stream};
+use pmg_value::{Proc, WatchedWriter, push_number};
 use std::alloc::Global;
 use std::process::Abort;
 
@@ -15,72 +15,64 @@ const ONE_DUMPED: &[u8] = b"proc j 0 level 1\n  u8:1 a\n";
 const THREE_DUMPED: &[u8] = b"proc j 0 level 3\n  u8:2 a\n  u8:3 b\n";
 
 // Whether the store is dumped so.
-fn is_dumped(alloc: Global, store: &Store, text: &[u8]) -> Result<bool, Failure> {
-    let mut writer = WatchedWriter::new(Vec::with_capacity(alloc, 64)?);
-    store.dump(&mut writer)?;
-    Ok(writer.into_inner().as_slice() == text)
+fn is_dumped(rt: &impl Abort, alloc: Global, store: &Store, text: &[u8]) -> bool {
+    let mut writer = WatchedWriter::new(Vec::with_capacity(alloc, 64).expect(rt, MEMORY));
+    store.dump(&mut writer).expect(rt, MEMORY);
+    writer.into_inner().as_slice() == text
 }
 
 // A store that took the pieces at these places, in this order.
-fn store_of(alloc: Global, pieces: &[Piece], order: &[usize]) -> Result<Store, Refusal> {
+fn store_of(rt: &impl Abort, alloc: Global, pieces: &[Piece], order: &[usize]) -> Store {
     let mut store = Store::new(alloc);
     for i in order {
         if let Some(piece) = pieces.get(*i) {
-            store.absorb(piece)?;
+            store.absorb(piece).expect(rt, MEMORY);
         }
     }
-    Ok(store)
+    store
 }
 
 #[test]
-fn three_pieces_end_alike_in_each_order(rt: HostRuntime) -> Result<(), Failure> {
+fn three_pieces_end_alike_in_each_order(rt: HostRuntime) {
     let alloc = rt.alloc();
-    let pieces = three(alloc)?;
+    let pieces = three(&rt, alloc);
     for order in ORDERS {
-        let store = store_of(alloc, &pieces, &order)?;
-        assert!(rt; is_dumped(alloc, &store, THREE_DUMPED)?);
+        let store = store_of(&rt, alloc, &pieces, &order);
+        assert!(rt; is_dumped(&rt, alloc, &store, THREE_DUMPED));
     }
-    Ok(())
 }
 
 // The stores of the first and third piece, and of the second.
-fn two_stores(alloc: Global) -> Result<(Store, Store), Refusal> {
-    let pieces = three(alloc)?;
-    let outer = store_of(alloc, &pieces, &[0, 2])?;
-    Ok((outer, store_of(alloc, &pieces, &[1])?))
+fn two_stores(rt: &impl Abort, alloc: Global) -> (Store, Store) {
+    let pieces = three(rt, alloc);
+    let outer = store_of(rt, alloc, &pieces, &[0, 2]);
+    (outer, store_of(rt, alloc, &pieces, &[1]))
 }
 
 // What the stores join to, where the first is joined twice.
-fn joined(alloc: Global, first: Store, second: Store) -> Result<Store, Refusal> {
+fn joined(rt: &impl Abort, alloc: Global, first: Store, second: Store) -> Store {
     let mut both = second;
-    both.join(Join::copy(&first)?)?;
-    let mut others = Vec::with_capacity(alloc, 1)?;
-    others.push(both)?;
-    Ok(join_all(first, others)?)
+    let copy = Join::copy(&first).expect(rt, MEMORY);
+    both.join(copy).expect(rt, MEMORY);
+    let mut others = Vec::with_capacity(alloc, 1).expect(rt, MEMORY);
+    others.push(both).expect(rt, MEMORY);
+    join_all(first, others).expect(rt, MEMORY)
 }
 
 #[test]
-fn three_pieces_end_alike_by_joins(rt: HostRuntime) -> Result<(), Failure> {
+fn three_pieces_end_alike_by_joins(rt: HostRuntime) {
     let alloc = rt.alloc();
-    let (outer, second) = two_stores(alloc)?;
-    assert!(rt; is_dumped(alloc, &outer, ONE_DUMPED)?);
-    assert!(rt; is_dumped(alloc, &joined(alloc, outer, second)?, THREE_DUMPED)?);
-    Ok(())
+    let (outer, second) = two_stores(&rt, alloc);
+    assert!(rt; is_dumped(&rt, alloc, &outer, ONE_DUMPED));
+    assert!(rt; is_dumped(&rt, alloc, &joined(&rt, alloc, outer, second), THREE_DUMPED));
 }
 
 // Takes the piece. Where memory runs out, the store is dumped as it was before, and the piece is taken then.
-fn absorb(
-    rt: &impl Abort,
-    alloc: Global,
-    store: &mut Store,
-    before: &[u8],
-    piece: &Piece,
-) -> Result<(), Failure> {
+fn absorb(rt: &impl Abort, alloc: Global, store: &mut Store, before: &[u8], piece: &Piece) {
     if store.absorb(piece).is_err() {
-        assert!(rt; is_dumped(alloc, store, before)?);
-        store.absorb(piece)?;
+        assert!(rt; is_dumped(rt, alloc, store, before));
+        store.absorb(piece).expect(rt, MEMORY);
     }
-    Ok(())
 }
 
 // A store that took both pieces, and was dumped so in between.
@@ -90,108 +82,91 @@ fn store_of_both(
     first: &Piece,
     between: &[u8],
     second: &Piece,
-) -> Result<Store, Failure> {
+) -> Store {
     let mut store = Store::new(alloc);
-    absorb(rt, alloc, &mut store, b"", first)?;
-    absorb(rt, alloc, &mut store, between, second)?;
-    Ok(store)
+    absorb(rt, alloc, &mut store, b"", first);
+    absorb(rt, alloc, &mut store, between, second);
+    store
 }
 
 #[test]
-fn half_a_piece_never_stays(rt: HostRuntime) -> Result<(), Failure> {
+fn half_a_piece_never_stays(rt: HostRuntime) {
     let alloc = rt.alloc();
-    let two = piece(alloc, 0, 0, 2, 1, &[(b"a", 1)])?;
-    let more = piece(alloc, 0, 0, 1, 1, &[(b"a", 1), (b"b", 2), (b"c", 3)])?;
-    let store = store_of_both(&rt, alloc, &two, b"proc j 0 level 2\n  u8:1 a\n", &more)?;
+    let two = piece(alloc, 0, 0, 2, 1, &[(b"a", 1)]).expect(&rt, MEMORY);
+    let more = piece(alloc, 0, 0, 1, 1, &[(b"a", 1), (b"b", 2), (b"c", 3)]).expect(&rt, MEMORY);
+    let store = store_of_both(&rt, alloc, &two, b"proc j 0 level 2\n  u8:1 a\n", &more);
     let text = b"proc j 0 level 2\n  u8:1 a\n  u8:2 b\n  u8:3 c\n";
-    assert!(rt; is_dumped(alloc, &store, text)?);
-    Ok(())
+    assert!(rt; is_dumped(&rt, alloc, &store, text));
 }
 
 // Joins the other store, which is dumped so. Where memory runs out, both are as they were, and they are joined then.
-fn join(
-    rt: &impl Abort,
-    alloc: Global,
-    store: &mut Store,
-    other: Store,
-    text: &[u8],
-) -> Result<(), Failure> {
+fn join(rt: &impl Abort, alloc: Global, store: &mut Store, other: Store, text: &[u8]) {
     if let Err(refused) = store.join(other) {
-        assert!(rt; is_dumped(alloc, store, b"")?);
-        assert!(rt; is_dumped(alloc, &refused.value, text)?);
-        store.join(refused.value)?;
+        assert!(rt; is_dumped(rt, alloc, store, b""));
+        assert!(rt; is_dumped(rt, alloc, &refused.value, text));
+        store.join(refused.value).expect(rt, MEMORY);
     }
-    Ok(())
 }
 
 #[test]
-fn refused_memory_leaves_a_store_as_it_was(rt: HostRuntime) -> Result<(), Failure> {
+fn refused_memory_leaves_a_store_as_it_was(rt: HostRuntime) {
     let alloc = rt.alloc();
-    let other = store_of_stream(alloc, &edited(alloc, "piece")?)?;
+    let other = store_of_stream(alloc, &edited(&rt, alloc, "piece")).expect(&rt, MEMORY);
     let mut store = Store::new(alloc);
-    join(&rt, alloc, &mut store, other, PIECE_DUMPED)?;
-    assert!(rt; is_dumped(alloc, &store, PIECE_DUMPED)?);
-    Ok(())
+    join(&rt, alloc, &mut store, other, PIECE_DUMPED);
+    assert!(rt; is_dumped(&rt, alloc, &store, PIECE_DUMPED));
 }
 
 // Whether the near and the far store of the board are dumped so.
-fn is_shown(alloc: Global, board: &Board, near: &[u8], far: &[u8]) -> Result<bool, Failure> {
-    Ok(is_dumped(alloc, board.near(), near)? && is_dumped(alloc, board.far(), far)?)
+fn is_shown(rt: &impl Abort, alloc: Global, board: &Board, near: &[u8], far: &[u8]) -> bool {
+    is_dumped(rt, alloc, board.near(), near) && is_dumped(rt, alloc, board.far(), far)
 }
 
 // A copy of a board with the first piece near and the third far.
-fn board_of(alloc: Global, pieces: &[Piece; 3]) -> Result<Board, Refusal> {
+fn board_of(rt: &impl Abort, alloc: Global, pieces: &[Piece; 3]) -> Board {
     let mut board = Board::new(alloc);
-    board.absorb_near(&pieces[0])?;
-    board.absorb_far(&pieces[2])?;
-    Ok(board.copy()?)
+    board.absorb_near(&pieces[0]).expect(rt, MEMORY);
+    board.absorb_far(&pieces[2]).expect(rt, MEMORY);
+    board.copy().expect(rt, MEMORY)
 }
 
 // Takes all pieces near and far. Where memory runs out, the board is as it was, and they are taken then.
-fn absorb_all(
-    rt: &impl Abort,
-    alloc: Global,
-    board: &mut Board,
-    pieces: &[Piece],
-) -> Result<(), Failure> {
+fn absorb_all(rt: &impl Abort, alloc: Global, board: &mut Board, pieces: &[Piece]) {
     if board.absorb_all(pieces, pieces).is_err() {
-        assert!(rt; is_shown(alloc, board, ONE_DUMPED, b"")?);
-        board.absorb_all(pieces, pieces)?;
+        assert!(rt; is_shown(rt, alloc, board, ONE_DUMPED, b""));
+        board.absorb_all(pieces, pieces).expect(rt, MEMORY);
     }
-    Ok(())
 }
 
 #[test]
-fn a_board_takes_all_or_nothing(rt: HostRuntime) -> Result<(), Failure> {
+fn a_board_takes_all_or_nothing(rt: HostRuntime) {
     let alloc = rt.alloc();
-    let pieces = three(alloc)?;
-    let mut board = board_of(alloc, &pieces)?;
-    assert!(rt; is_shown(alloc, &board, ONE_DUMPED, b"")?);
-    absorb_all(&rt, alloc, &mut board, &pieces)?;
-    assert!(rt; is_shown(alloc, &board, THREE_DUMPED, THREE_DUMPED)?);
-    Ok(())
+    let pieces = three(&rt, alloc);
+    let mut board = board_of(&rt, alloc, &pieces);
+    assert!(rt; is_shown(&rt, alloc, &board, ONE_DUMPED, b""));
+    absorb_all(&rt, alloc, &mut board, &pieces);
+    assert!(rt; is_shown(&rt, alloc, &board, THREE_DUMPED, THREE_DUMPED));
 }
 
 // The ranks of the store's processes, with a point after each that has ended.
-fn ranks_and_ends(alloc: Global, store: &Store) -> Result<Vec<u8>, Refusal> {
+fn ranks_and_ends(rt: &impl Abort, alloc: Global, store: &Store) -> Vec<u8> {
     let mut text = Vec::new(alloc);
-    for proc in &store.processes()? {
-        push_number(&mut text, u64::from(proc.rank.number()))?;
+    for proc in &store.processes().expect(rt, MEMORY) {
+        push_number(&mut text, u64::from(proc.rank.number())).expect(rt, MEMORY);
         if store.has_ended(proc) {
-            text.push(b'.')?;
+            text.push(b'.').expect(rt, MEMORY);
         }
     }
-    Ok(text)
+    text
 }
 
 #[test]
-fn processes_are_told_in_order_with_their_ends(rt: HostRuntime) -> Result<(), Refusal> {
+fn processes_are_told_in_order_with_their_ends(rt: HostRuntime) {
     let alloc = rt.alloc();
-    let ended = first_commit(alloc, &[b"pmix.term"])?;
-    let pieces = [piece(alloc, 2, 1, 2, 2, &[])?, ended];
-    let text = ranks_and_ends(alloc, &store_of(alloc, &pieces, &[0, 1])?)?;
+    let ended = first_commit(&rt, alloc, &[b"pmix.term"]);
+    let pieces = [piece(alloc, 2, 1, 2, 2, &[]).expect(&rt, MEMORY), ended];
+    let text = ranks_and_ends(&rt, alloc, &store_of(&rt, alloc, &pieces, &[0, 1]));
     assert!(rt; text.as_slice() == b"0.2".as_slice());
-    Ok(())
 }
 
 // Whether both say the same of the process.
@@ -221,24 +196,24 @@ fn is_same(store: &Store, plain: &Plain) -> bool {
 
 // Takes the piece that the number says into two stores and the list.
 fn take(
+    rt: &impl Abort,
     alloc: Global,
     half: &mut Store,
     both: &mut Store,
     plain: &mut Plain,
     number: u64,
-) -> Result<(), Refusal> {
-    let next = drawn(alloc, (number >> 62) as u32, number)?;
-    half.absorb(&next)?;
-    both.absorb(&next)?;
-    plain.absorb(next)?;
-    Ok(())
+) {
+    let next = drawn(alloc, (number >> 62) as u32, number).expect(rt, MEMORY);
+    half.absorb(&next).expect(rt, MEMORY);
+    both.absorb(&next).expect(rt, MEMORY);
+    plain.absorb(rt, next);
 }
 
 // Each piece goes to one of two stores, which are joined at last, and to a third.
 #[test]
-fn stores_hold_what_a_list_of_pieces_does(rt: HostRuntime) -> Result<(), Failure> {
+fn stores_hold_what_a_list_of_pieces_does(rt: HostRuntime) {
     let alloc = rt.alloc();
-    let mut plain = Plain::new(alloc)?;
+    let mut plain = Plain::new(&rt, alloc);
     let mut even = Store::new(alloc);
     let mut odd = Store::new(alloc);
     let mut both = Store::new(alloc);
@@ -246,10 +221,9 @@ fn stores_hold_what_a_list_of_pieces_does(rt: HostRuntime) -> Result<(), Failure
     for done in 0..90 {
         number = next_number(number);
         let half = if done % 2 == 0 { &mut even } else { &mut odd };
-        take(alloc, half, &mut both, &mut plain, number)?;
+        take(&rt, alloc, half, &mut both, &mut plain, number);
         assert!(rt; is_same(&both, &plain));
     }
-    even.join(odd)?;
+    even.join(odd).expect(&rt, MEMORY);
     assert!(rt; is_same(&even, &plain));
-    Ok(())
 }
