@@ -1,8 +1,10 @@
 //! Tests of fences and requests for commits, from without.
-//! Where an allocation fails, a test ends with NoMemory, and with nothing else.
+//! Where an allocation fails, a test gives up with NoMemory, and with nothing else.
 #![tactic(auto)]
 
 #[cfg(test)]
 mod fences;
+#[cfg(test)]
+mod making;
 #[cfg(test)]
 mod requests;

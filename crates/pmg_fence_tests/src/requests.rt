@@ -1,212 +1,208 @@
 //! What no clause says: that each call gives its answer where there is memory; and what waits after some requests, found by
 //! hand.
+use crate::making::{MEMORY, process};
 use pmg_dmodex::{Marks, Parked, Pending};
-use pmg_value::{Key, NodeId, Nspace, Proc, Rank, Refusal};
+use pmg_value::{Key, NodeId, Proc};
 use std::alloc::Global;
-
-fn proc_of(alloc: Global, rank: u32) -> Result<Proc, Refusal> {
-    Ok(Proc::new(Nspace::read(alloc, b"j")?, Rank::new(rank)))
-}
+use std::process::Abort;
 
 // The calls of `Pending`, of the process of that rank.
 
-fn ask(alloc: Global, pending: &mut Pending, rank: u32, level: u64) -> Result<(), Refusal> {
-    pending.ask(&proc_of(alloc, rank)?, level)?;
-    Ok(())
+fn ask(rt: &impl Abort, alloc: Global, pending: &mut Pending, rank: u32, level: u64) {
+    pending
+        .ask(&process(rt, alloc, rank), level)
+        .expect(rt, MEMORY);
 }
 
-fn asked(alloc: Global, pending: &Pending, rank: u32) -> Result<Option<u64>, Refusal> {
-    Ok(pending.asked(&proc_of(alloc, rank)?))
+fn asked(rt: &impl Abort, alloc: Global, pending: &Pending, rank: u32) -> Option<u64> {
+    pending.asked(&process(rt, alloc, rank))
 }
 
-fn settle(alloc: Global, pending: &mut Pending, rank: u32, level: u64) -> Result<(), Refusal> {
-    pending.settle(&proc_of(alloc, rank)?, level);
-    Ok(())
+fn settle(rt: &impl Abort, alloc: Global, pending: &mut Pending, rank: u32, level: u64) {
+    pending.settle(&process(rt, alloc, rank), level);
 }
 
-fn hold(
-    alloc: Global,
-    pending: &mut Pending,
-    node: u32,
-    rank: u32,
-    level: u64,
-) -> Result<(), Refusal> {
-    let node = NodeId::new(node)?;
-    pending.hold(node, &proc_of(alloc, rank)?, level)?;
-    Ok(())
+fn hold(rt: &impl Abort, alloc: Global, pending: &mut Pending, node: u32, rank: u32, level: u64) {
+    let node = NodeId::new(node).expect(rt, MEMORY);
+    pending
+        .hold(node, &process(rt, alloc, rank), level)
+        .expect(rt, MEMORY);
 }
 
 // Whether these nodes are due, with these levels.
 fn are_due(
+    rt: &impl Abort,
     alloc: Global,
     pending: &Pending,
     rank: u32,
     level: u64,
     expected: &[(u32, u64)],
-) -> Result<bool, Refusal> {
-    let due = pending.due(&proc_of(alloc, rank)?, level)?;
+) -> bool {
+    let due = pending
+        .due(&process(rt, alloc, rank), level)
+        .expect(rt, MEMORY);
     if due.len() != expected.len() {
-        return Ok(false);
+        return false;
     }
     for (pair, (node, held)) in due.iter().zip(expected) {
         if pair.0.index() != *node || pair.1 != *held {
-            return Ok(false);
+            return false;
         }
     }
-    Ok(true)
+    true
 }
 
 #[test]
-fn the_greatest_ask_counts(rt: HostRuntime) -> Result<(), Refusal> {
+fn the_greatest_ask_counts(rt: HostRuntime) {
     let alloc = rt.alloc();
     let mut pending = Pending::new(alloc);
-    ask(alloc, &mut pending, 0, 3)?;
-    ask(alloc, &mut pending, 0, 2)?;
-    assert!(rt; asked(alloc, &pending, 0)? == Some(3));
-    assert!(rt; asked(alloc, &pending, 1)? == None);
-    Ok(())
+    ask(&rt, alloc, &mut pending, 0, 3);
+    ask(&rt, alloc, &mut pending, 0, 2);
+    assert!(rt; asked(&rt, alloc, &pending, 0) == Some(3));
+    assert!(rt; asked(&rt, alloc, &pending, 1) == None);
 }
 
 #[test]
-fn an_answered_ask_is_gone(rt: HostRuntime) -> Result<(), Refusal> {
+fn an_answered_ask_is_gone(rt: HostRuntime) {
     let alloc = rt.alloc();
     let mut pending = Pending::new(alloc);
-    ask(alloc, &mut pending, 0, 3)?;
-    settle(alloc, &mut pending, 0, 3)?;
-    assert!(rt; asked(alloc, &pending, 0)? == Some(3));
-    settle(alloc, &mut pending, 0, 4)?;
-    assert!(rt; asked(alloc, &pending, 0)? == None);
-    Ok(())
+    ask(&rt, alloc, &mut pending, 0, 3);
+    settle(&rt, alloc, &mut pending, 0, 3);
+    assert!(rt; asked(&rt, alloc, &pending, 0) == Some(3));
+    settle(&rt, alloc, &mut pending, 0, 4);
+    assert!(rt; asked(&rt, alloc, &pending, 0) == None);
 }
 
 #[test]
-fn the_least_level_of_a_node_waits(rt: HostRuntime) -> Result<(), Refusal> {
+fn the_least_level_of_a_node_waits(rt: HostRuntime) {
     let alloc = rt.alloc();
     let mut pending = Pending::new(alloc);
     for level in [5, 4, 6] {
-        hold(alloc, &mut pending, 2, 0, level)?;
+        hold(&rt, alloc, &mut pending, 2, 0, level);
     }
-    assert!(rt; are_due(alloc, &pending, 0, 4, &[])?);
-    assert!(rt; are_due(alloc, &pending, 0, 5, &[(2, 4)])?);
-    Ok(())
+    assert!(rt; are_due(&rt, alloc, &pending, 0, 4, &[]));
+    assert!(rt; are_due(&rt, alloc, &pending, 0, 5, &[(2, 4)]));
 }
 
 #[test]
-fn nodes_are_due_in_order_and_settled(rt: HostRuntime) -> Result<(), Refusal> {
+fn nodes_are_due_in_order_and_settled(rt: HostRuntime) {
     let alloc = rt.alloc();
     let mut pending = Pending::new(alloc);
     for (node, rank, level) in [(3, 0, 1), (1, 0, 0), (2, 0, 2), (1, 1, 0)] {
-        hold(alloc, &mut pending, node, rank, level)?;
+        hold(&rt, alloc, &mut pending, node, rank, level);
     }
-    assert!(rt; are_due(alloc, &pending, 0, 2, &[(1, 0), (3, 1)])?);
-    settle(alloc, &mut pending, 0, 2)?;
-    assert!(rt; are_due(alloc, &pending, 0, 9, &[(2, 2)])?);
-    assert!(rt; are_due(alloc, &pending, 1, 1, &[(1, 0)])?);
-    Ok(())
+    assert!(rt; are_due(&rt, alloc, &pending, 0, 2, &[(1, 0), (3, 1)]));
+    settle(&rt, alloc, &mut pending, 0, 2);
+    assert!(rt; are_due(&rt, alloc, &pending, 0, 9, &[(2, 2)]));
+    assert!(rt; are_due(&rt, alloc, &pending, 1, 1, &[(1, 0)]));
 }
 
 // What a copy holds after the ask and the hold of process 0, where both are settled then.
-fn copied(alloc: Global) -> Result<Pending, Refusal> {
+fn copied(rt: &impl Abort, alloc: Global) -> Pending {
     let mut pending = Pending::new(alloc);
-    hold(alloc, &mut pending, 1, 0, 0)?;
-    ask(alloc, &mut pending, 0, 7)?;
-    let copy = pending.copy()?;
-    settle(alloc, &mut pending, 0, 8)?;
-    Ok(copy)
+    hold(rt, alloc, &mut pending, 1, 0, 0);
+    ask(rt, alloc, &mut pending, 0, 7);
+    let copy = pending.copy().expect(rt, MEMORY);
+    settle(rt, alloc, &mut pending, 0, 8);
+    copy
 }
 
 #[test]
-fn a_copy_waits_by_itself(rt: HostRuntime) -> Result<(), Refusal> {
-    let copy = copied(rt.alloc())?;
-    assert!(rt; are_due(rt.alloc(), &copy, 0, 1, &[(1, 0)])?);
-    assert!(rt; asked(rt.alloc(), &copy, 0)? == Some(7));
-    Ok(())
+fn a_copy_waits_by_itself(rt: HostRuntime) {
+    let copy = copied(&rt, rt.alloc());
+    assert!(rt; are_due(&rt, rt.alloc(), &copy, 0, 1, &[(1, 0)]));
+    assert!(rt; asked(&rt, rt.alloc(), &copy, 0) == Some(7));
 }
 
 // The calls of `Marks`, of a node and of the process of that rank.
 
-fn set(alloc: Global, marks: &mut Marks, node: u32, rank: u32, mark: u64) -> Result<(), Refusal> {
-    let node = NodeId::new(node)?;
-    marks.set(node, &proc_of(alloc, rank)?, mark)?;
-    Ok(())
+fn set(rt: &impl Abort, alloc: Global, marks: &mut Marks, node: u32, rank: u32, mark: u64) {
+    let node = NodeId::new(node).expect(rt, MEMORY);
+    marks
+        .set(node, &process(rt, alloc, rank), mark)
+        .expect(rt, MEMORY);
 }
 
-fn from(alloc: Global, marks: &Marks, node: u32, rank: u32) -> Result<u64, Refusal> {
-    let node = NodeId::new(node)?;
-    Ok(marks.from(node, &proc_of(alloc, rank)?))
+fn from(rt: &impl Abort, alloc: Global, marks: &Marks, node: u32, rank: u32) -> u64 {
+    let node = NodeId::new(node).expect(rt, MEMORY);
+    marks.from(node, &process(rt, alloc, rank))
 }
 
 #[test]
-fn a_mark_is_set_up_and_down(rt: HostRuntime) -> Result<(), Refusal> {
+fn a_mark_is_set_up_and_down(rt: HostRuntime) {
     let alloc = rt.alloc();
     let mut marks = Marks::new(alloc);
-    assert!(rt; from(alloc, &marks, 1, 0)? == 0);
+    assert!(rt; from(&rt, alloc, &marks, 1, 0) == 0);
     for mark in [7, 4] {
-        set(alloc, &mut marks, 1, 0, mark)?;
-        assert!(rt; from(alloc, &marks, 1, 0)? == mark);
+        set(&rt, alloc, &mut marks, 1, 0, mark);
+        assert!(rt; from(&rt, alloc, &marks, 1, 0) == mark);
     }
-    Ok(())
 }
 
 // Marks with one, and with two more after they were copied.
-fn two_marks(alloc: Global) -> Result<(Marks, Marks), Refusal> {
+fn two_marks(rt: &impl Abort, alloc: Global) -> (Marks, Marks) {
     let mut marks = Marks::new(alloc);
-    set(alloc, &mut marks, 1, 0, 7)?;
-    let copy = marks.copy()?;
-    set(alloc, &mut marks, 2, 0, 8)?;
-    set(alloc, &mut marks, 1, 1, 9)?;
-    Ok((copy, marks))
+    set(rt, alloc, &mut marks, 1, 0, 7);
+    let copy = marks.copy().expect(rt, MEMORY);
+    set(rt, alloc, &mut marks, 2, 0, 8);
+    set(rt, alloc, &mut marks, 1, 1, 9);
+    (copy, marks)
 }
 
 #[test]
-fn other_marks_stay(rt: HostRuntime) -> Result<(), Refusal> {
+fn other_marks_stay(rt: HostRuntime) {
     let alloc = rt.alloc();
-    let (copy, marks) = two_marks(alloc)?;
-    assert!(rt; from(alloc, &marks, 1, 0)? == 7);
-    assert!(rt; from(alloc, &copy, 2, 0)? == 0);
-    assert!(rt; from(alloc, &copy, 1, 0)? == 7);
-    Ok(())
+    let (copy, marks) = two_marks(&rt, alloc);
+    assert!(rt; from(&rt, alloc, &marks, 1, 0) == 7);
+    assert!(rt; from(&rt, alloc, &copy, 2, 0) == 0);
+    assert!(rt; from(&rt, alloc, &copy, 1, 0) == 7);
 }
 
 // The process of rank 0 asks for the key of the process of rank 1, and so does that of rank 2.
-fn two_ask(alloc: Global, text: &[u8]) -> Result<Parked, Refusal> {
-    let key = Key::read(alloc, text)?;
-    let target = proc_of(alloc, 1)?;
+fn two_ask(rt: &impl Abort, alloc: Global, text: &[u8]) -> Parked {
+    let key = Key::read(alloc, text).expect(rt, MEMORY);
+    let target = process(rt, alloc, 1);
     let mut parked = Parked::new(alloc);
-    parked.park(&target, &proc_of(alloc, 2)?, &key)?;
-    parked.park(&target, &proc_of(alloc, 0)?, &key)?;
-    Ok(parked)
+    parked
+        .park(&target, &process(rt, alloc, 2), &key)
+        .expect(rt, MEMORY);
+    parked
+        .park(&target, &process(rt, alloc, 0), &key)
+        .expect(rt, MEMORY);
+    parked
 }
 
 // The ranks of those who ask for a key of the process, as digits.
-fn askers(alloc: Global, parked: &Parked, target: &Proc) -> Result<Vec<u8>, Refusal> {
-    let gets = parked.on(target)?;
-    let mut ranks = Vec::with_capacity(alloc, gets.len())?;
+fn askers(rt: &impl Abort, alloc: Global, parked: &Parked, target: &Proc) -> Vec<u8> {
+    let gets = parked.on(target).expect(rt, MEMORY);
+    let mut ranks = Vec::with_capacity(alloc, gets.len()).expect(rt, MEMORY);
     for (asker, _) in gets.iter() {
-        ranks.push(b'0' + (asker.rank.number() % 10) as u8)?;
+        ranks
+            .push(b'0' + (asker.rank.number() % 10) as u8)
+            .expect(rt, MEMORY);
     }
-    Ok(ranks)
+    ranks
 }
 
 #[test]
-fn gets_wait_for_their_target(rt: HostRuntime) -> Result<(), Refusal> {
+fn gets_wait_for_their_target(rt: HostRuntime) {
     let alloc = rt.alloc();
-    let mut parked = two_ask(alloc, b"a")?;
-    let (zero, one) = (proc_of(alloc, 0)?, proc_of(alloc, 1)?);
-    assert!(rt; askers(alloc, &parked, &one)?.as_slice() == b"02".as_slice());
-    assert!(rt; askers(alloc, &parked, &zero)?.is_empty());
+    let mut parked = two_ask(&rt, alloc, b"a");
+    let (zero, one) = (process(&rt, alloc, 0), process(&rt, alloc, 1));
+    assert!(rt; askers(&rt, alloc, &parked, &one).as_slice() == b"02".as_slice());
+    assert!(rt; askers(&rt, alloc, &parked, &zero).is_empty());
     parked.remove(&one, &zero);
-    assert!(rt; askers(alloc, &parked, &one)?.as_slice() == b"2".as_slice());
-    Ok(())
+    assert!(rt; askers(&rt, alloc, &parked, &one).as_slice() == b"2".as_slice());
 }
 
 #[test]
-fn an_asker_waits_for_its_last_key(rt: HostRuntime) -> Result<(), Refusal> {
+fn an_asker_waits_for_its_last_key(rt: HostRuntime) {
     let alloc = rt.alloc();
-    let mut parked = two_ask(alloc, b"a")?;
-    let (zero, one) = (proc_of(alloc, 0)?, proc_of(alloc, 1)?);
-    let copy = parked.copy()?;
-    parked.park(&one, &zero, &Key::read(alloc, b"b")?)?;
+    let mut parked = two_ask(&rt, alloc, b"a");
+    let (zero, one) = (process(&rt, alloc, 0), process(&rt, alloc, 1));
+    let copy = parked.copy().expect(&rt, MEMORY);
+    let key = Key::read(alloc, b"b").expect(&rt, MEMORY);
+    parked.park(&one, &zero, &key).expect(&rt, MEMORY);
     assert!(rt;
         parked
             .get(&one, &zero)
@@ -217,5 +213,4 @@ fn an_asker_waits_for_its_last_key(rt: HostRuntime) -> Result<(), Refusal> {
             .is_some_and(|key| key.as_bytes() == b"a".as_slice())
     );
     assert!(rt; copy.get(&zero, &one).is_none());
-    Ok(())
 }
