@@ -1,7 +1,7 @@
 //! What no clause says: that a cache answers where there is memory, what it holds after some puts,
 //! found by hand, and that it is as large as its limits.
 use crate::steps::{digit_of, put, put_value};
-use crate::words::{assert_told, cause_of, cut};
+use crate::words::{MEMORY, assert_told, cause_of, cut};
 use pmg_scope::{Batch, Cache, Scope};
 use pmg_value::{Key, Refusal, Value, push_number};
 use std::alloc::Global;
@@ -56,79 +56,83 @@ lxpmix7 .1../PMIX7pmi7x1xpmix7/x1
 ";
 
 // Appends each key and its digit.
-fn push_rows(text: &mut Vec<u8>, rows: &[(Key, Value)]) -> Result<(), Refusal> {
-    text.push(b'/')?;
+fn push_rows(rt: &impl Abort, text: &mut Vec<u8>, rows: &[(Key, Value)]) {
+    text.push(b'/').expect(rt, MEMORY);
     for (key, value) in rows {
-        text.extend_from_slice(key.as_bytes())?;
-        text.push(digit_of(value))?;
+        text.extend_from_slice(key.as_bytes()).expect(rt, MEMORY);
+        text.push(digit_of(value)).expect(rt, MEMORY);
     }
-    Ok(())
 }
 
 // Appends what is to be sealed near and far.
-fn push_batch(text: &mut Vec<u8>, batch: &Batch) -> Result<(), Refusal> {
-    push_rows(text, batch.near())?;
-    push_rows(text, batch.far())
+fn push_batch(rt: &impl Abort, text: &mut Vec<u8>, batch: &Batch) {
+    push_rows(rt, text, batch.near());
+    push_rows(rt, text, batch.far());
 }
 
 // The cache's own digit under the key of one letter.
-fn own(alloc: Global, cache: &Cache, letter: u8) -> Result<u8, Refusal> {
-    let key = Key::read_any(alloc, &[letter])?;
-    Ok(cache.own(&key).map_or(b'.', digit_of))
+fn own(rt: &impl Abort, alloc: Global, cache: &Cache, letter: u8) -> u8 {
+    let key = Key::read_any(alloc, &[letter]).expect(rt, MEMORY);
+    cache.own(&key).map_or(b'.', digit_of)
 }
 
 // What the cache has, as the steps write it.
-fn shown(alloc: Global, cache: &Cache) -> Result<Vec<u8>, Refusal> {
+fn shown(rt: &impl Abort, alloc: Global, cache: &Cache) -> Vec<u8> {
     let mut text = Vec::new(alloc);
     for letter in b'w'..=b'z' {
-        text.push(own(alloc, cache, letter)?)?;
+        text.push(own(rt, alloc, cache, letter)).expect(rt, MEMORY);
     }
-    push_batch(&mut text, &cache.unsealed()?)?;
-    Ok(text)
+    push_batch(rt, &mut text, &cache.unsealed().expect(rt, MEMORY));
+    text
 }
 
 // What a copy of the cache has once the step is taken.
-fn stepped(alloc: Global, cache: &mut Cache, step: &str) -> Result<Vec<u8>, Refusal> {
+fn stepped(
+    rt: &impl Abort,
+    alloc: Global,
+    cache: &mut Cache,
+    step: &str,
+) -> Result<Vec<u8>, Refusal> {
     if step == "c" {
         cache.mark_sealed();
     } else {
-        put(cache, alloc, step)?;
+        put(rt, cache, alloc, step)?;
     }
-    shown(alloc, &cache.copy()?)
+    let copy = cache.copy().expect(rt, MEMORY);
+    Ok(shown(rt, alloc, &copy))
 }
 
 // Requires that a new cache has after each step what the step's line says.
-fn assert_steps(rt: &impl Abort, alloc: Global, lines: &str) -> Result<(), Refusal> {
+fn assert_steps(rt: &impl Abort, alloc: Global, lines: &str) {
     let mut cache = Cache::new(alloc);
     for line in lines.lines() {
-        let (step, want) = cut(line, ' ')?;
-        assert_told(rt, stepped(alloc, &mut cache, step), want)?;
+        let (step, want) = cut(rt, line, ' ');
+        assert_told(rt, stepped(rt, alloc, &mut cache, step), want);
     }
-    Ok(())
 }
 
 #[test]
-fn a_cache_has_what_was_put(rt: HostRuntime) -> Result<(), Refusal> {
+fn a_cache_has_what_was_put(rt: HostRuntime) {
     for lines in STEPS.split("\n\n") {
-        assert_steps(&rt, rt.alloc(), lines)?;
+        assert_steps(&rt, rt.alloc(), lines);
     }
-    Ok(())
 }
 
 #[test]
-fn a_batch_of_one_put_is_for_all_others(rt: HostRuntime) -> Result<(), Refusal> {
+fn a_batch_of_one_put_is_for_all_others(rt: HostRuntime) {
     let alloc = rt.alloc();
-    let key = Key::read(alloc, b"a")?;
-    let batch = Batch::of_put(alloc, key, Value::U8(b'7'))?.copy()?;
+    let key = Key::read(alloc, b"a").expect(&rt, MEMORY);
+    let batch = Batch::of_put(alloc, key, Value::U8(b'7')).expect(&rt, MEMORY);
+    let copy = batch.copy().expect(&rt, MEMORY);
     let mut text = Vec::new(alloc);
-    push_batch(&mut text, &batch)?;
-    assert_told(&rt, Ok(text), "/a7/a7")
+    push_batch(&rt, &mut text, &copy);
+    assert_told(&rt, Ok(text), "/a7/a7");
 }
 
 // A string of that length.
-fn string_of(alloc: Global, len: usize) -> Result<Value, Refusal> {
-    let text = vec![in alloc; b'v'; len]?;
-    Value::string(alloc, &text)
+fn string_of(rt: &impl Abort, alloc: Global, len: usize) -> Value {
+    let text = vec![in alloc; b'v'; len].expect(rt, MEMORY);
+    Value::string(alloc, &text).expect(rt, MEMORY)
 }
 
 // The key that comes there, of three bytes.
@@ -138,72 +142,70 @@ fn key_at(i: usize) -> [u8; 3] {
 
 // Puts the number: why it was refused.
 fn put_number(
+    rt: &impl Abort,
     cache: &mut Cache,
     alloc: Global,
     key: &[u8],
     number: u8,
-) -> Result<Option<Refusal>, Refusal> {
-    cause_of(cache.put(Scope::Internal, Key::read(alloc, key)?, Value::U8(number)))
+) -> Option<Refusal> {
+    let key = Key::read(alloc, key).expect(rt, MEMORY);
+    cause_of(rt, cache.put(Scope::Internal, key, Value::U8(number)))
 }
 
 // A cache with so many keys.
-fn cache_of(alloc: Global, keys: usize) -> Result<Cache, Refusal> {
+fn cache_of(rt: &impl Abort, alloc: Global, keys: usize) -> Cache {
     let mut cache = Cache::new(alloc);
     for i in 0..keys {
-        put_number(&mut cache, alloc, &key_at(i), 7)?;
+        put_number(rt, &mut cache, alloc, &key_at(i), 7);
     }
-    Ok(cache)
+    cache
 }
 
 #[test]
-fn a_cache_has_65535_keys(rt: HostRuntime) -> Result<(), Refusal> {
-    let mut cache = cache_of(rt.alloc(), 65_535)?;
-    let cause = put_number(&mut cache, rt.alloc(), b"more", 7)?;
+fn a_cache_has_65535_keys(rt: HostRuntime) {
+    let mut cache = cache_of(&rt, rt.alloc(), 65_535);
+    let cause = put_number(&rt, &mut cache, rt.alloc(), b"more", 7);
     assert!(rt; cause == Some(Refusal::TooMany));
-    assert!(rt; put_number(&mut cache, rt.alloc(), &key_at(65_534), 8)? == None);
-    Ok(())
+    assert!(rt; put_number(&rt, &mut cache, rt.alloc(), &key_at(65_534), 8) == None);
 }
 
 // Puts a string of that length, and gives that length.
 fn put_string(
+    rt: &impl Abort,
     cache: &mut Cache,
     alloc: Global,
     place: &[u8],
     len: usize,
 ) -> Result<Vec<u8>, Refusal> {
-    put_value(cache, alloc, place, string_of(alloc, len)?)?;
+    put_value(rt, cache, alloc, place, string_of(rt, alloc, len))?;
     let mut text = Vec::new(alloc);
-    push_number(&mut text, len as u64)?;
+    push_number(&mut text, len as u64).expect(rt, MEMORY);
     Ok(text)
 }
 
 // A cache in which 271,195 bytes are left of those for the processes of its node.
-fn filled(alloc: Global) -> Result<Cache, Refusal> {
+fn filled(rt: &impl Abort, alloc: Global) -> Cache {
     let mut cache = Cache::new(alloc);
     for letter in b'a'..b'p' {
-        put_string(&mut cache, alloc, &[b'l', letter], LONGEST)?;
+        let longest = string_of(rt, alloc, LONGEST);
+        put_value(rt, &mut cache, alloc, &[b'l', letter], longest).expect(rt, MEMORY);
     }
-    Ok(cache)
+    cache
 }
 
 // Puts the string of the line, and requires what the line says.
-fn assert_put(
-    rt: &impl Abort,
-    alloc: Global,
-    cache: &mut Cache,
-    line: &str,
-) -> Result<(), Refusal> {
-    let (place, rest) = cut(line, ' ')?;
-    let (len, want) = cut(rest, ' ')?;
+fn assert_put(rt: &impl Abort, alloc: Global, cache: &mut Cache, line: &str) {
+    let (place, rest) = cut(rt, line, ' ');
+    let (len, want) = cut(rt, rest, ' ');
     let len = len.parse::<usize>().unwrap_or(0);
-    assert_told(rt, put_string(cache, alloc, place.as_bytes(), len), want)
+    let answer = put_string(rt, cache, alloc, place.as_bytes(), len);
+    assert_told(rt, answer, want);
 }
 
 #[test]
-fn a_cache_has_16000000_bytes_for_each_reach(rt: HostRuntime) -> Result<(), Refusal> {
-    let mut cache = filled(rt.alloc())?;
+fn a_cache_has_16000000_bytes_for_each_reach(rt: HostRuntime) {
+    let mut cache = filled(&rt, rt.alloc());
     for line in STRINGS.lines() {
-        assert_put(&rt, rt.alloc(), &mut cache, line)?;
+        assert_put(&rt, rt.alloc(), &mut cache, line);
     }
-    Ok(())
 }

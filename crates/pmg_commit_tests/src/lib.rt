@@ -1,5 +1,5 @@
 //! Tests of caches, sealers, contributions, process sets and homes, from without. Where an
-//! allocation fails, a test ends with NoMemory, and with nothing else.
+//! allocation fails, a test gives up with NoMemory, and with nothing else.
 #![tactic(auto)]
 
 #[cfg(test)]

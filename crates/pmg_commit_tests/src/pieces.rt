@@ -1,42 +1,49 @@
 //! What no clause says: that contributions are made and copied where there is memory, and which a
 //! frame can hold, found by hand.
 use crate::steps::{digit_of, piece_text};
-use crate::words::{assert_told, cause_of, process_of};
+use crate::words::{MEMORY, assert_told, cause_of, process_of};
 use pmg_commit::{Piece, PieceEntry, Sealer, best_of};
 use pmg_value::{Key, Refusal, Value};
 use std::alloc::Global;
+use std::process::Abort;
 
 // The entry of that key, commit and digit.
-fn entry(alloc: Global, key: &[u8], number: u64, digit: u8) -> Result<PieceEntry, Refusal> {
-    Ok(PieceEntry {
-        key: Key::read_any(alloc, key)?,
+fn entry(rt: &impl Abort, alloc: Global, key: &[u8], number: u64, digit: u8) -> PieceEntry {
+    PieceEntry {
+        key: Key::read_any(alloc, key).expect(rt, MEMORY),
         number,
         value: Value::U8(digit),
-    })
+    }
 }
 
 // Why there is no contribution of the process with two entries, of each of which its key's one byte
 // and its number are told.
 fn pair_cause(
+    rt: &impl Abort,
     alloc: Global,
     who: &str,
     range: (u64, u64),
     first: (u8, u64),
     second: (u8, u64),
-) -> Result<Option<Refusal>, Refusal> {
-    let mut entries = Vec::with_capacity(alloc, 2)?;
-    entries.push(entry(alloc, &[first.0], first.1, b'7')?)?;
-    entries.push(entry(alloc, &[second.0], second.1, b'7')?)?;
-    cause_of(Piece::new(process_of(alloc, who)?, range.0, range.1, entries))
+) -> Option<Refusal> {
+    let mut entries = Vec::with_capacity(alloc, 2).expect(rt, MEMORY);
+    let one = entry(rt, alloc, &[first.0], first.1, b'7');
+    entries.push(one).expect(rt, MEMORY);
+    let other = entry(rt, alloc, &[second.0], second.1, b'7');
+    entries.push(other).expect(rt, MEMORY);
+    cause_of(
+        rt,
+        Piece::new(process_of(rt, alloc, who), range.0, range.1, entries),
+    )
 }
 
 // Why there is no sealer of the process.
-fn sealer_cause(alloc: Global, who: &str) -> Result<Option<Refusal>, Refusal> {
-    cause_of(Sealer::new(alloc, &process_of(alloc, who)?))
+fn sealer_cause(rt: &impl Abort, alloc: Global, who: &str) -> Option<Refusal> {
+    cause_of(rt, Sealer::new(alloc, &process_of(rt, alloc, who)))
 }
 
 #[test]
-fn clients_and_the_host_commit(rt: HostRuntime) -> Result<(), Refusal> {
+fn clients_and_the_host_commit(rt: HostRuntime) {
     let alloc = rt.alloc();
     let bad = Some(Refusal::BadParam);
     let cases = [
@@ -49,14 +56,13 @@ fn clients_and_the_host_commit(rt: HostRuntime) -> Result<(), Refusal> {
         ("pmix.j/0", bad),
     ];
     for (who, want) in cases {
-        assert!(rt; pair_cause(alloc, who, (0, 1), (b'a', 1), (b'b', 1))? == want);
-        assert!(rt; sealer_cause(alloc, who)? == want);
+        assert!(rt; pair_cause(&rt, alloc, who, (0, 1), (b'a', 1), (b'b', 1)) == want);
+        assert!(rt; sealer_cause(&rt, alloc, who) == want);
     }
-    Ok(())
 }
 
 #[test]
-fn a_piece_keeps_its_range_and_order(rt: HostRuntime) -> Result<(), Refusal> {
+fn a_piece_keeps_its_range_and_order(rt: HostRuntime) {
     let alloc = rt.alloc();
     let last = 4_294_967_295;
     let bad = Some(Refusal::BadParam);
@@ -73,64 +79,69 @@ fn a_piece_keeps_its_range_and_order(rt: HostRuntime) -> Result<(), Refusal> {
         ((1, 3), (b'a', 2), (b'b', 4), bad),
     ];
     for (range, first, second, want) in cases {
-        assert!(rt; pair_cause(alloc, "j/0", range, first, second)? == want);
+        assert!(rt; pair_cause(&rt, alloc, "j/0", range, first, second) == want);
     }
-    Ok(())
 }
 
 // Two entries, of which the second is a copy.
-fn two_entries(alloc: Global) -> Result<Vec<PieceEntry>, Refusal> {
-    let mut entries = Vec::with_capacity(alloc, 2)?;
-    entries.push(entry(alloc, b"a", 3, b'1')?)?;
-    let second = entry(alloc, b"pmix.b", 2, b'2')?;
-    entries.push(second.copy()?)?;
-    Ok(entries)
+fn two_entries(rt: &impl Abort, alloc: Global) -> Vec<PieceEntry> {
+    let mut entries = Vec::with_capacity(alloc, 2).expect(rt, MEMORY);
+    let first = entry(rt, alloc, b"a", 3, b'1');
+    entries.push(first).expect(rt, MEMORY);
+    let second = entry(rt, alloc, b"pmix.b", 2, b'2');
+    let copy = second.copy().expect(rt, MEMORY);
+    entries.push(copy).expect(rt, MEMORY);
+    entries
 }
 
 // A copy of a contribution with these entries.
-fn copied(alloc: Global) -> Result<Piece, Refusal> {
-    let entries = two_entries(alloc)?;
-    let piece = Piece::new(process_of(alloc, "j/4095")?, 1, 3, entries)?;
-    Ok(piece.copy()?)
+fn copied(rt: &impl Abort, alloc: Global) -> Piece {
+    let entries = two_entries(rt, alloc);
+    let proc = process_of(rt, alloc, "j/4095");
+    let piece = Piece::new(proc, 1, 3, entries).expect(rt, MEMORY);
+    piece.copy().expect(rt, MEMORY)
 }
 
 // Whether the contribution is the process's.
-fn is_of(alloc: Global, piece: &Piece, who: &str) -> Result<bool, Refusal> {
-    Ok(piece.proc() == &process_of(alloc, who)?)
+fn is_of(rt: &impl Abort, alloc: Global, piece: &Piece, who: &str) -> bool {
+    piece.proc() == &process_of(rt, alloc, who)
 }
 
 #[test]
-fn a_piece_is_copied(rt: HostRuntime) -> Result<(), Refusal> {
+fn a_piece_is_copied(rt: HostRuntime) {
     let alloc = rt.alloc();
-    let piece = copied(alloc)?;
-    assert!(rt; is_of(alloc, &piece, "j/4095")?);
+    let piece = copied(&rt, alloc);
+    assert!(rt; is_of(&rt, alloc, &piece, "j/4095"));
     assert!(rt; (piece.from(), piece.to()) == (1, 3));
     assert!(rt; piece.entry(1).map(PieceEntry::size) == Some(18));
-    assert_told(&rt, piece_text(alloc, piece.entries()), "a31pmix.b22")
+    let text = piece_text(&rt, alloc, piece.entries());
+    assert_told(&rt, Ok(text), "a31pmix.b22");
 }
 
 // Entries of the key a, and one of b.
-fn mixed(alloc: Global) -> Result<Vec<PieceEntry>, Refusal> {
-    let mut entries = Vec::with_capacity(alloc, 6)?;
+fn mixed(rt: &impl Abort, alloc: Global) -> Vec<PieceEntry> {
+    let mut entries = Vec::with_capacity(alloc, 6).expect(rt, MEMORY);
     for (number, digit) in [(2, b'7'), (3, b'5'), (3, b'6'), (3, b'4'), (4, b'9')] {
-        entries.push(entry(alloc, b"a", number, digit)?)?;
+        let more = entry(rt, alloc, b"a", number, digit);
+        entries.push(more).expect(rt, MEMORY);
     }
-    entries.push(entry(alloc, b"b", 3, b'8')?)?;
-    Ok(entries)
+    let last = entry(rt, alloc, b"b", 3, b'8');
+    entries.push(last).expect(rt, MEMORY);
+    entries
 }
 
 // The digit of the best entry of the key a up to the level.
-fn best(alloc: Global, entries: &[PieceEntry], level: u64) -> Result<Option<u8>, Refusal> {
-    let best = best_of(entries, level, &Key::read(alloc, b"a")?, None);
-    Ok(best.map(|entry| digit_of(&entry.value)))
+fn best(rt: &impl Abort, alloc: Global, entries: &[PieceEntry], level: u64) -> Option<u8> {
+    let key = Key::read(alloc, b"a").expect(rt, MEMORY);
+    let best = best_of(entries, level, &key, None);
+    best.map(|entry| digit_of(&entry.value))
 }
 
 #[test]
-fn best_is_the_latest_that_can_be_read(rt: HostRuntime) -> Result<(), Refusal> {
-    let entries = mixed(rt.alloc())?;
-    assert!(rt; best(rt.alloc(), &entries, 1)? == None);
+fn best_is_the_latest_that_can_be_read(rt: HostRuntime) {
+    let entries = mixed(&rt, rt.alloc());
+    assert!(rt; best(&rt, rt.alloc(), &entries, 1) == None);
     for (level, digit) in [(2, b'7'), (3, b'6'), (4, b'9'), (9, b'9')] {
-        assert!(rt; best(rt.alloc(), &entries, level)? == Some(digit));
+        assert!(rt; best(&rt, rt.alloc(), &entries, level) == Some(digit));
     }
-    Ok(())
 }

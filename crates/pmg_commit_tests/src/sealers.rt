@@ -1,11 +1,12 @@
 //! What no clause says: that a sealer answers where there is memory, and what it has sealed after
 //! some steps, found by hand.
 use crate::steps::{piece_text, push_row, put};
-use crate::words::{assert_told, cut, process_of};
+use crate::words::{MEMORY, assert_told, cut, process_of};
 use pmg_commit::Sealer;
 use pmg_scope::{Batch, Cache, Reach};
 use pmg_value::{Refusal, push_number};
 use std::alloc::Global;
+use std::process::Abort;
 
 // Of each process's steps the level, and what it has sealed near and far: of each key its commit's
 // number and its digit. A step `c` is a commit, and `e` the process's end; another is a put.
@@ -19,85 +20,119 @@ e,c TooMany
 ";
 
 // Seals what the cache has not sealed.
-fn commit(cache: &mut Cache, sealer: &mut Sealer) -> Result<(), Refusal> {
-    sealer.seal(&cache.unsealed()?)?;
+fn commit(rt: &impl Abort, cache: &mut Cache, sealer: &mut Sealer) -> Result<(), Refusal> {
+    sealer.seal(&cache.unsealed().expect(rt, MEMORY))?;
     cache.mark_sealed();
     Ok(())
 }
 
 // Takes one step of the process.
-fn take(alloc: Global, cache: &mut Cache, sealer: &mut Sealer, step: &str) -> Result<(), Refusal> {
+fn take(
+    rt: &impl Abort,
+    alloc: Global,
+    cache: &mut Cache,
+    sealer: &mut Sealer,
+    step: &str,
+) -> Result<(), Refusal> {
     match step {
-        "c" => commit(cache, sealer),
+        "c" => commit(rt, cache, sealer),
         "e" => {
-            sealer.seal_end()?;
+            sealer.seal_end().expect(rt, MEMORY);
             Ok(())
         }
-        _ => put(cache, alloc, step),
+        _ => put(rt, cache, alloc, step),
     }
 }
 
-// Takes the steps of the process, which has put nothing.
-fn take_all(alloc: Global, sealer: &mut Sealer, steps: &str) -> Result<(), Refusal> {
-    let mut cache = Cache::new(alloc);
+// Takes the steps of the process.
+fn take_all(
+    rt: &impl Abort,
+    alloc: Global,
+    cache: &mut Cache,
+    sealer: &mut Sealer,
+    steps: &str,
+) -> Result<(), Refusal> {
     for step in steps.split(',') {
-        take(alloc, &mut cache, sealer, step)?;
+        take(rt, alloc, cache, sealer, step)?;
     }
     Ok(())
+}
+
+// The sealer of j/0, which has sealed nothing.
+fn sealer_of(rt: &impl Abort, alloc: Global) -> Sealer {
+    Sealer::new(alloc, &process_of(rt, alloc, "j/0")).expect(rt, MEMORY)
 }
 
 // The sealer of j/0 once these steps are taken.
-fn played(alloc: Global, steps: &str) -> Result<Sealer, Refusal> {
-    let mut sealer = Sealer::new(alloc, &process_of(alloc, "j/0")?)?;
-    take_all(alloc, &mut sealer, steps)?;
-    Ok(sealer)
+fn played(rt: &impl Abort, alloc: Global, steps: &str) -> Sealer {
+    let mut cache = Cache::new(alloc);
+    let mut sealer = sealer_of(rt, alloc);
+    take_all(rt, alloc, &mut cache, &mut sealer, steps).expect(rt, MEMORY);
+    sealer
 }
 
 // What the contribution of the commits above that number tells.
-fn piece(alloc: Global, sealer: &Sealer, from: u64, reach: Reach) -> Result<Vec<u8>, Refusal> {
-    piece_text(alloc, sealer.piece_of(from, reach)?.entries())
+fn piece(
+    rt: &impl Abort,
+    alloc: Global,
+    sealer: &Sealer,
+    from: u64,
+    reach: Reach,
+) -> Result<Vec<u8>, Refusal> {
+    let piece = sealer.piece_of(from, reach)?;
+    Ok(piece_text(rt, alloc, piece.entries()))
 }
 
 // Appends what was sealed far, as the sealer lends it.
-fn push_far(text: &mut Vec<u8>, sealer: &Sealer) -> Result<(), Refusal> {
-    for key in &sealer.far_keys()? {
+fn push_far(rt: &impl Abort, text: &mut Vec<u8>, sealer: &Sealer) {
+    for key in &sealer.far_keys().expect(rt, MEMORY) {
         if let Some(put) = sealer.far_put(key) {
-            push_row(text, key, put.number(), put.value())?;
+            push_row(rt, text, key, put.number(), put.value());
         }
     }
-    Ok(())
 }
 
 // The level, what was sealed near, as a contribution tells it, and what was sealed far.
-fn shown(alloc: Global, sealer: &Sealer) -> Result<Vec<u8>, Refusal> {
+fn shown(rt: &impl Abort, alloc: Global, sealer: &Sealer) -> Vec<u8> {
     let mut text = Vec::new(alloc);
-    push_number(&mut text, sealer.level())?;
-    text.push(b' ')?;
-    text.extend_from_slice(&piece(alloc, sealer, 0, Reach::Near)?)?;
-    text.push(b'/')?;
-    push_far(&mut text, sealer)?;
-    Ok(text)
+    push_number(&mut text, sealer.level()).expect(rt, MEMORY);
+    text.push(b' ').expect(rt, MEMORY);
+    let near = piece(rt, alloc, sealer, 0, Reach::Near).expect(rt, MEMORY);
+    text.extend_from_slice(&near).expect(rt, MEMORY);
+    text.push(b'/').expect(rt, MEMORY);
+    push_far(rt, &mut text, sealer);
+    text
 }
 
 // What a copy of the sealer has once these steps are taken.
-fn shown_after(alloc: Global, steps: &str) -> Result<Vec<u8>, Refusal> {
-    shown(alloc, &played(alloc, steps)?.copy()?)
+fn shown_after(
+    rt: &impl Abort,
+    alloc: Global,
+    cache: &mut Cache,
+    sealer: &mut Sealer,
+    steps: &str,
+) -> Result<Vec<u8>, Refusal> {
+    take_all(rt, alloc, cache, sealer, steps)?;
+    let copy = sealer.copy().expect(rt, MEMORY);
+    Ok(shown(rt, alloc, &copy))
 }
 
 #[test]
-fn commits_seal_what_was_put(rt: HostRuntime) -> Result<(), Refusal> {
+fn commits_seal_what_was_put(rt: HostRuntime) {
     let alloc = rt.alloc();
     for line in PLAYS.lines() {
-        let (steps, want) = cut(line, ' ')?;
-        assert_told(&rt, shown_after(alloc, steps), want)?;
+        let (steps, want) = cut(&rt, line, ' ');
+        let mut cache = Cache::new(alloc);
+        let mut sealer = sealer_of(&rt, alloc);
+        let answer = shown_after(&rt, alloc, &mut cache, &mut sealer, steps);
+        assert_told(&rt, answer, want);
     }
-    Ok(())
 }
 
 #[test]
-fn a_piece_is_of_commits_for_others(rt: HostRuntime) -> Result<(), Refusal> {
+fn a_piece_is_of_commits_for_others(rt: HostRuntime) {
     let alloc = rt.alloc();
-    let sealer = played(alloc, "ga1,gb2,c,ga3,c,c")?;
+    let sealer = played(&rt, alloc, "ga1,gb2,c,ga3,c,c");
     let cases = [
         (0, Reach::Far, "a23b12"),
         (1, Reach::Far, "a23"),
@@ -105,43 +140,41 @@ fn a_piece_is_of_commits_for_others(rt: HostRuntime) -> Result<(), Refusal> {
         (0, Reach::Own, "BadParam"),
     ];
     for (from, reach, want) in cases {
-        assert_told(&rt, piece(alloc, &sealer, from, reach), want)?;
+        assert_told(&rt, piece(&rt, alloc, &sealer, from, reach), want);
     }
-    Ok(())
 }
 
 // A commit that is taken back at once; gives the level in between.
-fn try_commit(sealer: &mut Sealer, batch: Batch) -> Result<u64, Refusal> {
-    let before = sealer.commit(&batch)?;
+fn try_commit(rt: &impl Abort, sealer: &mut Sealer, batch: &Batch) -> u64 {
+    let before = sealer.commit(batch).expect(rt, MEMORY);
     let level = sealer.level();
     sealer.take_back(before);
-    Ok(level)
+    level
 }
 
 // An end that is taken back at once.
-fn try_end(sealer: &mut Sealer) -> Result<(), Refusal> {
-    if let Some(before) = sealer.end()? {
+fn try_end(rt: &impl Abort, sealer: &mut Sealer) {
+    if let Some(before) = sealer.end().expect(rt, MEMORY) {
         sealer.take_back(before);
     }
-    Ok(())
 }
 
 // What a process has to seal after these puts.
-fn batch_of(alloc: Global, steps: &str) -> Result<Batch, Refusal> {
+fn batch_of(rt: &impl Abort, alloc: Global, steps: &str) -> Batch {
     let mut cache = Cache::new(alloc);
     for step in steps.split(',') {
-        put(&mut cache, alloc, step)?;
+        put(rt, &mut cache, alloc, step).expect(rt, MEMORY);
     }
-    Ok(cache.unsealed()?)
+    cache.unsealed().expect(rt, MEMORY)
 }
 
 #[test]
-fn a_commit_and_an_end_are_taken_back(rt: HostRuntime) -> Result<(), Refusal> {
+fn a_commit_and_an_end_are_taken_back(rt: HostRuntime) {
     let alloc = rt.alloc();
-    let mut sealer = played(alloc, "ga5,c")?;
-    let level = try_commit(&mut sealer, batch_of(alloc, "ga6,rb6")?)?;
+    let mut sealer = played(&rt, alloc, "ga5,c");
+    let level = try_commit(&rt, &mut sealer, &batch_of(&rt, alloc, "ga6,rb6"));
     assert!(rt; level == 2);
-    assert_told(&rt, shown(alloc, &sealer), "1 a15/a15")?;
-    try_end(&mut sealer)?;
-    assert_told(&rt, shown(alloc, &sealer), "1 a15/a15")
+    assert_told(&rt, Ok(shown(&rt, alloc, &sealer)), "1 a15/a15");
+    try_end(&rt, &mut sealer);
+    assert_told(&rt, Ok(shown(&rt, alloc, &sealer)), "1 a15/a15");
 }

@@ -1,8 +1,10 @@
 //! The steps of a process, and what they leave, as texts.
+use crate::words::MEMORY;
 use pmg_commit::PieceEntry;
 use pmg_scope::{Cache, Scope};
 use pmg_value::{Key, Refusal, Value, push_number};
 use std::alloc::Global;
+use std::process::Abort;
 
 // The scope of a step's first letter.
 fn scope_of(letter: u8) -> Scope {
@@ -17,21 +19,25 @@ fn scope_of(letter: u8) -> Scope {
 
 // Puts the value at a place, as `gw` is one: the scope's letter and the key.
 pub fn put_value(
+    rt: &impl Abort,
     cache: &mut Cache,
     alloc: Global,
     place: &[u8],
     value: Value,
 ) -> Result<(), Refusal> {
     match place.split_first() {
-        Some((scope, key)) => cache.put(scope_of(*scope), Key::read_any(alloc, key)?, value),
+        Some((scope, key)) => {
+            let key = Key::read_any(alloc, key).expect(rt, MEMORY);
+            cache.put(scope_of(*scope), key, value)
+        }
         None => Err(Refusal::NotFound),
     }
 }
 
 // Puts a digit at a place, as `gw4` does.
-pub fn put(cache: &mut Cache, alloc: Global, step: &str) -> Result<(), Refusal> {
+pub fn put(rt: &impl Abort, cache: &mut Cache, alloc: Global, step: &str) -> Result<(), Refusal> {
     match step.as_bytes().split_last() {
-        Some((digit, place)) => put_value(cache, alloc, place, Value::U8(*digit)),
+        Some((digit, place)) => put_value(rt, cache, alloc, place, Value::U8(*digit)),
         None => Err(Refusal::NotFound),
     }
 }
@@ -45,18 +51,17 @@ pub fn digit_of(value: &Value) -> u8 {
 }
 
 // Appends the key, the commit's number and the digit.
-pub fn push_row(text: &mut Vec<u8>, key: &Key, number: u64, value: &Value) -> Result<(), Refusal> {
-    text.extend_from_slice(key.as_bytes())?;
-    push_number(text, number)?;
-    text.push(digit_of(value))?;
-    Ok(())
+pub fn push_row(rt: &impl Abort, text: &mut Vec<u8>, key: &Key, number: u64, value: &Value) {
+    text.extend_from_slice(key.as_bytes()).expect(rt, MEMORY);
+    push_number(text, number).expect(rt, MEMORY);
+    text.push(digit_of(value)).expect(rt, MEMORY);
 }
 
 // The entries of a contribution.
-pub fn piece_text(alloc: Global, entries: &[PieceEntry]) -> Result<Vec<u8>, Refusal> {
+pub fn piece_text(rt: &impl Abort, alloc: Global, entries: &[PieceEntry]) -> Vec<u8> {
     let mut text = Vec::new(alloc);
     for entry in entries {
-        push_row(&mut text, &entry.key, entry.number, &entry.value)?;
+        push_row(rt, &mut text, &entry.key, entry.number, &entry.value);
     }
-    Ok(text)
+    text
 }
