@@ -9,6 +9,10 @@ use pmg_jobinfo::Registry;
 use pmg_journal::{Call, Called, Event, Journal, Transcript};
 use pmg_value::{NodeId, Nspace, Refusal};
 use std::alloc::{AllocError, Global};
+use std::process::Abort;
+
+/// A test gives up where a call of it fails, and says this word and the error.
+pub(crate) const MEMORY: &str = "memory";
 
 /// The journals and transcripts of a group.
 #[derive(Drop)]
@@ -257,11 +261,12 @@ impl Accounts {
     }
 
     /// How many events the run has, or why there is none. Where an allocation fails that is no answer.
-    pub(crate) fn answer(&self) -> Result<Result<usize, Refusal>, Refusal> {
-        match audit(self.alloc, &self.journals, &self.transcripts) {
+    pub(crate) fn answer(&self, rt: &impl Abort) -> Result<usize, Refusal> {
+        let known = match audit(self.alloc, &self.journals, &self.transcripts) {
             Ok(run) => Ok(Ok(run.events().len())),
             Err(Refusal::NoMemory) => Err(Refusal::NoMemory),
             Err(refusal) => Ok(Err(refusal)),
-        }
+        };
+        known.expect(rt, MEMORY)
     }
 }

@@ -1,7 +1,6 @@
 //! What is answered where one line of an account is changed.
-use crate::accounts::{Account, Accounts, Change};
+use crate::accounts::{Account, Accounts, Change, MEMORY};
 use crate::{exchange, fences, gets};
-use pmg_value::Refusal;
 use std::alloc::Global;
 use std::process::Abort;
 use std::str;
@@ -37,66 +36,63 @@ fn row_of<'a>(node: u32, line: usize, text: &'a str) -> Option<Row<'a>> {
 }
 
 // Whether it is a row, and that is answered.
-fn is_answered(alloc: Global, texts: [&str; 2], row: Option<Row<'_>>) -> Result<bool, Refusal> {
+fn is_answered(rt: &impl Abort, alloc: Global, texts: [&str; 2], row: Option<Row<'_>>) -> bool {
     let Some(Row { change, wanted }) = row else {
-        return Ok(false);
+        return false;
     };
-    let accounts = Accounts::new(alloc, texts, &change)?;
-    Ok(match accounts.answer()? {
+    let accounts = Accounts::new(alloc, texts, &change).expect(rt, MEMORY);
+    match accounts.answer(rt) {
         Ok(_) => wanted == "fine",
         Err(refusal) => wanted == refusal.name(),
-    })
+    }
 }
 
 // Puts the rows of that node that are answered otherwise.
 fn put_wrong(
+    rt: &impl Abort,
     wrong: &mut Vec<u8>,
     alloc: Global,
     texts: [&str; 2],
     node: u32,
     text: &str,
-) -> Result<(), Refusal> {
+) {
     let mut base = 0;
     for (number, line) in text.lines().enumerate() {
         let Some(told) = line.strip_prefix("  ") else {
             base = number;
             continue;
         };
-        if told.starts_with('#') || is_answered(alloc, texts, row_of(node, base, told))? {
+        if told.starts_with('#') || is_answered(rt, alloc, texts, row_of(node, base, told)) {
             continue;
         }
-        wrong.extend_from_slice(line.as_bytes())?;
-        wrong.push(b'\n')?;
+        wrong.extend_from_slice(line.as_bytes()).expect(rt, MEMORY);
+        wrong.push(b'\n').expect(rt, MEMORY);
     }
-    Ok(())
 }
 
 // The rows that are answered otherwise.
-fn wrong_rows(alloc: Global, texts: [&str; 2]) -> Result<Vec<u8>, Refusal> {
+fn wrong_rows(rt: &impl Abort, alloc: Global, texts: [&str; 2]) -> Vec<u8> {
     let mut wrong = Vec::new(alloc);
     let [zero, one] = texts;
-    put_wrong(&mut wrong, alloc, texts, 0, zero)?;
-    put_wrong(&mut wrong, alloc, texts, 1, one)?;
-    Ok(wrong)
+    put_wrong(rt, &mut wrong, alloc, texts, 0, zero);
+    put_wrong(rt, &mut wrong, alloc, texts, 1, one);
+    wrong
 }
 
 #[test]
-fn each_line_of_an_exchange_is_changed(rt: HostRuntime) -> Result<(), Refusal> {
-    let wrong = wrong_rows(rt.alloc(), [exchange::AT_ZERO, exchange::AT_ONE])?;
+fn each_line_of_an_exchange_is_changed(rt: HostRuntime) {
+    let wrong = wrong_rows(&rt, rt.alloc(), [exchange::AT_ZERO, exchange::AT_ONE]);
     assert_eq!(rt; str::from_utf8(&wrong).unwrap_or("no text"), "");
-    Ok(())
 }
 
 #[test]
-fn fences_are_changed(rt: HostRuntime) -> Result<(), Refusal> {
-    let wrong = wrong_rows(rt.alloc(), [fences::AT_ZERO, fences::AT_ONE])?;
+fn fences_are_changed(rt: HostRuntime) {
+    let wrong = wrong_rows(&rt, rt.alloc(), [fences::AT_ZERO, fences::AT_ONE]);
     assert_eq!(rt; str::from_utf8(&wrong).unwrap_or("no text"), "");
-    Ok(())
 }
 
 #[test]
-fn gets_are_changed(rt: HostRuntime) -> Result<(), Refusal> {
-    let wrong = wrong_rows(rt.alloc(), [gets::AT_ZERO, gets::AT_ONE])?;
+fn gets_are_changed(rt: HostRuntime) {
+    let wrong = wrong_rows(&rt, rt.alloc(), [gets::AT_ZERO, gets::AT_ONE]);
     assert_eq!(rt; str::from_utf8(&wrong).unwrap_or("no text"), "");
-    Ok(())
 }
