@@ -27,12 +27,22 @@ found_or None otherwise = otherwise
 abbrev pub unseen : Bool → Mode → Outcome
 unseen ended modes.Now = Outcome.absent
 unseen ended modes.Wait = if ended then Outcome.absent else Outcome.parks
+unseen ended modes.Refresh = Outcome.absent
 
--- The answer of a get: the first line that fits. The modes, and that a value past the scope is told, are this project's.
+-- The answer of a get: the first line that fits. A get that asks anew waits for what the home of a process on another node replies.
+-- That a value past the scope is told is this project's (PMIx Standard 5.0, PMIX_GET_REFRESH_CACHE, PMIX_IMMEDIATE).
 unfoldable pub resolve : Seen → Mode → Outcome
 resolve (Seen.reserved value) mode = found_or value Outcome.absent
 resolve (Seen.own value) mode = found_or value Outcome.absent
 resolve (Seen.local (Some value) other ended) mode = Outcome.found value
 resolve (Seen.local None (Some value) ended) mode = Outcome.outside
 resolve (Seen.local None None ended) mode = unseen ended mode
-resolve (Seen.remote value ended) mode = found_or value (unseen ended mode)
+resolve (Seen.remote value ended) modes.Wait = found_or value (unseen ended modes.Wait)
+resolve (Seen.remote value ended) modes.Now = found_or value (unseen ended modes.Now)
+resolve (Seen.remote value ended) modes.Refresh = Outcome.parks
+
+-- how a get is answered that had to wait: one that asks anew as one that looks only at what its node holds, once the reply is there
+abbrev pub later_as : Mode → Mode
+later_as modes.Wait = modes.Wait
+later_as modes.Now = modes.Now
+later_as modes.Refresh = modes.Now

@@ -21,7 +21,8 @@ pub enum Answer<'a> {
 
 /// What the get of a key is answered, by what there is to be seen of it. A reserved key and an own one are there or
 /// not; of a process of the same node, a value that only other nodes may see is OutsideScope; and where nothing is
-/// seen of another process, the get waits if it may and the process has not ended (PMIx Standard 5.0, PMIx_Get).
+/// seen of another process, the get waits if it may and the process has not ended. One that asks anew waits wherever the
+/// process is on another node (PMIx Standard 5.0, PMIx_Get, PMIX_GET_REFRESH_CACHE).
 #[tactic(auto, unfolding(crate::specs::Gets::resolve))]
 pub fn resolve(view: View<'_>, mode: Mode) -> Answer<'_>
     ensures { outcome_of result ≡ resolve (seen_in view.entry) mode }
@@ -33,7 +34,10 @@ pub fn resolve(view: View<'_>, mode: Mode) -> Answer<'_>
             (None, Some(_)) => Answer::OutsideScope,
             (None, None) => unseen(term, mode),
         },
-        View::Far { far, term } => found_or(far, unseen(term, mode)),
+        View::Far { far, term } => match mode {
+            Mode::Refresh => Answer::Park,
+            _ => found_or(far, unseen(term, mode)),
+        },
     }
 }
 

@@ -1,13 +1,16 @@
 //! What a get looks at.
 use pmg_value::Value;
 
-/// Whether a get waits for what is not there yet. The two modes are this project's own.
+/// Whether a get waits for what is not there yet, and where it looks (PMIx Standard 5.0, PMIx_Get).
 #[derive(Clone, Copy, PartialEq, Eq)]
 pub enum Mode {
     /// It waits until there is something to answer.
     Wait,
-    /// It looks only at what its node holds.
+    /// It looks only at what its node holds (PMIX_IMMEDIATE).
     Now,
+    /// Of a process on another node it asks the home anew, and looks once the reply is there; else it is as Now
+    /// (PMIX_GET_REFRESH_CACHE).
+    Refresh,
 }
 
 /// What there is to be seen of a key at the node of the process that asks (PMIx Standard 5.0, PMIx_Get).

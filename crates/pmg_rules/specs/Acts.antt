@@ -1,5 +1,5 @@
 -- What a node does: when it refuses, what it replies, and what it holds then.
-use Rattle.std.specs.Prelude.{ℕ, Bool, true, false, ◌&&◌, ◌||◌, ◌==◌, not, nat_lt, nat_le, List, [], ◌∷◌, map, length, Option, Some, None, is_some, is_err, Result, Ok, Err, if◌then◌else◌}
+use Rattle.std.specs.Prelude.{ℕ, suc, Bool, true, false, ◌&&◌, ◌||◌, ◌==◌, not, nat_lt, nat_le, List, [], ◌∷◌, map, length, Option, Some, None, is_some, is_err, Result, Ok, Err, if◌then◌else◌}
 use Rattle.std.specs.FinSet as set
 use Rattle.std.specs.List.{list_all, list_any}
 use Rattle.std.specs.Ordering.{eq_by_cmp}
@@ -15,11 +15,13 @@ use Rattle.pmg_value.specs.declared.refusal.Refusal.TheVariants as refusals
 use Rattle.pmg_scope.specs.Cached.{Unsealed}
 use Rattle.pmg_scope.specs.Scripts.{Call}
 use Rattle.pmg_commit.specs.Data.{absorbed}
+use Rattle.pmg_commit.specs.Knowledge.{Contribution}
 use Rattle.pmg_commit.specs.Sealed.{Sealed, sealed_with, ended_with, commit_answer}
 use Rattle.pmg_pset.specs.Changes.{definition, deletion, script_of}
 use Rattle.pmg_pset.specs.Refusing.{define_cause, delete_cause}
 use Rattle.pmg_pset.specs.Sets.{host, changed}
 use Rattle.pmg_frame.specs.Fences.{Header, participants_of}
+use Rattle.pmg_frame.specs.Refreshing.{told_by}
 use Rattle.pmg_frame.specs.declared.frame.Frame.{Frame}
 use Rattle.pmg_frame.specs.declared.frame.Frame.TheVariants as frames
 use Rattle.pmg_jobinfo.specs.Expansion.{expansion}
@@ -31,7 +33,8 @@ use Rattle.pmg_fence.specs.Entering.{same_proc, locals_of}
 use Rattle.pmg_fence.specs.Tables.{count_of}
 use Rattle.pmg_get.specs.Gets.{Outcome}
 use Rattle.pmg_get.specs.declared.view.Mode.{Mode}
-use Rattle.pmg_rules.specs.Holdings.{Get, Standing, Holding, sealer_of, call_of, answer_in, with_far, with_table, called, uncalled, sealing, holding_ask, settled}
+use Rattle.pmg_get.specs.declared.view.Mode.TheVariants as modes
+use Rattle.pmg_rules.specs.Holdings.{Get, Standing, Holding, sealer_of, call_of, answer_in, with_far, with_table, with_requests, called, uncalled, sealing, holding_ask, settled, with_reply}
 
 -- What is asked of a node by a process at home there, or by the one who runs the node: to enter a fence and to leave it, to
 -- get a key of a process and to take the answer, to end, to define a process set and to delete it; to ask other nodes again
@@ -129,6 +132,17 @@ target_cause jobs p get refusals.BadParam =
 target_cause jobs p get refusals.UnknownNamespace = not (is_registered jobs get.target.nspace)
 target_cause jobs p get _ = false
 
+-- the get is one that the home of its target, another node, is asked for anew
+abbrev pub asks_anew : Jobs → ℕ → Get → Mode → Bool
+asks_anew jobs id get modes.Wait = false
+asks_anew jobs id get modes.Now = false
+asks_anew jobs id get modes.Refresh = not (is_reserved get.key) && not (home_of jobs get.target == id)
+
+-- requests have numbers of eight bytes
+abbrev pub number_cause : Jobs → ℕ → Holding → Get → Mode → Refusal → Bool
+number_cause jobs id h get mode refusals.TooMany = asks_anew jobs id get mode && nat_le 18446744073709551615 h.requests
+number_cause jobs id h get mode _ = false
+
 -- sets are changed at node 0
 abbrev pub node_cause : ℕ → Refusal → Bool
 node_cause id refusals.NotMine = not (id == 0)
@@ -151,7 +165,7 @@ unfoldable pub request_cause : Jobs → ℕ → Holding → Request → Refusal 
 request_cause jobs id h (Request.enter p list collect) =
     also (free_cause jobs id h p) (also (list_cause jobs (list_of p list)) (signature_cause h (signature_of jobs p list collect) p))
 request_cause jobs id h (Request.leave p) = caller_cause jobs id h p
-request_cause jobs id h (Request.ask p get mode) = also (free_cause jobs id h p) (target_cause jobs p get)
+request_cause jobs id h (Request.ask p get mode) = also (free_cause jobs id h p) (also (target_cause jobs p get) (number_cause jobs id h get mode))
 request_cause jobs id h (Request.take p) = caller_cause jobs id h p
 request_cause jobs id h (Request.terminate p) = caller_cause jobs id h p
 request_cause jobs id h (Request.define name list) =
@@ -183,15 +197,16 @@ abbrev pub is_complete : Jobs → Header → Bool
 is_complete jobs hd = eq_by_cmp (slice_cmp proc_cmp) (map (λ l. l.proc) hd.locals) (locals_of jobs hd.name hd.node)
 
 -- Whether a frame is taken: it comes from another node, names processes of the group alone, is no piece of an own process,
--- asks for an own process alone, and is of a fence in which the node has a participant. Any other is ignored.
+-- asks for an own process alone, is of a fence in which the node has a participant, and replies to a request of the node itself for
+-- a process of another one. Any other is ignored.
 unfoldable pub is_taken : Jobs → ℕ → Frame → Bool
 is_taken jobs id (frames.Piece c) = is_known jobs c.proc && not (home_of jobs c.proc == id)
 is_taken jobs id (frames.Header hd) = is_peer jobs id hd.node && is_concerned jobs id hd.name && is_complete jobs hd
 is_taken jobs id (frames.FenceAsk a) = is_peer jobs id a.node && is_concerned jobs id a.name
 is_taken jobs id (frames.RangeAsk a) = is_peer jobs id a.node && is_known jobs a.proc && (home_of jobs a.proc == id)
 is_taken jobs id (frames.DirectAsk a) = is_peer jobs id a.node && is_known jobs a.proc && (home_of jobs a.proc == id)
-is_taken jobs id (frames.RefreshAsk a) = false
-is_taken jobs id (frames.RefreshReply r) = false
+is_taken jobs id (frames.RefreshAsk a) = is_peer jobs id a.ask.node && is_known jobs a.ask.proc && (home_of jobs a.ask.proc == id)
+is_taken jobs id (frames.RefreshReply r) = (r.node == id) && is_known jobs r.told.proc && not (home_of jobs r.told.proc == id)
 
 -- ---- what is replied, and what is held then
 
@@ -215,6 +230,8 @@ leaves h p (Some (Standing.in_fence f)) = done_as Reply.waiting h
 leaves h p (Some (Standing.released f gone)) = done_as (Reply.released f.instance gone) (uncalled h p)
 leaves h p (Some (Standing.parked get)) = done_as Reply.idle h
 leaves h p (Some (Standing.answered get outcome)) = done_as Reply.idle h
+leaves h p (Some (Standing.refreshing get number)) = done_as Reply.idle h
+leaves h p (Some (Standing.refreshed get outcome)) = done_as Reply.idle h
 leaves h p None = done_as Reply.idle h
 
 -- a process takes the answer of the get that it waited for
@@ -223,14 +240,22 @@ takes h p (Some (Standing.in_fence f)) = done_as Reply.idle h
 takes h p (Some (Standing.released f gone)) = done_as Reply.idle h
 takes h p (Some (Standing.parked get)) = done_as Reply.waiting h
 takes h p (Some (Standing.answered get outcome)) = done_as (reply_of outcome) (uncalled h p)
+takes h p (Some (Standing.refreshing get number)) = done_as Reply.waiting h
+takes h p (Some (Standing.refreshed get outcome)) = done_as (reply_of outcome) (uncalled h p)
 takes h p None = done_as Reply.idle h
 
+-- a get waits: one that asks anew for the reply to the node's next request
+abbrev pub parks : Holding → Proc → Get → Mode → Holding
+parks h p get modes.Wait = called h p (Standing.parked get)
+parks h p get modes.Now = called h p (Standing.parked get)
+parks h p get modes.Refresh = called (with_requests h (suc h.requests)) p (Standing.refreshing get (suc h.requests))
+
 -- a get that parks waits
-abbrev pub asks : Holding → Proc → Get → Outcome → Done
-asks h p get Outcome.parks = done_as Reply.parked (called h p (Standing.parked get))
-asks h p get (Outcome.found value) = done_as (Reply.found value) h
-asks h p get Outcome.absent = done_as (Reply.refused refusals.NotFound) h
-asks h p get Outcome.outside = done_as (Reply.refused refusals.OutsideScope) h
+abbrev pub asks : Holding → Proc → Get → Mode → Outcome → Done
+asks h p get mode Outcome.parks = done_as Reply.parked (parks h p get mode)
+asks h p get mode (Outcome.found value) = done_as (Reply.found value) h
+asks h p get mode Outcome.absent = done_as (Reply.refused refusals.NotFound) h
+asks h p get mode Outcome.outside = done_as (Reply.refused refusals.OutsideScope) h
 
 -- a process enters its next fence of the signature, at its level
 abbrev pub enters_fence : Holding → Proc → Signature → Done
@@ -253,7 +278,7 @@ changes_as h z = done_as (Reply.defined z.level) (sealing h host z)
 unfoldable pub serves : Jobs → ℕ → Holding → Request → Done
 serves jobs id h (Request.enter p list collect) = enters_fence h p (signature_of jobs p list collect)
 serves jobs id h (Request.leave p) = leaves h p (call_of h p)
-serves jobs id h (Request.ask p get mode) = asks h p get (answer_in jobs id h get mode)
+serves jobs id h (Request.ask p get mode) = asks h p get mode (answer_in jobs id h get mode)
 serves jobs id h (Request.take p) = takes h p (call_of h p)
 serves jobs id h (Request.terminate p) = ends_as h p (ended_with (sealer_of h p))
 serves jobs id h (Request.define name list) = let c = definition name (members_of jobs list) in changes_as h (changed h.sets c.name c.bytes)
@@ -265,20 +290,25 @@ abbrev pub holds_unless : Bool → Holding → ℕ → Proc → ℕ → Holding
 holds_unless true h node p level = h
 holds_unless false h node p level = holding_ask h node p level
 
--- what is held once the frame is taken
-unfoldable pub receives : Holding → Frame → Holding
-receives h (frames.Piece c) = with_far h (absorbed h.far c)
-receives h (frames.Header hd) = with_table h (with_header h.table hd)
-receives h (frames.FenceAsk a) = with_table h (learned h.table a.name)
-receives h (frames.RangeAsk a) = h
-receives h (frames.DirectAsk a) = holds_unless (nat_lt a.level (sealer_of h a.proc).level) h a.node a.proc a.level
-receives h (frames.RefreshAsk a) = h
-receives h (frames.RefreshReply r) = h
+-- what a frame tells is joined into what is known, where it tells something
+abbrev pub told_more : Holding → Option Contribution → Holding
+told_more h None = h
+told_more h (Some c) = with_far h (absorbed h.far c)
+
+-- what is held once the frame is taken; by a reply the get that waits for it is answered with what is known then
+unfoldable pub receives : Jobs → ℕ → Holding → Frame → Holding
+receives jobs id h (frames.Piece c) = with_far h (absorbed h.far c)
+receives jobs id h (frames.Header hd) = with_table h (with_header h.table hd)
+receives jobs id h (frames.FenceAsk a) = with_table h (learned h.table a.name)
+receives jobs id h (frames.RangeAsk a) = h
+receives jobs id h (frames.DirectAsk a) = holds_unless (nat_lt a.level (sealer_of h a.proc).level) h a.node a.proc a.level
+receives jobs id h (frames.RefreshAsk a) = h
+receives jobs id h (frames.RefreshReply r) = with_reply jobs id (told_more h (told_by r)) r.request r.told.proc
 
 unfoldable pub does : Jobs → ℕ → Holding → Act → Done
 does jobs id h (Act.request r) = serves jobs id h r
 does jobs id h (Act.commit p b) = commits_as h p (sealed_with (sealer_of h p) b)
-does jobs id h (Act.deliver frame) = if is_taken jobs id frame then done_as Reply.taken (receives h frame) else done_as Reply.ignored h
+does jobs id h (Act.deliver frame) = if is_taken jobs id frame then done_as Reply.taken (receives jobs id h frame) else done_as Reply.ignored h
 
 -- a refusal changes nothing; after any other act whoever can be released is, and each get is answered that can be
 abbrev pub over : Jobs → ℕ → Holding → Result Done Refusal → Done
@@ -327,6 +357,8 @@ status_by (Some (Standing.in_fence f)) = Status.in_fence
 status_by (Some (Standing.released f gone)) = Status.released
 status_by (Some (Standing.parked get)) = Status.parked
 status_by (Some (Standing.answered get outcome)) = Status.answered
+status_by (Some (Standing.refreshing get number)) = Status.parked
+status_by (Some (Standing.refreshed get outcome)) = Status.answered
 
 unfoldable pub status_of : Jobs → ℕ → Holding → Proc → Status
 status_of jobs id h p =

@@ -1,5 +1,5 @@
 -- Which frames this program sends, and in which order.
-use Rattle.std.specs.Prelude.{ℕ, Bool, false, ◌&&◌, ◌==◌, not, nat_lt, List, [], ◌∷◌, ◌++◌, map, length, Option, Some, None, is_none, if◌then◌else◌}
+use Rattle.std.specs.Prelude.{ℕ, Bool, false, ◌&&◌, ◌==◌, not, nat_lt, nat_le, List, [], ◌∷◌, ◌++◌, map, length, Option, Some, None, is_none, if◌then◌else◌}
 use Rattle.std.specs.FinMap as finite
 use Rattle.std.specs.FinSet as set
 use Rattle.std.specs.List.{filter, flat_map, list_any}
@@ -13,6 +13,7 @@ use Rattle.pmg_commit.specs.Sealed.{Sealed, piece_at}
 use Rattle.pmg_pset.specs.Sets.{host}
 use Rattle.pmg_frame.specs.FenceOrder.{name_cmp}
 use Rattle.pmg_frame.specs.Fences.{CommitAsk, Header, header, fence_ask, commit_ask, participants_of}
+use Rattle.pmg_frame.specs.Refreshing.{RefreshAsk}
 use Rattle.pmg_frame.specs.declared.frame.Frame.{Frame}
 use Rattle.pmg_frame.specs.declared.frame.Frame.TheVariants as frames
 use Rattle.pmg_frame.specs.declared.local.Local.{Local}
@@ -25,7 +26,7 @@ use Rattle.pmg_fence.specs.declared.entry.Entry.{Entry}
 use Rattle.pmg_dmodex.specs.Levels.{Levels, levels_of, level_at as mark_at, with_level, below}
 use Rattle.pmg_rules.specs.Acts.{Request, Act, signature_of, acts}
 use Rattle.pmg_rules.specs.Holdings.{Standing, Holding, sealer_of, call_of}
-use Rattle.pmg_rules.specs.Sending.{sent, own_header_of, piece_from, asked_by, is_quiet}
+use Rattle.pmg_rules.specs.Sending.{sent, own_header_of, piece_from, reply_anew, ask_anew, asked_by, is_quiet}
 use Rattle.pmg_rules.specs.declared.due.Due.{Due}
 use Rattle.pmg_rules.specs.declared.due.Due.TheVariants as sendings
 use Rattle.pmg_rules.specs.declared.sent.Sent.{Sent}
@@ -59,6 +60,11 @@ settling old new p = map (λ e. piece_due new p e.0 e.1) (below (sealer_of new p
 abbrev pub answering : Holding → ℕ → Proc → ℕ → List Due
 answering new node p level = if nat_lt level (sealer_of new p).level then piece_due new p node level ∷ [] else []
 
+-- a node asks anew: it is told what there is, unless it names a commit that was not made
+abbrev pub replying : Holding → RefreshAsk → List Due
+replying new a =
+    if nat_le a.ask.level (sealer_of new a.ask.proc).level then sendings.Whole (sent a.ask.node (frames.RefreshReply (reply_anew new a))) ∷ [] else []
+
 -- a node asks for a header: it is told, where the header was there; else each node is, where it comes to exist
 abbrev pub telling_of : Jobs → ℕ → ℕ → FenceName → Option (List Local) → List Due → List Due
 telling_of jobs id node f (Some locals) others = telling jobs id (header id f locals) node
@@ -69,8 +75,14 @@ abbrev pub asking : Jobs → ℕ → Holding → Proc → List Due
 asking jobs id h q =
     if home_of jobs q == id then [] else sendings.Whole (sent (home_of jobs q) (frames.DirectAsk (commit_ask id q (level_at h.far q)))) ∷ []
 
+-- and anew, under the request's number
+abbrev pub asking_anew : Jobs → ℕ → Holding → Proc → ℕ → List Due
+asking_anew jobs id h q number =
+    if home_of jobs q == id then [] else sendings.Whole (sent (home_of jobs q) (frames.RefreshAsk (ask_anew id h q number))) ∷ []
+
 abbrev pub asking_for : Jobs → ℕ → Holding → Option Standing → List Due
 asking_for jobs id h (Some (Standing.parked get)) = asking jobs id h get.target
+asking_for jobs id h (Some (Standing.refreshing get number)) = asking_anew jobs id h get.target number
 asking_for jobs id h _ = []
 
 -- a get that waits for the process's key
@@ -81,6 +93,10 @@ is_parked_on q _ = false
 -- for each get that waits for the process's key, its home is asked
 abbrev pub asking_again : Jobs → ℕ → Holding → Proc → List Due
 asking_again jobs id h q = flat_map (λ e. if is_parked_on q e.1 then asking jobs id h q else []) (finite.entries h.calls)
+
+-- so they are where more is known of the process
+abbrev pub asking_risen : Jobs → ℕ → Holding → Holding → Proc → List Due
+asking_risen jobs id old new q = if nat_lt (level_at old.far q) (level_at new.far q) then asking_again jobs id new q else []
 
 -- ---- what is sent at a nudge
 
@@ -137,14 +153,14 @@ due_by_request jobs id old (Request.delete name) new = spreading jobs id old new
 due_by_request jobs id old Request.nudge new = nudging jobs id new
 
 unfoldable pub due_by_frame : Jobs → ℕ → Holding → Frame → Holding → List Due
-due_by_frame jobs id old (frames.Piece c) new = if nat_lt (level_at old.far c.proc) (level_at new.far c.proc) then asking_again jobs id new c.proc else []
+due_by_frame jobs id old (frames.Piece c) new = asking_risen jobs id old new c.proc
 due_by_frame jobs id old (frames.Header hd) new = flat_map (announcing jobs id) (news jobs id old.table new.table hd.name)
 due_by_frame jobs id old (frames.FenceAsk a) new =
     telling_of jobs id a.node a.name (own_header_of jobs id old a.name) (flat_map (announcing jobs id) (news jobs id old.table new.table a.name))
 due_by_frame jobs id old (frames.RangeAsk a) new = answering new a.node a.proc a.level
 due_by_frame jobs id old (frames.DirectAsk a) new = answering new a.node a.proc a.level
-due_by_frame jobs id old (frames.RefreshAsk a) new = []
-due_by_frame jobs id old (frames.RefreshReply r) new = []
+due_by_frame jobs id old (frames.RefreshAsk a) new = replying new a
+due_by_frame jobs id old (frames.RefreshReply r) new = asking_risen jobs id old new r.told.proc
 
 -- what is due once the act took the node from old to new
 unfoldable pub due_by : Jobs → ℕ → Holding → Act → Holding → List Due
@@ -157,7 +173,7 @@ due_by jobs id old (Act.deliver frame) new = due_by_frame jobs id old frame new
 abbrev pub mark_of : Levels → ℕ → Proc → ℕ
 mark_of marks node p = unwrap_or (mark_at marks p node) 0
 
--- a piece that is sent sets its receiver's mark to its end
+-- a piece that is sent, and a reply, sets its receiver's mark to its end
 abbrev pub marked_by : Levels → ℕ → Frame → Levels
 marked_by marks to (frames.Piece c) = with_level marks c.proc to c.to
 marked_by marks to (frames.Header hd) = marks
@@ -165,7 +181,7 @@ marked_by marks to (frames.FenceAsk a) = marks
 marked_by marks to (frames.RangeAsk a) = marks
 marked_by marks to (frames.DirectAsk a) = marks
 marked_by marks to (frames.RefreshAsk a) = marks
-marked_by marks to (frames.RefreshReply r) = marks
+marked_by marks to (frames.RefreshReply r) = with_level marks r.told.proc to r.told.to
 
 abbrev pub marked : Levels → Sent → Levels
 marked marks s = marked_by marks s.to s.frame
@@ -175,8 +191,13 @@ abbrev pub asked_marks : Levels → Option CommitAsk → Levels
 asked_marks marks None = marks
 asked_marks marks (Some a) = with_level marks a.proc a.node a.level
 
+-- the commits that an act asks an own process's home for, be it anew
+abbrev pub named_by : Act → Option CommitAsk
+named_by (Act.deliver (frames.RefreshAsk a)) = Some a.ask
+named_by a = asked_by a
+
 unfoldable pub marked_by_act : Levels → Act → Levels
-marked_by_act marks a = asked_marks marks (asked_by a)
+marked_by_act marks a = asked_marks marks (named_by a)
 
 -- what goes out, and the marks then
 pub record Out : Type 0 where

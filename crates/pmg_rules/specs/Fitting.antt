@@ -83,6 +83,8 @@ FitsCall s (Some (Standing.in_fence f)) = IsIn s f
 FitsCall s (Some (Standing.released f gone)) = IsIn s f
 FitsCall s (Some (Standing.parked get)) = Unit {0}
 FitsCall s (Some (Standing.answered get outcome)) = IsAnswer outcome
+FitsCall s (Some (Standing.refreshing get number)) = Unit {0}
+FitsCall s (Some (Standing.refreshed get outcome)) = IsAnswer outcome
 
 -- What a node holds fits the scripts: of each process at home there, what it sealed and the call that it is in; what is kept of
 -- fences; and what is known of any process are contributions of its own.

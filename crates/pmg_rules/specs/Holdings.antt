@@ -1,5 +1,5 @@
 -- What a node holds.
-use Rattle.std.specs.Prelude.{ℕ, Bool, true, false, ◌==◌, List, map, Option, is_some, if◌then◌else◌}
+use Rattle.std.specs.Prelude.{ℕ, Bool, true, false, ◌==◌, ◌&&◌, List, map, Option, is_some, if◌then◌else◌}
 use Rattle.std.specs.FinMap as finite
 use Rattle.std.specs.Option.{option_map, unwrap_or}
 use Rattle.pmg_value.specs.Process.{proc_cmp, is_host}
@@ -16,6 +16,7 @@ use Rattle.pmg_pset.specs.Sets.{host}
 use Rattle.pmg_jobinfo.specs.Jobs.{Jobs, home_of}
 use Rattle.pmg_jobinfo.specs.Procs.{procs_at}
 use Rattle.pmg_jobinfo.specs.Reserved.{reserved_value}
+use Rattle.pmg_fence.specs.Entering.{same_proc}
 use Rattle.pmg_fence.specs.Tables.{Fences, no_fences, is_ready, gone_by}
 use Rattle.pmg_dmodex.specs.Levels.{Levels, level_at as held_at, with_level, without_below}
 use Rattle.pmg_dmodex.specs.Requests.{least}
@@ -29,16 +30,19 @@ pub record Get : Type 0 where
   pub key : List ℕ
 
 -- The call that an own process is in: it is in a fence; it is released from one, with those who are gone, until it leaves; its
--- get waits; or its get is answered, until it takes the answer (PMIx Standard 5.0, PMIx_Fence, PMIx_Get).
+-- get waits; its get is answered, until it takes the answer; its get waits for the reply to the node's request of that number; or
+-- that came, and its get is answered so, until it takes the answer (PMIx Standard 5.0, PMIx_Fence, PMIx_Get, PMIX_GET_REFRESH_CACHE).
 pub data Standing : Type 0 where
   in_fence : FenceName → Standing
   released : FenceName → List Proc → Standing
   parked : Get → Standing
   answered : Get → Outcome → Standing
+  refreshing : Get → ℕ → Standing
+  refreshed : Get → Outcome → Standing
 
 -- What a node holds: what it knows of all processes, for reads from its own node and from other nodes; what its own processes
--- sealed, and the process sets; what it knows of fences; the calls that its own processes are in; and the nodes that wait for
--- a process's next commit, each with the level that it knows.
+-- sealed, and the process sets; what it knows of fences; the calls that its own processes are in; the nodes that wait for a
+-- process's next commit, each with the level that it knows; and the number of the last request for a get that asks anew.
 pub record Holding : Type 0 where
   pub near : Data
   pub far : Data
@@ -47,6 +51,7 @@ pub record Holding : Type 0 where
   pub table : Fences
   pub calls : finite.FinMap proc_cmp Standing
   pub held : Levels
+  pub requests : ℕ
 
 -- a new node's: its own processes made no commit
 abbrev pub new_holding : Jobs → ℕ → Holding
@@ -58,6 +63,7 @@ new_holding jobs id = record {
   table = no_fences;
   calls = finite.empty;
   held = finite.empty;
+  requests = 0;
 }
 
 -- what the process sealed: the sets, where it stands for the group's host
@@ -91,16 +97,19 @@ answer_in jobs id h get mode = resolve (seen_of jobs id (read_at h.near get.targ
 
 -- ---- changes of a holding
 abbrev pub with_far : Holding → Data → Holding
-with_far h far = record { near = h.near; far = far; sealers = h.sealers; sets = h.sets; table = h.table; calls = h.calls; held = h.held }
+with_far h far = record { near = h.near; far = far; sealers = h.sealers; sets = h.sets; table = h.table; calls = h.calls; held = h.held; requests = h.requests }
 
 abbrev pub with_table : Holding → Fences → Holding
-with_table h table = record { near = h.near; far = h.far; sealers = h.sealers; sets = h.sets; table = table; calls = h.calls; held = h.held }
+with_table h table = record { near = h.near; far = h.far; sealers = h.sealers; sets = h.sets; table = table; calls = h.calls; held = h.held; requests = h.requests }
 
 abbrev pub with_calls : Holding → finite.FinMap proc_cmp Standing → Holding
-with_calls h calls = record { near = h.near; far = h.far; sealers = h.sealers; sets = h.sets; table = h.table; calls = calls; held = h.held }
+with_calls h calls = record { near = h.near; far = h.far; sealers = h.sealers; sets = h.sets; table = h.table; calls = calls; held = h.held; requests = h.requests }
 
 abbrev pub with_held : Holding → Levels → Holding
-with_held h held = record { near = h.near; far = h.far; sealers = h.sealers; sets = h.sets; table = h.table; calls = h.calls; held = held }
+with_held h held = record { near = h.near; far = h.far; sealers = h.sealers; sets = h.sets; table = h.table; calls = h.calls; held = held; requests = h.requests }
+
+abbrev pub with_requests : Holding → ℕ → Holding
+with_requests h requests = record { near = h.near; far = h.far; sealers = h.sealers; sets = h.sets; table = h.table; calls = h.calls; held = h.held; requests = requests }
 
 abbrev pub called : Holding → Proc → Standing → Holding
 called h p standing = with_calls h (finite.insert h.calls p standing)
@@ -126,6 +135,7 @@ sealing h p z = record {
   table = h.table;
   calls = h.calls;
   held = without_below h.held p z.level;
+  requests = h.requests;
 }
 
 -- a node waits for the process's next commit: the least level counts
@@ -151,6 +161,8 @@ settle jobs id h (Standing.in_fence f) = released_by (is_ready_at jobs id h f) f
 settle jobs id h (Standing.released f gone) = Standing.released f gone
 settle jobs id h (Standing.parked get) = settled_by get (answer_in jobs id h get modes.Wait)
 settle jobs id h (Standing.answered get outcome) = Standing.answered get outcome
+settle jobs id h (Standing.refreshing get number) = Standing.refreshing get number
+settle jobs id h (Standing.refreshed get outcome) = Standing.refreshed get outcome
 
 -- the same keys, each with what f makes of its value
 unfoldable pub mapped : (Standing → Standing) → finite.FinMap proc_cmp Standing → finite.FinMap proc_cmp Standing
@@ -159,3 +171,18 @@ mapped f m = rows_of f (finite.entries m)
 -- whoever can be released is, and each get is answered that can be
 abbrev pub settled : Jobs → ℕ → Holding → Holding
 settled jobs id h = with_calls h (mapped (settle jobs id h) h.calls)
+
+-- ---- replies to gets that ask anew
+
+-- the get waits for the reply to the request of that number, which is of the process
+abbrev pub is_replied : ℕ → Proc → Get → ℕ → Bool
+is_replied number q get waits_for = (waits_for == number) && same_proc get.target q
+
+-- once the reply is there, the get that waits for it is answered with what the node holds
+abbrev pub answer_reply : Jobs → ℕ → Holding → ℕ → Proc → Standing → Standing
+answer_reply jobs id h number q (Standing.refreshing get waits_for) =
+    if is_replied number q get waits_for then Standing.refreshed get (answer_in jobs id h get modes.Now) else Standing.refreshing get waits_for
+answer_reply jobs id h number q standing = standing
+
+abbrev pub with_reply : Jobs → ℕ → Holding → ℕ → Proc → Holding
+with_reply jobs id h number q = with_calls h (mapped (answer_reply jobs id h number q) h.calls)

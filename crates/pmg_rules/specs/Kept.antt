@@ -26,13 +26,16 @@ abbrev pub IsOwn : Jobs → ℕ → Proc → Type 0
 IsOwn jobs id p = (is_member jobs p ≡ true) × (home_of jobs p ≡ id)
 
 -- What a content is made of, without any script: what is kept as sealed by a process is its own; who is in a call is a process
--- of the group, at home at the node; a get waits for a key of a process of the group; who waits for a process's next commit is
+-- of the group, at home at the node; a get waits for a key of a process of the group, one that asks anew under a number that was
+-- given; who waits for a process's next commit is
 -- another node, the process is at home at this one, and its commits are all known there; each fence whose name is there is one
 -- of processes of the group, some of them at home at the node; and who is in a fence takes part in one whose name is there.
 pub record Holds (jobs : Jobs) (id : ℕ) (h : Holding) : Type 0 where
   pub sealers : (p : Proc) → (sealer_of h p).proc ≡ p
   pub callers : (p : Proc) (standing : Standing) → call_of h p ≡ Some standing → IsOwn jobs id p
   pub targets : (p : Proc) (get : Get) → call_of h p ≡ Some (Standing.parked get) → is_member jobs get.target ≡ true
+  pub anew : (p : Proc) (get : Get) (number : ℕ) → call_of h p ≡ Some (Standing.refreshing get number)
+      → (is_member jobs get.target ≡ true) × (number ≤ h.requests)
   pub homes : (p : Proc) (node level : ℕ) → held_at h.held p node ≡ Some level → home_of jobs p ≡ id
   pub askers : (p : Proc) (node level : ℕ) → held_at h.held p node ≡ Some level → is_peer jobs id node ≡ true
   pub levels : (p : Proc) (node level : ℕ) → held_at h.held p node ≡ Some level → (sealer_of h p).level ≤ level
@@ -91,6 +94,8 @@ is_about q (Standing.in_fence f) = set.contains f.signature.participants q
 is_about q (Standing.released f gone) = false
 is_about q (Standing.parked get) = same_proc get.target q
 is_about q (Standing.answered get outcome) = false
+is_about q (Standing.refreshing get number) = false
+is_about q (Standing.refreshed get outcome) = false
 
 -- the fence
 abbrev pub is_in : FenceName → Standing → Bool
@@ -98,6 +103,8 @@ is_in f (Standing.in_fence g) = eq_by_cmp name_cmp g f
 is_in f (Standing.released g gone) = false
 is_in f (Standing.parked get) = false
 is_in f (Standing.answered get outcome) = false
+is_in f (Standing.refreshing get number) = false
+is_in f (Standing.refreshed get outcome) = false
 
 -- settled again where the test tells so
 abbrev pub settle_where : Jobs → ℕ → Holding → (Standing → Bool) → Standing → Standing

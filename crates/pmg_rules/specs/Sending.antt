@@ -1,5 +1,5 @@
 -- Which frames a node may send, and which it owes.
-use Rattle.std.specs.Prelude.{◌≡◌, ℕ, ◌<◌, Bool, true, false, List, [], Option, Some, None}
+use Rattle.std.specs.Prelude.{◌≡◌, ℕ, ◌<◌, ◌≤◌, Bool, true, false, List, [], Option, Some, None}
 use Rattle.pmg_value.specs.Lists.{In, Each}
 use Rattle.pmg_value.specs.Signatures.{FenceName}
 use Rattle.pmg_value.specs.declared.process.Proc.{Proc}
@@ -8,6 +8,7 @@ use Rattle.pmg_commit.specs.Data.{level_at}
 use Rattle.pmg_commit.specs.Sealed.{piece_at}
 use Rattle.pmg_pset.specs.Sets.{host}
 use Rattle.pmg_frame.specs.Fences.{FenceAsk, CommitAsk, header, fence_ask, commit_ask, participants_of}
+use Rattle.pmg_frame.specs.Refreshing.{RefreshAsk, RefreshReply, refresh_ask, refresh_reply}
 use Rattle.pmg_frame.specs.declared.frame.Frame.{Frame}
 use Rattle.pmg_frame.specs.declared.frame.Frame.TheVariants as frames
 use Rattle.pmg_frame.specs.declared.local.Local.{Local}
@@ -35,17 +36,27 @@ piece_from h p from = frames.Piece (piece_at (sealer_of h p) from reach.Far)
 abbrev pub own_header_of : Jobs → ℕ → Holding → FenceName → Option (List Local)
 own_header_of jobs id h f = present jobs id h.table f
 
--- What a node may send: what an own process sealed for other nodes, up to its level; its own header of a fence whose name it
--- has; a request for a header of a fence in which an own process waits; a request for commits.
-unfoldable pub Allowed : Jobs → ℕ → Holding → Frame → Type 0
-Allowed jobs id h (frames.Piece c) =
+-- what is replied to a node that asks anew: the commits of an own process above the one that the node knows
+abbrev pub reply_anew : Holding → RefreshAsk → RefreshReply
+reply_anew h a = refresh_reply a.ask.node a.request (piece_at (sealer_of h a.ask.proc) a.ask.level reach.Far)
+
+-- the request of that number for commits of the process past the level that is known
+abbrev pub ask_anew : ℕ → Holding → Proc → ℕ → RefreshAsk
+ask_anew id h q number = refresh_ask number (commit_ask id q (level_at h.far q))
+
+-- What a node may send once it did an act: what an own process sealed for other nodes, up to its level; its own header of a fence
+-- whose name it has; a request for a header of a fence in which an own process waits; a request for commits; a request under a
+-- number that was given, that names no commit past those known; and to such a request that came by the act the reply.
+unfoldable pub Allowed : Jobs → ℕ → Act → Holding → Frame → Type 0
+Allowed jobs id act h (frames.Piece c) =
     (home_of jobs c.proc ≡ id) × (c.from < (sealer_of h c.proc).level) × (c ≡ piece_at (sealer_of h c.proc) c.from reach.Far)
-Allowed jobs id h (frames.Header hd) = (hd.node ≡ id) × (own_header_of jobs id h hd.name ≡ Some hd.locals)
-Allowed jobs id h (frames.FenceAsk a) = (a.node ≡ id) × (p : Proc) × WaitsIn jobs id h a.name p
-Allowed jobs id h (frames.RangeAsk a) = a.node ≡ id
-Allowed jobs id h (frames.DirectAsk a) = a.node ≡ id
-Allowed jobs id h (frames.RefreshAsk a) = ⊥
-Allowed jobs id h (frames.RefreshReply r) = ⊥
+Allowed jobs id act h (frames.Header hd) = (hd.node ≡ id) × (own_header_of jobs id h hd.name ≡ Some hd.locals)
+Allowed jobs id act h (frames.FenceAsk a) = (a.node ≡ id) × (p : Proc) × WaitsIn jobs id h a.name p
+Allowed jobs id act h (frames.RangeAsk a) = a.node ≡ id
+Allowed jobs id act h (frames.DirectAsk a) = a.node ≡ id
+Allowed jobs id act h (frames.RefreshAsk a) = (a.ask.node ≡ id) × (a.request ≤ h.requests) × (a.ask.level ≤ level_at h.far a.ask.proc)
+Allowed jobs id act h (frames.RefreshReply r) =
+    (a : RefreshAsk) × (act ≡ Act.deliver (frames.RefreshAsk a)) × (home_of jobs a.ask.proc ≡ id) × (a.ask.level ≤ (sealer_of h a.ask.proc).level) × (r ≡ reply_anew h a)
 
 -- another node has a participant in the fence
 abbrev pub TakesPart : Jobs → ℕ → FenceName → ℕ → Type 0
@@ -68,12 +79,18 @@ pub data Owes (jobs : Jobs) (id : ℕ) (old : Holding) (a : Act) (new : Holding)
   -- commits that were made: to the node that asks for them
   asked_piece : (ask : CommitAsk) (frame : Frame) → a ≡ Act.deliver frame → asked_by a ≡ Some ask → is_taken jobs id frame ≡ true
       → ask.level < (sealer_of new ask.proc).level → Owes jobs id old a new (sent ask.node (piece_from new ask.proc ask.level))
+  -- to a node that asks anew, unless it names a commit that was not made: what was made since, be it nothing
+  asked_reply : (ask : RefreshAsk) → a ≡ Act.deliver (frames.RefreshAsk ask) → is_taken jobs id (frames.RefreshAsk ask) ≡ true
+      → ask.ask.level ≤ (sealer_of new ask.ask.proc).level → Owes jobs id old a new (sent ask.ask.node (frames.RefreshReply (reply_anew new ask)))
   -- the next commit: to each node that waited for it
   held_piece : (p : Proc) (node level : ℕ) → held_at old.held p node ≡ Some level → level < (sealer_of new p).level
       → Owes jobs id old a new (sent node (piece_from new p level))
   -- a request for commits of a process whose key a get begins to wait for: to its home
   parked_ask : (p : Proc) (get : Get) → call_of old p ≡ None → call_of new p ≡ Some (Standing.parked get) → (home_of jobs get.target ≡ id → ⊥)
       → Owes jobs id old a new (sent (home_of jobs get.target) (frames.DirectAsk (commit_ask id get.target (level_at new.far get.target))))
+  -- a request for commits of a process whose key a get asks for anew: to its home
+  parked_anew : (p : Proc) (get : Get) (number : ℕ) → call_of old p ≡ None → call_of new p ≡ Some (Standing.refreshing get number)
+      → (home_of jobs get.target ≡ id → ⊥) → Owes jobs id old a new (sent (home_of jobs get.target) (frames.RefreshAsk (ask_anew id new get.target number)))
   -- at a nudge, all that an own process waits for: headers that are missing
   nudged_header : (f : FenceName) (p : Proc) (node : ℕ) → a ≡ Act.request Request.nudge → WaitsIn jobs id new f p
       → TakesPart jobs id f node → header_at jobs id new.table f node ≡ None → Owes jobs id old a new (sent node (frames.FenceAsk (fence_ask id f)))
@@ -84,6 +101,9 @@ pub data Owes (jobs : Jobs) (id : ℕ) (old : Holding) (a : Act) (new : Holding)
   -- commits of processes whose keys gets wait for
   nudged_ask : (p : Proc) (get : Get) → a ≡ Act.request Request.nudge → call_of new p ≡ Some (Standing.parked get) → (home_of jobs get.target ≡ id → ⊥)
       → Owes jobs id old a new (sent (home_of jobs get.target) (frames.DirectAsk (commit_ask id get.target (level_at new.far get.target))))
+  -- commits of processes whose keys gets ask for anew, under the same numbers
+  nudged_anew : (p : Proc) (get : Get) (number : ℕ) → a ≡ Act.request Request.nudge → call_of new p ≡ Some (Standing.refreshing get number)
+      → (home_of jobs get.target ≡ id → ⊥) → Owes jobs id old a new (sent (home_of jobs get.target) (frames.RefreshAsk (ask_anew id new get.target number)))
   -- and changes of the process sets
   nudged_sets : a ≡ Act.request Request.nudge → (id ≡ 0 → ⊥) → Owes jobs id old a new (sent 0 (frames.RangeAsk (commit_ask id host (level_at new.far host))))
 
@@ -100,5 +120,5 @@ pub record NodeStep (jobs : Jobs) (id : ℕ) (old : Holding) (a : Act) (r : Repl
   pub left : new ≡ (acts jobs id old a).left
   pub quiet : is_quiet r ≡ true → out ≡ []
   pub peers : Each (λ s. is_peer jobs id s.to ≡ true) out
-  pub allowed : Each (λ s. Allowed jobs id new s.frame) out
+  pub allowed : Each (λ s. Allowed jobs id a new s.frame) out
   pub owed : (s : Sent) → Owes jobs id old a new s → In s out

@@ -20,7 +20,7 @@ ChosenGoToPeers =
 abbrev pub ChosenIsAllowed : Type 0
 ChosenIsAllowed =
     (jobs : Jobs) → AreJobs jobs → (id : ℕ) (old : Holding) → IsServer jobs id old → (marks : Levels) (a : Act)
-    → Each (λ s. Allowed jobs id (acts jobs id old a).left s.frame) (chosen jobs id old marks a).frames
+    → Each (λ s. Allowed jobs id a (acts jobs id old a).left s.frame) (chosen jobs id old marks a).frames
 
 -- each frame that is owed is chosen, whatever the marks
 abbrev pub ChosenHasOwed : Type 0

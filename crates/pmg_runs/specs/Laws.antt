@@ -15,7 +15,7 @@ use Rattle.pmg_jobinfo.specs.Jobs.{Jobs, AreJobs, home_of}
 use Rattle.pmg_fence.specs.Entering.{same_proc, entry}
 use Rattle.pmg_fence.specs.Rules.{Scripts, gone_of}
 use Rattle.pmg_fence.specs.declared.entry.Entry.{Entry}
-use Rattle.pmg_get.specs.Gets.{Seen, Outcome, resolve}
+use Rattle.pmg_get.specs.Gets.{Seen, Outcome, resolve, later_as}
 use Rattle.pmg_get.specs.declared.view.Mode.{Mode}
 use Rattle.pmg_rules.specs.Acts.{Request, Reply}
 use Rattle.pmg_rules.specs.Fitting.{Fits, HonestFrame, FitsHost, last_fence}
@@ -76,7 +76,7 @@ answer_as get mode outcome = record { get = get; mode = mode; outcome = outcome 
 -- the answer that is taken of a get of q's that waited
 abbrev pub taken_answer : Proc → Option Wanted → Option Outcome → Option Answer
 taken_answer q None outcome = None
-taken_answer q (Some wanted) outcome = if same_proc q wanted.get.target then option_map (answer_as wanted.get wanted.mode) outcome else None
+taken_answer q (Some wanted) outcome = if same_proc q wanted.get.target then option_map (answer_as wanted.get (later_as wanted.mode)) outcome else None
 
 -- the answer of a get of q's that p is told by the reply
 abbrev pub answer_of : Proc → Proc → Request → Reply → Option Wanted → Option Answer

@@ -1,4 +1,5 @@
 pub mod Worlds
 pub mod Laws
+pub mod Refreshes
 pub mod Turns
 pub mod Examples
