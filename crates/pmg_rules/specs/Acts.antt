@@ -15,7 +15,6 @@ use Rattle.pmg_value.specs.declared.refusal.Refusal.TheVariants as refusals
 use Rattle.pmg_scope.specs.Cached.{Unsealed}
 use Rattle.pmg_scope.specs.Scripts.{Call}
 use Rattle.pmg_commit.specs.Data.{absorbed}
-use Rattle.pmg_commit.specs.Knowledge.{Contribution}
 use Rattle.pmg_commit.specs.Sealed.{Sealed, sealed_with, ended_with, commit_answer}
 use Rattle.pmg_pset.specs.Changes.{definition, deletion, script_of}
 use Rattle.pmg_pset.specs.Refusing.{define_cause, delete_cause}
@@ -34,7 +33,7 @@ use Rattle.pmg_fence.specs.Tables.{count_of}
 use Rattle.pmg_get.specs.Gets.{Outcome}
 use Rattle.pmg_get.specs.declared.view.Mode.{Mode}
 use Rattle.pmg_get.specs.declared.view.Mode.TheVariants as modes
-use Rattle.pmg_rules.specs.Holdings.{Get, Standing, Holding, sealer_of, call_of, answer_in, with_far, with_table, with_requests, called, uncalled, sealing, holding_ask, settled, with_reply}
+use Rattle.pmg_rules.specs.Holdings.{Get, Standing, Holding, sealer_of, call_of, answer_in, with_far, with_table, with_requests, called, uncalled, sealing, holding_ask, joined, settled, with_reply}
 
 -- What is asked of a node by a process at home there, or by the one who runs the node: to enter a fence and to leave it, to
 -- get a key of a process and to take the answer, to end, to define a process set and to delete it; to ask other nodes again
@@ -244,11 +243,20 @@ takes h p (Some (Standing.refreshing get number)) = done_as Reply.waiting h
 takes h p (Some (Standing.refreshed get outcome)) = done_as (reply_of outcome) (uncalled h p)
 takes h p None = done_as Reply.idle h
 
--- a get waits: one that asks anew for the reply to the node's next request
+-- how a get waits, after so many requests: one that asks anew for the reply to the next one
+abbrev pub waits_as : ℕ → Get → Mode → Standing
+waits_as n get modes.Wait = Standing.parked get
+waits_as n get modes.Now = Standing.parked get
+waits_as n get modes.Refresh = Standing.refreshing get (suc n)
+
+-- how many requests there are then
+abbrev pub requests_after : ℕ → Mode → ℕ
+requests_after n modes.Wait = n
+requests_after n modes.Now = n
+requests_after n modes.Refresh = suc n
+
 abbrev pub parks : Holding → Proc → Get → Mode → Holding
-parks h p get modes.Wait = called h p (Standing.parked get)
-parks h p get modes.Now = called h p (Standing.parked get)
-parks h p get modes.Refresh = called (with_requests h (suc h.requests)) p (Standing.refreshing get (suc h.requests))
+parks h p get mode = called (with_requests h (requests_after h.requests mode)) p (waits_as h.requests get mode)
 
 -- a get that parks waits
 abbrev pub asks : Holding → Proc → Get → Mode → Outcome → Done
@@ -290,11 +298,6 @@ abbrev pub holds_unless : Bool → Holding → ℕ → Proc → ℕ → Holding
 holds_unless true h node p level = h
 holds_unless false h node p level = holding_ask h node p level
 
--- what a frame tells is joined into what is known, where it tells something
-abbrev pub told_more : Holding → Option Contribution → Holding
-told_more h None = h
-told_more h (Some c) = with_far h (absorbed h.far c)
-
 -- what is held once the frame is taken; by a reply the get that waits for it is answered with what is known then
 unfoldable pub receives : Jobs → ℕ → Holding → Frame → Holding
 receives jobs id h (frames.Piece c) = with_far h (absorbed h.far c)
@@ -303,7 +306,7 @@ receives jobs id h (frames.FenceAsk a) = with_table h (learned h.table a.name)
 receives jobs id h (frames.RangeAsk a) = h
 receives jobs id h (frames.DirectAsk a) = holds_unless (nat_lt a.level (sealer_of h a.proc).level) h a.node a.proc a.level
 receives jobs id h (frames.RefreshAsk a) = h
-receives jobs id h (frames.RefreshReply r) = with_reply jobs id (told_more h (told_by r)) r.request r.told.proc
+receives jobs id h (frames.RefreshReply r) = with_reply jobs id (with_far h (joined h.far (told_by r))) r.request r.told.proc
 
 unfoldable pub does : Jobs → ℕ → Holding → Act → Done
 does jobs id h (Act.request r) = serves jobs id h r

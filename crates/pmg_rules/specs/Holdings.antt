@@ -1,5 +1,5 @@
 -- What a node holds.
-use Rattle.std.specs.Prelude.{ℕ, Bool, true, false, ◌==◌, ◌&&◌, List, map, Option, is_some, if◌then◌else◌}
+use Rattle.std.specs.Prelude.{ℕ, Bool, true, false, ◌==◌, ◌&&◌, List, map, Option, Some, None, is_some, if◌then◌else◌}
 use Rattle.std.specs.FinMap as finite
 use Rattle.std.specs.Option.{option_map, unwrap_or}
 use Rattle.pmg_value.specs.Process.{proc_cmp, is_host}
@@ -11,6 +11,7 @@ use Rattle.pmg_value.specs.declared.process.Proc.{Proc}
 use Rattle.pmg_scope.specs.Scripts.{term_key}
 use Rattle.pmg_scope.specs.declared.scope.Reach.TheVariants as reach
 use Rattle.pmg_commit.specs.Data.{Data, absorbed, read_at, level_at}
+use Rattle.pmg_commit.specs.Knowledge.{Contribution}
 use Rattle.pmg_commit.specs.Sealed.{Sealed, fresh, piece_at}
 use Rattle.pmg_pset.specs.Sets.{host}
 use Rattle.pmg_jobinfo.specs.Jobs.{Jobs, home_of}
@@ -94,6 +95,11 @@ seen_of jobs id nears fars get =
 -- what a get is answered
 abbrev pub answer_in : Jobs → ℕ → Holding → Get → Mode → Outcome
 answer_in jobs id h get mode = resolve (seen_of jobs id (read_at h.near get.target) (read_at h.far get.target) get) mode
+
+-- what is known, once the contribution is joined, if there is one
+abbrev pub joined : Data → Option Contribution → Data
+joined d None = d
+joined d (Some c) = absorbed d c
 
 -- ---- changes of a holding
 abbrev pub with_far : Holding → Data → Holding
