@@ -51,14 +51,14 @@ module _ (jobs : Jobs) (id : ℕ) (h : Holding) where
 
   -- the frame is ignored, or taken
   pub deliver_by : (frame : Frame) (b : Bool) → is_taken jobs id frame ≡ b
-      → acts jobs id h (Act.deliver frame) ≡ done_as (cond b Reply.taken Reply.ignored) (settled jobs id (cond b (receives h frame) h))
+      → acts jobs id h (Act.deliver frame) ≡ done_as (cond b Reply.taken Reply.ignored) (settled jobs id (cond b (receives jobs id h frame) h))
   unfolding does
   deliver_by frame true e =
       act_free jobs id h (Act.deliver frame) (deliver_free frame)
-      ∙ ap (λ (b : Bool). let d = cond b (done_as Reply.taken (receives h frame)) (done_as Reply.ignored h) in done_as d.reply (settled jobs id d.left)) e
+      ∙ ap (λ (b : Bool). let d = cond b (done_as Reply.taken (receives jobs id h frame)) (done_as Reply.ignored h) in done_as d.reply (settled jobs id d.left)) e
   deliver_by frame false e =
       act_free jobs id h (Act.deliver frame) (deliver_free frame)
-      ∙ ap (λ (b : Bool). let d = cond b (done_as Reply.taken (receives h frame)) (done_as Reply.ignored h) in done_as d.reply (settled jobs id d.left)) e
+      ∙ ap (λ (b : Bool). let d = cond b (done_as Reply.taken (receives jobs id h frame)) (done_as Reply.ignored h) in done_as d.reply (settled jobs id d.left)) e
 
   module _ (is : IsSettled jobs id h) where
     pub ignored_is : (frame : Frame) → is_taken jobs id frame ≡ false → acts jobs id h (Act.deliver frame) ≡ done_as Reply.ignored h

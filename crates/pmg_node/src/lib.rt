@@ -21,6 +21,7 @@ mod opening;
 mod parking;
 mod pieces;
 mod publishing;
+mod refreshing;
 mod setting;
 mod status;
 mod taking;

@@ -11,6 +11,7 @@ use Rattle.pmg_rules.specs.declared.due.Due.{Due}
 use Rattle.pmg_rules.specs.declared.sent.Sent.{Sent}
 use Rattle.pmg_node.proofs.AskLemmas.{ask_free, park_sends, park_moved, parks_sent}
 use Rattle.pmg_node.proofs.NodeKept.{node_stays}
+use Rattle.pmg_node.proofs.OpenLemmas.{still_open}
 use Rattle.pmg_node.proofs.node.Node.park.Goals as goal
 
 pub put-requires : goal.put-requires
@@ -36,7 +37,12 @@ invariant_of-self-in_default c =
     ∙ (λ i. finite.insert inside.calls (c.in_ok-asker.ensures i) (Standing.parked (get_of (c.in_ok-copy.ensures i) (c.in_ok-copy-2.ensures i)))) in
     let moved = park_moved s p get modes.Wait kept.server.settled c.requires.free c.requires.parks c.requires.parks _ _ c.hand_out.new.marks c.self.view_is out
     (λ i. server_of inside.table inside.id inside.board inside.own (calls i) inside.held c.hand_out.new.marks) in
-    record { same = c.self.invariant.same; told = c.self.invariant.told; node = subst IsNode (sym moved) (node_stays s (Act.request (Request.ask p get modes.Wait)) kept) }
+    record {
+      same = c.self.invariant.same;
+      told = c.self.invariant.told;
+      node = subst IsNode (sym moved) (node_stays s (Act.request (Request.ask p get modes.Wait)) kept);
+      replies = still_open _ s c.self.view_is (Act.request (Request.ask p get modes.Wait)) kept _ moved refl inside.held.anew inside.held.anew refl c.self.invariant.replies;
+    }
 
 pub returns-clause-ok : goal.returns-clause-ok
 returns-clause-ok c =
