@@ -1,10 +1,10 @@
 -- Whatever scripts the content of a node fits, it fits them after an act.
 use Rattle.std.proofs.Common.{◌≡◌, ℕ, suc, Bool, true, false, ◌&&◌, ◌||◌, ◌==◌, not, nat_lt, cond, List, [], ◌∷◌, ◌++◌, Option, Some, None, Result, inl, inr, refl, sym, ap, subst, ◌∙◌, arith}
 use Rattle.std.specs.FinMap as finite
-use Rattle.std.specs.Option.{unwrap_or}
+use Rattle.std.specs.Option.{option_map, unwrap_or}
 use Rattle.std.proofs.lemmas.Bool.{false≢true}
 use Rattle.std.proofs.lemmas.Bool.Decides.{nat_tests}
-use Rattle.std.specs.Prelude.{get_or}
+use Rattle.std.specs.Prelude.{get_or, if◌then◌else◌}
 use Rattle.pmg_value.specs.Names.{is_reserved}
 use Rattle.pmg_value.specs.Process.{host_name}
 use Rattle.pmg_value.specs.Signatures.{Signature}
@@ -14,6 +14,9 @@ use Rattle.pmg_value.proofs.ProcessOrder.{procs_total, exact_procs}
 use Rattle.pmg_scope.specs.Cached.{Unsealed}
 use Rattle.pmg_scope.specs.Scripts.{Call, Script, has_end}
 use Rattle.pmg_scope.specs.declared.scope.Scope.TheVariants as scopes
+use Rattle.pmg_scope.specs.declared.scope.Reach.TheVariants as reach
+use Rattle.pmg_commit.specs.Honest.{IsHonest}
+use Rattle.pmg_commit.specs.Knowledge.{Contribution}
 use Rattle.pmg_commit.specs.Sealed.{Sealed, sealed_with, ended_with}
 use Rattle.pmg_commit.specs.SealerRules.{FitsBatch, FitsSealer}
 use Rattle.pmg_commit.proofs.SealerLaws.{seal_fits, enter_seals_nothing}
@@ -22,6 +25,7 @@ use Rattle.pmg_pset.specs.Changes.{Change, definition, deletion, script_of}
 use Rattle.pmg_pset.specs.Sets.{host, changed}
 use Rattle.pmg_pset.specs.Refusing.{delete_cause}
 use Rattle.pmg_pset.proofs.RuleLemmas.{change_fits}
+use Rattle.pmg_frame.specs.Refreshing.{RefreshReply, told_by}
 use Rattle.pmg_frame.specs.declared.frame.Frame.{Frame}
 use Rattle.pmg_frame.specs.declared.frame.Frame.TheVariants as frames
 use Rattle.pmg_jobinfo.specs.Jobs.{Jobs, AreJobs, home_of}
@@ -35,11 +39,15 @@ use Rattle.pmg_fence.proofs.StepLemmas.{enter_fits, put_fits, commit_fits, learn
 use Rattle.pmg_fence.proofs.StepLemmas as tables
 use Rattle.pmg_fence.proofs.Trees.{get_put}
 use Rattle.pmg_get.specs.Gets.{Outcome}
-use Rattle.pmg_rules.specs.Acts.{Request, Act, Reply, Done, Said, also, list_cause, set_cause, name_cause, node_cause, free_cause, request_cause, signature_cause, seal_cause, signature_of, list_of, members_of, cause, is_taken, done_as, reply_of, leaves, takes, asks, enters_fence, commits_as, ends_as, changes_as, holds_unless, receives, serves, does, over, said_by, says}
-use Rattle.pmg_rules.specs.Fitting.{with_said, is_refusal, unless_refused, last_fence, FitsCall, Fits, HonestFrame, FitsHost, FitsAct}
-use Rattle.pmg_rules.specs.Holdings.{Get, Standing, Holding, sealer_in, sealer_of, call_of, with_table, uncalled, called, answer_in, settled}
+use Rattle.pmg_get.specs.declared.view.Mode.{Mode}
+use Rattle.pmg_get.specs.declared.view.Mode.TheVariants as modes
+use Rattle.pmg_rules.specs.Acts.{Request, Act, Reply, Done, Said, also, list_cause, set_cause, name_cause, node_cause, free_cause, request_cause, signature_cause, seal_cause, signature_of, list_of, members_of, cause, is_taken, done_as, reply_of, leaves, takes, waits_as, parks, asks, enters_fence, commits_as, ends_as, changes_as, holds_unless, receives, serves, does, over, said_by, says}
+use Rattle.pmg_rules.specs.Fitting.{with_said, is_refusal, unless_refused, last_fence, IsAnswer, FitsCall, Fits, HonestFrame, FitsHost, FitsAct}
+use Rattle.pmg_rules.specs.Holdings.{Get, Standing, Holding, sealer_in, sealer_of, call_of, with_far, with_table, uncalled, called, joined, answer_in, mapped, settled, is_replied, answer_reply, with_reply}
 use Rattle.pmg_rules.specs.NodeLaws.{ActsFit}
+use Rattle.pmg_rules.proofs.CallFacts.{get-mapped}
 use Rattle.pmg_rules.proofs.CauseFacts.{NoCause, IsCaller, by_causes, caller_is, free_is, neither_cause, same_node}
+use Rattle.pmg_rules.proofs.KeptSettled.{resolve_parks}
 use Rattle.pmg_rules.proofs.Fitted.{CallsFit, fits_calls, fits_settled, fits_sealing, fits_saying, fits_piece}
 use Rattle.pmg_rules.proofs.Saying.{each_said, said_more, host_more, host_goes_on, fence_entered}
 
@@ -106,6 +114,8 @@ host_call cs s t (Some (Standing.released f gone)) is fits = absurd (nowhere (sy
     nowhere e = cc
 host_call cs s t (Some (Standing.parked get)) is fits = tt
 host_call cs s t (Some (Standing.answered get outcome)) is fits = fits
+host_call cs s t (Some (Standing.refreshing get number)) is fits = tt
+host_call cs s t (Some (Standing.refreshed get outcome)) is fits = fits
 
 -- ---- each act
 
@@ -142,6 +152,8 @@ module _ (jobs : Jobs) (scripts : Scripts) (node : ℕ) (h : Holding) (fits : Fi
   leave_done p (Some (Standing.released f gone)) = fits_settled jobs scripts node (uncalled h p) (left_fits p)
   leave_done p (Some (Standing.parked get)) = fits_settled jobs scripts node h fits
   leave_done p (Some (Standing.answered get outcome)) = fits_settled jobs scripts node h fits
+  leave_done p (Some (Standing.refreshing get number)) = fits_settled jobs scripts node h fits
+  leave_done p (Some (Standing.refreshed get outcome)) = fits_settled jobs scripts node h fits
 
   answer_done : (p : Proc) (o : Outcome) → DoneFits (done_as (reply_of o) (uncalled h p)) None
   answer_done p (Outcome.found value) = fits_settled jobs scripts node (uncalled h p) (left_fits p)
@@ -155,20 +167,37 @@ module _ (jobs : Jobs) (scripts : Scripts) (node : ℕ) (h : Holding) (fits : Fi
   take_done p (Some (Standing.released f gone)) = fits_settled jobs scripts node h fits
   take_done p (Some (Standing.parked get)) = fits_settled jobs scripts node h fits
   take_done p (Some (Standing.answered get outcome)) = answer_done p outcome
+  take_done p (Some (Standing.refreshing get number)) = fits_settled jobs scripts node h fits
+  take_done p (Some (Standing.refreshed get outcome)) = answer_done p outcome
 
-  put_called : (p q : Proc) (get : Get) (b : Bool) → FitsCall (scripts q) (finite.get h.calls q) → FitsCall (scripts q) (cond b (Some (Standing.parked get)) (finite.get h.calls q))
-  put_called p q get true fit = tt
-  put_called p q get false fit = fit
+  -- a get that waits fits any script
+  waiting_fits : (s : Script) (n : ℕ) (get : Get) (mode : Mode) → FitsCall s (Some (waits_as n get mode))
+  waiting_fits s n get modes.Wait = tt
+  waiting_fits s n get modes.Now = tt
+  waiting_fits s n get modes.Refresh = tt
 
-  park_fits : (p : Proc) (get : Get) → Fits jobs scripts node (called h p (Standing.parked get))
-  park_fits p get = fits_calls jobs scripts node h (finite.insert h.calls p (Standing.parked get)) fits (λ q at.
-      subst (FitsCall (scripts q)) (sym (finite.get-insert procs_total h.calls p (Standing.parked get) q)) (put_called p q get (same_proc q p) (fits.calls q at)))
+  put_called : (p q : Proc) (standing : Standing) (b : Bool) → FitsCall (scripts q) (Some standing) → FitsCall (scripts q) (finite.get h.calls q)
+      → FitsCall (scripts q) (cond b (Some standing) (finite.get h.calls q))
+  put_called p q standing true new fit = new
+  put_called p q standing false new fit = fit
 
-  ask_done : (p : Proc) (get : Get) (o : Outcome) → DoneFits (asks h p get o) None
-  ask_done p get (Outcome.found value) = fits_settled jobs scripts node h fits
-  ask_done p get Outcome.absent = fits_settled jobs scripts node h fits
-  ask_done p get Outcome.outside = fits_settled jobs scripts node h fits
-  ask_done p get Outcome.parks = fits_settled jobs scripts node (called h p (Standing.parked get)) (park_fits p get)
+  park_fits : (p : Proc) (get : Get) (mode : Mode) → Fits jobs scripts node (parks h p get mode)
+  park_fits p get mode =
+      let standing = waits_as h.requests get mode in
+      record {
+        own = fits.own;
+        calls = λ q at.
+            subst (FitsCall (scripts q)) (sym (finite.get-insert procs_total h.calls p standing q))
+            (put_called p q standing (same_proc q p) (waiting_fits (scripts q) h.requests get mode) (fits.calls q at));
+        table = fits.table;
+        far = fits.far;
+      }
+
+  ask_done : (p : Proc) (get : Get) (mode : Mode) (o : Outcome) → DoneFits (asks h p get mode o) None
+  ask_done p get mode (Outcome.found value) = fits_settled jobs scripts node h fits
+  ask_done p get mode Outcome.absent = fits_settled jobs scripts node h fits
+  ask_done p get mode Outcome.outside = fits_settled jobs scripts node h fits
+  ask_done p get mode Outcome.parks = fits_settled jobs scripts node (parks h p get mode) (park_fits p get mode)
 
   end_done : (p : Proc) → IsCaller jobs node h p → DoneFits (ends_as h p (ended_with (sealer_of h p))) (said_by p (Call.terminate ∷ []))
   end_done p caller =
@@ -230,7 +259,58 @@ module _ (jobs : Jobs) (scripts : Scripts) (node : ℕ) (h : Holding) (fits : Fi
   away_by m true e is = absurd (grind (arith, nat_tests))
   away_by m false e is = absurd cc
 
-  frame_fits : (frame : Frame) → is_taken jobs node frame ≡ true → HonestFrame jobs scripts frame → Fits jobs scripts node (receives h frame)
+  -- what a reply tells is joined, where it tells something
+  told_fits : (o : Option Contribution) → ((c : Contribution) → o ≡ Some c → (home_of jobs c.proc ≡ node → ⊥) × IsHonest (scripts c.proc) reach.Far c)
+      → Fits jobs scripts node (with_far h (joined h.far o))
+  told_fits None honest = record { own = fits.own; calls = fits.calls; table = fits.table; far = fits.far }
+  told_fits (Some c) honest = let is = honest c refl in fits_piece jobs scripts node h c is.0 is.1 fits
+
+  told_is : (b : Bool) (r c : Contribution) → (if b then Some r else None) ≡ Some c → r ≡ c
+  told_is true r c e = cc
+  told_is false r c e = absurd cc
+
+  -- what a get is answered at once is an answer
+  now_answers : (get : Get) (g : Holding) → IsAnswer (answer_in jobs node g get modes.Now)
+  now_answers get g = is_answer (answer_in jobs node g get modes.Now) (λ parks. elim (resolve_parks _ modes.Now parks) [ inl e ↦ absurd (not_wait e) | inr e ↦ absurd (not_anew e) ])
+    where
+      is_answer : (o : Outcome) → (o ≡ Outcome.parks → ⊥) → IsAnswer o
+      is_answer (Outcome.found value) no = tt
+      is_answer Outcome.absent no = tt
+      is_answer Outcome.outside no = tt
+      is_answer Outcome.parks no = no refl
+
+      not_wait : modes.Now ≡ modes.Wait → ⊥
+      not_wait e = cc
+
+      not_anew : modes.Now ≡ modes.Refresh → ⊥
+      not_anew e = cc
+
+  answered_call : (g : Holding) (number : ℕ) (q : Proc) (s : Script) (c : Option Standing) → FitsCall s c → FitsCall s (option_map (answer_reply jobs node g number q) c)
+  answered_call g number q s None fit = tt
+  answered_call g number q s (Some (Standing.in_fence f)) fit = fit
+  answered_call g number q s (Some (Standing.released f gone)) fit = fit
+  answered_call g number q s (Some (Standing.parked get)) fit = tt
+  answered_call g number q s (Some (Standing.answered get outcome)) fit = fit
+  answered_call g number q s (Some (Standing.refreshed get outcome)) fit = fit
+  answered_call g number q s (Some (Standing.refreshing get k)) fit = by_test (is_replied number q get k)
+    where
+      by_test : (b : Bool) → FitsCall s (Some (if b then Standing.refreshed get (answer_in jobs node g get modes.Now) else Standing.refreshing get k))
+      by_test true = now_answers get g
+      by_test false = tt
+
+  reply_fits : (r : RefreshReply) → (home_of jobs r.told.proc ≡ node → ⊥) → IsHonest (scripts r.told.proc) reach.Far r.told
+      → Fits jobs scripts node (with_reply jobs node (with_far h (joined h.far (told_by r))) r.request r.told.proc)
+  reply_fits r away honest =
+      let g = with_far h (joined h.far (told_by r)) in
+      let told : Fits jobs scripts node g =
+      told_fits (told_by r) (λ c e.
+      let same = told_is (nat_lt r.told.from r.told.to) r.told c e in
+      (subst (λ (x : Contribution). home_of jobs x.proc ≡ node → ⊥) same away, subst (λ (x : Contribution). IsHonest (scripts x.proc) reach.Far x) same honest)) in
+      fits_calls jobs scripts node g (mapped (answer_reply jobs node g r.request r.told.proc) h.calls) told (λ p at.
+      subst (FitsCall (scripts p)) (sym (get-mapped (answer_reply jobs node g r.request r.told.proc) h.calls p))
+      (answered_call g r.request r.told.proc (scripts p) (call_of h p) (fits.calls p at)))
+
+  frame_fits : (frame : Frame) → is_taken jobs node frame ≡ true → HonestFrame jobs scripts frame → Fits jobs scripts node (receives jobs node h frame)
   unfolding receives is_taken
   frame_fits (frames.Piece c) taken honest = fits_piece jobs scripts node h c (away_by (home_of jobs c.proc) _ taken) honest fits
   frame_fits (frames.Header hd) taken honest = with_table_fits _ (header_fits jobs node scripts h.table hd honest fits.table)
@@ -238,11 +318,11 @@ module _ (jobs : Jobs) (scripts : Scripts) (node : ℕ) (h : Holding) (fits : Fi
   frame_fits (frames.RangeAsk a) taken honest = fits
   frame_fits (frames.DirectAsk a) taken honest = held_fits (nat_lt a.level (sealer_of h a.proc).level) a.node a.proc a.level
   frame_fits (frames.RefreshAsk a) taken honest = fits
-  frame_fits (frames.RefreshReply r) taken honest = fits
+  frame_fits (frames.RefreshReply r) taken honest = reply_fits r (away_by (home_of jobs r.told.proc) _ taken) honest
 
   deliver_done : (frame : Frame) (b : Bool) → is_taken jobs node frame ≡ b → HonestFrame jobs scripts frame
-      → DoneFits (cond b (done_as Reply.taken (receives h frame)) (done_as Reply.ignored h)) None
-  deliver_done frame true taken honest = fits_settled jobs scripts node (receives h frame) (frame_fits frame taken honest)
+      → DoneFits (cond b (done_as Reply.taken (receives jobs node h frame)) (done_as Reply.ignored h)) None
+  deliver_done frame true taken honest = fits_settled jobs scripts node (receives jobs node h frame) (frame_fits frame taken honest)
   deliver_done frame false taken honest = fits_settled jobs scripts node h fits
 
   at_zero : AreJobs jobs → (other : Refusal → Bool) → NoCause (λ e. node_cause node e || other e) → home_of jobs host ≡ node
@@ -253,7 +333,7 @@ module _ (jobs : Jobs) (scripts : Scripts) (node : ℕ) (h : Holding) (fits : Fi
   request_done are hosts (Request.enter p list collect) none =
       enter_done p (signature_of jobs p list collect) (free_is jobs node h p (neither_cause (free_cause jobs node h p) (also (list_cause jobs (list_of p list)) (signature_cause h (signature_of jobs p list collect) p)) none).0).0
   request_done are hosts (Request.leave p) none = leave_done p (call_of h p)
-  request_done are hosts (Request.ask p get mode) none = ask_done p get (answer_in jobs node h get mode)
+  request_done are hosts (Request.ask p get mode) none = ask_done p get mode (answer_in jobs node h get mode)
   request_done are hosts (Request.take p) none = take_done p (call_of h p)
   request_done are hosts (Request.terminate p) none = end_done p (caller_is jobs node h p none)
   request_done are hosts (Request.define name list) none = change_done (definition name (members_of jobs list)) (at_zero are (also (list_cause jobs list) (set_cause h.sets name list (members_of jobs list))) none) hosts

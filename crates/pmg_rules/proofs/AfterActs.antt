@@ -6,8 +6,11 @@ use Rattle.pmg_value.specs.declared.process.Proc.{Proc}
 use Rattle.pmg_value.specs.declared.refusal.Refusal.{Refusal}
 use Rattle.pmg_jobinfo.specs.Jobs.{Jobs}
 use Rattle.pmg_fence.specs.Tables.{gone_by}
-use Rattle.pmg_rules.specs.Acts.{Request, Act, Done, cause, does, over, acts}
-use Rattle.pmg_rules.specs.Holdings.{Standing, Holding, call_of, is_ready_at, settle, settled}
+use Rattle.pmg_get.specs.Gets.{Outcome}
+use Rattle.pmg_get.specs.declared.view.Mode.{Mode}
+use Rattle.pmg_get.specs.declared.view.Mode.TheVariants as modes
+use Rattle.pmg_rules.specs.Acts.{Request, Act, Done, cause, waits_as, does, over, acts}
+use Rattle.pmg_rules.specs.Holdings.{Get, Standing, Holding, call_of, is_ready_at, settle, settled}
 use Rattle.pmg_rules.specs.Kept.{AreUnready}
 use Rattle.pmg_rules.specs.NodeLaws.{IsSettled, ParkedWait, ReadyFrees, FreedByReady, FreedStays}
 use Rattle.pmg_rules.proofs.CallFacts.{call-settled}
@@ -30,6 +33,12 @@ parked_wait jobs id h a before =
 pub ready_frees : ReadyFrees
 ready_frees jobs id h a before = after_act jobs id h a (AreUnready jobs id) before (λ _ p f e. (settled_in_fence jobs id (does jobs id h a).left p f e).1)
 
+-- a get that waits is no release
+not_released : (mode : Mode) (n : ℕ) (get : Get) (f : FenceName) (gone : List Proc) → Some (waits_as n get mode) ≡ Some (Standing.released f gone) → ⊥
+not_released modes.Wait n get f gone e = cc
+not_released modes.Now n get f gone e = cc
+not_released modes.Refresh n get f gone e = cc
+
 -- no act makes a process released
 module _ (jobs : Jobs) (id : ℕ) (h : Holding) (p : Proc) (f : FenceName) (gone : List Proc) where
   released_still : (a : Act) (c : Option Standing) → StaysOrMoves jobs id h p a c → c ≡ Some (Standing.released f gone) → call_of h p ≡ Some (Standing.released f gone)
@@ -40,8 +49,8 @@ module _ (jobs : Jobs) (id : ℕ) (h : Holding) (p : Proc) (f : FenceName) (gone
       elsewhere z = cc
   released_still a c (inr (Moves.parking get mode is was answer now)) e = absurd (elsewhere (sym now ∙ e))
     where
-      elsewhere : Some (Standing.parked get) ≡ Some (Standing.released f gone) → ⊥
-      elsewhere z = cc
+      elsewhere : Some (waits_as h.requests get mode) ≡ Some (Standing.released f gone) → ⊥
+      elsewhere z = not_released mode h.requests get f gone z
   released_still a c (inr (Moves.leaving x others is was now)) e = absurd (elsewhere (sym now ∙ e))
     where
       elsewhere : None ≡ Some (Standing.released f gone) → ⊥
@@ -49,6 +58,14 @@ module _ (jobs : Jobs) (id : ℕ) (h : Holding) (p : Proc) (f : FenceName) (gone
   released_still a c (inr (Moves.taking get outcome is was now)) e = absurd (elsewhere (sym now ∙ e))
     where
       elsewhere : None ≡ Some (Standing.released f gone) → ⊥
+      elsewhere z = cc
+  released_still a c (inr (Moves.taking_anew get outcome is was now)) e = absurd (elsewhere (sym now ∙ e))
+    where
+      elsewhere : None ≡ Some (Standing.released f gone) → ⊥
+      elsewhere z = cc
+  released_still a c (inr (Moves.answering r get number is was its now)) e = absurd (elsewhere (sym now ∙ e))
+    where
+      elsewhere : {o : Outcome} → Some (Standing.refreshed get o) ≡ Some (Standing.released f gone) → ⊥
       elsewhere z = cc
   released_still a c (inr (Moves.ending is now)) e = absurd (elsewhere (sym now ∙ e))
     where
@@ -74,6 +91,14 @@ module _ (jobs : Jobs) (id : ℕ) (h : Holding) (p : Proc) (f : FenceName) (gone
   released_goes_on a c was leaves ends (inr (Moves.taking get outcome is there now)) = absurd (elsewhere (sym there ∙ was))
     where
       elsewhere : Some (Standing.answered get outcome) ≡ Some (Standing.released f gone) → ⊥
+      elsewhere z = cc
+  released_goes_on a c was leaves ends (inr (Moves.taking_anew get outcome is there now)) = absurd (elsewhere (sym there ∙ was))
+    where
+      elsewhere : Some (Standing.refreshed get outcome) ≡ Some (Standing.released f gone) → ⊥
+      elsewhere z = cc
+  released_goes_on a c was leaves ends (inr (Moves.answering r get number is there its now)) = absurd (elsewhere (sym there ∙ was))
+    where
+      elsewhere : Some (Standing.refreshing get number) ≡ Some (Standing.released f gone) → ⊥
       elsewhere z = cc
   released_goes_on a c was leaves ends (inr (Moves.ending is now)) = absurd (ends is)
 

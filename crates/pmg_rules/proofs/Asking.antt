@@ -17,6 +17,7 @@ use Rattle.pmg_jobinfo.specs.Jobs.{Jobs, home_of}
 use Rattle.pmg_fence.specs.Entering.{same_proc}
 use Rattle.pmg_dmodex.specs.Levels.{NodeLevels, Levels, levels_of, level_at, with_level, not_below, without_below}
 use Rattle.pmg_get.specs.Gets.{Outcome}
+use Rattle.pmg_get.specs.declared.view.Mode.{Mode}
 use Rattle.pmg_rules.specs.Acts.{Request, Act, Reply, is_peer, is_known, is_taken, done_as, leaves, takes, asks, holds_unless, receives, serves, does}
 use Rattle.pmg_rules.specs.Holdings.{Get, Standing, Holding, sealer_of, call_of, answer_in}
 use Rattle.pmg_rules.specs.NodeLaws.{HeldAreOwn, HeldStayOwn}
@@ -85,6 +86,8 @@ module _ (jobs : Jobs) (id : ℕ) (h : Holding) (own : HeldAreOwn jobs id h) whe
   leave_own by (Some (Standing.released x gone)) = own
   leave_own by (Some (Standing.parked get)) = own
   leave_own by (Some (Standing.answered get outcome)) = own
+  leave_own by (Some (Standing.refreshing get number)) = own
+  leave_own by (Some (Standing.refreshed get outcome)) = own
   leave_own by None = own
 
   take_own : (by : Proc) (c : Option Standing) → HeldAreOwn jobs id (takes h by c).left
@@ -92,13 +95,15 @@ module _ (jobs : Jobs) (id : ℕ) (h : Holding) (own : HeldAreOwn jobs id h) whe
   take_own by (Some (Standing.released x gone)) = own
   take_own by (Some (Standing.parked get)) = own
   take_own by (Some (Standing.answered get outcome)) = own
+  take_own by (Some (Standing.refreshing get number)) = own
+  take_own by (Some (Standing.refreshed get outcome)) = own
   take_own by None = own
 
-  ask_own : (by : Proc) (get : Get) (o : Outcome) → HeldAreOwn jobs id (asks h by get o).left
-  ask_own by get Outcome.parks = own
-  ask_own by get (Outcome.found value) = own
-  ask_own by get Outcome.absent = own
-  ask_own by get Outcome.outside = own
+  ask_own : (by : Proc) (get : Get) (mode : Mode) (o : Outcome) → HeldAreOwn jobs id (asks h by get mode o).left
+  ask_own by get mode Outcome.parks = own
+  ask_own by get mode (Outcome.found value) = own
+  ask_own by get mode Outcome.absent = own
+  ask_own by get mode Outcome.outside = own
 
   is_home : (m : ℕ) → (m == id) ≡ true → m ≡ id
   is_home m e = grind (arith, nat_tests)
@@ -110,7 +115,7 @@ module _ (jobs : Jobs) (id : ℕ) (h : Holding) (own : HeldAreOwn jobs id h) whe
       let parts = and_parts (is_peer jobs id from && is_known jobs p) (home_of jobs p == id) taken in
       own_with jobs id h.held p from _ (is_home (home_of jobs p) parts.1) (and_parts (is_peer jobs id from) (is_known jobs p) parts.0).0 own
 
-  frame_own : (frame : Frame) → is_taken jobs id frame ≡ true → HeldAreOwn jobs id (receives h frame)
+  frame_own : (frame : Frame) → is_taken jobs id frame ≡ true → HeldAreOwn jobs id (receives jobs id h frame)
   unfolding receives is_taken
   frame_own (frames.Piece c) taken = own
   frame_own (frames.Header hd) taken = own
@@ -120,7 +125,7 @@ module _ (jobs : Jobs) (id : ℕ) (h : Holding) (own : HeldAreOwn jobs id h) whe
   frame_own (frames.RefreshAsk a) taken = own
   frame_own (frames.RefreshReply r) taken = own
 
-  deliver_own : (frame : Frame) (b : Bool) → is_taken jobs id frame ≡ b → HeldAreOwn jobs id (cond b (done_as Reply.taken (receives h frame)) (done_as Reply.ignored h)).left
+  deliver_own : (frame : Frame) (b : Bool) → is_taken jobs id frame ≡ b → HeldAreOwn jobs id (cond b (done_as Reply.taken (receives jobs id h frame)) (done_as Reply.ignored h)).left
   deliver_own frame true taken = frame_own frame taken
   deliver_own frame false taken = own
 
@@ -128,7 +133,7 @@ module _ (jobs : Jobs) (id : ℕ) (h : Holding) (own : HeldAreOwn jobs id h) whe
   unfolding serves
   request_own (Request.enter by list collect) = own
   request_own (Request.leave by) = leave_own by (call_of h by)
-  request_own (Request.ask by get mode) = ask_own by get (answer_in jobs id h get mode)
+  request_own (Request.ask by get mode) = ask_own by get mode (answer_in jobs id h get mode)
   request_own (Request.take by) = take_own by (call_of h by)
   request_own (Request.terminate by) = own_without jobs id h.held by _ own
   request_own (Request.define name list) = own_without jobs id h.held _ _ own

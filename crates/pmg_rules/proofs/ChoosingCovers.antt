@@ -1,10 +1,11 @@
 -- What each act makes due covers what it changed.
-use Rattle.std.proofs.Common.{◌≡◌, ℕ, suc, ◌<◌, ◌≤◌, Bool, true, false, List, [], ◌∷◌, ◌++◌, Option, Some, None, inl, refl, sym, ap, subst, ◌∙◌, arith}
+use Rattle.std.proofs.Common.{◌≡◌, ℕ, suc, ◌<◌, ◌≤◌, Bool, true, false, cond, List, [], ◌∷◌, ◌++◌, Option, Some, None, inl, refl, sym, ap, subst, ◌∙◌, arith}
 use Rattle.std.specs.Prelude.{if◌then◌else◌, nat_lt}
 use Rattle.std.specs.FinMap as finite
 use Rattle.std.specs.FinMap.{nat_cmp-IsAntisymmetric}
 use Rattle.std.specs.List.{flat_map}
-use Rattle.std.proofs.lemmas.Bool.{false≢true, lt-ltb}
+use Rattle.std.specs.Option.{option_map}
+use Rattle.std.proofs.lemmas.Bool.{false≢true, lt-ltb, le-leb}
 use Rattle.pmg_value.specs.Lists.{In}
 use Rattle.pmg_value.specs.Signatures.{Signature, FenceName}
 use Rattle.pmg_value.specs.declared.process.Proc.{Proc}
@@ -13,23 +14,27 @@ use Rattle.pmg_scope.specs.Cached.{Unsealed}
 use Rattle.pmg_commit.specs.Knowledge.{Contribution}
 use Rattle.pmg_commit.specs.Sealed.{Sealed}
 use Rattle.pmg_frame.specs.Fences.{FenceAsk, CommitAsk, header}
+use Rattle.pmg_frame.specs.Refreshing.{RefreshAsk, told_by}
 use Rattle.pmg_frame.specs.declared.frame.Frame.{Frame}
 use Rattle.pmg_frame.specs.declared.frame.Frame.TheVariants as frames
 use Rattle.pmg_frame.specs.declared.local.Local.{Local}
 use Rattle.pmg_jobinfo.specs.Jobs.{Jobs}
 use Rattle.pmg_fence.specs.Changes.{news, present, placed, ended_by, fence_entered, fence_told, next_name}
-use Rattle.pmg_fence.specs.Tables.{Numbers, Fence, series_at, fence_at, has_name, count_of, names_of}
+use Rattle.pmg_fence.specs.Entering.{same_proc}
+use Rattle.pmg_fence.specs.Tables.{Numbers, Fence, series_at, fence_at, has_name, count_of, gone_by, names_of}
 use Rattle.pmg_fence.proofs.HeaderLemmas.{by_proc, in_filter}
 use Rattle.pmg_dmodex.specs.Levels.{levels_of, level_at as held_at, below}
-use Rattle.pmg_rules.specs.Acts.{Request, Act, leaves, takes, asks, enters_fence, holds_unless, receives}
-use Rattle.pmg_rules.specs.Choosing.{announcing, piece_due, settling, answering, asking_for, telling_of, nudging, due_by_frame}
+use Rattle.pmg_get.specs.declared.view.Mode.{Mode}
+use Rattle.pmg_rules.specs.Acts.{Request, Act, leaves, takes, waits_as, parks, asks, enters_fence, holds_unless, receives}
+use Rattle.pmg_rules.specs.Choosing.{announcing, piece_due, settling, answering, replying, asking_for, telling_of, nudging, due_by_frame}
 use Rattle.pmg_rules.specs.declared.due.Due.{Due}
 use Rattle.pmg_rules.specs.declared.due.Due.TheVariants as sendings
-use Rattle.pmg_rules.specs.Holdings.{Get, Standing, Holding, sealer_of, call_of, with_table, called, uncalled, sealing, settled}
+use Rattle.pmg_rules.specs.Holdings.{Get, Standing, Holding, sealer_of, call_of, is_ready_at, with_far, with_table, uncalled, joined, sealing, released_by, settle, settled, answer_reply, with_reply}
 use Rattle.pmg_rules.specs.Kept.{Holds}
-use Rattle.pmg_rules.specs.Sending.{sent, own_header_of, asked_by}
-use Rattle.pmg_rules.proofs.KeptBasics.{put_cases, removed_some, entry_listed}
-use Rattle.pmg_rules.proofs.KeptChanges.{settled_some, settle_parked, sealer_other}
+use Rattle.pmg_rules.specs.Sending.{sent, own_header_of, reply_anew, asked_by}
+use Rattle.pmg_rules.proofs.KeptBasics.{put_cases, entry_listed}
+use Rattle.pmg_rules.proofs.KeptChanges.{settled_call, settled_some, sealer_other}
+use Rattle.pmg_rules.proofs.CallFacts.{get-mapped, call-uncalled}
 use Rattle.pmg_rules.proofs.SendingLists.{in_flat}
 use Rattle.pmg_rules.proofs.SendingOwed.{Covers}
 use Rattle.pmg_rules.proofs.ChoosingNews.{by_name, present_named, present_other, news_has, name_listed}
@@ -49,7 +54,7 @@ module _ (jobs : Jobs) (id : ℕ) (old : Holding) (holds : Holds jobs id old) wh
   pub record Stays (new : Holding) : Type 0 where
     pub headers : (f : FenceName) → own_header_of jobs id new f ≡ own_header_of jobs id old f
     pub sealers : (p : Proc) → sealer_of new p ≡ sealer_of old p
-    pub gets : (p : Proc) (get : Get) → call_of new p ≡ Some (Standing.parked get) → call_of old p ≡ None → ⊥
+    pub free : (p : Proc) → call_of old p ≡ None → call_of new p ≡ None
 
   pub no_header : (new : Holding) (f : FenceName) (locals : List Local) → own_header_of jobs id new f ≡ own_header_of jobs id old f → own_header_of jobs id new f ≡ Some locals → own_header_of jobs id old f ≡ None → ⊥
   no_header new f locals same now before = cc
@@ -60,21 +65,19 @@ module _ (jobs : Jobs) (id : ℕ) (old : Holding) (holds : Holds jobs id old) wh
       let known : (sealer_of old p).level ≤ level = holds.levels p node level held in
       omega (arith, less_old, known)
 
-  -- a get that waits once calls are settled
-  was_parked : (h : Holding) (p : Proc) (get : Get) → call_of (settled jobs id h) p ≡ Some (Standing.parked get) → call_of h p ≡ Some (Standing.parked get)
-  was_parked h p get e = let was = settled_some jobs id h p (Standing.parked get) e in was.1 ∙ ap Some (settle_parked jobs id h was.0 get was.2).0
-
-  not_none : (p : Proc) (s : Standing) → call_of old p ≡ Some s → call_of old p ≡ None → ⊥
-  not_none p s there none = cc
+  -- no get comes to wait where who was in no call is in none
+  pub no_get : {A : Type 0} (new : Holding) (p : Proc) (s : Standing) → call_of new p ≡ None → call_of new p ≡ Some s → A
+  no_get new p s none now = absurd cc
 
   -- an act that leaves all that as it was owes nothing
   pub idle_covers : (a : Act) (new : Holding) (dues : List Due) → Stays new → IsPlain a → Covers jobs id old a new dues
   idle_covers a new dues stays plain = record {
     headers = λ f locals now before d i. absurd (no_header new f locals (stays.headers f) now before);
     pieces = λ p node level held less. absurd (no_piece new p node level (stays.sealers p) held less);
-    gets = λ p get before now d i. absurd (stays.gets p get now before);
+    gets = λ p s before now d i. no_get new p s (stays.free p before) now;
     asked_header = λ ask locals is taken there. absurd (plain.frames (frames.FenceAsk ask) is);
     asked_piece = λ ask frame is asked taken less. absurd (plain.frames frame is);
+    asked_anew = λ ask is taken within. absurd (plain.frames (frames.RefreshAsk ask) is);
     nudged = λ is d i. absurd (plain.nudges is);
   }
 
@@ -122,28 +125,33 @@ module _ (jobs : Jobs) (id : ℕ) (old : Holding) (holds : Holds jobs id old) wh
       not_request : Act.commit p b ≡ Act.request Request.nudge → ⊥
       not_request is = cc
 
-  -- the gets that wait are those of the calls as they were
-  pub same_calls : (h : Holding) → ((p : Proc) (get : Get) → call_of h p ≡ Some (Standing.parked get) → call_of old p ≡ Some (Standing.parked get))
-      → (p : Proc) (get : Get) → call_of (settled jobs id h) p ≡ Some (Standing.parked get) → call_of old p ≡ None → ⊥
-  same_calls h was p get now none = not_none p (Standing.parked get) (was p get (was_parked h p get now)) none
+  -- who is in no call is in none once calls are settled
+  pub free_settled : (h : Holding) (p : Proc) → call_of h p ≡ None → call_of (settled jobs id h) p ≡ None
+  free_settled h p none = settled_call jobs id h p ∙ ap (option_map (settle jobs id h)) none
 
-  -- nothing but calls changed, and no get came to wait
-  pub calls_stay : (h : Holding) → h.table ≡ old.table → ((p : Proc) → sealer_of h p ≡ sealer_of old p)
-      → ((p : Proc) (get : Get) → call_of h p ≡ Some (Standing.parked get) → call_of old p ≡ Some (Standing.parked get)) → Stays (settled jobs id h)
-  calls_stay h table sealers was = record {
+  uncalled_free : (h : Holding) (p q : Proc) → call_of h q ≡ None → call_of (uncalled h p) q ≡ None
+  uncalled_free h p q none = call-uncalled h p q ∙ nothing (same_proc q p) (call_of h q) none
+    where
+      nothing : (b : Bool) (o : Option Standing) → o ≡ None → cond b None o ≡ None
+      nothing true o e = refl
+      nothing false o e = e
+
+  -- nothing but calls changed, and nobody came to be in one
+  pub calls_stay : (h : Holding) → h.table ≡ old.table → ((p : Proc) → sealer_of h p ≡ sealer_of old p) → ((p : Proc) → call_of old p ≡ None → call_of h p ≡ None) → Stays (settled jobs id h)
+  calls_stay h table sealers free = record {
     headers = λ f. ap (λ t. present jobs id t f) table;
     sealers = sealers;
-    gets = same_calls h was;
+    free = λ p none. free_settled h p (free p none);
   }
 
   pub old_stays : Stays old
-  old_stays = record { headers = λ f. refl; sealers = λ p. refl; gets = λ p get now none. not_none p (Standing.parked get) now none }
+  old_stays = record { headers = λ f. refl; sealers = λ p. refl; free = λ p none. none }
 
   pub same_stays : Stays (settled jobs id old)
-  same_stays = calls_stay old refl (λ p. refl) (λ p get e. e)
+  same_stays = calls_stay old refl (λ p. refl) (λ p e. e)
 
   left_stays : (p : Proc) → Stays (settled jobs id (uncalled old p))
-  left_stays p = calls_stay (uncalled old p) refl (λ q. refl) (λ q get e. removed_some old.calls p q (Standing.parked get) e)
+  left_stays p = calls_stay (uncalled old p) refl (λ q. refl) (uncalled_free old p)
 
   pub leave_stays : (p : Proc) (s : Option Standing) → Stays (settled jobs id (leaves old p s).left)
   leave_stays p None = same_stays
@@ -151,6 +159,8 @@ module _ (jobs : Jobs) (id : ℕ) (old : Holding) (holds : Holds jobs id old) wh
   leave_stays p (Some (Standing.released f gone)) = left_stays p
   leave_stays p (Some (Standing.parked get)) = same_stays
   leave_stays p (Some (Standing.answered get outcome)) = same_stays
+  leave_stays p (Some (Standing.refreshing get number)) = same_stays
+  leave_stays p (Some (Standing.refreshed get outcome)) = same_stays
 
   pub take_stays : (p : Proc) (s : Option Standing) → Stays (settled jobs id (takes old p s).left)
   take_stays p None = same_stays
@@ -158,12 +168,21 @@ module _ (jobs : Jobs) (id : ℕ) (old : Holding) (holds : Holds jobs id old) wh
   take_stays p (Some (Standing.released f gone)) = same_stays
   take_stays p (Some (Standing.parked get)) = same_stays
   take_stays p (Some (Standing.answered get outcome)) = left_stays p
+  take_stays p (Some (Standing.refreshing get number)) = same_stays
+  take_stays p (Some (Standing.refreshed get outcome)) = left_stays p
 
-  -- the get that comes to wait, where it is this one
-  newly_parked : (p : Proc) (s : Standing) (h : Holding) → h.calls ≡ finite.insert old.calls p s → (q : Proc) (get : Get) → call_of (settled jobs id h) q ≡ Some (Standing.parked get)
-      → call_of old q ≡ None → (q ≡ p) × (s ≡ Standing.parked get)
-  newly_parked p s h calls q get now none =
-      put_cases old.calls p q s (Standing.parked get) (ap (λ m. finite.get m q) (sym calls) ∙ was_parked h q get now) (λ same is. (same, is)) (λ there. absurd (not_none q (Standing.parked get) there none))
+  -- only this process comes to be in a call
+  newly_called : (p : Proc) (t : Standing) (h : Holding) → h.calls ≡ finite.insert old.calls p t → (q : Proc) (s : Standing) → call_of (settled jobs id h) q ≡ Some s → call_of old q ≡ None
+      → (q ≡ p) × (s ≡ settle jobs id h t)
+  newly_called p t h calls q s now none =
+      let was = settled_some jobs id h q s now in
+      put_cases old.calls p q t was.0 (ap (λ m. finite.get m q) (sym calls) ∙ was.1) (λ same is. (same, sym was.2 ∙ ap (settle jobs id h) (sym is)))
+      (λ there. no_get old q was.0 none there)
+
+  -- who is in a fence, or released from it, asks for nothing
+  fence_asks_none : (h : Holding) (b : Bool) (f : FenceName) (gone : List Proc) (s : Standing) (d : Due) → s ≡ released_by b f gone → In d (asking_for jobs id h (Some s)) → ⊥
+  fence_asks_none h true f gone s d is i = subst (λ x. In d (asking_for jobs id h (Some x))) is i
+  fence_asks_none h false f gone s d is i = subst (λ x. In d (asking_for jobs id h (Some x))) is i
 
   pub enter_covers : (a : Act) → IsPlain a → (p : Proc) (g : Signature)
       → let new = settled jobs id (enters_fence old p g).left in Covers jobs id old a new (flat_map (announcing jobs id) (news jobs id old.table new.table (next_name old.table g p)))
@@ -175,28 +194,28 @@ module _ (jobs : Jobs) (id : ℕ) (old : Holding) (holds : Holds jobs id old) wh
       record {
         headers = placed_headers new f fence (finite.insert (series_at old.table g).counts p (suc (count_of old.table g p))) refl;
         pieces = λ q node level held less. absurd (no_piece new q node level refl held less);
-        gets = λ q get before now d i. absurd (not_get f get (newly_parked p (Standing.in_fence f) h refl q get now before).1);
+        gets = λ q s before now d i.
+            absurd (fence_asks_none new (is_ready_at jobs id h f) f (gone_by jobs id h.table f) s d (newly_called p (Standing.in_fence f) h refl q s now before).1 i);
         asked_header = λ ask locals is taken there. absurd (plain.frames (frames.FenceAsk ask) is);
         asked_piece = λ ask frame is asked taken less. absurd (plain.frames frame is);
+        asked_anew = λ ask is taken within. absurd (plain.frames (frames.RefreshAsk ask) is);
         nudged = λ is d i. absurd (plain.nudges is);
       }
-    where
-      not_get : (f : FenceName) (get : Get) → Standing.in_fence f ≡ Standing.parked get → ⊥
-      not_get f get is = cc
 
-  pub park_covers : (a : Act) → IsPlain a → (p : Proc) (get : Get)
-      → let new = settled jobs id (called old p (Standing.parked get)) in Covers jobs id old a new (asking_for jobs id new (call_of new p))
-  park_covers a plain p get =
-      let h = called old p (Standing.parked get) in
+  pub park_covers : (a : Act) → IsPlain a → (p : Proc) (get : Get) (mode : Mode)
+      → let new = settled jobs id (parks old p get mode) in Covers jobs id old a new (asking_for jobs id new (call_of new p))
+  park_covers a plain p get mode =
+      let h = parks old p get mode in
       let new = settled jobs id h in
       record {
         headers = λ f locals now before d i. absurd (no_header new f locals refl now before);
         pieces = λ q node level held less. absurd (no_piece new q node level refl held less);
-        gets = λ q other before now d i.
-            let same = (newly_parked p (Standing.parked get) h refl q other now before).0 in
+        gets = λ q s before now d i.
+            let same = (newly_called p (waits_as old.requests get mode) h refl q s now before).0 in
             subst (λ o. In d (asking_for jobs id new o)) (sym (ap (call_of new) (sym same) ∙ now)) i;
         asked_header = λ ask locals is taken there. absurd (plain.frames (frames.FenceAsk ask) is);
         asked_piece = λ ask frame is asked taken less. absurd (plain.frames frame is);
+        asked_anew = λ ask is taken within. absurd (plain.frames (frames.RefreshAsk ask) is);
         nudged = λ is d i. absurd (plain.nudges is);
       }
 
@@ -206,9 +225,10 @@ module _ (jobs : Jobs) (id : ℕ) (old : Holding) (holds : Holds jobs id old) wh
       record {
         headers = λ f locals now before d i. absurd (no_header new f locals refl now before);
         pieces = settling_covers p z new (λ q. refl);
-        gets = λ q get before now d i. absurd (same_calls (sealing old p z) (λ x g e. e) q get now before);
+        gets = λ q s before now d i. no_get new q s (free_settled (sealing old p z) q before) now;
         asked_header = λ ask locals is taken there. absurd (plain.frames (frames.FenceAsk ask) is);
         asked_piece = λ ask frame is asked taken less. absurd (plain.frames frame is);
+        asked_anew = λ ask is taken within. absurd (plain.frames (frames.RefreshAsk ask) is);
         nudged = λ is d i. absurd (plain.nudges is);
       }
 
@@ -217,9 +237,10 @@ module _ (jobs : Jobs) (id : ℕ) (old : Holding) (holds : Holds jobs id old) wh
   more_covers a plain new first rest covers = record {
     headers = λ f locals now before d i. in_append_left first rest d (covers.headers f locals now before d i);
     pieces = λ p node level held less. in_append_left first rest _ (covers.pieces p node level held less);
-    gets = λ p get before now d i. in_append_left first rest d (covers.gets p get before now d i);
+    gets = λ p s before now d i. in_append_left first rest d (covers.gets p s before now d i);
     asked_header = λ ask locals is taken there. absurd (plain.frames (frames.FenceAsk ask) is);
     asked_piece = λ ask frame is asked taken less. absurd (plain.frames frame is);
+    asked_anew = λ ask is taken within. absurd (plain.frames (frames.RefreshAsk ask) is);
     nudged = λ is d i. absurd (plain.nudges is);
   }
 
@@ -239,9 +260,10 @@ module _ (jobs : Jobs) (id : ℕ) (old : Holding) (holds : Holds jobs id old) wh
             (news_has jobs id old.table new.table f locals now before)) i);
         pieces = λ q node level held less.
             in_append_left (settling old new p) (flat_map (announcing jobs id) told) _ (settling_covers p z new (λ x. refl) q node level held less);
-        gets = λ q get before now d i. absurd (same_calls h (λ x g e. removed_some old.calls p x (Standing.parked g) e) q get now before);
+        gets = λ q s before now d i. no_get new q s (free_settled h q (uncalled_free (with_table (sealing old p z) (ended_by old.table p z.level)) p q before)) now;
         asked_header = λ ask locals is taken there. absurd (plain.frames (frames.FenceAsk ask) is);
         asked_piece = λ ask frame is asked taken less. absurd (plain.frames frame is);
+        asked_anew = λ ask is taken within. absurd (plain.frames (frames.RefreshAsk ask) is);
         nudged = λ is d i. absurd (plain.nudges is);
       }
 
@@ -251,9 +273,10 @@ module _ (jobs : Jobs) (id : ℕ) (old : Holding) (holds : Holds jobs id old) wh
       record {
         headers = λ f locals now before d i. absurd (no_header new f locals refl now before);
         pieces = λ q node level held less. absurd (no_piece new q node level refl held less);
-        gets = λ q get before now d i. absurd (same_stays.gets q get now before);
+        gets = λ q s before now d i. no_get new q s (same_stays.free q before) now;
         asked_header = λ ask locals is taken there. absurd (plain (frames.FenceAsk ask) is);
         asked_piece = λ ask frame is asked taken less. absurd (plain frame is);
+        asked_anew = λ ask is taken within. absurd (plain (frames.RefreshAsk ask) is);
         nudged = λ is d i. i;
       }
 
@@ -266,14 +289,15 @@ module _ (jobs : Jobs) (id : ℕ) (old : Holding) (holds : Holds jobs id old) wh
   one_frame x y is = cc
 
   -- a frame that is no request
-  idle_frame : (frame : Frame) (new : Holding) (dues : List Due) → Stays new → ((ask : FenceAsk) → frame ≡ frames.FenceAsk ask → ⊥) → (asked_by (Act.deliver frame) ≡ None)
-      → Covers jobs id old (Act.deliver frame) new dues
-  idle_frame frame new dues stays no_ask none = record {
+  idle_frame : (frame : Frame) (new : Holding) (dues : List Due) → Stays new → ((ask : FenceAsk) → frame ≡ frames.FenceAsk ask → ⊥) → ((ask : RefreshAsk) → frame ≡ frames.RefreshAsk ask → ⊥)
+      → (asked_by (Act.deliver frame) ≡ None) → Covers jobs id old (Act.deliver frame) new dues
+  idle_frame frame new dues stays no_ask no_anew none = record {
     headers = λ f locals now before d i. absurd (no_header new f locals (stays.headers f) now before);
     pieces = λ p node level held less. absurd (no_piece new p node level (stays.sealers p) held less);
-    gets = λ p get before now d i. absurd (stays.gets p get now before);
+    gets = λ p s before now d i. no_get new p s (stays.free p before) now;
     asked_header = λ ask locals is taken there. absurd (no_ask ask (one_frame frame (frames.FenceAsk ask) is));
     asked_piece = λ ask other is asked taken less. absurd (not_asked ask asked);
+    asked_anew = λ ask is taken within. absurd (no_anew ask (one_frame frame (frames.RefreshAsk ask) is));
     nudged = λ is d i. absurd (not_nudge frame is);
   }
     where
@@ -285,16 +309,17 @@ module _ (jobs : Jobs) (id : ℕ) (old : Holding) (holds : Holds jobs id old) wh
       → ((g : FenceName) (locals : List Local) → own_header_of jobs id new g ≡ Some locals → own_header_of jobs id old g ≡ None
       → (d : Due) → In d (announcing jobs id (header id g locals)) → In d dues)
       → ((ask : FenceAsk) (locals : List Local) → frame ≡ frames.FenceAsk ask → own_header_of jobs id old ask.name ≡ Some locals → In (sendings.Whole (sent ask.node (frames.Header (header id ask.name locals)))) dues)
-      → (asked_by (Act.deliver frame) ≡ None) → Covers jobs id old (Act.deliver frame) new dues
-  placed_covers frame f fence counts dues heads asks none =
+      → ((ask : RefreshAsk) → frame ≡ frames.RefreshAsk ask → ⊥) → (asked_by (Act.deliver frame) ≡ None) → Covers jobs id old (Act.deliver frame) new dues
+  placed_covers frame f fence counts dues heads asks no_anew none =
       let h = with_table old (placed old.table f fence counts) in
       let new = settled jobs id h in
       record {
         headers = heads;
         pieces = λ p node level held less. absurd (no_piece new p node level refl held less);
-        gets = λ p get before now d i. absurd (same_calls h (λ x g e. e) p get now before);
+        gets = λ p s before now d i. no_get new p s (free_settled h p before) now;
         asked_header = λ ask locals is taken there. asks ask locals (one_frame frame (frames.FenceAsk ask) is) there;
         asked_piece = λ ask other is asked taken less. absurd (not_asked ask asked);
+        asked_anew = λ ask is taken within. absurd (no_anew ask (one_frame frame (frames.RefreshAsk ask) is));
         nudged = λ is d i. absurd (not_nudge frame is);
       }
     where
@@ -313,10 +338,13 @@ module _ (jobs : Jobs) (id : ℕ) (old : Holding) (holds : Holds jobs id old) wh
       (placed_headers new a.name fence counts refl g locals now before d i))
       (λ other. absurd (no_header new g locals (present_other jobs id old.table a.name fence counts g other) now before)))
       (λ ask locals is there. there_told ask (one_ask ask is) locals there others)
-      refl
+      (λ ask is. not_anew ask is) refl
     where
       one_ask : (ask : FenceAsk) → frames.FenceAsk a ≡ frames.FenceAsk ask → a ≡ ask
       one_ask ask is = cc
+
+      not_anew : (ask : RefreshAsk) → frames.FenceAsk a ≡ frames.RefreshAsk ask → ⊥
+      not_anew ask is = cc
 
       there_told : (ask : FenceAsk) → a ≡ ask → (locals : List Local) → own_header_of jobs id old ask.name ≡ Some locals → (others : List Due)
           → In (sendings.Whole (sent ask.node (frames.Header (header id ask.name locals)))) (telling_of jobs id a.node a.name (own_header_of jobs id old a.name) others)
@@ -325,56 +353,104 @@ module _ (jobs : Jobs) (id : ℕ) (old : Holding) (holds : Holds jobs id old) wh
           (subst (λ o. In (sendings.Whole (sent ask.node (frames.Header (header id ask.name locals)))) (telling_of jobs id ask.node ask.name o others)) (sym there) (inl refl))
 
   commit_ask_covers : (frame : Frame) (a : CommitAsk) (new : Holding) → Stays new → asked_by (Act.deliver frame) ≡ Some a → ((ask : FenceAsk) → frame ≡ frames.FenceAsk ask → ⊥)
-      → Covers jobs id old (Act.deliver frame) new (answering new a.node a.proc a.level)
-  commit_ask_covers frame a new stays is_ask no_ask = record {
+      → ((ask : RefreshAsk) → frame ≡ frames.RefreshAsk ask → ⊥) → Covers jobs id old (Act.deliver frame) new (answering new a.node a.proc a.level)
+  commit_ask_covers frame a new stays is_ask no_ask no_anew = record {
     headers = λ f locals now before d i. absurd (no_header new f locals (stays.headers f) now before);
     pieces = λ p node level held less. absurd (no_piece new p node level (stays.sealers p) held less);
-    gets = λ p get before now d i. absurd (stays.gets p get now before);
+    gets = λ p s before now d i. no_get new p s (stays.free p before) now;
     asked_header = λ ask locals is taken there. absurd (no_ask ask (one_frame frame (frames.FenceAsk ask) is));
     asked_piece = λ ask other is asked taken less.
         subst (λ (x : CommitAsk). In (piece_due new ask.proc ask.node ask.level) (answering new x.node x.proc x.level)) (one_ask ask (sym asked ∙ is_ask))
         (subst (λ b. In (piece_due new ask.proc ask.node ask.level) (if b then piece_due new ask.proc ask.node ask.level ∷ [] else [])) (sym (lt-ltb ask.level (sealer_of new ask.proc).level less)) (inl refl));
+    asked_anew = λ ask is taken within. absurd (no_anew ask (one_frame frame (frames.RefreshAsk ask) is));
     nudged = λ is d i. absurd (not_nudge frame is);
   }
     where
       one_ask : (ask : CommitAsk) → Some ask ≡ Some a → ask ≡ a
       one_ask ask same = cc
 
+  refresh_ask_covers : (a : RefreshAsk) → let new = settled jobs id old in Covers jobs id old (Act.deliver (frames.RefreshAsk a)) new (replying new a)
+  refresh_ask_covers a =
+      let new = settled jobs id old in
+      let frame = frames.RefreshAsk a in
+      record {
+        headers = λ f locals now before d i. absurd (no_header new f locals refl now before);
+        pieces = λ p node level held less. absurd (no_piece new p node level refl held less);
+        gets = λ p s before now d i. no_get new p s (same_stays.free p before) now;
+        asked_header = λ ask locals is taken there. absurd (not_ask ask (one_frame frame (frames.FenceAsk ask) is));
+        asked_piece = λ ask other is asked taken less. absurd (not_asked ask asked);
+        asked_anew = λ ask is taken within. listed ask (one_ask ask (one_frame frame (frames.RefreshAsk ask) is)) within;
+        nudged = λ is d i. absurd (not_nudge frame is);
+      }
+    where
+      not_ask : (ask : FenceAsk) → frames.RefreshAsk a ≡ frames.FenceAsk ask → ⊥
+      not_ask ask is = cc
+
+      not_asked : (ask : CommitAsk) → asked_by (Act.deliver (frames.RefreshAsk a)) ≡ Some ask → ⊥
+      not_asked ask asked = cc
+
+      one_ask : (ask : RefreshAsk) → frames.RefreshAsk a ≡ frames.RefreshAsk ask → a ≡ ask
+      one_ask ask is = cc
+
+      listed : (ask : RefreshAsk) → a ≡ ask → ask.ask.level ≤ (sealer_of (settled jobs id old) ask.ask.proc).level
+          → In (sendings.Whole (sent ask.ask.node (frames.RefreshReply (reply_anew (settled jobs id old) ask)))) (replying (settled jobs id old) a)
+      listed ask same within =
+          let reply : Due = sendings.Whole (sent ask.ask.node (frames.RefreshReply (reply_anew (settled jobs id old) ask))) in
+          subst (λ x. In reply (replying (settled jobs id old) x)) (sym same)
+          (subst (λ b. In reply (if b then reply ∷ [] else [])) (sym (le-leb ask.ask.level (sealer_of (settled jobs id old) ask.ask.proc).level within)) (inl refl))
+
   unless_stays : (b : Bool) (node : ℕ) (p : Proc) (level : ℕ) → Stays (settled jobs id (holds_unless b old node p level))
   unless_stays true node p level = same_stays
-  unless_stays false node p level = calls_stay (holds_unless false old node p level) refl (λ q. refl) (λ q get e. e)
+  unless_stays false node p level = calls_stay (holds_unless false old node p level) refl (λ q. refl) (λ q e. e)
 
-  pub frame_covers : (frame : Frame) → let new = settled jobs id (receives old frame) in Covers jobs id old (Act.deliver frame) new (due_by_frame jobs id old frame new)
+  pub frame_covers : (frame : Frame) → let new = settled jobs id (receives jobs id old frame) in Covers jobs id old (Act.deliver frame) new (due_by_frame jobs id old frame new)
   unfolding receives due_by_frame
   frame_covers (frames.Piece c) =
-      idle_frame (frames.Piece c) _ _ (calls_stay (receives old (frames.Piece c)) refl (λ p. refl) (λ p get e. e)) (λ ask is. absurd (not_ask c ask is)) refl
+      idle_frame (frames.Piece c) _ _ (calls_stay (receives jobs id old (frames.Piece c)) refl (λ p. refl) (λ p e. e)) (λ ask is. not_ask ask is) (λ ask is. not_anew ask is) refl
     where
-      not_ask : (c : Contribution) (ask : FenceAsk) → frames.Piece c ≡ frames.FenceAsk ask → ⊥
-      not_ask c ask is = cc
+      not_ask : (ask : FenceAsk) → frames.Piece c ≡ frames.FenceAsk ask → ⊥
+      not_ask ask is = cc
+
+      not_anew : (ask : RefreshAsk) → frames.Piece c ≡ frames.RefreshAsk ask → ⊥
+      not_anew ask is = cc
   frame_covers (frames.Header hd) =
       let fence = fence_told (fence_at old.table hd.name) hd.node hd.locals in
       let counts = (series_at old.table hd.name.signature).counts in
       let new = settled jobs id (with_table old (placed old.table hd.name fence counts)) in
-      placed_covers (frames.Header hd) hd.name fence counts _ (placed_headers new hd.name fence counts refl) (λ ask locals is there. absurd (not_ask ask is)) refl
+      placed_covers (frames.Header hd) hd.name fence counts _ (placed_headers new hd.name fence counts refl) (λ ask locals is there. absurd (not_ask ask is)) (λ ask is. not_anew ask is) refl
     where
       not_ask : (ask : FenceAsk) → frames.Header hd ≡ frames.FenceAsk ask → ⊥
       not_ask ask is = cc
+
+      not_anew : (ask : RefreshAsk) → frames.Header hd ≡ frames.RefreshAsk ask → ⊥
+      not_anew ask is = cc
   frame_covers (frames.FenceAsk a) = fence_ask_covers a (fence_at old.table a.name) (series_at old.table a.name.signature).counts
-  frame_covers (frames.RangeAsk a) = commit_ask_covers (frames.RangeAsk a) a (settled jobs id old) same_stays refl (λ ask is. not_ask ask is)
+  frame_covers (frames.RangeAsk a) = commit_ask_covers (frames.RangeAsk a) a (settled jobs id old) same_stays refl (λ ask is. not_ask ask is) (λ ask is. not_anew ask is)
     where
       not_ask : (ask : FenceAsk) → frames.RangeAsk a ≡ frames.FenceAsk ask → ⊥
       not_ask ask is = cc
+
+      not_anew : (ask : RefreshAsk) → frames.RangeAsk a ≡ frames.RefreshAsk ask → ⊥
+      not_anew ask is = cc
   frame_covers (frames.DirectAsk a) =
       commit_ask_covers (frames.DirectAsk a) a (settled jobs id (holds_unless (nat_lt a.level (sealer_of old a.proc).level) old a.node a.proc a.level))
-      (unless_stays (nat_lt a.level (sealer_of old a.proc).level) a.node a.proc a.level) refl (λ ask is. not_ask ask is)
+      (unless_stays (nat_lt a.level (sealer_of old a.proc).level) a.node a.proc a.level) refl (λ ask is. not_ask ask is) (λ ask is. not_anew ask is)
     where
       not_ask : (ask : FenceAsk) → frames.DirectAsk a ≡ frames.FenceAsk ask → ⊥
       not_ask ask is = cc
-  frame_covers (frames.RefreshAsk a) = idle_frame (frames.RefreshAsk a) _ _ same_stays (λ ask is. not_ask ask is) refl
-    where
-      not_ask : (ask : FenceAsk) → frames.RefreshAsk a ≡ frames.FenceAsk ask → ⊥
-      not_ask ask is = cc
-  frame_covers (frames.RefreshReply r) = idle_frame (frames.RefreshReply r) _ _ same_stays (λ ask is. not_ask ask is) refl
+
+      not_anew : (ask : RefreshAsk) → frames.DirectAsk a ≡ frames.RefreshAsk ask → ⊥
+      not_anew ask is = cc
+  frame_covers (frames.RefreshAsk a) = refresh_ask_covers a
+  frame_covers (frames.RefreshReply r) =
+      let told = with_far old (joined old.far (told_by r)) in
+      idle_frame (frames.RefreshReply r) _ _
+      (calls_stay (with_reply jobs id told r.request r.told.proc) refl (λ p. refl)
+      (λ p e. get-mapped (answer_reply jobs id told r.request r.told.proc) old.calls p ∙ ap (option_map (answer_reply jobs id told r.request r.told.proc)) e))
+      (λ ask is. not_ask ask is) (λ ask is. not_anew ask is) refl
     where
       not_ask : (ask : FenceAsk) → frames.RefreshReply r ≡ frames.FenceAsk ask → ⊥
       not_ask ask is = cc
+
+      not_anew : (ask : RefreshAsk) → frames.RefreshReply r ≡ frames.RefreshAsk ask → ⊥
+      not_anew ask is = cc

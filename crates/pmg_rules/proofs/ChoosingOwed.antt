@@ -15,9 +15,9 @@ use Rattle.pmg_jobinfo.specs.Jobs.{Jobs, AreJobs}
 use Rattle.pmg_dmodex.specs.Levels.{Levels}
 use Rattle.pmg_get.specs.Gets.{Outcome}
 use Rattle.pmg_get.specs.declared.view.Mode.{Mode}
-use Rattle.pmg_rules.specs.Acts.{Request, Act, Reply, Done, done_as, cause, request_cause, signature_of, members_of, ends_as, is_taken, leaves, takes, asks, enters_fence, serves, receives, does, acts}
+use Rattle.pmg_rules.specs.Acts.{Request, Act, Reply, Done, done_as, cause, request_cause, signature_of, members_of, ends_as, is_taken, leaves, takes, parks, asks, enters_fence, serves, receives, does, acts}
 use Rattle.pmg_rules.specs.Choosing.{peers, piece_due, settling, due_by, due_by_request, marked_by_act, sends, chosen}
-use Rattle.pmg_rules.specs.Holdings.{Get, Standing, Holding, sealer_of, call_of, answer_in, called, sealing, settled}
+use Rattle.pmg_rules.specs.Holdings.{Get, Holding, sealer_of, call_of, answer_in, sealing, settled}
 use Rattle.pmg_rules.specs.Kept.{Holds}
 use Rattle.pmg_rules.specs.Sending.{is_quiet, Owes}
 use Rattle.pmg_rules.specs.SendingRules.{ChosenHasOwed}
@@ -26,7 +26,7 @@ use Rattle.pmg_rules.proofs.KeptBasics.{act_cases}
 use Rattle.pmg_rules.proofs.SendingLists.{whole_sent}
 use Rattle.pmg_rules.proofs.SendingOwed.{Covers, owed_due}
 use Rattle.pmg_rules.proofs.ChoosingActs.{out_of}
-use Rattle.pmg_rules.proofs.ChoosingCovers.{IsPlain, is_nudge, Stays, idle_covers, plain_request, plain_commit, old_stays, same_stays, leave_stays, take_stays, enter_covers, park_covers, commit_covers, more_covers, end_covers, nudge_covers, frame_covers, one_frame, no_header, no_piece, not_nudge}
+use Rattle.pmg_rules.proofs.ChoosingCovers.{IsPlain, is_nudge, Stays, idle_covers, plain_request, plain_commit, old_stays, same_stays, leave_stays, take_stays, enter_covers, park_covers, commit_covers, more_covers, end_covers, nudge_covers, frame_covers, one_frame, no_header, no_piece, no_get, not_nudge}
 
 module _ (jobs : Jobs) (are : AreJobs jobs) (id : ℕ) (old : Holding) (holds : Holds jobs id old) (marks : Levels) where
   -- what is owed after an act that was done so is sent
@@ -46,12 +46,12 @@ module _ (jobs : Jobs) (are : AreJobs jobs) (id : ℕ) (old : Holding) (holds : 
   plain r other = plain_request jobs id old holds r other
 
   ask_paid : (p : Proc) (get : Get) (mode : Mode) (o : Outcome)
-      → IsPaid (Act.request (Request.ask p get mode)) (done_as (asks old p get o).reply (settled jobs id (asks old p get o).left))
+      → IsPaid (Act.request (Request.ask p get mode)) (done_as (asks old p get mode o).reply (settled jobs id (asks old p get mode o).left))
   unfolding due_by due_by_request
   ask_paid p get mode Outcome.parks =
       let a = Act.request (Request.ask p get mode) in
-      paid_by a (done_as Reply.parked (settled jobs id (called old p (Standing.parked get)))) refl
-      (park_covers jobs id old holds a (plain (Request.ask p get mode) refl) p get)
+      paid_by a (done_as Reply.parked (settled jobs id (parks old p get mode))) refl
+      (park_covers jobs id old holds a (plain (Request.ask p get mode) refl) p get mode)
   ask_paid p get mode (Outcome.found value) =
       paid_none (Act.request (Request.ask p get mode)) (done_as (Reply.found value) (settled jobs id old)) (same_stays jobs id old holds) (plain (Request.ask p get mode) refl)
   ask_paid p get mode Outcome.absent =
@@ -115,9 +115,9 @@ module _ (jobs : Jobs) (are : AreJobs jobs) (id : ℕ) (old : Holding) (holds : 
       (λ e. paid_none (Act.commit p b) (done_as (Reply.refused e) old) (old_stays jobs id old holds) (plain_commit jobs id old holds p b))
 
   taken_paid : (frame : Frame) (b : Bool) → is_taken jobs id frame ≡ b
-      → IsPaid (Act.deliver frame) (done_as (if b then done_as Reply.taken (receives old frame) else done_as Reply.ignored old).reply (settled jobs id (if b then done_as Reply.taken (receives old frame) else done_as Reply.ignored old).left))
+      → IsPaid (Act.deliver frame) (done_as (if b then done_as Reply.taken (receives jobs id old frame) else done_as Reply.ignored old).reply (settled jobs id (if b then done_as Reply.taken (receives jobs id old frame) else done_as Reply.ignored old).left))
   unfolding due_by
-  taken_paid frame true taken = paid_by (Act.deliver frame) (done_as Reply.taken (settled jobs id (receives old frame))) refl (frame_covers jobs id old holds frame)
+  taken_paid frame true taken = paid_by (Act.deliver frame) (done_as Reply.taken (settled jobs id (receives jobs id old frame))) refl (frame_covers jobs id old holds frame)
   taken_paid frame false ignored = λ s owes. absurd (ignored_none (settled jobs id old) (same_stays jobs id old holds) s owes)
     where
       other_frame : (x y : Frame) → Act.deliver x ≡ Act.deliver y → is_taken jobs id y ≡ true → is_taken jobs id x ≡ true
@@ -127,9 +127,10 @@ module _ (jobs : Jobs) (are : AreJobs jobs) (id : ℕ) (old : Holding) (holds : 
       ignored_covers new stays = record {
         headers = λ f locals now before d i. absurd (no_header jobs id old holds new f locals (stays.headers f) now before);
         pieces = λ p node level held less. absurd (no_piece jobs id old holds new p node level (stays.sealers p) held less);
-        gets = λ p get before now d i. absurd (stays.gets p get now before);
+        gets = λ p s before now d i. no_get jobs id old holds new p s (stays.free p before) now;
         asked_header = λ ask locals is t there. absurd (false≢true (sym ignored ∙ other_frame frame (frames.FenceAsk ask) is t));
         asked_piece = λ ask other is asked t less. absurd (false≢true (sym ignored ∙ other_frame frame other is t));
+        asked_anew = λ ask is t within. absurd (false≢true (sym ignored ∙ other_frame frame (frames.RefreshAsk ask) is t));
         nudged = λ is d i. absurd (not_nudge jobs id old holds frame is);
       }
 

@@ -54,6 +54,8 @@ settle_fits jobs node h s (Some (Standing.in_fence f)) fits = released_call s (i
 settle_fits jobs node h s (Some (Standing.released f gone)) fits = fits
 settle_fits jobs node h s (Some (Standing.parked get)) fits = settled_call s get (answer_in jobs node h get modes.Wait)
 settle_fits jobs node h s (Some (Standing.answered get outcome)) fits = fits
+settle_fits jobs node h s (Some (Standing.refreshing get number)) fits = fits
+settle_fits jobs node h s (Some (Standing.refreshed get outcome)) fits = fits
 
 -- other calls
 pub fits_calls : (jobs : Jobs) (scripts : Scripts) (node : ℕ) (h : Holding) (calls : finite.FinMap proc_cmp Standing) → Fits jobs scripts node h → CallsFit jobs scripts node calls

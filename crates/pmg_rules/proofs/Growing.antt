@@ -8,13 +8,15 @@ use Rattle.pmg_commit.specs.Knowledge.{Contribution, Knowledge, union, read}
 use Rattle.pmg_commit.specs.Levels.{level}
 use Rattle.pmg_commit.proofs.Joining.{known_together}
 use Rattle.pmg_commit.proofs.ReadLaws.{latest_of, read_latest, read_none, read-core}
+use Rattle.pmg_frame.specs.Refreshing.{told_by}
 use Rattle.pmg_frame.specs.declared.frame.Frame.{Frame}
 use Rattle.pmg_frame.specs.declared.frame.Frame.TheVariants as frames
 use Rattle.pmg_jobinfo.specs.Jobs.{Jobs}
 use Rattle.pmg_get.specs.Gets.{Outcome}
+use Rattle.pmg_get.specs.declared.view.Mode.{Mode}
 use Rattle.pmg_store.proofs.HonestDataLaws.{levels_rise}
 use Rattle.pmg_rules.specs.Acts.{Request, Act, Reply, Done, is_taken, done_as, leaves, takes, asks, holds_unless, receives, serves, does, cause, over, acts}
-use Rattle.pmg_rules.specs.Holdings.{Get, Standing, Holding, sealer_of, call_of, answer_in}
+use Rattle.pmg_rules.specs.Holdings.{Get, Standing, Holding, sealer_of, call_of, joined, answer_in}
 use Rattle.pmg_rules.proofs.CauseFacts.{by_causes}
 
 -- what is read of the one is read of the other too
@@ -54,6 +56,11 @@ covers_joined d c = record {
       ap (λ (m : Knowledge). is_some (read m key)) (known_together d (of_contribution c) q) ∙ ap is_some (read-core (union k l) key) ∙ reads_union k l key some;
 }
 
+-- nor does what is told
+covers_told : (d : Data) (o : Option Contribution) → Covers d (joined d o)
+covers_told d None = covers_same d
+covers_told d (Some c) = covers_joined d c
+
 -- both stores have what they had
 pub record Gains (h g : Holding) : Type 0 where
   pub near : Covers h.near g.near
@@ -73,6 +80,8 @@ module _ (jobs : Jobs) (id : ℕ) (h : Holding) where
   leave_gains by (Some (Standing.released f gone)) = record { near = covers_same h.near; far = covers_same h.far }
   leave_gains by (Some (Standing.parked get)) = gains_still h
   leave_gains by (Some (Standing.answered get outcome)) = gains_still h
+  leave_gains by (Some (Standing.refreshing get number)) = gains_still h
+  leave_gains by (Some (Standing.refreshed get outcome)) = gains_still h
   leave_gains by None = gains_still h
 
   take_gains : (by : Proc) (c : Option Standing) → Gains h (takes h by c).left
@@ -80,19 +89,21 @@ module _ (jobs : Jobs) (id : ℕ) (h : Holding) where
   take_gains by (Some (Standing.released f gone)) = gains_still h
   take_gains by (Some (Standing.parked get)) = gains_still h
   take_gains by (Some (Standing.answered get outcome)) = record { near = covers_same h.near; far = covers_same h.far }
+  take_gains by (Some (Standing.refreshing get number)) = gains_still h
+  take_gains by (Some (Standing.refreshed get outcome)) = record { near = covers_same h.near; far = covers_same h.far }
   take_gains by None = gains_still h
 
-  ask_gains : (by : Proc) (get : Get) (o : Outcome) → Gains h (asks h by get o).left
-  ask_gains by get Outcome.parks = record { near = covers_same h.near; far = covers_same h.far }
-  ask_gains by get (Outcome.found value) = gains_still h
-  ask_gains by get Outcome.absent = gains_still h
-  ask_gains by get Outcome.outside = gains_still h
+  ask_gains : (by : Proc) (get : Get) (mode : Mode) (o : Outcome) → Gains h (asks h by get mode o).left
+  ask_gains by get mode Outcome.parks = record { near = covers_same h.near; far = covers_same h.far }
+  ask_gains by get mode (Outcome.found value) = gains_still h
+  ask_gains by get mode Outcome.absent = gains_still h
+  ask_gains by get mode Outcome.outside = gains_still h
 
   held_gains : (b : Bool) (from : ℕ) (p : Proc) (level : ℕ) → Gains h (holds_unless b h from p level)
   held_gains true from p level = gains_still h
   held_gains false from p level = record { near = covers_same h.near; far = covers_same h.far }
 
-  frame_gains : (frame : Frame) → Gains h (receives h frame)
+  frame_gains : (frame : Frame) → Gains h (receives jobs id h frame)
   unfolding receives
   frame_gains (frames.Piece c) = record { near = covers_same h.near; far = covers_joined h.far c }
   frame_gains (frames.Header hd) = record { near = covers_same h.near; far = covers_same h.far }
@@ -100,9 +111,9 @@ module _ (jobs : Jobs) (id : ℕ) (h : Holding) where
   frame_gains (frames.RangeAsk a) = gains_still h
   frame_gains (frames.DirectAsk a) = held_gains (nat_lt a.level (sealer_of h a.proc).level) a.node a.proc a.level
   frame_gains (frames.RefreshAsk a) = gains_still h
-  frame_gains (frames.RefreshReply r) = gains_still h
+  frame_gains (frames.RefreshReply r) = record { near = covers_same h.near; far = covers_told h.far (told_by r) }
 
-  deliver_gains : (frame : Frame) (b : Bool) → Gains h (cond b (done_as Reply.taken (receives h frame)) (done_as Reply.ignored h)).left
+  deliver_gains : (frame : Frame) (b : Bool) → Gains h (cond b (done_as Reply.taken (receives jobs id h frame)) (done_as Reply.ignored h)).left
   deliver_gains frame true = frame_gains frame
   deliver_gains frame false = gains_still h
 
@@ -110,7 +121,7 @@ module _ (jobs : Jobs) (id : ℕ) (h : Holding) where
   unfolding serves
   request_gains (Request.enter by list collect) = record { near = covers_same h.near; far = covers_same h.far }
   request_gains (Request.leave by) = leave_gains by (call_of h by)
-  request_gains (Request.ask by get mode) = ask_gains by get (answer_in jobs id h get mode)
+  request_gains (Request.ask by get mode) = ask_gains by get mode (answer_in jobs id h get mode)
   request_gains (Request.take by) = take_gains by (call_of h by)
   request_gains (Request.terminate by) = record { near = covers_joined h.near _; far = covers_joined h.far _ }
   request_gains (Request.define name list) = record { near = covers_joined h.near _; far = covers_joined h.far _ }

@@ -1,5 +1,5 @@
 -- What a node's content keeps is kept by each act.
-use Rattle.std.proofs.Common.{◌≡◌, ℕ, suc, Bool, true, false, cond, ◌&&◌, ◌||◌, not, List, [], ◌∷◌, map, Option, Some, None, is_some, inl, inr, refl, sym, ap, subst, ◌∙◌}
+use Rattle.std.proofs.Common.{◌≡◌, ℕ, suc, Bool, true, false, cond, ◌&&◌, ◌||◌, not, List, [], ◌∷◌, map, Option, Some, None, is_some, inl, inr, refl, sym, ap, subst, ◌∙◌, ◌≤◌, arith}
 use Rattle.std.specs.Prelude.{if◌then◌else◌, nat_lt, ◌==◌}
 use Rattle.std.specs.FinMap as finite
 use Rattle.std.specs.FinSet as set
@@ -27,6 +27,7 @@ use Rattle.pmg_commit.specs.Data.{read_at}
 use Rattle.pmg_commit.specs.Sealed.{fresh, sealed_with, ended_with}
 use Rattle.pmg_pset.specs.Sets.{host, changed}
 use Rattle.pmg_frame.specs.Fences.{participants_of}
+use Rattle.pmg_frame.specs.Refreshing.{told_by}
 use Rattle.pmg_frame.specs.declared.frame.Frame.{Frame}
 use Rattle.pmg_frame.specs.declared.frame.Frame.TheVariants as frames
 use Rattle.pmg_fence.specs.Changes.{next_name, fence_entered, fence_told, ended_by, entered_by}
@@ -44,11 +45,11 @@ use Rattle.pmg_jobinfo.specs.Jobs.{Jobs, is_member, home_of}
 use Rattle.pmg_jobinfo.specs.Refusing.{expand_cause}
 use Rattle.pmg_jobinfo.specs.Reserved.{is_general, reserved_value}
 use Rattle.pmg_jobinfo.proofs.RuleLemmas.{each_is_member}
-use Rattle.pmg_rules.specs.Acts.{also, caller_cause, busy_cause, Request, Act, Reply, done_as, cause, request_cause, list_of, list_cause, signature_of, signature_cause, free_cause, target_cause, is_misnamed, is_peer, is_concerned, is_taken, serves, does, acts, leaves, takes, asks, enters_fence, receives, holds_unless}
-use Rattle.pmg_rules.specs.Holdings.{settled_by, sealer_in, Get, Standing, Holding, new_holding, sealer_of, call_of, answer_in, seen_of, with_table, uncalled, settled, sealing}
+use Rattle.pmg_rules.specs.Acts.{also, caller_cause, busy_cause, Request, Act, Reply, done_as, cause, request_cause, list_of, list_cause, signature_of, signature_cause, free_cause, target_cause, number_cause, is_misnamed, is_peer, is_concerned, is_taken, serves, does, acts, leaves, takes, waits_as, requests_after, asks, enters_fence, receives, holds_unless}
+use Rattle.pmg_rules.specs.Holdings.{settled_by, sealer_in, Get, Standing, Holding, new_holding, sealer_of, call_of, answer_in, seen_of, with_far, with_table, with_requests, uncalled, joined, settled, sealing}
 use Rattle.pmg_rules.specs.Kept.{IsOwn, IsSettled, Holds, IsServer, ServerStays, NewIsServer}
 use Rattle.pmg_rules.proofs.KeptBasics.{host_is, IsFree, act_cases, bad, unknown, foreign, outside, caller_is, is_member_by}
-use Rattle.pmg_rules.proofs.KeptChanges.{settled_some, settle_fence, settle_parked, settled_holds, called_holds, uncalled_holds, far_holds, table_holds, sealing_holds, asked_holds, placed_holds}
+use Rattle.pmg_rules.proofs.KeptChanges.{settled_some, settle_fence, settle_parked, settled_holds, called_holds, uncalled_holds, requests_holds, reply_holds, far_holds, table_holds, sealing_holds, asked_holds, placed_holds}
 use Rattle.pmg_rules.proofs.Lasting.{act_counts, released_lasts, new_counts}
 use Rattle.pmg_rules.proofs.Reading.{answered_have}
 
@@ -133,6 +134,27 @@ target_member jobs p get key bad_target strange =
     ∙ (or_parts (is_reserved get.target.nspace) _ bad_target).1)).1
     strange
 
+-- how a get waits, by its mode
+more_requests : (n : ℕ) (mode : Mode) → n ≤ requests_after n mode
+more_requests n modes.Wait = omega arith
+more_requests n modes.Now = omega arith
+more_requests n modes.Refresh = omega arith
+
+waits_parked : (n : ℕ) (get : Get) (mode : Mode) (other : Get) → waits_as n get mode ≡ Standing.parked other → get ≡ other
+waits_parked n get modes.Wait other is = cc
+waits_parked n get modes.Now other is = cc
+waits_parked n get modes.Refresh other is = absurd cc
+
+waits_anew : (n : ℕ) (get : Get) (mode : Mode) (other : Get) (number : ℕ) → waits_as n get mode ≡ Standing.refreshing other number → (get ≡ other) × (number ≤ requests_after n mode)
+waits_anew n get modes.Wait other number is = absurd cc
+waits_anew n get modes.Now other number is = absurd cc
+waits_anew n get modes.Refresh other number is = let same : suc n ≡ number = cc in (cc, omega (arith, same))
+
+waits_no_fence : (n : ℕ) (get : Get) (mode : Mode) (f : FenceName) → waits_as n get mode ≡ Standing.in_fence f → ⊥
+waits_no_fence n get modes.Wait f is = cc
+waits_no_fence n get modes.Now f is = cc
+waits_no_fence n get modes.Refresh f is = cc
+
 -- ---- requests
 
 module _ (jobs : Jobs) (id : ℕ) (h : Holding) (holds : Holds jobs id h) where
@@ -142,7 +164,7 @@ module _ (jobs : Jobs) (id : ℕ) (h : Holding) (holds : Holds jobs id h) where
       let fence = fence_entered (fence_at h.table f) p (sealer_of h p).level in
       let counts = finite.insert (series_at h.table g).counts p (suc (count_of h.table g p)) in
       called_holds jobs id (with_table h (entered_by h.table g p (sealer_of h p).level)) (placed_holds jobs id h holds f fence counts (entry_concerned jobs id p f entry)) p (Standing.in_fence f) entry.own
-      (λ get is. absurd (not_get f get is))
+      (λ get is. absurd (not_get f get is)) (λ get number is. absurd (not_anew f get number is))
       (λ x is. let same = one_name f x is in (
         ap (has_name (entered_by h.table g p (sealer_of h p).level)) (sym same) ∙ name_there h.table f fence counts,
         ap (λ (y : FenceName). set.contains y.signature.participants p) (sym same) ∙ entry.part,
@@ -150,6 +172,9 @@ module _ (jobs : Jobs) (id : ℕ) (h : Holding) (holds : Holds jobs id h) where
     where
       not_get : (f : FenceName) (get : Get) → Standing.in_fence f ≡ Standing.parked get → ⊥
       not_get f get is = cc
+
+      not_anew : (f : FenceName) (get : Get) (number : ℕ) → Standing.in_fence f ≡ Standing.refreshing get number → ⊥
+      not_anew f get number is = cc
 
       one_name : (f x : FenceName) → Standing.in_fence f ≡ Standing.in_fence x → f ≡ x
       one_name f x is = cc
@@ -160,6 +185,8 @@ module _ (jobs : Jobs) (id : ℕ) (h : Holding) (holds : Holds jobs id h) where
   leave_holds p (Some (Standing.released f gone)) = uncalled_holds jobs id h holds p
   leave_holds p (Some (Standing.parked get)) = holds
   leave_holds p (Some (Standing.answered get outcome)) = holds
+  leave_holds p (Some (Standing.refreshing get number)) = holds
+  leave_holds p (Some (Standing.refreshed get outcome)) = holds
 
   take_holds : (p : Proc) (s : Option Standing) → Holds jobs id (takes h p s).left
   take_holds p None = holds
@@ -167,19 +194,19 @@ module _ (jobs : Jobs) (id : ℕ) (h : Holding) (holds : Holds jobs id h) where
   take_holds p (Some (Standing.released f gone)) = holds
   take_holds p (Some (Standing.parked get)) = holds
   take_holds p (Some (Standing.answered get outcome)) = uncalled_holds jobs id h holds p
+  take_holds p (Some (Standing.refreshing get number)) = holds
+  take_holds p (Some (Standing.refreshed get outcome)) = uncalled_holds jobs id h holds p
 
-  ask_holds : (p : Proc) (get : Get) (o : Outcome) → IsOwn jobs id p → (o ≡ Outcome.parks → is_member jobs get.target ≡ true) → Holds jobs id (asks h p get o).left
-  ask_holds p get Outcome.parks own target =
-      called_holds jobs id h holds p (Standing.parked get) own (λ other is. ap (λ (x : Get). is_member jobs x.target) (sym (one_get get other is)) ∙ target refl) (λ f is. absurd (not_fence get f is))
-    where
-      one_get : (get other : Get) → Standing.parked get ≡ Standing.parked other → get ≡ other
-      one_get get other is = cc
-
-      not_fence : (get : Get) (f : FenceName) → Standing.parked get ≡ Standing.in_fence f → ⊥
-      not_fence get f is = cc
-  ask_holds p get (Outcome.found value) own target = holds
-  ask_holds p get Outcome.absent own target = holds
-  ask_holds p get Outcome.outside own target = holds
+  ask_holds : (p : Proc) (get : Get) (mode : Mode) (o : Outcome) → IsOwn jobs id p → (o ≡ Outcome.parks → is_member jobs get.target ≡ true) → Holds jobs id (asks h p get mode o).left
+  ask_holds p get mode Outcome.parks own target =
+      called_holds jobs id (with_requests h (requests_after h.requests mode)) (requests_holds jobs id h holds (requests_after h.requests mode) (more_requests h.requests mode))
+      p (waits_as h.requests get mode) own
+      (λ other is. ap (λ (x : Get). is_member jobs x.target) (sym (waits_parked h.requests get mode other is)) ∙ target refl)
+      (λ other number is. (ap (λ (x : Get). is_member jobs x.target) (sym (waits_anew h.requests get mode other number is).0) ∙ target refl, (waits_anew h.requests get mode other number is).1))
+      (λ f is. absurd (waits_no_fence h.requests get mode f is))
+  ask_holds p get mode (Outcome.found value) own target = holds
+  ask_holds p get mode Outcome.absent own target = holds
+  ask_holds p get mode Outcome.outside own target = holds
 
   end_holds : (p : Proc) → Holds jobs id (uncalled (with_table (sealing h p (ended_with (sealer_of h p))) (ended_by h.table p (ended_with (sealer_of h p)).level)) p)
   unfolding has_name series_at
@@ -197,10 +224,10 @@ module _ (jobs : Jobs) (id : ℕ) (h : Holding) (holds : Holds jobs id h) where
   serve_holds (Request.enter p list collect) free = enter_holds p (signature_of jobs p list collect) (entry_is jobs id h p list collect free)
   serve_holds (Request.leave p) free = leave_holds p (call_of h p)
   serve_holds (Request.ask p get mode) free =
-      ask_holds p get (answer_in jobs id h get mode) (own_by jobs id h p (target_cause jobs p get) free)
+      ask_holds p get mode (answer_in jobs id h get mode) (own_by jobs id h p (also (target_cause jobs p get) (number_cause jobs id h get mode)) free)
       (λ parks. target_member jobs p get (parked_key jobs id h get mode parks)
-      (or_parts (free_cause jobs id h p refusals.BadParam) _ (free refusals.BadParam bad)).1
-      (or_parts (free_cause jobs id h p refusals.UnknownNamespace) _ (free refusals.UnknownNamespace unknown)).1)
+      (or_parts (target_cause jobs p get refusals.BadParam) _ (or_parts (free_cause jobs id h p refusals.BadParam) _ (free refusals.BadParam bad)).1).0
+      (or_parts (target_cause jobs p get refusals.UnknownNamespace) _ (or_parts (free_cause jobs id h p refusals.UnknownNamespace) _ (free refusals.UnknownNamespace unknown)).1).0)
   serve_holds (Request.take p) free = take_holds p (call_of h p)
   serve_holds (Request.terminate p) free = end_holds p
   serve_holds (Request.define name list) free = change_holds _ _
@@ -213,7 +240,7 @@ module _ (jobs : Jobs) (id : ℕ) (h : Holding) (holds : Holds jobs id h) where
   unless_holds true node p level e home peer = holds
   unless_holds false node p level e home peer = asked_holds jobs id h holds node p level home peer (ltb-false level (sealer_of h p).level e)
 
-  pub receive_holds : (frame : Frame) → is_taken jobs id frame ≡ true → Holds jobs id (receives h frame)
+  pub receive_holds : (frame : Frame) → is_taken jobs id frame ≡ true → Holds jobs id (receives jobs id h frame)
   unfolding receives is_taken
   receive_holds (frames.Piece c) taken = far_holds jobs id h holds _
   receive_holds (frames.Header hd) taken = placed_holds jobs id h holds hd.name (fence_told (fence_at h.table hd.name) hd.node hd.locals) (series_at h.table hd.name.signature).counts (and_parts _ _ (and_parts _ _ taken).0).1
@@ -222,9 +249,11 @@ module _ (jobs : Jobs) (id : ℕ) (h : Holding) (holds : Holds jobs id h) where
   receive_holds (frames.DirectAsk a) taken =
       unless_holds (nat_lt a.level (sealer_of h a.proc).level) a.node a.proc a.level refl (eqb-true (home_of jobs a.proc) id (and_parts _ _ taken).1) (and_parts _ _ (and_parts _ _ taken).0).0
   receive_holds (frames.RefreshAsk a) taken = holds
-  receive_holds (frames.RefreshReply r) taken = holds
+  receive_holds (frames.RefreshReply r) taken =
+      let told = joined h.far (told_by r) in
+      reply_holds jobs id (with_far h told) (far_holds jobs id h holds told) r.request r.told.proc
 
-  deliver_by : (frame : Frame) (b : Bool) → is_taken jobs id frame ≡ b → Holds jobs id (if b then done_as Reply.taken (receives h frame) else done_as Reply.ignored h).left
+  deliver_by : (frame : Frame) (b : Bool) → is_taken jobs id frame ≡ b → Holds jobs id (if b then done_as Reply.taken (receives jobs id h frame) else done_as Reply.ignored h).left
   deliver_by frame true taken = receive_holds frame taken
   deliver_by frame false ignored = holds
 
@@ -304,6 +333,7 @@ new_is_server jobs id = record {
     sealers = λ p. fresh_by jobs id p (is_host p) refl;
     callers = λ p s e. absurd (no_call jobs id p s e);
     targets = λ p get e. absurd (no_call jobs id p (Standing.parked get) e);
+    anew = λ p get number e. absurd (no_call jobs id p (Standing.refreshing get number) e);
     homes = λ p node level e. absurd (no_held jobs id p node level e);
     askers = λ p node level e. absurd (no_held jobs id p node level e);
     levels = λ p node level e. absurd (no_held jobs id p node level e);

@@ -84,6 +84,8 @@ settled_on jobs id q h g is differs = settled_where jobs id g (is_about q) stays
         ap (settled_by get)
         (answer_alike jobs id h g get (differs.near get.target apart) (differs.far get.target apart) ∙ is.gets p get (differs.calls p (Standing.parked get) e apart))
     stays p (Standing.answered get outcome) e apart = refl
+    stays p (Standing.refreshing get number) e apart = refl
+    stays p (Standing.refreshed get outcome) e apart = refl
 
 pub settled_names : SettledNames
 settled_names jobs id f h g is differs = settled_where jobs id g (is_in f) stays
@@ -97,6 +99,8 @@ settled_names jobs id f h g is differs = settled_where jobs id g (is_in f) stays
         ap (settled_by get)
         (answer_alike jobs id h g get (ap (λ d. known d get.target) differs.near) (ap (λ d. known d get.target) differs.far) ∙ is.gets p get (differs.calls p (Standing.parked get) e apart))
     stays p (Standing.answered get outcome) e apart = refl
+    stays p (Standing.refreshing get number) e apart = refl
+    stays p (Standing.refreshed get outcome) e apart = refl
 
 -- ---- what each change leaves
 

@@ -1,5 +1,5 @@
 -- What each change of a content keeps.
-use Rattle.std.proofs.Common.{◌≡◌, ℕ, ◌≤◌, Bool, true, false, cond, List, Option, Some, None, is_some, inl, inr, ◌⊎◌, refl, sym, ap, subst, ◌∙◌}
+use Rattle.std.proofs.Common.{◌≡◌, ℕ, ◌≤◌, Bool, true, false, cond, List, Option, Some, None, is_some, inl, inr, ◌⊎◌, refl, sym, ap, subst, ◌∙◌, arith}
 use Rattle.std.specs.Prelude.{if◌then◌else◌, nat_le, filter}
 use Rattle.std.specs.FinMap as finite
 use Rattle.std.specs.FinMap.{nat_cmp-IsAntisymmetric}
@@ -26,9 +26,10 @@ use Rattle.pmg_fence.proofs.TableLemmas.{same_name, name_exact, name-placed}
 use Rattle.pmg_dmodex.specs.Levels.{Levels, NodeLevels, levels_of, level_at as held_at, with_level, without_below, not_below}
 use Rattle.pmg_dmodex.specs.Requests.{least}
 use Rattle.pmg_get.specs.Gets.{Outcome}
+use Rattle.pmg_get.specs.declared.view.Mode.TheVariants as modes
 use Rattle.pmg_jobinfo.specs.Jobs.{Jobs, is_member, home_of}
 use Rattle.pmg_rules.specs.Acts.{is_peer, is_concerned}
-use Rattle.pmg_rules.specs.Holdings.{Get, Standing, Holding, sealer_in, sealer_of, call_of, is_ready_at, with_far, with_table, called, uncalled, sealing, holding_ask, settled_by, released_by, settle, settled}
+use Rattle.pmg_rules.specs.Holdings.{Get, Standing, Holding, sealer_in, sealer_of, call_of, is_ready_at, with_far, with_table, with_requests, called, uncalled, sealing, holding_ask, settled_by, released_by, answer_in, settle, settled, is_replied, answer_reply, with_reply}
 use Rattle.pmg_rules.specs.Kept.{IsOwn, Holds}
 use Rattle.pmg_rules.proofs.KeptBasics.{lookup_row, put_cases, removed_some, put_other, get-mapped, mapped_some, host_is}
 
@@ -67,6 +68,8 @@ settle_fence jobs id h (Standing.in_fence g) f e = let still = still_fence _ g f
 settle_fence jobs id h (Standing.released g gone) f e = absurd cc
 settle_fence jobs id h (Standing.parked get) f e = absurd (not_fence get _ f e)
 settle_fence jobs id h (Standing.answered get outcome) f e = absurd cc
+settle_fence jobs id h (Standing.refreshing get number) f e = absurd cc
+settle_fence jobs id h (Standing.refreshed get outcome) f e = absurd cc
 
 -- and a get that waits then waited before, and parks
 pub settle_parked : (jobs : Jobs) (id : ℕ) (h : Holding) (t : Standing) (get : Get) → settle jobs id h t ≡ Standing.parked get
@@ -77,6 +80,67 @@ settle_parked jobs id h (Standing.parked other) get e =
     let same : other ≡ get = (still_parked other get _ e).0 in
     (ap Standing.parked same, ap (λ g. settle jobs id h (Standing.parked g)) (sym same) ∙ e)
 settle_parked jobs id h (Standing.answered other outcome) get e = absurd cc
+settle_parked jobs id h (Standing.refreshing other number) get e = absurd cc
+settle_parked jobs id h (Standing.refreshed other outcome) get e = absurd cc
+
+released_refreshing : (b : Bool) (g : FenceName) (gone : List Proc) (get : Get) (number : ℕ) → released_by b g gone ≡ Standing.refreshing get number → ⊥
+released_refreshing true g gone get number e = cc
+released_refreshing false g gone get number e = cc
+
+settled_refreshing : (other get : Get) (number : ℕ) (o : Outcome) → settled_by other o ≡ Standing.refreshing get number → ⊥
+settled_refreshing other get number Outcome.parks e = cc
+settled_refreshing other get number (Outcome.found value) e = cc
+settled_refreshing other get number Outcome.absent e = cc
+settled_refreshing other get number Outcome.outside e = cc
+
+-- and a get that waits for a reply waited for it before
+pub settle_refreshing : (jobs : Jobs) (id : ℕ) (h : Holding) (t : Standing) (get : Get) (number : ℕ) → settle jobs id h t ≡ Standing.refreshing get number
+    → t ≡ Standing.refreshing get number
+settle_refreshing jobs id h (Standing.in_fence g) get number e = absurd (released_refreshing _ g _ get number e)
+settle_refreshing jobs id h (Standing.released g gone) get number e = absurd cc
+settle_refreshing jobs id h (Standing.parked other) get number e = absurd (settled_refreshing other get number _ e)
+settle_refreshing jobs id h (Standing.answered other outcome) get number e = absurd cc
+settle_refreshing jobs id h (Standing.refreshing other k) get number e = e
+settle_refreshing jobs id h (Standing.refreshed other outcome) get number e = absurd cc
+
+-- ---- what is answered by a reply
+
+module _ (jobs : Jobs) (id : ℕ) (h : Holding) (number : ℕ) (q : Proc) where
+  pub replied_some : (p : Proc) (s : Standing) → call_of (with_reply jobs id h number q) p ≡ Some s
+      → (t : Standing) × (call_of h p ≡ Some t) × (answer_reply jobs id h number q t ≡ s)
+  replied_some p s e = mapped_some (answer_reply jobs id h number q) (call_of h p) s (sym (get-mapped (answer_reply jobs id h number q) h.calls p) ∙ e)
+
+  -- a call is as it was, or is a get that is answered
+  pub reply_changes : (t s : Standing) → answer_reply jobs id h number q t ≡ s → (t ≡ s) ⊎ ((get : Get) × (outcome : Outcome) × (s ≡ Standing.refreshed get outcome))
+  reply_changes (Standing.in_fence f) s e = inl e
+  reply_changes (Standing.released f gone) s e = inl e
+  reply_changes (Standing.parked get) s e = inl e
+  reply_changes (Standing.answered get outcome) s e = inl e
+  reply_changes (Standing.refreshed get outcome) s e = inl e
+  reply_changes (Standing.refreshing get k) s e = by_test (is_replied number q get k) e
+    where
+      by_test : (b : Bool) → (if b then Standing.refreshed get (answer_in jobs id h get modes.Now) else Standing.refreshing get k) ≡ s
+          → (Standing.refreshing get k ≡ s) ⊎ ((x : Get) × (outcome : Outcome) × (s ≡ Standing.refreshed x outcome))
+      by_test true is = inr (get, answer_in jobs id h get modes.Now, sym is)
+      by_test false is = inl is
+
+  pub reply_parked : (t : Standing) (get : Get) → answer_reply jobs id h number q t ≡ Standing.parked get → t ≡ Standing.parked get
+  reply_parked t get e = elim (reply_changes t (Standing.parked get) e) [ inl same ↦ same | inr other ↦ absurd (apart other.2) ]
+    where
+      apart : {x : Get} {o : Outcome} → Standing.parked get ≡ Standing.refreshed x o → ⊥
+      apart is = cc
+
+  pub reply_refreshing : (t : Standing) (get : Get) (k : ℕ) → answer_reply jobs id h number q t ≡ Standing.refreshing get k → t ≡ Standing.refreshing get k
+  reply_refreshing t get k e = elim (reply_changes t (Standing.refreshing get k) e) [ inl same ↦ same | inr other ↦ absurd (apart other.2) ]
+    where
+      apart : {x : Get} {o : Outcome} → Standing.refreshing get k ≡ Standing.refreshed x o → ⊥
+      apart is = cc
+
+  pub reply_in_fence : (t : Standing) (f : FenceName) → answer_reply jobs id h number q t ≡ Standing.in_fence f → t ≡ Standing.in_fence f
+  reply_in_fence t f e = elim (reply_changes t (Standing.in_fence f) e) [ inl same ↦ same | inr other ↦ absurd (apart other.2) ]
+    where
+      apart : {x : Get} {o : Outcome} → Standing.in_fence f ≡ Standing.refreshed x o → ⊥
+      apart is = cc
 
 -- ---- what own processes sealed
 
@@ -176,6 +240,8 @@ module _ (jobs : Jobs) (id : ℕ) (h : Holding) (holds : Holds jobs id h) where
     sealers = holds.sealers;
     callers = λ p s e. let was = settled_some jobs id h p s e in holds.callers p was.0 was.1;
     targets = λ p get e. let was = settled_some jobs id h p (Standing.parked get) e in holds.targets p get (was.1 ∙ ap Some (settle_parked jobs id h was.0 get was.2).0);
+    anew = λ p get number e.
+        let was = settled_some jobs id h p (Standing.refreshing get number) e in holds.anew p get number (was.1 ∙ ap Some (settle_refreshing jobs id h was.0 get number was.2));
     homes = holds.homes;
     askers = holds.askers;
     levels = holds.levels;
@@ -186,11 +252,13 @@ module _ (jobs : Jobs) (id : ℕ) (h : Holding) (holds : Holds jobs id h) where
 
   -- a process comes to be in a call
   pub called_holds : (p : Proc) (s : Standing) → IsOwn jobs id p → ((get : Get) → s ≡ Standing.parked get → is_member jobs get.target ≡ true)
+      → ((get : Get) (number : ℕ) → s ≡ Standing.refreshing get number → (is_member jobs get.target ≡ true) × (number ≤ h.requests))
       → ((f : FenceName) → s ≡ Standing.in_fence f → (has_name h.table f ≡ true) × (set.contains f.signature.participants p ≡ true)) → Holds jobs id (called h p s)
-  called_holds p s own target fence = record {
+  called_holds p s own target anew fence = record {
     sealers = holds.sealers;
     callers = λ q t e. put_cases h.calls p q s t e (λ same is. subst (IsOwn jobs id) (sym same) own) (holds.callers q t);
     targets = λ q get e. put_cases h.calls p q s (Standing.parked get) e (λ same is. target get is) (holds.targets q get);
+    anew = λ q get number e. put_cases h.calls p q s (Standing.refreshing get number) e (λ same is. anew get number is) (holds.anew q get number);
     homes = holds.homes;
     askers = holds.askers;
     levels = holds.levels;
@@ -205,6 +273,7 @@ module _ (jobs : Jobs) (id : ℕ) (h : Holding) (holds : Holds jobs id h) where
     sealers = holds.sealers;
     callers = λ q s e. holds.callers q s (removed_some h.calls p q s e);
     targets = λ q get e. holds.targets q get (removed_some h.calls p q (Standing.parked get) e);
+    anew = λ q get number e. holds.anew q get number (removed_some h.calls p q (Standing.refreshing get number) e);
     homes = holds.homes;
     askers = holds.askers;
     levels = holds.levels;
@@ -213,12 +282,51 @@ module _ (jobs : Jobs) (id : ℕ) (h : Holding) (holds : Holds jobs id h) where
     parts = λ q f e. holds.parts q f (removed_some h.calls p q (Standing.in_fence f) e);
   }
 
+  -- there were more requests
+  pub requests_holds : (n : ℕ) → h.requests ≤ n → Holds jobs id (with_requests h n)
+  requests_holds n more = record {
+    sealers = holds.sealers;
+    callers = holds.callers;
+    targets = holds.targets;
+    anew = λ p get number e. let was = holds.anew p get number e in (was.0, omega (arith, was.1, more));
+    homes = holds.homes;
+    askers = holds.askers;
+    levels = holds.levels;
+    names = holds.names;
+    there = holds.there;
+    parts = holds.parts;
+  }
+
+  -- a get that waits for the reply is answered
+  pub reply_holds : (number : ℕ) (q : Proc) → Holds jobs id (with_reply jobs id h number q)
+  reply_holds number q = record {
+    sealers = holds.sealers;
+    callers = λ p s e. let was = replied_some jobs id h number q p s e in holds.callers p was.0 was.1;
+    targets = λ p get e.
+        let was = replied_some jobs id h number q p (Standing.parked get) e in
+        holds.targets p get (was.1 ∙ ap Some (reply_parked jobs id h number q was.0 get was.2));
+    anew = λ p get k e.
+        let was = replied_some jobs id h number q p (Standing.refreshing get k) e in
+        holds.anew p get k (was.1 ∙ ap Some (reply_refreshing jobs id h number q was.0 get k was.2));
+    homes = holds.homes;
+    askers = holds.askers;
+    levels = holds.levels;
+    names = holds.names;
+    there = λ p f e.
+        let was = replied_some jobs id h number q p (Standing.in_fence f) e in
+        holds.there p f (was.1 ∙ ap Some (reply_in_fence jobs id h number q was.0 f was.2));
+    parts = λ p f e.
+        let was = replied_some jobs id h number q p (Standing.in_fence f) e in
+        holds.parts p f (was.1 ∙ ap Some (reply_in_fence jobs id h number q was.0 f was.2));
+  }
+
   -- more is known
   pub far_holds : (far : Data) → Holds jobs id (with_far h far)
   far_holds far = record {
     sealers = holds.sealers;
     callers = holds.callers;
     targets = holds.targets;
+    anew = holds.anew;
     homes = holds.homes;
     askers = holds.askers;
     levels = holds.levels;
@@ -234,6 +342,7 @@ module _ (jobs : Jobs) (id : ℕ) (h : Holding) (holds : Holds jobs id h) where
     sealers = holds.sealers;
     callers = holds.callers;
     targets = holds.targets;
+    anew = holds.anew;
     homes = holds.homes;
     askers = holds.askers;
     levels = holds.levels;
@@ -250,6 +359,7 @@ module _ (jobs : Jobs) (id : ℕ) (h : Holding) (holds : Holds jobs id h) where
         (λ other. ap (λ (y : Sealed). y.proc) (sealer_other h p z q other) ∙ holds.sealers q);
     callers = holds.callers;
     targets = holds.targets;
+    anew = holds.anew;
     homes = λ q node n e. holds.homes q node n (without_some h.held p z.level q node n e).0;
     askers = λ q node n e. holds.askers q node n (without_some h.held p z.level q node n e).0;
     levels = λ q node n e.
@@ -270,6 +380,7 @@ module _ (jobs : Jobs) (id : ℕ) (h : Holding) (holds : Holds jobs id h) where
         sealers = holds.sealers;
         callers = holds.callers;
         targets = holds.targets;
+        anew = holds.anew;
         homes = λ q other n e. with_level_some h.held p node l q other n e (λ same at is. ap (home_of jobs) same ∙ home) (holds.homes q other n);
         askers = λ q other n e. with_level_some h.held p node l q other n e (λ same at is. ap (is_peer jobs id) at ∙ peer) (holds.askers q other n);
         levels = λ q other n e. with_level_some h.held p node l q other n e

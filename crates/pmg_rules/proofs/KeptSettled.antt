@@ -1,5 +1,6 @@
 -- Calls that are settled already, and those that have to be looked at again.
-use Rattle.std.proofs.Common.{List, ◌≡◌, ℕ, Option, Some, None, refl, sym, ap, ◌∙◌}
+use Rattle.std.proofs.Common.{List, ◌≡◌, ◌⊎◌, ◌==◌, ℕ, Bool, true, false, Option, Some, None, is_some, inl, inr, refl, sym, ap, ◌∙◌}
+use Rattle.std.specs.Prelude.{if◌then◌else◌}
 use Rattle.std.specs.FinMap as finite
 use Rattle.std.specs.Option.{option_map}
 use Rattle.pmg_value.specs.Process.{proc_cmp}
@@ -11,7 +12,11 @@ use Rattle.pmg_commit.specs.Data.{read_at}
 use Rattle.pmg_get.specs.Gets.{Seen, Outcome, resolve, found_or}
 use Rattle.pmg_get.specs.declared.view.Mode.{Mode}
 use Rattle.pmg_get.specs.declared.view.Mode.TheVariants as modes
-use Rattle.pmg_jobinfo.specs.Jobs.{Jobs}
+use Rattle.pmg_jobinfo.specs.Jobs.{Jobs, home_of}
+use Rattle.pmg_jobinfo.specs.Reserved.{reserved_value}
+use Rattle.pmg_scope.specs.Scripts.{term_key}
+use Rattle.pmg_value.specs.Names.{is_reserved}
+use Rattle.pmg_value.specs.Spelling.{spelling}
 use Rattle.pmg_rules.specs.Holdings.{Get, answer_in, seen_of, called, uncalled, holding_ask, Standing, Holding, call_of, mapped, released_by, settled_by, settle, settled, with_calls}
 use Rattle.pmg_rules.specs.Kept.{IsSettled, SettledSame}
 use Rattle.pmg_rules.proofs.KeptBasics.{get-mapped, put_cases, removed_some}
@@ -38,6 +43,8 @@ settle_same jobs id h settled p (Standing.in_fence f) e = ap (λ b. released_by 
 settle_same jobs id h settled p (Standing.released f gone) e = refl
 settle_same jobs id h settled p (Standing.parked get) e = ap (settled_by get) (settled.gets p get e)
 settle_same jobs id h settled p (Standing.answered get outcome) e = refl
+settle_same jobs id h settled p (Standing.refreshing get number) e = refl
+settle_same jobs id h settled p (Standing.refreshed get outcome) e = refl
 
 pub settled_same : SettledSame
 settled_same jobs id h is = ap (with_calls h) (mapped_same h.calls (settle jobs id h) (settle_same jobs id h is))
@@ -78,16 +85,41 @@ found_parks (Some value) other e = absurd cc
 not_absent : Outcome.absent ≡ Outcome.parks → ⊥
 not_absent it = cc
 
-pub resolve_parks : (seen : Seen) (mode : Mode) → resolve seen mode ≡ Outcome.parks → mode ≡ modes.Wait
+pub resolve_parks : (seen : Seen) (mode : Mode) → resolve seen mode ≡ Outcome.parks → (mode ≡ modes.Wait) ⊎ (mode ≡ modes.Refresh)
 unfolding resolve
 resolve_parks (Seen.reserved value) mode e = absurd (not_absent (found_parks value Outcome.absent e))
 resolve_parks (Seen.own value) mode e = absurd (not_absent (found_parks value Outcome.absent e))
 resolve_parks (Seen.local (Some value) other ended) mode e = absurd cc
 resolve_parks (Seen.local None (Some value) ended) mode e = absurd cc
-resolve_parks (Seen.local None None ended) modes.Wait e = refl
+resolve_parks (Seen.local None None ended) modes.Wait e = inl refl
 resolve_parks (Seen.local None None ended) modes.Now e = absurd cc
-resolve_parks (Seen.remote value ended) modes.Wait e = refl
+resolve_parks (Seen.local None None ended) modes.Refresh e = inr refl
+resolve_parks (Seen.remote value ended) modes.Wait e = inl refl
 resolve_parks (Seen.remote value ended) modes.Now e = absurd (not_absent (found_parks value Outcome.absent e))
+resolve_parks (Seen.remote value ended) modes.Refresh e = inr refl
 
-pub parks_waiting : (jobs : Jobs) (id : ℕ) (h : Holding) (get : Get) (mode : Mode) → answer_in jobs id h get mode ≡ Outcome.parks → answer_in jobs id h get modes.Wait ≡ Outcome.parks
-parks_waiting jobs id h get mode e = ap (answer_in jobs id h get) (sym (resolve_parks (seen_of jobs id (read_at h.near get.target) (read_at h.far get.target) get) mode e)) ∙ e
+-- and where it does not ask anew, it waits until there is something to answer
+pub parks_waiting : (jobs : Jobs) (id : ℕ) (h : Holding) (get : Get) (mode : Mode) → answer_in jobs id h get mode ≡ Outcome.parks → (mode ≡ modes.Refresh → ⊥)
+    → answer_in jobs id h get modes.Wait ≡ Outcome.parks
+parks_waiting jobs id h get mode e other = elim (resolve_parks (seen_of jobs id (read_at h.near get.target) (read_at h.far get.target) get) mode e) [
+  | inl is ↦ ap (answer_in jobs id h get) (sym is) ∙ e
+  | inr is ↦ absurd (other is)
+]
+
+-- a get that asks anew and has to wait is of a key that is not reserved, of a process of another node
+pub anew_by : (reserved own : Bool) (value : Option (List ℕ)) (near far : Option (List ℕ)) (ended gone : Bool)
+    → resolve (if reserved then Seen.reserved value else (if own then Seen.local near far ended else Seen.remote far gone)) modes.Refresh ≡ Outcome.parks
+    → (reserved ≡ false) × (own ≡ false)
+unfolding resolve
+anew_by true own value near far ended gone e = absurd (not_absent (found_parks value Outcome.absent e))
+anew_by false true value (Some x) far ended gone e = absurd cc
+anew_by false true value None (Some x) ended gone e = absurd cc
+anew_by false true value None None ended gone e = absurd (not_absent e)
+anew_by false false value near far ended gone e = (refl, refl)
+
+pub parks_anew : (jobs : Jobs) (id : ℕ) (h : Holding) (get : Get) → answer_in jobs id h get modes.Refresh ≡ Outcome.parks
+    → (is_reserved get.key ≡ false) × ((home_of jobs get.target == id) ≡ false)
+unfolding seen_of
+parks_anew jobs id h get e =
+    anew_by (is_reserved get.key) (home_of jobs get.target == id) (option_map spelling (reserved_value jobs id get.target get.key)) (read_at h.near get.target get.key)
+    (read_at h.far get.target get.key) (is_some (read_at h.near get.target term_key)) (is_some (read_at h.far get.target term_key)) e

@@ -26,6 +26,7 @@ use Rattle.pmg_fence.proofs.StepLemmas.{count_is, new_fence}
 use Rattle.pmg_fence.proofs.TableLemmas.{same_instance, signature_exact, fence-placed, count-placed, ends-placed}
 use Rattle.pmg_fence.proofs.Trees.{get_put}
 use Rattle.pmg_get.specs.Gets.{Outcome}
+use Rattle.pmg_get.specs.declared.view.Mode.{Mode}
 use Rattle.pmg_rules.specs.Acts.{Request, Act, Reply, also, list_cause, signature_cause, free_cause, request_cause, cause, list_of, signature_of, is_taken, done_as, leaves, takes, asks, enters_fence, holds_unless, receives, serves, does, acts}
 use Rattle.pmg_rules.specs.Holdings.{Get, Standing, Holding, new_holding, sealer_in, sealer_of, call_of, answer_in, with_table, uncalled, sealing}
 use Rattle.pmg_rules.specs.Kept.{IsCounted, ReleasedRight}
@@ -55,6 +56,8 @@ module _
   leave_keeps by (Some (Standing.released x gone)) = same_kept
   leave_keeps by (Some (Standing.parked get)) = same_kept
   leave_keeps by (Some (Standing.answered get outcome)) = same_kept
+  leave_keeps by (Some (Standing.refreshing get number)) = same_kept
+  leave_keeps by (Some (Standing.refreshed get outcome)) = same_kept
   leave_keeps by None = same_kept
 
   take_keeps : (by : Proc) (c : Option Standing) → KeepsIn (takes h by c).left.table
@@ -62,19 +65,21 @@ module _
   take_keeps by (Some (Standing.released x gone)) = same_kept
   take_keeps by (Some (Standing.parked get)) = same_kept
   take_keeps by (Some (Standing.answered get outcome)) = same_kept
+  take_keeps by (Some (Standing.refreshing get number)) = same_kept
+  take_keeps by (Some (Standing.refreshed get outcome)) = same_kept
   take_keeps by None = same_kept
 
-  ask_keeps : (by : Proc) (get : Get) (o : Outcome) → KeepsIn (asks h by get o).left.table
-  ask_keeps by get Outcome.parks = same_kept
-  ask_keeps by get (Outcome.found value) = same_kept
-  ask_keeps by get Outcome.absent = same_kept
-  ask_keeps by get Outcome.outside = same_kept
+  ask_keeps : (by : Proc) (get : Get) (mode : Mode) (o : Outcome) → KeepsIn (asks h by get mode o).left.table
+  ask_keeps by get mode Outcome.parks = same_kept
+  ask_keeps by get mode (Outcome.found value) = same_kept
+  ask_keeps by get mode Outcome.absent = same_kept
+  ask_keeps by get mode Outcome.outside = same_kept
 
   held_keeps : (b : Bool) (from : ℕ) (p : Proc) (level : ℕ) → KeepsIn (holds_unless b h from p level).table
   held_keeps true from p level = same_kept
   held_keeps false from p level = same_kept
 
-  frame_keeps : (frame : Frame) → KeepsIn (receives h frame).table
+  frame_keeps : (frame : Frame) → KeepsIn (receives jobs node h frame).table
   unfolding receives
   frame_keeps (frames.Piece c) = same_kept
   frame_keeps (frames.Header hd) = header_keeps jobs node h.table hd f
@@ -84,7 +89,7 @@ module _
   frame_keeps (frames.RefreshAsk a) = same_kept
   frame_keeps (frames.RefreshReply r) = same_kept
 
-  deliver_keeps : (frame : Frame) (b : Bool) → KeepsIn (cond b (done_as Reply.taken (receives h frame)) (done_as Reply.ignored h)).left.table
+  deliver_keeps : (frame : Frame) (b : Bool) → KeepsIn (cond b (done_as Reply.taken (receives jobs node h frame)) (done_as Reply.ignored h)).left.table
   deliver_keeps frame true = frame_keeps frame
   deliver_keeps frame false = same_kept
 
@@ -94,7 +99,7 @@ module _
       enters by (signature_of jobs by list collect)
       (free_is jobs node h by (neither_cause (free_cause jobs node h by) (also (list_cause jobs (list_of by list)) (signature_cause h (signature_of jobs by list collect) by)) none).0).0
   request_keeps (Request.leave by) none = leave_keeps by (call_of h by)
-  request_keeps (Request.ask by get mode) none = ask_keeps by get (answer_in jobs node h get mode)
+  request_keeps (Request.ask by get mode) none = ask_keeps by get mode (answer_in jobs node h get mode)
   request_keeps (Request.take by) none = take_keeps by (call_of h by)
   request_keeps (Request.terminate by) none = ends by (caller_is jobs node h by none)
   request_keeps (Request.define name list) none = same_kept
@@ -217,6 +222,8 @@ module _ (jobs : Jobs) (id : ℕ) (h : Holding) (counted : IsCounted h) where
   leave_counts by (Some (Standing.released x gone)) = record { entered = counted.entered; ended = counted.ended }
   leave_counts by (Some (Standing.parked get)) = counted
   leave_counts by (Some (Standing.answered get outcome)) = counted
+  leave_counts by (Some (Standing.refreshing get number)) = counted
+  leave_counts by (Some (Standing.refreshed get outcome)) = counted
   leave_counts by None = counted
 
   take_counts : (by : Proc) (c : Option Standing) → IsCounted (takes h by c).left
@@ -224,19 +231,21 @@ module _ (jobs : Jobs) (id : ℕ) (h : Holding) (counted : IsCounted h) where
   take_counts by (Some (Standing.released x gone)) = counted
   take_counts by (Some (Standing.parked get)) = counted
   take_counts by (Some (Standing.answered get outcome)) = record { entered = counted.entered; ended = counted.ended }
+  take_counts by (Some (Standing.refreshing get number)) = counted
+  take_counts by (Some (Standing.refreshed get outcome)) = record { entered = counted.entered; ended = counted.ended }
   take_counts by None = counted
 
-  ask_counts : (by : Proc) (get : Get) (o : Outcome) → IsCounted (asks h by get o).left
-  ask_counts by get Outcome.parks = record { entered = counted.entered; ended = counted.ended }
-  ask_counts by get (Outcome.found value) = counted
-  ask_counts by get Outcome.absent = counted
-  ask_counts by get Outcome.outside = counted
+  ask_counts : (by : Proc) (get : Get) (mode : Mode) (o : Outcome) → IsCounted (asks h by get mode o).left
+  ask_counts by get mode Outcome.parks = record { entered = counted.entered; ended = counted.ended }
+  ask_counts by get mode (Outcome.found value) = counted
+  ask_counts by get mode Outcome.absent = counted
+  ask_counts by get mode Outcome.outside = counted
 
   held_counts : (b : Bool) (from : ℕ) (p : Proc) (level : ℕ) → IsCounted (holds_unless b h from p level)
   held_counts true from p level = counted
   held_counts false from p level = record { entered = counted.entered; ended = counted.ended }
 
-  frame_counts : (frame : Frame) → IsCounted (receives h frame)
+  frame_counts : (frame : Frame) → IsCounted (receives jobs id h frame)
   unfolding receives
   frame_counts (frames.Piece c) = record { entered = counted.entered; ended = counted.ended }
   frame_counts (frames.Header hd) = known_counts hd.name (fence_told (fence_at h.table hd.name) hd.node hd.locals) refl
@@ -244,9 +253,9 @@ module _ (jobs : Jobs) (id : ℕ) (h : Holding) (counted : IsCounted h) where
   frame_counts (frames.RangeAsk a) = counted
   frame_counts (frames.DirectAsk a) = held_counts (nat_lt a.level (sealer_of h a.proc).level) a.node a.proc a.level
   frame_counts (frames.RefreshAsk a) = counted
-  frame_counts (frames.RefreshReply r) = counted
+  frame_counts (frames.RefreshReply r) = record { entered = counted.entered; ended = counted.ended }
 
-  deliver_counts : (frame : Frame) (b : Bool) → IsCounted (cond b (done_as Reply.taken (receives h frame)) (done_as Reply.ignored h)).left
+  deliver_counts : (frame : Frame) (b : Bool) → IsCounted (cond b (done_as Reply.taken (receives jobs id h frame)) (done_as Reply.ignored h)).left
   deliver_counts frame true = frame_counts frame
   deliver_counts frame false = counted
 
@@ -254,7 +263,7 @@ module _ (jobs : Jobs) (id : ℕ) (h : Holding) (counted : IsCounted h) where
   unfolding serves
   request_counts (Request.enter by list collect) = enter_counts by (signature_of jobs by list collect)
   request_counts (Request.leave by) = leave_counts by (call_of h by)
-  request_counts (Request.ask by get mode) = ask_counts by get (answer_in jobs id h get mode)
+  request_counts (Request.ask by get mode) = ask_counts by get mode (answer_in jobs id h get mode)
   request_counts (Request.take by) = take_counts by (call_of h by)
   request_counts (Request.terminate by) = end_counts by
   request_counts (Request.define name list) = change_counts _ _

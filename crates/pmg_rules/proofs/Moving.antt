@@ -1,7 +1,9 @@
 -- What an act does to the call that a process is in.
 use Rattle.std.proofs.Common.{◌≡◌, ◌⊎◌, ℕ, Bool, true, false, nat_lt, cond, List, Option, Some, None, inl, inr, refl, sym, ap, subst, ◌∙◌}
+use Rattle.std.specs.Option.{option_map}
 use Rattle.pmg_value.specs.Signatures.{FenceName}
 use Rattle.pmg_value.specs.declared.process.Proc.{Proc}
+use Rattle.pmg_frame.specs.Refreshing.{RefreshReply, told_by}
 use Rattle.pmg_frame.specs.declared.frame.Frame.{Frame}
 use Rattle.pmg_frame.specs.declared.frame.Frame.TheVariants as frames
 use Rattle.pmg_jobinfo.specs.Jobs.{Jobs}
@@ -11,20 +13,25 @@ use Rattle.pmg_fence.proofs.EntryLemmas.{proc_itself}
 use Rattle.pmg_fence.proofs.HeaderLemmas.{by_proc}
 use Rattle.pmg_get.specs.Gets.{Outcome}
 use Rattle.pmg_get.specs.declared.view.Mode.{Mode}
-use Rattle.pmg_rules.specs.Acts.{Request, Act, Reply, also, list_cause, signature_cause, target_cause, free_cause, request_cause, cause, list_of, signature_of, is_taken, done_as, leaves, takes, asks, holds_unless, receives, serves, does}
-use Rattle.pmg_rules.specs.Holdings.{Get, Standing, Holding, sealer_of, call_of, called, uncalled, answer_in}
-use Rattle.pmg_rules.proofs.CallFacts.{call-called, call-uncalled}
+use Rattle.pmg_get.specs.declared.view.Mode.TheVariants as modes
+use Rattle.pmg_rules.specs.Acts.{Request, Act, Reply, also, list_cause, signature_cause, target_cause, number_cause, free_cause, request_cause, cause, list_of, signature_of, is_taken, done_as, leaves, takes, waits_as, asks, holds_unless, receives, serves, does}
+use Rattle.pmg_rules.specs.Holdings.{Get, Standing, Holding, sealer_of, call_of, with_far, called, uncalled, joined, answer_in, is_replied, answer_reply}
+use Rattle.pmg_rules.proofs.CallFacts.{get-mapped, call-called, call-uncalled}
 use Rattle.pmg_rules.proofs.CauseFacts.{NoCause, free_is, neither_cause}
 
 -- How an act that is not refused moves its own process: from no call into a fence, or into a get that waits; out of the fence that it
--- is released from; with the answer of its get; or to its end.
+-- is released from; with the answer of its get; or to its end; and how a reply moves the process whose get waits for it.
 pub data Moves (jobs : Jobs) (id : ℕ) (h : Holding) (p : Proc) (a : Act) (c : Option Standing) : Type 0 where
   entering : (list : List Proc) (collect : Bool) → a ≡ Act.request (Request.enter p list collect) → call_of h p ≡ None
       → c ≡ Some (Standing.in_fence (next_name h.table (signature_of jobs p list collect) p)) → Moves jobs id h p a c
   parking : (get : Get) (mode : Mode) → a ≡ Act.request (Request.ask p get mode) → call_of h p ≡ None → answer_in jobs id h get mode ≡ Outcome.parks
-      → c ≡ Some (Standing.parked get) → Moves jobs id h p a c
+      → c ≡ Some (waits_as h.requests get mode) → Moves jobs id h p a c
   leaving : (f : FenceName) (gone : List Proc) → a ≡ Act.request (Request.leave p) → call_of h p ≡ Some (Standing.released f gone) → c ≡ None → Moves jobs id h p a c
   taking : (get : Get) (outcome : Outcome) → a ≡ Act.request (Request.take p) → call_of h p ≡ Some (Standing.answered get outcome) → c ≡ None → Moves jobs id h p a c
+  taking_anew : (get : Get) (outcome : Outcome) → a ≡ Act.request (Request.take p) → call_of h p ≡ Some (Standing.refreshed get outcome) → c ≡ None → Moves jobs id h p a c
+  answering : (r : RefreshReply) (get : Get) (number : ℕ) → a ≡ Act.deliver (frames.RefreshReply r) → call_of h p ≡ Some (Standing.refreshing get number)
+      → is_replied r.request r.told.proc get number ≡ true
+      → c ≡ Some (Standing.refreshed get (answer_in jobs id (with_far h (joined h.far (told_by r))) get modes.Now)) → Moves jobs id h p a c
   ending : a ≡ Act.request (Request.terminate p) → c ≡ None → Moves jobs id h p a c
 
 -- the process's call is as it was, or the act is the process's own
@@ -49,6 +56,8 @@ module _ (jobs : Jobs) (id : ℕ) (h : Holding) (p : Proc) where
       uncalled_move (Act.request (Request.leave by)) by (λ e. Moves.leaving f gone (ap (λ q. Act.request (Request.leave q)) (sym e)) (ap (call_of h) e ∙ is) refl)
   leave_move by (Some (Standing.parked get)) is = inl refl
   leave_move by (Some (Standing.answered get outcome)) is = inl refl
+  leave_move by (Some (Standing.refreshing get number)) is = inl refl
+  leave_move by (Some (Standing.refreshed get outcome)) is = inl refl
   leave_move by None is = inl refl
 
   take_move : (by : Proc) (c : Option Standing) → call_of h by ≡ c → StaysOrMoves jobs id h p (Act.request (Request.take by)) (call_of (takes h by c).left p)
@@ -57,15 +66,18 @@ module _ (jobs : Jobs) (id : ℕ) (h : Holding) (p : Proc) where
   take_move by (Some (Standing.parked get)) is = inl refl
   take_move by (Some (Standing.answered get outcome)) is =
       uncalled_move (Act.request (Request.take by)) by (λ e. Moves.taking get outcome (ap (λ q. Act.request (Request.take q)) (sym e)) (ap (call_of h) e ∙ is) refl)
+  take_move by (Some (Standing.refreshing get number)) is = inl refl
+  take_move by (Some (Standing.refreshed get outcome)) is =
+      uncalled_move (Act.request (Request.take by)) by (λ e. Moves.taking_anew get outcome (ap (λ q. Act.request (Request.take q)) (sym e)) (ap (call_of h) e ∙ is) refl)
   take_move by None is = inl refl
 
   ask_move : (by : Proc) (get : Get) (mode : Mode) → call_of h by ≡ None → (o : Outcome) → answer_in jobs id h get mode ≡ o
-      → StaysOrMoves jobs id h p (Act.request (Request.ask by get mode)) (call_of (asks h by get o).left p)
+      → StaysOrMoves jobs id h p (Act.request (Request.ask by get mode)) (call_of (asks h by get mode o).left p)
   ask_move by get mode none (Outcome.found value) is = inl refl
   ask_move by get mode none Outcome.absent is = inl refl
   ask_move by get mode none Outcome.outside is = inl refl
   ask_move by get mode none Outcome.parks is =
-      called_move (Act.request (Request.ask by get mode)) by (Standing.parked get)
+      called_move (Act.request (Request.ask by get mode)) by (waits_as h.requests get mode)
       (λ e. Moves.parking get mode (ap (λ q. Act.request (Request.ask q get mode)) (sym e)) (ap (call_of h) e ∙ none) is refl)
 
   enter_move : (by : Proc) (list : List Proc) (collect : Bool) → call_of h by ≡ None
@@ -79,19 +91,39 @@ module _ (jobs : Jobs) (id : ℕ) (h : Holding) (p : Proc) where
   held_move true from q level = refl
   held_move false from q level = refl
 
-  frame_move : (frame : Frame) → call_of (receives h frame) p ≡ call_of h p
-  unfolding receives
-  frame_move (frames.Piece c) = refl
-  frame_move (frames.Header hd) = refl
-  frame_move (frames.FenceAsk a) = refl
-  frame_move (frames.RangeAsk a) = refl
-  frame_move (frames.DirectAsk a) = held_move (nat_lt a.level (sealer_of h a.proc).level) a.node a.proc a.level
-  frame_move (frames.RefreshAsk a) = refl
-  frame_move (frames.RefreshReply r) = refl
+  -- a call that waits for the reply is answered; any other stays
+  reply_move : (r : RefreshReply) (c : Option Standing) → call_of h p ≡ c
+      → StaysOrMoves jobs id h p (Act.deliver (frames.RefreshReply r)) (option_map (answer_reply jobs id (with_far h (joined h.far (told_by r))) r.request r.told.proc) c)
+  reply_move r None is = inl (sym is)
+  reply_move r (Some (Standing.in_fence f)) is = inl (sym is)
+  reply_move r (Some (Standing.released f gone)) is = inl (sym is)
+  reply_move r (Some (Standing.parked get)) is = inl (sym is)
+  reply_move r (Some (Standing.answered get outcome)) is = inl (sym is)
+  reply_move r (Some (Standing.refreshed get outcome)) is = inl (sym is)
+  reply_move r (Some (Standing.refreshing get number)) is = by_test (is_replied r.request r.told.proc get number) refl
+    where
+      by_test : (b : Bool) → is_replied r.request r.told.proc get number ≡ b
+          → StaysOrMoves jobs id h p (Act.deliver (frames.RefreshReply r))
+          (Some (if b then Standing.refreshed get (answer_in jobs id (with_far h (joined h.far (told_by r))) get modes.Now) else Standing.refreshing get number))
+      by_test true its = inr (Moves.answering r get number refl is its refl)
+      by_test false its = inl (sym is)
 
-  deliver_move : (frame : Frame) (b : Bool) → call_of (cond b (done_as Reply.taken (receives h frame)) (done_as Reply.ignored h)).left p ≡ call_of h p
+  frame_move : (frame : Frame) → StaysOrMoves jobs id h p (Act.deliver frame) (call_of (receives jobs id h frame) p)
+  unfolding receives
+  frame_move (frames.Piece c) = inl refl
+  frame_move (frames.Header hd) = inl refl
+  frame_move (frames.FenceAsk a) = inl refl
+  frame_move (frames.RangeAsk a) = inl refl
+  frame_move (frames.DirectAsk a) = inl (held_move (nat_lt a.level (sealer_of h a.proc).level) a.node a.proc a.level)
+  frame_move (frames.RefreshAsk a) = inl refl
+  frame_move (frames.RefreshReply r) =
+      subst (StaysOrMoves jobs id h p (Act.deliver (frames.RefreshReply r)))
+      (sym (get-mapped (answer_reply jobs id (with_far h (joined h.far (told_by r))) r.request r.told.proc) h.calls p)) (reply_move r (call_of h p) refl)
+
+  deliver_move : (frame : Frame) (b : Bool)
+      → StaysOrMoves jobs id h p (Act.deliver frame) (call_of (cond b (done_as Reply.taken (receives jobs id h frame)) (done_as Reply.ignored h)).left p)
   deliver_move frame true = frame_move frame
-  deliver_move frame false = refl
+  deliver_move frame false = inl refl
 
   request_move : (r : Request) → NoCause (request_cause jobs id h r) → StaysOrMoves jobs id h p (Act.request r) (call_of (serves jobs id h r).left p)
   unfolding request_cause serves
@@ -99,7 +131,7 @@ module _ (jobs : Jobs) (id : ℕ) (h : Holding) (p : Proc) where
       enter_move by list collect (free_is jobs id h by (neither_cause (free_cause jobs id h by) (also (list_cause jobs (list_of by list)) (signature_cause h (signature_of jobs by list collect) by)) none).0).1
   request_move (Request.leave by) none = leave_move by (call_of h by) refl
   request_move (Request.ask by get mode) none =
-      ask_move by get mode (free_is jobs id h by (neither_cause (free_cause jobs id h by) (target_cause jobs by get) none).0).1 (answer_in jobs id h get mode) refl
+      ask_move by get mode (free_is jobs id h by (neither_cause (free_cause jobs id h by) (also (target_cause jobs by get) (number_cause jobs id h get mode)) none).0).1 (answer_in jobs id h get mode) refl
   request_move (Request.take by) none = take_move by (call_of h by) refl
   request_move (Request.terminate by) none = uncalled_move (Act.request (Request.terminate by)) by (λ e. Moves.ending (ap (λ q. Act.request (Request.terminate q)) (sym e)) refl)
   request_move (Request.define name list) none = inl refl
@@ -110,4 +142,4 @@ module _ (jobs : Jobs) (id : ℕ) (h : Holding) (p : Proc) where
   unfolding cause does
   does_call (Act.request r) none = request_move r none
   does_call (Act.commit by b) none = inl refl
-  does_call (Act.deliver frame) none = inl (deliver_move frame (is_taken jobs id frame))
+  does_call (Act.deliver frame) none = deliver_move frame (is_taken jobs id frame)

@@ -12,8 +12,9 @@ use Rattle.pmg_jobinfo.specs.Jobs.{Jobs, home_of}
 use Rattle.pmg_jobinfo.specs.Reserved.{reserved_value}
 use Rattle.pmg_fence.specs.Rules.{Scripts, Grows}
 use Rattle.pmg_get.specs.Gets.{Seen, Outcome, unseen, resolve}
+use Rattle.pmg_get.specs.declared.view.Mode.{Mode}
 use Rattle.pmg_get.specs.declared.view.Mode.TheVariants as modes
-use Rattle.pmg_rules.specs.Acts.{Act, Said, acts, cause, does}
+use Rattle.pmg_rules.specs.Acts.{Act, Said, acts, waits_as, cause, does}
 use Rattle.pmg_rules.specs.Fitting.{unless_refused}
 use Rattle.pmg_rules.specs.Holdings.{Get, Standing, Holding, call_of, seen_of, answer_in}
 use Rattle.pmg_rules.specs.NodeLaws.{AnswersStay, AnsweredHave}
@@ -99,6 +100,12 @@ answers_stay jobs node h a get answered still =
 
 -- ---- who is answered
 
+-- a get that waits is not answered
+not_answered : (mode : Mode) (n : ℕ) (x get : Get) (outcome : Outcome) → Some (waits_as n x mode) ≡ Some (Standing.answered get outcome) → ⊥
+not_answered modes.Wait n x get outcome e = cc
+not_answered modes.Now n x get outcome e = cc
+not_answered modes.Refresh n x get outcome e = cc
+
 module _ (jobs : Jobs) (id : ℕ) (h : Holding) (p : Proc) (get : Get) (outcome : Outcome) where
   answered_still : (a : Act) (c : Option Standing) → StaysOrMoves jobs id h p a c → c ≡ Some (Standing.answered get outcome) → call_of h p ≡ Some (Standing.answered get outcome)
   answered_still a c (inl same) e = sym same ∙ e
@@ -108,8 +115,8 @@ module _ (jobs : Jobs) (id : ℕ) (h : Holding) (p : Proc) (get : Get) (outcome 
       elsewhere z = cc
   answered_still a c (inr (Moves.parking g mode is was answer now)) e = absurd (elsewhere (sym now ∙ e))
     where
-      elsewhere : Some (Standing.parked g) ≡ Some (Standing.answered get outcome) → ⊥
-      elsewhere z = cc
+      elsewhere : Some (waits_as h.requests g mode) ≡ Some (Standing.answered get outcome) → ⊥
+      elsewhere z = not_answered mode h.requests g get outcome z
   answered_still a c (inr (Moves.leaving x others is was now)) e = absurd (elsewhere (sym now ∙ e))
     where
       elsewhere : None ≡ Some (Standing.answered get outcome) → ⊥
@@ -117,6 +124,14 @@ module _ (jobs : Jobs) (id : ℕ) (h : Holding) (p : Proc) (get : Get) (outcome 
   answered_still a c (inr (Moves.taking g o is was now)) e = absurd (elsewhere (sym now ∙ e))
     where
       elsewhere : None ≡ Some (Standing.answered get outcome) → ⊥
+      elsewhere z = cc
+  answered_still a c (inr (Moves.taking_anew g o is was now)) e = absurd (elsewhere (sym now ∙ e))
+    where
+      elsewhere : None ≡ Some (Standing.answered get outcome) → ⊥
+      elsewhere z = cc
+  answered_still a c (inr (Moves.answering r g number is was its now)) e = absurd (elsewhere (sym now ∙ e))
+    where
+      elsewhere : {o : Outcome} → Some (Standing.refreshed g o) ≡ Some (Standing.answered get outcome) → ⊥
       elsewhere z = cc
   answered_still a c (inr (Moves.ending is now)) e = absurd (elsewhere (sym now ∙ e))
     where

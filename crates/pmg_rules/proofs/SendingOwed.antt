@@ -1,5 +1,5 @@
 -- What is owed is due, where what is due covers what an act changed.
-use Rattle.std.proofs.Common.{◌≡◌, ℕ, ◌<◌, Bool, true, ◌&&◌, not, List, [], ◌∷◌, ◌++◌, length, Some, None, inl, refl, sym, ap, subst, ◌∙◌, arith}
+use Rattle.std.proofs.Common.{◌≡◌, ℕ, ◌<◌, ◌≤◌, Bool, true, ◌&&◌, not, List, [], ◌∷◌, ◌++◌, length, Some, None, inl, refl, sym, ap, subst, ◌∙◌, arith}
 use Rattle.std.specs.Prelude.{if◌then◌else◌, ◌==◌, filter, is_none}
 use Rattle.std.specs.FinMap as finite
 use Rattle.std.specs.FinMap.{IsAntisymmetric}
@@ -21,6 +21,7 @@ use Rattle.pmg_commit.specs.Data.{level_at}
 use Rattle.pmg_pset.specs.Sets.{host}
 use Rattle.pmg_frame.specs.FenceOrder.{name_cmp, name_total}
 use Rattle.pmg_frame.specs.Fences.{FenceAsk, CommitAsk, header, fence_ask, commit_ask, participants_of}
+use Rattle.pmg_frame.specs.Refreshing.{RefreshAsk}
 use Rattle.pmg_frame.specs.declared.frame.Frame.{Frame}
 use Rattle.pmg_frame.specs.declared.frame.Frame.TheVariants as frames
 use Rattle.pmg_frame.specs.declared.local.Local.{Local}
@@ -31,11 +32,11 @@ use Rattle.pmg_fence.specs.Tables.{header_at, told_of}
 use Rattle.pmg_fence.proofs.HeaderLemmas.{in_filter}
 use Rattle.pmg_dmodex.specs.Levels.{level_at as held_at}
 use Rattle.pmg_rules.specs.Acts.{Request, Act, is_taken}
-use Rattle.pmg_rules.specs.Choosing.{peers, peers_in, telling, announcing, piece_due, asking, asking_for, is_behind, waited, waited_in, asking_headers, asking_ranges, asking_fence, asking_sets, nudging}
+use Rattle.pmg_rules.specs.Choosing.{peers, peers_in, telling, announcing, piece_due, asking, asking_anew, asking_for, is_behind, waited, waited_in, asking_headers, asking_ranges, asking_fence, asking_sets, nudging}
 use Rattle.pmg_rules.specs.declared.due.Due.{Due}
 use Rattle.pmg_rules.specs.declared.due.Due.TheVariants as sendings
 use Rattle.pmg_rules.specs.Holdings.{Get, Standing, Holding, sealer_of, call_of}
-use Rattle.pmg_rules.specs.Sending.{sent, own_header_of, TakesPart, asked_by, Owes}
+use Rattle.pmg_rules.specs.Sending.{sent, own_header_of, reply_anew, ask_anew, TakesPart, asked_by, Owes}
 use Rattle.pmg_rules.specs.declared.sent.Sent.{Sent}
 use Rattle.pmg_rules.proofs.KeptBasics.{home_is_node, entry_listed}
 use Rattle.pmg_rules.proofs.SendingLists.{in_flat, range_in}
@@ -45,11 +46,13 @@ pub record Covers (jobs : Jobs) (id : ℕ) (old : Holding) (a : Act) (new : Hold
   pub headers : (f : FenceName) (locals : List Local) → own_header_of jobs id new f ≡ Some locals → own_header_of jobs id old f ≡ None
       → (d : Due) → In d (announcing jobs id (header id f locals)) → In d dues
   pub pieces : (p : Proc) (node level : ℕ) → held_at old.held p node ≡ Some level → level < (sealer_of new p).level → In (piece_due new p node level) dues
-  pub gets : (p : Proc) (get : Get) → call_of old p ≡ None → call_of new p ≡ Some (Standing.parked get) → (d : Due) → In d (asking jobs id new get.target) → In d dues
+  pub gets : (p : Proc) (s : Standing) → call_of old p ≡ None → call_of new p ≡ Some s → (d : Due) → In d (asking_for jobs id new (Some s)) → In d dues
   pub asked_header : (ask : FenceAsk) (locals : List Local) → a ≡ Act.deliver (frames.FenceAsk ask) → is_taken jobs id (frames.FenceAsk ask) ≡ true
       → own_header_of jobs id old ask.name ≡ Some locals → In (sendings.Whole (sent ask.node (frames.Header (header id ask.name locals)))) dues
   pub asked_piece : (ask : CommitAsk) (frame : Frame) → a ≡ Act.deliver frame → asked_by a ≡ Some ask → is_taken jobs id frame ≡ true
       → ask.level < (sealer_of new ask.proc).level → In (piece_due new ask.proc ask.node ask.level) dues
+  pub asked_anew : (ask : RefreshAsk) → a ≡ Act.deliver (frames.RefreshAsk ask) → is_taken jobs id (frames.RefreshAsk ask) ≡ true
+      → ask.ask.level ≤ (sealer_of new ask.ask.proc).level → In (sendings.Whole (sent ask.ask.node (frames.RefreshReply (reply_anew new ask)))) dues
   pub nudged : a ≡ Act.request Request.nudge → (d : Due) → In d (nudging jobs id new) → In d dues
 
 -- ---- nodes, names and calls that are listed
@@ -82,6 +85,12 @@ module _ (jobs : Jobs) (id : ℕ) (h : Holding) where
       let ask : Due = sendings.Whole (sent (home_of jobs q) (frames.DirectAsk (commit_ask id q (level_at h.far q)))) in
       subst (λ b. In ask (if b then [] else ask ∷ [])) (sym (ne_eqb (home_of jobs q) id other)) (inl refl)
 
+  pub anew_there : (q : Proc) (number : ℕ) → (home_of jobs q ≡ id → ⊥)
+      → In (sendings.Whole (sent (home_of jobs q) (frames.RefreshAsk (ask_anew id h q number)))) (asking_anew jobs id h q number)
+  anew_there q number other =
+      let ask : Due = sendings.Whole (sent (home_of jobs q) (frames.RefreshAsk (ask_anew id h q number))) in
+      subst (λ b. In ask (if b then [] else ask ∷ [])) (sym (ne_eqb (home_of jobs q) id other)) (inl refl)
+
   fence_nudged : (f : FenceName) (p : Proc) → call_of h p ≡ Some (Standing.in_fence f) → (d : Due) → In d (asking_fence jobs id h f) → In d (nudging jobs id h)
   fence_nudged f p e d i =
       in_append_left (flat_map (asking_fence jobs id h) (waited_in h)) (flat_map (λ e. asking_for jobs id h (Some e.1)) (finite.entries h.calls) ++ asking_sets id h) d
@@ -103,12 +112,12 @@ module _ (jobs : Jobs) (id : ℕ) (h : Holding) where
       (in_map ask (filter missing (participants_of f)) q
       (in_filter missing (participants_of f) q i (and_from _ _ (not_from_false (home_of jobs q == id) (ne_eqb (home_of jobs q) id other)) behind))))
 
-  get_nudged : (p : Proc) (get : Get) → call_of h p ≡ Some (Standing.parked get) → (d : Due) → In d (asking jobs id h get.target) → In d (nudging jobs id h)
-  get_nudged p get e d i =
+  call_nudged : (p : Proc) (s : Standing) → call_of h p ≡ Some s → (d : Due) → In d (asking_for jobs id h (Some s)) → In d (nudging jobs id h)
+  call_nudged p s e d i =
       let gets : List Due = flat_map (λ e. asking_for jobs id h (Some e.1)) (finite.entries h.calls) in
       in_append_right (flat_map (asking_fence jobs id h) (waited_in h)) (gets ++ asking_sets id h) d
       (in_append_left gets (asking_sets id h) d
-      (in_flat (λ (e : Proc × Standing). asking_for jobs id h (Some e.1)) (finite.entries h.calls) (p, Standing.parked get) d (entry_listed exact_procs h.calls p (Standing.parked get) e) i))
+      (in_flat (λ (e : Proc × Standing). asking_for jobs id h (Some e.1)) (finite.entries h.calls) (p, s) d (entry_listed exact_procs h.calls p s e) i))
 
   sets_nudged : (id ≡ 0 → ⊥) → In (sendings.Whole (sent 0 (frames.RangeAsk (commit_ask id host (level_at h.far host))))) (nudging jobs id h)
   sets_nudged other =
@@ -124,10 +133,14 @@ owed_due jobs are id old a new dues covers s (Owes.new_header f locals node now 
 owed_due jobs are id old a new dues covers s (Owes.asked_header ask locals is taken there) = covers.asked_header ask locals is taken there
 owed_due jobs are id old a new dues covers s (Owes.asked_piece ask frame is asked taken less) = covers.asked_piece ask frame is asked taken less
 owed_due jobs are id old a new dues covers s (Owes.held_piece p node level held less) = covers.pieces p node level held less
-owed_due jobs are id old a new dues covers s (Owes.parked_ask p get before now other) = covers.gets p get before now _ (asked_there jobs id new get.target other)
+owed_due jobs are id old a new dues covers s (Owes.parked_ask p get before now other) = covers.gets p (Standing.parked get) before now _ (asked_there jobs id new get.target other)
 owed_due jobs are id old a new dues covers s (Owes.nudged_header f p node is waits part none) = covers.nudged is _ (fence_nudged jobs id new f p waits.1 _ (header_nudged jobs id new are f node part none))
 owed_due jobs are id old a new dues covers s (Owes.nudged_range f p q e is waits collects i other told less) =
     covers.nudged is _
     (fence_nudged jobs id new f p waits.1 _ (range_nudged jobs id new f q e.level collects i other (ap (is_behind (level_at new.far q)) told ∙ lt-ltb (level_at new.far q) e.level less)))
-owed_due jobs are id old a new dues covers s (Owes.nudged_ask p get is now other) = covers.nudged is _ (get_nudged jobs id new p get now _ (asked_there jobs id new get.target other))
+owed_due jobs are id old a new dues covers s (Owes.nudged_ask p get is now other) = covers.nudged is _ (call_nudged jobs id new p (Standing.parked get) now _ (asked_there jobs id new get.target other))
+owed_due jobs are id old a new dues covers s (Owes.parked_anew p get number before now other) = covers.gets p (Standing.refreshing get number) before now _ (anew_there jobs id new get.target number other)
+owed_due jobs are id old a new dues covers s (Owes.asked_reply ask is taken within) = covers.asked_anew ask is taken within
+owed_due jobs are id old a new dues covers s (Owes.nudged_anew p get number is now other) =
+    covers.nudged is _ (call_nudged jobs id new p (Standing.refreshing get number) now _ (anew_there jobs id new get.target number other))
 owed_due jobs are id old a new dues covers s (Owes.nudged_sets is other) = covers.nudged is _ (sets_nudged jobs id new other)

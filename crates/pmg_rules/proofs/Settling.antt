@@ -33,6 +33,8 @@ module _ (jobs : Jobs) (id : ℕ) (h : Holding) where
   in_fence_before f (Some (Standing.released x gone)) e = absurd cc
   in_fence_before f (Some (Standing.parked get)) e = absurd (get_is_none f get (answer_in jobs id h get modes.Wait) e)
   in_fence_before f (Some (Standing.answered get outcome)) e = absurd cc
+  in_fence_before f (Some (Standing.refreshing get number)) e = absurd cc
+  in_fence_before f (Some (Standing.refreshed get outcome)) e = absurd cc
 
   pub settled_in_fence : (p : Proc) (f : FenceName) → call_of (settled jobs id h) p ≡ Some (Standing.in_fence f) → (call_of h p ≡ Some (Standing.in_fence f)) × (is_ready_at jobs id h f ≡ false)
   settled_in_fence p f e = in_fence_before f (call_of h p) (sym (call-settled jobs id h p) ∙ e)
@@ -61,6 +63,8 @@ module _ (jobs : Jobs) (id : ℕ) (h : Holding) where
   released_before f gone (Some (Standing.released x others)) e = inl e
   released_before f gone (Some (Standing.parked get)) e = absurd (get_frees_none f gone get (answer_in jobs id h get modes.Wait) e)
   released_before f gone (Some (Standing.answered get outcome)) e = absurd cc
+  released_before f gone (Some (Standing.refreshing get number)) e = absurd cc
+  released_before f gone (Some (Standing.refreshed get outcome)) e = absurd cc
 
   pub settled_released : (p : Proc) (f : FenceName) (gone : List Proc) → call_of (settled jobs id h) p ≡ Some (Standing.released f gone) → Freeing f gone (call_of h p)
   settled_released p f gone e = released_before f gone (call_of h p) (sym (call-settled jobs id h p) ∙ e)
@@ -88,6 +92,8 @@ module _ (jobs : Jobs) (id : ℕ) (h : Holding) where
       let found = parked_by get x (answer_in jobs id h x modes.Wait) refl e in
       (ap (λ y. Some (Standing.parked y)) found.0, found.1)
   parked_before get (Some (Standing.answered x outcome)) e = absurd cc
+  parked_before get (Some (Standing.refreshing x number)) e = absurd cc
+  parked_before get (Some (Standing.refreshed x outcome)) e = absurd cc
 
   pub settled_parked : (p : Proc) (get : Get) → call_of (settled jobs id h) p ≡ Some (Standing.parked get)
       → (call_of h p ≡ Some (Standing.parked get)) × (answer_in jobs id h get modes.Wait ≡ Outcome.parks)
@@ -122,6 +128,8 @@ module _ (jobs : Jobs) (id : ℕ) (h : Holding) where
   answered_before get outcome (Some (Standing.released x gone)) e = absurd cc
   answered_before get outcome (Some (Standing.parked x)) e = answered_by get x outcome (answer_in jobs id h x modes.Wait) refl e
   answered_before get outcome (Some (Standing.answered x o)) e = inl e
+  answered_before get outcome (Some (Standing.refreshing x number)) e = absurd cc
+  answered_before get outcome (Some (Standing.refreshed x o)) e = absurd cc
 
   pub settled_answered : (p : Proc) (get : Get) (outcome : Outcome) → call_of (settled jobs id h) p ≡ Some (Standing.answered get outcome) → Answering get outcome (call_of h p)
   settled_answered p get outcome e = answered_before get outcome (call_of h p) (sym (call-settled jobs id h p) ∙ e)
