@@ -22,6 +22,7 @@ mod parking;
 mod pieces;
 mod publishing;
 mod refreshing;
+mod replying;
 mod setting;
 mod status;
 mod taking;
