@@ -120,9 +120,9 @@ still_open t s view a kept new is count anew then same are p get number e =
     let e_then = ap (λ (x : Server). call_of x.holding p) (sym is) ∙ e in
     let last = (node_stays s a kept).server.holds.anew p get number e_then in
     let counted : (after s a).holding.requests ≡ s.holding.requests = ap (λ (x : Server). x.holding.requests) (sym is) ∙ count ∙ ap (λ (x : Server). x.holding.requests) view in
-    ap (λ (r : Refreshes). asker_at r number get.target) same
-    ∙ elim (acts_old s.jobs s.id s.holding a p get number e_then) [
-      | inl was ↦ are p get number (ap (λ (x : Server). call_of x.holding p) view ∙ was)
+    elim (acts_old s.jobs s.id s.holding a p get number e_then) [
+      | inl was ↦
+          let its = are p get number (ap (λ (x : Server). call_of x.holding p) view ∙ was) in (its.0, ap (λ (r : Refreshes). asker_at r number get.target) same ∙ its.1)
       | inr next ↦ absurd (not_yet number (after s a).holding.requests s.holding.requests last.1 counted next)
     ]
   where

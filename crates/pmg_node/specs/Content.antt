@@ -1,6 +1,7 @@
 -- A node, by what its parts hold.
-use Rattle.std.specs.Prelude.{◌≡◌, ℕ, [], Some}
+use Rattle.std.specs.Prelude.{◌≡◌, ℕ, [], false, Some}
 use Rattle.std.specs.FinMap as finite
+use Rattle.pmg_value.specs.Names.{is_reserved}
 use Rattle.pmg_value.specs.declared.process.Proc.{Proc}
 use Rattle.pmg_store.specs.declared.board.Board.{Board}
 use Rattle.pmg_fence.specs.Codes.{Known}
@@ -21,9 +22,10 @@ server_of table id board own calls held marks = record {
   marks = marks;
 }
 
--- each get that waits for the reply to a request is the one that the request was sent for
+-- each get that waits for the reply to a request is of a key that is not reserved, and the one that the request was sent for
 abbrev pub AreOpen : Calls → Refreshes → Type 0
-AreOpen calls anew = (p : Proc) (get : Get) (number : ℕ) → finite.get calls p ≡ Some (Standing.refreshing get number) → asker_at anew number get.target ≡ Some p
+AreOpen calls anew = (p : Proc) (get : Get) (number : ℕ) → finite.get calls p ≡ Some (Standing.refreshing get number) 
+    → (is_reserved get.key ≡ false) × (asker_at anew number get.target ≡ Some p)
 
 -- the table is the node's, and no header of its own waits there; and replies find the gets that wait for them
 pub record IsContent (table : Known) (id : ℕ) (anew : Refreshes) (s : Server) : Type 0 where
