@@ -7,7 +7,7 @@ use Rattle.std.specs.declared.cmp.Ordering.{Ordering}
 use Rattle.std.specs.declared.cmp.Ordering.TheVariants.{Less, Equal, Greater}
 use Rattle.std.specs.Ordering.{nat_cmp, is_lt}
 use Rattle.std.specs.Cmp.Lexicographic.{slice_cmp, nat_list_cmp_total}
-use Rattle.std.proofs.lemmas.Bool.{false≢true, and_parts, and_from, leb-true, lt-ltb, le-leb}
+use Rattle.std.proofs.lemmas.Bool.{false≢true, and_parts, and_from, leb-true, lt-ltb, le-leb, le-ltb}
 use Rattle.std.proofs.lemmas.List.Sums.{sum_by-cons}
 use Rattle.pmg_value.specs.Lists.{leads, is_chain}
 use Rattle.pmg_value.specs.Answers.{Gives}
@@ -240,6 +240,25 @@ newer_small proc from m name small =
     let shorter = size_filter (λ e. nat_lt from e.1.number) (finite.entries m) in
     let len = finite.len-entries m in
     and_from _ _ (le-leb (length (newer_than from m)) 65536 (omega (arith, few, fewer, len))) (le-leb (body_size proc (newer_than from m)) 16777216 (omega (arith, name, short, shorter)))
+
+-- what is sent of a sealer's commits is well below a frame's limit
+pub newer_fits : (proc : Proc) (from : ℕ) (m : Stamps) → length proc.nspace ≤ 255 → are_small m ≡ true → body_size proc (newer_than from m) ≤ 16000301
+newer_fits proc from m name small =
+    let parts = and_parts (nat_le (finite.len m) 65536) (nat_le (stamps_size m) 16000021) small in
+    let short = leb-true (stamps_size m) 16000021 parts.1 in
+    let shorter = size_filter (λ e. nat_lt from e.1.number) (finite.entries m) in
+    omega (arith, name, short, shorter)
+
+none_left : (n : ℕ) (es : StampRows) → list_all (λ e. nat_lt 0 e.1.number && nat_le e.1.number n) es ≡ true → filter (λ e. nat_lt n e.1.number) es ≡ []
+none_left n [] each = refl
+none_left n (e ∷ es) each =
+    let parts = and_parts _ _ each in
+    let within = leb-true e.1.number n (and_parts _ _ parts.0).1 in
+    ap (λ b. cond b (e ∷ filter (λ x. nat_lt n x.1.number) es) (filter (λ x. nat_lt n x.1.number) es)) (le-ltb n e.1.number within) ∙ none_left n es parts.1
+
+-- and nothing was sealed by a later commit than the last one
+pub none_newer : (n : ℕ) (m : Stamps) → are_of n m ≡ true → newer_than n m ≡ []
+none_newer n m numbered = ap (map stamped_entry) (none_left n (finite.entries m) numbered)
 
 pub newer_is_piece : (proc : Proc) (from level : ℕ) (m : Stamps) → (is_client proc || is_host proc) ≡ true → length proc.nspace ≤ 255 → from < level → level ≤ 4294967295
     → are_small m ≡ true → are_of level m ≡ true

@@ -108,6 +108,7 @@ impl Sealer {
     pub fn level(&self) -> u64
         ensures value { result ≡ self.now.level }
         ensures bound { result ≤ 4294967295 }
+        ensures sealer { IsSealer self.now }
     {
         self.level
     }

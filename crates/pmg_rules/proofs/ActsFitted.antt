@@ -43,7 +43,7 @@ use Rattle.pmg_get.specs.declared.view.Mode.{Mode}
 use Rattle.pmg_get.specs.declared.view.Mode.TheVariants as modes
 use Rattle.pmg_rules.specs.Acts.{Request, Act, Reply, Done, Said, also, list_cause, set_cause, name_cause, node_cause, free_cause, request_cause, signature_cause, seal_cause, signature_of, list_of, members_of, cause, is_taken, done_as, reply_of, leaves, takes, waits_as, parks, asks, enters_fence, commits_as, ends_as, changes_as, holds_unless, receives, serves, does, over, said_by, says}
 use Rattle.pmg_rules.specs.Fitting.{with_said, is_refusal, unless_refused, last_fence, IsAnswer, FitsCall, Fits, HonestFrame, FitsHost, FitsAct}
-use Rattle.pmg_rules.specs.Holdings.{Get, Standing, Holding, sealer_in, sealer_of, call_of, with_far, with_table, uncalled, called, joined, answer_in, mapped, settled, is_replied, answer_reply, with_reply}
+use Rattle.pmg_rules.specs.Holdings.{Get, Standing, Holding, sealer_in, sealer_of, call_of, with_far, with_table, uncalled, joined, answer_in, mapped, settled, is_replied, answer_reply, with_reply}
 use Rattle.pmg_rules.specs.NodeLaws.{ActsFit}
 use Rattle.pmg_rules.proofs.CallFacts.{get-mapped}
 use Rattle.pmg_rules.proofs.CauseFacts.{NoCause, IsCaller, by_causes, caller_is, free_is, neither_cause, same_node}
@@ -274,10 +274,10 @@ module _ (jobs : Jobs) (scripts : Scripts) (node : ℕ) (h : Holding) (fits : Fi
   now_answers get g = is_answer (answer_in jobs node g get modes.Now) (λ parks. elim (resolve_parks _ modes.Now parks) [ inl e ↦ absurd (not_wait e) | inr e ↦ absurd (not_anew e) ])
     where
       is_answer : (o : Outcome) → (o ≡ Outcome.parks → ⊥) → IsAnswer o
-      is_answer (Outcome.found value) no = tt
-      is_answer Outcome.absent no = tt
-      is_answer Outcome.outside no = tt
-      is_answer Outcome.parks no = no refl
+      is_answer (Outcome.found value) some = tt
+      is_answer Outcome.absent some = tt
+      is_answer Outcome.outside some = tt
+      is_answer Outcome.parks some = some refl
 
       not_wait : modes.Now ≡ modes.Wait → ⊥
       not_wait e = cc

@@ -11,7 +11,6 @@ use Rattle.pmg_value.specs.Signatures.{Signature, FenceName}
 use Rattle.pmg_value.specs.declared.process.Proc.{Proc}
 use Rattle.pmg_value.proofs.ListLemmas.{in_append_left, in_append_right, in_map}
 use Rattle.pmg_scope.specs.Cached.{Unsealed}
-use Rattle.pmg_commit.specs.Knowledge.{Contribution}
 use Rattle.pmg_commit.specs.Sealed.{Sealed}
 use Rattle.pmg_frame.specs.Fences.{FenceAsk, CommitAsk, header}
 use Rattle.pmg_frame.specs.Refreshing.{RefreshAsk, told_by}

@@ -35,7 +35,7 @@ use Rattle.pmg_rules.specs.Acts.{Request, Act, is_taken}
 use Rattle.pmg_rules.specs.Choosing.{peers, peers_in, telling, announcing, piece_due, asking, asking_anew, asking_for, is_behind, waited, waited_in, asking_headers, asking_ranges, asking_fence, asking_sets, nudging}
 use Rattle.pmg_rules.specs.declared.due.Due.{Due}
 use Rattle.pmg_rules.specs.declared.due.Due.TheVariants as sendings
-use Rattle.pmg_rules.specs.Holdings.{Get, Standing, Holding, sealer_of, call_of}
+use Rattle.pmg_rules.specs.Holdings.{Standing, Holding, sealer_of, call_of}
 use Rattle.pmg_rules.specs.Sending.{sent, own_header_of, reply_anew, ask_anew, TakesPart, asked_by, Owes}
 use Rattle.pmg_rules.specs.declared.sent.Sent.{Sent}
 use Rattle.pmg_rules.proofs.KeptBasics.{home_is_node, entry_listed}
