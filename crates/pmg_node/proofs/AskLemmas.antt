@@ -34,7 +34,7 @@ use Rattle.pmg_node.proofs.CommitLemmas.{then_full}
 use Rattle.pmg_rules.proofs.CallFacts.{call-called}
 use Rattle.pmg_rules.proofs.CauseFacts.{NoCause, by_causes, neither, neither_cause, free_is}
 use Rattle.pmg_rules.proofs.KeptBasics.{put_cases}
-use Rattle.pmg_rules.proofs.KeptSettled.{settled_same, parks_waiting, parked_settled}
+use Rattle.pmg_rules.proofs.KeptSettled.{settled_same, resolve_parks, parks_waiting, parked_settled}
 use Rattle.pmg_node.proofs.RefusalLemmas.{fails_as}
 use Rattle.pmg_node.proofs.SilentLemmas.{act_free, none_due, after_is, sent_none}
 
@@ -237,6 +237,19 @@ module _ (jobs : Jobs) (id : ℕ) (get : Get) where
         (fails_as e (value_first told_value) (subst (λ (r : Result (Option Value) Refusal). Fails e r) (registry_first node known named) fails)))
 
 -- ---- the get
+
+-- a get that looks only at what its node holds waits for nothing
+pub now_told : (jobs : Jobs) (id : ℕ) (h : Holding) (get : Get) → answer_in jobs id h get modes.Now ≡ Outcome.parks → ⊥
+now_told jobs id h get waits = elim (resolve_parks (seen_of jobs id (read_at h.near get.target) (read_at h.far get.target) get) modes.Now waits) [
+  | inl is ↦ other_mode is
+  | inr is ↦ other_mode_too is
+]
+  where
+    other_mode : modes.Now ≡ modes.Wait → ⊥
+    other_mode is = cc
+
+    other_mode_too : modes.Now ≡ modes.Refresh → ⊥
+    other_mode_too is = cc
 
 -- whoever waits so has nothing to be settled
 pub waiting_settled : (jobs : Jobs) (id : ℕ) (h : Holding) → IsSettled jobs id h → (p : Proc) (get : Get) (mode : Mode) → answer_in jobs id h get mode ≡ Outcome.parks

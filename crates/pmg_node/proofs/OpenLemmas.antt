@@ -61,7 +61,7 @@ module _ (jobs : Jobs) (id : ℕ) (h : Holding) where
   waits_next n get other number modes.Refresh is = cc
 
   asks_old : (by : Proc) (get : Get) (mode : Mode) (o : Outcome) → AreOld (asks h by get mode o).left
-  asks_old by get mode Outcome.parks p other number e =
+  asks_old by get mode Outcome.parks = λ p other number e.
       put_cases h.calls by p (waits_as h.requests get mode) (Standing.refreshing other number) e (λ same is. inr (waits_next h.requests get other number mode is)) (λ is. inl is)
   asks_old by get mode (Outcome.found value) = same_old
   asks_old by get mode Outcome.absent = same_old
@@ -72,15 +72,15 @@ module _ (jobs : Jobs) (id : ℕ) (h : Holding) where
 
   serves_old : (r : Request) → AreOld (serves jobs id h r).left
   unfolding serves
-  serves_old (Request.enter by list collect) p get number e =
+  serves_old (Request.enter by list collect) = λ p get number e.
       let f = next_name h.table (signature_of jobs by list collect) by in
       put_cases h.calls by p (Standing.in_fence f) (Standing.refreshing get number) e (λ same is. apart f get number is) (λ is. inl is)
   serves_old (Request.leave by) = leaves_old by (call_of h by)
   serves_old (Request.ask by get mode) = asks_old by get mode (answer_in jobs id h get mode)
   serves_old (Request.take by) = takes_old by (call_of h by)
-  serves_old (Request.terminate by) p get number e = inl (removed_some h.calls by p (Standing.refreshing get number) e)
-  serves_old (Request.define name list) p get number e = inl e
-  serves_old (Request.delete name) p get number e = inl e
+  serves_old (Request.terminate by) = λ p get number e. inl (removed_some h.calls by p (Standing.refreshing get number) e)
+  serves_old (Request.define name list) = λ p get number e. inl e
+  serves_old (Request.delete name) = λ p get number e. inl e
   serves_old Request.nudge = same_old
 
   held_old : (b : Bool) (node : ℕ) (q : Proc) (level : ℕ) → AreOld (holds_unless b h node q level)
@@ -89,13 +89,13 @@ module _ (jobs : Jobs) (id : ℕ) (h : Holding) where
 
   receives_old : (frame : Frame) → AreOld (receives jobs id h frame)
   unfolding receives
-  receives_old (frames.Piece c) p get number e = inl e
-  receives_old (frames.Header hd) p get number e = inl e
-  receives_old (frames.FenceAsk a) p get number e = inl e
-  receives_old (frames.RangeAsk a) p get number e = inl e
+  receives_old (frames.Piece c) = λ p get number e. inl e
+  receives_old (frames.Header hd) = λ p get number e. inl e
+  receives_old (frames.FenceAsk a) = λ p get number e. inl e
+  receives_old (frames.RangeAsk a) = λ p get number e. inl e
   receives_old (frames.DirectAsk a) = held_old (nat_lt a.level (sealer_of h a.proc).level) a.node a.proc a.level
-  receives_old (frames.RefreshAsk a) p get number e = inl e
-  receives_old (frames.RefreshReply r) p get number e =
+  receives_old (frames.RefreshAsk a) = λ p get number e. inl e
+  receives_old (frames.RefreshReply r) = λ p get number e.
       let g = with_far h (joined h.far (told_by r)) in
       let was = replied_some jobs id g r.request r.told.proc p (Standing.refreshing get number) e in
       inl (was.1 ∙ ap Some (reply_refreshing jobs id g r.request r.told.proc was.0 get number was.2))
@@ -107,7 +107,7 @@ module _ (jobs : Jobs) (id : ℕ) (h : Holding) where
   does_old : (a : Act) → AreOld (does jobs id h a).left
   unfolding does
   does_old (Act.request r) = serves_old r
-  does_old (Act.commit by b) p get number e = inl e
+  does_old (Act.commit by b) = λ p get number e. inl e
   does_old (Act.deliver frame) = delivers_old frame (is_taken jobs id frame)
 
   acts_old : (a : Act) → AreOld (acts jobs id h a).left
@@ -115,15 +115,15 @@ module _ (jobs : Jobs) (id : ℕ) (h : Holding) where
 
 -- replies find the gets that wait for them after an act too, if it sends no request of a new number
 pub still_open : (t s : Server) → t ≡ s → (a : Act) → IsNode s → (new : Server) → new ≡ after s a → new.holding.requests ≡ t.holding.requests
-    → (anew then : Refreshes) → then ≡ anew → AreOpen t.holding.calls anew → AreOpen new.holding.calls then
-still_open t s view a kept new is count anew then same are p get number e =
+    → (anew last : Refreshes) → last ≡ anew → AreOpen t.holding.calls anew → AreOpen new.holding.calls last
+still_open t s view a kept new is count anew last same are p get number e =
     let e_then = ap (λ (x : Server). call_of x.holding p) (sym is) ∙ e in
-    let last = (node_stays s a kept).server.holds.anew p get number e_then in
+    let low = (node_stays s a kept).server.holds.anew p get number e_then in
     let counted : (after s a).holding.requests ≡ s.holding.requests = ap (λ (x : Server). x.holding.requests) (sym is) ∙ count ∙ ap (λ (x : Server). x.holding.requests) view in
     elim (acts_old s.jobs s.id s.holding a p get number e_then) [
       | inl was ↦
           let its = are p get number (ap (λ (x : Server). call_of x.holding p) view ∙ was) in (its.0, ap (λ (r : Refreshes). asker_at r number get.target) same ∙ its.1)
-      | inr next ↦ absurd (not_yet number (after s a).holding.requests s.holding.requests last.1 counted next)
+      | inr next ↦ absurd (not_yet number (after s a).holding.requests s.holding.requests low.1 counted next)
     ]
   where
     not_yet : (k now before : ℕ) → k ≤ now → now ≡ before → k ≡ suc before → ⊥

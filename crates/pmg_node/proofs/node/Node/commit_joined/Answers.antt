@@ -78,6 +78,14 @@ returns-in_err-before-clause-sent c =
     let s = c.args.self.now in
     erred_sent s (Act.commit c.args.proc.now c.args.batch.now) c.in_err-before.field-0.0 (over c) c.from_residual-in_err-before.result (p.1 ∙ ap Err p.2) c.args.out.now.items
 
+pub commit-requires-clause-own : goal.commit-requires-clause-own
+commit-requires-clause-own c =
+    let p = c.args.proc.now in
+    let inside = c.self.inside in
+    let t : Server = server_of inside.table inside.id inside.board inside.own inside.calls inside.held inside.marks in
+    let free = subst (λ (x : Server). first_of (free_cause x.jobs x.id x.holding p) (tt {0}) ≡ Ok tt) (sym c.self.view_is) (sym c.in_ok-check_free.ensures) in
+    c.self.invariant.node.sealers p (free_own t.jobs t.id t.holding p free)
+
 pub publish-requires-clause-level : goal.publish-requires-clause-level
 publish-requires-clause-level c =
     let s = c.args.self.now in

@@ -45,7 +45,7 @@ invariant_of-result c =
             marks = marks i;
           }))
           (new_is_node c.args.registry c.args.id c.peers.ensures.jobs c.requires);
-      replies = none_open _ _ c.new-4.ensures;
+      replies = none_open c.new-4.result c.new-5.result.anew c.new-4.ensures;
     }
 
 pub returns : goal.returns

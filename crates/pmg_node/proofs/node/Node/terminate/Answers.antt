@@ -43,6 +43,24 @@ returns-in-Err-clause-sent c =
 pub returns-in_default-end-clause-reply : goal.returns-in_default-end-clause-reply
 returns-in_default-end-clause-reply c = end_accepted c.args.self.now c.args.proc.now (sym c.check_caller.ensures ∙ c.in_default.is)
 
+pub end-requires-clause-there : goal.end-requires-clause-there
+end-requires-clause-there c =
+    let p = c.args.proc.now in
+    let inside = c.self.inside in
+    let t : Server = server_of inside.table inside.id inside.board inside.own inside.calls inside.held inside.marks in
+    let free = ap (λ (x : Server). first_of (caller_cause x.jobs x.id x.holding p) (tt {0})) c.self.view_is ∙ sym c.check_caller.ensures ∙ c.in_default.is in
+    let may = may_end t.jobs t.id t.holding p free in
+    c.self.invariant.node.sealers p may.own
+
+pub end-requires-clause-live : goal.end-requires-clause-live
+end-requires-clause-live c =
+    let p = c.args.proc.now in
+    let inside = c.self.inside in
+    let t : Server = server_of inside.table inside.id inside.board inside.own inside.calls inside.held inside.marks in
+    let free = ap (λ (x : Server). first_of (caller_cause x.jobs x.id x.holding p) (tt {0})) c.self.view_is ∙ sym c.check_caller.ensures ∙ c.in_default.is in
+    let may = may_end t.jobs t.id t.holding p free in
+    may.live
+
 pub publish-told-requires-clause-level : goal.publish-told-requires-clause-level
 publish-told-requires-clause-level c =
     let s = c.args.self.now in
