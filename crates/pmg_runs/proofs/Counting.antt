@@ -113,6 +113,10 @@ IsFresh w (frames.DirectAsk a) = Unit {0}
 IsFresh w (frames.RefreshAsk a) = (a.request ≤ (w.nodes a.ask.node).requests) × (a.ask.level ≤ level_at (w.nodes a.ask.node).far a.ask.proc)
 IsFresh w (frames.RefreshReply r) = (r.request ≤ (w.nodes r.node).requests) × (r.told.from ≤ level_at (w.nodes r.node).far r.told.proc)
 
+-- each frame that was sent is so
+abbrev pub AllFresh : World → Type 0
+AllFresh w = Each (λ s. IsFresh w s.frame) w.sent
+
 fresh_stays : (w v : World) → NodesRise w v → (frame : Frame) → IsFresh w frame → IsFresh v frame
 unfolding IsFresh
 fresh_stays w v rise (frames.Piece c) fresh = tt
@@ -127,7 +131,8 @@ fresh_stays w v rise (frames.RefreshReply r) fresh = (omega (arith, fresh.0, ris
 
 module _ (jobs : Jobs) (w : World) (node : ℕ) (a : Act) (r : Reply) (v : World) (step : ActStep jobs w node a r v) where
   -- what holds of the node that acted, and of all others
-  pub acted : (P : ℕ → Holding → Type 0) → P node (acts jobs node (w.nodes node) a).left → ((m : ℕ) → (m ≡ node → ⊥) → P m (w.nodes m)) → (m : ℕ) → P m (v.nodes m)
+  pub acted : (P : ℕ → Holding → Type 0) → P node (acts jobs node (w.nodes node) a).left
+      → ((m : ℕ) → (m ≡ node → ⊥) → P m (w.nodes m)) → (m : ℕ) → P m (v.nodes m)
   acted P one others m = subst (λ (x : World). P m (x.nodes m)) (sym step.left) (each_node P w.nodes node step.new (subst (P node) (sym step.step.left) one) others m)
 
   pub node_then : v.nodes node ≡ (acts jobs node (w.nodes node) a).left
@@ -137,7 +142,8 @@ module _ (jobs : Jobs) (w : World) (node : ℕ) (a : Act) (r : Reply) (v : World
   sent_then = ap (λ (x : World). x.sent) step.left
 
   -- what holds of all frames that were sent, and of those that the node may send, holds of all then
-  pub all_sent : (P : Frame → Type 0) → Each (λ s. P s.frame) w.sent → ((frame : Frame) → Allowed jobs node a (v.nodes node) frame → P frame) → Each (λ s. P s.frame) v.sent
+  pub all_sent : (P : Frame → Type 0) → Each (λ s. P s.frame) w.sent
+      → ((frame : Frame) → Allowed jobs node a (v.nodes node) frame → P frame) → Each (λ s. P s.frame) v.sent
   all_sent P old new =
       let may : Each (λ s. Allowed jobs node a (v.nodes node) s.frame) step.out =
       subst (λ h. Each (λ s. Allowed jobs node a h s.frame) step.out) (step.step.left ∙ sym node_then) step.step.allowed in
@@ -150,9 +156,10 @@ module _ (jobs : Jobs) (w : World) (node : ℕ) (a : Act) (r : Reply) (v : World
     far = λ n q. acted (λ m h. level_at (w.nodes m).far q ≤ level_at h.far q) ((act_rises jobs node (w.nodes node) a).far q) (λ m away. same_number _) n;
   }
 
-  module _ (e : Event) (is : IsActOf w e a) (good : Good jobs v) (fresh : Each (λ s. IsFresh w s.frame) w.sent) where
+  module _ (e : Event) (is : IsActOf w e a) (good : Good jobs v) (fresh : AllFresh w) where
     -- a reply begins where the ask that it replies to does
-    reply_fresh : (ask : RefreshAsk) → a ≡ Act.deliver (frames.RefreshAsk ask) → home_of jobs ask.ask.proc ≡ node → IsFresh v (frames.RefreshReply (reply_anew (v.nodes node) ask))
+    reply_fresh : (ask : RefreshAsk) → a ≡ Act.deliver (frames.RefreshAsk ask) → home_of jobs ask.ask.proc ≡ node
+        → IsFresh v (frames.RefreshReply (reply_anew (v.nodes node) ask))
     unfolding IsFresh
     reply_fresh ask its home =
         let found = is.frame (frames.RefreshAsk ask) its in
@@ -171,7 +178,7 @@ module _ (jobs : Jobs) (w : World) (node : ℕ) (a : Act) (r : Reply) (v : World
         subst (λ k. (ask.request ≤ (v.nodes k).requests) × (ask.ask.level ≤ level_at (v.nodes k).far ask.ask.proc)) (sym may.0) (may.1, may.2)
     sends_fresh (frames.RefreshReply reply) may = subst (λ (x : RefreshReply). IsFresh v (frames.RefreshReply x)) (sym may.4) (reply_fresh may.0 may.1 may.2)
 
-    act_fresh : Each (λ s. IsFresh v s.frame) v.sent
+    act_fresh : AllFresh v
     act_fresh = all_sent (IsFresh v) (each_still (λ s. IsFresh w s.frame) (λ s. IsFresh v s.frame) w.sent (λ s. fresh_stays w v act_raises s.frame) fresh) sends_fresh
 
 rest_raises : (w v : World) → v.nodes ≡ w.nodes → NodesRise w v
@@ -180,21 +187,21 @@ rest_raises w v same = record {
   far = λ n q. subst (λ (nodes : ℕ → Holding). level_at (w.nodes n).far q ≤ level_at (nodes n).far q) (sym same) (same_number _);
 }
 
-pub step_fresh : (jobs : Jobs) (w : World) (e : Event) (r : Reply) (v : World) → Step jobs w e r v → Good jobs v → Each (λ s. IsFresh w s.frame) w.sent → Each (λ s. IsFresh v s.frame) v.sent
+pub step_fresh : (jobs : Jobs) (w : World) (e : Event) (r : Reply) (v : World) → Step jobs w e r v → Good jobs v → AllFresh w → AllFresh v
 step_fresh jobs w e r v step good fresh = by_view (step_view jobs w e r v step)
   where
-    by_view : StepView jobs w e r v → Each (λ s. IsFresh v s.frame) v.sent
+    by_view : StepView jobs w e r v → AllFresh v
     by_view (StepView.acting node a is act) = act_fresh jobs w node a r v act e is good fresh
     by_view (StepView.resting nodes sent) =
         subst (λ (ss : List Sent). Each (λ s. IsFresh v s.frame) ss) (sym sent)
         (each_still (λ s. IsFresh w s.frame) (λ s. IsFresh v s.frame) w.sent (λ s. fresh_stays w v (rest_raises w v nodes) s.frame) fresh)
 
-run_fresh : (jobs : Jobs) → AreJobs jobs → (xs : List Happened) (w v : World) → Good jobs w → Each (λ s. IsFresh w s.frame) w.sent → Run jobs w xs v → Each (λ s. IsFresh v s.frame) v.sent
+run_fresh : (jobs : Jobs) → AreJobs jobs → (xs : List Happened) (w v : World) → Good jobs w → AllFresh w → Run jobs w xs v → AllFresh v
 unfolding Run
-run_fresh jobs are [] w v good fresh run = subst (λ (x : World). Each (λ s. IsFresh x s.frame) x.sent) (sym run) fresh
+run_fresh jobs are [] w v good fresh run = subst AllFresh (sym run) fresh
 run_fresh jobs are (x ∷ xs) w v good fresh run =
     let good_mid = step_good jobs are w good x.event x.reply run.0 run.1 in
     run_fresh jobs are xs run.0 v good_mid (step_fresh jobs w x.event x.reply run.0 run.1 good_mid fresh) run.2
 
-pub always_fresh : (jobs : Jobs) → AreJobs jobs → (xs : List Happened) (w : World) → Run jobs (start jobs) xs w → Each (λ s. IsFresh w s.frame) w.sent
+pub always_fresh : (jobs : Jobs) → AreJobs jobs → (xs : List Happened) (w : World) → Run jobs (start jobs) xs w → AllFresh w
 always_fresh jobs are xs w run = run_fresh jobs are xs (start jobs) w (start_good jobs) tt run

@@ -32,10 +32,10 @@ use Rattle.pmg_rules.proofs.CallFacts.{call-called}
 use Rattle.pmg_rules.proofs.CauseFacts.{NoCause, by_causes, caller_is, free_is, neither_cause}
 use Rattle.pmg_rules.proofs.Moving.{Moves, StaysOrMoves, does_call}
 use Rattle.pmg_rules.proofs.Sealing.{level_raised}
-use Rattle.pmg_runs.specs.Laws.{outcome_of, unless_taken, wanted_after, seen_at, Good}
+use Rattle.pmg_runs.specs.Laws.{Wanted, outcome_of, unless_taken, wanted_after, seen_at, Good}
 use Rattle.pmg_runs.specs.Refreshes.{wanted_anew, StaysIn, RefreshTheorem}
 use Rattle.pmg_runs.specs.Worlds.{World, Event, Doing, ActStep, Does, Step, Happened, Run, own_cause, own_get, is_own, requests, not_there, reply_in, doing}
-use Rattle.pmg_runs.proofs.Counting.{IsFresh, acted, node_then, all_sent, step_fresh, always_fresh}
+use Rattle.pmg_runs.proofs.Counting.{IsFresh, AllFresh, acted, node_then, all_sent, step_fresh, always_fresh}
 use Rattle.pmg_runs.proofs.Hearing.{refused_silent}
 use Rattle.pmg_runs.proofs.Leaving.{step_grows}
 use Rattle.pmg_runs.proofs.Replied.{refreshing_settled, refreshed_settled, was_taken, answer_anew, far_then}
@@ -60,6 +60,10 @@ level_reached d r q of from = by_test (nat_lt r.told.from r.told.to) refl
 module _ (jobs : Jobs) (p : Proc) (get : Get) (number low : ℕ) where
   abbrev id : ℕ
   id = home_of jobs p
+
+  -- the get that waits
+  abbrev anew : Option Wanted
+  anew = Some (wanted_anew get)
 
   -- the outcome is what one commit of the target left, no earlier one than the given one
   abbrev IsLate : Script → Outcome → Type 0
@@ -102,30 +106,35 @@ module _ (jobs : Jobs) (p : Proc) (get : Get) (number low : ℕ) where
     abbrev left_by : Holding
     left_by = (does jobs id h a).left
 
+    -- what a get is answered with what is known once the reply is there
+    abbrev answer_by : RefreshReply → Get → Outcome
+    answer_by r g = answer_in jobs id (with_far h (joined h.far (told_by r))) g modes.Now
+
     -- the process stays in its get
     abbrev Stays : Reply → Type 0
-    Stays reply = wanted_of p a reply (Some (wanted_anew get)) ≡ Some (wanted_anew get)
+    Stays reply = wanted_of p a reply anew ≡ anew
 
     -- so it does not end
     ends_not : a ≡ Act.request (Request.terminate p) → Stays (does jobs id h a).reply → ⊥
     unfolding does serves
-    ends_not is = subst (λ x. wanted_of p x (does jobs id h x).reply (Some (wanted_anew get)) ≡ Some (wanted_anew get) → ⊥) (sym is) (λ e. gone (sym (ap (λ b. cond b None (Some (wanted_anew get))) (proc_itself p)) ∙ e))
+    ends_not is =
+        subst (λ x. wanted_of p x (does jobs id h x).reply anew ≡ anew → ⊥) (sym is) (λ e. gone (sym (ap (λ b. cond b None anew) (proc_itself p)) ∙ e))
       where
-        gone : None ≡ Some (wanted_anew get) → ⊥
+        gone : None ≡ anew → ⊥
         gone e = cc
 
     -- nor takes the answer
     takes_not : (g : Get) (o : Outcome) → call_of h p ≡ Some (Standing.refreshed g o) → a ≡ Act.request (Request.take p) → Stays (does jobs id h a).reply → ⊥
     unfolding does serves
     takes_not g o call is =
-        subst (λ x. wanted_of p x (does jobs id h x).reply (Some (wanted_anew get)) ≡ Some (wanted_anew get) → ⊥) (sym is)
-        (λ e. no_outcome o answer (sym (ap (λ c. cond (same_proc p p) (unless_taken (outcome_of (takes h p c).reply) (Some (wanted_anew get))) (Some (wanted_anew get))) call
-        ∙ ap (λ b. cond b (unless_taken (outcome_of (reply_of o)) (Some (wanted_anew get))) (Some (wanted_anew get))) (proc_itself p)) ∙ e))
+        subst (λ x. wanted_of p x (does jobs id h x).reply anew ≡ anew → ⊥) (sym is)
+        (λ e. no_outcome o answer (sym (ap (λ c. cond (same_proc p p) (unless_taken (outcome_of (takes h p c).reply) anew) anew) call
+        ∙ ap (λ b. cond b (unless_taken (outcome_of (reply_of o)) anew) anew) (proc_itself p)) ∙ e))
       where
         answer : IsAnswer o
         answer = subst (FitsCall (scripts p)) call (fits.calls p refl)
 
-        no_outcome : (x : Outcome) → IsAnswer x → unless_taken (outcome_of (reply_of x)) (Some (wanted_anew get)) ≡ Some (wanted_anew get) → ⊥
+        no_outcome : (x : Outcome) → IsAnswer x → unless_taken (outcome_of (reply_of x)) anew ≡ anew → ⊥
         no_outcome (Outcome.found value) its e = cc
         no_outcome Outcome.absent its e = cc
         no_outcome Outcome.outside its e = cc
@@ -133,13 +142,14 @@ module _ (jobs : Jobs) (p : Proc) (get : Get) (number low : ℕ) where
 
     module _ (fitted : Fits jobs after id (settled jobs id left_by)) where
       -- the reply answers it with what is known then
-      replied_so : (r : RefreshReply) → a ≡ Act.deliver (frames.RefreshReply r) → call_of h p ≡ Some (Standing.refreshing get number) → is_replied r.request r.told.proc get number ≡ true
-          → call_of left_by p ≡ Some (Standing.refreshed get (answer_in jobs id (with_far h (joined h.far (told_by r))) get modes.Now)) → CallAt (after get.target) (settled jobs id left_by)
+      replied_so : (r : RefreshReply) → a ≡ Act.deliver (frames.RefreshReply r) → call_of h p ≡ Some (Standing.refreshing get number)
+          → is_replied r.request r.told.proc get number ≡ true → call_of left_by p ≡ Some (Standing.refreshed get (answer_by r get))
+          → CallAt (after get.target) (settled jobs id left_by)
       unfolding is_taken
       replied_so r is was its now = inr (o, refreshed_settled jobs id left_by p get o now, (level_at left_by.far get.target, high, made, sees))
         where
           o : Outcome
-          o = answer_in jobs id (with_far h (joined h.far (told_by r))) get modes.Now
+          o = answer_by r get
 
           same_number : (m n : ℕ) → (m == n) ≡ true → n ≡ m
           same_number m n e = grind (arith, nat_tests)
@@ -170,12 +180,12 @@ module _ (jobs : Jobs) (p : Proc) (get : Get) (number low : ℕ) where
           sees : o ≡ resolve (seen_at jobs id (after get.target) (level_at left_by.far get.target) get) modes.Now
           sees = answer_anew jobs id h p r get number o was a is now ∙ answer_sees jobs after id (settled jobs id left_by) fitted get modes.Now
 
-      replied_then : (r : RefreshReply) (g : Get) (k : ℕ) → a ≡ Act.deliver (frames.RefreshReply r) → call_of h p ≡ Some (Standing.refreshing g k) → is_replied r.request r.told.proc g k ≡ true
-          → call_of left_by p ≡ Some (Standing.refreshed g (answer_in jobs id (with_far h (joined h.far (told_by r))) g modes.Now)) → call_of h p ≡ Some (Standing.refreshing get number)
+      replied_then : (r : RefreshReply) (g : Get) (k : ℕ) → a ≡ Act.deliver (frames.RefreshReply r) → call_of h p ≡ Some (Standing.refreshing g k)
+          → is_replied r.request r.told.proc g k ≡ true → call_of left_by p ≡ Some (Standing.refreshed g (answer_by r g)) → call_of h p ≡ Some (Standing.refreshing get number)
           → CallAt (after get.target) (settled jobs id left_by)
       replied_then r g k is was its now call =
           replied_so r is call ((λ i. is_replied r.request r.told.proc (sym the_get i) (sym the_number i)) ∙ its)
-          (now ∙ (λ i. Some (Standing.refreshed (the_get i) (answer_in jobs id (with_far h (joined h.far (told_by r))) (the_get i) modes.Now))))
+          (now ∙ (λ i. Some (Standing.refreshed (the_get i) (answer_by r (the_get i)))))
         where
           same : Some (Standing.refreshing g k) ≡ Some (Standing.refreshing get number)
           same = sym was ∙ call
@@ -187,7 +197,8 @@ module _ (jobs : Jobs) (p : Proc) (get : Get) (number low : ℕ) where
           the_number = cc
 
       -- where it waits
-      waits_on : Stays (does jobs id h a).reply → call_of h p ≡ Some (Standing.refreshing get number) → StaysOrMoves jobs id h p a (call_of left_by p) → CallAt (after get.target) (settled jobs id left_by)
+      waits_on : Stays (does jobs id h a).reply → call_of h p ≡ Some (Standing.refreshing get number) → StaysOrMoves jobs id h p a (call_of left_by p)
+          → CallAt (after get.target) (settled jobs id left_by)
       waits_on stays call (inl same) = inl (refreshing_settled jobs id left_by p get number (same ∙ call))
       waits_on stays call (inr (Moves.entering list collect is was now)) = absurd cc
       waits_on stays call (inr (Moves.parking g mode is was answer now)) = absurd cc
@@ -198,8 +209,8 @@ module _ (jobs : Jobs) (p : Proc) (get : Get) (number low : ℕ) where
       waits_on stays call (inr (Moves.ending is now)) = absurd (ends_not is stays)
 
       -- where it is answered
-      told_on : Stays (does jobs id h a).reply → (o : Outcome) → call_of h p ≡ Some (Standing.refreshed get o) → IsLate (after get.target) o → StaysOrMoves jobs id h p a (call_of left_by p)
-          → CallAt (after get.target) (settled jobs id left_by)
+      told_on : Stays (does jobs id h a).reply → (o : Outcome) → call_of h p ≡ Some (Standing.refreshed get o) → IsLate (after get.target) o
+          → StaysOrMoves jobs id h p a (call_of left_by p) → CallAt (after get.target) (settled jobs id left_by)
       told_on stays o call late (inl same) = inr (o, refreshed_settled jobs id left_by p get o (same ∙ call), late)
       told_on stays o call late (inr (Moves.entering list collect is was now)) = absurd cc
       told_on stays o call late (inr (Moves.parking g mode is was answer now)) = absurd cc
@@ -226,13 +237,14 @@ module _ (jobs : Jobs) (p : Proc) (get : Get) (number low : ℕ) where
 
   -- what holds while the get is not taken
   record Asked (x : World) : Type 0 where
-    fresh : Each (λ s. IsFresh x s.frame) x.sent
+    fresh : AllFresh x
     since : Each (λ s. IsSince s.frame) x.sent
     made : low ≤ commits (x.scripts get.target)
     call : CallAt (x.scripts get.target) (x.nodes id)
 
   -- what a node replies tells of all commits that were made
-  sends_since : (node : ℕ) (a : Act) (v : World) → Good jobs v → low ≤ commits (v.scripts get.target) → (frame : Frame) → Allowed jobs node a (v.nodes node) frame → IsSince frame
+  sends_since : (node : ℕ) (a : Act) (v : World) → Good jobs v → low ≤ commits (v.scripts get.target)
+      → (frame : Frame) → Allowed jobs node a (v.nodes node) frame → IsSince frame
   unfolding Allowed IsSince
   sends_since node a v good made (frames.Piece c) may = tt
   sends_since node a v good made (frames.Header hd) may = tt
@@ -260,15 +272,15 @@ module _ (jobs : Jobs) (p : Proc) (get : Get) (number low : ℕ) where
         (subst (λ (q : Proc). r.told.from ≤ level_at (x.nodes id).far q) of from, since at one of)
 
     act_at : (v : World) → Grows x.scripts v.scripts → (e : Event) (a : Act) → IsActOf x e a → (k : ℕ) → k ≡ id
-        → wanted_of p a (acts jobs k (x.nodes k) a).reply (Some (wanted_anew get)) ≡ Some (wanted_anew get) → Fits jobs v.scripts k (acts jobs k (x.nodes k) a).left
+        → wanted_of p a (acts jobs k (x.nodes k) a).reply anew ≡ anew → Fits jobs v.scripts k (acts jobs k (x.nodes k) a).left
         → CallAt (v.scripts get.target) (acts jobs k (x.nodes k) a).left
     act_at v grows e a is k at =
-        subst (λ j. wanted_of p a (acts jobs j (x.nodes j) a).reply (Some (wanted_anew get)) ≡ Some (wanted_anew get) → Fits jobs v.scripts j (acts jobs j (x.nodes j) a).left
+        subst (λ j. wanted_of p a (acts jobs j (x.nodes j) a).reply anew ≡ anew → Fits jobs v.scripts j (acts jobs j (x.nodes j) a).left
         → CallAt (v.scripts get.target) (acts jobs j (x.nodes j) a).left) (sym at)
         (λ stays fitted. act_on x.scripts v.scripts (x.nodes id) (good.fits id) a (delivered e a is) stays fitted
         (call_grown (x.scripts get.target) (v.scripts get.target) (grows get.target) (x.nodes id) asked.call))
 
-    step_asked : (e : Event) (r : Reply) (v : World) → Step jobs x e r v → wanted_after p e r (Some (wanted_anew get)) ≡ Some (wanted_anew get) → Asked v
+    step_asked : (e : Event) (r : Reply) (v : World) → Step jobs x e r v → wanted_after p e r anew ≡ anew → Asked v
     step_asked e r v step stays = by_view (step_view jobs x e r v step)
       where
         good_then : Good jobs v
@@ -289,7 +301,7 @@ module _ (jobs : Jobs) (p : Proc) (get : Get) (number low : ℕ) where
           since = all_sent jobs x node a r v act IsSince asked.since (sends_since node a v good_then made_then);
           made = made_then;
           call = acted jobs x node a r v act (λ m h. m ≡ id → CallAt (v.scripts get.target) h)
-              (λ at. act_at v grows e a is node at (ap (λ y. wanted_of p a y (Some (wanted_anew get))) (sym act.step.replied) ∙ sym (is.wants p r (Some (wanted_anew get))) ∙ stays)
+              (λ at. act_at v grows e a is node at (ap (λ y. wanted_of p a y anew) (sym act.step.replied) ∙ sym (is.wants p r anew) ∙ stays)
               (subst (Fits jobs v.scripts node) (node_then jobs x node a r v act) (good_then.fits node)))
               (λ m away at. subst (λ k. CallAt (v.scripts get.target) (x.nodes k)) (sym at) still) id refl;
         }
@@ -408,7 +420,8 @@ take_replied : (jobs : Jobs) (node : ℕ) (h : Holding) (p : Proc) (o : Outcome)
 unfolding cause does serves request_cause
 take_replied jobs node h p o e = elim (by_causes (cause jobs node h (take_act p)) (does jobs node h (take_act p))) [
   | inl found ↦
-      absurd (nothing (sym (refused_silent jobs node h p (Request.take p) found.0 (proc_itself p) found.1) ∙ sym (ap (λ (x : Result Done Refusal). outcome_of (over jobs node h x).reply) found.2) ∙ e))
+      let silent = refused_silent jobs node h p (Request.take p) found.0 (proc_itself p) found.1 in
+      absurd (nothing (sym silent ∙ sym (ap (λ (x : Result Done Refusal). outcome_of (over jobs node h x).reply) found.2) ∙ e))
   | inr free ↦ ((caller_is jobs node h p free.1).home, sym (ap (λ (x : Result Done Refusal). outcome_of (over jobs node h x).reply) free.0) ∙ e)
 ]
   where
@@ -431,7 +444,7 @@ module _ (jobs : Jobs) (p : Proc) (get : Get) (low : ℕ) (w : World) where
       let given : r.request ≤ (w.nodes (home_of jobs p)).requests = subst (λ k. r.request ≤ (w.nodes k).requests) at fresh.0 in
       absurd (omega (arith, given, its))
 
-  module _ (are : AreJobs jobs) (node : ℕ) (v : World) (good : Good jobs w) (fresh : Each (λ s. IsFresh w s.frame) w.sent) (low_is : low ≡ commits (w.scripts get.target))
+  module _ (are : AreJobs jobs) (node : ℕ) (v : World) (good : Good jobs w) (fresh : AllFresh w) (low_is : low ≡ commits (w.scripts get.target))
       (step : Step jobs w (Event.request node (Request.ask p get modes.Refresh)) Reply.parked v) where
     abbrev number : ℕ
     number = suc (w.nodes (home_of jobs p)).requests
