@@ -255,6 +255,7 @@ requests_after n modes.Wait = n
 requests_after n modes.Now = n
 requests_after n modes.Refresh = suc n
 
+-- the process is in that call then
 abbrev pub parks : Holding → Proc → Get → Mode → Holding
 parks h p get mode = called (with_requests h (requests_after h.requests mode)) p (waits_as h.requests get mode)
 

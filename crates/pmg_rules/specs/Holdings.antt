@@ -114,6 +114,7 @@ with_calls h calls = record { near = h.near; far = h.far; sealers = h.sealers; s
 abbrev pub with_held : Holding → Levels → Holding
 with_held h held = record { near = h.near; far = h.far; sealers = h.sealers; sets = h.sets; table = h.table; calls = h.calls; held = held; requests = h.requests }
 
+-- so many requests were made
 abbrev pub with_requests : Holding → ℕ → Holding
 with_requests h requests = record { near = h.near; far = h.far; sealers = h.sealers; sets = h.sets; table = h.table; calls = h.calls; held = h.held; requests = requests }
 
@@ -180,7 +181,7 @@ settled jobs id h = with_calls h (mapped (settle jobs id h) h.calls)
 
 -- ---- replies to gets that ask anew
 
--- the get waits for the reply to the request of that number, which is of the process
+-- the get, which waits for the reply to a request, waits for the one of that number and process
 abbrev pub is_replied : ℕ → Proc → Get → ℕ → Bool
 is_replied number q get waits_for = (waits_for == number) && same_proc get.target q
 
@@ -190,5 +191,6 @@ answer_reply jobs id h number q (Standing.refreshing get waits_for) =
     if is_replied number q get waits_for then Standing.refreshed get (answer_in jobs id h get modes.Now) else Standing.refreshing get waits_for
 answer_reply jobs id h number q standing = standing
 
+-- once the reply to the request of that number is there, which is of the process
 abbrev pub with_reply : Jobs → ℕ → Holding → ℕ → Proc → Holding
 with_reply jobs id h number q = with_calls h (mapped (answer_reply jobs id h number q) h.calls)

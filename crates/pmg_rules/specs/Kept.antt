@@ -27,9 +27,9 @@ IsOwn jobs id p = (is_member jobs p ≡ true) × (home_of jobs p ≡ id)
 
 -- What a content is made of, without any script: what is kept as sealed by a process is its own; who is in a call is a process
 -- of the group, at home at the node; a get waits for a key of a process of the group, one that asks anew under a number that was
--- given; who waits for a process's next commit is
--- another node, the process is at home at this one, and its commits are all known there; each fence whose name is there is one
--- of processes of the group, some of them at home at the node; and who is in a fence takes part in one whose name is there.
+-- given; who waits for a process's next commit is another node, the process is at home at this one, and its commits are all known
+-- there; each fence whose name is there is one of processes of the group, some of them at home at the node; and who is in a fence
+-- takes part in one whose name is there.
 pub record Holds (jobs : Jobs) (id : ℕ) (h : Holding) : Type 0 where
   pub sealers : (p : Proc) → (sealer_of h p).proc ≡ p
   pub callers : (p : Proc) (standing : Standing) → call_of h p ≡ Some standing → IsOwn jobs id p
