@@ -1,7 +1,8 @@
 //! Processes, keys, puts, requests and frames from words.
 use pmg_commit::{Piece, PieceEntry};
 use pmg_frame::{
-    CommitAsk, FenceAsk, FenceName, Frame, Header, Local, RefreshAsk, RefreshReply, Signature, State,
+    CommitAsk, FenceAsk, FenceName, Frame, Header, Local, RefreshAsk, RefreshReply, Signature,
+    State,
 };
 use pmg_get::Mode;
 use pmg_node::Request;
