@@ -88,7 +88,7 @@ def drawn_line(rng):
             f"commit {who}",
             f"enter {who} {rng.choice(['plain', 'collect'])} {rng.choice(['', who, 'j 0 j 1', 'j 0 j 1 j 2'])}".rstrip(),
             f"leave {who}",
-            f"get {who} {rng.choice(['wait', 'now'])} {other} {key}",
+            f"get {who} {rng.choice(['wait', 'now', 'refresh'])} {other} {key}",
             f"take {who}",
             f"deliver {rng.randrange(12)}",
             "flow",
