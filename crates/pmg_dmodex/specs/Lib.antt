@@ -1,3 +1,4 @@
 pub mod Levels
 pub mod Parked
+pub mod Refreshes
 pub mod Requests

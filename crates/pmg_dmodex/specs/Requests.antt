@@ -5,21 +5,26 @@ use Rattle.std.specs.Coded.{Coded, code_by, coded×, coded_ℕ}
 use Rattle.pmg_value.specs.declared.process.Proc.{Proc}
 use Rattle.pmg_value.specs.Process.{proc_cmp, coded_proc}
 use Rattle.pmg_dmodex.specs.Levels.{Levels, coded_levels, levels_of, level_at, with_level, below, without_below}
+use Rattle.pmg_dmodex.specs.Refreshes.{Refreshes, coded_refreshes, no_refreshes}
 
--- The level that was named last when a process's home was asked for its commits; and the nodes that wait for a process's
--- commits, each with the level that it knows.
+-- The level that was named last when a process's home was asked for its commits; the nodes that wait for a process's
+-- commits, each with the level that it knows; and the requests for commits that are asked for anew.
 pub record Requests : Type 0 where
   pub asked : finite.FinMap proc_cmp ℕ
   pub held : Levels
+  pub anew : Refreshes
 
--- requests as a pair
+-- requests as pairs
 abbrev pub coded_requests : Coded Requests
 coded_requests =
-    code_by (finite.FinMap proc_cmp ℕ × Levels) (coded× (finite.code coded_proc coded_ℕ) coded_levels) (λ r. (r.asked, r.held))
-    (λ p. record { asked = p.0; held = p.1 }) (λ _. refl)
+    code_by (finite.FinMap proc_cmp ℕ × (Levels × Refreshes)) (coded× (finite.code coded_proc coded_ℕ) (coded× coded_levels coded_refreshes))
+    (λ r. (r.asked, (r.held, r.anew))) (λ p. record { asked = p.0; held = p.1.0; anew = p.1.1 }) (λ _. refl)
 
 abbrev pub no_requests : Requests
-no_requests = record { asked = finite.empty; held = finite.empty }
+no_requests = record { asked = finite.empty; held = finite.empty; anew = no_refreshes }
+
+abbrev pub with_anew : Requests → Refreshes → Requests
+with_anew r anew = record { asked = r.asked; held = r.held; anew = anew }
 
 -- the lesser, where there is one already
 abbrev pub least : Option ℕ → ℕ → ℕ
@@ -33,11 +38,11 @@ greatest (Some m) n = if nat_le n m then m else n
 
 -- the process's home was asked at the level: the greatest counts
 abbrev pub asking : Requests → Proc → ℕ → Requests
-asking r p level = record { asked = finite.insert r.asked p (greatest (finite.get r.asked p) level); held = r.held }
+asking r p level = record { asked = finite.insert r.asked p (greatest (finite.get r.asked p) level); held = r.held; anew = r.anew }
 
 -- the node waits for commits of the process past the level: the least counts
 abbrev pub holding : Requests → ℕ → Proc → ℕ → Requests
-holding r node p level = record { asked = r.asked; held = with_level r.held p node (least (level_at r.held p node) level) }
+holding r node p level = record { asked = r.asked; held = with_level r.held p node (least (level_at r.held p node) level); anew = r.anew }
 
 -- the nodes that wait for a commit that the level has, with the levels that they know, by node
 abbrev pub due : Requests → Proc → ℕ → List (ℕ × ℕ)
@@ -53,4 +58,5 @@ abbrev pub settled : Requests → Proc → ℕ → Requests
 settled r p level = record {
   asked = if is_below (finite.get r.asked p) level then finite.remove r.asked p else r.asked;
   held = without_below r.held p level;
+  anew = r.anew;
 }

@@ -5,6 +5,7 @@ mod levels;
 mod marks;
 mod parked;
 mod pending;
+mod refreshes;
 
 pub use marks::Marks;
 pub use parked::Parked;

@@ -1,10 +1,14 @@
 //! Requests that wait.
-ghost use Rattle.std.specs.Prelude.{◌≡◌, IfOk, OnOk, OnErr};
+ghost use Rattle.std.specs.Prelude.{◌≡◌, ◌≤◌, ◌↔◌, suc, Err, IfOk, OnOk, OnErr};
 ghost use Rattle.std.specs.FinMap as finite;
-ghost use Rattle.pmg_dmodex.specs.Requests.{asking, due, greatest, holding, is_below, least, no_requests, settled};
+ghost use Rattle.std.specs.Option.{option_map};
+ghost use Rattle.pmg_value.specs.declared.refusal.Refusal.TheVariants as refusals;
+ghost use Rattle.pmg_dmodex.specs.Refreshes.{answered, asker_at, requested};
+ghost use Rattle.pmg_dmodex.specs.Requests.{asking, due, greatest, holding, is_below, least, no_requests, settled, with_anew};
 
 use crate::levels::Levels;
-use pmg_value::{NodeId, Proc, copy_rows};
+use crate::refreshes::Refreshes;
+use pmg_value::{NodeId, Proc, Refusal, copy_rows};
 use std::alloc::{AllocError, Global};
 use std::collections::BTreeMap;
 use std::marker::Model;
@@ -72,12 +76,14 @@ impl Asked {
     }
 }
 
-/// The requests of a node for commits of processes: those that it sent to their homes, and those of other nodes that
-/// wait until a process of this node has commits past the level that they know.
+/// The requests of a node for commits of processes: those that it sent to their homes, those of other nodes that wait
+/// until a process of this node has commits past the level that they know, and its own of gets that ask anew, under
+/// numbers.
 pub struct Pending {
     alloc: Global,
     asked: Asked,
     held: Levels,
+    anew: Refreshes,
 }
 
 impl Drop for Pending {
@@ -86,6 +92,7 @@ impl Drop for Pending {
             alloc: _,
             asked: _,
             held: _,
+            anew: _,
         } = self;
     }
 }
@@ -97,7 +104,7 @@ impl Model for Pending {
 
     ghost coded = { coded_requests };
 
-    ghost view = { λ a. record { asked = a.asked; held = a.held } };
+    ghost view = { λ a. record { asked = a.asked; held = a.held; anew = a.anew } };
 }
 
 impl Pending {
@@ -109,6 +116,7 @@ impl Pending {
             alloc,
             asked: Asked::new(alloc),
             held: Levels::new(alloc),
+            anew: Refreshes::new(alloc),
         }
     }
 
@@ -165,6 +173,40 @@ impl Pending {
         }
     }
 
+    /// The number of the last request of a get that asks anew, 0 before the first.
+    pub fn last_request(&self) -> u64
+        ensures { result ≡ self.now.anew.last }
+    {
+        self.anew.last()
+    }
+
+    /// The next number, for a request of the asker's that asks anew for commits of the target. Refused: TooMany where the
+    /// last one was 18446744073709551615, then as NoMemory; a refusal changes nothing.
+    pub fn request(&mut self, asker: &Proc, target: &Proc) -> Result<u64, Refusal>
+        ensures too_many { (result ≡ Err refusals.TooMany) ↔ (18446744073709551615 ≤ self.old.anew.last) }
+        ensures number { IfOk result (λ number. number ≡ suc self.old.anew.last) }
+        ensures ok { OnOk result (self.new ≡ with_anew self.old
+            (requested self.old.anew asker.now target.now)) }
+        ensures err { OnErr result (self.new ≡ self.old) }
+    {
+        self.anew.request(asker, target)
+    }
+
+    /// Who asks anew for commits of the target under the number.
+    pub fn asker_of(&self, number: u64, target: &Proc) -> Option<&Proc>
+        ensures { option_map (λ asker. asker.now) result ≡ asker_at self.now.anew number target.now }
+    {
+        self.anew.asker_of(number, target)
+    }
+
+    /// The request for commits of the target under the number is answered, where there is such a one: who asked.
+    pub fn answered(&mut self, number: u64, target: &Proc) -> Option<Proc>
+        ensures asker { result ≡ asker_at self.old.anew number target.now }
+        ensures left { self.new ≡ with_anew self.old (answered self.old.anew number target.now) }
+    {
+        self.anew.answered(number, target)
+    }
+
     /// Others of the same meaning, with the same allocator.
     pub fn copy(&self) -> Result<Pending, AllocError>
         ensures { IfOk result (λ copy. copy ≡ self.now) }
@@ -173,6 +215,7 @@ impl Pending {
             alloc: self.alloc,
             asked: self.asked.copy(self.alloc)?,
             held: self.held.copy()?,
+            anew: self.anew.copy()?,
         })
     }
 }

@@ -2,8 +2,9 @@ ghost use Rattle.std.specs.Prelude.{◌≡◌, ◌<◌, ◌≤◌, true, false, 
 ghost use Rattle.std.specs.FinMap as finite;
 ghost use Rattle.pmg_value.specs.Answers.{Gives};
 ghost use Rattle.pmg_value.specs.CheckOrder.{first_of};
-ghost use Rattle.pmg_value.specs.Process.{is_host};
+ghost use Rattle.pmg_value.specs.Process.{can_commit, is_host};
 ghost use Rattle.pmg_commit.specs.Sealed.{sealed_with, commit_answer, is_other, piece_at};
+ghost use Rattle.pmg_commit.specs.Stamped.{IsSealer};
 ghost use Rattle.pmg_commit.specs.TakenBack.{sealer_back, CanTakeBack};
 ghost use Rattle.pmg_pset.specs.Members.{each_once, proc_bytes, no_members};
 ghost use Rattle.pmg_pset.specs.Refusing.{define_cause, delete_cause};
@@ -49,6 +50,7 @@ impl Own {
     pub fn level(&self, proc: &Proc) -> u64
         ensures value { result ≡ (sealed_of self.now proc.now).level }
         ensures bound { result ≤ 4294967295 }
+        ensures sealer { can_commit proc.now ≡ true → IsSealer (sealed_of self.now proc.now) }
     {
         if proc.is_host() {
             return self.sets.level();

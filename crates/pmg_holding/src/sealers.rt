@@ -2,7 +2,9 @@ ghost use Rattle.std.specs.Prelude.{◌≡◌, ◌<◌, ◌≤◌, true, false, 
 ghost use Rattle.std.specs.FinMap as finite;
 ghost use Rattle.std.specs.Option.{option_map};
 ghost use Rattle.pmg_value.specs.Answers.{Gives};
+ghost use Rattle.pmg_value.specs.Process.{can_commit};
 ghost use Rattle.pmg_commit.specs.Sealed.{sealed_with, end_of, commit_answer, piece_answer};
+ghost use Rattle.pmg_commit.specs.Stamped.{IsSealer};
 ghost use Rattle.pmg_commit.specs.TakenBack.{sealer_back, end_back, CanTakeBack};
 ghost use Rattle.pmg_holding.specs.Sealers.{sealed_by};
 
@@ -60,6 +62,7 @@ impl Sealers {
     pub fn level(&self, proc: &Proc) -> u64
         ensures value { result ≡ (sealed_by self.now proc.now).level }
         ensures bound { result ≤ 4294967295 }
+        ensures sealer { can_commit proc.now ≡ true → IsSealer (sealed_by self.now proc.now) }
     {
         match self.get(proc) {
             Some(sealer) => sealer.level(),

@@ -1,5 +1,5 @@
 -- A process asks for a key: how it is judged, and what the get does.
-use Rattle.std.proofs.Common.{◌≡◌, ◌⊎◌, ℕ, Bool, true, false, cond, ◌&&◌, ◌||◌, not, List, [], Option, Some, None, is_none, is_some, Result, Ok, Err, inl, inr, refl, sym, ap, subst, ◌∙◌}
+use Rattle.std.proofs.Common.{◌≡◌, ◌⊎◌, ℕ, suc, Bool, true, false, cond, ◌&&◌, ◌||◌, not, List, [], Option, Some, None, is_none, is_some, Result, Ok, Err, inl, inr, refl, sym, ap, subst, ◌∙◌}
 use Rattle.std.specs.Prelude.{◌==◌}
 use Rattle.std.specs.Option.{option_map}
 use Rattle.std.proofs.lemmas.Bool.{false≢true, not-false}
@@ -22,17 +22,19 @@ use Rattle.pmg_jobinfo.specs.Jobs.{Jobs, is_node, is_registered, is_member, home
 use Rattle.pmg_jobinfo.specs.Refusing.{reserved_cause}
 use Rattle.pmg_jobinfo.specs.Reserved.{is_general, reserved_value}
 use Rattle.pmg_dmodex.specs.Levels.{Levels}
-use Rattle.pmg_rules.specs.Acts.{Act, Request, Reply, Done, also, caller_cause, busy_cause, free_cause, target_cause, is_misnamed, cause, request_cause, reply_of, done_as, asks, serves, does, acts}
-use Rattle.pmg_rules.specs.Choosing.{Out, asking, asking_for, due_by, due_by_request, marked_by_act, sends, chosen}
+use Rattle.pmg_rules.specs.Acts.{Act, Request, Reply, Done, also, caller_cause, busy_cause, free_cause, target_cause, number_cause, is_misnamed, cause, request_cause, reply_of, done_as, waits_as, parks, asks, serves, does, acts}
+use Rattle.pmg_rules.specs.Choosing.{Out, asking_for, due_by, due_by_request, marked_by_act, sends, chosen}
 use Rattle.pmg_rules.specs.Holdings.{Get, Standing, Holding, sealer_of, call_of, called, answer_in, seen_of, settled}
 use Rattle.pmg_rules.specs.Kept.{IsSettled}
 use Rattle.pmg_rules.specs.Sending.{is_quiet}
 use Rattle.pmg_node.specs.Servers.{Server, Refuses, reply_to, sent_by, after}
 use Rattle.pmg_rules.specs.declared.due.Due.{Due}
 use Rattle.pmg_node.proofs.ActLemmas.{accepted_after, accepted_sent}
+use Rattle.pmg_node.proofs.CommitLemmas.{then_full}
 use Rattle.pmg_rules.proofs.CallFacts.{call-called}
 use Rattle.pmg_rules.proofs.CauseFacts.{NoCause, by_causes, neither, neither_cause, free_is}
-use Rattle.pmg_rules.proofs.KeptSettled.{settled_same, resolve_parks, parked_settled}
+use Rattle.pmg_rules.proofs.KeptBasics.{put_cases}
+use Rattle.pmg_rules.proofs.KeptSettled.{settled_same, parks_waiting, parked_settled}
 use Rattle.pmg_node.proofs.RefusalLemmas.{fails_as}
 use Rattle.pmg_node.proofs.SilentLemmas.{act_free, none_due, after_is, sent_none}
 
@@ -41,12 +43,16 @@ use Rattle.pmg_node.proofs.SilentLemmas.{act_free, none_due, after_is, sent_none
 abbrev pub ask_of : Proc → Get → Mode → Act
 ask_of p get mode = Act.request (Request.ask p get mode)
 
--- what is judged of an act
-abbrev pub ask_causes : Jobs → ℕ → Holding → Proc → Get → Refusal → Bool
-ask_causes jobs id h p get = also (free_cause jobs id h p) (target_cause jobs p get)
+-- what is judged of an act: who asks for whose key
+abbrev pub named : Jobs → ℕ → Holding → Proc → Get → Result (Unit {0}) Refusal
+named jobs id h p get = first_of (also (free_cause jobs id h p) (target_cause jobs p get)) tt
 
-abbrev pub judged : Jobs → ℕ → Holding → Proc → Get → Result (Unit {0}) Refusal
-judged jobs id h p get = first_of (ask_causes jobs id h p get) tt
+-- and whether there is a number for its request
+abbrev pub ask_causes : Jobs → ℕ → Holding → Proc → Get → Mode → Refusal → Bool
+ask_causes jobs id h p get mode = also (free_cause jobs id h p) (also (target_cause jobs p get) (number_cause jobs id h get mode))
+
+abbrev pub judged : Jobs → ℕ → Holding → Proc → Get → Mode → Result (Unit {0}) Refusal
+judged jobs id h p get mode = first_of (ask_causes jobs id h p get mode) tt
 
 -- the first refusal, by the causes of the caller, and whether the target is bad, or of no namespace that is registered
 abbrev asked_first : Bool → Bool → Bool → Bool → Bool → Bool → Bool → Result (Unit {0}) Refusal
@@ -75,6 +81,21 @@ known_first false false false true e = refl
 known_first false false false false true = refl
 known_first false false false false false = refl
 
+numbered_first : (a b c d e bad unknown t : Bool)
+    → cond ((a || false) || (bad || false)) (Err refusals.BadParam)
+    (cond ((b || false) || (unknown || false)) (Err refusals.UnknownNamespace)
+    (cond ((c || false) || false) (Err refusals.NotMine)
+    (cond ((d || false) || false) (Err refusals.Terminated) (cond (e || false) (Err refusals.Busy) (cond t (Err refusals.TooMany) (Ok (tt {0})))))))
+    ≡ then_full (asked_first a b c d e bad unknown) t
+numbered_first true b c d e bad unknown t = refl
+numbered_first false b c d e true unknown t = refl
+numbered_first false true c d e false unknown t = refl
+numbered_first false false c d e false true t = refl
+numbered_first false false true d e false false t = refl
+numbered_first false false false true e false false t = refl
+numbered_first false false false false true false false t = refl
+numbered_first false false false false false false false t = refl
+
 module _ (jobs : Jobs) (id : ℕ) (h : Holding) (p : Proc) (get : Get) where
   abbrev caller_has : Refusal → Bool
   caller_has e = caller_cause jobs id h p e
@@ -83,13 +104,13 @@ module _ (jobs : Jobs) (id : ℕ) (h : Holding) (p : Proc) (get : Get) where
   is_busy = busy_cause h p refusals.Busy
 
   ask_first : (bad unknown : Bool) → target_cause jobs p get refusals.BadParam ≡ bad → target_cause jobs p get refusals.UnknownNamespace ≡ unknown
-      → judged jobs id h p get
+      → named jobs id h p get
       ≡ asked_first (caller_has refusals.BadParam) (caller_has refusals.UnknownNamespace) (caller_has refusals.NotMine) (caller_has refusals.Terminated) is_busy bad unknown
   ask_first bad unknown is there =
       λ i. asked_first (caller_has refusals.BadParam) (caller_has refusals.UnknownNamespace) (caller_has refusals.NotMine) (caller_has refusals.Terminated) is_busy
       (is i) (there i)
 
-  pub ask_bad : target_cause jobs p get refusals.BadParam ≡ true → judged jobs id h p get ≡ Err refusals.BadParam
+  pub ask_bad : target_cause jobs p get refusals.BadParam ≡ true → named jobs id h p get ≡ Err refusals.BadParam
   ask_bad is =
       ask_first true (target_cause jobs p get refusals.UnknownNamespace) is refl
       ∙ bad_first (caller_has refusals.BadParam) (caller_has refusals.UnknownNamespace) (caller_has refusals.NotMine) (caller_has refusals.Terminated) is_busy
@@ -97,10 +118,16 @@ module _ (jobs : Jobs) (id : ℕ) (h : Holding) (p : Proc) (get : Get) where
 
   -- a target that may be named leaves the caller to be judged
   pub ask_known : target_cause jobs p get refusals.BadParam ≡ false → is_registered jobs get.target.nspace ≡ true
-      → judged jobs id h p get ≡ first_of (free_cause jobs id h p) (tt {0})
+      → named jobs id h p get ≡ first_of (free_cause jobs id h p) (tt {0})
   ask_known is there =
       ask_first false false is (ap not there)
       ∙ known_first (caller_has refusals.BadParam) (caller_has refusals.UnknownNamespace) (caller_has refusals.NotMine) (caller_has refusals.Terminated) is_busy
+
+  -- whoever may ask for the key is refused where there is no number
+  pub ask_numbered : (mode : Mode) → judged jobs id h p get mode ≡ then_full (named jobs id h p get) (number_cause jobs id h get mode refusals.TooMany)
+  ask_numbered mode =
+      numbered_first (caller_has refusals.BadParam) (caller_has refusals.UnknownNamespace) (caller_has refusals.NotMine) (caller_has refusals.Terminated) is_busy
+      (target_cause jobs p get refusals.BadParam) (target_cause jobs p get refusals.UnknownNamespace) (number_cause jobs id h get mode refusals.TooMany)
 
 -- what is judged of an act that is not refused: the target may be named, and the caller is in no call
 pub record IsAsked (jobs : Jobs) (h : Holding) (p : Proc) (get : Get) : Type 0 where
@@ -108,19 +135,20 @@ pub record IsAsked (jobs : Jobs) (h : Holding) (p : Proc) (get : Get) : Type 0 w
   pub known : is_registered jobs get.target.nspace ≡ true
   pub idle : call_of h p ≡ None
 
-none_asked : (jobs : Jobs) (id : ℕ) (h : Holding) (p : Proc) (get : Get) → NoCause (ask_causes jobs id h p get) → IsAsked jobs h p get
-none_asked jobs id h p get none =
-    let each = neither_cause (free_cause jobs id h p) (target_cause jobs p get) none in
+none_asked : (jobs : Jobs) (id : ℕ) (h : Holding) (p : Proc) (get : Get) (mode : Mode) → NoCause (ask_causes jobs id h p get mode) → IsAsked jobs h p get
+none_asked jobs id h p get mode none =
+    let each = neither_cause (free_cause jobs id h p) (also (target_cause jobs p get) (number_cause jobs id h get mode)) none in
+    let its = neither_cause (target_cause jobs p get) (number_cause jobs id h get mode) each.1 in
     record {
-      named = each.1.1.0;
-      known = not-false (is_registered jobs get.target.nspace) each.1.1.1.0;
+      named = its.0.1.0;
+      known = not-false (is_registered jobs get.target.nspace) its.0.1.1.0;
       idle = (free_is jobs id h p each.0).1;
     }
 
-pub ask_free : (jobs : Jobs) (id : ℕ) (h : Holding) (p : Proc) (get : Get) → judged jobs id h p get ≡ Ok tt → IsAsked jobs h p get
-ask_free jobs id h p get free = elim (by_causes (ask_causes jobs id h p get) (tt {0})) [
+pub ask_free : (jobs : Jobs) (id : ℕ) (h : Holding) (p : Proc) (get : Get) (mode : Mode) → judged jobs id h p get mode ≡ Ok tt → IsAsked jobs h p get
+ask_free jobs id h p get mode free = elim (by_causes (ask_causes jobs id h p get mode) (tt {0})) [
   | inl found ↦ absurd (not_both found.0 (sym found.2 ∙ free))
-  | inr none ↦ none_asked jobs id h p get none.1
+  | inr none ↦ none_asked jobs id h p get mode none.1
 ]
   where
     not_both : (e : Refusal) → ◌≡◌ {A = Result (Unit {0}) Refusal} (Err e) (Ok tt) → ⊥
@@ -210,6 +238,17 @@ module _ (jobs : Jobs) (id : ℕ) (get : Get) where
 
 -- ---- the get
 
+-- whoever waits so has nothing to be settled
+pub waiting_settled : (jobs : Jobs) (id : ℕ) (h : Holding) → IsSettled jobs id h → (p : Proc) (get : Get) (mode : Mode) → answer_in jobs id h get mode ≡ Outcome.parks
+    → IsSettled jobs id (parks h p get mode)
+waiting_settled jobs id h is p get modes.Wait waits = parked_settled jobs id h is p get waits
+waiting_settled jobs id h is p get modes.Now waits = parked_settled jobs id h is p get (parks_waiting jobs id h get modes.Now waits (λ other. cc))
+waiting_settled jobs id h is p get modes.Refresh waits = record {
+  fences = λ q f e. put_cases h.calls p q (Standing.refreshing get (suc h.requests)) (Standing.in_fence f) e (λ same it. absurd cc) (is.fences q f);
+  gets = λ q other e. put_cases h.calls p q (Standing.refreshing get (suc h.requests)) (Standing.parked other) e (λ same it. absurd cc) (is.gets q other);
+}
+
+
 -- what the get is answered at the node
 abbrev pub answer_at : Server → Get → Mode → Outcome
 answer_at s get mode = answer_in s.jobs s.id s.holding get mode
@@ -219,12 +258,12 @@ abbrev pub IsTold : Reply → Type 0
 IsTold reply = reply ≡ Reply.parked → ⊥
 
 -- the process waits for the key
-abbrev pub parked_at : Levels → Proc → Get → Server → Server
-parked_at marks p get s = record { jobs = s.jobs; id = s.id; holding = called s.holding p (Standing.parked get); marks = marks }
+abbrev pub parked_at : Levels → Proc → Get → Mode → Server → Server
+parked_at marks p get mode s = record { jobs = s.jobs; id = s.id; holding = parks s.holding p get mode; marks = marks }
 
 -- what goes out then
-abbrev pub park_out : Get → Server → Out
-park_out get s = sends (sealer_of s.holding) s.marks (asking s.jobs s.id s.holding get.target)
+abbrev pub park_out : Get → Mode → Server → Out
+park_out get mode s = sends (sealer_of s.holding) s.marks (asking_for s.jobs s.id s.holding (Some (waits_as s.holding.requests get mode)))
 
 pub found_told : (v : List ℕ) → IsTold (Reply.found v)
 found_told v is = cc
@@ -239,13 +278,13 @@ parks_by Outcome.outside is = absurd cc
 parks_by Outcome.parks is = refl
 
 module _ (s : Server) (p : Proc) (get : Get) (mode : Mode) where
-  pub ask_cause : (r : Result (Unit {0}) Refusal) → judged s.jobs s.id s.holding p get ≡ r
+  pub ask_cause : (r : Result (Unit {0}) Refusal) → judged s.jobs s.id s.holding p get mode ≡ r
       → first_of (cause s.jobs s.id s.holding (ask_of p get mode)) (tt {0}) ≡ r
   unfolding cause request_cause
   ask_cause r is = is
 
-  module _ (is : IsSettled s.jobs s.id s.holding) (free : judged s.jobs s.id s.holding p get ≡ Ok tt) where
-    reply_as : (o : Outcome) → (asks s.holding p get o).reply ≡ reply_of o
+  module _ (is : IsSettled s.jobs s.id s.holding) (free : judged s.jobs s.id s.holding p get mode ≡ Ok tt) where
+    reply_as : (o : Outcome) → (asks s.holding p get mode o).reply ≡ reply_of o
     reply_as (Outcome.found value) = refl
     reply_as Outcome.absent = refl
     reply_as Outcome.outside = refl
@@ -259,7 +298,7 @@ module _ (s : Server) (p : Proc) (get : Get) (mode : Mode) where
         ∙ reply_as (answer_at s get mode)
 
     stays_as : (o : Outcome) → IsTold (reply_of o)
-        → done_as (asks s.holding p get o).reply (settled s.jobs s.id (asks s.holding p get o).left) ≡ done_as (reply_of o) s.holding
+        → done_as (asks s.holding p get mode o).reply (settled s.jobs s.id (asks s.holding p get mode o).left) ≡ done_as (reply_of o) s.holding
     stays_as (Outcome.found value) told = ap (done_as (Reply.found value)) (settled_same s.jobs s.id s.holding is)
     stays_as Outcome.absent told = ap (done_as (Reply.refused refusals.NotFound)) (settled_same s.jobs s.id s.holding is)
     stays_as Outcome.outside told = ap (done_as (Reply.refused refusals.OutsideScope)) (settled_same s.jobs s.id s.holding is)
@@ -275,7 +314,7 @@ module _ (s : Server) (p : Proc) (get : Get) (mode : Mode) where
       told_silent =
           none_due s.jobs s.id s.holding (ask_of p get mode) s.marks
           (ap (λ (d : Done). asking_for s.jobs s.id d.left (call_of d.left p)) told_is
-          ∙ ap (asking_for s.jobs s.id s.holding) (ask_free s.jobs s.id s.holding p get free).idle)
+          ∙ ap (asking_for s.jobs s.id s.holding) (ask_free s.jobs s.id s.holding p get mode free).idle)
           refl
 
       -- a get that is answered changes nothing
@@ -285,47 +324,50 @@ module _ (s : Server) (p : Proc) (get : Get) (mode : Mode) where
       pub told_sent : sent_by s (ask_of p get mode) ≡ []
       told_sent = sent_none s (ask_of p get mode) told_silent
 
-    module _ (parks : answer_at s get mode ≡ Outcome.parks) (waits : answer_at s get modes.Wait ≡ Outcome.parks) where
+    module _ (waits : answer_at s get mode ≡ Outcome.parks) where
       -- what is held then, and what is due
       abbrev held_then : Holding
-      held_then = called s.holding p (Standing.parked get)
+      held_then = parks s.holding p get mode
 
       abbrev home_asked : List Due
-      home_asked = asking s.jobs s.id s.holding get.target
+      home_asked = asking_for s.jobs s.id s.holding (Some (waits_as s.holding.requests get mode))
 
       park_loud : is_quiet (does s.jobs s.id s.holding (ask_of p get mode)).reply ≡ false
       unfolding does serves
-      park_loud = ap (λ (o : Outcome). is_quiet (asks s.holding p get o).reply) parks
+      park_loud = ap (λ (o : Outcome). is_quiet (asks s.holding p get mode o).reply) waits
 
       park_leaves : settled s.jobs s.id (does s.jobs s.id s.holding (ask_of p get mode)).left ≡ held_then
       unfolding does serves
       park_leaves =
-          ap (λ (o : Outcome). settled s.jobs s.id (asks s.holding p get o).left) parks
-          ∙ settled_same s.jobs s.id held_then (parked_settled s.jobs s.id s.holding is p get waits)
+          ap (λ (o : Outcome). settled s.jobs s.id (asks s.holding p get mode o).left) waits
+          ∙ settled_same s.jobs s.id held_then (waiting_settled s.jobs s.id s.holding is p get mode waits)
+
+      owes_as : (m : Mode) → asking_for s.jobs s.id (parks s.holding p get m) (Some (waits_as s.holding.requests get m)) ≡ asking_for s.jobs s.id s.holding (Some (waits_as s.holding.requests get m))
+      owes_as modes.Wait = refl
+      owes_as modes.Now = refl
+      owes_as modes.Refresh = refl
 
       park_owes : due_by s.jobs s.id s.holding (ask_of p get mode) held_then ≡ home_asked
       unfolding due_by due_by_request
       park_owes =
+          let standing = waits_as s.holding.requests get mode in
           ap (asking_for s.jobs s.id held_then)
-          (call-called s.holding p (Standing.parked get) p ∙ ap (λ (b : Bool). cond b (Some (Standing.parked get)) (call_of s.holding p)) (proc_itself p))
+          (call-called s.holding p standing p ∙ ap (λ (b : Bool). cond b (Some standing) (call_of s.holding p)) (proc_itself p))
+          ∙ owes_as mode
 
-      pub parks_after : after s (ask_of p get mode) ≡ parked_at (park_out get s).marks p get s
+      pub parks_after : after s (ask_of p get mode) ≡ parked_at (park_out get mode s).marks p get mode s
       unfolding marked_by_act
       parks_after = accepted_after s (ask_of p get mode) (ask_cause (Ok tt) free) park_loud held_then park_leaves home_asked park_owes
 
-      pub parks_sent : sent_by s (ask_of p get mode) ≡ (park_out get s).frames
+      pub parks_sent : sent_by s (ask_of p get mode) ≡ (park_out get mode s).frames
       unfolding marked_by_act
       parks_sent = accepted_sent s (ask_of p get mode) (ask_cause (Ok tt) free) park_loud held_then park_leaves home_asked park_owes
 
       -- a node that is left with the call and these marks is the one after the act
-      pub park_moved : (old new : Server) (marks : Levels) → old ≡ s → marks ≡ (park_out get s).marks
-          → new ≡ parked_at marks p get old → new ≡ after s (ask_of p get mode)
-      park_moved old new marks same out is = is ∙ (λ i. parked_at (out i) p get (same i)) ∙ sym parks_after
+      pub park_moved : (old new : Server) (marks : Levels) → old ≡ s → marks ≡ (park_out get mode s).marks
+          → new ≡ parked_at marks p get mode old → new ≡ after s (ask_of p get mode)
+      park_moved old new marks same out is = is ∙ (λ i. parked_at (out i) p get mode (same i)) ∙ sym parks_after
 
-pub park_sends : (s old : Server) (get : Get) (dues : List Due) → old ≡ s → dues ≡ asking s.jobs s.id s.holding get.target
-    → sends (sealer_of old.holding) old.marks dues ≡ park_out get s
-park_sends s old get dues same due = λ i. sends (sealer_of (same i).holding) (same i).marks (due i)
-
--- a get that parks is one that may wait
-pub waits_mode : (jobs : Jobs) (id : ℕ) (h : Holding) (get : Get) (mode : Mode) → answer_in jobs id h get mode ≡ Outcome.parks → mode ≡ modes.Wait
-waits_mode jobs id h get mode parks = resolve_parks (seen_of jobs id (read_at h.near get.target) (read_at h.far get.target) get) mode parks
+pub park_sends : (s old : Server) (get : Get) (mode : Mode) (dues : List Due) → old ≡ s → dues ≡ asking_for s.jobs s.id s.holding (Some (waits_as s.holding.requests get mode))
+    → sends (sealer_of old.holding) old.marks dues ≡ park_out get mode s
+park_sends s old get mode dues same due = λ i. sends (sealer_of (same i).holding) (same i).marks (due i)

@@ -161,6 +161,7 @@ with_end p z calls marks s = record {
     table = ended_by s.holding.table p z.level;
     calls = finite.remove calls p;
     held = without_below s.holding.held p z.level;
+    requests = s.holding.requests;
   };
   marks = marks;
 }
@@ -253,6 +254,7 @@ module _ (s : Server) (p : Proc) (free : first_of (caller_cause s.jobs s.id s.ho
           table = left.table;
           calls = left.calls;
           held = left.held;
+          requests = left.requests;
         })
 
     owes : due_by s.jobs s.id s.holding a left ≡ settling_by (sealed_of own) s.holding.held p ++ end_news
@@ -325,20 +327,21 @@ module _
   pub ended_sent : end_out.frames ≡ sent_by s (Act.request (Request.terminate p))
   ended_sent = ap (λ (o : Out). o.frames) out_is ∙ sym (end_sent s p free client kept answers are_answers)
 
-  pub ended_after : (near far : Data) (calls : Calls) (held marks : Levels) (level : ℕ)
+  pub ended_after : (near far : Data) (calls : Calls) (held marks : Levels) (level requests : ℕ)
       → near ≡ absorbed s.holding.near (piece_at (sealed_of own p) from reach.Near)
       → far ≡ absorbed s.holding.far (piece_at (sealed_of own p) from reach.Far)
       → calls ≡ finite.remove (all_instead s.holding.calls answers) p
       → level ≡ (sealed_of own p).level
       → held ≡ without_below s.holding.held p level
+      → requests ≡ s.holding.requests
       → marks ≡ end_out.marks
       → record {
         jobs = jobs;
         id = s.id;
-        holding = record { near = near; far = far; sealers = own.sealers; sets = own.sets; table = table; calls = calls; held = held };
+        holding = record { near = near; far = far; sealers = own.sealers; sets = own.sets; table = table; calls = calls; held = held; requests = requests };
         marks = marks;
       } ≡ after s (Act.request (Request.terminate p))
-  ended_after near far calls held marks level nears fars answered is_level settles out =
+  ended_after near far calls held marks level requests nears fars answered is_level settles counted out =
       (λ i. record {
         jobs = same_jobs i;
         id = s.id;
@@ -350,6 +353,7 @@ module _
           table = same_table i;
           calls = answered i;
           held = (settles ∙ ap (without_below s.holding.held p) (is_level ∙ ap (λ (x : Sealed). x.level) sealed_is)) i;
+          requests = counted i;
         };
         marks = (out ∙ ap (λ (o : Out). o.marks) out_is) i;
       })

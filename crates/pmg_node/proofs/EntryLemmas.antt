@@ -411,7 +411,7 @@ module _ (s : Server) (p : Proc) (list : List Proc) (collect : Bool) where
       (held : Requests)
       (marks : Levels)
       (view : server_of table id board own calls held marks ≡ s)
-      (kept : IsContent table id (server_of table id board own calls held marks))
+      (kept : IsContent table id held.anew (server_of table id board own calls held marks))
       (free : first_of (cause s.jobs s.id s.holding enters) (tt {0}) ≡ Ok tt)
       (name : FenceName)
       (named : name ≡ its_name)
@@ -421,7 +421,7 @@ module _ (s : Server) (p : Proc) (list : List Proc) (collect : Bool) where
     pub entry_steps : AreSettledIn name table.jobs id (placed_by table.fences name (changes.Entered p (sealed_of own p).level)) board.near board.far (finite.insert calls p (Standing.in_fence name)) ended
         → table_then ≡ fence_after table name (changes.Entered p (sealed_of own p).level)
         → marks_then ≡ (sends (sealed_of own) marks (fence_dues table name (changes.Entered p (sealed_of own p).level))).marks
-        → Steps s enters (Reply.entered its_name.instance) table_then id (server_of table_then id board own ended held marks_then)
+        → Steps s enters (Reply.entered its_name.instance) table_then id held.anew (server_of table_then id board own ended held marks_then)
         (sends (sealed_of own) marks (fence_dues table name (changes.Entered p (sealed_of own p).level))).frames
     entry_steps are table_is marks_are =
         fence_steps table id board own calls held marks s view kept enters its_name (changes.Entered p (sealer_of s.holding p).level) (Reply.entered its_name.instance)

@@ -16,6 +16,7 @@ use Rattle.pmg_frame.specs.declared.frame.Frame.TheVariants as frames
 use Rattle.pmg_frame.specs.declared.local.Local.{Local}
 use Rattle.pmg_jobinfo.specs.Jobs.{Jobs}
 use Rattle.pmg_dmodex.specs.Levels.{Levels}
+use Rattle.pmg_dmodex.specs.Refreshes.{Refreshes}
 use Rattle.pmg_dmodex.specs.Requests.{Requests}
 use Rattle.pmg_fence.specs.Changes.{placed, learned, present, news, taken}
 use Rattle.pmg_fence.specs.Codes.{Known}
@@ -47,6 +48,7 @@ use Rattle.pmg_node.proofs.HeaderNews.{present_lists, telling_alike, news_alike}
 use Rattle.pmg_rules.proofs.KeptAgain.{settled_names, placed_differs}
 use Rattle.pmg_rules.proofs.KeptSettled.{settled_same}
 use Rattle.pmg_node.proofs.NodeKept.{node_stays}
+use Rattle.pmg_node.proofs.OpenLemmas.{still_open}
 
 -- ---- a change that is taken back
 
@@ -71,11 +73,11 @@ pub record ChangesFence (s : Server) (a : Act) (f : FenceName) (change : Change)
   pub asked : (marks : Levels) → marked_by_act marks a ≡ marks
 
 -- What comes of an act: the reply, what the node is then, and the frames that go out.
-pub record Steps (s : Server) (a : Act) (reply : Reply) (table : Known) (id : ℕ) (then : Server) (frames : List Sent) : Type 0 where
+pub record Steps (s : Server) (a : Act) (reply : Reply) (table : Known) (id : ℕ) (anew : Refreshes) (then : Server) (frames : List Sent) : Type 0 where
   pub replied : reply_to s a ≡ reply
   pub done : then ≡ after s a
   pub sent : frames ≡ sent_by s a
-  pub kept : IsContent table id then
+  pub kept : IsContent table id anew then
 
 -- Such an act of the node that these parts make, where a fence of that name changes so, and these are the table, the calls and
 -- the marks then.
@@ -89,7 +91,7 @@ module _
     (marks : Levels)
     (s : Server)
     (view : server_of table id board own calls held marks ≡ s)
-    (kept : IsContent table id (server_of table id board own calls held marks))
+    (kept : IsContent table id held.anew (server_of table id board own calls held marks))
     (a : Act)
     (f : FenceName)
     (change : Change)
@@ -141,7 +143,7 @@ module _
       ∙ sym (accepted_after begins a its_act.free loud left leaves dues owes)
       ∙ ap (λ (x : Server). after x a) view
 
-  pub fence_steps : Steps s a reply table_then id (server_of table_then id board own ended held marks_then) (sends (sealed_of own) marks (fence_dues table name noted)).frames
+  pub fence_steps : Steps s a reply table_then id held.anew (server_of table_then id board own ended held marks_then) (sends (sealed_of own) marks (fence_dues table name noted)).frames
   fence_steps = record {
     replied = ap (λ (x : Server). reply_to x a) (sym view) ∙ accepted_reply begins a its_act.free loud left leaves dues owes ∙ ap (λ (d : Done). d.reply) its_act.done;
     done = its_done;
@@ -152,14 +154,15 @@ module _
       same = ap (λ (k : Known). k.node) table_is ∙ kept.same;
       told = ap (λ (k : Known). k.waiting) table_is;
       node = subst IsNode (sym its_done) (node_stays s a (subst IsNode view kept.node));
+      replies = still_open begins s view a (subst IsNode view kept.node) (server_of table_then id board own ended held marks_then) its_done refl held.anew held.anew refl kept.replies;
     };
   }
 
 -- ---- frames
 
-does_taken : (jobs : Jobs) (id : ℕ) (h : Holding) (frame : Frame) → is_taken jobs id frame ≡ true → does jobs id h (Act.deliver frame) ≡ done_as Reply.taken (receives h frame)
+does_taken : (jobs : Jobs) (id : ℕ) (h : Holding) (frame : Frame) → is_taken jobs id frame ≡ true → does jobs id h (Act.deliver frame) ≡ done_as Reply.taken (receives jobs id h frame)
 unfolding does
-does_taken jobs id h frame e = ap (λ (b : Bool). cond b (done_as Reply.taken (receives h frame)) (done_as Reply.ignored h)) e
+does_taken jobs id h frame e = ap (λ (b : Bool). cond b (done_as Reply.taken (receives jobs id h frame)) (done_as Reply.ignored h)) e
 
 none_mapped : {A B : Type 0} (f : A → B) (o : Option A) → option_map f o ≡ None → o ≡ None
 none_mapped f None e = refl
@@ -203,7 +206,7 @@ module _
     (marks : Levels)
     (s : Server)
     (view : server_of table id board own calls held marks ≡ s)
-    (kept : IsContent table id (server_of table id board own calls held marks))
+    (kept : IsContent table id held.anew (server_of table id board own calls held marks))
     (name : FenceName)
     (ended : Calls)
     (table_then : Known)
@@ -214,7 +217,7 @@ module _
   pub header_steps : (hd copy : Header) → name ≡ hd.name → copy ≡ hd → is_taken s.jobs s.id (frames.Header hd) ≡ true
       → AreSettledIn name table.jobs id (placed_by table.fences name (changes.Told copy)) board.near board.far calls ended
       → table_then ≡ fence_after table name (changes.Told copy) → marks_then ≡ (sends (sealed_of own) marks (fence_dues table name (changes.Told copy))).marks
-      → Steps s (Act.deliver (frames.Header hd)) Reply.taken table_then id ends (sends (sealed_of own) marks (fence_dues table name (changes.Told copy))).frames
+      → Steps s (Act.deliver (frames.Header hd)) Reply.taken table_then id held.anew ends (sends (sealed_of own) marks (fence_dues table name (changes.Told copy))).frames
   header_steps hd copy named copied taken are table_is marks_are =
       fence_steps table id board own calls held marks s view kept (Act.deliver (frames.Header hd)) hd.name (changes.Told hd) Reply.taken (λ m. m) (header_act s hd taken) name named (changes.Told copy)
       (ap (λ (x : Header). changes.Told x) copied) ended are table_then table_is marks_then marks_are
@@ -223,7 +226,7 @@ module _
       → option_map (header table.node name) (present table.jobs table.node table.fences name) ≡ None
       → AreSettledIn name table.jobs id (placed_by table.fences name changes.Learned) board.near board.far calls ended
       → table_then ≡ fence_after table name changes.Learned → marks_then ≡ (sends (sealed_of own) marks (fence_dues table name changes.Learned)).marks
-      → Steps s (Act.deliver (frames.FenceAsk ask)) Reply.taken table_then id ends (sends (sealed_of own) marks (fence_dues table name changes.Learned)).frames
+      → Steps s (Act.deliver (frames.FenceAsk ask)) Reply.taken table_then id held.anew ends (sends (sealed_of own) marks (fence_dues table name changes.Learned)).frames
   ask_steps ask named taken none are table_is marks_are =
       let not_there =
       ap (λ (x : Server). present x.jobs x.id x.holding.table ask.name) (sym view)
@@ -266,7 +269,7 @@ module _
     (marks : Levels)
     (s : Server)
     (view : server_of table id board own calls held marks ≡ s)
-    (kept : IsContent table id (server_of table id board own calls held marks))
+    (kept : IsContent table id held.anew (server_of table id board own calls held marks))
     (ask : FenceAsk)
     (its : is_taken s.jobs s.id (frames.FenceAsk ask) ≡ true)
     (hd : Header)
@@ -318,11 +321,11 @@ module _
   unfolding marked_by_act
   told_sent = sym (accepted_sent was asks free_ask is_loud was.holding stays (telling_by hd ask.node) owes_it)
 
-  pub told_steps : Steps s asks Reply.taken table id (server_of table id board own calls held marks_then) (sends (sealed_of own) marks (telling_by hd ask.node)).frames
+  pub told_steps : Steps s asks Reply.taken table id held.anew (server_of table id board own calls held marks_then) (sends (sealed_of own) marks (telling_by hd ask.node)).frames
   told_steps = subst
-      (λ (x : Server). Steps x asks Reply.taken table id (server_of table id board own calls held marks_then) (sends (sealed_of own) marks (telling_by hd ask.node)).frames) view (record {
+      (λ (x : Server). Steps x asks Reply.taken table id held.anew (server_of table id board own calls held marks_then) (sends (sealed_of own) marks (telling_by hd ask.node)).frames) view (record {
         replied = accepted_reply was asks free_ask is_loud was.holding stays (telling_by hd ask.node) owes_it ∙ ap (λ (d : Done). d.reply) does_nothing;
         done = told_done;
         sent = told_sent;
-        kept = record { same = kept.same; told = kept.told; node = subst IsNode (sym told_done) (node_stays was asks kept.node) };
+        kept = record { same = kept.same; told = kept.told; node = subst IsNode (sym told_done) (node_stays was asks kept.node); replies = kept.replies };
       })

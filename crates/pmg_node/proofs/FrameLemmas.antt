@@ -4,7 +4,7 @@ use Rattle.std.proofs.lemmas.Bool.Decides.{nat_tests}
 use Rattle.pmg_value.specs.CheckOrder.{first_of}
 use Rattle.pmg_value.specs.declared.process.Proc.{Proc}
 use Rattle.pmg_frame.specs.Fences.{CommitAsk}
-use Rattle.pmg_frame.specs.Refreshing.{RefreshAsk, RefreshReply}
+use Rattle.pmg_frame.specs.Refreshing.{RefreshAsk}
 use Rattle.pmg_frame.specs.declared.frame.Frame.{Frame}
 use Rattle.pmg_frame.specs.declared.frame.Frame.TheVariants as frames
 use Rattle.pmg_jobinfo.specs.Jobs.{Jobs, home_of}
@@ -32,6 +32,11 @@ pub direct_taken : (jobs : Jobs) (id : ℕ) (a : CommitAsk) → is_taken jobs id
 unfolding is_taken
 direct_taken jobs id a = refl
 
+pub refresh_taken : (jobs : Jobs) (id : ℕ) (a : RefreshAsk)
+    → is_taken jobs id (frames.RefreshAsk a) ≡ (is_peer jobs id a.ask.node && is_known jobs a.ask.proc && (home_of jobs a.ask.proc == id))
+unfolding is_taken
+refresh_taken jobs id a = refl
+
 -- the node with other marks
 abbrev pub with_marks : Levels → Server → Server
 with_marks marks s = record { jobs = s.jobs; id = s.id; holding = s.holding; marks = marks }
@@ -51,14 +56,14 @@ module _ (jobs : Jobs) (id : ℕ) (h : Holding) where
 
   -- the frame is ignored, or taken
   pub deliver_by : (frame : Frame) (b : Bool) → is_taken jobs id frame ≡ b
-      → acts jobs id h (Act.deliver frame) ≡ done_as (cond b Reply.taken Reply.ignored) (settled jobs id (cond b (receives h frame) h))
+      → acts jobs id h (Act.deliver frame) ≡ done_as (cond b Reply.taken Reply.ignored) (settled jobs id (cond b (receives jobs id h frame) h))
   unfolding does
   deliver_by frame true e =
       act_free jobs id h (Act.deliver frame) (deliver_free frame)
-      ∙ ap (λ (b : Bool). let d = cond b (done_as Reply.taken (receives h frame)) (done_as Reply.ignored h) in done_as d.reply (settled jobs id d.left)) e
+      ∙ ap (λ (b : Bool). let d = cond b (done_as Reply.taken (receives jobs id h frame)) (done_as Reply.ignored h) in done_as d.reply (settled jobs id d.left)) e
   deliver_by frame false e =
       act_free jobs id h (Act.deliver frame) (deliver_free frame)
-      ∙ ap (λ (b : Bool). let d = cond b (done_as Reply.taken (receives h frame)) (done_as Reply.ignored h) in done_as d.reply (settled jobs id d.left)) e
+      ∙ ap (λ (b : Bool). let d = cond b (done_as Reply.taken (receives jobs id h frame)) (done_as Reply.ignored h) in done_as d.reply (settled jobs id d.left)) e
 
   module _ (is : IsSettled jobs id h) where
     pub ignored_is : (frame : Frame) → is_taken jobs id frame ≡ false → acts jobs id h (Act.deliver frame) ≡ done_as Reply.ignored h
@@ -98,15 +103,6 @@ module _ (jobs : Jobs) (id : ℕ) (h : Holding) where
     direct_sent marks a e =
         sent_as jobs id h (Act.deliver (frames.DirectAsk a)) marks (done_as Reply.taken (holds_unless (nat_lt a.level (sealer_of h a.proc).level) h a.node a.proc a.level)) (direct_is a e) refl
         ∙ same_out (nat_lt a.level (sealer_of h a.proc).level) (asked_marks marks (Some a)) a.node a.proc a.level
-
--- refresh asks and their replies are not taken
-pub refresh_ask_ignored : (jobs : Jobs) (id : ℕ) (a : RefreshAsk) → is_taken jobs id (frames.RefreshAsk a) ≡ false
-unfolding is_taken
-refresh_ask_ignored jobs id a = refl
-
-pub refresh_reply_ignored : (jobs : Jobs) (id : ℕ) (r : RefreshReply) → is_taken jobs id (frames.RefreshReply r) ≡ false
-unfolding is_taken
-refresh_reply_ignored jobs id r = refl
 
 -- a frame that is not taken changes nothing, and nothing goes out
 pub record Ignores (s : Server) (frame : Frame) : Type 0 where

@@ -14,8 +14,7 @@ use Rattle.pmg_frame.specs.declared.frame.Frame.TheVariants as frames
 use Rattle.pmg_jobinfo.specs.Jobs.{Jobs}
 use Rattle.pmg_get.specs.Gets.{Outcome}
 use Rattle.pmg_rules.specs.Acts.{Request, Act, Reply, Done, done_as, cause, is_taken, members_of, holds_unless, leaves, takes, asks, serves, receives, does, over, acts}
-use Rattle.pmg_holding.specs.Ahead.{joined}
-use Rattle.pmg_rules.specs.Holdings.{Standing, Get, Holding, sealer_of, call_of, sealing, answer_in, settled}
+use Rattle.pmg_rules.specs.Holdings.{Standing, Get, Holding, joined, sealer_of, call_of, sealing, answer_in, settled}
 use Rattle.pmg_node.specs.Acting.{delivery_joins}
 use Rattle.pmg_node.specs.Joining.{Joins, no_joins, frame_joins, act_joins, joins}
 use Rattle.pmg_node.specs.Replies.{delivery_reply}
@@ -53,6 +52,8 @@ module _ (jobs : Jobs) (id : ℕ) (h : Holding) where
   leave_joins p (Some (Standing.released f gone)) = (refl, refl)
   leave_joins p (Some (Standing.parked get)) = (refl, refl)
   leave_joins p (Some (Standing.answered get outcome)) = (refl, refl)
+  leave_joins p (Some (Standing.refreshing get number)) = (refl, refl)
+  leave_joins p (Some (Standing.refreshed get outcome)) = (refl, refl)
   leave_joins p None = (refl, refl)
 
   take_joins : (p : Proc) (c : Option Standing) → IsAll (Act.request (Request.take p)) (done_as (takes h p c).reply (settled jobs id (takes h p c).left))
@@ -61,9 +62,12 @@ module _ (jobs : Jobs) (id : ℕ) (h : Holding) where
   take_joins p (Some (Standing.parked get)) = (refl, refl)
   take_joins p (Some (Standing.answered get outcome)) =
       same_stores (Act.request (Request.take p)) (done_as (takes h p (Some (Standing.answered get outcome))).reply (settled jobs id (takes h p (Some (Standing.answered get outcome))).left)) refl refl refl
+  take_joins p (Some (Standing.refreshing get number)) = (refl, refl)
+  take_joins p (Some (Standing.refreshed get outcome)) =
+      same_stores (Act.request (Request.take p)) (done_as (takes h p (Some (Standing.refreshed get outcome))).reply (settled jobs id (takes h p (Some (Standing.refreshed get outcome))).left)) refl refl refl
   take_joins p None = (refl, refl)
 
-  ask_joins : (p : Proc) (get : Get) (mode : _) (o : Outcome) → IsAll (Act.request (Request.ask p get mode)) (done_as (asks h p get o).reply (settled jobs id (asks h p get o).left))
+  ask_joins : (p : Proc) (get : Get) (mode : _) (o : Outcome) → IsAll (Act.request (Request.ask p get mode)) (done_as (asks h p get mode o).reply (settled jobs id (asks h p get mode o).left))
   ask_joins p get mode Outcome.parks = (refl, refl)
   ask_joins p get mode (Outcome.found value) = (refl, refl)
   ask_joins p get mode Outcome.absent = (refl, refl)
@@ -84,7 +88,7 @@ module _ (jobs : Jobs) (id : ℕ) (h : Holding) where
   held_joins a true = (refl, refl)
   held_joins a false = (refl, refl)
 
-  taken_all : (frame : Frame) → IsAll (Act.deliver frame) (done_as Reply.taken (settled jobs id (receives h frame)))
+  taken_all : (frame : Frame) → IsAll (Act.deliver frame) (done_as Reply.taken (settled jobs id (receives jobs id h frame)))
   unfolding receives
   taken_all (frames.Piece c) = (refl, refl)
   taken_all (frames.Header hd) = (refl, refl)
@@ -95,7 +99,7 @@ module _ (jobs : Jobs) (id : ℕ) (h : Holding) where
   taken_all (frames.RefreshReply r) = (refl, refl)
 
   frame_all : (frame : Frame) (b : Bool) → IsAll (Act.deliver frame)
-      (done_as (if b then done_as Reply.taken (receives h frame) else done_as Reply.ignored h).reply (settled jobs id (if b then done_as Reply.taken (receives h frame) else done_as Reply.ignored h).left))
+      (done_as (if b then done_as Reply.taken (receives jobs id h frame) else done_as Reply.ignored h).reply (settled jobs id (if b then done_as Reply.taken (receives jobs id h frame) else done_as Reply.ignored h).left))
   frame_all frame true = taken_all frame
   frame_all frame false = (refl, refl)
 

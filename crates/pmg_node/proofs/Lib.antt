@@ -4,6 +4,7 @@ pub mod ActLemmas
 pub mod JoiningLemmas
 pub mod ReplyLemmas
 pub mod NodeKept
+pub mod OpenLemmas
 pub mod FrameLemmas
 pub mod PieceLemmas
 pub mod HeaderNews

@@ -12,6 +12,7 @@ use Rattle.pmg_frame.specs.declared.frame.Frame.{Frame}
 use Rattle.pmg_frame.specs.declared.frame.Frame.TheVariants as frames
 use Rattle.pmg_jobinfo.specs.Jobs.{Jobs}
 use Rattle.pmg_get.specs.Gets.{Outcome}
+use Rattle.pmg_get.specs.declared.view.Mode.{Mode}
 use Rattle.std.specs.Prelude.{nat_lt, if◌then◌else◌}
 use Rattle.pmg_rules.specs.Acts.{Act, Request, Reply, done_as, members_of, is_taken, holds_unless, receives, leaves, takes, asks, serves, does, acts}
 use Rattle.pmg_rules.specs.Holdings.{Get, Standing, Holding, sealing, sealer_of, call_of, answer_in}
@@ -37,6 +38,8 @@ module _ (jobs : Jobs) (id : ℕ) (h : Holding) (has : HasSealers jobs id h) whe
   leave_has p (Some (Standing.released f gone)) = has
   leave_has p (Some (Standing.parked get)) = has
   leave_has p (Some (Standing.answered get outcome)) = has
+  leave_has p (Some (Standing.refreshing get number)) = has
+  leave_has p (Some (Standing.refreshed get outcome)) = has
   leave_has p None = has
 
   take_has : (p : Proc) (c : Option Standing) → Has (takes h p c).left
@@ -44,19 +47,21 @@ module _ (jobs : Jobs) (id : ℕ) (h : Holding) (has : HasSealers jobs id h) whe
   take_has p (Some (Standing.released f gone)) = has
   take_has p (Some (Standing.parked get)) = has
   take_has p (Some (Standing.answered get outcome)) = has
+  take_has p (Some (Standing.refreshing get number)) = has
+  take_has p (Some (Standing.refreshed get outcome)) = has
   take_has p None = has
 
-  ask_has : (p : Proc) (get : Get) (o : Outcome) → Has (asks h p get o).left
-  ask_has p get Outcome.parks = has
-  ask_has p get (Outcome.found value) = has
-  ask_has p get Outcome.absent = has
-  ask_has p get Outcome.outside = has
+  ask_has : (p : Proc) (get : Get) (mode : Mode) (o : Outcome) → Has (asks h p get mode o).left
+  ask_has p get mode Outcome.parks = has
+  ask_has p get mode (Outcome.found value) = has
+  ask_has p get mode Outcome.absent = has
+  ask_has p get mode Outcome.outside = has
 
   serve_has : (r : Request) → Has (serves jobs id h r).left
   unfolding serves
   serve_has (Request.enter p list collect) = has
   serve_has (Request.leave p) = leave_has p (call_of h p)
-  serve_has (Request.ask p get mode) = ask_has p get (answer_in jobs id h get mode)
+  serve_has (Request.ask p get mode) = ask_has p get mode (answer_in jobs id h get mode)
   serve_has (Request.take p) = take_has p (call_of h p)
   serve_has (Request.terminate p) = sealing_has p (ended_with (sealer_of h p))
   serve_has (Request.define name list) = sealing_has host (changed h.sets name (definition name (members_of jobs list)).bytes)
@@ -67,7 +72,7 @@ module _ (jobs : Jobs) (id : ℕ) (h : Holding) (has : HasSealers jobs id h) whe
   hold_has true node p level = has
   hold_has false node p level = has
 
-  receive_has : (frame : Frame) → Has (receives h frame)
+  receive_has : (frame : Frame) → Has (receives jobs id h frame)
   unfolding receives
   receive_has (frames.Piece c) = has
   receive_has (frames.Header hd) = has
@@ -77,7 +82,7 @@ module _ (jobs : Jobs) (id : ℕ) (h : Holding) (has : HasSealers jobs id h) whe
   receive_has (frames.RefreshAsk a) = has
   receive_has (frames.RefreshReply r) = has
 
-  deliver_has : (frame : Frame) (b : Bool) → Has (if b then done_as Reply.taken (receives h frame) else done_as Reply.ignored h).left
+  deliver_has : (frame : Frame) (b : Bool) → Has (if b then done_as Reply.taken (receives jobs id h frame) else done_as Reply.ignored h).left
   deliver_has frame true = receive_has frame
   deliver_has frame false = has
 

@@ -9,10 +9,11 @@ use Rattle.pmg_value.specs.CheckOrder.{first_of}
 use Rattle.pmg_value.specs.declared.process.Proc.{Proc}
 use Rattle.pmg_jobinfo.specs.Jobs.{Jobs}
 use Rattle.pmg_rules.specs.Acts.{Act, Request, Reply, cause, request_cause, serves, does}
-use Rattle.pmg_holding.specs.Calls.{target_of, all_targets}
-use Rattle.pmg_rules.specs.Choosing.{Out, asking, asking_for, nudging, due_by, due_by_request, marked_by_act, sends}
+use Rattle.pmg_holding.specs.Calls.{ask_of, all_asks}
+use Rattle.pmg_rules.specs.Choosing.{Out, asking, asking_anew, asking_for, nudging, due_by, due_by_request, marked_by_act, sends}
 use Rattle.pmg_rules.specs.Holdings.{Standing, Holding, sealer_of}
 use Rattle.pmg_rules.specs.Kept.{IsSettled}
+use Rattle.pmg_node.specs.Asking.{asking_as}
 use Rattle.pmg_node.specs.Servers.{Server, reply_to, sent_by, after}
 use Rattle.pmg_rules.specs.declared.due.Due.{Due}
 use Rattle.pmg_node.proofs.ActLemmas.{accepted_reply, accepted_after, accepted_sent}
@@ -22,22 +23,24 @@ use Rattle.pmg_rules.proofs.KeptSettled.{settled_same}
 -- ---- gets that wait
 
 module _ (jobs : Jobs) (id : ℕ) (h : Holding) where
-  one_asked : (s : Standing) → flat_map (asking jobs id h) (option_to_list (target_of s)) ≡ asking_for jobs id h (Some s)
+  one_asked : (s : Standing) → flat_map (asking_as jobs id h) (option_to_list (ask_of s)) ≡ asking_for jobs id h (Some s)
   one_asked (Standing.in_fence f) = refl
   one_asked (Standing.released f gone) = refl
   one_asked (Standing.parked get) = append-nil (asking jobs id h get.target)
   one_asked (Standing.answered get outcome) = refl
+  one_asked (Standing.refreshing get number) = append-nil (asking_anew jobs id h get.target number)
+  one_asked (Standing.refreshed get outcome) = refl
 
   rows_asked : (rows : List (Proc × Standing))
-      → flat_map (asking jobs id h) (flat_map (λ e. option_to_list (target_of e.1)) rows) ≡ flat_map (λ e. asking_for jobs id h (Some e.1)) rows
+      → flat_map (asking_as jobs id h) (flat_map (λ e. option_to_list (ask_of e.1)) rows) ≡ flat_map (λ e. asking_for jobs id h (Some e.1)) rows
   rows_asked [] = refl
   rows_asked (e ∷ rows) =
-      flat_map-append (asking jobs id h) (option_to_list (target_of e.1)) (flat_map (λ e. option_to_list (target_of e.1)) rows)
+      flat_map-append (asking_as jobs id h) (option_to_list (ask_of e.1)) (flat_map (λ e. option_to_list (ask_of e.1)) rows)
       ∙ (λ i. one_asked e.1 i ++ rows_asked rows i)
 
   -- the homes of the processes whose keys gets wait for are asked
-  pub targets_asked : flat_map (asking jobs id h) (all_targets h.calls) ≡ flat_map (λ e. asking_for jobs id h (Some e.1)) (finite.entries h.calls)
-  targets_asked = rows_asked (finite.entries h.calls)
+  pub homes_asked : flat_map (asking_as jobs id h) (all_asks h.calls) ≡ flat_map (λ e. asking_for jobs id h (Some e.1)) (finite.entries h.calls)
+  homes_asked = rows_asked (finite.entries h.calls)
 
 -- ---- the act
 

@@ -1,6 +1,7 @@
 -- A new node keeps what a node keeps.
-use Rattle.std.proofs.Common.{◌≡◌, ℕ, Bool, true, false, cond, List, [], ◌∷◌, map, Some, is_some, inl, inr, refl, sym, ap, ◌∙◌}
+use Rattle.std.proofs.Common.{◌≡◌, ℕ, Bool, true, false, cond, List, [], ◌∷◌, map, Option, Some, None, is_some, inl, inr, refl, sym, ap, ◌∙◌}
 use Rattle.std.specs.BTreeMap.{is_at}
+use Rattle.std.specs.FinMap as finite
 use Rattle.std.specs.Cmp.{eq_by_cmp_equiv}
 use Rattle.pmg_value.specs.Lists.{In}
 use Rattle.pmg_value.specs.Process.{proc_cmp}
@@ -11,7 +12,10 @@ use Rattle.pmg_commit.specs.Sealed.{fresh}
 use Rattle.pmg_jobinfo.specs.Jobs.{Jobs, AreJobs, is_node}
 use Rattle.pmg_jobinfo.specs.Procs.{procs_at}
 use Rattle.pmg_jobinfo.proofs.ListedLemmas.{own_are_listed}
-use Rattle.pmg_rules.specs.Holdings.{new_holding}
+use Rattle.pmg_dmodex.specs.Refreshes.{Refreshes}
+use Rattle.pmg_holding.specs.Codes.{Calls}
+use Rattle.pmg_rules.specs.Holdings.{Standing, new_holding}
+use Rattle.pmg_node.specs.Content.{AreOpen}
 use Rattle.pmg_node.specs.Opening.{new_server}
 use Rattle.pmg_node.specs.Servers.{HasSealers, IsNode}
 use Rattle.pmg_rules.proofs.KeptActs.{new_is_server}
@@ -34,3 +38,10 @@ new_has jobs id p own =
 
 pub new_is_node : (jobs : Jobs) (id : ℕ) → AreJobs jobs → is_node jobs id ≡ true → IsNode (new_server jobs id)
 new_is_node jobs id are is = record { jobs = are; node = is; server = new_is_server jobs id; sealers = new_has jobs id }
+
+-- nobody waits for a reply
+pub none_open : (calls : Calls) (anew : Refreshes) → calls ≡ finite.empty → AreOpen calls anew
+none_open calls anew is p get number e = absurd (not_some (Standing.refreshing get number) (sym (finite.get-empty proc_cmp p) ∙ ap (λ (m : Calls). finite.get m p) (sym is) ∙ e))
+  where
+    not_some : (s : Standing) → ◌≡◌ {A = Option Standing} None (Some s) → ⊥
+    not_some s it = cc

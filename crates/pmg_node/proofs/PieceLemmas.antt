@@ -31,6 +31,8 @@ settle_calls jobs id h calls (Standing.in_fence f) = refl
 settle_calls jobs id h calls (Standing.released f gone) = refl
 settle_calls jobs id h calls (Standing.parked get) = refl
 settle_calls jobs id h calls (Standing.answered get outcome) = refl
+settle_calls jobs id h calls (Standing.refreshing get number) = refl
+settle_calls jobs id h calls (Standing.refreshed get outcome) = refl
 
 mapped_calls : (jobs : Jobs) (id : ℕ) (h : Holding) (calls : Calls) (looks : Standing → Bool) (m : Calls)
     → mapped (settle_where jobs id h looks) m ≡ mapped (settle_where jobs id (with_calls h calls) looks) m
@@ -105,14 +107,14 @@ pub piece_moved : (s t : Server) (c : Contribution) → t ≡ s → is_taken s.j
     → record {
       jobs = t.jobs;
       id = t.id;
-      holding = record { near = near; far = far; sealers = t.holding.sealers; sets = t.holding.sets; table = t.holding.table; calls = calls; held = t.holding.held };
+      holding = record { near = near; far = far; sealers = t.holding.sealers; sets = t.holding.sets; table = t.holding.table; calls = calls; held = t.holding.held; requests = t.holding.requests };
       marks = marks;
     } ≡ after s (Act.deliver (frames.Piece c))
 piece_moved s t c same taken near far calls marks answers dues nears fars answered out whole due =
     (λ i. record {
       jobs = t.jobs;
       id = t.id;
-      holding = record { near = nears i; far = fars i; sealers = t.holding.sealers; sets = t.holding.sets; table = t.holding.table; calls = answered i; held = t.holding.held };
+      holding = record { near = nears i; far = fars i; sealers = t.holding.sealers; sets = t.holding.sets; table = t.holding.table; calls = answered i; held = t.holding.held; requests = t.holding.requests };
       marks = out i;
     })
     ∙ ap (λ (x : Server). with_piece c (all_instead x.holding.calls answers) (sends (sealer_of x.holding) x.marks dues).marks x) same

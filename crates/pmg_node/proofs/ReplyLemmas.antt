@@ -130,6 +130,8 @@ module _ (jobs : Jobs) (id : ℕ) (h : Holding) where
   leaves_short p (Some (Standing.released f gone)) is = cc
   leaves_short p (Some (Standing.parked get)) is = cc
   leaves_short p (Some (Standing.answered get outcome)) is = cc
+  leaves_short p (Some (Standing.refreshing get number)) is = cc
+  leaves_short p (Some (Standing.refreshed get outcome)) is = cc
   leaves_short p None is = cc
 
   outcome_short : (o : Outcome) → reply_of o ≡ Reply.refused refusals.NoMemory → ⊥
@@ -143,6 +145,8 @@ module _ (jobs : Jobs) (id : ℕ) (h : Holding) where
   takes_short p (Some (Standing.released f gone)) is = cc
   takes_short p (Some (Standing.parked get)) is = cc
   takes_short p (Some (Standing.answered get outcome)) is = outcome_short outcome is
+  takes_short p (Some (Standing.refreshing get number)) is = cc
+  takes_short p (Some (Standing.refreshed get outcome)) is = outcome_short outcome is
   takes_short p None is = cc
 
   pub leave_short : (p : Proc) → (acts jobs id h (Act.request (Request.leave p))).reply ≡ Reply.refused refusals.NoMemory → ⊥
@@ -162,7 +166,7 @@ module _ (jobs : Jobs) (id : ℕ) (h : Holding) where
   unfolding cause does
   deliver_accepted frame = by_test (is_taken jobs id frame)
     where
-      by_test : (b : Bool) → IsAccepted (over jobs id h (Ok (if b then done_as Reply.taken (receives h frame) else done_as Reply.ignored h))).reply
+      by_test : (b : Bool) → IsAccepted (over jobs id h (Ok (if b then done_as Reply.taken (receives jobs id h frame) else done_as Reply.ignored h))).reply
       by_test true = tt
       by_test false = tt
 

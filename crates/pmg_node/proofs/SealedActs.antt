@@ -55,6 +55,7 @@ pub record IsSealing (s : Server) (p : Proc) (z : Sealed) (answers : List (Proc 
   pub table : new.holding.table ≡ s.holding.table
   pub calls : new.holding.calls ≡ all_instead s.holding.calls answers
   pub held : new.holding.held ≡ without_below s.holding.held p z.level
+  pub requests : new.holding.requests ≡ s.holding.requests
   pub marks : new.marks ≡ (sends (sealer_of new.holding) s.marks (told_on s p more (sealer_of new.holding))).marks
 
 module _ (s : Server) (a : Act) (p : Proc) (z : Sealed) (reply : Reply) (more : (Proc → Sealed) → List Due) (seals : Seals s a p z reply more) (answers : List (Proc × Settled))
@@ -87,6 +88,7 @@ module _ (s : Server) (a : Act) (p : Proc) (z : Sealed) (reply : Reply) (more : 
       table = is.table i;
       calls = is.calls i;
       held = is.held i;
+      requests = is.requests i;
     }
 
     pub sealed_after : new ≡ after s a
@@ -117,6 +119,7 @@ pub record IsPublished (s : Server) (p : Proc) (own : Own) (from : ℕ) (answers
   pub table : new.holding.table ≡ s.holding.table
   pub calls : new.holding.calls ≡ all_instead s.holding.calls answers
   pub held : new.holding.held ≡ without_below s.holding.held p (sealed_of own p).level
+  pub requests : new.holding.requests ≡ s.holding.requests
   pub marks : new.marks ≡ (sends (sealed_of own) s.marks (settling_by (sealed_of own) s.holding.held p ++ dues)).marks
   pub found : AreAnswers s.jobs s.id (is_about p) s.holding.table (absorbed s.holding.near (piece_at (sealed_of own p) from reach.Near))
       (absorbed s.holding.far (piece_at (sealed_of own p) from reach.Far)) s.holding.calls answers
@@ -147,6 +150,7 @@ module _ (s : Server) (a : Act) (p : Proc) (z : Sealed) (reply : Reply) (more : 
     table = is.table;
     calls = is.calls;
     held = is.held ∙ ap (λ (x : Sealed). without_below s.holding.held p x.level) now_sealed;
+    requests = is.requests;
     marks = is.marks ∙ ap (λ (f : Proc → Sealed). (sends f s.marks (told_on s p more f)).marks) sealer_is;
   }
 

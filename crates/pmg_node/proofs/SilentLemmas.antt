@@ -108,6 +108,8 @@ module _ (jobs : Jobs) (id : ℕ) (h : Holding) (p : Proc) where
   settled_leaves is (Some (Standing.released f gone)) = ap (done_as (Reply.released f.instance gone)) (settled_same jobs id (uncalled h p) (uncalled_settled jobs id h p is))
   settled_leaves is (Some (Standing.parked get)) = ap (done_as Reply.idle) (settled_same jobs id h is)
   settled_leaves is (Some (Standing.answered get outcome)) = ap (done_as Reply.idle) (settled_same jobs id h is)
+  settled_leaves is (Some (Standing.refreshing get number)) = ap (done_as Reply.idle) (settled_same jobs id h is)
+  settled_leaves is (Some (Standing.refreshed get outcome)) = ap (done_as Reply.idle) (settled_same jobs id h is)
   settled_leaves is None = ap (done_as Reply.idle) (settled_same jobs id h is)
 
   pub leave_is : IsSettled jobs id h → first_of (caller_cause jobs id h p) (tt {0}) ≡ Ok tt → (c : Option Standing) → call_of h p ≡ c → acts jobs id h (Act.request (Request.leave p)) ≡ leaves h p c
@@ -119,6 +121,8 @@ module _ (jobs : Jobs) (id : ℕ) (h : Holding) (p : Proc) where
   leaves_stays (Some (Standing.released f gone)) r e = absurd cc
   leaves_stays (Some (Standing.parked get)) r e = ap (λ (x : Reply). done_as x h) cc
   leaves_stays (Some (Standing.answered get outcome)) r e = ap (λ (x : Reply). done_as x h) cc
+  leaves_stays (Some (Standing.refreshing get number)) r e = ap (λ (x : Reply). done_as x h) cc
+  leaves_stays (Some (Standing.refreshed get outcome)) r e = ap (λ (x : Reply). done_as x h) cc
   leaves_stays None r e = ap (λ (x : Reply). done_as x h) cc
 
   leaves_goes : (c : Option Standing) → stays_reply c ≡ None → leaves h p c ≡ done_as (released_reply c) (uncalled h p)
@@ -126,6 +130,8 @@ module _ (jobs : Jobs) (id : ℕ) (h : Holding) (p : Proc) where
   leaves_goes (Some (Standing.released f gone)) e = refl
   leaves_goes (Some (Standing.parked get)) e = absurd cc
   leaves_goes (Some (Standing.answered get outcome)) e = absurd cc
+  leaves_goes (Some (Standing.refreshing get number)) e = absurd cc
+  leaves_goes (Some (Standing.refreshed get outcome)) e = absurd cc
   leaves_goes None e = absurd cc
 
   pub leave_stays : IsSettled jobs id h → first_of (caller_cause jobs id h p) (tt {0}) ≡ Ok tt → (r : Reply) → stays_reply (call_of h p) ≡ Some r → acts jobs id h (Act.request (Request.leave p)) ≡ done_as r h
@@ -154,6 +160,8 @@ module _ (jobs : Jobs) (id : ℕ) (h : Holding) (p : Proc) where
   settled_takes is (Some (Standing.released f gone)) = ap (done_as Reply.idle) (settled_same jobs id h is)
   settled_takes is (Some (Standing.parked get)) = ap (done_as Reply.waiting) (settled_same jobs id h is)
   settled_takes is (Some (Standing.answered get outcome)) = ap (done_as (reply_of outcome)) (settled_same jobs id (uncalled h p) (uncalled_settled jobs id h p is))
+  settled_takes is (Some (Standing.refreshing get number)) = ap (done_as Reply.waiting) (settled_same jobs id h is)
+  settled_takes is (Some (Standing.refreshed get outcome)) = ap (done_as (reply_of outcome)) (settled_same jobs id (uncalled h p) (uncalled_settled jobs id h p is))
   settled_takes is None = ap (done_as Reply.idle) (settled_same jobs id h is)
 
   pub take_is : IsSettled jobs id h → first_of (caller_cause jobs id h p) (tt {0}) ≡ Ok tt → (c : Option Standing) → call_of h p ≡ c → acts jobs id h (Act.request (Request.take p)) ≡ takes h p c
@@ -165,6 +173,8 @@ module _ (jobs : Jobs) (id : ℕ) (h : Holding) (p : Proc) where
   takes_stays (Some (Standing.released f gone)) r e = ap (λ (x : Reply). done_as x h) cc
   takes_stays (Some (Standing.parked get)) r e = ap (λ (x : Reply). done_as x h) cc
   takes_stays (Some (Standing.answered get outcome)) r e = absurd cc
+  takes_stays (Some (Standing.refreshing get number)) r e = ap (λ (x : Reply). done_as x h) cc
+  takes_stays (Some (Standing.refreshed get outcome)) r e = absurd cc
   takes_stays None r e = ap (λ (x : Reply). done_as x h) cc
 
   takes_goes : (c : Option Standing) → pending_reply c ≡ None → takes h p c ≡ done_as (answered_reply c) (uncalled h p)
@@ -172,6 +182,8 @@ module _ (jobs : Jobs) (id : ℕ) (h : Holding) (p : Proc) where
   takes_goes (Some (Standing.released f gone)) e = absurd cc
   takes_goes (Some (Standing.parked get)) e = absurd cc
   takes_goes (Some (Standing.answered get outcome)) e = refl
+  takes_goes (Some (Standing.refreshing get number)) e = absurd cc
+  takes_goes (Some (Standing.refreshed get outcome)) e = refl
   takes_goes None e = absurd cc
 
   pub take_stays : IsSettled jobs id h → first_of (caller_cause jobs id h p) (tt {0}) ≡ Ok tt → (r : Reply) → pending_reply (call_of h p) ≡ Some r → acts jobs id h (Act.request (Request.take p)) ≡ done_as r h

@@ -1,11 +1,16 @@
 -- A node, by what its parts hold.
-use Rattle.std.specs.Prelude.{◌≡◌, ℕ, []}
+use Rattle.std.specs.Prelude.{◌≡◌, ℕ, [], false, Some}
+use Rattle.std.specs.FinMap as finite
+use Rattle.pmg_value.specs.Names.{is_reserved}
+use Rattle.pmg_value.specs.declared.process.Proc.{Proc}
 use Rattle.pmg_store.specs.declared.board.Board.{Board}
 use Rattle.pmg_fence.specs.Codes.{Known}
 use Rattle.pmg_dmodex.specs.Levels.{Levels}
+use Rattle.pmg_dmodex.specs.Refreshes.{Refreshes, asker_at}
 use Rattle.pmg_dmodex.specs.Requests.{Requests}
 use Rattle.pmg_holding.specs.Codes.{Calls}
 use Rattle.pmg_holding.specs.Owns.{Own}
+use Rattle.pmg_rules.specs.Holdings.{Get, Standing}
 use Rattle.pmg_node.specs.Servers.{Server, IsNode}
 
 -- the node that these parts make
@@ -13,12 +18,18 @@ abbrev pub server_of : Known → ℕ → Board → Own → Calls → Requests �
 server_of table id board own calls held marks = record {
   jobs = table.jobs;
   id = id;
-  holding = record { near = board.near; far = board.far; sealers = own.sealers; sets = own.sets; table = table.fences; calls = calls; held = held.held };
+  holding = record { near = board.near; far = board.far; sealers = own.sealers; sets = own.sets; table = table.fences; calls = calls; held = held.held; requests = held.anew.last };
   marks = marks;
 }
 
--- the table is the node's, and no header of its own waits there
-pub record IsContent (table : Known) (id : ℕ) (s : Server) : Type 0 where
+-- each get that waits for the reply to a request is of a key that is not reserved, and the one that the request was sent for
+abbrev pub AreOpen : Calls → Refreshes → Type 0
+AreOpen calls anew = (p : Proc) (get : Get) (number : ℕ) → finite.get calls p ≡ Some (Standing.refreshing get number) 
+    → (is_reserved get.key ≡ false) × (asker_at anew number get.target ≡ Some p)
+
+-- the table is the node's, and no header of its own waits there; and replies find the gets that wait for them
+pub record IsContent (table : Known) (id : ℕ) (anew : Refreshes) (s : Server) : Type 0 where
   pub same : table.node ≡ id
   pub told : table.waiting ≡ []
   pub node : IsNode s
+  pub replies : AreOpen s.holding.calls anew

@@ -4,12 +4,12 @@ use Rattle.pmg_scope.specs.declared.scope.Reach.TheVariants as reach
 use Rattle.pmg_commit.specs.Knowledge.{Contribution}
 use Rattle.pmg_commit.specs.Sealed.{Sealed, piece_at}
 use Rattle.pmg_pset.specs.Sets.{host}
+use Rattle.pmg_frame.specs.Refreshing.{told_by}
 use Rattle.pmg_frame.specs.declared.frame.Frame.{Frame}
 use Rattle.pmg_frame.specs.declared.frame.Frame.TheVariants as frames
 use Rattle.pmg_jobinfo.specs.Jobs.{Jobs}
 use Rattle.pmg_rules.specs.Acts.{Request, Act, acts}
-use Rattle.pmg_holding.specs.Ahead.{joined}
-use Rattle.pmg_rules.specs.Holdings.{Holding, sealer_of}
+use Rattle.pmg_rules.specs.Holdings.{Holding, joined, sealer_of}
 use Rattle.pmg_rules.specs.Sending.{is_quiet}
 
 -- what is joined for reads from the node itself, and from other nodes
@@ -41,7 +41,7 @@ frame_joins (frames.FenceAsk a) = no_joins
 frame_joins (frames.RangeAsk a) = no_joins
 frame_joins (frames.DirectAsk a) = no_joins
 frame_joins (frames.RefreshAsk a) = no_joins
-frame_joins (frames.RefreshReply r) = no_joins
+frame_joins (frames.RefreshReply r) = record { near = None; far = told_by r }
 
 abbrev pub act_joins : Holding → Act → Holding → Joins
 act_joins old (Act.request r) new = request_joins old r new

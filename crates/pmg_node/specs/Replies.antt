@@ -31,6 +31,8 @@ stays_reply (Some (Standing.released f gone)) = None
 stays_reply (Some (Standing.in_fence f)) = Some Reply.waiting
 stays_reply (Some (Standing.parked get)) = Some Reply.idle
 stays_reply (Some (Standing.answered get outcome)) = Some Reply.idle
+stays_reply (Some (Standing.refreshing get number)) = Some Reply.idle
+stays_reply (Some (Standing.refreshed get outcome)) = Some Reply.idle
 stays_reply None = Some Reply.idle
 
 -- what it is told that is released from this fence, where it is
@@ -52,6 +54,8 @@ taking_reply (takings.Found value) = Reply.found (spelling value)
 -- what it is told whose get is not answered
 abbrev pub pending_reply : Option Standing → Option Reply
 pending_reply (Some (Standing.answered get outcome)) = None
+pending_reply (Some (Standing.refreshed get outcome)) = None
+pending_reply (Some (Standing.refreshing get number)) = Some Reply.waiting
 pending_reply (Some (Standing.parked get)) = Some Reply.waiting
 pending_reply (Some (Standing.in_fence f)) = Some Reply.idle
 pending_reply (Some (Standing.released f gone)) = Some Reply.idle

@@ -140,7 +140,7 @@ fn delivered(delivery: Delivery, joined: Joined) -> Acted
     }
 }
 
-/// What is joined once the frame is taken: its piece, if it is one.
+/// What is joined once the frame is taken: its piece, if it is one, or what it replies, if that is something.
 fn joined_by(frame: &Frame) -> Result<Joined, AllocError>
     ensures { IfOk result (λ joined. joins_in joined ≡ frame_joins frame.now) }
 {
@@ -151,7 +151,7 @@ fn joined_by(frame: &Frame) -> Result<Joined, AllocError>
         Frame::RangeAsk(_) => None,
         Frame::DirectAsk(_) => None,
         Frame::RefreshAsk(_) => None,
-        Frame::RefreshReply(_) => None,
+        Frame::RefreshReply(reply) => reply.copy()?.into_piece(),
     };
     Ok(Joined { near: None, far })
 }

@@ -40,7 +40,7 @@ impl Node {
     }
 
     /// Whether another node asks for commits of a process at home at this node.
-    fn is_asked(&self, ask: &CommitAsk) -> bool
+    pub(crate) fn is_asked(&self, ask: &CommitAsk) -> bool
         ensures { result ≡ (is_peer self.now.jobs self.now.id ask.now.node && is_known self.now.jobs ask.now.proc && (home_of self.now.jobs ask.now.proc == self.now.id)) }
     {
         self.is_peer(ask.node())

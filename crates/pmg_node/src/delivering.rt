@@ -1,6 +1,6 @@
 //! A frame of another node comes.
-ghost use Rattle.std.specs.Prelude.{◌≡◌, ◌++◌, [], false, IfOk, OnOk, OnErr};
-ghost use Rattle.pmg_rules.specs.Acts.{Act, is_taken};
+ghost use Rattle.std.specs.Prelude.{◌≡◌, ◌++◌, IfOk, OnOk, OnErr};
+ghost use Rattle.pmg_rules.specs.Acts.{Act};
 ghost use Rattle.pmg_node.specs.Replies.{delivery_reply};
 ghost use Rattle.pmg_node.specs.Servers.{reply_to, sent_by, after};
 
@@ -31,20 +31,8 @@ impl Node {
             Frame::FenceAsk(ask) => self.deliver_fence_ask(ask, out),
             Frame::RangeAsk(ask) => self.deliver_range_ask(ask, out),
             Frame::DirectAsk(ask) => self.deliver_direct_ask(ask, out),
-            Frame::RefreshAsk(_) => Ok(self.ignore(frame)),
-            Frame::RefreshReply(_) => Ok(self.ignore(frame)),
+            Frame::RefreshAsk(ask) => self.deliver_refresh_ask(ask, out),
+            Frame::RefreshReply(reply) => self.deliver_refresh_reply(reply, out),
         }
-    }
-
-    /// A frame that does not concern the node changes nothing.
-    fn ignore(&self, frame: &Frame) -> Delivery
-        requires { is_taken self.now.jobs self.now.id frame.now ≡ false }
-        ensures reply { reply_to self.now (Act.deliver frame.now) ≡ delivery_reply result }
-        ensures same { after self.now (Act.deliver frame.now) ≡ self.now }
-        ensures silent { sent_by self.now (Act.deliver frame.now) ≡ [] }
-    {
-        // No effect at run time: the proof reads here what holds of each node.
-        let _id = self.id;
-        Delivery::Ignored
     }
 }

@@ -30,6 +30,8 @@ fn stays(call: Option<&Call>) -> Option<Release>
         Some(Call::InFence(_)) => Some(Release::Waiting),
         Some(Call::Parked(..)) => Some(Release::Idle),
         Some(Call::Answered(..)) => Some(Release::Idle),
+        Some(Call::Refreshing(..)) => Some(Release::Idle),
+        Some(Call::Refreshed(..)) => Some(Release::Idle),
         None => Some(Release::Idle),
     }
 }

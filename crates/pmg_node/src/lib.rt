@@ -21,6 +21,8 @@ mod opening;
 mod parking;
 mod pieces;
 mod publishing;
+mod refreshing;
+mod replying;
 mod setting;
 mod status;
 mod taking;

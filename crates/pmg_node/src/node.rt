@@ -45,7 +45,7 @@ impl Model for Node {
 
     ghost view = { λ a. server_of a.table a.id a.board a.own a.calls a.held a.marks };
 
-    ghost invariant = { λ a. IsContent a.table a.id (server_of a.table a.id a.board a.own a.calls a.held a.marks) };
+    ghost invariant = { λ a. IsContent a.table a.id a.held.anew (server_of a.table a.id a.board a.own a.calls a.held a.marks) };
 }
 
 impl Node {

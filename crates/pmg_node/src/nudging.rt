@@ -7,14 +7,15 @@ ghost use Rattle.pmg_frame.specs.Fences.{commit_ask};
 ghost use Rattle.pmg_frame.specs.declared.frame.Frame.TheVariants as frames;
 ghost use Rattle.pmg_jobinfo.specs.Jobs.{home_of};
 ghost use Rattle.pmg_rules.specs.Acts.{Act, Request, Reply};
-ghost use Rattle.pmg_holding.specs.Calls.{all_targets};
-ghost use Rattle.pmg_rules.specs.Choosing.{asking, asking_headers, asking_ranges, asking_fence, asking_sets, is_behind, nudging, waited_in};
-ghost use Rattle.pmg_rules.specs.Sending.{sent};
+ghost use Rattle.pmg_holding.specs.Calls.{all_asks};
+ghost use Rattle.pmg_rules.specs.Choosing.{asking, asking_anew, asking_headers, asking_ranges, asking_fence, asking_sets, is_behind, nudging, waited_in};
+ghost use Rattle.pmg_rules.specs.Sending.{ask_anew, sent};
+ghost use Rattle.pmg_node.specs.Asking.{asking_as};
 ghost use Rattle.pmg_node.specs.Servers.{reply_to, sent_by, after};
 ghost use Rattle.pmg_rules.specs.declared.due.Due.TheVariants as sendings;
 
 use crate::node::Node;
-use pmg_frame::{CommitAsk, FenceAsk, FenceName, Frame};
+use pmg_frame::{CommitAsk, FenceAsk, FenceName, Frame, RefreshAsk};
 use pmg_holding::{hand_out, peers_in};
 use pmg_rules::{Due, Sent};
 use pmg_value::{NodeId, Proc};
@@ -58,6 +59,51 @@ impl Node {
             frame: Frame::DirectAsk(self.commit_ask(target)?),
         }))?;
         Ok(())
+    }
+
+    /// This node's request under the number for the commits of the process past the level that is known.
+    fn refresh_ask(&self, proc: &Proc, number: u64) -> Result<RefreshAsk, AllocError>
+        ensures { IfOk result (λ ask. ask ≡ ask_anew self.now.id self.now.holding proc.now number) }
+    {
+        match RefreshAsk::new(number, self.commit_ask(proc)?) {
+            Ok(ask) => Ok(ask),
+            Err(_) => Err(AllocError),
+        }
+    }
+
+    /// The home of the process, where that is another node, is asked anew for its commits past the level that is known.
+    pub(crate) fn ask_home_anew(
+        &self,
+        target: &Proc,
+        number: u64,
+        dues: &mut Vec<Due>,
+    ) -> Result<(), AllocError>
+        ensures { OnOk result (dues.new.items ≡ dues.old.items ++ asking_anew self.now.jobs self.now.id self.now.holding target.now number) }
+    {
+        let home = self.table.registry().home_of(target);
+        if home == self.id {
+            return Ok(());
+        }
+        dues.push(Due::Whole(Sent {
+            to: home,
+            frame: Frame::RefreshAsk(self.refresh_ask(target, number)?),
+        }))?;
+        Ok(())
+    }
+
+    /// For a get that waits for a key of the process, its home is asked, and anew where the get's request has a number.
+    fn ask_as(
+        &self,
+        target: &Proc,
+        number: Option<u64>,
+        dues: &mut Vec<Due>,
+    ) -> Result<(), AllocError>
+        ensures { OnOk result (dues.new.items ≡ dues.old.items ++ asking_as self.now.jobs self.now.id self.now.holding (target.now, number)) }
+    {
+        match number {
+            None => self.ask_home(target, dues),
+            Some(number) => self.ask_home_anew(target, number, dues),
+        }
     }
 
     /// The other nodes whose header of the fence is missing are asked for it.
@@ -129,10 +175,10 @@ impl Node {
     /// For each get that waits, the home of the process whose key it waits for is asked.
     fn ask_homes(&self, dues: &mut Vec<Due>) -> Result<(), AllocError>
         ensures { OnOk result (dues.new.items ≡ dues.old.items
-            ++ flat_map (asking self.now.jobs self.now.id self.now.holding) (all_targets self.now.holding.calls)) }
+            ++ flat_map (asking_as self.now.jobs self.now.id self.now.holding) (all_asks self.now.holding.calls)) }
     {
-        for target in self.calls.targets()? {
-            self.ask_home(&target, dues)?;
+        for (target, number) in self.calls.asks()? {
+            self.ask_as(&target, number, dues)?;
         }
         Ok(())
     }
@@ -162,7 +208,7 @@ impl Node {
 
     /// Other nodes are asked again for what is missing (this project's call): for headers of the fences in which own processes
     /// wait, and for commits that headers of those that collect data name; for commits of the processes whose keys gets wait
-    /// for; and on other nodes than 0 for changes of the process sets. Nothing else changes.
+    /// for, anew where a get asks anew; and on other nodes than 0 for changes of the process sets. Nothing else changes.
     pub fn nudge(&mut self, out: &mut VecDeque<Sent>) -> Result<(), AllocError>
         ensures reply { reply_to self.old (Act.request Request.nudge) ≡ Reply.done }
         ensures ok { OnOk result (self.new ≡ after self.old (Act.request Request.nudge)) }

@@ -9,7 +9,7 @@ ghost use Rattle.pmg_get.specs.declared.view.Mode.{Mode as AskedMode};
 ghost use Rattle.pmg_get.specs.declared.view.Mode.TheVariants as modes;
 ghost use Rattle.pmg_jobinfo.specs.Jobs.{is_registered};
 ghost use Rattle.pmg_jobinfo.specs.Reserved.{is_general};
-ghost use Rattle.pmg_rules.specs.Acts.{Act, Request, also, free_cause, target_cause, is_misnamed, reply_of};
+ghost use Rattle.pmg_rules.specs.Acts.{Act, Request, also, free_cause, target_cause, number_cause, is_misnamed, reply_of};
 ghost use Rattle.pmg_holding.specs.Calls.{get_of};
 ghost use Rattle.pmg_rules.specs.Holdings.{answer_in};
 ghost use Rattle.pmg_rules.specs.Kept.{IsSettled};
@@ -49,7 +49,7 @@ fn told(answer: Answer<'_>) -> Result<Asked, Refusal>
 
 impl Node {
     /// Judges who asks, and for whose key.
-    fn check_ask(&self, proc: &Proc, target: &Proc, key: &Key) -> Result<(), Refusal>
+    fn check_target(&self, proc: &Proc, target: &Proc, key: &Key) -> Result<(), Refusal>
         ensures value { result ≡ first_of (also (free_cause self.now.jobs self.now.id self.now.holding proc.now)
             (target_cause self.now.jobs proc.now (get_of target.now key.now))) tt }
         ensures settled { IsSettled self.now.jobs self.now.id self.now.holding }
@@ -65,6 +65,25 @@ impl Node {
             return Err(Refusal::BadParam);
         }
         Err(Refusal::UnknownNamespace)
+    }
+
+    /// Judges a get: who asks, for whose key, and that there is a number for the request where one is sent.
+    fn check_ask(
+        &self,
+        proc: &Proc,
+        target: &Proc,
+        key: &Key,
+        mode: Mode,
+    ) -> Result<(), Refusal>
+        ensures value { result ≡ first_of (also (free_cause self.now.jobs self.now.id self.now.holding proc.now)
+            (also (target_cause self.now.jobs proc.now (get_of target.now key.now))
+            (number_cause self.now.jobs self.now.id self.now.holding (get_of target.now key.now) mode))) tt }
+        ensures settled { IsSettled self.now.jobs self.now.id self.now.holding }
+    {
+        if let Err(refusal) = self.check_target(proc, target, key) {
+            return Err(refusal);
+        }
+        self.check_number(target, key, mode)
     }
 
     /// What a process is told that asks for a reserved key, which the registry answers.
@@ -102,7 +121,8 @@ impl Node {
         out: &mut VecDeque<Sent>,
     ) -> Result<(), AllocError>
         requires free { first_of (also (free_cause self.old.jobs self.old.id self.old.holding proc.now)
-            (target_cause self.old.jobs proc.now (get_of target.now key.now))) (tt {0}) ≡ Ok tt }
+            (also (target_cause self.old.jobs proc.now (get_of target.now key.now))
+            (number_cause self.old.jobs self.old.id self.old.holding (get_of target.now key.now) modes.Wait))) (tt {0}) ≡ Ok tt }
         requires parks { answer_in self.old.jobs self.old.id self.old.holding (get_of target.now key.now) modes.Wait ≡ Outcome.parks }
         ensures ok { OnOk result (self.new ≡ after self.old (Act.request (Request.ask proc.now (get_of target.now key.now) modes.Wait))) }
         ensures sent { OnOk result (out.new.items ≡ out.old.items
@@ -123,12 +143,40 @@ impl Node {
         Ok(())
     }
 
+    /// The process's get waits, as its mode says.
+    fn wait(
+        &mut self,
+        proc: &Proc,
+        target: &Proc,
+        key: &Key,
+        mode: Mode,
+        out: &mut VecDeque<Sent>,
+    ) -> Result<(), AllocError>
+        requires free { first_of (also (free_cause self.old.jobs self.old.id self.old.holding proc.now)
+            (also (target_cause self.old.jobs proc.now (get_of target.now key.now))
+            (number_cause self.old.jobs self.old.id self.old.holding (get_of target.now key.now) mode))) (tt {0}) ≡ Ok tt }
+        requires parks { answer_in self.old.jobs self.old.id self.old.holding (get_of target.now key.now) mode ≡ Outcome.parks }
+        ensures ok { OnOk result (self.new ≡ after self.old (Act.request (Request.ask proc.now (get_of target.now key.now) mode))) }
+        ensures sent { OnOk result (out.new.items ≡ out.old.items
+            ++ sent_by self.old (Act.request (Request.ask proc.now (get_of target.now key.now) mode))) }
+        ensures err { OnErr result (self.new ≡ self.old) }
+        ensures unsent { OnErr result (out.new.items ≡ out.old.items) }
+    {
+        match mode {
+            Mode::Wait => self.park(proc, target, key, out),
+            Mode::Now => self.park(proc, target, key, out),
+            Mode::Refresh => self.refresh(proc, target, key, out),
+        }
+    }
+
     /// The process asks for a key of the target (PMIx Standard 5.0, PMIx_Get): it is told the value, or waits until there is
-    /// something to answer, unless the mode is not to wait. Refused as BadParam where a process is none of its namespace, or of
+    /// something to answer, unless the mode is not to wait; where it asks anew, of a process at home at another node, it waits for
+    /// what that node replies (PMIX_GET_REFRESH_CACHE). Refused as BadParam where a process is none of its namespace, or of
     /// one whose name begins with `pmix`, and where a key that is not reserved is asked of the caller itself or of no
     /// particular rank; as UnknownNamespace; as NotMine where the caller is at home at another node; as Terminated; as Busy
     /// where it is in a call; as NotFound where there is no value, and none is waited for; as OutsideScope where there is one
-    /// that its scope keeps from the process; and as NoMemory.
+    /// that its scope keeps from the process; as TooMany where it asks anew, and the node sent 18446744073709551615 requests; and as
+    /// NoMemory.
     pub fn ask(
         &mut self,
         proc: &Proc,
@@ -144,14 +192,14 @@ impl Node {
         ensures memory { result ≡ Err refusals.NoMemory → self.new ≡ self.old }
         ensures unsent { result ≡ Err refusals.NoMemory → out.new.items ≡ out.old.items }
     {
-        if let Err(refusal) = self.check_ask(proc, target, key) {
+        if let Err(refusal) = self.check_ask(proc, target, key, mode) {
             return Err(refusal);
         }
         match self.tell(target, key, mode) {
             Err(refusal) => Err(refusal),
             Ok(Asked::Found(value)) => Ok(Asked::Found(value)),
             Ok(Asked::Parked) => {
-                self.park(proc, target, key, out)?;
+                self.wait(proc, target, key, mode, out)?;
                 Ok(Asked::Parked)
             }
         }

@@ -39,6 +39,8 @@ fn status_by(call: Option<&Call>) -> Status
         Some(Call::Released(..)) => Status::Released,
         Some(Call::Parked(..)) => Status::Parked,
         Some(Call::Answered(..)) => Status::Answered,
+        Some(Call::Refreshing(..)) => Status::Parked,
+        Some(Call::Refreshed(..)) => Status::Answered,
     }
 }
 

@@ -28,6 +28,8 @@ fn pending(call: Option<&Call>) -> Option<Taking>
     match call {
         Some(Call::Answered(..)) => None,
         Some(Call::Parked(..)) => Some(Taking::Waiting),
+        Some(Call::Refreshed(..)) => None,
+        Some(Call::Refreshing(..)) => Some(Taking::Waiting),
         Some(Call::InFence(_)) => Some(Taking::Idle),
         Some(Call::Released(..)) => Some(Taking::Idle),
         None => Some(Taking::Idle),

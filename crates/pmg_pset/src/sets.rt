@@ -8,6 +8,7 @@ ghost use Rattle.pmg_value.specs.declared.value.Value.TheVariants as values;
 ghost use Rattle.pmg_value.specs.Spelling.{spelling};
 ghost use Rattle.pmg_scope.specs.declared.scope.Reach.{Reach};
 ghost use Rattle.pmg_commit.specs.Sealed.{fresh, is_other, piece_answer};
+ghost use Rattle.pmg_commit.specs.Stamped.{IsSealer};
 ghost use Rattle.pmg_commit.specs.SealerRules.{FitsSealer};
 ghost use Rattle.pmg_commit.specs.TakenBack.{sealer_back};
 ghost use Rattle.pmg_pset.specs.Changes.{Change, definition, deletion, script_of};
@@ -176,6 +177,7 @@ impl Sets {
     pub fn level(&self) -> u64
         ensures value { result ≡ self.now.level }
         ensures bound { result ≤ 4294967295 }
+        ensures sealer { IsSealer self.now }
     {
         self.sealer.level()
     }

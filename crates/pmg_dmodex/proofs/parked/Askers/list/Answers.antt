@@ -1,4 +1,4 @@
-use Rattle.std.proofs.Common.{ℕ, List, ◌++◌, sym, ap, ◌∙◌}
+use Rattle.std.proofs.Common.{◌++◌, sym, ap, ◌∙◌}
 use Rattle.std.specs.FinMap as finite
 use Rattle.pmg_value.proofs.ProcessOrder.{procs_total}
 use Rattle.pmg_value.proofs.RowLemmas.{entries-map_of}

@@ -1,4 +1,4 @@
-use Rattle.std.proofs.Common.{List, ℕ, Option, sym, ap, ◌∙◌}
+use Rattle.std.proofs.Common.{Option, sym, ap, ◌∙◌}
 use Rattle.std.specs.FinMap as finite
 use Rattle.std.specs.Option.{unwrap_or}
 use Rattle.std.proofs.lemmas.Result.{IfOk-weaker}

@@ -1,17 +1,15 @@
 use Rattle.std.proofs.Common.{◌++◌, Err, List, sym, ap, subst, append-nil, ◌∙◌}
 use Rattle.std.proofs.lemmas.Result.{err_from_is_err_and}
 use Rattle.pmg_value.specs.Spelling.{spelling}
-use Rattle.pmg_get.specs.declared.view.Mode.{Mode}
-use Rattle.pmg_rules.specs.Acts.{Act, Request, also, free_cause, target_cause, reply_of}
+use Rattle.pmg_rules.specs.Acts.{Act, Request, also, free_cause, target_cause, number_cause, reply_of}
 use Rattle.pmg_holding.specs.Calls.{get_of}
 use Rattle.pmg_rules.specs.Holdings.{answer_in}
 use Rattle.pmg_node.specs.Replies.{asked_reply}
-use Rattle.pmg_node.specs.Servers.{Refuses, IsAccepted, sent_by, after}
+use Rattle.pmg_node.specs.Servers.{Refuses, IsAccepted}
 use Rattle.pmg_node.specs.declared.parking.Asked.{Asked}
 use Rattle.pmg_rules.specs.declared.sent.Sent.{Sent}
 use Rattle.pmg_node.proofs.ActLemmas.{refused_reply, refused_after, refused_sent}
-use Rattle.pmg_node.proofs.AskLemmas.{ask_free, reserved_named, ask_cause, ask_reply, found_told, refused_told, parks_by, waits_mode, told_after, told_sent}
-use Rattle.pmg_rules.proofs.KeptSettled.{parks_waiting}
+use Rattle.pmg_node.proofs.AskLemmas.{ask_free, reserved_named, ask_cause, ask_reply, found_told, refused_told, parks_by, told_after, told_sent}
 use Rattle.pmg_node.proofs.RefusalLemmas.{refused_as, refuses_first}
 use Rattle.pmg_node.proofs.node.Node.ask.Goals as goal
 
@@ -25,7 +23,7 @@ returns-in-Err-clause-reply c =
     let e = c.in-Err.refusal in
     let judged = sym c.check_ask.ensures.value ∙ c.in-Err.is in
     subst (Refuses e) (sym (refused_reply s (Act.request (Request.ask p get c.args.mode)) e (ask_cause s p get c.args.mode (Err e) judged)))
-    (refuses_first (also (free_cause s.jobs s.id s.holding p) (target_cause s.jobs p get)) e judged)
+    (refuses_first (also (free_cause s.jobs s.id s.holding p) (also (target_cause s.jobs p get) (number_cause s.jobs s.id s.holding get c.args.mode))) e judged)
 
 pub returns-in-Err-clause-done : goal.returns-in-Err-clause-done
 returns-in-Err-clause-done c _ =
@@ -50,26 +48,25 @@ returns-in-Err-clause-sent c _ =
 pub tell-requires-clause-known : goal.tell-requires-clause-known
 tell-requires-clause-known c =
     let s = c.args.self.now in
-    (ask_free s.jobs s.id s.holding c.args.proc.now (get_of c.args.target.now c.args.key.now) (sym c.check_ask.ensures.value ∙ c.in_default.is)).known
+    (ask_free s.jobs s.id s.holding c.args.proc.now (get_of c.args.target.now c.args.key.now) c.args.mode (sym c.check_ask.ensures.value ∙ c.in_default.is)).known
 
 pub tell-requires-clause-named : goal.tell-requires-clause-named
 tell-requires-clause-named c =
     let s = c.args.self.now in
     let p = c.args.proc.now in
     let get = get_of c.args.target.now c.args.key.now in
-    reserved_named s.jobs p get (ask_free s.jobs s.id s.holding p get (sym c.check_ask.ensures.value ∙ c.in_default.is)).named
+    reserved_named s.jobs p get (ask_free s.jobs s.id s.holding p get c.args.mode (sym c.check_ask.ensures.value ∙ c.in_default.is)).named
 
-pub park-requires-clause-parks : goal.park-requires-clause-parks
-park-requires-clause-parks c =
+pub wait-requires-clause-parks : goal.wait-requires-clause-parks
+wait-requires-clause-parks c =
     let s = c.args.self.now in
     let get = get_of c.args.target.now c.args.key.now in
-    parks_waiting s.jobs s.id s.holding get c.args.mode
-    (parks_by (answer_in s.jobs s.id s.holding get c.args.mode) (c.in-Ok-Parked.ensures ∙ ap asked_reply c.in-Ok-Parked.field-0-is))
+    parks_by (answer_in s.jobs s.id s.holding get c.args.mode) (c.in-Ok-Parked.ensures ∙ ap asked_reply c.in-Ok-Parked.field-0-is)
 
 -- ---- the get waits
 
-pub returns-in_err-park-in-Ok-Parked-clause-reply : goal.returns-in_err-park-in-Ok-Parked-clause-reply
-returns-in_err-park-in-Ok-Parked-clause-reply c =
+pub returns-in_err-wait-in-Ok-Parked-clause-reply : goal.returns-in_err-wait-in-Ok-Parked-clause-reply
+returns-in_err-wait-in-Ok-Parked-clause-reply c =
     let s = c.args.self.now in
     let get = get_of c.args.target.now c.args.key.now in
     let free = sym c.check_ask.ensures.value ∙ c.in_default.is in
@@ -77,28 +74,18 @@ returns-in_err-park-in-Ok-Parked-clause-reply c =
     let due = ask_reply s c.args.proc.now get c.args.mode c.check_ask.ensures.settled free ∙ c.in-Ok-Parked.ensures ∙ ap asked_reply c.in-Ok-Parked.field-0-is in
     rw (p.1, p.2) (subst IsAccepted (sym due) tt)
 
-pub returns-in_ok-park-in-Ok-Parked-clause-reply : goal.returns-in_ok-park-in-Ok-Parked-clause-reply
-returns-in_ok-park-in-Ok-Parked-clause-reply c =
+pub returns-in_ok-wait-in-Ok-Parked-clause-reply : goal.returns-in_ok-wait-in-Ok-Parked-clause-reply
+returns-in_ok-wait-in-Ok-Parked-clause-reply c =
     let s = c.args.self.now in
     let get = get_of c.args.target.now c.args.key.now in
     let free = sym c.check_ask.ensures.value ∙ c.in_default.is in
     ask_reply s c.args.proc.now get c.args.mode c.check_ask.ensures.settled free ∙ c.in-Ok-Parked.ensures ∙ ap asked_reply c.in-Ok-Parked.field-0-is
 
-pub returns-in_ok-park-in-Ok-Parked-clause-done : goal.returns-in_ok-park-in-Ok-Parked-clause-done
-returns-in_ok-park-in-Ok-Parked-clause-done c _ =
-    let s = c.args.self.now in
-    let get = get_of c.args.target.now c.args.key.now in
-    let parks = parks_by (answer_in s.jobs s.id s.holding get c.args.mode) (c.in-Ok-Parked.ensures ∙ ap asked_reply c.in-Ok-Parked.field-0-is) in
-    c.in_ok-park-in-Ok-Parked.ensures.ok
-    ∙ ap (λ (m : Mode). after s (Act.request (Request.ask c.args.proc.now get m))) (sym (waits_mode s.jobs s.id s.holding get c.args.mode parks))
+pub returns-in_ok-wait-in-Ok-Parked-clause-done : goal.returns-in_ok-wait-in-Ok-Parked-clause-done
+returns-in_ok-wait-in-Ok-Parked-clause-done c _ = c.in_ok-wait-in-Ok-Parked.ensures.ok
 
-pub returns-in_ok-park-in-Ok-Parked-clause-sent : goal.returns-in_ok-park-in-Ok-Parked-clause-sent
-returns-in_ok-park-in-Ok-Parked-clause-sent c _ =
-    let s = c.args.self.now in
-    let get = get_of c.args.target.now c.args.key.now in
-    let parks = parks_by (answer_in s.jobs s.id s.holding get c.args.mode) (c.in-Ok-Parked.ensures ∙ ap asked_reply c.in-Ok-Parked.field-0-is) in
-    c.in_ok-park-in-Ok-Parked.ensures.sent
-    ∙ ap (λ (m : Mode). c.args.out.now.items ++ sent_by s (Act.request (Request.ask c.args.proc.now get m))) (sym (waits_mode s.jobs s.id s.holding get c.args.mode parks))
+pub returns-in_ok-wait-in-Ok-Parked-clause-sent : goal.returns-in_ok-wait-in-Ok-Parked-clause-sent
+returns-in_ok-wait-in-Ok-Parked-clause-sent c _ = c.in_ok-wait-in-Ok-Parked.ensures.sent
 
 -- ---- there is nothing, or an allocation fails
 

@@ -21,6 +21,7 @@ use Rattle.pmg_rules.specs.declared.sent.Sent.{Sent}
 use Rattle.pmg_holding.proofs.AnswerLemmas.{plain_calls}
 use Rattle.pmg_node.proofs.CommitLemmas.{free_own, free_client, commit_barred, commit_over, commit_free, commit_accepted, commit_seals, client_put, client_sets, level_rises, still_own, own_back}
 use Rattle.pmg_node.proofs.NodeKept.{node_stays}
+use Rattle.pmg_node.proofs.OpenLemmas.{still_open}
 use Rattle.pmg_node.proofs.FailLemmas.{erred_reply, erred_after, erred_sent}
 use Rattle.pmg_node.proofs.SealedActs.{Seals, IsPublished, now_sealed, published_reply, published_after, published_sent}
 use Rattle.pmg_node.proofs.node.Node.commit_joined.Goals as goal
@@ -114,7 +115,7 @@ back c =
     λ i. server_of inside.table inside.id (record { near = c.in_default.ensures.near_err i; far = c.in_default.ensures.far_err i }) (own i) inside.calls inside.held (c.in_default.ensures.marks_err i)
 
 pub invariant_of-self-in_default : goal.invariant_of-self-in_default
-invariant_of-self-in_default c = record { same = c.self.invariant.same; told = c.self.invariant.told; node = subst IsNode (sym (back c)) c.self.invariant.node }
+invariant_of-self-in_default c = record { same = c.self.invariant.same; told = c.self.invariant.told; node = subst IsNode (sym (back c)) c.self.invariant.node; replies = c.self.invariant.replies }
 
 pub returns-in_default-clause-reply : goal.returns-in_default-clause-reply
 returns-in_default-clause-reply c =
@@ -152,6 +153,7 @@ published c =
       table = refl;
       calls = c.answer.ensures;
       held = ap (λ (r : Requests). r.held) c.settle.ensures ∙ ap (without_below inside.held.held p) c.level-level.ensures.value;
+      requests = ap (λ (r : Requests). r.anew.last) c.settle.ensures;
       marks = c.in-Ok.ensures.marks ∙ ap (λ (ds : List Due). (sends sealer inside.marks (settling_by sealer inside.held.held p ++ ds)).marks) c.new-dues.ensures.items;
       found = c.in-Ok.ensures.answers;
     }
@@ -200,7 +202,13 @@ module _ (c : goal.After-drop-before-2) where
       c.level-from.result c.level-from.ensures.value c.in-Ok.published.answers.items (left c) (published c))
 
 pub invariant_of-self-2 : goal.invariant_of-self-2
-invariant_of-self-2 c = record { same = c.self.invariant.same; told = c.self.invariant.told; node = subst IsNode (sym (done c)) (node_stays (before c) (act c) c.self.invariant.node) }
+invariant_of-self-2 c = record {
+  same = c.self.invariant.same;
+  told = c.self.invariant.told;
+  node = subst IsNode (sym (done c)) (node_stays (before c) (act c) c.self.invariant.node);
+  replies = still_open (before c) (before c) refl (act c) c.self.invariant.node (left c) (done c) (ap (λ (r : Requests). r.anew.last) c.settle.ensures) c.self.inside.held.anew c.settle.new.self.anew
+      (ap (λ (r : Requests). r.anew) c.settle.ensures) c.self.invariant.replies;
+}
 
 pub returns-clause-reply : goal.returns-clause-reply
 returns-clause-reply c = subst (λ (x : Server). reply_to x (act c) ≡ Reply.committed c.level-level.result) c.self.view_is (told c ∙ ap Reply.committed (level_is c))

@@ -22,6 +22,7 @@ use Rattle.pmg_rules.specs.declared.sent.Sent.{Sent}
 use Rattle.pmg_holding.specs.Answered.{ArePlain}
 use Rattle.pmg_holding.proofs.AnswerLemmas.{plain_calls}
 use Rattle.pmg_node.proofs.NodeKept.{node_stays}
+use Rattle.pmg_node.proofs.OpenLemmas.{still_open}
 use Rattle.pmg_node.proofs.FailLemmas.{fails_due, erred_reply, erred_after, erred_sent}
 use Rattle.pmg_node.proofs.SealedActs.{Seals, IsPublished, published_reply, published_after, published_sent}
 use Rattle.pmg_node.proofs.SettingLemmas.{sets_sealed, sets_rise}
@@ -124,12 +125,13 @@ back c =
         table = i.table.fences;
         calls = i.calls;
         held = i.held.held;
+        requests = i.held.anew.last;
       };
       marks = c.in_default.ensures.marks_err j;
     }
 
 pub invariant_of-self-in_default : goal.invariant_of-self-in_default
-invariant_of-self-in_default c = record { same = c.self.invariant.same; told = c.self.invariant.told; node = subst IsNode (sym (back c)) c.self.invariant.node }
+invariant_of-self-in_default c = record { same = c.self.invariant.same; told = c.self.invariant.told; node = subst IsNode (sym (back c)) c.self.invariant.node; replies = c.self.invariant.replies }
 
 pub returns-in_default-clause-memory : goal.returns-in_default-clause-memory
 returns-in_default-clause-memory c = λ _. back c ∙ c.self.view_is
@@ -178,6 +180,7 @@ module _ (c : goal.After-drop-before-2) where
     table = refl;
     calls = c.answer.ensures;
     held = ap (λ (r : Requests). r.held) c.settle.ensures ∙ (λ i. without_below c.self.inside.held.held (c.in-Ok.ensures.host i) (last i));
+    requests = ap (λ (r : Requests). r.anew.last) c.settle.ensures;
     marks = c.in-Ok.ensures.marks;
     found = c.in-Ok.ensures.answers;
   }
@@ -215,7 +218,13 @@ module _ (c : goal.After-drop-before-2) where
   was = c.sets_level-from.ensures.value ∙ ap (λ (x : Server). x.holding.sets.level) c.self.view_is
 
 pub invariant_of-self-2 : goal.invariant_of-self-2
-invariant_of-self-2 c = record { same = c.self.invariant.same; told = c.self.invariant.told; node = subst IsNode (sym (done c)) (node_stays (before c) (act c) c.self.invariant.node) }
+invariant_of-self-2 c = record {
+  same = c.self.invariant.same;
+  told = c.self.invariant.told;
+  node = subst IsNode (sym (done c)) (node_stays (before c) (act c) c.self.invariant.node);
+  replies = still_open (before c) (before c) refl (act c) c.self.invariant.node (left c) (done c) (ap (λ (r : Requests). r.anew.last) c.settle.ensures) c.self.inside.held.anew c.settle.new.self.anew
+      (ap (λ (r : Requests). r.anew) c.settle.ensures) c.self.invariant.replies;
+}
 
 pub returns-clause-reply : goal.returns-clause-reply
 returns-clause-reply c = subst (λ (x : Server). reply_to x (act c) ≡ Reply.defined c.sets_level-level.result) c.self.view_is (told c)

@@ -14,6 +14,7 @@ use Rattle.pmg_rules.specs.declared.due.Due.{Due}
 use Rattle.pmg_rules.specs.declared.sent.Sent.{Sent}
 use Rattle.pmg_node.proofs.FrameLemmas.{below_is, not_below_is, direct_taken, with_marks, waits_for, range_out, ignored_is, ignored_silent, direct_is, direct_sent}
 use Rattle.pmg_node.proofs.NodeKept.{node_stays}
+use Rattle.pmg_node.proofs.OpenLemmas.{still_open}
 use Rattle.pmg_node.proofs.SilentLemmas.{after_is, sent_none}
 use Rattle.pmg_node.proofs.node.Node.deliver_direct_ask.Goals as goal
 
@@ -120,7 +121,13 @@ invariant_of-self-in_default c =
       holding = (ap (λ (d : Done). d.left) (direct_is s.jobs s.id s.holding kept.server.settled ask taken) ∙ left) i;
       marks = (direct_sent s.jobs s.id s.holding kept.server.settled s.marks ask taken i).marks;
     }) in
-    record { same = c.self.invariant.same; told = c.self.invariant.told; node = subst IsNode (sym moved) (node_stays s (Act.deliver (frames.DirectAsk ask)) kept) }
+    record {
+      same = c.self.invariant.same;
+      told = c.self.invariant.told;
+      node = subst IsNode (sym moved) (node_stays s (Act.deliver (frames.DirectAsk ask)) kept);
+      replies = still_open _ s c.self.view_is (Act.deliver (frames.DirectAsk ask)) kept _ moved (ap (λ (r : Requests). r.anew.last) c.in_default.ensures.ok) inside.held.anew c.hold.new.self.anew
+          (ap (λ (r : Requests). r.anew) c.in_default.ensures.ok) c.self.invariant.replies;
+    }
 
 pub returns-clause-reply : goal.returns-clause-reply
 returns-clause-reply c =

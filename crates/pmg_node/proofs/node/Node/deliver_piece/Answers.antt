@@ -9,6 +9,7 @@ use Rattle.pmg_node.specs.Servers.{Server, IsNode}
 use Rattle.pmg_rules.specs.declared.sent.Sent.{Sent}
 use Rattle.pmg_node.proofs.FrameLemmas.{ignored_is, ignored_silent}
 use Rattle.pmg_node.proofs.NodeKept.{node_stays}
+use Rattle.pmg_node.proofs.OpenLemmas.{still_open}
 use Rattle.pmg_node.proofs.PieceLemmas.{piece_reply, piece_sent, piece_moved}
 use Rattle.pmg_node.proofs.SilentLemmas.{after_is, sent_none}
 use Rattle.pmg_node.proofs.node.Node.deliver_piece.Goals as goal
@@ -48,7 +49,12 @@ invariant_of-self-2 c =
     let moved =
     piece_moved s t piece c.self.view_is taken c.absorb_far.new.self.near c.absorb_far.new.self.far c.answer.new.self c.hand_out.new.marks c.in_ok-answers.answers.items c.in_ok-dues.dues.items
     c.absorb_far.ensures.near c.in_default.ensures.far c.answer.ensures c.in_ok-handed.ensures.marks c.in_ok-answers.ensures c.in_ok-dues.ensures in
-    record { same = c.self.invariant.same; told = c.self.invariant.told; node = subst IsNode (sym moved) (node_stays s (Act.deliver (frames.Piece piece)) kept) }
+    record {
+      same = c.self.invariant.same;
+      told = c.self.invariant.told;
+      node = subst IsNode (sym moved) (node_stays s (Act.deliver (frames.Piece piece)) kept);
+      replies = still_open t s c.self.view_is (Act.deliver (frames.Piece piece)) kept _ moved refl inside.held.anew inside.held.anew refl c.self.invariant.replies;
+    }
 
 pub returns-clause-reply : goal.returns-clause-reply
 returns-clause-reply c = piece_reply c.args.self.now c.args.piece.now (sym c.is_foreign.ensures ∙ c.if-not-is_foreign.false)

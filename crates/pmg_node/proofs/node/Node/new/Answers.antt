@@ -8,7 +8,7 @@ use Rattle.pmg_jobinfo.proofs.ListedLemmas.{listed_can_commit}
 use Rattle.pmg_holding.specs.Marking.{zeros}
 use Rattle.pmg_holding.specs.Sealers.{with_fresh}
 use Rattle.pmg_node.specs.Servers.{IsNode}
-use Rattle.pmg_node.proofs.OpeningLemmas.{new_is_node}
+use Rattle.pmg_node.proofs.OpeningLemmas.{new_is_node, none_open}
 use Rattle.pmg_holding.proofs.SealerLemmas.{fresh_is}
 use Rattle.pmg_node.proofs.node.Node.new.Goals as goal
 
@@ -40,10 +40,12 @@ invariant_of-result c =
               table = c.new.ensures.fences i;
               calls = c.new-4.ensures i;
               held = (c.new-5.ensures i).held;
+              requests = (c.new-5.ensures i).anew.last;
             };
             marks = marks i;
           }))
           (new_is_node c.args.registry c.args.id c.peers.ensures.jobs c.requires);
+      replies = none_open _ _ c.new-4.ensures;
     }
 
 pub returns : goal.returns
@@ -66,6 +68,7 @@ returns c =
         table = c.new.ensures.fences i;
         calls = c.new-4.ensures i;
         held = (c.new-5.ensures i).held;
+        requests = (c.new-5.ensures i).anew.last;
       };
       marks = marks i;
     }

@@ -11,6 +11,7 @@ use Rattle.pmg_rules.specs.declared.due.Due.{Due}
 use Rattle.pmg_rules.specs.declared.sent.Sent.{Sent}
 use Rattle.pmg_node.proofs.AskLemmas.{ask_free, park_sends, park_moved, parks_sent}
 use Rattle.pmg_node.proofs.NodeKept.{node_stays}
+use Rattle.pmg_node.proofs.OpenLemmas.{still_open}
 use Rattle.pmg_node.proofs.node.Node.park.Goals as goal
 
 pub put-requires : goal.put-requires
@@ -20,7 +21,7 @@ put-requires c =
     let get = get_of c.args.target.now c.args.key.now in
     ap (finite.get c.self.inside.calls) c.in_ok-asker.ensures
     ∙ ap (λ (x : Server). call_of x.holding p) c.self.view_is
-    ∙ (ask_free s.jobs s.id s.holding p get c.requires.free).idle
+    ∙ (ask_free s.jobs s.id s.holding p get modes.Wait c.requires.free).idle
 
 pub invariant_of-self-in_default : goal.invariant_of-self-in_default
 invariant_of-self-in_default c =
@@ -30,13 +31,18 @@ invariant_of-self-in_default c =
     let get = get_of c.args.target.now c.args.key.now in
     let kept = subst IsNode c.self.view_is c.self.invariant.node in
     let due = c.in_ok-ask_home.ensures ∙ ap (λ (ds : List Due). ds ++ asking s.jobs s.id s.holding c.args.target.now) c.new-dues.ensures.items in
-    let out = c.in_ok-handed.ensures.marks ∙ ap (λ (o : Out). o.marks) (park_sends s _ get _ c.self.view_is due) in
+    let out = c.in_ok-handed.ensures.marks ∙ ap (λ (o : Out). o.marks) (park_sends s _ get modes.Wait _ c.self.view_is due) in
     let calls =
     c.in_default.ensures.ok
     ∙ (λ i. finite.insert inside.calls (c.in_ok-asker.ensures i) (Standing.parked (get_of (c.in_ok-copy.ensures i) (c.in_ok-copy-2.ensures i)))) in
-    let moved = park_moved s p get modes.Wait kept.server.settled c.requires.free c.requires.parks c.requires.parks _ _ c.hand_out.new.marks c.self.view_is out
+    let moved = park_moved s p get modes.Wait kept.server.settled c.requires.free c.requires.parks _ _ c.hand_out.new.marks c.self.view_is out
     (λ i. server_of inside.table inside.id inside.board inside.own (calls i) inside.held c.hand_out.new.marks) in
-    record { same = c.self.invariant.same; told = c.self.invariant.told; node = subst IsNode (sym moved) (node_stays s (Act.request (Request.ask p get modes.Wait)) kept) }
+    record {
+      same = c.self.invariant.same;
+      told = c.self.invariant.told;
+      node = subst IsNode (sym moved) (node_stays s (Act.request (Request.ask p get modes.Wait)) kept);
+      replies = still_open _ s c.self.view_is (Act.request (Request.ask p get modes.Wait)) kept _ moved refl inside.held.anew inside.held.anew refl c.self.invariant.replies;
+    }
 
 pub returns-clause-ok : goal.returns-clause-ok
 returns-clause-ok c =
@@ -46,11 +52,11 @@ returns-clause-ok c =
     let get = get_of c.args.target.now c.args.key.now in
     let kept = subst IsNode c.self.view_is c.self.invariant.node in
     let due = c.in_ok-ask_home.ensures ∙ ap (λ (ds : List Due). ds ++ asking s.jobs s.id s.holding c.args.target.now) c.new-dues.ensures.items in
-    let out = c.in_ok-handed.ensures.marks ∙ ap (λ (o : Out). o.marks) (park_sends s _ get _ c.self.view_is due) in
+    let out = c.in_ok-handed.ensures.marks ∙ ap (λ (o : Out). o.marks) (park_sends s _ get modes.Wait _ c.self.view_is due) in
     let calls =
     c.in_default.ensures.ok
     ∙ (λ i. finite.insert inside.calls (c.in_ok-asker.ensures i) (Standing.parked (get_of (c.in_ok-copy.ensures i) (c.in_ok-copy-2.ensures i)))) in
-    park_moved s p get modes.Wait kept.server.settled c.requires.free c.requires.parks c.requires.parks _ _ c.hand_out.new.marks c.self.view_is out
+    park_moved s p get modes.Wait kept.server.settled c.requires.free c.requires.parks _ _ c.hand_out.new.marks c.self.view_is out
     (λ i. server_of inside.table inside.id inside.board inside.own (calls i) inside.held c.hand_out.new.marks)
 
 pub returns-clause-sent : goal.returns-clause-sent
@@ -60,5 +66,5 @@ returns-clause-sent c =
     let kept = subst IsNode c.self.view_is c.self.invariant.node in
     let due = c.in_ok-ask_home.ensures ∙ ap (λ (ds : List Due). ds ++ asking s.jobs s.id s.holding c.args.target.now) c.new-dues.ensures.items in
     c.in_ok-handed.ensures.frames
-    ∙ ap (λ (o : Out). c.args.out.now.items ++ o.frames) (park_sends s _ get _ c.self.view_is due)
-    ∙ ap (λ (x : List Sent). c.args.out.now.items ++ x) (sym (parks_sent s c.args.proc.now get modes.Wait kept.server.settled c.requires.free c.requires.parks c.requires.parks))
+    ∙ ap (λ (o : Out). c.args.out.now.items ++ o.frames) (park_sends s _ get modes.Wait _ c.self.view_is due)
+    ∙ ap (λ (x : List Sent). c.args.out.now.items ++ x) (sym (parks_sent s c.args.proc.now get modes.Wait kept.server.settled c.requires.free c.requires.parks))

@@ -7,6 +7,7 @@ use Rattle.pmg_node.specs.Content.{server_of}
 use Rattle.pmg_node.specs.Replies.{taking_reply, answered_reply, pending_reply}
 use Rattle.pmg_node.specs.Servers.{Server, IsNode}
 use Rattle.pmg_node.proofs.NodeKept.{node_stays}
+use Rattle.pmg_node.proofs.OpenLemmas.{still_open}
 use Rattle.pmg_node.proofs.SilentLemmas.{act_refused, refused_silent, after_is, sent_none, take_refused, take_silent, take_stays, take_goes, without_call}
 use Rattle.pmg_node.proofs.node.Node.take_answer.Goals as goal
 
@@ -74,7 +75,7 @@ invariant_of-self c =
     ap (λ (m : codes.Calls). server_of inside.table inside.id inside.board inside.own m inside.held inside.marks) c.remove.ensures.rest
     ∙ ap (λ (x : Server). without_call x p) c.self.view_is
     ∙ sym (after_is s a (take_silent s.jobs s.id s.holding p s.marks) _ is) in
-    record { same = c.self.invariant.same; told = c.self.invariant.told; node = subst IsNode (sym moved) (node_stays s a kept) }
+    record { same = c.self.invariant.same; told = c.self.invariant.told; node = subst IsNode (sym moved) (node_stays s a kept); replies = still_open _ s c.self.view_is a kept _ moved refl inside.held.anew inside.held.anew refl c.self.invariant.replies }
 
 pub returns-clause-reply : goal.returns-clause-reply
 returns-clause-reply c =

@@ -18,6 +18,7 @@ use Rattle.pmg_holding.proofs.AnswerLemmas.{plain_calls}
 use Rattle.pmg_node.proofs.ActLemmas.{refused_after, refused_sent}
 use Rattle.pmg_node.proofs.EndLemmas.{put_there, own_ended_level, may_end, end_refused, end_refuses, end_accepted, level_rises, piece_is, ended_reply, ended_sent, ended_after}
 use Rattle.pmg_node.proofs.NodeKept.{node_stays}
+use Rattle.pmg_node.proofs.OpenLemmas.{still_open}
 use Rattle.pmg_node.proofs.node.Node.terminate.Goals as goal
 
 pub returns-in-Err-clause-reply : goal.returns-in-Err-clause-reply
@@ -74,9 +75,9 @@ invariant_of-self-2 c =
     (λ i. server_of (c.in-Ok-kept.ensures.table i) inside.id c.publish-told.new.board (c.in-Ok-kept.ensures.own i) c.end_calls.new.calls c.settle.new.self c.publish-told.new.marks)
     ∙ ended_after s p free c.self.invariant.node.server table.jobs c.end.new.own table.fences c.level-from.result answers c.in-Ok.dues.items (ap (λ (k : Known). k.jobs) ended)
     c.in-Ok.ensures.own (ap (λ (k : Known). k.fences) ended) c.level-from.ensures.value are c.in-Ok.ensures.dues
-    c.publish-told.new.board.near c.publish-told.new.board.far c.end_calls.new.calls c.settle.new.self.held c.publish-told.new.marks c.level-level.result
+    c.publish-told.new.board.near c.publish-told.new.board.far c.end_calls.new.calls c.settle.new.self.held c.publish-told.new.marks c.level-level.result c.settle.new.self.anew.last
     (IfOk-at_ok _ told c.publish-told.ensures.joined_near) (IfOk-at_ok _ told c.publish-told.ensures.joined_far) c.end_calls.ensures
-    (c.level-level.ensures.value ∙ ap (λ (o : Own). (sealed_of o p).level) c.in-Ok-kept.ensures.own) (ap (λ (r : Requests). r.held) c.settle.ensures)
+    (c.level-level.ensures.value ∙ ap (λ (o : Own). (sealed_of o p).level) c.in-Ok-kept.ensures.own) (ap (λ (r : Requests). r.held) c.settle.ensures) (ap (λ (r : Requests). r.anew.last) c.settle.ensures)
     (IfOk-at_ok _ told c.publish-told.ensures.marks)
     ∙ ap (λ (x : Server). after x (Act.request (Request.terminate p))) c.self.view_is in
     let kept = subst IsNode c.self.view_is c.self.invariant.node in
@@ -85,6 +86,8 @@ invariant_of-self-2 c =
       same = ap (λ (k : Known). k.node) left ∙ c.self.invariant.same;
       told = ap (λ (k : Known). k.waiting) left;
       node = subst IsNode (sym moved) (node_stays c.args.self.now (Act.request (Request.terminate p)) kept);
+      replies = still_open s c.args.self.now c.self.view_is (Act.request (Request.terminate p)) kept _ moved (ap (λ (r : Requests). r.anew.last) c.settle.ensures) inside.held.anew c.settle.new.self.anew
+          (ap (λ (r : Requests). r.anew) c.settle.ensures) c.self.invariant.replies;
     }
 
 pub returns-clause-reply : goal.returns-clause-reply
@@ -118,9 +121,9 @@ returns-clause-done c =
     (λ i. server_of (c.in-Ok-kept.ensures.table i) inside.id c.publish-told.new.board (c.in-Ok-kept.ensures.own i) c.end_calls.new.calls c.settle.new.self c.publish-told.new.marks)
     ∙ ended_after s p free c.self.invariant.node.server table.jobs c.end.new.own table.fences c.level-from.result answers c.in-Ok.dues.items (ap (λ (k : Known). k.jobs) ended)
     c.in-Ok.ensures.own (ap (λ (k : Known). k.fences) ended) c.level-from.ensures.value are c.in-Ok.ensures.dues
-    c.publish-told.new.board.near c.publish-told.new.board.far c.end_calls.new.calls c.settle.new.self.held c.publish-told.new.marks c.level-level.result
+    c.publish-told.new.board.near c.publish-told.new.board.far c.end_calls.new.calls c.settle.new.self.held c.publish-told.new.marks c.level-level.result c.settle.new.self.anew.last
     (IfOk-at_ok _ told c.publish-told.ensures.joined_near) (IfOk-at_ok _ told c.publish-told.ensures.joined_far) c.end_calls.ensures
-    (c.level-level.ensures.value ∙ ap (λ (o : Own). (sealed_of o p).level) c.in-Ok-kept.ensures.own) (ap (λ (r : Requests). r.held) c.settle.ensures)
+    (c.level-level.ensures.value ∙ ap (λ (o : Own). (sealed_of o p).level) c.in-Ok-kept.ensures.own) (ap (λ (r : Requests). r.held) c.settle.ensures) (ap (λ (r : Requests). r.anew.last) c.settle.ensures)
     (IfOk-at_ok _ told c.publish-told.ensures.marks)
     ∙ ap (λ (x : Server). after x (Act.request (Request.terminate p))) c.self.view_is in
     λ answered. moved

@@ -1,0 +1,130 @@
+-- Gets that wait for replies, after an act.
+use Rattle.std.proofs.Common.{◌≡◌, ◌⊎◌, ◌≤◌, ℕ, suc, arith, Bool, true, false, Option, Some, None, inl, inr, refl, sym, ap, subst, ◌∙◌}
+use Rattle.std.specs.Prelude.{if◌then◌else◌, nat_lt}
+use Rattle.std.specs.FinMap as finite
+use Rattle.pmg_value.specs.declared.process.Proc.{Proc}
+use Rattle.pmg_value.specs.Signatures.{FenceName}
+use Rattle.pmg_frame.specs.Refreshing.{told_by}
+use Rattle.pmg_frame.specs.declared.frame.Frame.{Frame}
+use Rattle.pmg_frame.specs.declared.frame.Frame.TheVariants as frames
+use Rattle.pmg_get.specs.Gets.{Outcome}
+use Rattle.pmg_get.specs.declared.view.Mode.{Mode}
+use Rattle.pmg_get.specs.declared.view.Mode.TheVariants as modes
+use Rattle.pmg_jobinfo.specs.Jobs.{Jobs}
+use Rattle.pmg_fence.specs.Changes.{next_name}
+use Rattle.pmg_dmodex.specs.Refreshes.{Refreshes, asker_at}
+use Rattle.pmg_rules.specs.Acts.{Act, Request, Reply, done_as, waits_as, leaves, takes, asks, signature_of, serves, does, is_taken, holds_unless, receives, acts}
+use Rattle.pmg_rules.specs.Holdings.{Get, Standing, Holding, sealer_of, call_of, with_far, with_reply, joined, uncalled, answer_in, settled}
+use Rattle.pmg_rules.proofs.KeptBasics.{act_cases, put_cases, removed_some}
+use Rattle.pmg_rules.proofs.KeptChanges.{settled_some, settle_refreshing, replied_some, reply_refreshing}
+use Rattle.pmg_node.specs.Content.{AreOpen}
+use Rattle.pmg_node.specs.Servers.{Server, IsNode, after}
+use Rattle.pmg_node.proofs.NodeKept.{node_stays}
+
+module _ (jobs : Jobs) (id : ℕ) (h : Holding) where
+  -- each get that waits for a reply there did so before, or its request is the next one
+  abbrev AreOld : Holding → Type 0
+  AreOld g = (p : Proc) (get : Get) (number : ℕ) → call_of g p ≡ Some (Standing.refreshing get number)
+      → (call_of h p ≡ Some (Standing.refreshing get number)) ⊎ (number ≡ suc h.requests)
+
+  settled_old : (g : Holding) → AreOld g → AreOld (settled jobs id g)
+  settled_old g old p get number e =
+      let was = settled_some jobs id g p (Standing.refreshing get number) e in old p get number (was.1 ∙ ap Some (settle_refreshing jobs id g was.0 get number was.2))
+
+  same_old : AreOld h
+  same_old p get number e = inl e
+
+  uncalled_old : (by : Proc) → AreOld (uncalled h by)
+  uncalled_old by p get number e = inl (removed_some h.calls by p (Standing.refreshing get number) e)
+
+  leaves_old : (by : Proc) (c : Option Standing) → AreOld (leaves h by c).left
+  leaves_old by (Some (Standing.in_fence f)) = same_old
+  leaves_old by (Some (Standing.released f gone)) = uncalled_old by
+  leaves_old by (Some (Standing.parked get)) = same_old
+  leaves_old by (Some (Standing.answered get outcome)) = same_old
+  leaves_old by (Some (Standing.refreshing get number)) = same_old
+  leaves_old by (Some (Standing.refreshed get outcome)) = same_old
+  leaves_old by None = same_old
+
+  takes_old : (by : Proc) (c : Option Standing) → AreOld (takes h by c).left
+  takes_old by (Some (Standing.in_fence f)) = same_old
+  takes_old by (Some (Standing.released f gone)) = same_old
+  takes_old by (Some (Standing.parked get)) = same_old
+  takes_old by (Some (Standing.answered get outcome)) = uncalled_old by
+  takes_old by (Some (Standing.refreshing get number)) = same_old
+  takes_old by (Some (Standing.refreshed get outcome)) = uncalled_old by
+  takes_old by None = same_old
+
+  waits_next : (n : ℕ) (get other : Get) (number : ℕ) (mode : Mode) → waits_as n get mode ≡ Standing.refreshing other number → number ≡ suc n
+  waits_next n get other number modes.Wait is = absurd cc
+  waits_next n get other number modes.Now is = absurd cc
+  waits_next n get other number modes.Refresh is = cc
+
+  asks_old : (by : Proc) (get : Get) (mode : Mode) (o : Outcome) → AreOld (asks h by get mode o).left
+  asks_old by get mode Outcome.parks p other number e =
+      put_cases h.calls by p (waits_as h.requests get mode) (Standing.refreshing other number) e (λ same is. inr (waits_next h.requests get other number mode is)) (λ is. inl is)
+  asks_old by get mode (Outcome.found value) = same_old
+  asks_old by get mode Outcome.absent = same_old
+  asks_old by get mode Outcome.outside = same_old
+
+  apart : {A : Type 0} (f : FenceName) (get : Get) (number : ℕ) → Standing.in_fence f ≡ Standing.refreshing get number → A
+  apart f get number is = absurd cc
+
+  serves_old : (r : Request) → AreOld (serves jobs id h r).left
+  unfolding serves
+  serves_old (Request.enter by list collect) p get number e =
+      let f = next_name h.table (signature_of jobs by list collect) by in
+      put_cases h.calls by p (Standing.in_fence f) (Standing.refreshing get number) e (λ same is. apart f get number is) (λ is. inl is)
+  serves_old (Request.leave by) = leaves_old by (call_of h by)
+  serves_old (Request.ask by get mode) = asks_old by get mode (answer_in jobs id h get mode)
+  serves_old (Request.take by) = takes_old by (call_of h by)
+  serves_old (Request.terminate by) p get number e = inl (removed_some h.calls by p (Standing.refreshing get number) e)
+  serves_old (Request.define name list) p get number e = inl e
+  serves_old (Request.delete name) p get number e = inl e
+  serves_old Request.nudge = same_old
+
+  held_old : (b : Bool) (node : ℕ) (q : Proc) (level : ℕ) → AreOld (holds_unless b h node q level)
+  held_old true node q level p get number e = inl e
+  held_old false node q level p get number e = inl e
+
+  receives_old : (frame : Frame) → AreOld (receives jobs id h frame)
+  unfolding receives
+  receives_old (frames.Piece c) p get number e = inl e
+  receives_old (frames.Header hd) p get number e = inl e
+  receives_old (frames.FenceAsk a) p get number e = inl e
+  receives_old (frames.RangeAsk a) p get number e = inl e
+  receives_old (frames.DirectAsk a) = held_old (nat_lt a.level (sealer_of h a.proc).level) a.node a.proc a.level
+  receives_old (frames.RefreshAsk a) p get number e = inl e
+  receives_old (frames.RefreshReply r) p get number e =
+      let g = with_far h (joined h.far (told_by r)) in
+      let was = replied_some jobs id g r.request r.told.proc p (Standing.refreshing get number) e in
+      inl (was.1 ∙ ap Some (reply_refreshing jobs id g r.request r.told.proc was.0 get number was.2))
+
+  delivers_old : (frame : Frame) (b : Bool) → AreOld (if b then done_as Reply.taken (receives jobs id h frame) else done_as Reply.ignored h).left
+  delivers_old frame true = receives_old frame
+  delivers_old frame false = same_old
+
+  does_old : (a : Act) → AreOld (does jobs id h a).left
+  unfolding does
+  does_old (Act.request r) = serves_old r
+  does_old (Act.commit by b) p get number e = inl e
+  does_old (Act.deliver frame) = delivers_old frame (is_taken jobs id frame)
+
+  acts_old : (a : Act) → AreOld (acts jobs id h a).left
+  acts_old a = act_cases jobs id h a (λ d. AreOld d.left) (λ free. settled_old (does jobs id h a).left (does_old a)) (λ e. same_old)
+
+-- replies find the gets that wait for them after an act too, if it sends no request of a new number
+pub still_open : (t s : Server) → t ≡ s → (a : Act) → IsNode s → (new : Server) → new ≡ after s a → new.holding.requests ≡ t.holding.requests
+    → (anew then : Refreshes) → then ≡ anew → AreOpen t.holding.calls anew → AreOpen new.holding.calls then
+still_open t s view a kept new is count anew then same are p get number e =
+    let e_then = ap (λ (x : Server). call_of x.holding p) (sym is) ∙ e in
+    let last = (node_stays s a kept).server.holds.anew p get number e_then in
+    let counted : (after s a).holding.requests ≡ s.holding.requests = ap (λ (x : Server). x.holding.requests) (sym is) ∙ count ∙ ap (λ (x : Server). x.holding.requests) view in
+    elim (acts_old s.jobs s.id s.holding a p get number e_then) [
+      | inl was ↦
+          let its = are p get number (ap (λ (x : Server). call_of x.holding p) view ∙ was) in (its.0, ap (λ (r : Refreshes). asker_at r number get.target) same ∙ its.1)
+      | inr next ↦ absurd (not_yet number (after s a).holding.requests s.holding.requests last.1 counted next)
+    ]
+  where
+    not_yet : (k now before : ℕ) → k ≤ now → now ≡ before → k ≡ suc before → ⊥
+    not_yet k now before low same is = omega (arith, low, same, is)
