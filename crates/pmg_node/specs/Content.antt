@@ -24,7 +24,7 @@ server_of table id board own calls held marks = record {
 
 -- each get that waits for the reply to a request is of a key that is not reserved, and the one that the request was sent for
 abbrev pub AreOpen : Calls → Refreshes → Type 0
-AreOpen calls anew = (p : Proc) (get : Get) (number : ℕ) → finite.get calls p ≡ Some (Standing.refreshing get number) 
+AreOpen calls anew = (p : Proc) (get : Get) (number : ℕ) → finite.get calls p ≡ Some (Standing.refreshing get number)
     → (is_reserved get.key ≡ false) × (asker_at anew number get.target ≡ Some p)
 
 -- the table is the node's, and no header of its own waits there; and replies find the gets that wait for them
