@@ -1,2 +1,3 @@
 pub mod InnerLemmas
 pub mod LevelLemmas
+pub mod RefreshLemmas

@@ -1,10 +1,10 @@
 -- Requests for commits that are asked for anew, under numbers.
 use Rattle.std.specs.Prelude.{ℕ, suc, Option, Some, None, is_some, refl, if◌then◌else◌}
 use Rattle.std.specs.FinMap as finite
-use Rattle.std.specs.Ordering.{nat_cmp}
+use Rattle.std.specs.Ordering.{nat_cmp, eq_by_cmp}
 use Rattle.std.specs.Coded.{Coded, code_by, coded×, coded_ℕ}
 use Rattle.pmg_value.specs.declared.process.Proc.{Proc}
-use Rattle.pmg_value.specs.Process.{coded_proc, is_same_proc}
+use Rattle.pmg_value.specs.Process.{proc_cmp, coded_proc}
 
 -- The number of the last request that was given one; and of each that is not answered who asks, and for whose commits.
 pub record Refreshes : Type 0 where
@@ -27,7 +27,7 @@ requested r asker target = record { last = suc r.last; waiting = finite.insert r
 -- who asks, where it is for commits of the target
 abbrev pub asker_for : Proc → Option (Proc × Proc) → Option Proc
 asker_for target None = None
-asker_for target (Some asked) = if is_same_proc asked.1 target then Some asked.0 else None
+asker_for target (Some asked) = if eq_by_cmp proc_cmp asked.1 target then Some asked.0 else None
 
 -- who asks for the target's commits under the number
 abbrev pub asker_at : Refreshes → ℕ → Proc → Option Proc

@@ -1,9 +1,9 @@
 //! Requests of gets that ask anew.
-ghost use Rattle.std.specs.Prelude.{◌≡◌, ◌≤◌, ◌↔◌, suc, Err, IfOk, OnOk, OnErr};
+ghost use Rattle.std.specs.Prelude.{◌≡◌, ◌≤◌, ◌↔◌, suc, Some, Err, IfOk, OnOk, OnErr};
 ghost use Rattle.std.specs.FinMap as finite;
 ghost use Rattle.std.specs.Option.{option_map};
 ghost use Rattle.pmg_value.specs.declared.refusal.Refusal.TheVariants as refusals;
-ghost use Rattle.pmg_dmodex.specs.Refreshes.{answered, asker_at, no_refreshes, requested};
+ghost use Rattle.pmg_dmodex.specs.Refreshes.{answered, asker_at, asker_for, no_refreshes, requested};
 
 use pmg_value::{Proc, Refusal, copy_rows};
 use std::alloc::{AllocError, Global};
@@ -75,6 +75,16 @@ impl Numbered {
     }
 }
 
+/// Who asks, where it is for commits of the target.
+fn asker_for<'a>(asked: &'a (Proc, Proc), target: &Proc) -> Option<&'a Proc>
+    ensures { option_map (λ asker. asker.now) result ≡ asker_for target.now (Some asked.now) }
+{
+    if asked.1 == *target {
+        return Some(&asked.0);
+    }
+    None
+}
+
 /// The requests of a node for commits that its processes ask for anew, under the numbers 1, 2, .. (PMIx Standard 5.0,
 /// PMIX_GET_REFRESH_CACHE).
 pub struct Refreshes {
@@ -144,8 +154,8 @@ impl Refreshes {
         ensures { option_map (λ asker. asker.now) result ≡ asker_at self.now number target.now }
     {
         match self.waiting.get(number) {
-            Some(asked) if asked.1 == *target => Some(&asked.0),
-            _ => None,
+            Some(asked) => asker_for(asked, target),
+            None => None,
         }
     }
 
