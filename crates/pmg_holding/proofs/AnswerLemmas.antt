@@ -31,7 +31,7 @@ use Rattle.pmg_fence.proofs.EntryLemmas.{proc_itself}
 use Rattle.pmg_fence.proofs.IndexLemmas.{each_row}
 use Rattle.pmg_get.specs.Gets.{Seen, Outcome, resolve}
 use Rattle.pmg_get.specs.declared.view.Mode.TheVariants as modes
-use Rattle.pmg_holding.specs.Answered.{ArePlain, standings, outcome_with, answered_by, gets_answered, released_all, released_in, released_with}
+use Rattle.pmg_holding.specs.Answered.{ArePlain, standings, outcome_with, answered_by, gets_answered, released_all, released_in, released_with, answered_about}
 use Rattle.pmg_holding.specs.Calls.{get_of, standing_by, asks_on, all_parked_on, waits_in, all_waiting_in, all_waited, all_instead}
 use Rattle.pmg_rules.specs.Choosing.{waited}
 use Rattle.pmg_holding.specs.Codes.{Calls}
@@ -96,6 +96,8 @@ module _ (all : Calls) where
       by_target true t (inr j) = absurd j
       by_target false t j = absurd j
   asks_row q p r key (Standing.answered get outcome) i = absurd i
+  asks_row q p r key (Standing.refreshing get number) i = absurd i
+  asks_row q p r key (Standing.refreshed get outcome) i = absurd i
 
   parked_there : (q p : Proc) (key : List ℕ) → In (p, key) (all_parked_on all q) → finite.get all p ≡ Some (Standing.parked (get_of q key))
   parked_there q p key i =
@@ -119,6 +121,8 @@ module _ (all : Calls) where
   waits_row f p r (Standing.released g gone) i = absurd i
   waits_row f p r (Standing.parked get) i = absurd i
   waits_row f p r (Standing.answered get outcome) i = absurd i
+  waits_row f p r (Standing.refreshing get number) i = absurd i
+  waits_row f p r (Standing.refreshed get outcome) i = absurd i
 
   waiting_there : (f : FenceName) (p : Proc) → In p (all_waiting_in all f) → finite.get all p ≡ Some (Standing.in_fence f)
   waiting_there f p i =
@@ -222,6 +226,8 @@ module _ (jobs : Jobs) (id : ℕ) (h : Holding) (all : Calls) where
       by_call p (Standing.released g gone) e = inl refl
       by_call p (Standing.parked get) e = inl refl
       by_call p (Standing.answered get outcome) e = inl refl
+      by_call p (Standing.refreshing get number) e = inl refl
+      by_call p (Standing.refreshed get outcome) e = inl refl
 
   -- ---- gets of a process's keys, and fences in which it takes part
 
@@ -280,32 +286,41 @@ module _ (jobs : Jobs) (id : ℕ) (h : Holding) (all : Calls) where
               (there_waited all f p e) (subst (λ b. In (p, made) (if b then released_in jobs id h.table h.far all f else [])) (sym t) i))
         ]
 
-    -- what calls are answered once more is known of the process
-    pub answers_about_are : (answers : List (Proc × Settled)) → standings answers ≡ got ++ freed → all_instead all answers ≡ mapped (settle_where jobs id h (is_about q)) all
-    answers_about_are answers told = answers_are (settle_where jobs id h (is_about q)) all answers right by_call
-      where
-        right : (p : Proc) (s x : Standing) → In (p, x) (standings answers) → finite.get all p ≡ Some s → x ≡ settle_where jobs id h (is_about q) s
-        right p s x i e = elim (in_parts got freed (p, x) (subst (In (p, x)) told i)) [ inl j ↦ got_right p s x j e | inr j ↦ freed_right p s x j e ]
+    -- what calls are answered once more is known of the process: each answer is right
+    pub about_right : (p : Proc) (s x : Standing) → In (p, x) (got ++ freed) → finite.get all p ≡ Some s → x ≡ settle_where jobs id h (is_about q) s
+    about_right p s x i e = elim (in_parts got freed (p, x) i) [ inl j ↦ got_right p s x j e | inr j ↦ freed_right p s x j e ]
 
+    -- and there are all
+    pub about_there : (p : Proc) (s : Standing) → finite.get all p ≡ Some s → (settle_where jobs id h (is_about q) s ≡ s) ⊎ In (p, settle_where jobs id h (is_about q) s) (got ++ freed)
+    about_there = by_call
+      where
         by_fence : (p : Proc) (f : FenceName) → finite.get all p ≡ Some (Standing.in_fence f) → (b : Bool) → set.contains f.signature.participants q ≡ b
-            → (settle_where jobs id h (is_about q) (Standing.in_fence f) ≡ Standing.in_fence f) ⊎ In (p, settle_where jobs id h (is_about q) (Standing.in_fence f)) (standings answers)
+            → (settle_where jobs id h (is_about q) (Standing.in_fence f) ≡ Standing.in_fence f) ⊎ In (p, settle_where jobs id h (is_about q) (Standing.in_fence f)) (got ++ freed)
         by_fence p f e true t =
             let made = settle_where jobs id h (is_about q) (Standing.in_fence f) in
-            elim (freed_there p f t e) [ inl same ↦ inl same | inr i ↦ inr (subst (In (p, made)) (sym told) (in_append_right got freed (p, made) i)) ]
+            elim (freed_there p f t e) [ inl same ↦ inl same | inr i ↦ inr (in_append_right got freed (p, made) i) ]
         by_fence p f e false t = inl (left (is_about q) (Standing.in_fence f) t)
 
         by_get : (p : Proc) (get : Get) → finite.get all p ≡ Some (Standing.parked get) → (b : Bool) → same_proc get.target q ≡ b
-            → (settle_where jobs id h (is_about q) (Standing.parked get) ≡ Standing.parked get) ⊎ In (p, settle_where jobs id h (is_about q) (Standing.parked get)) (standings answers)
+            → (settle_where jobs id h (is_about q) (Standing.parked get) ≡ Standing.parked get) ⊎ In (p, settle_where jobs id h (is_about q) (Standing.parked get)) (got ++ freed)
         by_get p get e true t =
             let made = settle_where jobs id h (is_about q) (Standing.parked get) in
-            elim (got_there p get t e) [ inl same ↦ inl same | inr i ↦ inr (subst (In (p, made)) (sym told) (in_append_left got freed (p, made) i)) ]
+            elim (got_there p get t e) [ inl same ↦ inl same | inr i ↦ inr (in_append_left got freed (p, made) i) ]
         by_get p get e false t = inl (left (is_about q) (Standing.parked get) t)
 
-        by_call : (p : Proc) (s : Standing) → finite.get all p ≡ Some s → (settle_where jobs id h (is_about q) s ≡ s) ⊎ In (p, settle_where jobs id h (is_about q) s) (standings answers)
+        by_call : (p : Proc) (s : Standing) → finite.get all p ≡ Some s → (settle_where jobs id h (is_about q) s ≡ s) ⊎ In (p, settle_where jobs id h (is_about q) s) (got ++ freed)
         by_call p (Standing.in_fence f) e = by_fence p f e (set.contains f.signature.participants q) refl
         by_call p (Standing.released f gone) e = inl refl
         by_call p (Standing.parked get) e = by_get p get e (same_proc get.target q) refl
         by_call p (Standing.answered get outcome) e = inl refl
+        by_call p (Standing.refreshing get number) e = inl refl
+        by_call p (Standing.refreshed get outcome) e = inl refl
+
+    -- they are the answers
+    pub answers_about_are : (answers : List (Proc × Settled)) → standings answers ≡ answered_about jobs id h.table h.near h.far all q
+        → all_instead all answers ≡ mapped (settle_where jobs id h (is_about q)) all
+    answers_about_are answers told = answers_are (settle_where jobs id h (is_about q)) all answers (λ p s x i e. about_right p s x (subst (In (p, x)) told i) e)
+        (λ p s e. elim (about_there p s e) [ inl same ↦ inl same | inr i ↦ inr (subst (In (p, settle_where jobs id h (is_about q) s)) (sym told) i) ])
 
 -- ---- gets that wait where all is settled
 

@@ -34,7 +34,7 @@ use Rattle.pmg_rules.specs.declared.due.Due.{Due}
 use Rattle.pmg_holding.proofs.AnswerLemmas.{plain_outcome}
 
 -- the calls that f makes, in the order of their processes
-entries_mapped : (f : Standing → Standing) (m : Calls) → finite.entries (mapped f m) ≡ map (λ e. (e.0, f e.1)) (finite.entries m)
+pub entries_mapped : (f : Standing → Standing) (m : Calls) → finite.entries (mapped f m) ≡ map (λ e. (e.0, f e.1)) (finite.entries m)
 unfolding mapped
 entries_mapped f m = entries_rising procs_total f (finite.entries m) (keys_rise proc_cmp m)
 
@@ -82,6 +82,8 @@ module _ (jobs : Jobs) (id : ℕ) (q : Proc) (h : Holding) where
       by_target true t = append-nil _ ∙ ap (λ b. if b then x else []) (waits_then get (plain get refl) t)
       by_target false t = ap (λ b. if b then x else []) (sym (others_stay get (same_proc get.target q) (same_proc q get.target) refl refl t))
   asked_row x p (Standing.answered get outcome) plain = refl
+  asked_row x p (Standing.refreshing get number) plain = refl
+  asked_row x p (Standing.refreshed get outcome) plain = refl
 
   asked_rows : (x : List Due) (rows : List (Proc × Standing)) → ((p : Proc) (get : Get) → In (p, Standing.parked get) rows → is_reserved get.key ≡ false)
       → flat_map (λ (a : Proc × List ℕ). if still_waits (outcome_with jobs id h.near h.far (get_of q a.1)) then x else []) (flat_map (asks_on q) rows)

@@ -216,6 +216,8 @@ module _ (w : Waiting) (p : Proc) where
       swapped false true = refl
       swapped false false = refl
   gets_with (Standing.answered get outcome) q r = cond_same (same_proc r p) (awaited w.gets q r)
+  gets_with (Standing.refreshing get number) q r = cond_same (same_proc r p) (awaited w.gets q r)
+  gets_with (Standing.refreshed get outcome) q r = cond_same (same_proc r p) (awaited w.gets q r)
 
   fences_with : (s : Standing) (f : FenceName) (r : Proc)
       → set.contains (waiters_in (with_call w p s).fences f) r ≡ cond (same_proc r p) (is_waiting_in f s || set.contains (waiters_in w.fences f) r) (set.contains (waiters_in w.fences f) r)
@@ -229,12 +231,16 @@ module _ (w : Waiting) (p : Proc) where
   fences_with (Standing.released g gone) f r = cond_same (same_proc r p) (set.contains (waiters_in w.fences f) r)
   fences_with (Standing.parked get) f r = cond_same (same_proc r p) (set.contains (waiters_in w.fences f) r)
   fences_with (Standing.answered get outcome) f r = cond_same (same_proc r p) (set.contains (waiters_in w.fences f) r)
+  fences_with (Standing.refreshing get number) f r = cond_same (same_proc r p) (set.contains (waiters_in w.fences f) r)
+  fences_with (Standing.refreshed get outcome) f r = cond_same (same_proc r p) (set.contains (waiters_in w.fences f) r)
 
   filled_with : (s : Standing) → AreFilled w.fences → AreFilled (with_call w p s).fences
   filled_with (Standing.in_fence f) filled = too_filled w.fences f p filled
   filled_with (Standing.released f gone) filled = filled
   filled_with (Standing.parked get) filled = filled
   filled_with (Standing.answered get outcome) filled = filled
+  filled_with (Standing.refreshing get number) filled = filled
+  filled_with (Standing.refreshed get outcome) filled = filled
 
   gets_without : (s : Standing) (q r : Proc)
       → awaited (without_call w p s).gets q r ≡ cond (same_proc r p) (cond (is_some (key_on q s)) None (awaited w.gets q r)) (awaited w.gets q r)
@@ -249,6 +255,8 @@ module _ (w : Waiting) (p : Proc) where
       swapped false true = refl
       swapped false false = refl
   gets_without (Standing.answered get outcome) q r = cond_same (same_proc r p) (awaited w.gets q r)
+  gets_without (Standing.refreshing get number) q r = cond_same (same_proc r p) (awaited w.gets q r)
+  gets_without (Standing.refreshed get outcome) q r = cond_same (same_proc r p) (awaited w.gets q r)
 
   fences_without : (s : Standing) (f : FenceName) (r : Proc)
       → set.contains (waiters_in (without_call w p s).fences f) r
@@ -263,12 +271,16 @@ module _ (w : Waiting) (p : Proc) where
   fences_without (Standing.released g gone) f r = cond_same (same_proc r p) (set.contains (waiters_in w.fences f) r)
   fences_without (Standing.parked get) f r = cond_same (same_proc r p) (set.contains (waiters_in w.fences f) r)
   fences_without (Standing.answered get outcome) f r = cond_same (same_proc r p) (set.contains (waiters_in w.fences f) r)
+  fences_without (Standing.refreshing get number) f r = cond_same (same_proc r p) (set.contains (waiters_in w.fences f) r)
+  fences_without (Standing.refreshed get outcome) f r = cond_same (same_proc r p) (set.contains (waiters_in w.fences f) r)
 
   filled_without : (s : Standing) → AreFilled w.fences → AreFilled (without_call w p s).fences
   filled_without (Standing.in_fence f) filled = left_filled w.fences f (set.remove (waiters_in w.fences f) p) filled
   filled_without (Standing.released f gone) filled = filled
   filled_without (Standing.parked get) filled = filled
   filled_without (Standing.answered get outcome) filled = filled
+  filled_without (Standing.refreshing get number) filled = filled
+  filled_without (Standing.refreshed get outcome) filled = filled
 
 -- ---- the index stays one
 
@@ -357,14 +369,17 @@ index_removed all w index p s there =
 no_key_by : (settled : Settled) (q : Proc) → awaits q (Some (standing_by settled)) ≡ None
 no_key_by (settlings.Released f gone) q = refl
 no_key_by (settlings.Answered target key found) q = refl
+no_key_by (settlings.Refreshed target key found) q = refl
 
 no_fence_by : (settled : Settled) (f : FenceName) → waits_for f (Some (standing_by settled)) ≡ false
 no_fence_by (settlings.Released f gone) g = refl
 no_fence_by (settlings.Answered target key found) g = refl
+no_fence_by (settlings.Refreshed target key found) g = refl
 
 none_less : (w : Waiting) (p : Proc) (settled : Settled) → without_call w p (standing_by settled) ≡ w
 none_less w p (settlings.Released f gone) = refl
 none_less w p (settlings.Answered target key found) = refl
+none_less w p (settlings.Refreshed target key found) = refl
 
 -- where what a call came to comes in its place, and what is left stands no longer by what it waited for
 pub index_settled : (all : Calls) (w : Waiting) → IsIndex all w → (p : Proc) (settled : Settled) (left : Standing) → left ≡ unwrap_or (finite.get all p) (standing_by settled)
@@ -471,6 +486,8 @@ module _ (all : Calls) (w : Waiting) (index : IsIndex all w) where
   waits_there f (Standing.released g gone) e = absurd (false≢true e)
   waits_there f (Standing.parked get) e = absurd (false≢true e)
   waits_there f (Standing.answered get outcome) e = absurd (false≢true e)
+  waits_there f (Standing.refreshing get number) e = absurd (false≢true e)
+  waits_there f (Standing.refreshed get outcome) e = absurd (false≢true e)
 
   call_there : (f : FenceName) (o : Option Standing) → waits_for f o ≡ true → o ≡ Some (Standing.in_fence f)
   call_there f None e = absurd (false≢true e)
@@ -482,6 +499,8 @@ module _ (all : Calls) (w : Waiting) (index : IsIndex all w) where
   named_there f (Standing.released g gone) i = absurd i
   named_there f (Standing.parked get) i = absurd i
   named_there f (Standing.answered get outcome) i = absurd i
+  named_there f (Standing.refreshing get number) i = absurd i
+  named_there f (Standing.refreshed get outcome) i = absurd i
 
   -- a fence that is listed is named by a call
   listed_named : (f : FenceName) → finite.contains_key w.fences f ≡ true → list_any (same_name f) names ≡ true

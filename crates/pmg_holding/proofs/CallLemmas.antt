@@ -43,6 +43,8 @@ module _ {A : Type 0} (x : List A) (q : Proc) where
       by_target true = add_nothing x
       by_target false = refl
   one_ask p (Standing.answered get outcome) = refl
+  one_ask p (Standing.refreshing get number) = refl
+  one_ask p (Standing.refreshed get outcome) = refl
 
   ask_rows : (rows : List (Proc × Standing)) → flat_map (λ _. x) (flat_map (asks_on q) rows) ≡ flat_map (λ e. cond (is_parked_on q e.1) x []) rows
   ask_rows [] = refl

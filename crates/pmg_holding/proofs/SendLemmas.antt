@@ -1,5 +1,5 @@
 -- What goes out, one after the other, and a mark that goes with it.
-use Rattle.std.proofs.Common.{◌≡◌, ℕ, List, [], ◌∷◌, ◌++◌, Some, is_some, refl, sym, ap, subst, ◌∙◌}
+use Rattle.std.proofs.Common.{◌≡◌, ℕ, List, [], ◌∷◌, ◌++◌, Option, Some, None, is_some, refl, sym, ap, subst, ◌∙◌}
 use Rattle.std.specs.Option.{option_to_list}
 use Rattle.std.proofs.lemmas.List.{append_assoc, append-nil}
 use Rattle.pmg_value.specs.declared.process.Proc.{Proc}
@@ -8,7 +8,7 @@ use Rattle.pmg_frame.specs.declared.frame.Frame.{Frame}
 use Rattle.pmg_frame.specs.declared.frame.Frame.TheVariants as frames
 use Rattle.pmg_dmodex.specs.Levels.{Levels, level_at, with_level}
 use Rattle.pmg_rules.specs.Choosing.{frame_for, marked_by, marked_if, sends}
-use Rattle.pmg_holding.specs.Marking.{marks_back, AreSet}
+use Rattle.pmg_holding.specs.Marking.{mark_by, marks_back, AreSet}
 use Rattle.pmg_rules.specs.declared.due.Due.{Due}
 use Rattle.pmg_holding.specs.declared.due.MarkBefore.{MarkBefore}
 use Rattle.pmg_rules.specs.declared.sent.Sent.{Sent}
@@ -30,15 +30,19 @@ sends_frames sealer m (c ∷ cs) d =
     ∙ sym (append_assoc (option_to_list (frame_for sealer m c)) (sends sealer (marked_if m (frame_for sealer m c)) cs).frames
     (option_to_list (frame_for sealer (sends sealer (marked_if m (frame_for sealer m c)) cs).marks d)))
 
--- a frame that is no piece sets no mark
-pub no_piece : (m : Levels) (to : ℕ) (frame : Frame) → ((c : _) → frame ≡ frames.Piece c → ⊥) → m ≡ marked_by m to frame
-no_piece m to (frames.Piece c) none = absurd (none c refl)
-no_piece m to (frames.Header hd) none = refl
-no_piece m to (frames.FenceAsk a) none = refl
-no_piece m to (frames.RangeAsk a) none = refl
-no_piece m to (frames.DirectAsk a) none = refl
-no_piece m to (frames.RefreshAsk a) none = refl
-no_piece m to (frames.RefreshReply r) none = refl
+-- the marks once a frame is sent that sets this one, if any
+abbrev pub with_mark : Levels → ℕ → Option (Proc × ℕ) → Levels
+with_mark m to None = m
+with_mark m to (Some mark) = with_level m mark.0 to mark.1
+
+pub mark_set : (m : Levels) (to : ℕ) (frame : Frame) → with_mark m to (mark_by frame) ≡ marked_by m to frame
+mark_set m to (frames.Piece c) = refl
+mark_set m to (frames.Header hd) = refl
+mark_set m to (frames.FenceAsk a) = refl
+mark_set m to (frames.RangeAsk a) = refl
+mark_set m to (frames.DirectAsk a) = refl
+mark_set m to (frames.RefreshAsk a) = refl
+mark_set m to (frames.RefreshReply r) = refl
 
 module _ (m after : Levels) (bs : List MarkBefore) (b : MarkBefore) (x y : ℕ) (was : level_at m b.proc b.node ≡ Some x) (keeps : b.level ≡ x) (is : after ≡ with_level m b.proc b.node y) where
   -- a mark that is set can be set back

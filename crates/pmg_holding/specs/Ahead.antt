@@ -1,14 +1,8 @@
 -- The stores of a node, as they are once pieces are joined into them.
-use Rattle.std.specs.Prelude.{Option, Some, None}
 use Rattle.std.specs.Option.{option_map}
-use Rattle.pmg_commit.specs.Data.{Data, absorbed}
-use Rattle.pmg_commit.specs.Knowledge.{Contribution}
+use Rattle.pmg_commit.specs.Data.{Data}
+use Rattle.pmg_rules.specs.Holdings.{joined}
 use Rattle.pmg_holding.specs.declared.ahead.Ahead.{Ahead}
-
--- what is known, once the contribution is joined, if there is one
-abbrev pub joined : Data → Option Contribution → Data
-joined d None = d
-joined d (Some c) = absorbed d c
 
 -- for reads from the node itself
 abbrev pub near_of : Ahead → Data

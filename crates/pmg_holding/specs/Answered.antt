@@ -1,5 +1,5 @@
 -- What each call that waits comes to be answered, call by call.
-use Rattle.std.specs.Prelude.{◌≡◌, ℕ, Bool, true, false, List, [], ◌∷◌, map, Option, Some, None, if◌then◌else◌}
+use Rattle.std.specs.Prelude.{◌≡◌, ℕ, Bool, true, false, List, [], ◌∷◌, ◌++◌, map, Option, Some, None, if◌then◌else◌}
 use Rattle.std.specs.FinMap as finite
 use Rattle.std.specs.FinSet as set
 use Rattle.std.specs.List.{flat_map}
@@ -13,9 +13,9 @@ use Rattle.pmg_jobinfo.specs.Jobs.{Jobs, home_of}
 use Rattle.pmg_fence.specs.Tables.{Fences, is_ready, gone_by}
 use Rattle.pmg_get.specs.Gets.{Outcome, resolve}
 use Rattle.pmg_get.specs.declared.view.Mode.TheVariants as modes
-use Rattle.pmg_holding.specs.Calls.{get_of, standing_by, outcome_of, all_waiting_in, all_waited}
+use Rattle.pmg_holding.specs.Calls.{get_of, anew_of, standing_by, outcome_of, all_parked_on, all_waiting_in, all_waited}
 use Rattle.pmg_holding.specs.Codes.{Calls}
-use Rattle.pmg_rules.specs.Holdings.{Get, Standing, plain_seen}
+use Rattle.pmg_rules.specs.Holdings.{Get, Standing, plain_seen, is_replied}
 use Rattle.pmg_rules.specs.Sending.{sent}
 use Rattle.pmg_holding.specs.declared.call.Settled.{Settled}
 use Rattle.pmg_holding.specs.declared.call.Found.{Found}
@@ -25,6 +25,15 @@ use Rattle.pmg_rules.specs.declared.due.Due.TheVariants as sendings
 -- each get that waits is one of a key that is not reserved
 abbrev pub ArePlain : Calls → Type 0
 ArePlain all = (p : Proc) (get : Get) → finite.get all p ≡ Some (Standing.parked get) → is_reserved get.key ≡ false
+
+-- each get that asks anew is one of a key that is not reserved
+abbrev pub ArePlainAnew : Calls → Type 0
+ArePlainAnew all = (p : Proc) (get : Get) (number : ℕ) → finite.get all p ≡ Some (Standing.refreshing get number) → is_reserved get.key ≡ false
+
+-- who waits for the reply to the request of that number, of the process, is the asker
+abbrev pub IsAsker : Calls → Option Proc → ℕ → Proc → Type 0
+IsAsker all asker number q =
+    (p : Proc) (get : Get) (waits_for : ℕ) → finite.get all p ≡ Some (Standing.refreshing get waits_for) → is_replied number q get waits_for ≡ true → asker ≡ Some p
 
 -- each process with the call that it comes to be in
 abbrev pub standings : List (Proc × Settled) → List (Proc × Standing)
@@ -66,6 +75,23 @@ home_ask jobs id far q = sendings.Whole (sent (home_of jobs q) (frames.DirectAsk
 abbrev pub asked_for : Jobs → ℕ → Data → Data → Proc → List (Proc × List ℕ) → List Due
 asked_for jobs id near far q asks = flat_map (λ e. if still_waits (outcome_with jobs id near far (get_of q e.1)) then home_ask jobs id far q ∷ [] else []) asks
 
+-- ---- gets that ask anew
+
+-- what such a get of a key that is not reserved is answered with these stores, once the reply is there
+abbrev pub outcome_then : Jobs → ℕ → Data → Data → Get → Outcome
+outcome_then jobs id near far get = resolve (plain_seen jobs id (read_at near get.target) (read_at far get.target) get) modes.Now
+
+-- the process's get is answered so by the reply to the request of that number, of q, if it waits for that
+abbrev pub replied_by : Jobs → ℕ → Data → Data → Proc → ℕ → Proc → Option (Get × ℕ) → List (Proc × Standing)
+replied_by jobs id near far p number q None = []
+replied_by jobs id near far p number q (Some anew) =
+    if is_replied number q anew.0 anew.1 then (p, Standing.refreshed anew.0 (outcome_then jobs id near far anew.0)) ∷ [] else []
+
+-- and the asker's, if there is one
+abbrev pub replied_to : Jobs → ℕ → Data → Data → Calls → Option Proc → ℕ → Proc → List (Proc × Standing)
+replied_to jobs id near far all None number q = []
+replied_to jobs id near far all (Some p) number q = replied_by jobs id near far p number q (anew_of (finite.get all p))
+
 -- ---- fences
 
 -- these processes are released from the fence, with those that are gone
@@ -80,3 +106,7 @@ released_in jobs id table far all f = if is_ready jobs id table f (level_at far)
 abbrev pub released_with : Jobs → ℕ → Fences → Data → Calls → Proc → List (Proc × Standing)
 released_with jobs id table far all q =
     flat_map (λ f. if set.contains f.signature.participants q then released_in jobs id table far all f else []) (all_waited all)
+
+-- what calls that wait are answered, once more is known of the process
+abbrev pub answered_about : Jobs → ℕ → Fences → Data → Data → Calls → Proc → List (Proc × Standing)
+answered_about jobs id table near far all q = gets_answered jobs id near far q (all_parked_on all q) ++ released_with jobs id table far all q

@@ -39,6 +39,8 @@ standing_of (calls.InFence f) = Standing.in_fence f
 standing_of (calls.Released f gone) = Standing.released f gone.items
 standing_of (calls.Parked target key) = Standing.parked (get_of target key)
 standing_of (calls.Answered target key found) = Standing.answered (get_of target key) (outcome_of found)
+standing_of (calls.Refreshing target key number) = Standing.refreshing (get_of target key) number
+standing_of (calls.Refreshed target key found) = Standing.refreshed (get_of target key) (outcome_of found)
 
 -- the fence that a process is released from, and the participants that are gone
 abbrev pub released_in : Standing → Option (FenceName × List Proc)
@@ -48,12 +50,23 @@ released_in _ = None
 -- what a get is answered
 abbrev pub answered_in : Standing → Option Outcome
 answered_in (Standing.answered get outcome) = Some outcome
+answered_in (Standing.refreshed get outcome) = Some outcome
 answered_in _ = None
+
+-- the get that asks anew, and the number of its request
+abbrev pub anew_in : Standing → Option (Get × ℕ)
+anew_in (Standing.refreshing get number) = Some (get, number)
+anew_in _ = None
+
+abbrev pub anew_of : Option Standing → Option (Get × ℕ)
+anew_of None = None
+anew_of (Some standing) = anew_in standing
 
 -- what a call that waited came to, as the call that its process is in
 abbrev pub standing_by : Settled → Standing
 standing_by (settlings.Released f gone) = Standing.released f gone.items
 standing_by (settlings.Answered target key found) = Standing.answered (get_of target key) (outcome_of found)
+standing_by (settlings.Refreshed target key found) = Standing.refreshed (get_of target key) (outcome_of found)
 
 -- ---- who waits for what
 
@@ -63,6 +76,8 @@ key_on q (Standing.in_fence f) = None
 key_on q (Standing.released f gone) = None
 key_on q (Standing.parked get) = if same_proc q get.target then Some get.key else None
 key_on q (Standing.answered get outcome) = None
+key_on q (Standing.refreshing get number) = None
+key_on q (Standing.refreshed get outcome) = None
 
 abbrev pub asks_on : Proc → Proc × Standing → List (Proc × List ℕ)
 asks_on q e = option_to_list (option_map (λ key. (e.0, key)) (key_on q e.1))
@@ -71,22 +86,26 @@ asks_on q e = option_to_list (option_map (λ key. (e.0, key)) (key_on q e.1))
 abbrev pub all_parked_on : Calls → Proc → List (Proc × List ℕ)
 all_parked_on all q = flat_map (asks_on q) (finite.entries all)
 
--- the process whose key a get waits for
-abbrev pub target_of : Standing → Option Proc
-target_of (Standing.in_fence f) = None
-target_of (Standing.released f gone) = None
-target_of (Standing.parked get) = Some get.target
-target_of (Standing.answered get outcome) = None
+-- the process whose key a get waits for; and the number of its request, where it asks anew
+abbrev pub ask_of : Standing → Option (Proc × Option ℕ)
+ask_of (Standing.in_fence f) = None
+ask_of (Standing.released f gone) = None
+ask_of (Standing.parked get) = Some (get.target, None)
+ask_of (Standing.answered get outcome) = None
+ask_of (Standing.refreshing get number) = Some (get.target, Some number)
+ask_of (Standing.refreshed get outcome) = None
 
--- for each get that waits, the process whose key it waits for, in the order of those who wait
-abbrev pub all_targets : Calls → List Proc
-all_targets all = flat_map (λ e. option_to_list (target_of e.1)) (finite.entries all)
+-- that of each get that waits, in the order of those who wait
+abbrev pub all_asks : Calls → List (Proc × Option ℕ)
+all_asks all = flat_map (λ e. option_to_list (ask_of e.1)) (finite.entries all)
 
 abbrev pub is_waiting_in : FenceName → Standing → Bool
 is_waiting_in f (Standing.in_fence g) = eq_by_cmp name_cmp f g
 is_waiting_in f (Standing.released g gone) = false
 is_waiting_in f (Standing.parked get) = false
 is_waiting_in f (Standing.answered get outcome) = false
+is_waiting_in f (Standing.refreshing get number) = false
+is_waiting_in f (Standing.refreshed get outcome) = false
 
 abbrev pub waits_in : FenceName → Proc × Standing → List Proc
 waits_in f e = if is_waiting_in f e.1 then e.0 ∷ [] else []

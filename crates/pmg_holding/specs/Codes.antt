@@ -40,29 +40,38 @@ abbrev pub coded_get : Coded Get
 coded_get = code_by (Proc × List ℕ) (coded× coded_proc (coded_list coded_ℕ)) (λ g. (g.target, g.key)) (λ p. record { target = p.0; key = p.1 }) (λ _. refl)
 
 abbrev pub StandingCode : Type 0
-StandingCode = (FenceName ⊎ (FenceName × List Proc)) ⊎ (Get ⊎ (Get × Outcome))
+StandingCode = ((FenceName ⊎ (FenceName × List Proc)) ⊎ (Get ⊎ (Get × Outcome))) ⊎ ((Get × ℕ) ⊎ (Get × Outcome))
 
 abbrev standing_to : Standing → StandingCode
-standing_to (Standing.in_fence f) = inl (inl f)
-standing_to (Standing.released f gone) = inl (inr (f, gone))
-standing_to (Standing.parked get) = inr (inl get)
-standing_to (Standing.answered get outcome) = inr (inr (get, outcome))
+standing_to (Standing.in_fence f) = inl (inl (inl f))
+standing_to (Standing.released f gone) = inl (inl (inr (f, gone)))
+standing_to (Standing.parked get) = inl (inr (inl get))
+standing_to (Standing.answered get outcome) = inl (inr (inr (get, outcome)))
+standing_to (Standing.refreshing get number) = inr (inl (get, number))
+standing_to (Standing.refreshed get outcome) = inr (inr (get, outcome))
 
 abbrev standing_from : StandingCode → Standing
-standing_from (inl (inl f)) = Standing.in_fence f
-standing_from (inl (inr p)) = Standing.released p.0 p.1
-standing_from (inr (inl get)) = Standing.parked get
-standing_from (inr (inr p)) = Standing.answered p.0 p.1
+standing_from (inl (inl (inl f))) = Standing.in_fence f
+standing_from (inl (inl (inr p))) = Standing.released p.0 p.1
+standing_from (inl (inr (inl get))) = Standing.parked get
+standing_from (inl (inr (inr p))) = Standing.answered p.0 p.1
+standing_from (inr (inl p)) = Standing.refreshing p.0 p.1
+standing_from (inr (inr p)) = Standing.refreshed p.0 p.1
 
 pub standing_back : (s : Standing) → standing_from (standing_to s) ≡ s
 standing_back (Standing.in_fence f) = refl
 standing_back (Standing.released f gone) = refl
 standing_back (Standing.parked get) = refl
 standing_back (Standing.answered get outcome) = refl
+standing_back (Standing.refreshing get number) = refl
+standing_back (Standing.refreshed get outcome) = refl
 
 abbrev pub coded_standing : Coded Standing
 coded_standing =
-    code_by StandingCode (coded⊎ (coded⊎ coded_name (coded× coded_name (coded_list coded_proc))) (coded⊎ coded_get (coded× coded_get coded_outcome))) standing_to standing_from standing_back
+    code_by StandingCode
+    (coded⊎ (coded⊎ (coded⊎ coded_name (coded× coded_name (coded_list coded_proc))) (coded⊎ coded_get (coded× coded_get coded_outcome)))
+    (coded⊎ (coded× coded_get coded_ℕ) (coded× coded_get coded_outcome)))
+    standing_to standing_from standing_back
 
 -- the calls that own processes are in
 abbrev pub Calls : Type 0
@@ -73,7 +82,16 @@ coded_calls = finite.code coded_proc coded_standing
 
 abbrev pub coded_holding : Coded Holding
 coded_holding =
-    code_by (Data × (Data × (AllSealed × (Sealed × (Fences × (Calls × Levels))))))
-    (coded× coded_data (coded× coded_data (coded× coded_all_sealed (coded× coded_sealed (coded× coded_fences (coded× coded_calls coded_levels))))))
-    (λ h. (h.near, (h.far, (h.sealers, (h.sets, (h.table, (h.calls, h.held)))))))
-    (λ p. record { near = p.0; far = p.1.0; sealers = p.1.1.0; sets = p.1.1.1.0; table = p.1.1.1.1.0; calls = p.1.1.1.1.1.0; held = p.1.1.1.1.1.1 }) (λ _. refl)
+    code_by (Data × (Data × (AllSealed × (Sealed × (Fences × (Calls × (Levels × ℕ)))))))
+    (coded× coded_data (coded× coded_data (coded× coded_all_sealed (coded× coded_sealed (coded× coded_fences (coded× coded_calls (coded× coded_levels coded_ℕ)))))))
+    (λ h. (h.near, (h.far, (h.sealers, (h.sets, (h.table, (h.calls, (h.held, h.requests))))))))
+    (λ p. record {
+      near = p.0;
+      far = p.1.0;
+      sealers = p.1.1.0;
+      sets = p.1.1.1.0;
+      table = p.1.1.1.1.0;
+      calls = p.1.1.1.1.1.0;
+      held = p.1.1.1.1.1.1.0;
+      requests = p.1.1.1.1.1.1.1;
+    }) (λ _. refl)

@@ -1,14 +1,26 @@
--- How marks are set back.
-use Rattle.std.specs.Prelude.{◌≡◌, ℕ, ◌==◌, true, List, [], ◌∷◌, is_some, if◌then◌else◌}
+-- How marks are set, and set back.
+use Rattle.std.specs.Prelude.{◌≡◌, ℕ, ◌==◌, true, List, [], ◌∷◌, Option, Some, None, is_some, if◌then◌else◌}
 use Rattle.std.specs.FinMap as finite
 use Rattle.pmg_value.specs.Lists.{Each}
 use Rattle.pmg_dmodex.specs.Levels.{Levels, level_at, with_level}
 use Rattle.pmg_value.specs.declared.process.Proc.{Proc}
 use Rattle.pmg_pset.specs.Sets.{host}
+use Rattle.pmg_frame.specs.declared.frame.Frame.{Frame}
+use Rattle.pmg_frame.specs.declared.frame.Frame.TheVariants as frames
 use Rattle.pmg_jobinfo.specs.Jobs.{Jobs}
 use Rattle.pmg_jobinfo.specs.Procs.{procs_at}
 use Rattle.pmg_rules.specs.Choosing.{peers}
 use Rattle.pmg_holding.specs.declared.due.MarkBefore.{MarkBefore}
+
+-- the process and the level of the mark that a frame sets, if it sets one
+abbrev pub mark_by : Frame → Option (Proc × ℕ)
+mark_by (frames.Piece c) = Some (c.proc, c.to)
+mark_by (frames.Header hd) = None
+mark_by (frames.FenceAsk a) = None
+mark_by (frames.RangeAsk a) = None
+mark_by (frames.DirectAsk a) = None
+mark_by (frames.RefreshAsk a) = None
+mark_by (frames.RefreshReply r) = Some (r.told.proc, r.told.to)
 
 -- the marks with what each was before it was set, the one that was set first in front
 abbrev pub marks_back : Levels → List MarkBefore → Levels

@@ -17,6 +17,8 @@ with_call w p (Standing.in_fence f) = record w { fences = waiting_too w.fences f
 with_call w p (Standing.released f gone) = w
 with_call w p (Standing.parked get) = record w { gets = parking w.gets get.target p get.key }
 with_call w p (Standing.answered get outcome) = w
+with_call w p (Standing.refreshing get number) = w
+with_call w p (Standing.refreshed get outcome) = w
 
 -- and no longer
 abbrev pub without_call : Waiting → Proc → Standing → Waiting
@@ -24,6 +26,8 @@ without_call w p (Standing.in_fence f) = record w { fences = waiting_less w.fenc
 without_call w p (Standing.released f gone) = w
 without_call w p (Standing.parked get) = record w { gets = unparked w.gets get.target p }
 without_call w p (Standing.answered get outcome) = w
+without_call w p (Standing.refreshing get number) = w
+without_call w p (Standing.refreshed get outcome) = w
 
 -- the key of the process that a call waits for, if there is a call
 abbrev pub awaits : Proc → Option Standing → Option (List ℕ)

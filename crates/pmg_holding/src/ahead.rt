@@ -5,9 +5,9 @@ ghost use Rattle.pmg_value.specs.Spelling.{spelling};
 ghost use Rattle.pmg_scope.specs.Scripts.{term_key};
 ghost use Rattle.pmg_commit.specs.Data.{level_at, read_at};
 ghost use Rattle.pmg_get.specs.Views.{seen_in};
-ghost use Rattle.pmg_holding.specs.Ahead.{joined, near_of, far_of};
+ghost use Rattle.pmg_holding.specs.Ahead.{near_of, far_of};
 ghost use Rattle.pmg_holding.specs.Calls.{get_of};
-ghost use Rattle.pmg_rules.specs.Holdings.{plain_seen};
+ghost use Rattle.pmg_rules.specs.Holdings.{joined, plain_seen};
 
 use pmg_commit::Piece;
 use pmg_get::View;

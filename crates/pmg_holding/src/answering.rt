@@ -1,13 +1,16 @@
 //! What calls come to be answered.
-ghost use Rattle.std.specs.Prelude.{◌≡◌, ◌++◌, IfOk, OnOk};
+ghost use Rattle.std.specs.Prelude.{◌≡◌, ◌++◌, ◌==◌, ◌&&◌, false, Some, IfOk, OnOk};
+ghost use Rattle.std.specs.FinMap as finite;
 ghost use Rattle.std.specs.List.{flat_map};
+ghost use Rattle.std.specs.Option.{option_map};
 ghost use Rattle.pmg_commit.specs.Data.{level_at};
+ghost use Rattle.pmg_fence.specs.Entering.{same_proc};
 ghost use Rattle.pmg_fence.specs.Tables.{is_ready};
 ghost use Rattle.pmg_get.specs.Views.{outcome_of};
 ghost use Rattle.pmg_holding.specs.Ahead.{near_of, far_of};
-ghost use Rattle.pmg_holding.specs.Answered.{ArePlain, standings, outcome_with, found_as, gets_answered, still_waits, home_ask, asked_for, released_all, released_in, released_with};
-ghost use Rattle.pmg_holding.specs.Answering.{AreAnswers, AreAskedAgain};
-ghost use Rattle.pmg_holding.specs.Calls.{get_of};
+ghost use Rattle.pmg_holding.specs.Answered.{ArePlain, ArePlainAnew, IsAsker, standings, outcome_with, outcome_then, replied_by, replied_to, answered_about, found_as, gets_answered, still_waits, home_ask, asked_for, released_all, released_in, released_with};
+ghost use Rattle.pmg_holding.specs.Answering.{AreAnswers, AreAnswersThen, AreAskedAgain};
+ghost use Rattle.pmg_holding.specs.Calls.{anew_of, get_of};
 ghost use Rattle.pmg_rules.specs.Kept.{is_about, is_in};
 
 use crate::ahead::Ahead;
@@ -65,6 +68,87 @@ fn answer_gets(
         answers.push((asker, Settled::Answered(target.copy()?, key, found)))?;
     }
     Ok(())
+}
+
+/// What a get that asks anew finds.
+fn found_then(answer: Answer<'_>) -> Result<Found, AllocError>
+    requires { still_waits (outcome_of answer) ≡ false }
+    ensures { IfOk result (λ found. found_as (Some found) ≡ outcome_of answer.entry) }
+{
+    match answer {
+        Answer::Found(value) => Ok(Found::Value(value.copy()?)),
+        Answer::OutsideScope => Ok(Found::OutsideScope),
+        Answer::NotFound | Answer::Park => Ok(Found::NotFound),
+    }
+}
+
+/// What a get of the target's key that asks anew finds once the stores are so.
+fn find_then(
+    registry: &Registry,
+    id: NodeId,
+    ahead: &Ahead<'_>,
+    target: &Proc,
+    key: &Key,
+) -> Result<Found, AllocError>
+    ensures { IfOk result (λ found. found_as (Some found)
+        ≡ outcome_then registry.now id (near_of ahead.now) (far_of ahead.now) (get_of target.now key.now)) }
+{
+    found_then(resolve(ahead.look(registry, id, target, key), Mode::Now))
+}
+
+/// Whether a get of a key of the target that waits for the reply to the one request gets the reply to the other, of the process.
+fn is_replied(number: u64, proc: &Proc, target: &Proc, waits_for: u64) -> bool
+    ensures { result ≡ ((waits_for == number) && same_proc target.now proc.now) }
+{
+    waits_for == number && target == proc
+}
+
+/// What the asker's get comes to be answered by the reply to the request of that number, of the process, if it waits for that.
+fn answer_asker(
+    registry: &Registry,
+    id: NodeId,
+    ahead: &Ahead<'_>,
+    calls: &Calls,
+    asker: &Proc,
+    number: u64,
+    proc: &Proc,
+    answers: &mut Vec<(Proc, Settled)>,
+) -> Result<(), AllocError>
+    ensures { OnOk result (standings answers.new.items ≡ standings answers.old.items
+        ++ replied_by registry.now id (near_of ahead.now) (far_of ahead.now) asker.now number proc.now
+        (anew_of (finite.get calls.now asker.now))) }
+{
+    let Some((target, key, waits_for)) = calls.refreshing(asker) else {
+        return Ok(());
+    };
+    if !is_replied(number, proc, target, waits_for) {
+        return Ok(());
+    }
+    let (asker, target, key) = (asker.copy()?, target.copy()?, key.copy()?);
+    let found = find_then(registry, id, ahead, &target, &key)?;
+    answers.push((asker, Settled::Refreshed(target, key, found)))?;
+    Ok(())
+}
+
+/// What the get of the asker, if there is one, comes to be answered by the reply to the request of that number, of the process.
+fn answer_reply(
+    registry: &Registry,
+    id: NodeId,
+    ahead: &Ahead<'_>,
+    calls: &Calls,
+    asker: Option<&Proc>,
+    number: u64,
+    proc: &Proc,
+    answers: &mut Vec<(Proc, Settled)>,
+) -> Result<(), AllocError>
+    ensures { OnOk result (standings answers.new.items ≡ standings answers.old.items
+        ++ replied_to registry.now id (near_of ahead.now) (far_of ahead.now) calls.now
+        (option_map (λ p. p.now) asker.entry) number proc.now) }
+{
+    let Some(asker) = asker else {
+        return Ok(());
+    };
+    answer_asker(registry, id, ahead, calls, asker, number, proc, answers)
 }
 
 /// Whether the fence is ready once the stores are so.
@@ -126,6 +210,25 @@ fn release_with(
     Ok(())
 }
 
+/// Gets of the process's keys come to be answered, and whoever waits in a ready fence in which it takes part released.
+fn answer_about(
+    table: &Table,
+    id: NodeId,
+    ahead: &Ahead<'_>,
+    calls: &Calls,
+    proc: &Proc,
+    answers: &mut Vec<(Proc, Settled)>,
+) -> Result<(), AllocError>
+    requires { table.now.node ≡ id }
+    ensures { OnOk result (standings answers.new.items ≡ standings answers.old.items
+        ++ answered_about table.now.jobs id table.now.fences (near_of ahead.now) (far_of ahead.now) calls.now proc.now) }
+{
+    let registry = table.registry();
+    answer_gets(registry, id, ahead, proc, calls.parked_on(proc)?, answers)?;
+    release_with(table, ahead, calls, proc, answers)?;
+    Ok(())
+}
+
 /// What calls come to be answered once the stores are so: gets of the process's keys, and fences in which it takes part.
 pub fn answers_about(
     table: &Table,
@@ -138,11 +241,42 @@ pub fn answers_about(
     requires plain { ArePlain calls.now }
     ensures { IfOk result (λ answers. AreAnswers table.now.jobs id (is_about proc.now) table.now.fences (near_of ahead.now) (far_of ahead.now) calls.now answers.items) }
 {
+    let mut answers = Vec::new(table.registry().allocator());
+    answer_about(table, id, ahead, calls, proc, &mut answers)?;
+    Ok(answers)
+}
+
+/// What calls come to be answered once the stores are so and the reply to the request of that number, of the process, has
+/// come: the asker's get, if it waits for that, gets of the process's keys, and fences in which it takes part.
+pub fn answers_then(
+    table: &Table,
+    id: NodeId,
+    ahead: &Ahead<'_>,
+    calls: &Calls,
+    asker: Option<&Proc>,
+    number: u64,
+    proc: &Proc,
+) -> Result<Vec<(Proc, Settled)>, AllocError>
+    requires node { table.now.node ≡ id }
+    requires plain { ArePlain calls.now }
+    requires anew { ArePlainAnew calls.now }
+    requires asker { IsAsker calls.now (option_map (λ p. p.now) asker) number proc.now }
+    ensures { IfOk result (λ answers. AreAnswersThen table.now.jobs id number proc.now table.now.fences (near_of ahead.now) (far_of ahead.now)
+        calls.now answers.items) }
+{
     let registry = table.registry();
     let mut answers = Vec::new(registry.allocator());
-    let asks = calls.parked_on(proc)?;
-    answer_gets(registry, id, ahead, proc, asks, &mut answers)?;
-    release_with(table, ahead, calls, proc, &mut answers)?;
+    answer_about(table, id, ahead, calls, proc, &mut answers)?;
+    answer_reply(
+        registry,
+        id,
+        ahead,
+        calls,
+        asker,
+        number,
+        proc,
+        &mut answers,
+    )?;
     Ok(answers)
 }
 

@@ -1,7 +1,7 @@
 //! The call that a process is in, and what it comes to.
 ghost use Rattle.std.specs.Prelude.{◌≡◌};
 ghost use Rattle.std.specs.Option.{option_map};
-ghost use Rattle.pmg_holding.specs.Calls.{answered_in, outcome_of, released_in, standing_of, standing_by};
+ghost use Rattle.pmg_holding.specs.Calls.{anew_in, answered_in, get_of, outcome_of, released_in, standing_of, standing_by};
 
 use pmg_frame::FenceName;
 use pmg_value::{Key, Proc, Value};
@@ -27,6 +27,10 @@ pub enum Call {
     Parked(Proc, Key),
     /// Its get of the key of the process is answered, and it has not taken the answer.
     Answered(Proc, Key, Found),
+    /// Its get of the key of the process asks anew, and waits for the reply to the node's request of that number.
+    Refreshing(Proc, Key, u64),
+    /// That reply came, and its get is answered, and it has not taken the answer.
+    Refreshed(Proc, Key, Found),
 }
 
 impl Drop for Call {
@@ -36,6 +40,8 @@ impl Drop for Call {
             Call::Released(_, _) => {}
             Call::Parked(_, _) => {}
             Call::Answered(_, _, _) => {}
+            Call::Refreshing(_, _, _) => {}
+            Call::Refreshed(_, _, _) => {}
         }
     }
 }
@@ -46,6 +52,8 @@ pub enum Settled {
     Released(FenceName, Vec<Proc>),
     /// The get of the key of the process is answered.
     Answered(Proc, Key, Found),
+    /// The get of the key of the process, which asks anew, is answered.
+    Refreshed(Proc, Key, Found),
 }
 
 impl Drop for Settled {
@@ -53,6 +61,7 @@ impl Drop for Settled {
         match self {
             Settled::Released(_, _) => {}
             Settled::Answered(_, _, _) => {}
+            Settled::Refreshed(_, _, _) => {}
         }
     }
 }
@@ -65,6 +74,7 @@ impl Call {
         match self {
             Call::Released(name, gone) => Some((name, gone)),
             Call::InFence(_) | Call::Parked(_, _) | Call::Answered(_, _, _) => None,
+            Call::Refreshing(_, _, _) | Call::Refreshed(_, _, _) => None,
         }
     }
 
@@ -74,7 +84,20 @@ impl Call {
     {
         match self {
             Call::Answered(_, _, found) => Some(found),
+            Call::Refreshed(_, _, found) => Some(found),
             Call::InFence(_) | Call::Released(_, _) | Call::Parked(_, _) => None,
+            Call::Refreshing(_, _, _) => None,
+        }
+    }
+
+    /// The target and the key of the get that asks anew, and the number of its request, if it is such a one.
+    pub fn refreshing(&self) -> Option<(&Proc, &Key, u64)>
+        ensures { option_map (λ g. (get_of g.0.now g.1.now, g.2)) result ≡ anew_in (standing_of self.now) }
+    {
+        match self {
+            Call::Refreshing(target, key, number) => Some((target, key, *number)),
+            Call::InFence(_) | Call::Released(..) | Call::Parked(..) => None,
+            Call::Answered(..) | Call::Refreshed(..) => None,
         }
     }
 }
@@ -87,6 +110,7 @@ impl Settled {
         match self {
             Settled::Released(name, gone) => Call::Released(name, gone),
             Settled::Answered(target, key, found) => Call::Answered(target, key, found),
+            Settled::Refreshed(target, key, found) => Call::Refreshed(target, key, found),
         }
     }
 }

@@ -4,8 +4,8 @@ ghost use Rattle.std.specs.FinMap as finite;
 ghost use Rattle.std.specs.Option.{option_map, unwrap_or};
 ghost use Rattle.pmg_value.specs.Process.{proc_cmp};
 ghost use Rattle.pmg_value.specs.Rows.{changed_at, rows_of};
-ghost use Rattle.pmg_holding.specs.Calls.{all_waited, standing_of, standing_by, target_of, all_parked_on, all_targets, all_waiting_in};
-ghost use Rattle.pmg_holding.specs.Calls.{all_instead};
+ghost use Rattle.pmg_holding.specs.Calls.{all_waited, ask_of, standing_of, standing_by, all_asks, all_parked_on, all_waiting_in};
+ghost use Rattle.pmg_holding.specs.Calls.{all_instead, anew_of, get_of};
 
 use crate::call::{Call, Settled};
 use crate::waiting::Waiting;
@@ -16,15 +16,15 @@ use std::collections::BTreeMap;
 use std::marker::Model;
 use std::mem;
 
-/// The process whose key the call waits for, if it does.
-fn target_of(call: &Call) -> Option<&Proc>
-    ensures { option_map (λ p. p.now) result ≡ target_of (standing_of call.now) }
+/// The process whose key the call waits for, if it does, and the number of its request, where it asks anew.
+fn ask_of(call: &Call) -> Option<(&Proc, Option<u64>)>
+    ensures { option_map (λ a. (a.0.now, a.1)) result ≡ ask_of (standing_of call.now) }
 {
     match call {
-        Call::Parked(target, _) => Some(target),
-        Call::InFence(_) => None,
-        Call::Released(..) => None,
-        Call::Answered(..) => None,
+        Call::Parked(target, _) => Some((target, None)),
+        Call::Refreshing(target, _, number) => Some((target, Some(*number))),
+        Call::InFence(_) | Call::Released(..) => None,
+        Call::Answered(..) | Call::Refreshed(..) => None,
     }
 }
 
@@ -138,17 +138,28 @@ impl Calls {
         self.waiting.gets.on(target)
     }
 
-    /// For each get that waits, the process whose key it waits for, in the order of the processes that wait.
-    pub fn targets(&self) -> Result<Vec<Proc>, AllocError>
-        ensures { IfOk result (λ targets. targets.items ≡ all_targets self.now) }
+    /// The target and the key of the process's get that asks anew, and the number of its request, if it is in such a one.
+    pub fn refreshing(&self, proc: &Proc) -> Option<(&Proc, &Key, u64)>
+        ensures { option_map (λ g. (get_of g.0.now g.1.now, g.2)) result ≡ anew_of (finite.get self.now proc.now) }
     {
-        let mut targets = Vec::new(self.alloc);
+        match self.get(proc) {
+            Some(call) => call.refreshing(),
+            None => None,
+        }
+    }
+
+    /// For each get that waits, the process whose key it waits for, and the number of its request, where it asks anew; in the
+    /// order of the processes that wait.
+    pub fn asks(&self) -> Result<Vec<(Proc, Option<u64>)>, AllocError>
+        ensures { IfOk result (λ asks. asks.items ≡ all_asks self.now) }
+    {
+        let mut asks = Vec::new(self.alloc);
         for (_, call) in self.rows.iter() {
-            if let Some(target) = target_of(call) {
-                targets.push(target.copy()?)?;
+            if let Some((target, number)) = ask_of(call) {
+                asks.push((target.copy()?, number))?;
             }
         }
-        Ok(targets)
+        Ok(asks)
     }
 
     /// The processes that are in the fence and not released, in their order.

@@ -4,7 +4,7 @@ ghost use Rattle.std.specs.Option.{option_map, option_to_list};
 ghost use Rattle.pmg_dmodex.specs.Levels.{level_at, with_level};
 ghost use Rattle.pmg_rules.specs.Choosing.{asked_marks, frame_for, marked, marked_if, sends};
 ghost use Rattle.pmg_holding.specs.Owns.{sealed_of};
-ghost use Rattle.pmg_holding.specs.Marking.{marks_back, AreSet};
+ghost use Rattle.pmg_holding.specs.Marking.{mark_by, marks_back, AreSet};
 
 use crate::own::Own;
 use pmg_dmodex::Marks;
@@ -93,16 +93,28 @@ fn set_level(
     Ok(())
 }
 
+/// The process and the level of the mark that the frame sets, if it sets one.
+fn mark_by(frame: &Frame) -> Option<(&Proc, u64)>
+    ensures { option_map (λ m. (m.0.now, m.1)) result ≡ mark_by frame.now }
+{
+    match frame {
+        Frame::Piece(piece) => Some((piece.proc(), piece.to())),
+        Frame::RefreshReply(reply) => Some((reply.proc(), reply.to())),
+        Frame::Header(_) | Frame::FenceAsk(_) => None,
+        Frame::RangeAsk(_) | Frame::DirectAsk(_) | Frame::RefreshAsk(_) => None,
+    }
+}
+
 /// Sets the mark that the frame sets, and keeps what it was before.
 fn set_mark(marks: &mut Marks, sent: &Sent, before: &mut Vec<MarkBefore>) -> Result<(), AllocError>
     ensures ok { OnOk result (marks.new ≡ marked marks.old sent.now) }
     ensures back { marks_back marks.new before.new.items ≡ marks_back marks.old before.old.items }
     ensures set { AreSet marks.old before.old.items → AreSet marks.new before.new.items }
 {
-    let Frame::Piece(piece) = &sent.frame else {
+    let Some((proc, level)) = mark_by(&sent.frame) else {
         return Ok(());
     };
-    set_level(marks, sent.to, piece.proc(), piece.to(), before)?;
+    set_level(marks, sent.to, proc, level, before)?;
     Ok(())
 }
 

@@ -13,7 +13,7 @@ mod telling;
 mod waiting;
 
 pub use ahead::Ahead;
-pub use answering::{answers_about, answers_in, asks_again};
+pub use answering::{answers_about, answers_in, answers_then, asks_again};
 pub use call::{Call, Found, Settled};
 pub use calls::Calls;
 pub use due::{Handed, MarkBefore, hand_out, take_back};

@@ -216,8 +216,8 @@ impl Waiting {
         match call {
             Call::InFence(name) => self.fences.insert(name, proc),
             Call::Parked(target, key) => self.gets.park(target, proc, key),
-            Call::Released(..) => Ok(()),
-            Call::Answered(..) => Ok(()),
+            Call::Released(..) | Call::Answered(..) => Ok(()),
+            Call::Refreshing(..) | Call::Refreshed(..) => Ok(()),
         }
     }
 
@@ -228,8 +228,8 @@ impl Waiting {
         match call {
             Call::InFence(name) => self.fences.remove(name, proc),
             Call::Parked(target, _) => self.gets.remove(target, proc),
-            Call::Released(..) => {}
-            Call::Answered(..) => {}
+            Call::Released(..) | Call::Answered(..) => {}
+            Call::Refreshing(..) | Call::Refreshed(..) => {}
         }
     }
 

@@ -143,9 +143,9 @@ leaves_it state z its one = leaves_as (freed_1 state z) (Some (Standing.released
 
 -- ---- frames come
 
-pub takes_frame : (id : ℕ) (h : Holding) (frame : Frame) → is_taken two id frame ≡ true → acts two id h (Act.deliver frame) ≡ done_as Reply.taken (settled two id (receives h frame))
+pub takes_frame : (id : ℕ) (h : Holding) (frame : Frame) → is_taken two id frame ≡ true → acts two id h (Act.deliver frame) ≡ done_as Reply.taken (settled two id (receives two id h frame))
 unfolding cause does
-takes_frame id h frame taken = ap (λ b. over two id h (Ok (cond b (done_as Reply.taken (receives h frame)) (done_as Reply.ignored h)))) taken
+takes_frame id h frame taken = ap (λ b. over two id h (Ok (cond b (done_as Reply.taken (receives two id h frame)) (done_as Reply.ignored h)))) taken
 
 all_members : list_all (is_member two) (participants_of meeting) ≡ true
 all_members = ap (list_all (is_member two)) who_meets ∙ (λ i. j0_is_member i && (j1_is_member i && true))

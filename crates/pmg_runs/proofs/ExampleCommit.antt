@@ -135,7 +135,7 @@ unfolding committed_0
 idle_committed = idle_settled 0 (sealing new_0 j0 sealer_of_one) (idle_new 0)
 
 commit_asks : AsksNothing committing
-commit_asks = record { headers = λ ask e. cc; commits = refl; nudges = λ e. cc }
+commit_asks = record { headers = λ ask e. cc; anew = λ ask e. cc; commits = refl; nudges = λ e. cc }
 
 pub step_commits : NodeStep two 0 new_0 committing (Reply.committed 1) committed_0 []
 unfolding committed_0
@@ -185,7 +185,7 @@ joins =
     (ap (λ (z : Sealed). z.level) sealer_kept ∙ number_is_one)
 
 in_meeting_parks : NoneParks (in_meeting committed_0 j0 1)
-in_meeting_parks = called_parks (with_table committed_0 (entered_table j0 1)) j0 (Standing.in_fence meeting) (λ get e. cc) (idle_parks committed_0 idle_committed)
+in_meeting_parks = called_parks (with_table committed_0 (entered_table j0 1)) j0 (Standing.in_fence meeting) refl (idle_parks committed_0 idle_committed)
 
 joined_parks : NoneParks joined_0
 unfolding joined_0
@@ -205,7 +205,7 @@ joined_tells = entered_is j0 1 0 locals_at_0
 pub step_joins : NodeStep two 0 committed_0 (entering j0) (Reply.entered 1) joined_0 both_sent
 step_joins =
     steps 0 committed_0 joined_0 (entering j0) (Reply.entered 1) joins refl (request_asks (Request.enter j0 both true) (λ e. cc)) committed_waits joined_parks both_sent (refl, (refl, tt))
-    (header_allowed 0 1 joined_0 (lines_of_0 states.Entered) other_than_0 joined_only joined_tells, (piece_allowed joined_0 proc_now now_is_one, tt))
+    (header_allowed 0 1 joined_0 (lines_of_0 states.Entered) other_than_0 joined_only joined_tells (entering j0), (piece_allowed (entering j0) joined_0 proc_now now_is_one, tt))
     (one_new 0 1 joined_0 (lines_of_0 states.Entered) other_than_0 joined_only joined_tells committed_0 (sent 1 (frames.Piece (its_piece sealer_now)) ∷ []))
 
 -- ---- the other one's header comes
@@ -231,4 +231,4 @@ met_news f locals node now before part = absurd (told_before j0 1 0 1 lines_of_1
 
 pub step_meets : NodeStep two 0 joined_0 (Act.deliver (frames.Header header_of_1)) Reply.taken met_0 []
 step_meets =
-    steps 0 joined_0 met_0 (Act.deliver (frames.Header header_of_1)) Reply.taken meets refl (frame_asks (frames.Header header_of_1) refl (λ ask e. cc)) joined_waits met_parks [] tt tt met_news
+    steps 0 joined_0 met_0 (Act.deliver (frames.Header header_of_1)) Reply.taken meets refl (frame_asks (frames.Header header_of_1) refl (λ ask e. cc) (λ ask e. cc)) joined_waits met_parks [] tt tt met_news

@@ -11,7 +11,7 @@ use Rattle.pmg_fence.specs.Rules.{Scripts}
 use Rattle.pmg_get.specs.Gets.{Seen, Outcome, resolve}
 use Rattle.pmg_get.specs.declared.view.Mode.TheVariants as modes
 use Rattle.pmg_store.proofs.HonestDataLaws.{honest_level_is_made}
-use Rattle.pmg_rules.specs.Acts.{Request, Act, Reply, Done, free_cause, target_cause, request_cause, cause, done_as, asks, serves, does, over, acts, says}
+use Rattle.pmg_rules.specs.Acts.{Request, Act, Reply, Done, also, free_cause, target_cause, number_cause, request_cause, cause, done_as, asks, serves, does, over, acts, says}
 use Rattle.pmg_rules.specs.Fitting.{Fits}
 use Rattle.pmg_rules.specs.Holdings.{Holding, sealer_of, answer_in, seen_of, settled}
 use Rattle.pmg_rules.specs.Sending.{NodeStep}
@@ -38,6 +38,14 @@ good_target = (
   ((λ i. is_there i && not (j0_is_member i)), ((λ i. not (is_there i)), (refl, (refl, (refl, (refl, (refl, (refl, (refl, (refl, tt)))))))))),
 )
 
+-- a get that may wait asks nothing anew
+pub no_number : (h : Holding) → NoCause (number_cause two 1 h its_key modes.Wait)
+no_number h = (refl, (refl, (refl, (refl, (refl, (refl, (refl, (refl, (refl, (refl, (refl, tt)))))))))))
+
+-- so it has no cause to be refused
+pub good_ask : (h : Holding) → NoCause (also (target_cause two j1 its_key) (number_cause two 1 h its_key modes.Wait))
+good_ask h = both_causes (target_cause two j1 its_key) (number_cause two 1 h its_key modes.Wait) good_target (no_number h)
+
 pub both_ways : (n : ℕ) → 1 ≤ n → n ≤ 1 → n ≡ 1
 both_ways n low high = omega (arith, low, high)
 
@@ -56,8 +64,8 @@ module _ (state : State) (z : Sealed) (its : z.proc ≡ j0) (one : z.level ≡ 1
   may_ask : NoCause (cause two 1 (left_1 state z) asking)
   unfolding cause request_cause
   may_ask =
-      both_causes (free_cause two 1 (left_1 state z) j1) (target_cause two j1 its_key)
-      (free 1 1 (left_1 state z) j1_is_member home_of_j1 still_live (idle_left state z its one j1)) good_target
+      both_causes (free_cause two 1 (left_1 state z) j1) (also (target_cause two j1 its_key) (number_cause two 1 (left_1 state z) its_key modes.Wait))
+      (free 1 1 (left_1 state z) j1_is_member home_of_j1 still_live (idle_left state z its one j1)) (good_ask (left_1 state z))
 
   abbrev pub asked_1 : Holding
   asked_1 = settled two 1 (left_1 state z)
@@ -83,12 +91,12 @@ module _ (state : State) (z : Sealed) (its : z.proc ≡ j0) (one : z.level ≡ 1
         ∙ ap (λ n. resolve (seen_at two 1 (scripts j0) n its_key) modes.Wait) level_is
         ∙ ap (λ x. resolve x modes.Wait) (from_elsewhere (scripts j0) 1) ∙ resolves
 
-    pub step_asks : (r : Reply) → asks (left_1 state z) j1 its_key o ≡ done_as r (left_1 state z) → NodeStep two 1 (left_1 state z) asking r asked_1 []
+    pub step_asks : (r : Reply) → asks (left_1 state z) j1 its_key modes.Wait o ≡ done_as r (left_1 state z) → NodeStep two 1 (left_1 state z) asking r asked_1 []
     unfolding does serves
     step_asks r is =
         let answered : acts two 1 (left_1 state z) asking ≡ done_as r asked_1 =
         accepted 1 (left_1 state z) asking may_ask
-        ∙ ap (λ x. over two 1 (left_1 state z) (Ok (asks (left_1 state z) j1 its_key x))) sees ∙ ap (λ d. over two 1 (left_1 state z) (Ok d)) is in
+        ∙ ap (λ x. over two 1 (left_1 state z) (Ok (asks (left_1 state z) j1 its_key modes.Wait x))) sees ∙ ap (λ d. over two 1 (left_1 state z) (Ok d)) is in
         record {
           replied = sym (ap (λ (d : Done). d.reply) answered);
           left = sym (ap (λ (d : Done). d.left) answered);

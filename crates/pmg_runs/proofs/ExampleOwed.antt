@@ -11,6 +11,7 @@ use Rattle.pmg_value.specs.declared.process.Proc.{Proc}
 use Rattle.pmg_scope.specs.declared.scope.Reach.TheVariants as reach
 use Rattle.pmg_commit.specs.Sealed.{piece_at}
 use Rattle.pmg_frame.specs.Fences.{FenceAsk, header, participants_of}
+use Rattle.pmg_frame.specs.Refreshing.{RefreshAsk}
 use Rattle.pmg_frame.specs.declared.frame.Frame.{Frame}
 use Rattle.pmg_frame.specs.declared.frame.Frame.TheVariants as frames
 use Rattle.pmg_frame.specs.declared.local.Local.{Local}
@@ -19,7 +20,7 @@ use Rattle.pmg_fence.specs.Entering.{same_proc}
 use Rattle.pmg_fence.specs.Tables.{gone_by}
 use Rattle.pmg_dmodex.specs.Levels.{NodeLevels, levels_of, level_at as held_at, not_below, without_below}
 use Rattle.pmg_rules.specs.Acts.{Request, Act, Reply, Done, done_as, acts, is_peer}
-use Rattle.pmg_rules.specs.Holdings.{Get, Standing, Holding, new_holding, sealer_of, call_of, called, released_by, settle, settled, is_ready_at}
+use Rattle.pmg_rules.specs.Holdings.{Standing, Holding, new_holding, sealer_of, call_of, called, released_by, settle, settled, is_ready_at}
 use Rattle.pmg_rules.specs.Sending.{sent, own_header_of, Allowed, TakesPart, asked_by, Owes, is_quiet, NodeStep}
 use Rattle.pmg_rules.specs.declared.sent.Sent.{Sent}
 use Rattle.pmg_rules.proofs.CallFacts.{call-settled, call-called}
@@ -32,6 +33,7 @@ use Rattle.pmg_runs.proofs.ExampleNodes.{AreIdle, IsInCall, its_piece}
 -- an act that asks for nothing
 pub record AsksNothing (a : Act) : Type 0 where
   pub headers : (ask : FenceAsk) → a ≡ Act.deliver (frames.FenceAsk ask) → ⊥
+  pub anew : (ask : RefreshAsk) → a ≡ Act.deliver (frames.RefreshAsk ask) → ⊥
   pub commits : asked_by a ≡ None
   pub nudges : a ≡ Act.request Request.nudge → ⊥
 
@@ -45,9 +47,18 @@ SendsNews id old new out =
 abbrev pub NoneWaits : Holding → Type 0
 NoneWaits h = (p : Proc) (node : ℕ) → held_at h.held p node ≡ None
 
+-- a get that waits
+abbrev pub waits_for : Standing → Bool
+waits_for (Standing.in_fence f) = false
+waits_for (Standing.released f gone) = false
+waits_for (Standing.parked get) = true
+waits_for (Standing.answered get outcome) = false
+waits_for (Standing.refreshing get number) = true
+waits_for (Standing.refreshed get outcome) = false
+
 -- no get waits
 abbrev pub NoneParks : Holding → Type 0
-NoneParks h = (p : Proc) (get : Get) → call_of h p ≡ Some (Standing.parked get) → ⊥
+NoneParks h = (p : Proc) (c : Standing) → call_of h p ≡ Some c → waits_for c ≡ false
 
 module _ (id : ℕ) (old new : Holding) (a : Act) (out : List Sent) (asks : AsksNothing a) (news : SendsNews id old new out) (waits : NoneWaits old) (parks : NoneParks new) where
   pub owed_by : (s : Sent) → Owes two id old a new s → In s out
@@ -61,24 +72,29 @@ module _ (id : ℕ) (old new : Holding) (a : Act) (out : List Sent) (asks : Asks
     where
       none_held : None ≡ Some level → ⊥
       none_held e = cc
-  owed_by s (Owes.parked_ask p get before now other) = absurd (parks p get now)
+  owed_by s (Owes.asked_reply ask is taken made) = absurd (asks.anew ask is)
+  owed_by s (Owes.parked_ask p get before now other) = absurd (false≢true (sym (parks p (Standing.parked get) now)))
+  owed_by s (Owes.parked_anew p get number before now other) = absurd (false≢true (sym (parks p (Standing.refreshing get number) now)))
   owed_by s (Owes.nudged_header f p node is waiting part none) = absurd (asks.nudges is)
   owed_by s (Owes.nudged_range f p q e is waiting collects i other told less) = absurd (asks.nudges is)
   owed_by s (Owes.nudged_ask p get is now other) = absurd (asks.nudges is)
+  owed_by s (Owes.nudged_anew p get number is now other) = absurd (asks.nudges is)
   owed_by s (Owes.nudged_sets is other) = absurd (asks.nudges is)
 
 -- a request that is no nudge, and a delivery that is no request
 pub request_asks : (r : Request) → (r ≡ Request.nudge → ⊥) → AsksNothing (Act.request r)
-request_asks r other = record { headers = λ ask e. cc; commits = refl; nudges = λ e. other (same e) }
+request_asks r other = record { headers = λ ask e. cc; anew = λ ask e. cc; commits = refl; nudges = λ e. other (same e) }
   where
     same : Act.request r ≡ Act.request Request.nudge → r ≡ Request.nudge
     same e = cc
 
-pub frame_asks : (frame : Frame) → asked_by (Act.deliver frame) ≡ None → ((ask : FenceAsk) → frame ≡ frames.FenceAsk ask → ⊥) → AsksNothing (Act.deliver frame)
-frame_asks frame none other = record { headers = λ ask e. other ask (same ask e); commits = none; nudges = λ e. cc }
+pub frame_asks : (frame : Frame) → asked_by (Act.deliver frame) ≡ None → ((ask : FenceAsk) → frame ≡ frames.FenceAsk ask → ⊥) → ((ask : RefreshAsk) → frame ≡ frames.RefreshAsk ask → ⊥)
+    → AsksNothing (Act.deliver frame)
+frame_asks frame none other another =
+    record { headers = λ ask e. other ask (same (frames.FenceAsk ask) e); anew = λ ask e. another ask (same (frames.RefreshAsk ask) e); commits = none; nudges = λ e. cc }
   where
-    same : (ask : FenceAsk) → Act.deliver frame ≡ Act.deliver (frames.FenceAsk ask) → frame ≡ frames.FenceAsk ask
-    same ask e = cc
+    same : (asking : Frame) → Act.deliver frame ≡ Act.deliver asking → frame ≡ asking
+    same asking e = cc
 
 -- no header is new where the tables are the same
 pub same_news : (id : ℕ) (old new : Holding) → ((f : FenceName) → own_header_of two id new f ≡ own_header_of two id old f) → (out : List Sent) → SendsNews id old new out
@@ -89,39 +105,45 @@ same_news id old new same out f locals node now before part = absurd (none_new (
 
 -- nobody in a call, or one in a fence: no get waits
 pub idle_parks : (h : Holding) → AreIdle h → NoneParks h
-idle_parks h idle p get e = none_parked (sym (idle p) ∙ e)
+idle_parks h idle p c e = absurd (none_there (sym (idle p) ∙ e))
   where
-    none_parked : None ≡ Some (Standing.parked get) → ⊥
-    none_parked z = cc
+    none_there : None ≡ Some c → ⊥
+    none_there z = cc
 
-pub call_parks : (h : Holding) (c : Standing) → IsInCall h (Some c) → ((get : Get) → c ≡ Standing.parked get → ⊥) → NoneParks h
-call_parks h c calls other p get e = by_test (same_proc p j1) (sym (calls p) ∙ e)
+-- one call that waits for nothing
+waits_so : (c d : Standing) → waits_for c ≡ false → Some c ≡ Some d → waits_for d ≡ false
+waits_so c d other e = let same : c ≡ d = cc in ap waits_for (sym same) ∙ other
+
+pub call_parks : (h : Holding) (c : Standing) → IsInCall h (Some c) → waits_for c ≡ false → NoneParks h
+call_parks h c calls other p d e = by_test (same_proc p j1) (sym (calls p) ∙ e)
   where
-    by_test : (b : Bool) → cond b (Some c) None ≡ Some (Standing.parked get) → ⊥
-    by_test true z = other get cc
-    by_test false z = cc
+    by_test : (b : Bool) → cond b (Some c) None ≡ Some d → waits_for d ≡ false
+    by_test true z = waits_so c d other z
+    by_test false z = absurd cc
 
 -- a call that is no get's makes none wait, nor does what comes to be answered
-pub called_parks : (h : Holding) (p : Proc) (c : Standing) → ((get : Get) → c ≡ Standing.parked get → ⊥) → NoneParks h → NoneParks (called h p c)
-called_parks h p c other none q get e = by_test (same_proc q p) (sym (call-called h p c q) ∙ e)
+pub called_parks : (h : Holding) (p : Proc) (c : Standing) → waits_for c ≡ false → NoneParks h → NoneParks (called h p c)
+called_parks h p c other none q d e = by_test (same_proc q p) (sym (call-called h p c q) ∙ e)
   where
-    by_test : (b : Bool) → cond b (Some c) (call_of h q) ≡ Some (Standing.parked get) → ⊥
-    by_test true z = other get cc
-    by_test false z = none q get z
+    by_test : (b : Bool) → cond b (Some c) (call_of h q) ≡ Some d → waits_for d ≡ false
+    by_test true z = waits_so c d other z
+    by_test false z = none q d z
 
 pub settled_parks : (id : ℕ) (h : Holding) → NoneParks h → NoneParks (settled two id h)
-settled_parks id h none q get e = by_call (call_of h q) refl (sym (call-settled two id h q) ∙ e)
+settled_parks id h none q d e = by_call (call_of h q) refl (sym (call-settled two id h q) ∙ e)
   where
-    released_parks : (b : Bool) (f : FenceName) (gone : List Proc) → Some (released_by b f gone) ≡ Some (Standing.parked get) → ⊥
-    released_parks true f gone z = cc
-    released_parks false f gone z = cc
+    by_ready : (b : Bool) (f : FenceName) (gone : List Proc) → Some (released_by b f gone) ≡ Some d → waits_for d ≡ false
+    by_ready true f gone z = waits_so (Standing.released f gone) d refl z
+    by_ready false f gone z = waits_so (Standing.in_fence f) d refl z
 
-    by_call : (o : Option Standing) → call_of h q ≡ o → option_map (settle two id h) o ≡ Some (Standing.parked get) → ⊥
-    by_call None is z = cc
-    by_call (Some (Standing.in_fence f)) is z = released_parks (is_ready_at two id h f) f (gone_by two id h.table f) z
-    by_call (Some (Standing.released f gone)) is z = cc
-    by_call (Some (Standing.parked other)) is z = none q other is
-    by_call (Some (Standing.answered other outcome)) is z = cc
+    by_call : (o : Option Standing) → call_of h q ≡ o → option_map (settle two id h) o ≡ Some d → waits_for d ≡ false
+    by_call None is z = absurd cc
+    by_call (Some (Standing.in_fence f)) is z = by_ready (is_ready_at two id h f) f (gone_by two id h.table f) z
+    by_call (Some (Standing.released f gone)) is z = waits_so (Standing.released f gone) d refl z
+    by_call (Some (Standing.parked other)) is z = absurd (false≢true (sym (none q (Standing.parked other) is)))
+    by_call (Some (Standing.answered other outcome)) is z = waits_so (Standing.answered other outcome) d refl z
+    by_call (Some (Standing.refreshing other number)) is z = absurd (false≢true (sym (none q (Standing.refreshing other number) is)))
+    by_call (Some (Standing.refreshed other outcome)) is z = waits_so (Standing.refreshed other outcome) d refl z
 
 -- a new node has none that waits
 pub none_held_new : (p : Proc) (node : ℕ) → held_at finite.empty p node ≡ None
@@ -139,7 +161,7 @@ nothing_below level =
 
 -- one step, where the act is replied so and leads there
 module _ (id : ℕ) (old new : Holding) (a : Act) (r : Reply) (is : acts two id old a ≡ done_as r new) (loud : is_quiet r ≡ false) (asks : AsksNothing a) (waits : NoneWaits old) (parks : NoneParks new) where
-  pub steps : (out : List Sent) → Each (λ s. is_peer two id s.to ≡ true) out → Each (λ s. Allowed two id new s.frame) out → SendsNews id old new out → NodeStep two id old a r new out
+  pub steps : (out : List Sent) → Each (λ s. is_peer two id s.to ≡ true) out → Each (λ s. Allowed two id a new s.frame) out → SendsNews id old new out → NodeStep two id old a r new out
   steps out peers allowed news = record {
     replied = sym (ap (λ (d : Done). d.reply) is);
     left = sym (ap (λ (d : Done). d.left) is);
@@ -181,14 +203,14 @@ module _ (id other : ℕ) (new : Holding) (lines : List Local) (others : (f : Fe
       let says = same_lines f locals is now in
       inl (λ i. sent (at i) (frames.Header (header id (is i) (sym says i))))
 
-  pub header_allowed : Allowed two id new (frames.Header (header id meeting lines))
+  pub header_allowed : (a : Act) → Allowed two id a new (frames.Header (header id meeting lines))
   unfolding Allowed
-  header_allowed = (refl, tells)
+  header_allowed a = (refl, tells)
 
 -- the commits of node 0's process that are sent
-pub piece_allowed : (h : Holding) → (sealer_of h j0).proc ≡ j0 → (sealer_of h j0).level ≡ 1 → Allowed two 0 h (frames.Piece (its_piece (sealer_of h j0)))
+pub piece_allowed : (a : Act) (h : Holding) → (sealer_of h j0).proc ≡ j0 → (sealer_of h j0).level ≡ 1 → Allowed two 0 a h (frames.Piece (its_piece (sealer_of h j0)))
 unfolding Allowed
-piece_allowed h its one = (
+piece_allowed a h its one = (
   ap (home_of two) its ∙ home_of_j0,
   subst (λ p. 0 < (sealer_of h p).level) (sym its) (subst (λ n. 0 < n) (sym one) (omega arith)),
   ap (λ p. piece_at (sealer_of h p) 0 reach.Far) (sym its),

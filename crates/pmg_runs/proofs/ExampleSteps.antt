@@ -40,7 +40,7 @@ unfolding entered_1
 entered_waits = none_held_new
 
 in_fence_parks : (h : Holding) → IsInCall h (Some (Standing.in_fence meeting)) → NoneParks h
-in_fence_parks h calls = call_parks h (Standing.in_fence meeting) calls (λ get e. cc)
+in_fence_parks h calls = call_parks h (Standing.in_fence meeting) calls refl
 
 pub step_enters : NodeStep two 1 new_1 (entering j1) (Reply.entered 1) entered_1 first_sent
 unfolding entered_1
@@ -48,7 +48,7 @@ step_enters =
     let only = entered_only j1 0 1 in
     let tells = entered_is j1 0 1 locals_at_1 in
     steps 1 new_1 entered_1 (entering j1) (Reply.entered 1) enters refl (request_asks (Request.enter j1 both true) (λ e. cc)) (new_waits 1) (in_fence_parks entered_1 in_entered)
-    first_sent (refl, tt) (header_allowed 1 0 entered_1 lines_of_1 other_than_1 only tells, tt) (one_new 1 0 entered_1 lines_of_1 other_than_1 only tells new_1 [])
+    first_sent (refl, tt) (header_allowed 1 0 entered_1 lines_of_1 other_than_1 only tells (entering j1), tt) (one_new 1 0 entered_1 lines_of_1 other_than_1 only tells new_1 [])
 
 -- it waits
 pub step_waits : NodeStep two 1 entered_1 leaving Reply.waiting waits_1 []
@@ -69,7 +69,7 @@ module _ (state : State) where
 
   pub step_told : NodeStep two 1 waits_1 (Act.deliver (frames.Header (header_of_0 state))) Reply.taken (told_1 state) []
   step_told =
-      steps 1 waits_1 (told_1 state) (Act.deliver (frames.Header (header_of_0 state))) Reply.taken (is_told state) refl (frame_asks (frames.Header (header_of_0 state)) refl (λ ask e. cc)) told_waits
+      steps 1 waits_1 (told_1 state) (Act.deliver (frames.Header (header_of_0 state))) Reply.taken (is_told state) refl (frame_asks (frames.Header (header_of_0 state)) refl (λ ask e. cc) (λ ask e. cc)) told_waits
       (in_fence_parks (told_1 state) (in_told state)) [] tt tt telling_news
 
   -- it waits again
@@ -92,8 +92,8 @@ module _ (state : State) (z : Sealed) (its : z.proc ≡ j0) (one : z.level ≡ 1
   pub step_freed : NodeStep two 1 (lacks_1 state) (Act.deliver (frames.Piece (its_piece z))) Reply.taken (freed_1 state z) []
   unfolding freed_1
   step_freed =
-      steps 1 (lacks_1 state) (freed_1 state z) (Act.deliver (frames.Piece (its_piece z))) Reply.taken (is_freed state z its) refl (frame_asks (frames.Piece (its_piece z)) refl (λ ask e. cc))
-      (freed_waits state) (call_parks (freed_1 state z) (Standing.released meeting (gone_then state)) (in_freed state z its one) (λ get e. cc)) [] tt tt
+      steps 1 (lacks_1 state) (freed_1 state z) (Act.deliver (frames.Piece (its_piece z))) Reply.taken (is_freed state z its) refl (frame_asks (frames.Piece (its_piece z)) refl (λ ask e. cc) (λ ask e. cc))
+      (freed_waits state) (call_parks (freed_1 state z) (Standing.released meeting (gone_then state)) (in_freed state z its one) refl) [] tt tt
       (same_news 1 (lacks_1 state) (freed_1 state z) (λ f. refl) [])
 
   -- and it leaves
@@ -115,7 +115,7 @@ then_sent = sent 1 (frames.Header (header_of_0 states.Gone)) ∷ sent 1 (frames.
 pub step_hears : NodeStep two 0 ended_0 (Act.deliver (frames.Header header_of_1)) Reply.taken heard_0 then_sent
 unfolding ended_0 heard_0
 step_hears =
-    steps 0 ended_0 heard_0 (Act.deliver (frames.Header header_of_1)) Reply.taken hears refl (frame_asks (frames.Header header_of_1) refl (λ ask e. cc)) ended_waits
+    steps 0 ended_0 heard_0 (Act.deliver (frames.Header header_of_1)) Reply.taken hears refl (frame_asks (frames.Header header_of_1) refl (λ ask e. cc) (λ ask e. cc)) ended_waits
     (idle_parks heard_0 idle_heard) then_sent (refl, (refl, tt))
-    (header_allowed 0 1 heard_0 (lines_of_0 states.Gone) other_than_0 heard_only heard_is, (piece_allowed heard_0 its_proc level_is_one, tt))
+    (header_allowed 0 1 heard_0 (lines_of_0 states.Gone) other_than_0 heard_only heard_is (Act.deliver (frames.Header header_of_1)), (piece_allowed (Act.deliver (frames.Header header_of_1)) heard_0 its_proc level_is_one, tt))
     (one_new 0 1 heard_0 (lines_of_0 states.Gone) other_than_0 heard_only heard_is ended_0 (sent 1 (frames.Piece (its_piece sealer_then)) ∷ []))

@@ -1,26 +1,24 @@
 -- A get that waits: its node asks the home of the key's process, which sends the commit; then the answer is taken.
-use Rattle.std.proofs.Common.{◌≡◌, ◌≤◌, ℕ, Bool, true, false, ◌==◌, ◌&&◌, ◌||◌, nat_lt, is_some, cond, List, [], ◌∷◌, Option, Some, None, Ok, refl, ap, subst, ◌∙◌, arith}
+use Rattle.std.proofs.Common.{◌≡◌, ◌≤◌, ℕ, Bool, true, false, ◌==◌, ◌&&◌, ◌||◌, nat_lt, is_some, cond, List, [], ◌∷◌, Option, Some, Ok, refl, ap, subst, ◌∙◌, arith}
 use Rattle.std.specs.FinMap as finite
 use Rattle.std.specs.Option.{option_map}
 use Rattle.pmg_value.specs.Process.{is_host}
-use Rattle.pmg_scope.specs.Scripts.{Call, commits as commits_in, value_at, before, term_key}
+use Rattle.pmg_scope.specs.Scripts.{Call, value_at, before, term_key}
 use Rattle.pmg_scope.specs.declared.scope.Reach.TheVariants as reach
 use Rattle.pmg_scope.specs.declared.scope.Scope.TheVariants as scopes
 use Rattle.pmg_commit.specs.Data.{absorbed, level_at}
 use Rattle.pmg_commit.specs.Sealed.{Sealed}
 use Rattle.pmg_fence.specs.Entering.{same_proc}
 use Rattle.pmg_frame.specs.Fences.{CommitAsk, commit_ask}
-use Rattle.pmg_frame.specs.declared.frame.Frame.{Frame}
 use Rattle.pmg_frame.specs.declared.frame.Frame.TheVariants as frames
 use Rattle.pmg_get.specs.Gets.{Seen, Outcome, resolve}
 use Rattle.pmg_get.specs.declared.view.Mode.TheVariants as modes
 use Rattle.pmg_store.proofs.HonestDataLaws.{honest_level_is_made}
-use Rattle.pmg_rules.specs.Acts.{Request, Act, Done, Reply, free_cause, target_cause, request_cause, cause, is_taken, is_peer, done_as, asks, takes, holds_unless, receives, serves, does, over, acts, says}
+use Rattle.pmg_rules.specs.Acts.{Request, Act, Done, Reply, also, free_cause, target_cause, number_cause, request_cause, cause, is_taken, is_peer, done_as, asks, takes, holds_unless, receives, serves, does, over, acts, says}
 use Rattle.pmg_rules.specs.Choosing.{asking_for, chosen, due_by, due_by_frame, due_by_request, marked_by_act, piece_due, sends}
 use Rattle.pmg_rules.specs.Holdings.{Standing, Holding, sealer_of, call_of, called, uncalled, with_far, settle, settled, settled_by, answer_in}
 use Rattle.pmg_rules.specs.Kept.{IsServer}
 use Rattle.pmg_rules.specs.Sending.{sent, is_quiet, NodeStep}
-use Rattle.pmg_rules.specs.declared.due.Due.{Due}
 use Rattle.pmg_rules.specs.declared.due.Due.TheVariants as sendings
 use Rattle.pmg_rules.specs.declared.sent.Sent.{Sent}
 use Rattle.pmg_rules.proofs.CallFacts.{call-settled, call-called}
@@ -30,17 +28,16 @@ use Rattle.pmg_rules.proofs.KeptActs.{new_is_server, server_stays}
 use Rattle.pmg_rules.proofs.Sealing.{level_raised}
 use Rattle.pmg_runs.specs.Worlds.{World, Event, Happened, Run, cache_of, doing, start}
 use Rattle.pmg_runs.specs.Laws.{Good, seen_at}
-use Rattle.pmg_runs.specs.Examples.{two, j0, j1, its_key, its_value, happened, first_node, second_node, asks_and_waits, takes_the_value, RunOfWaiting}
+use Rattle.pmg_runs.specs.Examples.{two, j0, j1, its_key, its_value, happened, first_node, asks_and_waits, takes_the_value, RunOfWaiting}
 use Rattle.pmg_runs.proofs.ExampleGroup.{are_jobs, home_of_j0, home_of_j1, j0_is_member, j1_is_member}
 use Rattle.pmg_runs.proofs.ExampleNodes.{accepted, both_causes, calls_well, new_0, new_1, its_piece, idle_new}
 use Rattle.pmg_runs.proofs.ExampleActs.{free, live_at_1, piece_taken, takes_frame}
 use Rattle.pmg_runs.proofs.ExampleCommit.{its_put, put_world, step_puts, committing, commits, committed_0, committed_level, committed_proc, step_commits}
-use Rattle.pmg_runs.proofs.ExampleGet.{asking, both_ways, from_elsewhere, good_target}
+use Rattle.pmg_runs.proofs.ExampleGet.{asking, both_ways, from_elsewhere, good_ask}
 use Rattle.pmg_runs.proofs.ExampleRun.{world_after, act_step}
 use Rattle.pmg_runs.proofs.Runs.{always_good}
 use Rattle.pmg_runs.proofs.Seeing.{answer_sees}
 use Rattle.pmg_runs.proofs.Starting.{no_level}
-use Rattle.pmg_runs.proofs.Steps.{step_good}
 
 -- one step of a node, which sends what this program sends, where the act is done so
 chosen_step : (id : ℕ) (h : Holding) → IsServer two id h → (a : Act) (r : Reply) (new : Holding) → acts two id h a ≡ done_as r new
@@ -107,11 +104,13 @@ asked_1 = settled two 1 parking
 
 may_ask : NoCause (cause two 1 new_1 asking)
 unfolding cause request_cause
-may_ask = both_causes (free_cause two 1 new_1 j1) (target_cause two j1 its_key) (free 1 1 new_1 j1_is_member home_of_j1 live_at_1 (idle_new 1 j1)) good_target
+may_ask =
+    both_causes (free_cause two 1 new_1 j1) (also (target_cause two j1 its_key) (number_cause two 1 new_1 its_key modes.Wait))
+    (free 1 1 new_1 j1_is_member home_of_j1 live_at_1 (idle_new 1 j1)) (good_ask new_1)
 
 parks : acts two 1 new_1 asking ≡ done_as Reply.parked asked_1
 unfolding does serves asked_1
-parks = accepted 1 new_1 asking may_ask ∙ ap (λ o. over two 1 new_1 (Ok (asks new_1 j1 its_key o))) no_answer
+parks = accepted 1 new_1 asking may_ask ∙ ap (λ o. over two 1 new_1 (Ok (asks new_1 j1 its_key modes.Wait o))) no_answer
 
 is_parked : call_of asked_1 j1 ≡ Some (Standing.parked its_key)
 unfolding asked_1

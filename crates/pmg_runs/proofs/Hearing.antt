@@ -1,5 +1,5 @@
 -- What a process is told of another by one event, and which commit that is of.
-use Rattle.std.proofs.Common.{◌≡◌, ◌≤◌, ℕ, Bool, true, false, ◌&&◌, cond, ◌++◌, Option, Some, None, inl, inr, refl, sym, ap, subst, ◌∙◌, arith}
+use Rattle.std.proofs.Common.{◌≡◌, ◌≤◌, ℕ, suc, Bool, true, false, ◌&&◌, cond, ◌++◌, Option, Some, None, inl, inr, refl, sym, ap, subst, ◌∙◌, arith}
 use Rattle.std.specs.Cmp.{Equal-is}
 use Rattle.std.specs.Option.{option_map}
 use Rattle.std.proofs.lemmas.Bool.{false≢true}
@@ -7,33 +7,42 @@ use Rattle.pmg_value.specs.declared.process.Proc.{Proc}
 use Rattle.pmg_value.specs.declared.refusal.Refusal.{Refusal}
 use Rattle.pmg_value.specs.declared.refusal.Refusal.TheVariants as refusals
 use Rattle.pmg_value.proofs.ProcessOrder.{exact_procs}
+use Rattle.pmg_scope.specs.Cached.{Unsealed}
 use Rattle.pmg_scope.specs.Scripts.{Script, commits}
 use Rattle.pmg_scope.specs.declared.scope.Reach.TheVariants as reach
 use Rattle.pmg_commit.specs.Data.{level_at}
 use Rattle.pmg_commit.specs.Sealed.{ended_with}
 use Rattle.pmg_fence.specs.Changes.{ended_by}
+use Rattle.pmg_frame.specs.Refreshing.{RefreshReply, told_by}
+use Rattle.pmg_frame.specs.declared.frame.Frame.{Frame}
+use Rattle.pmg_frame.specs.declared.frame.Frame.TheVariants as frames
 use Rattle.pmg_jobinfo.specs.Jobs.{Jobs, home_of}
 use Rattle.pmg_fence.specs.Entering.{same_proc}
 use Rattle.pmg_fence.specs.Rules.{Scripts}
 use Rattle.pmg_fence.proofs.EntryLemmas.{proc_itself}
-use Rattle.pmg_get.specs.Gets.{Seen, Outcome, resolve}
+use Rattle.pmg_get.specs.Gets.{Seen, Outcome, resolve, later_as}
 use Rattle.pmg_get.specs.declared.view.Mode.{Mode}
 use Rattle.pmg_get.specs.declared.view.Mode.TheVariants as modes
 use Rattle.pmg_store.proofs.HonestDataLaws.{honest_level_is_made}
-use Rattle.pmg_rules.specs.Acts.{Request, Act, Reply, cause, request_cause, free_cause, target_cause, does, serves, takes, asks, ends_as, reply_of}
+use Rattle.pmg_rules.specs.Acts.{Request, Act, Reply, also, cause, request_cause, free_cause, target_cause, number_cause, does, serves, takes, waits_as, requests_after, parks, asks, ends_as, reply_of}
 use Rattle.pmg_rules.specs.Fitting.{Fits, FitsCall, IsAnswer}
-use Rattle.pmg_rules.specs.Holdings.{Get, Standing, Holding, sealer_of, call_of, called, uncalled, with_table, sealing, answer_in, settled}
+use Rattle.pmg_rules.specs.Holdings.{Get, Standing, Holding, sealer_of, call_of, uncalled, with_far, with_table, with_requests, sealing, joined, answer_in, settled}
 use Rattle.pmg_rules.proofs.CallFacts.{call-called, call-uncalled}
 use Rattle.pmg_rules.proofs.Growing.{does_rise}
 use Rattle.pmg_rules.proofs.CauseFacts.{NoCause, caller_is, free_is, neither_cause}
 use Rattle.pmg_rules.proofs.Moving.{Moves, StaysOrMoves, does_call}
 use Rattle.pmg_rules.proofs.Settling.{settled_parked, settled_answered}
 use Rattle.pmg_runs.specs.Laws.{Answer, Wanted, outcome_of, waiting_as, unless_taken, unless_ended, wanted_by, answer_as, taken_answer, answer_of, seen_at}
-use Rattle.pmg_runs.proofs.Seeing.{answer_sees, seen_grown, parks_waits}
+use Rattle.pmg_runs.proofs.Replied.{settled_anew, answer_anew}
+use Rattle.pmg_runs.proofs.Seeing.{answer_sees, seen_grown, now_answers}
 
 -- the get waits
 abbrev pub wait_for : Get → Option Wanted
 wait_for get = Some (record { get = get; mode = modes.Wait })
+
+-- the get waits for a reply
+abbrev pub anew_for : Get → Option Wanted
+anew_for get = Some (record { get = get; mode = modes.Refresh })
 
 -- the answer is what one commit left, the n-th or a later one, that is known
 abbrev pub IsRight : Jobs → ℕ → Script → ℕ → ℕ → Get → Mode → Outcome → Type 0
@@ -46,6 +55,9 @@ pub record Bound (jobs : Jobs) (id : ℕ) (s : Script) (h : Holding) (p q : Proc
   pub waits : (get : Get) → call_of h p ≡ Some (Standing.parked get) → wanted ≡ wait_for get
   pub told : (get : Get) (outcome : Outcome) → call_of h p ≡ Some (Standing.answered get outcome)
       → (wanted ≡ wait_for get) × (same_proc q get.target ≡ true → IsRight jobs id s n (level_at h.far q) get modes.Wait outcome)
+  pub renews : (get : Get) (number : ℕ) → call_of h p ≡ Some (Standing.refreshing get number) → wanted ≡ anew_for get
+  pub renewed : (get : Get) (outcome : Outcome) → call_of h p ≡ Some (Standing.refreshed get outcome)
+      → (wanted ≡ anew_for get) × (same_proc q get.target ≡ true → IsRight jobs id s n (level_at h.far q) get modes.Now outcome)
 
 -- what was heard: nothing, or an answer that is right, from whose commit on all goes on
 abbrev pub Heard : Jobs → ℕ → Script → Holding → Proc → Proc → ℕ → Option Wanted → Option Answer → Type 0
@@ -72,17 +84,106 @@ bound_grown jobs id s t h g p q n wanted grown made higher same bound = record {
   told = λ get outcome e.
       let old = bound.told get outcome (sym same ∙ e) in
       (old.0, λ of. right_grown jobs id s t grown.0 n (level_at h.far q) (level_at g.far q) get modes.Wait outcome grown.1 made higher (old.1 of));
+  renews = λ get number e. bound.renews get number (sym same ∙ e);
+  renewed = λ get outcome e.
+      let old = bound.renewed get outcome (sym same ∙ e) in
+      (old.0, λ of. right_grown jobs id s t grown.0 n (level_at h.far q) (level_at g.far q) get modes.Now outcome grown.1 made higher (old.1 of));
 }
 
--- where p is in no call, nothing is asked
+-- the call is no get
+abbrev pub NoGet : Option Standing → Type 0
+NoGet None = Unit {0}
+NoGet (Some (Standing.in_fence f)) = Unit {0}
+NoGet (Some (Standing.released f gone)) = Unit {0}
+NoGet (Some (Standing.parked get)) = ⊥
+NoGet (Some (Standing.answered get outcome)) = ⊥
+NoGet (Some (Standing.refreshing get number)) = ⊥
+NoGet (Some (Standing.refreshed get outcome)) = ⊥
+
+-- where p is in no get, nothing is asked
 pub bound_free : (jobs : Jobs) (id : ℕ) (s : Script) (h : Holding) (p q : Proc) (n : ℕ) (wanted : Option Wanted) → n ≤ level_at h.far q
-    → ((get : Get) → call_of h p ≡ Some (Standing.parked get) → ⊥) → ((get : Get) (outcome : Outcome) → call_of h p ≡ Some (Standing.answered get outcome) → ⊥)
-    → Bound jobs id s h p q n wanted
-bound_free jobs id s h p q n wanted low none no_answer = record {
+    → (c : Option Standing) → call_of h p ≡ c → NoGet c → Bound jobs id s h p q n wanted
+bound_free jobs id s h p q n wanted low c is none = record {
   low = low;
-  waits = λ get e. absurd (none get e);
-  told = λ get outcome e. absurd (no_answer get outcome e);
+  waits = λ get e. absurd (subst NoGet (sym is ∙ e) none);
+  told = λ get outcome e. absurd (subst NoGet (sym is ∙ e) none);
+  renews = λ get number e. absurd (subst NoGet (sym is ∙ e) none);
+  renewed = λ get outcome e. absurd (subst NoGet (sym is ∙ e) none);
 }
+
+-- a get of p's waits
+pub bound_waits : (jobs : Jobs) (id : ℕ) (s : Script) (h : Holding) (p q : Proc) (n : ℕ) (get : Get) → n ≤ level_at h.far q → call_of h p ≡ Some (Standing.parked get)
+    → Bound jobs id s h p q n (wait_for get)
+bound_waits jobs id s h p q n get low is = record {
+  low = low;
+  waits = λ other e. ap wait_for (same other (sym is ∙ e));
+  told = λ other outcome e. absurd (not_told other outcome (sym is ∙ e));
+  renews = λ other number e. absurd (not_anew other number (sym is ∙ e));
+  renewed = λ other outcome e. absurd (not_told_anew other outcome (sym is ∙ e));
+}
+  where
+    same : (other : Get) → Some (Standing.parked get) ≡ Some (Standing.parked other) → get ≡ other
+    same other e = cc
+
+    not_told : (other : Get) (outcome : Outcome) → Some (Standing.parked get) ≡ Some (Standing.answered other outcome) → ⊥
+    not_told other outcome e = cc
+
+    not_anew : (other : Get) (number : ℕ) → Some (Standing.parked get) ≡ Some (Standing.refreshing other number) → ⊥
+    not_anew other number e = cc
+
+    not_told_anew : (other : Get) (outcome : Outcome) → Some (Standing.parked get) ≡ Some (Standing.refreshed other outcome) → ⊥
+    not_told_anew other outcome e = cc
+
+-- one that asks anew waits
+pub bound_renews : (jobs : Jobs) (id : ℕ) (s : Script) (h : Holding) (p q : Proc) (n : ℕ) (get : Get) (number : ℕ) → n ≤ level_at h.far q
+    → call_of h p ≡ Some (Standing.refreshing get number) → Bound jobs id s h p q n (anew_for get)
+bound_renews jobs id s h p q n get number low is = record {
+  low = low;
+  waits = λ other e. absurd (not_parked other (sym is ∙ e));
+  told = λ other outcome e. absurd (not_told other outcome (sym is ∙ e));
+  renews = λ other k e. ap anew_for (same other k (sym is ∙ e));
+  renewed = λ other outcome e. absurd (not_told_anew other outcome (sym is ∙ e));
+}
+  where
+    not_parked : (other : Get) → Some (Standing.refreshing get number) ≡ Some (Standing.parked other) → ⊥
+    not_parked other e = cc
+
+    not_told : (other : Get) (outcome : Outcome) → Some (Standing.refreshing get number) ≡ Some (Standing.answered other outcome) → ⊥
+    not_told other outcome e = cc
+
+    same : (other : Get) (k : ℕ) → Some (Standing.refreshing get number) ≡ Some (Standing.refreshing other k) → get ≡ other
+    same other k e = cc
+
+    not_told_anew : (other : Get) (outcome : Outcome) → Some (Standing.refreshing get number) ≡ Some (Standing.refreshed other outcome) → ⊥
+    not_told_anew other outcome e = cc
+
+-- its reply came
+pub bound_renewed : (jobs : Jobs) (id : ℕ) (s : Script) (h : Holding) (p q : Proc) (n : ℕ) (get : Get) (o : Outcome) (wanted : Option Wanted) → n ≤ level_at h.far q
+    → call_of h p ≡ Some (Standing.refreshed get o) → wanted ≡ anew_for get → (same_proc q get.target ≡ true → IsRight jobs id s n (level_at h.far q) get modes.Now o)
+    → Bound jobs id s h p q n wanted
+bound_renewed jobs id s h p q n get o wanted low is wants right = record {
+  low = low;
+  waits = λ other e. absurd (not_parked other (sym is ∙ e));
+  told = λ other outcome e. absurd (not_told other outcome (sym is ∙ e));
+  renews = λ other number e. absurd (not_waits other number (sym is ∙ e));
+  renewed = λ other outcome e. subst (λ (c : Standing). Tells c) (same other outcome (sym is ∙ e)) (wants, right);
+}
+  where
+    not_parked : (other : Get) → Some (Standing.refreshed get o) ≡ Some (Standing.parked other) → ⊥
+    not_parked other e = cc
+
+    not_told : (other : Get) (outcome : Outcome) → Some (Standing.refreshed get o) ≡ Some (Standing.answered other outcome) → ⊥
+    not_told other outcome e = cc
+
+    not_waits : (other : Get) (number : ℕ) → Some (Standing.refreshed get o) ≡ Some (Standing.refreshing other number) → ⊥
+    not_waits other number e = cc
+
+    same : (other : Get) (outcome : Outcome) → Some (Standing.refreshed get o) ≡ Some (Standing.refreshed other outcome) → Standing.refreshed get o ≡ Standing.refreshed other outcome
+    same other outcome e = cc
+
+    Tells : Standing → Type 0
+    Tells (Standing.refreshed other outcome) = (wanted ≡ anew_for other) × (same_proc q other.target ≡ true → IsRight jobs id s n (level_at h.far q) other modes.Now outcome)
+    Tells _ = Unit {0}
 
 -- a process and the target of a get of its
 target_is : (q : Proc) (get : Get) → same_proc q get.target ≡ true → q ≡ get.target
@@ -99,6 +200,8 @@ bound_settled jobs scripts id d p q n wanted fits bound = record {
     | inl was ↦ bound.told get outcome was
     | inr now ↦ (bound.waits get now.0, λ of. right_now get outcome now.1 (target_is q get of))
   ];
+  renews = λ get number e. bound.renews get number (settled_anew jobs id d (Standing.refreshing get number) refl p e);
+  renewed = λ get outcome e. bound.renewed get outcome (settled_anew jobs id d (Standing.refreshed get outcome) refl p e);
 }
   where
     same_level : (k : ℕ) → k ≤ k
@@ -146,7 +249,7 @@ taken_none : (q : Proc) (before : Option Wanted) → taken_answer q before None 
 taken_none q None = refl
 taken_none q (Some wanted) = by_test (same_proc q wanted.get.target)
   where
-    by_test : (b : Bool) → ◌≡◌ {A = Option Answer} (cond b (option_map (answer_as wanted.get wanted.mode) None) None) None
+    by_test : (b : Bool) → ◌≡◌ {A = Option Answer} (cond b (option_map (answer_as wanted.get (later_as wanted.mode)) None) None) None
     by_test true = refl
     by_test false = refl
 
@@ -226,7 +329,11 @@ hears_in p (Act.commit by b) = false
 hears_in p (Act.deliver frame) = false
 
 module _ (jobs : Jobs) (id : ℕ) (scripts : Scripts) (h : Holding) (fits : Fits jobs scripts id h) (p q : Proc) (n : ℕ) (before : Option Wanted) (bound : Bound jobs id (scripts q) h p q n before)
-    (t : Script) (grown : (later : Script) × (t ≡ scripts q ++ later)) where
+    (after : Scripts) (grown : (later : Script) × (after q ≡ scripts q ++ later)) where
+  -- q's calls then
+  abbrev t : Script
+  t = after q
+
   made : level_at h.far q ≤ commits (scripts q)
   made = honest_level_is_made (scripts q) reach.Far q h.far (fits.far q)
 
@@ -238,28 +345,55 @@ module _ (jobs : Jobs) (id : ℕ) (scripts : Scripts) (h : Holding) (fits : Fits
 
   -- who is in no call
   pub free_bound : (m : ℕ) (wanted : Option Wanted) (d : Holding) → m ≤ level_at d.far q → call_of d p ≡ None → Bound jobs id t d p q m wanted
-  free_bound m wanted d low none = bound_free jobs id t d p q m wanted low (λ get e. nowhere (sym none ∙ e)) (λ get outcome e. nowhere (sym none ∙ e))
+  free_bound m wanted d low none = bound_free jobs id t d p q m wanted low None none tt
+
+  -- the answer of a get that asked anew, once its reply is there, is right
+  abbrev RightAnew : Act → Type 0
+  RightAnew a =
+      (r : RefreshReply) (get : Get) (number : ℕ) → a ≡ Act.deliver (frames.RefreshReply r) → call_of h p ≡ Some (Standing.refreshing get number)
+      → call_of (does jobs id h a).left p ≡ Some (Standing.refreshed get (answer_in jobs id (with_far h (joined h.far (told_by r))) get modes.Now)) → same_proc q get.target ≡ true
+      → IsRight jobs id t n (level_at (does jobs id h a).left.far q) get modes.Now (answer_in jobs id (with_far h (joined h.far (told_by r))) get modes.Now)
+
+  quiet_by : (a : Act) → RightAnew a → level_at h.far q ≤ level_at (does jobs id h a).left.far q → hears_in p a ≡ false → StaysOrMoves jobs id h p a (call_of (does jobs id h a).left p)
+      → Bound jobs id t (does jobs id h a).left p q n before
+  quiet_by a right higher quiet (inl same) = bound_grown jobs id (scripts q) t h (does jobs id h a).left p q n before grown made higher same bound
+  quiet_by a right higher quiet (inr (Moves.entering list collect is was now)) =
+      bound_free jobs id t (does jobs id h a).left p q n before (omega (arith, bound.low, higher)) (Some (Standing.in_fence _)) now tt
+  quiet_by a right higher quiet (inr (Moves.parking get mode is was answer now)) = absurd (loud a (Request.ask p get mode) quiet is (proc_itself p))
+  quiet_by a right higher quiet (inr (Moves.leaving f gone is was now)) = free_bound n before (does jobs id h a).left (omega (arith, bound.low, higher)) now
+  quiet_by a right higher quiet (inr (Moves.taking get outcome is was now)) = absurd (loud a (Request.take p) quiet is (proc_itself p))
+  quiet_by a right higher quiet (inr (Moves.taking_anew get outcome is was now)) = absurd (loud a (Request.take p) quiet is (proc_itself p))
+  quiet_by a right higher quiet (inr (Moves.answering r get number is was its now)) =
+      bound_renewed jobs id t (does jobs id h a).left p q n get (answer_in jobs id (with_far h (joined h.far (told_by r))) get modes.Now) before (omega (arith, bound.low, higher)) now
+      (bound.renews get number was) (right r get number is was now)
+  quiet_by a right higher quiet (inr (Moves.ending is now)) = absurd (loud a (Request.terminate p) quiet is (proc_itself p))
+
+  quiet_bound : (a : Act) → RightAnew a → NoCause (cause jobs id h a) → hears_in p a ≡ false → Bound jobs id t (does jobs id h a).left p q n before
+  quiet_bound a right none quiet = quiet_by a right ((does_rise jobs id h a).far q) quiet (does_call jobs id h p a none)
+
+  no_reply : (a : Act) → ((frame : Frame) → a ≡ Act.deliver frame → ⊥) → RightAnew a
+  no_reply a other r get number is was now of = absurd (other (frames.RefreshReply r) is)
+
+  pub commit_bound : (by : Proc) (b : Unsealed) → NoCause (cause jobs id h (Act.commit by b)) → Bound jobs id t (does jobs id h (Act.commit by b)).left p q n before
+  commit_bound by b none = quiet_bound (Act.commit by b) (no_reply (Act.commit by b) (λ frame e. cc)) none refl
+
+  -- by a delivery p hears nothing; what a reply answers fits, as all does that is held then
+  pub deliver_bound : (frame : Frame) → Fits jobs after id (settled jobs id (does jobs id h (Act.deliver frame)).left) → NoCause (cause jobs id h (Act.deliver frame))
+      → Bound jobs id t (does jobs id h (Act.deliver frame)).left p q n before
+  deliver_bound frame then none = quiet_bound a right none refl
     where
-      nowhere : {x : Standing} → None ≡ Some x → ⊥
-      nowhere e = cc
+      a : Act
+      a = Act.deliver frame
 
-  quiet_by : (a : Act) (d : Holding) → level_at h.far q ≤ level_at d.far q → hears_in p a ≡ false → StaysOrMoves jobs id h p a (call_of d p) → Bound jobs id t d p q n before
-  quiet_by a d higher quiet (inl same) = bound_grown jobs id (scripts q) t h d p q n before grown made higher same bound
-  quiet_by a d higher quiet (inr (Moves.entering list collect is was now)) =
-      bound_free jobs id t d p q n before (omega (arith, bound.low, higher)) (λ get e. elsewhere (sym now ∙ e)) (λ get outcome e. not_told (sym now ∙ e))
-    where
-      elsewhere : {f : _} {get : Get} → Some (Standing.in_fence f) ≡ Some (Standing.parked get) → ⊥
-      elsewhere e = cc
-
-      not_told : {f : _} {get : Get} {outcome : Outcome} → Some (Standing.in_fence f) ≡ Some (Standing.answered get outcome) → ⊥
-      not_told e = cc
-  quiet_by a d higher quiet (inr (Moves.parking get mode is was answer now)) = absurd (loud a (Request.ask p get mode) quiet is (proc_itself p))
-  quiet_by a d higher quiet (inr (Moves.leaving f gone is was now)) = free_bound n before d (omega (arith, bound.low, higher)) now
-  quiet_by a d higher quiet (inr (Moves.taking get outcome is was now)) = absurd (loud a (Request.take p) quiet is (proc_itself p))
-  quiet_by a d higher quiet (inr (Moves.ending is now)) = absurd (loud a (Request.terminate p) quiet is (proc_itself p))
-
-  pub quiet_bound : (a : Act) → NoCause (cause jobs id h a) → hears_in p a ≡ false → Bound jobs id t (does jobs id h a).left p q n before
-  quiet_bound a none quiet = quiet_by a (does jobs id h a).left ((does_rise jobs id h a).far q) quiet (does_call jobs id h p a none)
+      right : RightAnew a
+      right r get number is was now of = (
+        level_at (does jobs id h a).left.far q,
+        omega (arith, bound.low, (does_rise jobs id h a).far q),
+        same_level _,
+        answer_anew jobs id h p r get number (answer_in jobs id (with_far h (joined h.far (told_by r))) get modes.Now) was a is now
+            ∙ answer_sees jobs after id (settled jobs id (does jobs id h a).left) then get modes.Now
+            ∙ ap (λ (x : Proc). resolve (seen_at jobs id (after x) (level_at (does jobs id h a).left.far x) get) modes.Now) (sym (target_is q get of)),
+      )
 
   -- ---- a get of p's own
 
@@ -276,37 +410,29 @@ module _ (jobs : Jobs) (id : ℕ) (scripts : Scripts) (h : Holding) (fits : Fits
   answered_here get mode o false of none is = free_bound n before h bound.low none
 
   -- the get waits
-  parked_here : (by : Proc) (get : Get) (mode : Mode) → p ≡ by → call_of h p ≡ None → answer_in jobs id h get mode ≡ Outcome.parks
-      → Bound jobs id t (called h by (Standing.parked get)) p q n (Some (record { get = get; mode = mode }))
-  parked_here by get mode same none is = record {
-    low = bound.low;
-    waits = λ other e.
-        let one : get ≡ other = parked_is other (sym now ∙ e) in
-        ap Some (λ i. record { get = one i; mode = parks_waits _ mode is i });
-    told = λ other outcome e. absurd (not_told other outcome (sym now ∙ e));
-  }
-    where
-      now : call_of (called h by (Standing.parked get)) p ≡ Some (Standing.parked get)
-      now = call-called h by (Standing.parked get) p ∙ ap (λ b. cond b (Some (Standing.parked get)) (call_of h p)) (ap (same_proc p) (sym same) ∙ proc_itself p)
+  call_then : (by : Proc) (get : Get) (mode : Mode) → p ≡ by → call_of (parks h by get mode) p ≡ Some (waits_as h.requests get mode)
+  call_then by get mode same =
+      call-called (with_requests h (requests_after h.requests mode)) by (waits_as h.requests get mode) p
+      ∙ ap (λ b. cond b (Some (waits_as h.requests get mode)) (call_of h p)) (ap (same_proc p) (sym same) ∙ proc_itself p)
 
-      parked_is : (other : Get) → Some (Standing.parked get) ≡ Some (Standing.parked other) → get ≡ other
-      parked_is other e = cc
-
-      not_told : (other : Get) (outcome : Outcome) → Some (Standing.parked get) ≡ Some (Standing.answered other outcome) → ⊥
-      not_told other outcome e = cc
+  parked_here : (by : Proc) (get : Get) (mode : Mode) → p ≡ by → answer_in jobs id h get mode ≡ Outcome.parks
+      → Bound jobs id t (parks h by get mode) p q n (Some (record { get = get; mode = mode }))
+  parked_here by get modes.Wait same is = bound_waits jobs id t (parks h by get modes.Wait) p q n get bound.low (call_then by get modes.Wait same)
+  parked_here by get modes.Now same is = absurd (now_answers _ is)
+  parked_here by get modes.Refresh same is = bound_renews jobs id t (parks h by get modes.Refresh) p q n get (suc h.requests) bound.low (call_then by get modes.Refresh same)
 
   no_answer : (c : Bool) (get : Get) (mode : Mode) → ◌≡◌ {A = Option Answer} (cond c (option_map (answer_as get mode) None) None) None
   no_answer true get mode = refl
   no_answer false get mode = refl
 
   ask_heard : (by : Proc) (get : Get) (mode : Mode) → p ≡ by → call_of h p ≡ None → (o : Outcome) → answer_in jobs id h get mode ≡ o
-      → Heard jobs id t (asks h by get o).left p q n (waiting_as (record { get = get; mode = mode }) (asks h by get o).reply before)
-      (cond (same_proc q get.target) (option_map (answer_as get mode) (outcome_of (asks h by get o).reply)) None)
+      → Heard jobs id t (asks h by get mode o).left p q n (waiting_as (record { get = get; mode = mode }) (asks h by get mode o).reply before)
+      (cond (same_proc q get.target) (option_map (answer_as get mode) (outcome_of (asks h by get mode o).reply)) None)
   ask_heard by get mode same none (Outcome.found value) is = answered_here get mode (Outcome.found value) (same_proc q get.target) refl none is
   ask_heard by get mode same none Outcome.absent is = answered_here get mode Outcome.absent (same_proc q get.target) refl none is
   ask_heard by get mode same none Outcome.outside is = answered_here get mode Outcome.outside (same_proc q get.target) refl none is
   ask_heard by get mode same none Outcome.parks is =
-      subst (Heard jobs id t (called h by (Standing.parked get)) p q n (Some (record { get = get; mode = mode }))) (sym (no_answer (same_proc q get.target) get mode)) (parked_here by get mode same none is)
+      subst (Heard jobs id t (parks h by get mode) p q n (Some (record { get = get; mode = mode }))) (sym (no_answer (same_proc q get.target) get mode)) (parked_here by get mode same is)
 
   -- ---- and what is taken
 
@@ -321,24 +447,30 @@ module _ (jobs : Jobs) (id : ℕ) (scripts : Scripts) (h : Holding) (fits : Fits
   gone_call : (by : Proc) → p ≡ by → call_of (uncalled h by) p ≡ None
   gone_call by same = call-uncalled h by p ∙ ap (λ b. cond b None (call_of h p)) (ap (same_proc p) (sym same) ∙ proc_itself p)
 
-  taken_here : (by : Proc) (get : Get) (o : Outcome) (c : Bool) → p ≡ by → same_proc q get.target ≡ c → call_of h p ≡ Some (Standing.answered get o)
-      → Heard jobs id t (uncalled h by) p q n None (cond c (Some (answer_as get modes.Wait o)) None)
-  taken_here by get o true same of is =
-      let right = right_grown jobs id (scripts q) t grown.0 n (level_at h.far q) (level_at h.far q) get modes.Wait o grown.1 made (same_level _) ((bound.told get o is).1 of) in
+  -- what is known of the answer of the get that p waited for
+  abbrev RightTaken : Wanted → Outcome → Type 0
+  RightTaken wanted o =
+      (before ≡ Some wanted) × (same_proc q wanted.get.target ≡ true → IsRight jobs id (scripts q) n (level_at h.far q) wanted.get (later_as wanted.mode) o)
+
+  taken_here : (by : Proc) (get : Get) (mode : Mode) (o : Outcome) (c : Bool) → p ≡ by → same_proc q get.target ≡ c
+      → (same_proc q get.target ≡ true → IsRight jobs id (scripts q) n (level_at h.far q) get mode o)
+      → Heard jobs id t (uncalled h by) p q n None (cond c (Some (answer_as get mode o)) None)
+  taken_here by get mode o true same of told =
+      let right = right_grown jobs id (scripts q) t grown.0 n (level_at h.far q) (level_at h.far q) get mode o grown.1 made (same_level _) (told of) in
       (right.0, right.1, right.2, right.3, free_bound right.0 None (uncalled h by) right.2 (gone_call by same))
-  taken_here by get o false same of is = free_bound n None (uncalled h by) bound.low (gone_call by same)
+  taken_here by get mode o false same of told = free_bound n None (uncalled h by) bound.low (gone_call by same)
 
-  taken_so : (by : Proc) (get : Get) (o : Outcome) → p ≡ by → call_of h p ≡ Some (Standing.answered get o)
-      → Heard jobs id t (uncalled h by) p q n None (taken_answer q before (Some o))
-  taken_so by get o same is =
-      subst (λ x. Heard jobs id t (uncalled h by) p q n None (taken_answer q x (Some o))) (sym (bound.told get o is).0) (taken_here by get o (same_proc q get.target) same refl is)
+  taken_so : (by : Proc) (wanted : Wanted) (o : Outcome) → p ≡ by → RightTaken wanted o → Heard jobs id t (uncalled h by) p q n None (taken_answer q before (Some o))
+  taken_so by wanted o same right =
+      subst (λ x. Heard jobs id t (uncalled h by) p q n None (taken_answer q x (Some o))) (sym right.0)
+      (taken_here by wanted.get (later_as wanted.mode) o (same_proc q wanted.get.target) same refl right.1)
 
-  answer_taken : (by : Proc) (get : Get) (o : Outcome) → p ≡ by → call_of h p ≡ Some (Standing.answered get o) → IsAnswer o
+  answer_taken : (by : Proc) (wanted : Wanted) (o : Outcome) → p ≡ by → RightTaken wanted o → IsAnswer o
       → Heard jobs id t (uncalled h by) p q n (unless_taken (outcome_of (reply_of o)) before) (taken_answer q before (outcome_of (reply_of o)))
-  answer_taken by get (Outcome.found value) same is answer = taken_so by get (Outcome.found value) same is
-  answer_taken by get Outcome.absent same is answer = taken_so by get Outcome.absent same is
-  answer_taken by get Outcome.outside same is answer = taken_so by get Outcome.outside same is
-  answer_taken by get Outcome.parks same is answer = absurd answer
+  answer_taken by wanted (Outcome.found value) same right answer = taken_so by wanted (Outcome.found value) same right
+  answer_taken by wanted Outcome.absent same right answer = taken_so by wanted Outcome.absent same right
+  answer_taken by wanted Outcome.outside same right answer = taken_so by wanted Outcome.outside same right
+  answer_taken by wanted Outcome.parks same right answer = absurd answer
 
   take_heard : (by : Proc) → p ≡ by → home_of jobs p ≡ id → (c : Option Standing) → call_of h by ≡ c
       → Heard jobs id t (takes h by c).left p q n (unless_taken (outcome_of (takes h by c).reply) before) (taken_answer q before (outcome_of (takes h by c).reply))
@@ -348,7 +480,11 @@ module _ (jobs : Jobs) (id : ℕ) (scripts : Scripts) (h : Holding) (fits : Fits
   take_heard by same home (Some (Standing.parked get)) is = nothing_taken Reply.waiting refl
   take_heard by same home (Some (Standing.answered get o)) is =
       let call = ap (call_of h) same ∙ is in
-      answer_taken by get o same call (subst (FitsCall (scripts p)) call (fits.calls p home))
+      answer_taken by (record { get = get; mode = modes.Wait }) o same (bound.told get o call) (subst (FitsCall (scripts p)) call (fits.calls p home))
+  take_heard by same home (Some (Standing.refreshing get number)) is = nothing_taken Reply.waiting refl
+  take_heard by same home (Some (Standing.refreshed get o)) is =
+      let call = ap (call_of h) same ∙ is in
+      answer_taken by (record { get = get; mode = modes.Refresh }) o same (bound.renewed get o call) (subst (FitsCall (scripts p)) call (fits.calls p home))
 
   abbrev pub RequestHeard : Request → Type 0
   RequestHeard r =
@@ -363,10 +499,10 @@ module _ (jobs : Jobs) (id : ℕ) (scripts : Scripts) (h : Holding) (fits : Fits
   loud_heard (Request.leave by) none hear = absurd (false≢true hear)
   loud_heard (Request.ask by get mode) none hear =
       let same = by_is by hear in
-      let free = free_is jobs id h by (neither_cause (free_cause jobs id h by) (target_cause jobs by get) none).0 in
+      let free = free_is jobs id h by (neither_cause (free_cause jobs id h by) (also (target_cause jobs by get) (number_cause jobs id h get mode)) none).0 in
       let o = answer_in jobs id h get mode in
-      subst (λ b. Heard jobs id t (asks h by get o).left p q n (cond b (waiting_as (record { get = get; mode = mode }) (asks h by get o).reply before) before)
-      (cond (b && same_proc q get.target) (option_map (answer_as get mode) (outcome_of (asks h by get o).reply)) None)) (sym hear)
+      subst (λ b. Heard jobs id t (asks h by get mode o).left p q n (cond b (waiting_as (record { get = get; mode = mode }) (asks h by get mode o).reply before) before)
+      (cond (b && same_proc q get.target) (option_map (answer_as get mode) (outcome_of (asks h by get mode o).reply)) None)) (sym hear)
       (ask_heard by get mode same (ap (call_of h) same ∙ free.1) o refl)
   loud_heard (Request.take by) none hear =
       let same = by_is by hear in
@@ -386,7 +522,7 @@ module _ (jobs : Jobs) (id : ℕ) (scripts : Scripts) (h : Holding) (fits : Fits
 
   quiet_request : (r : Request) → NoCause (request_cause jobs id h r) → hears p r ≡ false → Bound jobs id t (serves jobs id h r).left p q n before
   unfolding cause does
-  quiet_request r none quiet = quiet_bound (Act.request r) none quiet
+  quiet_request r none quiet = quiet_bound (Act.request r) (no_reply (Act.request r) (λ frame e. cc)) none quiet
 
   pub request_heard : (r : Request) → NoCause (request_cause jobs id h r) → RequestHeard r
   request_heard r none = by_test (hears p r) refl

@@ -50,6 +50,8 @@ released_from jobs node h p k gone home (Some (Standing.released f others)) is e
     record { name = f; home = home; call = is ∙ ap (λ x. Some (Standing.released f x)) same; number = number }
 released_from jobs node h p k gone home (Some (Standing.parked get)) is e = absurd cc
 released_from jobs node h p k gone home (Some (Standing.answered get outcome)) is e = absurd cc
+released_from jobs node h p k gone home (Some (Standing.refreshing get number)) is e = absurd cc
+released_from jobs node h p k gone home (Some (Standing.refreshed get outcome)) is e = absurd cc
 
 abbrev leave_act : Proc → Act
 leave_act p = Act.request (Request.leave p)

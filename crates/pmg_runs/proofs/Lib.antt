@@ -5,6 +5,7 @@ pub mod Starting
 pub mod Runs
 pub mod Leaving
 pub mod Seeing
+pub mod Replied
 pub mod Hearing
 pub mod Rising
 pub mod Naming

@@ -16,6 +16,7 @@ use Rattle.pmg_fence.specs.Tables.{Numbers, Fence, Fences, series_at, has_name, 
 use Rattle.pmg_fence.proofs.EntryLemmas.{level_stays, level_entered, signature_itself}
 use Rattle.pmg_fence.proofs.TableLemmas.{same_name, name_exact, name-placed}
 use Rattle.pmg_get.specs.Gets.{Outcome}
+use Rattle.pmg_get.specs.declared.view.Mode.{Mode}
 use Rattle.pmg_rules.specs.Acts.{Request, Act, Reply, also, list_cause, signature_cause, free_cause, request_cause, cause, list_of, signature_of, is_taken, done_as, leaves, takes, asks, holds_unless, receives, serves, does, says, said_by}
 use Rattle.pmg_rules.specs.Fitting.{Fits, is_refusal, unless_refused, with_said}
 use Rattle.pmg_rules.specs.Holdings.{Get, Standing, Holding, sealer_of, call_of, answer_in}
@@ -50,15 +51,15 @@ present_has_name : (jobs : Jobs) (node : ℕ) (t : Fences) (f : FenceName) (ls :
 unfolding present
 present_has_name jobs node t f ls e = name_of_present (has_name t f) (own_header jobs node t f) ls e
 
-pub allowed_named : (jobs : Jobs) (scripts : Scripts) (node : ℕ) (h : Holding) → AreNamed scripts h → (frame : Frame) → Allowed jobs node h frame → NamesEntered scripts frame
+pub allowed_named : (jobs : Jobs) (scripts : Scripts) (node : ℕ) (act : Act) (h : Holding) → AreNamed scripts h → (frame : Frame) → Allowed jobs node act h frame → NamesEntered scripts frame
 unfolding Allowed
-allowed_named jobs scripts node h named (frames.Piece c) allowed = tt
-allowed_named jobs scripts node h named (frames.Header hd) allowed = named.names hd.name (present_has_name jobs node h.table hd.name hd.locals allowed.1)
-allowed_named jobs scripts node h named (frames.FenceAsk a) allowed = named.names a.name (named.calls allowed.1 a.name allowed.2.1)
-allowed_named jobs scripts node h named (frames.RangeAsk a) allowed = tt
-allowed_named jobs scripts node h named (frames.DirectAsk a) allowed = tt
-allowed_named jobs scripts node h named (frames.RefreshAsk a) allowed = tt
-allowed_named jobs scripts node h named (frames.RefreshReply r) allowed = tt
+allowed_named jobs scripts node act h named (frames.Piece c) allowed = tt
+allowed_named jobs scripts node act h named (frames.Header hd) allowed = named.names hd.name (present_has_name jobs node h.table hd.name hd.locals allowed.1)
+allowed_named jobs scripts node act h named (frames.FenceAsk a) allowed = named.names a.name (named.calls allowed.1 a.name allowed.2.1)
+allowed_named jobs scripts node act h named (frames.RangeAsk a) allowed = tt
+allowed_named jobs scripts node act h named (frames.DirectAsk a) allowed = tt
+allowed_named jobs scripts node act h named (frames.RefreshAsk a) allowed = tt
+allowed_named jobs scripts node act h named (frames.RefreshReply r) allowed = tt
 
 -- ---- which names there are after an act
 
@@ -101,6 +102,8 @@ module _ (jobs : Jobs) (scripts : Scripts) (node : ℕ) (h : Holding) (fits : Fi
   leave_names grown by (Some (Standing.released x gone)) = same_names grown h.table
   leave_names grown by (Some (Standing.parked get)) = same_names grown h.table
   leave_names grown by (Some (Standing.answered get outcome)) = same_names grown h.table
+  leave_names grown by (Some (Standing.refreshing get number)) = same_names grown h.table
+  leave_names grown by (Some (Standing.refreshed get outcome)) = same_names grown h.table
   leave_names grown by None = same_names grown h.table
 
   take_names : (grown : Scripts) (by : Proc) (c : Option Standing) → NamesAfter grown h.table (takes h by c).left.table
@@ -108,19 +111,21 @@ module _ (jobs : Jobs) (scripts : Scripts) (node : ℕ) (h : Holding) (fits : Fi
   take_names grown by (Some (Standing.released x gone)) = same_names grown h.table
   take_names grown by (Some (Standing.parked get)) = same_names grown h.table
   take_names grown by (Some (Standing.answered get outcome)) = same_names grown h.table
+  take_names grown by (Some (Standing.refreshing get number)) = same_names grown h.table
+  take_names grown by (Some (Standing.refreshed get outcome)) = same_names grown h.table
   take_names grown by None = same_names grown h.table
 
-  ask_names : (grown : Scripts) (by : Proc) (get : Get) (o : Outcome) → NamesAfter grown h.table (asks h by get o).left.table
-  ask_names grown by get Outcome.parks = same_names grown h.table
-  ask_names grown by get (Outcome.found value) = same_names grown h.table
-  ask_names grown by get Outcome.absent = same_names grown h.table
-  ask_names grown by get Outcome.outside = same_names grown h.table
+  ask_names : (grown : Scripts) (by : Proc) (get : Get) (mode : Mode) (o : Outcome) → NamesAfter grown h.table (asks h by get mode o).left.table
+  ask_names grown by get mode Outcome.parks = same_names grown h.table
+  ask_names grown by get mode (Outcome.found value) = same_names grown h.table
+  ask_names grown by get mode Outcome.absent = same_names grown h.table
+  ask_names grown by get mode Outcome.outside = same_names grown h.table
 
   held_names : (grown : Scripts) (b : Bool) (from : ℕ) (p : Proc) (level : ℕ) → NamesAfter grown h.table (holds_unless b h from p level).table
   held_names grown true from p level = same_names grown h.table
   held_names grown false from p level = same_names grown h.table
 
-  frame_names : (frame : Frame) → NamesEntered scripts frame → NamesAfter scripts h.table (receives h frame).table
+  frame_names : (frame : Frame) → NamesEntered scripts frame → NamesAfter scripts h.table (receives jobs node h frame).table
   unfolding receives
   frame_names (frames.Piece c) named = same_names scripts h.table
   frame_names (frames.Header hd) named = one_more scripts h.table hd.name (fence_told (fence_at h.table hd.name) hd.node hd.locals) (series_at h.table hd.name.signature).counts named
@@ -131,11 +136,11 @@ module _ (jobs : Jobs) (scripts : Scripts) (node : ℕ) (h : Holding) (fits : Fi
   frame_names (frames.RefreshReply r) named = same_names scripts h.table
 
   deliver_names : (frame : Frame) (b : Bool) → NamesEntered scripts frame
-      → NamesAfter scripts h.table (cond b (done_as Reply.taken (receives h frame)) (done_as Reply.ignored h)).left.table
+      → NamesAfter scripts h.table (cond b (done_as Reply.taken (receives jobs node h frame)) (done_as Reply.ignored h)).left.table
   deliver_names frame true named = frame_names frame named
   deliver_names frame false named = same_names scripts h.table
 
-  deliver_grown : (frame : Frame) (b : Bool) → unless_refused (is_refusal (cond b (done_as Reply.taken (receives h frame)) (done_as Reply.ignored h)).reply) scripts None ≡ scripts
+  deliver_grown : (frame : Frame) (b : Bool) → unless_refused (is_refusal (cond b (done_as Reply.taken (receives jobs node h frame)) (done_as Reply.ignored h)).reply) scripts None ≡ scripts
   deliver_grown frame true = refl
   deliver_grown frame false = refl
 
@@ -147,7 +152,7 @@ module _ (jobs : Jobs) (scripts : Scripts) (node : ℕ) (h : Holding) (fits : Fi
       let free = free_is jobs node h by (neither_cause (free_cause jobs node h by) (also (list_cause jobs (list_of by list)) (signature_cause h g by)) none).0 in
       one_more (with_said scripts (said_by by (Call.enter g ∷ []))) h.table (next_name h.table g by) _ _ (enters_name by g free.0)
   request_names (Request.leave by) none = leave_names _ by (call_of h by)
-  request_names (Request.ask by get mode) none = ask_names _ by get (answer_in jobs node h get mode)
+  request_names (Request.ask by get mode) none = ask_names _ by get mode (answer_in jobs node h get mode)
   request_names (Request.take by) none = take_names _ by (call_of h by)
   request_names (Request.terminate by) none = ended_names _ h.table by _
   request_names (Request.define name list) none = same_names _ h.table
@@ -160,7 +165,7 @@ module _ (jobs : Jobs) (scripts : Scripts) (node : ℕ) (h : Holding) (fits : Fi
   does_names (Act.request r) none named = request_names r none
   does_names (Act.commit by b) none named = same_names _ h.table
   does_names (Act.deliver frame) none named =
-      subst (λ s. NamesAfter s h.table (cond (is_taken jobs node frame) (done_as Reply.taken (receives h frame)) (done_as Reply.ignored h)).left.table) (sym (deliver_grown frame (is_taken jobs node frame)))
+      subst (λ s. NamesAfter s h.table (cond (is_taken jobs node frame) (done_as Reply.taken (receives jobs node h frame)) (done_as Reply.ignored h)).left.table) (sym (deliver_grown frame (is_taken jobs node frame)))
       (deliver_names frame (is_taken jobs node frame) named)
 
 -- a name that was there still is

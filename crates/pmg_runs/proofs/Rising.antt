@@ -5,7 +5,6 @@ use Rattle.std.specs.Option.{option_map}
 use Rattle.std.proofs.lemmas.Bool.{false≢true, and_parts}
 use Rattle.pmg_value.specs.CheckOrder.{first_of}
 use Rattle.pmg_value.specs.Names.{is_reserved}
-use Rattle.pmg_value.specs.Signatures.{FenceName}
 use Rattle.pmg_value.specs.declared.process.Proc.{Proc}
 use Rattle.pmg_value.specs.declared.refusal.Refusal.{Refusal}
 use Rattle.pmg_value.specs.declared.refusal.Refusal.TheVariants as refusals
@@ -19,19 +18,19 @@ use Rattle.pmg_jobinfo.specs.Jobs.{Jobs, AreJobs, is_node, home_of}
 use Rattle.pmg_fence.specs.Entering.{same_proc}
 use Rattle.pmg_fence.specs.Rules.{Scripts, Grows}
 use Rattle.pmg_fence.proofs.EntryLemmas.{proc_itself}
-use Rattle.pmg_get.specs.Gets.{Seen, Outcome, resolve}
+use Rattle.pmg_get.specs.Gets.{Seen, resolve}
 use Rattle.pmg_get.specs.declared.view.Mode.{Mode}
 use Rattle.pmg_store.proofs.HonestDataLaws.{honest_level_is_made}
-use Rattle.pmg_rules.specs.Acts.{Request, Act, Reply, Done, Said, free_cause, target_cause, cause, request_cause, does, over, acts, reply_of, says}
+use Rattle.pmg_rules.specs.Acts.{Request, Act, Reply, Done, Said, also, free_cause, target_cause, number_cause, cause, request_cause, does, over, acts, reply_of, says}
 use Rattle.pmg_rules.specs.Fitting.{Fits, FitsAct, is_refusal, unless_refused, last_fence}
-use Rattle.pmg_rules.specs.Holdings.{Get, Standing, Holding, new_holding, call_of}
+use Rattle.pmg_rules.specs.Holdings.{Get, Standing, Holding, new_holding, call_of, settled}
 use Rattle.pmg_rules.specs.declared.sent.Sent.{Sent}
 use Rattle.pmg_rules.proofs.ActsFitted.{acts_fit}
 use Rattle.pmg_rules.proofs.CauseFacts.{NoCause, by_causes, caller_is, free_is, neither_cause}
 use Rattle.pmg_rules.proofs.Reading.{grows_unless}
 use Rattle.pmg_runs.specs.Worlds.{World, Event, Doing, ActStep, CacheStep, Does, Step, Happened, Run, start, cache_of, own_cause, own_get, is_own, requests, numbered, delivers, not_there, reply_in, doing}
 use Rattle.pmg_runs.specs.Laws.{Answer, Wanted, outcome_of, waiting_as, wanted_by, wanted_after, answer_as, answer_of, answer_by, with_answer, answers, seen_at, AnswersRise, Good, WasReady, FenceTheorem, GetsRise}
-use Rattle.pmg_runs.proofs.Hearing.{Bound, Heard, bound_grown, bound_free, none_heard, silent_heard, IsSilent, refused_heard, heard_as, heard_settled, hears, hears_in, request_heard, quiet_bound}
+use Rattle.pmg_runs.proofs.Hearing.{Bound, Heard, bound_grown, bound_free, none_heard, silent_heard, IsSilent, refused_heard, heard_as, heard_settled, hears, hears_in, request_heard, commit_bound, deliver_bound}
 use Rattle.pmg_runs.proofs.Leaving.{run_grows, left_fence, leaves_released, one_name}
 use Rattle.pmg_runs.proofs.Runs.{always_good}
 use Rattle.pmg_runs.proofs.Seeing.{seen_grown}
@@ -78,7 +77,7 @@ unfolding request_cause
 hearer_home jobs m h p (Request.enter by list collect) none hear = absurd (false≢true hear)
 hearer_home jobs m h p (Request.leave by) none hear = absurd (false≢true hear)
 hearer_home jobs m h p (Request.ask by get mode) none hear =
-    same_home jobs p by m hear (free_is jobs m h by (neither_cause (free_cause jobs m h by) (target_cause jobs by get) none).0).0.home
+    same_home jobs p by m hear (free_is jobs m h by (neither_cause (free_cause jobs m h by) (also (target_cause jobs by get) (number_cause jobs m h get mode)) none).0).0.home
 hearer_home jobs m h p (Request.take by) none hear = same_home jobs p by m hear (caller_is jobs m h by none).home
 hearer_home jobs m h p (Request.terminate by) none hear = same_home jobs p by m hear (caller_is jobs m h by none).home
 hearer_home jobs m h p (Request.define name list) none hear = absurd (false≢true hear)
@@ -105,12 +104,12 @@ away_heard jobs m h p q a before away = elim (by_causes (cause jobs m h a) (does
 ]
 
 does_heard : (jobs : Jobs) (id : ℕ) (scripts : Scripts) (h : Holding) → Fits jobs scripts id h → (p q : Proc) (n : ℕ) (before : Option Wanted) → Bound jobs id (scripts q) h p q n before
-    → (t : Script) → (later : Script) × (t ≡ scripts q ++ later) → (a : Act) → NoCause (cause jobs id h a)
-    → Heard jobs id t (does jobs id h a).left p q n (wanted_of p a (does jobs id h a).reply before) (told_by p q a (does jobs id h a).reply before)
+    → (after : Scripts) → (later : Script) × (after q ≡ scripts q ++ later) → (a : Act) → NoCause (cause jobs id h a) → Fits jobs after id (settled jobs id (does jobs id h a).left)
+    → Heard jobs id (after q) (does jobs id h a).left p q n (wanted_of p a (does jobs id h a).reply before) (told_by p q a (does jobs id h a).reply before)
 unfolding cause does
-does_heard jobs id scripts h fits p q n before bound t grown (Act.request r) none = request_heard jobs id scripts h fits p q n before bound t grown r none
-does_heard jobs id scripts h fits p q n before bound t grown (Act.commit by b) none = quiet_bound jobs id scripts h fits p q n before bound t grown (Act.commit by b) none refl
-does_heard jobs id scripts h fits p q n before bound t grown (Act.deliver frame) none = quiet_bound jobs id scripts h fits p q n before bound t grown (Act.deliver frame) none refl
+does_heard jobs id scripts h fits p q n before bound after grown (Act.request r) none then = request_heard jobs id scripts h fits p q n before bound after grown r none
+does_heard jobs id scripts h fits p q n before bound after grown (Act.commit by b) none then = commit_bound jobs id scripts h fits p q n before bound after grown by b none
+does_heard jobs id scripts h fits p q n before bound after grown (Act.deliver frame) none then = deliver_bound jobs id scripts h fits p q n before bound after grown frame then none
 
 -- ---- a step of the world
 
@@ -150,9 +149,9 @@ module _ (jobs : Jobs) (are : AreJobs jobs) (p q : Proc) (apart : same_proc p q 
           | inr free ↦
               let d = does jobs m h a in
               let grown = unless_refused (is_refusal d.reply) w.scripts (says jobs a) in
-              subst H (sym free.0) (heard_settled jobs grown m d.left p q n (wanted_of p a d.reply before) (told_by p q a d.reply before)
-              (subst F free.0 (acts_fit jobs are w.scripts m h (good.fits m) good.hosts a fit))
-              (does_heard jobs m w.scripts h (good.fits m) p q n before here (grown q) (grows_unless (is_refusal d.reply) w.scripts (says jobs a) q) a free.1))
+              let then : Fits jobs grown m (settled jobs m d.left) = subst F free.0 (acts_fit jobs are w.scripts m h (good.fits m) good.hosts a fit) in
+              subst H (sym free.0) (heard_settled jobs grown m d.left p q n (wanted_of p a d.reply before) (told_by p q a d.reply before) then
+              (does_heard jobs m w.scripts h (good.fits m) p q n before here grown (grows_unless (is_refusal d.reply) w.scripts (says jobs a) q) a free.1 then))
         ]
 
     abbrev HeardAt : ℕ → Act → Scripts → ℕ → Holding → Type 0
@@ -304,11 +303,8 @@ module _ (jobs : Jobs) (are : AreJobs jobs) (p q : Proc) (apart : same_proc p q 
 pub gets_rise : GetsRise
 gets_rise jobs are xs w run p q apart =
     rise_on jobs are p q apart xs (start jobs) w (start_good jobs) 0 None
-    (bound_free jobs (home_of jobs p) [] (new_holding jobs (home_of jobs p)) p q 0 None (least_level _) (λ get e. nowhere (sym (new_call p) ∙ e)) (λ get outcome e. nowhere (sym (new_call p) ∙ e))) run
+    (bound_free jobs (home_of jobs p) [] (new_holding jobs (home_of jobs p)) p q 0 None (least_level _) None (new_call p) tt) run
   where
-    nowhere : {x : Standing} → None ≡ Some x → ⊥
-    nowhere e = cc
-
     least_level : (k : ℕ) → 0 ≤ k
     least_level k = omega arith
 
@@ -325,12 +321,6 @@ fence_theorem jobs are xs w run p k gone v out f last collects q i apart ys u ru
     let its = ready.covered q i in
     let call : call_of (w.nodes id) p ≡ Some (Standing.released was.name gone) = ap (λ n. call_of (w.nodes n) p) was.home ∙ was.call in
     let bound : WorldBound jobs are p q apart w its.0.level None =
-    bound_free jobs id (w.scripts q) (w.nodes id) p q its.0.level None (its.2 collects) (λ get e. not_parked was.name get (sym call ∙ e)) (λ get outcome e. not_answered was.name get outcome (sym call ∙ e)) in
+    bound_free jobs id (w.scripts q) (w.nodes id) p q its.0.level None (its.2 collects) (Some (Standing.released was.name gone)) call tt in
     let bound_v = step_heard jobs are p q apart w good its.0.level None bound event (Reply.released k gone) v out.1 in
     (its.0, its.1, rise_on jobs are p q apart ys v u good_v its.0.level None bound_v run_on)
-  where
-    not_parked : (x : FenceName) (get : Get) → Some (Standing.released x gone) ≡ Some (Standing.parked get) → ⊥
-    not_parked x get e = cc
-
-    not_answered : (x : FenceName) (get : Get) (outcome : Outcome) → Some (Standing.released x gone) ≡ Some (Standing.answered get outcome) → ⊥
-    not_answered x get outcome e = cc

@@ -56,8 +56,8 @@ seen_grown jobs id s later m get made =
     seen_alike jobs id (value_at (s ++ later) m reach.Near) (value_at (s ++ later) m reach.Far) (value_at s m reach.Near) (value_at s m reach.Far) get
     (λ home key. past_values_stay s later m reach.Near key made) (λ key. past_values_stay s later m reach.Far key made)
 
--- a get that waits is one that may
-now_answers : (x : Seen) → resolve x modes.Now ≡ Outcome.parks → ⊥
+-- a get that looks only at what its node holds is answered at once
+pub now_answers : (x : Seen) → resolve x modes.Now ≡ Outcome.parks → ⊥
 unfolding resolve
 now_answers (Seen.reserved None) e = cc
 now_answers (Seen.reserved (Some v)) e = cc
@@ -69,6 +69,14 @@ now_answers (Seen.local None None ended) e = cc
 now_answers (Seen.remote None ended) e = cc
 now_answers (Seen.remote (Some v) ended) e = cc
 
-pub parks_waits : (x : Seen) (mode : Mode) → resolve x mode ≡ Outcome.parks → mode ≡ modes.Wait
-parks_waits x modes.Wait e = refl
-parks_waits x modes.Now e = absurd (now_answers x e)
+-- one that asks anew, and waits, is of a process on another node
+pub anew_is_remote : (x : Seen) → resolve x modes.Refresh ≡ Outcome.parks → (value : Option (List ℕ)) × (ended : Bool) × (x ≡ Seen.remote value ended)
+unfolding resolve
+anew_is_remote (Seen.reserved None) e = absurd cc
+anew_is_remote (Seen.reserved (Some v)) e = absurd cc
+anew_is_remote (Seen.own None) e = absurd cc
+anew_is_remote (Seen.own (Some v)) e = absurd cc
+anew_is_remote (Seen.local (Some v) other ended) e = absurd cc
+anew_is_remote (Seen.local None (Some v) ended) e = absurd cc
+anew_is_remote (Seen.local None None ended) e = absurd cc
+anew_is_remote (Seen.remote value ended) e = (value, ended, refl)

@@ -10,9 +10,11 @@ use Rattle.pmg_scope.specs.Scripts.{Call, Script, has_end}
 use Rattle.pmg_scope.specs.declared.scope.Reach.TheVariants as reach
 use Rattle.pmg_commit.specs.Data.{Data, level_at}
 use Rattle.pmg_commit.specs.Honest.{IsHonest}
+use Rattle.pmg_commit.specs.Sealed.{Sealed, piece_at}
 use Rattle.pmg_commit.proofs.HonestLaws.{honest_stays}
 use Rattle.pmg_commit.proofs.SealerLaws.{pieces_are_honest, put_seals_nothing}
 use Rattle.pmg_pset.specs.Sets.{host}
+use Rattle.pmg_frame.specs.Refreshing.{RefreshAsk, RefreshReply}
 use Rattle.pmg_frame.specs.declared.frame.Frame.{Frame}
 use Rattle.pmg_frame.specs.declared.frame.Frame.TheVariants as frames
 use Rattle.pmg_frame.specs.declared.local.Local.{Local}
@@ -62,17 +64,31 @@ unfolding present
 present_is_own jobs node t f ls e = own_of_present (has_name t f) (own_header jobs node t f) ls e
 
 -- what a node may send is honest
-pub allowed_honest : (jobs : Jobs) (scripts : Scripts) (node : ℕ) (h : Holding) → Fits jobs scripts node h → (frame : Frame) → Allowed jobs node h frame → HonestFrame jobs scripts frame
+pub allowed_honest : (jobs : Jobs) (scripts : Scripts) (node : ℕ) (act : Act) (h : Holding) → Fits jobs scripts node h → (frame : Frame) → Allowed jobs node act h frame → HonestFrame jobs scripts frame
 unfolding Allowed
-allowed_honest jobs scripts node h fits (frames.Piece c) allowed =
+allowed_honest jobs scripts node act h fits (frames.Piece c) allowed =
     subst (λ x. IsHonest (scripts c.proc) reach.Far x) (sym allowed.2) (pieces_are_honest (sealer_of h c.proc) (scripts c.proc) c.from reach.Far (fits.own c.proc allowed.0).sealer refl)
-allowed_honest jobs scripts node h fits (frames.Header hd) allowed =
+allowed_honest jobs scripts node act h fits (frames.Header hd) allowed =
     ap (header_of jobs scripts hd.name) allowed.0 ∙ sym (own_header_is_true jobs node scripts h.table hd.name fits.table) ∙ present_is_own jobs node h.table hd.name hd.locals allowed.1
-allowed_honest jobs scripts node h fits (frames.FenceAsk a) allowed = tt
-allowed_honest jobs scripts node h fits (frames.RangeAsk a) allowed = tt
-allowed_honest jobs scripts node h fits (frames.DirectAsk a) allowed = tt
-allowed_honest jobs scripts node h fits (frames.RefreshAsk a) allowed = tt
-allowed_honest jobs scripts node h fits (frames.RefreshReply r) allowed = absurd allowed
+allowed_honest jobs scripts node act h fits (frames.FenceAsk a) allowed = tt
+allowed_honest jobs scripts node act h fits (frames.RangeAsk a) allowed = tt
+allowed_honest jobs scripts node act h fits (frames.DirectAsk a) allowed = tt
+allowed_honest jobs scripts node act h fits (frames.RefreshAsk a) allowed = tt
+allowed_honest jobs scripts node act h fits (frames.RefreshReply r) allowed = subst (λ (x : RefreshReply). IsHonest (scripts x.told.proc) reach.Far x.told) (sym allowed.4) told
+  where
+    ask : RefreshAsk
+    ask = allowed.0
+
+    z : Sealed
+    z = sealer_of h ask.ask.proc
+
+    its : z.proc ≡ ask.ask.proc
+    its = (fits.own ask.ask.proc allowed.2).proc
+
+    told : IsHonest (scripts z.proc) reach.Far (piece_at z ask.ask.level reach.Far)
+    told =
+        subst (λ (p : Proc). IsHonest (scripts p) reach.Far (piece_at z ask.ask.level reach.Far)) (sym its)
+        (pieces_are_honest z (scripts ask.ask.proc) ask.ask.level reach.Far (fits.own ask.ask.proc allowed.2).sealer refl)
 
 pub each_both : {A : Type 0} (P : A → Type 0) (xs ys : List A) → Each P xs → Each P ys → Each P (xs ++ ys)
 each_both P [] ys one other = other
@@ -165,12 +181,12 @@ module _ (jobs : Jobs) (are : AreJobs jobs) (w : World) (good : Good jobs w) (n 
   same_level : (k : ℕ) → k ≤ k
   same_level k = omega arith
 
-  pub act_good : (out : List Sent) → Each (λ s. Allowed jobs n left_by s.frame) out → Good jobs (world_by out)
+  pub act_good : (out : List Sent) → Each (λ s. Allowed jobs n a left_by s.frame) out → Good jobs (world_by out)
   act_good out allowed = record {
     fits = each_node (λ m h. Fits jobs scripts_by m h) w.nodes n left_by left_fits others_still;
     honest = each_both (λ s. HonestFrame jobs scripts_by s.frame) w.sent out
         (each_still (λ s. HonestFrame jobs w.scripts s.frame) (λ s. HonestFrame jobs scripts_by s.frame) w.sent (λ s. frame_stays jobs w.scripts scripts_by scripts_grow s.frame) good.honest)
-        (each_still (λ s. Allowed jobs n left_by s.frame) (λ s. HonestFrame jobs scripts_by s.frame) out (λ s. allowed_honest jobs scripts_by n left_by left_fits s.frame) allowed);
+        (each_still (λ s. Allowed jobs n a left_by s.frame) (λ s. HonestFrame jobs scripts_by s.frame) out (λ s. allowed_honest jobs scripts_by n a left_by left_fits s.frame) allowed);
     hosts = said_rightly (λ s. FitsHost (s host)) good.hosts (λ refused speaks. host_said jobs n w.scripts refused (says jobs a) speaks good.hosts);
     freed = each_node (λ m h. FreedRight scripts_by h) w.nodes n left_by left_freed (λ m away p f gone e.
         ready_grown w.scripts scripts_by (w.nodes m).far (w.nodes m).far f gone scripts_grow (λ q. same_level _) (good.freed m p f gone e));
@@ -237,7 +253,7 @@ cache_good jobs w good answer (Some said) (inr put) false is = put_good jobs w g
 pub does_good : (jobs : Jobs) → AreJobs jobs → (w : World) → Good jobs w → (d : Doing) → DoingFits jobs w d → (r : Reply) (v : World) → Does jobs w d r v → Good jobs v
 does_good jobs are w good (Doing.at_node n a) fit r v step =
     subst (Good jobs) (sym (act_world jobs are w good n a fit r v step))
-    (act_good jobs are w good n a fit step.out (subst (λ h. Each (λ s. Allowed jobs n h s.frame) step.out) step.step.left step.step.allowed))
+    (act_good jobs are w good n a fit step.out (subst (λ h. Each (λ s. Allowed jobs n a h s.frame) step.out) step.step.left step.step.allowed))
 does_good jobs are w good (Doing.by_cache answer o) fit r v step =
     subst (Good jobs) (sym (step.left ∙ ap (λ (x : Reply). record { scripts = unless_refused (is_refusal x) w.scripts o; nodes = w.nodes; sent = w.sent }) step.replied))
     (cache_good jobs w good answer o fit (is_refusal (reply_in answer)) refl)

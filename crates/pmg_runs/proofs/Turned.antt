@@ -14,8 +14,10 @@ use Rattle.pmg_fence.specs.Rules.{Scripts, Grows}
 use Rattle.pmg_fence.specs.Tables.{has_name}
 use Rattle.pmg_fence.proofs.EntryLemmas.{puts}
 use Rattle.pmg_fence.proofs.StepLemmas.{no_names}
+use Rattle.pmg_get.specs.Gets.{Outcome}
 use Rattle.pmg_get.specs.declared.view.Mode.{Mode}
-use Rattle.pmg_rules.specs.Acts.{Request, Act, Reply, Done, Said, signature_of, cause, does, serves, over, said_by, says}
+use Rattle.pmg_get.specs.declared.view.Mode.TheVariants as modes
+use Rattle.pmg_rules.specs.Acts.{Request, Act, Reply, Done, Said, signature_of, cause, waits_as, does, serves, over, said_by, says}
 use Rattle.pmg_rules.specs.Fitting.{Fits, FitsAct, is_refusal, unless_refused, with_said}
 use Rattle.pmg_rules.specs.Holdings.{Get, Standing, Holding, sealer_of, call_of, settled}
 use Rattle.pmg_rules.specs.Sending.{Allowed}
@@ -40,6 +42,12 @@ entry_named : (jobs : Jobs) (n : ℕ) (h : Holding) (p : Proc) (list : List Proc
 unfolding does serves
 entry_named jobs n h p list collect = name_of_entry h.table (signature_of jobs p list collect) p (sealer_of h p).level
 
+-- a get that waits is in no fence
+waits_no_fence : (n : ℕ) (get : Get) (mode : Mode) (f : FenceName) → Some (waits_as n get mode) ≡ Some (Standing.in_fence f) → ⊥
+waits_no_fence n get modes.Wait f e = cc
+waits_no_fence n get modes.Now f e = cc
+waits_no_fence n get modes.Refresh f e = cc
+
 in_fence_named : (jobs : Jobs) (n : ℕ) (h : Holding) (a : Act) (p : Proc) (f : FenceName) (c : Option Standing) → StaysOrMoves jobs n h p a c
     → ((call_of h p ≡ Some (Standing.in_fence f)) → has_name (does jobs n h a).left.table f ≡ true) → c ≡ Some (Standing.in_fence f) → has_name (does jobs n h a).left.table f ≡ true
 in_fence_named jobs n h a p f c (inl same) kept e = kept (sym same ∙ e)
@@ -50,8 +58,8 @@ in_fence_named jobs n h a p f c (inr (Moves.entering list collect is was now)) k
     same = let both : Some (Standing.in_fence (next_name h.table (signature_of jobs p list collect) p)) ≡ Some (Standing.in_fence f) = sym now ∙ e in cc
 in_fence_named jobs n h a p f c (inr (Moves.parking get mode is was answer now)) kept e = absurd (elsewhere (sym now ∙ e))
   where
-    elsewhere : Some (Standing.parked get) ≡ Some (Standing.in_fence f) → ⊥
-    elsewhere z = cc
+    elsewhere : Some (waits_as h.requests get mode) ≡ Some (Standing.in_fence f) → ⊥
+    elsewhere z = waits_no_fence h.requests get mode f z
 in_fence_named jobs n h a p f c (inr (Moves.leaving x gone is was now)) kept e = absurd (elsewhere (sym now ∙ e))
   where
     elsewhere : None ≡ Some (Standing.in_fence f) → ⊥
@@ -59,6 +67,14 @@ in_fence_named jobs n h a p f c (inr (Moves.leaving x gone is was now)) kept e =
 in_fence_named jobs n h a p f c (inr (Moves.taking get outcome is was now)) kept e = absurd (elsewhere (sym now ∙ e))
   where
     elsewhere : None ≡ Some (Standing.in_fence f) → ⊥
+    elsewhere z = cc
+in_fence_named jobs n h a p f c (inr (Moves.taking_anew get outcome is was now)) kept e = absurd (elsewhere (sym now ∙ e))
+  where
+    elsewhere : None ≡ Some (Standing.in_fence f) → ⊥
+    elsewhere z = cc
+in_fence_named jobs n h a p f c (inr (Moves.answering r get number is was its now)) kept e = absurd (elsewhere (sym now ∙ e))
+  where
+    elsewhere : {o : Outcome} → Some (Standing.refreshed get o) ≡ Some (Standing.in_fence f) → ⊥
     elsewhere z = cc
 in_fence_named jobs n h a p f c (inr (Moves.ending is now)) kept e = absurd (elsewhere (sym now ∙ e))
   where
@@ -122,7 +138,7 @@ module _ (jobs : Jobs) (are : AreJobs jobs) (w : World) (good : Good jobs w) (tu
       by_act (λ s g. IsInTurn s p) (turned.turn p) (λ none.
       does_turn jobs w.scripts n (w.nodes n) (good.fits n) p a none (λ home. subst (λ k. PastBy w.scripts (call_of (w.nodes k) p) p) home (turned.past p)) (turned.turn p))
 
-  pub act_turned : (out : List Sent) → Good jobs (world_by jobs are w good n a fit out) → Each (λ s. Allowed jobs n left_now s.frame) out → Turned jobs (world_by jobs are w good n a fit out)
+  pub act_turned : (out : List Sent) → Good jobs (world_by jobs are w good n a fit out) → Each (λ s. Allowed jobs n a left_now s.frame) out → Turned jobs (world_by jobs are w good n a fit out)
   act_turned out after allowed = record {
     named = each_node (λ m h. AreNamed grown h) w.nodes n left_now left_named (λ m away. named_grown w.scripts grown (w.nodes m) grows (turned.named m));
     past = λ p. each_node (λ k h. k ≡ home_of jobs p → PastBy grown (call_of h p) p) w.nodes n left_now (λ at. left_free freed p at)
@@ -130,7 +146,7 @@ module _ (jobs : Jobs) (are : AreJobs jobs) (w : World) (good : Good jobs w) (tu
     turn = turns;
     frames = each_both (λ s. NamesEntered grown s.frame) w.sent out
         (each_still (λ s. NamesEntered w.scripts s.frame) (λ s. NamesEntered grown s.frame) w.sent (λ s. names_grown w.scripts grown grows s.frame) turned.frames)
-        (each_still (λ s. Allowed jobs n left_now s.frame) (λ s. NamesEntered grown s.frame) out (λ s. allowed_named jobs grown n left_now left_named s.frame) allowed);
+        (each_still (λ s. Allowed jobs n a left_now s.frame) (λ s. NamesEntered grown s.frame) out (λ s. allowed_named jobs grown n a left_now left_named s.frame) allowed);
   }
     where
       is_itself : (n == n) ≡ true
@@ -212,7 +228,7 @@ cache_turned jobs w turned answer (Some said) (inr put) false is = put_turned jo
 
 does_turned : (jobs : Jobs) → AreJobs jobs → (w : World) → Good jobs w → Turned jobs w → (d : Doing) → DoingFits jobs w d → DoingNames w d → (r : Reply) (v : World) → Does jobs w d r v → Turned jobs v
 does_turned jobs are w good turned (Doing.at_node n a) fit names r v step =
-    let allowed = subst (λ h. Each (λ s. Allowed jobs n h s.frame) step.out) step.step.left step.step.allowed in
+    let allowed = subst (λ h. Each (λ s. Allowed jobs n a h s.frame) step.out) step.step.left step.step.allowed in
     subst (Turned jobs) (sym (act_world jobs are w good n a fit r v step))
     (act_turned jobs are w good turned n a fit names step.out (act_good jobs are w good n a fit step.out allowed) allowed)
 does_turned jobs are w good turned (Doing.by_cache answer o) fit names r v step =

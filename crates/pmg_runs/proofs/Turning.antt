@@ -205,6 +205,10 @@ module _ (jobs : Jobs) (scripts : Scripts) (n : ℕ) (h : Holding) (fits : Fits 
       past_more scripts (grown_by a) (grows_by a) p (call_of h p) c often (not_in (Some (Standing.released x gone)) was (λ f e. absurd cc) c) past
   idle_past a c (inr (Moves.taking get outcome is was now)) often past =
       past_more scripts (grown_by a) (grows_by a) p (call_of h p) c often (not_in (Some (Standing.answered get outcome)) was (λ f e. absurd cc) c) past
+  idle_past a c (inr (Moves.taking_anew get outcome is was now)) often past =
+      past_more scripts (grown_by a) (grows_by a) p (call_of h p) c often (not_in (Some (Standing.refreshed get outcome)) was (λ f e. absurd cc) c) past
+  idle_past a c (inr (Moves.answering r get number is was its now)) often past =
+      past_more scripts (grown_by a) (grows_by a) p (call_of h p) c often (not_in (Some (Standing.refreshing get number)) was (λ f e. absurd cc) c) past
   idle_past a c (inr (Moves.ending is now)) often past = past_ended scripts (grown_by a) (grows_by a) p c (ended_then a is)
 
   entered_past : (list : List Proc) (collect : Bool) → NoCause (cause jobs n h (Act.request (Request.enter p list collect))) → PastBy scripts (call_of h p) p

@@ -1,15 +1,16 @@
 use Rattle.std.proofs.Common.{refl, sym, ap, ◌∙◌}
-use Rattle.pmg_dmodex.specs.Levels.{with_level}
-use Rattle.pmg_rules.specs.Choosing.{marked_by}
-use Rattle.pmg_holding.proofs.SendLemmas.{no_piece}
+use Rattle.std.specs.Option.{option_map}
+use Rattle.pmg_holding.proofs.SendLemmas.{with_mark, mark_set}
 use Rattle.pmg_holding.proofs.due.set_mark.Goals as goal
 
 pub returns-in_default : goal.returns-in_default
 returns-in_default c =
-    record { ok = no_piece c.args.marks.now c.args.sent.now.to c.args.sent.now.frame c.in_default.not-Piece; back = refl; set = λ h. h }
+    let to = c.args.sent.now.to in
+    let none = sym c.mark_by.ensures ∙ ap (option_map (λ m. (m.0.now, m.1))) c.in_default.is in
+    record { ok = sym (ap (with_mark c.args.marks.now to) none) ∙ mark_set c.args.marks.now to c.args.sent.now.frame; back = refl; set = λ h. h }
 
 pub returns-clause-ok : goal.returns-clause-ok
 returns-clause-ok c =
-    c.in_ok-set_level.ensures.ok
-    ∙ (λ i. with_level c.args.marks.now (c.proc.ensures.value i) c.args.sent.now.to (c.to.ensures.value i))
-    ∙ sym (ap (marked_by c.args.marks.now c.args.sent.now.to) c.in-Piece.is)
+    let to = c.args.sent.now.to in
+    let some = sym c.mark_by.ensures ∙ ap (option_map (λ m. (m.0.now, m.1))) c.in-Some.is in
+    c.in_ok-set_level.ensures.ok ∙ ap (with_mark c.args.marks.now to) (sym some) ∙ mark_set c.args.marks.now to c.args.sent.now.frame

@@ -1,0 +1,95 @@
+-- What an act does to the call of a get that asks anew.
+use Rattle.std.proofs.Common.{◌≡◌, ℕ, Bool, true, false, cond, List, Option, Some, None, refl, sym, ap, subst, ◌∙◌}
+use Rattle.std.specs.Option.{option_map}
+use Rattle.std.proofs.lemmas.Bool.{false≢true}
+use Rattle.pmg_value.specs.Signatures.{FenceName}
+use Rattle.pmg_value.specs.declared.process.Proc.{Proc}
+use Rattle.pmg_frame.specs.Refreshing.{RefreshReply, told_by}
+use Rattle.pmg_frame.specs.declared.frame.Frame.TheVariants as frames
+use Rattle.pmg_jobinfo.specs.Jobs.{Jobs}
+use Rattle.pmg_fence.specs.Tables.{gone_by}
+use Rattle.pmg_get.specs.Gets.{Outcome}
+use Rattle.pmg_get.specs.declared.view.Mode.TheVariants as modes
+use Rattle.pmg_rules.specs.Acts.{Act, Reply, is_taken, done_as, receives, does}
+use Rattle.pmg_rules.specs.Holdings.{Get, Standing, Holding, call_of, with_far, joined, answer_in, is_ready_at, settled_by, released_by, settle, settled}
+use Rattle.pmg_rules.proofs.CallFacts.{call-settled}
+
+-- the call of a get that asks anew
+abbrev pub is_anew : Standing → Bool
+is_anew (Standing.in_fence f) = false
+is_anew (Standing.released f gone) = false
+is_anew (Standing.parked get) = false
+is_anew (Standing.answered get outcome) = false
+is_anew (Standing.refreshing get number) = true
+is_anew (Standing.refreshed get outcome) = true
+
+-- ---- settling leaves it
+
+module _ (jobs : Jobs) (id : ℕ) (h : Holding) (c : Standing) (anew : is_anew c ≡ true) where
+  other_call : (d : Standing) → is_anew d ≡ false → Some d ≡ Some c → ⊥
+  other_call d other e = let same : d ≡ c = cc in false≢true (sym other ∙ ap is_anew same ∙ anew)
+
+  released_other : (b : Bool) (f : FenceName) (gone : List Proc) → Some (released_by b f gone) ≡ Some c → ⊥
+  released_other true f gone e = other_call (Standing.released f gone) refl e
+  released_other false f gone e = other_call (Standing.in_fence f) refl e
+
+  waiting_other : (get : Get) (o : Outcome) → Some (settled_by get o) ≡ Some c → ⊥
+  waiting_other get Outcome.parks e = other_call (Standing.parked get) refl e
+  waiting_other get (Outcome.found value) e = other_call (Standing.answered get (Outcome.found value)) refl e
+  waiting_other get Outcome.absent e = other_call (Standing.answered get Outcome.absent) refl e
+  waiting_other get Outcome.outside e = other_call (Standing.answered get Outcome.outside) refl e
+
+  anew_before : (o : Option Standing) → option_map (settle jobs id h) o ≡ Some c → o ≡ Some c
+  anew_before None e = absurd cc
+  anew_before (Some (Standing.in_fence f)) e = absurd (released_other (is_ready_at jobs id h f) f (gone_by jobs id h.table f) e)
+  anew_before (Some (Standing.released f gone)) e = absurd (other_call (Standing.released f gone) refl e)
+  anew_before (Some (Standing.parked get)) e = absurd (waiting_other get (answer_in jobs id h get modes.Wait) e)
+  anew_before (Some (Standing.answered get outcome)) e = absurd (other_call (Standing.answered get outcome) refl e)
+  anew_before (Some (Standing.refreshing get number)) e = e
+  anew_before (Some (Standing.refreshed get outcome)) e = e
+
+  pub settled_anew : (p : Proc) → call_of (settled jobs id h) p ≡ Some c → call_of h p ≡ Some c
+  settled_anew p e = anew_before (call_of h p) (sym (call-settled jobs id h p) ∙ e)
+
+pub refreshing_settled : (jobs : Jobs) (id : ℕ) (h : Holding) (p : Proc) (get : Get) (number : ℕ) → call_of h p ≡ Some (Standing.refreshing get number)
+    → call_of (settled jobs id h) p ≡ Some (Standing.refreshing get number)
+refreshing_settled jobs id h p get number e = call-settled jobs id h p ∙ ap (option_map (settle jobs id h)) e
+
+pub refreshed_settled : (jobs : Jobs) (id : ℕ) (h : Holding) (p : Proc) (get : Get) (outcome : Outcome) → call_of h p ≡ Some (Standing.refreshed get outcome)
+    → call_of (settled jobs id h) p ≡ Some (Standing.refreshed get outcome)
+refreshed_settled jobs id h p get outcome e = call-settled jobs id h p ∙ ap (option_map (settle jobs id h)) e
+
+-- ---- a reply answers it
+
+-- once the reply is taken
+abbrev replied_to : Jobs → ℕ → Holding → RefreshReply → Bool → Holding
+replied_to jobs id h r taken = (cond taken (done_as Reply.taken (receives jobs id h (frames.RefreshReply r))) (done_as Reply.ignored h)).left
+
+module _ (jobs : Jobs) (id : ℕ) (h : Holding) (p : Proc) (r : RefreshReply) (get : Get) (number : ℕ) (outcome : Outcome) (was : call_of h p ≡ Some (Standing.refreshing get number)) where
+  -- where the get is answered, the reply was taken
+  taken_if : (b : Bool) → is_taken jobs id (frames.RefreshReply r) ≡ b → call_of (replied_to jobs id h r b) p ≡ Some (Standing.refreshed get outcome)
+      → is_taken jobs id (frames.RefreshReply r) ≡ true
+  taken_if true is now = is
+  taken_if false is now = absurd (apart (sym was ∙ now))
+    where
+      apart : Some (Standing.refreshing get number) ≡ Some (Standing.refreshed get outcome) → ⊥
+      apart e = cc
+
+  pub was_taken : (a : Act) → a ≡ Act.deliver (frames.RefreshReply r) → call_of (does jobs id h a).left p ≡ Some (Standing.refreshed get outcome)
+      → is_taken jobs id (frames.RefreshReply r) ≡ true
+  unfolding does
+  was_taken a is now =
+      taken_if (is_taken jobs id (frames.RefreshReply r)) refl (subst (λ x. call_of (does jobs id h x).left p ≡ Some (Standing.refreshed get outcome)) is now)
+
+  -- with what is known then
+  known_then : (b : Bool) → b ≡ true → answer_in jobs id (with_far h (joined h.far (told_by r))) get modes.Now ≡ answer_in jobs id (replied_to jobs id h r b) get modes.Now
+  unfolding receives
+  known_then true is = refl
+  known_then false is = absurd (false≢true is)
+
+  pub answer_anew : (a : Act) → a ≡ Act.deliver (frames.RefreshReply r) → call_of (does jobs id h a).left p ≡ Some (Standing.refreshed get outcome)
+      → answer_in jobs id (with_far h (joined h.far (told_by r))) get modes.Now ≡ answer_in jobs id (does jobs id h a).left get modes.Now
+  unfolding does
+  answer_anew a is now =
+      subst (λ x. answer_in jobs id (with_far h (joined h.far (told_by r))) get modes.Now ≡ answer_in jobs id (does jobs id h x).left get modes.Now) (sym is)
+      (known_then (is_taken jobs id (frames.RefreshReply r)) (was_taken a is now))
