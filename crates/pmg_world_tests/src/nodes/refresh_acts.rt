@@ -154,8 +154,8 @@ const ROWS: &[Row] = &[
  NotFound
 0 refresh j1 j* pmix.job.size
  found u32:3
-0 refresh j1 j2 pmix.lrank
- found u16:0
+0 refresh j1 j2 pmix.rank
+ found rank:2
 0 refresh j1 j2 pmix.nothing
  NotFound
 0 refresh j1 j2 a
