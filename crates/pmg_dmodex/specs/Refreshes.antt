@@ -17,6 +17,7 @@ coded_refreshes =
     code_by (ℕ × finite.FinMap nat_cmp (Proc × Proc)) (coded× coded_ℕ (finite.code coded_ℕ (coded× coded_proc coded_proc))) (λ r. (r.last, r.waiting))
     (λ p. record { last = p.0; waiting = p.1 }) (λ _. refl)
 
+-- none was made
 abbrev pub no_refreshes : Refreshes
 no_refreshes = record { last = 0; waiting = finite.empty }
 

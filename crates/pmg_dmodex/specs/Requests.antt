@@ -23,6 +23,7 @@ coded_requests =
 abbrev pub no_requests : Requests
 no_requests = record { asked = finite.empty; held = finite.empty; anew = no_refreshes }
 
+-- the requests, of gets that ask anew these
 abbrev pub with_anew : Requests → Refreshes → Requests
 with_anew r anew = record { asked = r.asked; held = r.held; anew = anew }
 

@@ -214,3 +214,40 @@ fn an_asker_waits_for_its_last_key(rt: HostRuntime) {
     );
     assert!(rt; copy.get(&zero, &one).is_none());
 }
+
+// The number under which the process of rank 0 asks anew for commits of that of rank 1.
+fn request(rt: &impl Abort, alloc: Global, pending: &mut Pending) -> u64 {
+    let (zero, one) = (process(rt, alloc, 0), process(rt, alloc, 1));
+    pending.request(&zero, &one).expect(rt, MEMORY)
+}
+
+#[test]
+fn requests_are_counted_from_one(rt: HostRuntime) {
+    let alloc = rt.alloc();
+    let mut pending = Pending::new(alloc);
+    assert!(rt; pending.last_request() == 0);
+    assert!(rt; request(&rt, alloc, &mut pending) == 1);
+    assert!(rt; request(&rt, alloc, &mut pending) == 2);
+    assert!(rt; pending.last_request() == 2);
+}
+
+#[test]
+fn a_reply_is_to_its_number_and_process(rt: HostRuntime) {
+    let alloc = rt.alloc();
+    let mut pending = Pending::new(alloc);
+    let number = request(&rt, alloc, &mut pending);
+    let (zero, one) = (process(&rt, alloc, 0), process(&rt, alloc, 1));
+    let copy = pending.copy().expect(&rt, MEMORY);
+    assert!(rt; pending.answered(number, &zero).is_none());
+    assert!(rt; pending.answered(number + 1, &one).is_none());
+    assert!(rt;
+        pending
+            .answered(number, &one)
+            .is_some_and(|asker| asker == zero)
+    );
+    assert!(rt; pending.asker_of(number, &one).is_none());
+    assert!(rt;
+        copy.asker_of(number, &one)
+            .is_some_and(|asker| *asker == zero)
+    );
+}

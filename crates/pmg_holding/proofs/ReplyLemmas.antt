@@ -13,20 +13,22 @@ use Rattle.pmg_value.specs.Spelling.{spelling}
 use Rattle.pmg_value.specs.declared.process.Proc.{Proc}
 use Rattle.pmg_value.proofs.ListLemmas.{in_append_left, in_append_right, in_parts}
 use Rattle.pmg_value.proofs.ProcessOrder.{procs_total, exact_procs}
-use Rattle.pmg_commit.specs.Data.{read_at}
+use Rattle.pmg_commit.specs.Data.{Data, read_at}
 use Rattle.pmg_commit.proofs.HonestLaws.{some_is}
 use Rattle.pmg_frame.specs.FenceOrder.{name_cmp}
 use Rattle.pmg_jobinfo.specs.Jobs.{Jobs}
 use Rattle.pmg_jobinfo.specs.Reserved.{reserved_value}
-use Rattle.pmg_fence.specs.Tables.{gone_by}
+use Rattle.pmg_fence.specs.Tables.{Fences, gone_by}
 use Rattle.pmg_get.specs.Gets.{Seen, resolve}
 use Rattle.pmg_get.specs.declared.view.Mode.TheVariants as modes
 use Rattle.pmg_holding.specs.Answered.{ArePlain, ArePlainAnew, IsAsker, standings, outcome_then, still_waits, replied_by, replied_to, gets_answered, released_all, answered_about}
+use Rattle.pmg_holding.specs.Answering.{AreAskedAgain}
 use Rattle.pmg_holding.specs.Calls.{anew_of, asks_on, all_parked_on, waits_in, all_waiting_in, all_waited, all_instead}
 use Rattle.pmg_holding.specs.Codes.{Calls}
-use Rattle.pmg_rules.specs.Choosing.{waited}
-use Rattle.pmg_rules.specs.Holdings.{Get, Standing, Holding, plain_seen, seen_of, answer_in, is_ready_at, is_replied, answer_reply, mapped}
+use Rattle.pmg_rules.specs.Choosing.{waited, asking, asking_again, is_parked_on}
+use Rattle.pmg_rules.specs.Holdings.{Get, Standing, Holding, plain_seen, seen_of, answer_in, is_ready_at, with_calls, is_replied, answer_reply, mapped}
 use Rattle.pmg_rules.specs.Kept.{is_about, settle_where}
+use Rattle.pmg_rules.specs.declared.due.Due.{Due}
 use Rattle.pmg_holding.specs.declared.call.Settled.{Settled}
 use Rattle.pmg_holding.proofs.AnswerLemmas.{answers_are, about_right, about_there}
 use Rattle.pmg_holding.proofs.AskAgain.{entries_mapped}
@@ -265,3 +267,69 @@ module _ (jobs : Jobs) (id : ℕ) (h : Holding) (number : ℕ) (q : Proc) where
                     | inl stays ↦ inl (same ∙ stays)
                     | inr i ↦ inr (subst (λ x. In (p, x) (standings answers)) (sym same) (subst (In (p, then_is s)) (sym told) (in_append_right about (replied asker) (p, then_is s) i)))
                   ]
+
+-- ---- homes that are asked again
+
+module _ (jobs : Jobs) (id : ℕ) (number : ℕ) (q : Proc) (h : Holding) where
+  -- a get waits for a key of the process then where it would without the reply
+  same_parked : (s : Standing) → is_parked_on q (settle_where jobs id h (is_about q) (answer_reply jobs id h number q s)) ≡ is_parked_on q (settle_where jobs id h (is_about q) s)
+  same_parked (Standing.in_fence f) = refl
+  same_parked (Standing.released f gone) = refl
+  same_parked (Standing.parked get) = refl
+  same_parked (Standing.answered get outcome) = refl
+  same_parked (Standing.refreshing get waits_for) = by_reply (is_replied number q get waits_for)
+    where
+      by_reply : (b : Bool) → is_parked_on q (settle_where jobs id h (is_about q) (if b then Standing.refreshed get (answer_in jobs id h get modes.Now) else Standing.refreshing get waits_for)) ≡ false
+      by_reply true = refl
+      by_reply false = refl
+  same_parked (Standing.refreshed get outcome) = refl
+
+  -- a row of the calls as it is then
+  abbrev after_reply : Proc × Standing → Proc × Standing
+  after_reply e = (e.0, answer_reply jobs id h number q e.1)
+
+  abbrev after_settling : Proc × Standing → Proc × Standing
+  after_settling e = (e.0, settle_where jobs id h (is_about q) e.1)
+
+  abbrev asks_where : Holding → Proc × Standing → List Due
+  asks_where k e = if is_parked_on q e.1 then asking jobs id k q else []
+
+  asks_alike : (k : Holding) (rows : List (Proc × Standing))
+      → flat_map (asks_where k) (map after_settling (map after_reply rows))
+      ≡ flat_map (asks_where k) (map after_settling rows)
+  asks_alike k [] = refl
+  asks_alike k (e ∷ rows) = λ i. (if same_parked e.1 i then asking jobs id k q else []) ++ asks_alike k rows i
+
+  -- what is due where more of the process is known is due where the reply has come too
+  pub asked_again_then : (table : Fences) (near far : Data) (all : Calls) (dues : List Due) → AreAskedAgain jobs id q table near far all dues
+      → h.table ≡ table → h.near ≡ near → h.far ≡ far → h.calls ≡ mapped (settle_where jobs id h (is_about q)) (mapped (answer_reply jobs id h number q) all)
+      → dues ≡ asking_again jobs id h q
+  asked_again_then table near far all dues are same_table same_near same_far calls =
+      let settles = settle_where jobs id h (is_about q) in
+      let reply = answer_reply jobs id h number q in
+      are (with_calls h (mapped settles all)) same_table same_near same_far (settled_alike (mapped settles all))
+      ∙ ap (flat_map (asks_where h)) (entries_mapped settles all)
+      ∙ sym (asks_alike h (finite.entries all))
+      ∙ ap (λ (rows : List (Proc × Standing)). flat_map (asks_where h) (map after_settling rows)) (sym (entries_mapped reply all))
+      ∙ ap (flat_map (asks_where h)) (sym (entries_mapped settles (mapped reply all)))
+      ∙ ap (λ (m : Calls). flat_map (asks_where h) (finite.entries m)) (sym calls)
+    where
+      -- what calls come to does not depend on the calls
+      settle_alike : (others : Calls) (s : Standing) → settle_where jobs id h (is_about q) s ≡ settle_where jobs id (with_calls h others) (is_about q) s
+      settle_alike others (Standing.in_fence f) = refl
+      settle_alike others (Standing.released f gone) = refl
+      settle_alike others (Standing.parked get) = refl
+      settle_alike others (Standing.answered get outcome) = refl
+      settle_alike others (Standing.refreshing get number) = refl
+      settle_alike others (Standing.refreshed get outcome) = refl
+
+      same_after : (others : Calls) (o : Option Standing)
+          → option_map (settle_where jobs id h (is_about q)) o ≡ option_map (settle_where jobs id (with_calls h others) (is_about q)) o
+      same_after others None = refl
+      same_after others (Some s) = ap Some (settle_alike others s)
+
+      settled_alike : (others : Calls) → mapped (settle_where jobs id h (is_about q)) all ≡ mapped (settle_where jobs id (with_calls h others) (is_about q)) all
+      settled_alike others = finite.same_map procs_total exact_procs (mapped (settle_where jobs id h (is_about q)) all)
+          (mapped (settle_where jobs id (with_calls h others) (is_about q)) all) (λ p.
+          get-mapped (settle_where jobs id h (is_about q)) all p ∙ same_after others (finite.get all p)
+          ∙ sym (get-mapped (settle_where jobs id (with_calls h others) (is_about q)) all p))

@@ -58,6 +58,7 @@ abbrev pub anew_in : Standing → Option (Get × ℕ)
 anew_in (Standing.refreshing get number) = Some (get, number)
 anew_in _ = None
 
+-- if there is a call
 abbrev pub anew_of : Option Standing → Option (Get × ℕ)
 anew_of None = None
 anew_of (Some standing) = anew_in standing

@@ -285,7 +285,7 @@ no_cause_at : (test : Refusal → Bool) (e x : Refusal) → test e ≡ true → 
 no_cause_at test e x is not same = false≢true (sym not ∙ ap test (sym same) ∙ is)
 
 -- no get is refused for a cause that would be an answer
-refused_silent : (jobs : Jobs) (id : ℕ) (h : Holding) (p : Proc) (r : Request) (e : Refusal) → hears p r ≡ true → request_cause jobs id h r e ≡ true → outcome_of (Reply.refused e) ≡ None
+pub refused_silent : (jobs : Jobs) (id : ℕ) (h : Holding) (p : Proc) (r : Request) (e : Refusal) → hears p r ≡ true → request_cause jobs id h r e ≡ true → outcome_of (Reply.refused e) ≡ None
 unfolding request_cause
 refused_silent jobs id h p (Request.enter by list collect) e hear is = absurd (false≢true hear)
 refused_silent jobs id h p (Request.leave by) e hear is = absurd (false≢true hear)

@@ -8,6 +8,9 @@ pub mod Seeing
 pub mod Replied
 pub mod Hearing
 pub mod Rising
+pub mod StepView
+pub mod Counting
+pub mod Refreshed
 pub mod Naming
 pub mod Turning
 pub mod Turned

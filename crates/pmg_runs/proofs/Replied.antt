@@ -93,3 +93,13 @@ module _ (jobs : Jobs) (id : ℕ) (h : Holding) (p : Proc) (r : RefreshReply) (g
   answer_anew a is now =
       subst (λ x. answer_in jobs id (with_far h (joined h.far (told_by r))) get modes.Now ≡ answer_in jobs id (does jobs id h x).left get modes.Now) (sym is)
       (known_then (is_taken jobs id (frames.RefreshReply r)) (was_taken a is now))
+
+  far_of : (b : Bool) → b ≡ true → joined h.far (told_by r) ≡ (replied_to jobs id h r b).far
+  unfolding receives
+  far_of true is = refl
+  far_of false is = absurd (false≢true is)
+
+  pub far_then : (a : Act) → a ≡ Act.deliver (frames.RefreshReply r) → call_of (does jobs id h a).left p ≡ Some (Standing.refreshed get outcome)
+      → joined h.far (told_by r) ≡ (does jobs id h a).left.far
+  unfolding does
+  far_then a is now = subst (λ x. joined h.far (told_by r) ≡ (does jobs id h x).left.far) (sym is) (far_of (is_taken jobs id (frames.RefreshReply r)) (was_taken a is now))

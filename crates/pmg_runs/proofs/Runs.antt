@@ -20,7 +20,7 @@ run_good jobs are (x ∷ xs) w v good run = run_good jobs are xs run.0 v (step_g
 pub always_good : AlwaysGood
 always_good jobs are xs w run = run_good jobs are xs (start jobs) w (start_good jobs) run
 
-each_in : (P : Sent → Type 0) (xs : List Sent) (s : Sent) → Each P xs → In s xs → P s
+pub each_in : (P : Sent → Type 0) (xs : List Sent) (s : Sent) → Each P xs → In s xs → P s
 each_in P [] s each i = absurd i
 each_in P (x ∷ xs) s each (inl is) = subst P (sym is) each.0
 each_in P (x ∷ xs) s each (inr i) = each_in P xs s each.1 i

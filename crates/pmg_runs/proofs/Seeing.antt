@@ -68,15 +68,3 @@ now_answers (Seen.local None (Some v) ended) e = cc
 now_answers (Seen.local None None ended) e = cc
 now_answers (Seen.remote None ended) e = cc
 now_answers (Seen.remote (Some v) ended) e = cc
-
--- one that asks anew, and waits, is of a process on another node
-pub anew_is_remote : (x : Seen) → resolve x modes.Refresh ≡ Outcome.parks → (value : Option (List ℕ)) × (ended : Bool) × (x ≡ Seen.remote value ended)
-unfolding resolve
-anew_is_remote (Seen.reserved None) e = absurd cc
-anew_is_remote (Seen.reserved (Some v)) e = absurd cc
-anew_is_remote (Seen.own None) e = absurd cc
-anew_is_remote (Seen.own (Some v)) e = absurd cc
-anew_is_remote (Seen.local (Some v) other ended) e = absurd cc
-anew_is_remote (Seen.local None (Some v) ended) e = absurd cc
-anew_is_remote (Seen.local None None ended) e = absurd cc
-anew_is_remote (Seen.remote value ended) e = (value, ended, refl)

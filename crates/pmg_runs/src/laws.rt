@@ -8,6 +8,7 @@ ghost use Rattle.pmg_runs.specs.Laws.{
   ReleasedAlike,
   GetsRise,
 };
+ghost use Rattle.pmg_runs.specs.Refreshes.{RefreshTheorem};
 ghost use Rattle.pmg_runs.specs.Turns.{NamesWereEntered, AlwaysInTurn};
 
 /// What holds over every interleaving of the steps of a group, whatever frames are delivered, when, how often, or never. What
@@ -15,7 +16,8 @@ ghost use Rattle.pmg_runs.specs.Turns.{NamesWereEntered, AlwaysInTurn};
 /// header, and each fence whose name a node has was entered. No process runs past a fence that is not over. Nobody is released
 /// from a fence before each participant has entered or is gone, and all who are released are told the same. Who was released
 /// from a fence that collects data is answered what each participant had sealed before it entered, or something later; and what
-/// one process is answered about another never falls back.
+/// one process is answered about another never falls back. A get that asks the home of its target anew, and waits for the reply, is
+/// answered what the target had sealed when the get began, or something later (PMIx Standard 5.0, PMIX_GET_REFRESH_CACHE).
 pub fn every_interleaving()
     ensures always_good { AlwaysGood }
     ensures scripts_are_told { ScriptsAreTold }
@@ -26,6 +28,7 @@ pub fn every_interleaving()
     ensures released_whole { ReleasedWhole }
     ensures released_alike { ReleasedAlike }
     ensures gets_rise { GetsRise }
+    ensures refresh_theorem { RefreshTheorem }
 {}
 
 /// Three runs of two nodes with a process each, step by step. In the first, one process ends; the other enters a fence of both that

@@ -1,4 +1,5 @@
 use Rattle.pmg_runs.proofs.Leaving.{released_whole, released_alike}
+use Rattle.pmg_runs.proofs.Refreshed.{refresh_theorem}
 use Rattle.pmg_runs.proofs.Rising.{fence_theorem, gets_rise}
 use Rattle.pmg_runs.proofs.Runs.{always_good, one_header}
 use Rattle.pmg_runs.proofs.ToldScripts.{scripts_are_told}
@@ -16,4 +17,5 @@ returns c = record {
   released_whole = released_whole;
   released_alike = released_alike;
   gets_rise = gets_rise;
+  refresh_theorem = refresh_theorem;
 }
