@@ -14,7 +14,7 @@ use Rattle.pmg_world.specs.KeptLaws.{scripts_told, leaves_with, asks_with, takes
 use Rattle.pmg_runs.specs.Laws.{AnswersRise, answers, seen_at}
 use Rattle.pmg_runs.specs.Worlds.{World, Doing, Does, Happened, Step, Run, doing, start}
 use Rattle.pmg_runs.proofs.Leaving.{released_whole, released_alike}
-use Rattle.pmg_runs.proofs.Refreshing.{refresh_theorem}
+use Rattle.pmg_runs.proofs.Refreshed.{refresh_theorem}
 use Rattle.pmg_runs.proofs.Rising.{fence_theorem, gets_rise}
 use Rattle.pmg_runs.proofs.ToldScripts.{scripts_are_told}
 
