@@ -1,6 +1,6 @@
 -- A call that waited is not told to wait.
-use Rattle.std.specs.Prelude.{IfOk, IfSome, OnOk}
-use Rattle.std.proofs.Common.{Bor, ◌≡◌, inl, inr, ℕ, Bool, true, false, ◌==◌, ◌&&◌, ◌||◌, not, cond, Option, Some, None, Result, Ok, Err, refl, sym, ap, subst, ◌∙◌}
+use Rattle.std.specs.Prelude.{IfOk, IfSome}
+use Rattle.std.proofs.Common.{Bor, ◌≡◌, inl, inr, ℕ, Bool, true, false, ◌==◌, ◌&&◌, not, cond, Option, Some, None, Result, Ok, Err, refl, sym, ap, subst, ◌∙◌}
 use Rattle.std.specs.Option.{option_map}
 use Rattle.std.proofs.lemmas.Option.{same_Some}
 use Rattle.pmg_value.specs.Names.{is_reserved}
@@ -10,7 +10,7 @@ use Rattle.pmg_value.specs.declared.refusal.Refusal.TheVariants as refusals
 use Rattle.pmg_jobinfo.specs.Jobs.{Jobs, home_of, is_member, is_registered}
 use Rattle.pmg_get.specs.Gets.{Outcome}
 use Rattle.pmg_rules.specs.Acts.{Act, Done, Reply, Request, Status, caller_cause, cause, does, is_misnamed, leaves, over, request_cause, serves, status_by, status_of, takes}
-use Rattle.pmg_rules.specs.Holdings.{Holding, Standing, call_of, sealer_of}
+use Rattle.pmg_rules.specs.Holdings.{Holding, Standing, call_of}
 use Rattle.pmg_rules.proofs.CauseFacts.{NoCause, by_causes, caller_is, neither}
 use Rattle.pmg_node.specs.Acting.{reply_as}
 use Rattle.pmg_node.specs.Replies.{release_reply, status_in, taking_reply}

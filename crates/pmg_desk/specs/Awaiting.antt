@@ -1,5 +1,5 @@
 -- What a call that waits is answered.
-use Rattle.std.specs.Prelude.{◌≡◌, Option, Some, None}
+use Rattle.std.specs.Prelude.{◌≡◌, Option, Some}
 use Rattle.pmg_value.specs.declared.process.Proc.{Proc}
 use Rattle.pmg_rules.specs.Acts.{Act, Reply, Status, status_of}
 use Rattle.pmg_node.specs.Replies.{status_in}

@@ -1,4 +1,4 @@
-use Rattle.std.proofs.Common.{rules, ◌≡◌, Some, sym, ◌∙◌}
+use Rattle.std.proofs.Common.{rules, ◌≡◌, sym, ◌∙◌}
 use Rattle.std.proofs.lemmas.Option.{none-some, same_Some}
 use Rattle.pmg_desk.proofs.WaitLemmas.{frames_there, nothing_there, past_there}
 use Rattle.pmg_desk.proofs.lock.Awaited.is_there.Goals as goal
