@@ -1,4 +1,4 @@
-use Rattle.std.proofs.Common.{List, ◌++◌, sym, ap, subst, append-nil, ◌∙◌}
+use Rattle.std.proofs.Common.{List, ◌++◌, refl, sym, ap, subst, append-nil, ◌∙◌}
 use Rattle.pmg_frame.specs.declared.frame.Frame.{Frame}
 use Rattle.pmg_frame.specs.declared.frame.Frame.TheVariants as frames
 use Rattle.pmg_rules.specs.Acts.{Act, Done}

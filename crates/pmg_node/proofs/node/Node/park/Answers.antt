@@ -1,4 +1,4 @@
-use Rattle.std.proofs.Common.{List, ◌++◌, sym, ap, subst, ◌∙◌}
+use Rattle.std.proofs.Common.{List, ◌++◌, refl, sym, ap, subst, ◌∙◌}
 use Rattle.std.specs.FinMap as finite
 use Rattle.pmg_get.specs.declared.view.Mode.TheVariants as modes
 use Rattle.pmg_rules.specs.Acts.{Act, Request}
