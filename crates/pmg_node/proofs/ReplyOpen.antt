@@ -133,8 +133,8 @@ module _ (jobs : Jobs) (id : ℕ) (h : Holding) (number : ℕ) (q : Proc) where
   pub replied_open : (calls : Calls) (anew : Refreshes) → AreOpen calls anew
       → AreOpen (mapped (settle_where jobs id h (is_about q)) (mapped (answer_reply jobs id h number q) calls)) (answered anew number q)
   replied_open calls anew are p get k e =
-      let then = mapped (answer_reply jobs id h number q) calls in
-      let was = mapped_some (settle_where jobs id h (is_about q)) (finite.get then p) (Standing.refreshing get k) (sym (get-mapped (settle_where jobs id h (is_about q)) then p) ∙ e) in
+      let replied = mapped (answer_reply jobs id h number q) calls in
+      let was = mapped_some (settle_where jobs id h (is_about q)) (finite.get replied p) (Standing.refreshing get k) (sym (get-mapped (settle_where jobs id h (is_about q)) replied p) ∙ e) in
       let still = was.1 ∙ ap Some (later_refreshing was.0 get k was.2) in
       let before = mapped_some (answer_reply jobs id h number q) (finite.get calls p) (Standing.refreshing get k) (sym (get-mapped (answer_reply jobs id h number q) calls p) ∙ still) in
       let same = reply_refreshing jobs id h number q before.0 get k before.2 in

@@ -90,8 +90,8 @@ module _ (jobs : Jobs) (id : ℕ) (h : Holding) (number : ℕ) (q : Proc) where
       by_test false = refl
 
   rows_alike : (x : List Due) (rows : List (Proc × Standing))
-      → flat_map (λ (e : Proc × Standing). if is_parked_on q e.1 then x else []) (map (λ e. (e.0, later e.1)) (map (λ e. (e.0, answer_reply jobs id h number q e.1)) rows))
-      ≡ flat_map (λ (e : Proc × Standing). if is_parked_on q e.1 then x else []) (map (λ e. (e.0, later e.1)) rows)
+      → flat_map (λ (e : Proc × Standing). if is_parked_on q e.1 then x else []) (map (λ (e : Proc × Standing). (e.0, later e.1)) (map (λ (e : Proc × Standing). (e.0, answer_reply jobs id h number q e.1)) rows))
+      ≡ flat_map (λ (e : Proc × Standing). if is_parked_on q e.1 then x else []) (map (λ (e : Proc × Standing). (e.0, later e.1)) rows)
   rows_alike x [] = refl
   rows_alike x (e ∷ rows) = λ i. (if replied_alike e.1 i then x else []) ++ rows_alike x rows i
 
@@ -177,9 +177,9 @@ module _ (s : Server) (r : RefreshReply) (taken : is_taken s.jobs s.id (frames.R
     unfolding due_by due_by_frame
     reply_asks p same dues are more =
         let settled_calls = mapped (settle_where s.jobs s.id grown (is_about p)) s.holding.calls in
-        let then = with_calls grown settled_calls in
+        let soon = with_calls grown settled_calls in
         let left = with_calls grown (after s a).holding.calls in
-        are then refl refl refl (mapped_calls s.jobs s.id grown settled_calls (is_about p) s.holding.calls)
+        are soon refl refl refl (mapped_calls s.jobs s.id grown settled_calls (is_about p) s.holding.calls)
         ∙ ap (λ (x : Proc). asking_again s.jobs s.id (with_calls grown (mapped (settle_where s.jobs s.id grown (is_about x)) s.holding.calls)) x) same
         ∙ sym (asked_alike s.jobs s.id grown r.request q (asking s.jobs s.id grown q) s.holding.calls)
         ∙ ap (λ (m : Calls). flat_map (λ (e : Proc × Standing). if is_parked_on q e.1 then asking s.jobs s.id grown q else []) (finite.entries m)) (sym reply_calls)

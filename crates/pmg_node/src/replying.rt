@@ -110,7 +110,7 @@ impl Node {
         told: Option<&'a Piece>,
     ) -> Result<Vec<(Proc, Settled)>, AllocError>
         requires taken { is_taken self.now.jobs self.now.id (frames.RefreshReply reply.now) ≡ true }
-        requires told { option_map (λ c. c.now) told.entry ≡ told_by reply.now }
+        requires told { option_map (λ c. c.now) told ≡ told_by reply.now }
         ensures { IfOk result (λ answers. all_instead self.now.holding.calls answers.items
             ≡ (after self.now (Act.deliver (frames.RefreshReply reply.now))).holding.calls) }
     {
@@ -141,7 +141,7 @@ impl Node {
         told: Option<&'a Piece>,
     ) -> Result<Vec<Due>, AllocError>
         requires taken { is_taken self.now.jobs self.now.id (frames.RefreshReply reply.now) ≡ true }
-        requires told { option_map (λ c. c.now) told.entry ≡ told_by reply.now }
+        requires told { option_map (λ c. c.now) told ≡ told_by reply.now }
         ensures { IfOk result (λ dues. dues.items ≡ due_by self.now.jobs self.now.id self.now.holding
             (Act.deliver (frames.RefreshReply reply.now)) (after self.now (Act.deliver (frames.RefreshReply reply.now))).holding) }
     {

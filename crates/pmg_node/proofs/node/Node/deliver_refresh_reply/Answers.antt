@@ -43,7 +43,7 @@ returns-then-not-is_replied-clause-sent c =
     let its = ignores s (subst IsNode c.self.view_is c.self.invariant.node) frame none in
     sym (append-nil c.args.out.now.items) ∙ ap (λ (x : List Sent). c.args.out.now.items ++ x) (sym its.sent)
 
-module _ (c : goal.After-answered) where
+module _ (c : goal.Joined-told-5) where
   abbrev r : RefreshReply
   r = c.args.reply.now
 
@@ -51,7 +51,7 @@ module _ (c : goal.After-answered) where
   was = server_of c.self.inside.table c.self.inside.id c.self.inside.board c.self.inside.own c.self.inside.calls c.self.inside.held c.self.inside.marks
 
   told_is : option_map (λ p. p.now) c.as_ref-3.result ≡ told_by r
-  told_is = ?
+  told_is = c.as_ref-3.ensures.value ∙ c.into_piece-told.ensures ∙ ap told_by c.in_ok-copy.ensures
 
   held_is : c.answered.new.self ≡ with_anew c.self.inside.held (answered c.self.inside.held.anew r.request r.told.proc)
   held_is = c.answered.ensures.left ∙ (λ i. with_anew c.self.inside.held (answered c.self.inside.held.anew (c.request.ensures i) (c.proc.ensures i)))
