@@ -274,7 +274,6 @@ waiting_settled jobs id h is p get modes.Refresh waits = record {
   gets = λ q other e. put_cases h.calls p q (Standing.refreshing get (suc h.requests)) (Standing.parked other) e (λ same it. absurd cc) (is.gets q other);
 }
 
-
 -- what the get is answered at the node
 abbrev pub answer_at : Server → Get → Mode → Outcome
 answer_at s get mode = answer_in s.jobs s.id s.holding get mode

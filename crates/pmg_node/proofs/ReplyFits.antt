@@ -1,6 +1,7 @@
 -- What a node replies to another one that asks anew fits a frame.
-use Rattle.std.proofs.Common.{◌≡◌, ◌<◌, ◌≤◌, ℕ, arith, true, ◌||◌, [], length, refl, sym, ap, ◌∙◌}
-use Rattle.std.proofs.lemmas.Bool.{and_parts, and_from, or_left, or_right, le-leb, eq-eqb}
+use Rattle.std.proofs.Common.{◌≡◌, ◌<◌, ◌≤◌, ◌+◌, ℕ, arith, true, ◌||◌, List, [], length, refl, sym, ap, ◌∙◌}
+use Rattle.std.proofs.lemmas.Bool.{and_parts, and_from, leb-true, or_left, or_right, le-leb, eq-eqb}
+use Rattle.pmg_value.specs.Names.{is_nspace}
 use Rattle.pmg_value.specs.Process.{is_client, is_host}
 use Rattle.pmg_value.specs.declared.process.Proc.{Proc}
 use Rattle.pmg_scope.specs.declared.scope.Reach.TheVariants as reach
@@ -9,6 +10,10 @@ use Rattle.pmg_commit.specs.Sealed.{Sealed, newer_than, piece_at}
 use Rattle.pmg_commit.specs.Stamped.{IsSealer}
 use Rattle.pmg_commit.proofs.SealerFacts.{newer_fits, newer_is_piece, none_newer}
 use Rattle.pmg_frame.specs.Refreshing.{refresh_reply, no_commits, is_request, is_refresh_reply}
+
+-- a namespace's name is no longer than that
+pub short_name : (name : List ℕ) → is_nspace name ≡ true → length name ≤ 255
+short_name name is = leb-true (length name) 255 (and_parts _ _ (and_parts _ _ is).0).1
 
 -- of commits that were made
 pub told_fits : (node request : ℕ) (z : Sealed) (from : ℕ) → IsSealer z → length z.proc.nspace ≤ 255 → is_request request ≡ true → from < z.level

@@ -68,13 +68,7 @@ impl Node {
     }
 
     /// Judges a get: who asks, for whose key, and that there is a number for the request where one is sent.
-    fn check_ask(
-        &self,
-        proc: &Proc,
-        target: &Proc,
-        key: &Key,
-        mode: Mode,
-    ) -> Result<(), Refusal>
+    fn check_ask(&self, proc: &Proc, target: &Proc, key: &Key, mode: Mode) -> Result<(), Refusal>
         ensures value { result ≡ first_of (also (free_cause self.now.jobs self.now.id self.now.holding proc.now)
             (also (target_cause self.now.jobs proc.now (get_of target.now key.now))
             (number_cause self.now.jobs self.now.id self.now.holding (get_of target.now key.now) mode))) tt }

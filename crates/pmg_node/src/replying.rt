@@ -34,6 +34,8 @@ fn reply_of(alloc: Global, own: &Own, ask: &RefreshAsk) -> Result<RefreshReply, 
     let node = ask.ask().node();
     let proc = ask.ask().proc();
     let level = ask.ask().level();
+    // No effect at run time: the proof reads here how long the name is.
+    let _name = proc.nspace.as_bytes();
     if level < own.level(proc) {
         let piece = own.piece(proc, level, Reach::Far)?;
         let (proc, from, to, entries) = piece.into_parts();
@@ -88,7 +90,14 @@ impl Node {
         }
         let alloc = self.table.registry().allocator();
         let dues = reply_due(alloc, &self.own, ask)?;
-        hand_out(alloc, &self.own, &mut self.marks, Some(ask.ask()), dues, out)?;
+        hand_out(
+            alloc,
+            &self.own,
+            &mut self.marks,
+            Some(ask.ask()),
+            dues,
+            out,
+        )?;
         Ok(Delivery::Taken)
     }
 
