@@ -3,7 +3,7 @@ from failing import PROGRAM, run
 
 BODY_LIMIT = 16_777_216
 ALLOWED = 8
-PIECE, HEADER, FENCE_ASK, RANGE_ASK, DIRECT_ASK = range(1, 6)
+PIECE, HEADER, FENCE_ASK, RANGE_ASK, DIRECT_ASK, REFRESH = range(1, 7)
 
 
 def u16(number):
@@ -40,6 +40,7 @@ def frame(kind, body, size=None):
 
 START = proc(0) + u64(0) + u64(1)
 VALUE = START + u32(1) + entry(0, b"")
+REFRESHED = u32(1) + u64(1) + b"\x01"
 NAME = u32(0) + b"\x01" + u64(1)
 NAMED = NAME + u32(4096) + b"".join(map(proc, range(4096)))
 # Of each type of an array's elements the body of one.
@@ -67,8 +68,12 @@ CLAIMS = [
     ("fence ask, namespace", FENCE_ASK, NAME + u32(1), 1, 255, b"n"),
     ("range ask, namespace", RANGE_ASK, u32(1), 1, 255, b"n"),
     ("direct ask, namespace", DIRECT_ASK, u32(1), 1, 255, b"n"),
+    ("refresh ask, namespace", REFRESH, u32(1) + u64(1) + b"\x00", 1, 255, b"n"),
+    ("refresh reply, namespace", REFRESH, REFRESHED, 1, 255, b"n"),
+    ("refresh reply, entries", REFRESH, REFRESHED + START, 4, 65536, entry),
+    ("refresh reply, key", REFRESH, REFRESHED + START + u32(1), 2, 511, b"k"),
 ]
-KINDS = {"piece": PIECE, "header": HEADER, "fence ask": FENCE_ASK, "range ask": RANGE_ASK, "direct ask": DIRECT_ASK}
+KINDS = {"piece": PIECE, "header": HEADER, "fence ask": FENCE_ASK, "range ask": RANGE_ASK, "direct ask": DIRECT_ASK, "refresh": REFRESH}
 
 
 def dumped(library, stream):

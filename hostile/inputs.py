@@ -43,16 +43,24 @@ def drawn_name(rng):
     return bytes([rng.choice([0, 1, 1, 2])]) + drawn_number(rng) + count.to_bytes(4, "big") + b"".join(procs)
 
 
+def drawn_piece(rng):
+    """The commits of a process."""
+    keys = sorted({rng.choice([b"a", b"b", b"c", b"pmix.x", rng.randbytes(3)]) for _ in range(rng.randrange(4))})
+    entries = [len(key).to_bytes(2, "big") + key + drawn_number(rng) + drawn_value(rng) for key in keys]
+    return drawn_proc(rng) + drawn_number(rng) + drawn_number(rng) + len(entries).to_bytes(4, "big") + b"".join(entries)
+
+
 def drawn_body(rng, kind):
     """The body of a frame of that kind."""
     node = rng.choice([0, 1, 2, 63, 64]).to_bytes(4, "big")
     if kind == 1:
-        keys = sorted({rng.choice([b"a", b"b", b"c", b"pmix.x", rng.randbytes(3)]) for _ in range(rng.randrange(4))})
-        entries = [len(key).to_bytes(2, "big") + key + drawn_number(rng) + drawn_value(rng) for key in keys]
-        return drawn_proc(rng) + drawn_number(rng) + drawn_number(rng) + len(entries).to_bytes(4, "big") + b"".join(entries)
+        return drawn_piece(rng)
     if kind == 2:
         local = b"\x01j" + bytes(4) + bytes([rng.randrange(3)]) + drawn_number(rng)
         return node + drawn_name(rng) + (1).to_bytes(4, "big") + local
+    if kind == 6:
+        role = rng.choice([0, 1, 1, 2])
+        return node + drawn_number(rng) + bytes([role]) + (drawn_piece(rng) if role else drawn_proc(rng) + drawn_number(rng))
     return node + (drawn_name(rng) if kind == 3 else drawn_proc(rng) + drawn_number(rng))
 
 
@@ -88,7 +96,7 @@ def drawn_line(rng):
             f"commit {who}",
             f"enter {who} {rng.choice(['plain', 'collect'])} {rng.choice(['', who, 'j 0 j 1', 'j 0 j 1 j 2'])}".rstrip(),
             f"leave {who}",
-            f"get {who} {rng.choice(['wait', 'now'])} {other} {key}",
+            f"get {who} {rng.choice(['wait', 'now', 'refresh'])} {other} {key}",
             f"take {who}",
             f"deliver {rng.randrange(12)}",
             "flow",

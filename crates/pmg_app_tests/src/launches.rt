@@ -1,5 +1,5 @@
 //! Jobs that are run, with reports found by hand.
-use crate::programs::{Fencing, Meeting, Refused, Reporting, number_in, push_line};
+use crate::programs::{Fencing, Meeting, Refreshing, Refused, Reporting, number_in, push_line};
 use pmg_job::Job;
 use pmg_launch::{Exchange, Links, Outcome, Program, run, run_linked};
 use pmg_node::{Reply, Request};
@@ -184,17 +184,18 @@ fn runs_of_the_largest_job_say_the_same(rt: HostRuntime) -> Result<(), Refusal> 
     Ok(())
 }
 
-// Runs two clients of one node with these programs, and gives what each reported and answered.
+// Runs the job of two clients with these programs, and gives what each reported and answered.
 fn run_two<R: Threads + Wait + Clock + Sync>(
     rt: &R,
     alloc: Global,
+    job: &[u8],
     first: Box<dyn Program>,
     second: Box<dyn Program>,
 ) -> Result<Outcome, Refusal> {
     let mut programs = Vec::new(alloc);
     programs.push(first)?;
     programs.push(second)?;
-    let outcome = run(rt, Job::read(alloc, TWO_CLIENTS)?, programs)?;
+    let outcome = run(rt, Job::read(alloc, job)?, programs)?;
     check_memory(&outcome)?;
     Ok(outcome)
 }
@@ -215,6 +216,7 @@ fn two_clients_meet(rt: HostRuntime) -> Result<(), Refusal> {
     let outcome = run_two(
         &rt,
         alloc,
+        TWO_CLIENTS,
         Box::new(alloc, first)?,
         Box::new(alloc, second)?,
     )?;
@@ -229,7 +231,7 @@ fn who_refused_is_gone_from_the_fence(rt: HostRuntime) -> Result<(), Refusal> {
     let alloc = rt.alloc();
     let refused = Box::new(alloc, Refused)?;
     let fencing = Box::new(alloc, Fencing { rt })?;
-    let outcome = run_two(&rt, alloc, refused, fencing)?;
+    let outcome = run_two(&rt, alloc, TWO_CLIENTS, refused, fencing)?;
     let [first, second] = outcome.reports.as_slice() else {
         return Err(Refusal::BadParam);
     };
@@ -267,7 +269,24 @@ fn told_of(alloc: Global, outcome: &Outcome, proc: &Proc) -> Result<Vec<u8>, Ref
     Ok(text)
 }
 
-// The run that is audited is the one that the clients saw: each of its answers is one that a client reported, in its order.
+// Whether each of two clients of two nodes reports that text, and the run that is audited tells the same of it: its answers are those
+// that the client reported, in its order.
+fn is_seen<R: Threads + Wait + Clock + Sync>(
+    rt: &R,
+    alloc: Global,
+    first: Box<dyn Program>,
+    second: Box<dyn Program>,
+    wanted: [&[u8]; 2],
+) -> Result<bool, Refusal> {
+    let outcome = run_two(rt, alloc, ACROSS, first, second)?;
+    let mut is_same = true;
+    for (report, want) in outcome.reports.iter().zip(wanted) {
+        is_same = is_same && report.text.as_slice() == want;
+        is_same = is_same && told_of(alloc, &outcome, &report.proc)?.as_slice() == want;
+    }
+    Ok(is_same)
+}
+
 #[test]
 fn the_run_is_what_the_clients_saw(rt: HostRuntime) -> Result<(), Refusal> {
     let alloc = rt.alloc();
@@ -281,18 +300,33 @@ fn the_run_is_what_the_clients_saw(rt: HostRuntime) -> Result<(), Refusal> {
         alloc,
         is_first: false,
     };
-    let mut programs: Vec<Box<dyn Program>> = Vec::new(alloc);
-    programs.push(Box::new(alloc, one)?)?;
-    programs.push(Box::new(alloc, two)?)?;
-    let outcome = run(&rt, Job::read(alloc, ACROSS)?, programs)?;
-    check_memory(&outcome)?;
     let wanted: [&[u8]; 2] = [
         b"c1\ne1\nl1\nf20\nc2\ne2\nl2\nf21\n",
         b"c1\ne1\nl1\nf10\nc2\ne2\nl2\nf11\n",
     ];
-    for (report, want) in outcome.reports.iter().zip(wanted) {
-        assert!(rt; report.text.as_slice() == want);
-        assert!(rt; told_of(alloc, &outcome, &report.proc)?.as_slice() == want);
-    }
+    let (one, two) = (Box::new(alloc, one)?, Box::new(alloc, two)?);
+    assert!(rt; is_seen(&rt, alloc, one, two, wanted)?);
+    Ok(())
+}
+
+#[test]
+fn a_get_that_asks_anew_finds_the_last_commit(rt: HostRuntime) -> Result<(), Refusal> {
+    let alloc = rt.alloc();
+    let one = Refreshing {
+        rt,
+        alloc,
+        is_first: true,
+    };
+    let two = Refreshing {
+        rt,
+        alloc,
+        is_first: false,
+    };
+    let wanted: [&[u8]; 2] = [
+        b"c1\ne1\nl1\ne2\nl2\nc2\ne3\nl3\n",
+        b"e1\nl1\nf10\ne2\nl2\ne3\nl3\nf10\nf11\n",
+    ];
+    let (one, two) = (Box::new(alloc, one)?, Box::new(alloc, two)?);
+    assert!(rt; is_seen(&rt, alloc, one, two, wanted)?);
     Ok(())
 }

@@ -129,14 +129,15 @@ pub fn number_in(value: &Value) -> u64 {
     }
 }
 
-// Meets all in a fence, and reports it.
+// Meets all in a fence, which collects data or not, and reports it.
 fn meet<R: Wait>(
     rt: &R,
     client: &mut Client<'_>,
     procs: &[Proc],
+    collect: bool,
     out: &mut Vec<u8>,
 ) -> Result<(), Refusal> {
-    push_line(out, b'e', client.enter(rt, procs, true)?)?;
+    push_line(out, b'e', client.enter(rt, procs, collect)?)?;
     match &client.leave(rt)? {
         Release::Released(instance, _) => push_line(out, b'l', *instance),
         _ => Err(Refusal::NotFound),
@@ -166,9 +167,105 @@ impl<R: Wait + Send + Drop> Program for Reporting<R> {
                 Value::U32(own + u32::from(round)),
             )?;
             push_line(out, b'c', client.commit(&self.rt)?)?;
-            meet(&self.rt, client, procs, out)?;
+            meet(&self.rt, client, procs, true, out)?;
             push_line(out, b'f', number_in(&client.get(&self.rt, other, &key)?))?;
         }
         Ok(())
+    }
+}
+
+/// One of two clients of two nodes, who meet in fences that collect no data. The first puts a number, and another one once the second
+/// got it; the second gets it, and after that twice: as its node knows it, and anew. Each reports as `Reporting` does.
+#[derive(Drop)]
+pub struct Refreshing<R: Wait> {
+    pub rt: R,
+    pub alloc: Global,
+    pub is_first: bool,
+}
+
+// Puts the number under the key, for all, commits it, and reports that.
+fn commit_number<R: Wait>(
+    rt: &R,
+    client: &mut Client<'_>,
+    key: &Key,
+    number: u32,
+    out: &mut Vec<u8>,
+) -> Result<(), Refusal> {
+    client.put(Scope::Global, key.copy()?, Value::U32(number))?;
+    push_line(out, b'c', client.commit(rt)?)
+}
+
+// Puts a number, and another one after the second fence.
+fn put_twice<R: Wait>(
+    rt: &R,
+    client: &mut Client<'_>,
+    procs: &[Proc],
+    key: &Key,
+    out: &mut Vec<u8>,
+) -> Result<(), Refusal> {
+    commit_number(rt, client, key, 10, out)?;
+    meet(rt, client, procs, false, out)?;
+    meet(rt, client, procs, false, out)?;
+    commit_number(rt, client, key, 11, out)?;
+    meet(rt, client, procs, false, out)
+}
+
+// Gets the number of the first client, and reports it.
+fn get_number<R: Wait>(
+    rt: &R,
+    client: &mut Client<'_>,
+    procs: &[Proc],
+    key: &Key,
+    out: &mut Vec<u8>,
+) -> Result<(), Refusal> {
+    let Some(first) = procs.first() else {
+        return Err(Refusal::BadParam);
+    };
+    push_line(out, b'f', number_in(&client.get(rt, first, key)?))
+}
+
+// Gets the number anew, and reports it.
+fn get_number_anew<R: Wait>(
+    rt: &R,
+    client: &mut Client<'_>,
+    procs: &[Proc],
+    key: &Key,
+    out: &mut Vec<u8>,
+) -> Result<(), Refusal> {
+    let Some(first) = procs.first() else {
+        return Err(Refusal::BadParam);
+    };
+    push_line(out, b'f', number_in(&client.get_refresh(rt, first, key)?))
+}
+
+// Gets the number between the fences, and twice after them.
+fn get_thrice<R: Wait>(
+    rt: &R,
+    client: &mut Client<'_>,
+    procs: &[Proc],
+    key: &Key,
+    out: &mut Vec<u8>,
+) -> Result<(), Refusal> {
+    meet(rt, client, procs, false, out)?;
+    get_number(rt, client, procs, key, out)?;
+    meet(rt, client, procs, false, out)?;
+    meet(rt, client, procs, false, out)?;
+    get_number(rt, client, procs, key, out)?;
+    get_number_anew(rt, client, procs, key, out)
+}
+
+impl<R: Wait + Send + Drop> Program for Refreshing<R> {
+    fn run(
+        &mut self,
+        client: &mut Client<'_>,
+        procs: &[Proc],
+        out: &mut Vec<u8>,
+    ) -> Result<(), Refusal> {
+        let key = Key::read(self.alloc, b"a")?;
+        if self.is_first {
+            put_twice(&self.rt, client, procs, &key, out)
+        } else {
+            get_thrice(&self.rt, client, procs, &key, out)
+        }
     }
 }

@@ -8,7 +8,7 @@ use Rattle.std.proofs.lemmas.Map.Lookups.{exact_bytes}
 use Rattle.pmg_value.specs.Process.{is_same_proc}
 use Rattle.pmg_value.specs.Refusals.{number_of}
 use Rattle.pmg_value.specs.contracts.refusal.CausePartialEq.TheImpl as cause_tests
-use Rattle.pmg_value.specs.contracts.refusal.Cause.{the_type}
+use Rattle.pmg_value.specs.contracts.refusal.Cause.{the_type as the_causes}
 use Rattle.pmg_value.specs.declared.process.Proc.{Proc}
 use Rattle.pmg_value.specs.declared.refusal.Cause.{Cause}
 use Rattle.pmg_value.specs.declared.refusal.Cause.TheVariants as causes
@@ -17,11 +17,13 @@ use Rattle.pmg_value.specs.declared.refusal.Refusal.{Refusal}
 use Rattle.pmg_value.specs.declared.refusal.Refusal.TheVariants as refusals
 use Rattle.pmg_value.proofs.SameLemmas.{by_cmp}
 use Rattle.pmg_frame.proofs.SameLemmas.{same_procs}
+use Rattle.pmg_get.specs.contracts.view.ModePartialEq.TheImpl as mode_tests
+use Rattle.pmg_get.specs.contracts.view.Mode.{the_type as the_modes}
 use Rattle.pmg_get.specs.declared.view.Mode.{Mode}
 use Rattle.pmg_get.specs.declared.view.Mode.TheVariants as modes
 use Rattle.pmg_rules.specs.Acts.{Reply, Request}
 use Rattle.pmg_rules.specs.Holdings.{Get}
-use Rattle.pmg_audit.specs.Sameness.{are_same_procs, is_same_flag, is_same_mode, is_same_refusal, is_same_reply, is_same_request, is_same_text, is_same_value}
+use Rattle.pmg_audit.specs.Sameness.{are_same_procs, is_same_flag, is_same_refusal, is_same_reply, is_same_request, is_same_text, is_same_value}
 use denote.Enum.Bare.{same_true}
 
 same_flags : (b c : Bool) → Decides (is_same_flag b c) (b ≡ c)
@@ -30,11 +32,12 @@ same_flags true false = (λ h. absurd cc, λ e. absurd cc)
 same_flags false true = (λ h. absurd cc, λ e. absurd cc)
 same_flags false false = (λ h. refl, λ e. refl)
 
-same_modes : (m n : Mode) → Decides (is_same_mode m n) (m ≡ n)
-same_modes modes.Wait modes.Wait = (λ h. refl, λ e. refl)
-same_modes modes.Wait modes.Now = (λ h. absurd cc, λ e. absurd cc)
-same_modes modes.Now modes.Wait = (λ h. absurd cc, λ e. absurd cc)
-same_modes modes.Now modes.Now = (λ h. refl, λ e. refl)
+mode_itself : (m : Mode) → mode_tests.ghosts.eq m m ≡ true
+mode_itself modes.Wait = refl
+mode_itself m = refl
+
+same_modes : (m n : Mode) → Decides (mode_tests.ghosts.eq m n) (m ≡ n)
+same_modes m n = (λ h. same_true the_modes (search rules) m n h, λ e. subst (λ (x : Mode). mode_tests.ghosts.eq m x ≡ true) e (mode_itself m))
 
 same_lists : (ps qs : List Proc) → Decides (are_same_procs ps qs) (ps ≡ qs)
 same_lists ps qs = pointwise_decides same_procs ps qs
@@ -59,9 +62,9 @@ same_requests (Request.enter p list collect) (Request.enter q others other) =
     (λ one rest. (λ i. Request.enter (one i) (rest.0 i) (rest.1 i))) (λ e. (cc, (cc, cc)))
 same_requests (Request.leave p) (Request.leave q) = Decides-like _ (λ h. ap (λ (x : Proc). Request.leave x) h) (λ e. cc) (same_procs p q)
 same_requests (Request.ask p get mode) (Request.ask q other how) =
-    both (is_same_proc p q) (is_same_proc get.target other.target && (is_same_text get.key other.key && is_same_mode mode how)) (same_procs p q)
-    (Decides-and (is_same_proc get.target other.target) (is_same_text get.key other.key && is_same_mode mode how) (same_procs get.target other.target)
-    (Decides-and (is_same_text get.key other.key) (is_same_mode mode how) (same_texts get.key other.key) (same_modes mode how)))
+    both (is_same_proc p q) (is_same_proc get.target other.target && (is_same_text get.key other.key && mode_tests.ghosts.eq mode how)) (same_procs p q)
+    (Decides-and (is_same_proc get.target other.target) (is_same_text get.key other.key && mode_tests.ghosts.eq mode how) (same_procs get.target other.target)
+    (Decides-and (is_same_text get.key other.key) (mode_tests.ghosts.eq mode how) (same_texts get.key other.key) (same_modes mode how)))
     (λ one rest. (λ i. Request.ask (one i) (record { target = rest.0 i; key = rest.1.0 i }) (rest.1.1 i))) (λ e. asked e)
   where
     asked : Request.ask p get mode ≡ Request.ask q other how → (p ≡ q) × ((get.target ≡ other.target) × ((get.key ≡ other.key) × (mode ≡ how)))
@@ -85,7 +88,7 @@ cause_itself causes.Version = refl
 cause_itself s = refl
 
 same_causes : (s t : Cause) → Decides (cause_tests.ghosts.eq s t) (s ≡ t)
-same_causes s t = (λ h. same_true the_type (search rules) s t h, λ e. subst (λ (x : Cause). cause_tests.ghosts.eq s x ≡ true) e (cause_itself s))
+same_causes s t = (λ h. same_true the_causes (search rules) s t h, λ e. subst (λ (x : Cause). cause_tests.ghosts.eq s x ≡ true) e (cause_itself s))
 
 same_faults : (f g : Fault) → Decides (f.offset == g.offset && cause_tests.ghosts.eq f.cause g.cause) (refusals.BadFrame f ≡ refusals.BadFrame g)
 same_faults f g =

@@ -8,21 +8,13 @@ use Rattle.pmg_value.specs.contracts.refusal.CausePartialEq.TheImpl as cause_tes
 use Rattle.pmg_value.specs.declared.process.Proc.{Proc}
 use Rattle.pmg_value.specs.declared.refusal.Refusal.{Refusal}
 use Rattle.pmg_value.specs.declared.refusal.Refusal.TheVariants as refusals
-use Rattle.pmg_get.specs.declared.view.Mode.{Mode}
-use Rattle.pmg_get.specs.declared.view.Mode.TheVariants as modes
+use Rattle.pmg_get.specs.contracts.view.ModePartialEq.TheImpl as mode_tests
 use Rattle.pmg_rules.specs.Acts.{Reply, Request}
 
 -- the flags are one
 abbrev pub is_same_flag : Bool → Bool → Bool
 is_same_flag true other = other
 is_same_flag false other = not other
-
--- the modes are one
-abbrev pub is_same_mode : Mode → Mode → Bool
-is_same_mode modes.Wait modes.Wait = true
-is_same_mode modes.Wait modes.Now = false
-is_same_mode modes.Now modes.Wait = false
-is_same_mode modes.Now modes.Now = true
 
 -- the lists of processes are one
 abbrev pub are_same_procs : List Proc → List Proc → Bool
@@ -41,7 +33,7 @@ unfoldable pub is_same_request : Request → Request → Bool
 is_same_request (Request.enter p list collect) (Request.enter q others other) = is_same_proc p q && (are_same_procs list others && is_same_flag collect other)
 is_same_request (Request.leave p) (Request.leave q) = is_same_proc p q
 is_same_request (Request.ask p get mode) (Request.ask q other how) =
-    is_same_proc p q && (is_same_proc get.target other.target && (is_same_text get.key other.key && is_same_mode mode how))
+    is_same_proc p q && (is_same_proc get.target other.target && (is_same_text get.key other.key && mode_tests.ghosts.eq mode how))
 is_same_request (Request.take p) (Request.take q) = is_same_proc p q
 is_same_request (Request.terminate p) (Request.terminate q) = is_same_proc p q
 is_same_request (Request.define name list) (Request.define other others) = is_same_text name other && are_same_procs list others

@@ -2,9 +2,8 @@
 ghost use Rattle.std.specs.Prelude.{◌≡◌, ◌↔◌, IsTrue};
 ghost use Rattle.pmg_node.specs.Acting.{act_of, reply_as, request_of};
 ghost use Rattle.pmg_node.specs.Servers.{reply_in};
-ghost use Rattle.pmg_audit.specs.Sameness.{are_same_procs, is_same_flag, is_same_mode, is_same_refusal, is_same_reply, is_same_request};
+ghost use Rattle.pmg_audit.specs.Sameness.{are_same_procs, is_same_flag, is_same_refusal, is_same_reply, is_same_request};
 
-use pmg_get::Mode;
 use pmg_node::{Act, Reply, Request};
 use pmg_value::{Proc, Refusal};
 
@@ -13,22 +12,6 @@ fn is_same_flag(flag: bool, other: bool) -> bool
     ensures { result ≡ is_same_flag flag other }
 {
     if flag { other } else { !other }
-}
-
-/// Whether the modes are one.
-fn is_same_mode(mode: Mode, other: Mode) -> bool
-    ensures { result ≡ is_same_mode mode other }
-{
-    match mode {
-        Mode::Wait => match other {
-            Mode::Wait => true,
-            Mode::Now => false,
-        },
-        Mode::Now => match other {
-            Mode::Wait => false,
-            Mode::Now => true,
-        },
-    }
 }
 
 /// Whether the lists are one.
@@ -64,7 +47,7 @@ fn is_same_request(request: &Request, other: &Request) -> bool
         },
         Request::Ask(proc, target, key, mode) => match other {
             Request::Ask(other, whose, name, how) => {
-                *proc == *other && *target == *whose && *key == *name && is_same_mode(*mode, *how)
+                *proc == *other && *target == *whose && *key == *name && *mode == *how
             }
             _ => false,
         },

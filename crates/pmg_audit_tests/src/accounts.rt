@@ -60,7 +60,9 @@ pub(crate) const NO_CHANGE: Change<'static> = Change {
 
 // Whether the line tells a get of the client's own key.
 fn is_own_get(line: &str) -> bool {
-    line.starts_with("now j0 j0 ") || line.starts_with("now j1 j1 ")
+    line.starts_with("now j0 j0 ")
+        || line.starts_with("now j1 j1 ")
+        || line.starts_with("refresh j0 j0 ")
 }
 
 // Whether the line stands in the journal.

@@ -1,7 +1,7 @@
 //! What audits answer of accounts as they were made, and of those in which an account as a whole is another.
 use crate::accounts::{Account, Accounts, Change, MEMORY, NO_CHANGE, called_of, registry};
 use crate::words::process;
-use crate::{exchange, fences, gets};
+use crate::{exchange, fences, gets, refreshing};
 use pmg_journal::Transcript;
 use pmg_value::{NodeId, Refusal};
 use std::alloc::Global;
@@ -81,6 +81,9 @@ fn accounts_as_they_were_made_are_one_run(rt: HostRuntime) {
     let texts = [fences::AT_ZERO, fences::AT_ONE];
     let fences = Accounts::new(alloc, texts, &NO_CHANGE).expect(&rt, MEMORY);
     assert!(rt; fences.answer(&rt) == Ok(fences::EVENTS));
+    let texts = [refreshing::AT_ZERO, refreshing::AT_ONE];
+    let anew = Accounts::new(alloc, texts, &NO_CHANGE).expect(&rt, MEMORY);
+    assert!(rt; anew.answer(&rt) == Ok(refreshing::EVENTS));
 }
 
 #[test]

@@ -1,6 +1,6 @@
 //! What is answered where one line of an account is changed.
 use crate::accounts::{Account, Accounts, Change, MEMORY};
-use crate::{exchange, fences, gets};
+use crate::{exchange, fences, gets, refreshing};
 use std::alloc::Global;
 use std::process::Abort;
 use std::str;
@@ -94,5 +94,11 @@ fn fences_are_changed(rt: HostRuntime) {
 #[test]
 fn gets_are_changed(rt: HostRuntime) {
     let wrong = wrong_rows(&rt, rt.alloc(), [gets::AT_ZERO, gets::AT_ONE]);
+    assert_eq!(rt; str::from_utf8(&wrong).unwrap_or("no text"), "");
+}
+
+#[test]
+fn gets_that_ask_anew_are_changed(rt: HostRuntime) {
+    let wrong = wrong_rows(&rt, rt.alloc(), [refreshing::AT_ZERO, refreshing::AT_ONE]);
     assert_eq!(rt; str::from_utf8(&wrong).unwrap_or("no text"), "");
 }

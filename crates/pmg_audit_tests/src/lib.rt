@@ -16,4 +16,6 @@ mod fences;
 #[cfg(test)]
 mod gets;
 #[cfg(test)]
+mod refreshing;
+#[cfg(test)]
 mod words;

@@ -1,6 +1,9 @@
 //! Processes, values, acts and answers from words.
 use pmg_commit::{Piece, PieceEntry};
-use pmg_frame::{CommitAsk, FenceAsk, FenceName, Frame, Header, Local, Signature, State};
+use pmg_frame::{
+    CommitAsk, FenceAsk, FenceName, Frame, Header, Local, RefreshAsk, RefreshReply, Signature,
+    State,
+};
 use pmg_get::Mode;
 use pmg_node::{Act, Reply, Request};
 use pmg_scope::{Batch, Cache, Scope};
@@ -128,6 +131,7 @@ pub(crate) fn request(alloc: Global, words: &[&str]) -> Result<Request, Refusal>
         "leave" => Request::Leave(process(alloc, first)?),
         "wait" => ask(alloc, words, Mode::Wait)?,
         "now" => ask(alloc, words, Mode::Now)?,
+        "refresh" => ask(alloc, words, Mode::Refresh)?,
         "take" => Request::Take(process(alloc, first)?),
         "end" => Request::Terminate(process(alloc, first)?),
         "define" => {
@@ -185,6 +189,22 @@ fn commit_ask(alloc: Global, words: &[&str]) -> Result<CommitAsk, Refusal> {
     CommitAsk::new(node(words, 0)?, proc, number(words, 2))
 }
 
+// The words of a request for commits, and behind them the number under which the node asks anew.
+fn refresh_ask(alloc: Global, words: &[&str]) -> Result<RefreshAsk, Refusal> {
+    RefreshAsk::new(number(words, 3), commit_ask(alloc, words)?)
+}
+
+// The reply of the words: the node that asked, the number of its request, and a piece; or, where no
+// commit is told of, the process and its level.
+fn refresh_reply(alloc: Global, words: &[&str]) -> Result<RefreshReply, Refusal> {
+    let (node, request) = (node(words, 0)?, number(words, 1));
+    if words.len() > 4 {
+        return RefreshReply::new(node, request, piece(alloc, words_from(words, 2))?);
+    }
+    let proc = process(alloc, word(words, 2))?;
+    RefreshReply::nothing(alloc, node, request, proc, number(words, 3))
+}
+
 // The frame of the words.
 fn frame(alloc: Global, words: &[&str]) -> Result<Frame, Refusal> {
     let fields = words_from(words, 1);
@@ -197,6 +217,8 @@ fn frame(alloc: Global, words: &[&str]) -> Result<Frame, Refusal> {
         )),
         "range" => Frame::RangeAsk(commit_ask(alloc, fields)?),
         "direct" => Frame::DirectAsk(commit_ask(alloc, fields)?),
+        "anew" => Frame::RefreshAsk(refresh_ask(alloc, fields)?),
+        "reply" => Frame::RefreshReply(refresh_reply(alloc, fields)?),
         _ => return Err(Refusal::BadParam),
     })
 }

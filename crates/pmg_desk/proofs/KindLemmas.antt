@@ -37,6 +37,8 @@ module _ (jobs : Jobs) (id : ℕ) (h : Holding) where
   leaves_kind p (Some (Standing.released f gone)) = tt
   leaves_kind p (Some (Standing.parked get)) = tt
   leaves_kind p (Some (Standing.answered get outcome)) = tt
+  leaves_kind p (Some (Standing.refreshing get number)) = tt
+  leaves_kind p (Some (Standing.refreshed get outcome)) = tt
 
   takes_kind : (p : Proc) (c : Option Standing) → IsKind (Act.request (Request.take p)) (takes h p c).reply
   takes_kind p None = tt
@@ -47,8 +49,13 @@ module _ (jobs : Jobs) (id : ℕ) (h : Holding) where
   takes_kind p (Some (Standing.answered get Outcome.absent)) = tt
   takes_kind p (Some (Standing.answered get Outcome.outside)) = tt
   takes_kind p (Some (Standing.answered get Outcome.parks)) = tt
+  takes_kind p (Some (Standing.refreshing get number)) = tt
+  takes_kind p (Some (Standing.refreshed get (Outcome.found value))) = tt
+  takes_kind p (Some (Standing.refreshed get Outcome.absent)) = tt
+  takes_kind p (Some (Standing.refreshed get Outcome.outside)) = tt
+  takes_kind p (Some (Standing.refreshed get Outcome.parks)) = tt
 
-  asks_kind : (p : Proc) (get : Get) (mode : Mode) (o : Outcome) → IsKind (Act.request (Request.ask p get mode)) (asks h p get o).reply
+  asks_kind : (p : Proc) (get : Get) (mode : Mode) (o : Outcome) → IsKind (Act.request (Request.ask p get mode)) (asks h p get mode o).reply
   asks_kind p get mode (Outcome.found value) = tt
   asks_kind p get mode Outcome.absent = tt
   asks_kind p get mode Outcome.outside = tt
@@ -65,7 +72,7 @@ module _ (jobs : Jobs) (id : ℕ) (h : Holding) where
   serves_kind (Request.delete name) = tt
   serves_kind Request.nudge = tt
 
-  delivers_kind : (frame : Frame) (b : Bool) → IsKind (Act.deliver frame) (cond b (done_as Reply.taken (receives h frame)) (done_as Reply.ignored h)).reply
+  delivers_kind : (frame : Frame) (b : Bool) → IsKind (Act.deliver frame) (cond b (done_as Reply.taken (receives jobs id h frame)) (done_as Reply.ignored h)).reply
   delivers_kind frame true = tt
   delivers_kind frame false = tt
 

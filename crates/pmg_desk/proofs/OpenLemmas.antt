@@ -8,6 +8,7 @@ use Rattle.pmg_value.specs.declared.refusal.Refusal.TheVariants as refusals
 use Rattle.pmg_jobinfo.specs.Jobs.{Jobs}
 use Rattle.pmg_frame.specs.declared.frame.Frame.{Frame}
 use Rattle.pmg_get.specs.Gets.{Outcome}
+use Rattle.pmg_get.specs.declared.view.Mode.{Mode}
 use Rattle.pmg_rules.specs.Acts.{Act, Done, Reply, Request, acts, asks, cause, does, done_as, is_taken, leaves, over, receives, request_cause, serves, takes}
 use Rattle.pmg_rules.specs.Holdings.{Get, Holding, Standing, answer_in, call_of}
 use Rattle.pmg_rules.specs.Sending.{is_quiet}
@@ -47,6 +48,8 @@ module _ (jobs : Jobs) (id : ℕ) (h : Holding) where
   leaves_open p (Some (Standing.released f gone)) = tt
   leaves_open p (Some (Standing.parked get)) = tt
   leaves_open p (Some (Standing.answered get outcome)) = tt
+  leaves_open p (Some (Standing.refreshing get number)) = tt
+  leaves_open p (Some (Standing.refreshed get outcome)) = tt
 
   takes_open : (p : Proc) (c : Option Standing) → IsOpen (takes h p c).reply
   takes_open p None = tt
@@ -57,25 +60,30 @@ module _ (jobs : Jobs) (id : ℕ) (h : Holding) where
   takes_open p (Some (Standing.answered get Outcome.absent)) = tt
   takes_open p (Some (Standing.answered get Outcome.outside)) = tt
   takes_open p (Some (Standing.answered get Outcome.parks)) = tt
+  takes_open p (Some (Standing.refreshing get number)) = tt
+  takes_open p (Some (Standing.refreshed get (Outcome.found value))) = tt
+  takes_open p (Some (Standing.refreshed get Outcome.absent)) = tt
+  takes_open p (Some (Standing.refreshed get Outcome.outside)) = tt
+  takes_open p (Some (Standing.refreshed get Outcome.parks)) = tt
 
-  asks_open : (p : Proc) (get : Get) (o : Outcome) → IsOpen (asks h p get o).reply
-  asks_open p get (Outcome.found value) = tt
-  asks_open p get Outcome.absent = tt
-  asks_open p get Outcome.outside = tt
-  asks_open p get Outcome.parks = tt
+  asks_open : (p : Proc) (get : Get) (mode : Mode) (o : Outcome) → IsOpen (asks h p get mode o).reply
+  asks_open p get mode (Outcome.found value) = tt
+  asks_open p get mode Outcome.absent = tt
+  asks_open p get mode Outcome.outside = tt
+  asks_open p get mode Outcome.parks = tt
 
   serves_open : (r : Request) → IsOpen (serves jobs id h r).reply
   unfolding serves
   serves_open (Request.enter p list collect) = tt
   serves_open (Request.leave p) = leaves_open p (call_of h p)
-  serves_open (Request.ask p get mode) = asks_open p get (answer_in jobs id h get mode)
+  serves_open (Request.ask p get mode) = asks_open p get mode (answer_in jobs id h get mode)
   serves_open (Request.take p) = takes_open p (call_of h p)
   serves_open (Request.terminate p) = tt
   serves_open (Request.define name list) = tt
   serves_open (Request.delete name) = tt
   serves_open Request.nudge = tt
 
-  delivers_open : (frame : Frame) (b : Bool) → IsOpen (cond b (done_as Reply.taken (receives h frame)) (done_as Reply.ignored h)).reply
+  delivers_open : (frame : Frame) (b : Bool) → IsOpen (cond b (done_as Reply.taken (receives jobs id h frame)) (done_as Reply.ignored h)).reply
   delivers_open frame true = tt
   delivers_open frame false = tt
 

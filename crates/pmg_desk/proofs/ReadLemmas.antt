@@ -24,10 +24,13 @@ use Rattle.pmg_desk.specs.Reading.{IsDue, IsReadNow, Reads, is_own, now_cause, r
 
 -- a get that waits for nobody does not park
 pub now_tells : (seen : Seen) → resolve seen modes.Now ≡ Outcome.parks → ⊥
-now_tells seen parks = not_wait (resolve_parks seen modes.Now parks)
+now_tells seen parks = elim (resolve_parks seen modes.Now parks) [ inl same ↦ not_wait same | inr same ↦ not_anew same ]
   where
     not_wait : modes.Now ≡ modes.Wait → ⊥
     not_wait same = cc
+
+    not_anew : modes.Now ≡ modes.Refresh → ⊥
+    not_anew same = cc
 
 reserved_by : (jobs : Jobs) (id : ℕ) (nears fars : List ℕ → Option (List ℕ)) (get : Get) → is_reserved get.key ≡ true → seen_of jobs id nears fars get ≡ reserved_seen jobs id get
 unfolding seen_of

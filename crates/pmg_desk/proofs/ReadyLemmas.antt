@@ -62,6 +62,8 @@ released_call h p n gone None is = cc
 released_call h p n gone (Some (Standing.in_fence f)) is = cc
 released_call h p n gone (Some (Standing.parked get)) is = cc
 released_call h p n gone (Some (Standing.answered get outcome)) is = cc
+released_call h p n gone (Some (Standing.refreshing get number)) is = cc
+released_call h p n gone (Some (Standing.refreshed get outcome)) is = cc
 released_call h p n gone (Some (Standing.released f left)) is =
     (f, ap (λ (r : Reply). Some (Standing.released f (gone_in r))) is, ap instance_in is)
   where

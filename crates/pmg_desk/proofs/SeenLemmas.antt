@@ -18,9 +18,11 @@ use Rattle.pmg_commit.specs.Data.{Data, absorbed, level_at, of_contribution}
 use Rattle.pmg_commit.specs.Knowledge.{Contribution}
 use Rattle.pmg_commit.specs.Sealed.{Sealed, ended_with, fresh, piece_at, sealed_with}
 use Rattle.pmg_fence.specs.Entering.{same_proc}
+use Rattle.pmg_frame.specs.Refreshing.{told_by}
 use Rattle.pmg_frame.specs.declared.frame.Frame.{Frame}
 use Rattle.pmg_frame.specs.declared.frame.Frame.TheVariants as frames
 use Rattle.pmg_get.specs.Gets.{Outcome}
+use Rattle.pmg_get.specs.declared.view.Mode.{Mode}
 use Rattle.pmg_jobinfo.specs.Jobs.{Jobs, home_of}
 use Rattle.pmg_jobinfo.specs.Procs.{procs_at}
 use Rattle.pmg_pset.specs.Sets.{host}
@@ -28,7 +30,7 @@ use Rattle.pmg_store.specs.Pieces.{data_of}
 use Rattle.pmg_store.proofs.Converging.{same_in_any_grouping}
 use Rattle.pmg_store.proofs.HonestDataLaws.{levels_rise}
 use Rattle.pmg_rules.specs.Acts.{Act, Done, Reply, Request, acts, asks, cause, does, done_as, free_cause, holds_unless, is_taken, leaves, over, receives, seal_cause, serves, takes}
-use Rattle.pmg_rules.specs.Holdings.{Get, Holding, Standing, answer_in, call_of, new_holding, sealer_in, sealer_of, sealing}
+use Rattle.pmg_rules.specs.Holdings.{Get, Holding, Standing, answer_in, call_of, joined, new_holding, sealer_in, sealer_of, sealing}
 use Rattle.pmg_rules.specs.Kept.{Holds, IsServer}
 use Rattle.pmg_rules.proofs.CauseFacts.{by_causes, free_is, neither_cause}
 use Rattle.pmg_rules.proofs.KeptActs.{new_is_server, server_stays}
@@ -77,6 +79,8 @@ module _ (jobs : Jobs) (id : ℕ) where
     leaves_in p (Some (Standing.released f gone)) = held
     leaves_in p (Some (Standing.parked get)) = held
     leaves_in p (Some (Standing.answered get outcome)) = held
+    leaves_in p (Some (Standing.refreshing get number)) = held
+    leaves_in p (Some (Standing.refreshed get outcome)) = held
 
     takes_in : (p : Proc) (c : Option Standing) → IsIn (takes h p c).left
     takes_in p None = held
@@ -84,18 +88,25 @@ module _ (jobs : Jobs) (id : ℕ) where
     takes_in p (Some (Standing.released f gone)) = held
     takes_in p (Some (Standing.parked get)) = held
     takes_in p (Some (Standing.answered get outcome)) = held
+    takes_in p (Some (Standing.refreshing get number)) = held
+    takes_in p (Some (Standing.refreshed get outcome)) = held
 
-    asks_in : (p : Proc) (get : Get) (o : Outcome) → IsIn (asks h p get o).left
-    asks_in p get (Outcome.found value) = held
-    asks_in p get Outcome.absent = held
-    asks_in p get Outcome.outside = held
-    asks_in p get Outcome.parks = held
+    asks_in : (p : Proc) (get : Get) (mode : Mode) (o : Outcome) → IsIn (asks h p get mode o).left
+    asks_in p get mode (Outcome.found value) = held
+    asks_in p get mode Outcome.absent = held
+    asks_in p get mode Outcome.outside = held
+    asks_in p get mode Outcome.parks = held
 
     unless_in : (b : Bool) (node : ℕ) (p : Proc) (level : ℕ) → IsIn (holds_unless b h node p level)
     unless_in true node p level = held
     unless_in false node p level = held
 
-    receives_in : (frame : Frame) → IsIn (receives h frame)
+    -- what a reply tells is joined, where it tells something
+    joined_in : (o : Option Contribution) (q : Proc) → home_of jobs q ≡ id → (sealer_of h q).level ≤ level_at (joined h.far o) q
+    joined_in None q home = held q home
+    joined_in (Some c) q home = no_more _ _ _ (held q home) (levels_rise h.far (of_contribution c) q)
+
+    receives_in : (frame : Frame) → IsIn (receives jobs id h frame)
     unfolding receives
     receives_in (frames.Piece c) = λ q home. no_more _ _ _ (held q home) (levels_rise h.far (of_contribution c) q)
     receives_in (frames.Header hd) = held
@@ -103,9 +114,9 @@ module _ (jobs : Jobs) (id : ℕ) where
     receives_in (frames.RangeAsk a) = held
     receives_in (frames.DirectAsk a) = unless_in _ a.node a.proc a.level
     receives_in (frames.RefreshAsk a) = held
-    receives_in (frames.RefreshReply r) = held
+    receives_in (frames.RefreshReply r) = joined_in (told_by r)
 
-    delivers_in : (frame : Frame) (b : Bool) → IsIn (cond b (done_as Reply.taken (receives h frame)) (done_as Reply.ignored h)).left
+    delivers_in : (frame : Frame) (b : Bool) → IsIn (cond b (done_as Reply.taken (receives jobs id h frame)) (done_as Reply.ignored h)).left
     delivers_in frame true = receives_in frame
     delivers_in frame false = held
 
@@ -117,7 +128,7 @@ module _ (jobs : Jobs) (id : ℕ) where
       unfolding serves
       serves_in (Request.enter p list collect) = held
       serves_in (Request.leave p) = leaves_in p (call_of h p)
-      serves_in (Request.ask p get mode) = asks_in p get (answer_in jobs id h get mode)
+      serves_in (Request.ask p get mode) = asks_in p get mode (answer_in jobs id h get mode)
       serves_in (Request.take p) = takes_in p (call_of h p)
       serves_in (Request.terminate p) = sealing_in p (ended_with (sealer_of h p)) (holds.sealers p)
       serves_in (Request.define name list) = sets_in _ refl

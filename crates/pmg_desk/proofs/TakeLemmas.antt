@@ -2,7 +2,7 @@
 use Rattle.std.specs.Prelude.{IfOk}
 use Rattle.std.specs.FinMap as finite
 use Rattle.std.specs.Option.{option_map}
-use Rattle.std.proofs.Common.{◌≡◌, inl, inr, ℕ, Bool, true, false, List, [], ◌∷◌, Option, Some, None, Result, Ok, Err, sym, subst}
+use Rattle.std.proofs.Common.{◌≡◌, inl, inr, ℕ, Bool, true, false, List, [], ◌∷◌, Option, Some, None, Result, Ok, Err, refl, sym, subst}
 use Rattle.pmg_value.specs.CheckOrder.{check_order}
 use Rattle.pmg_value.specs.Process.{proc_cmp}
 use Rattle.pmg_value.specs.Signatures.{FenceName}
@@ -10,11 +10,12 @@ use Rattle.pmg_value.specs.declared.process.Proc.{Proc}
 use Rattle.pmg_value.specs.declared.refusal.Refusal.{Refusal}
 use Rattle.pmg_jobinfo.specs.Jobs.{Jobs}
 use Rattle.pmg_get.specs.Gets.{Outcome}
+use Rattle.pmg_get.specs.declared.view.Mode.{Mode}
 use Rattle.pmg_get.specs.declared.view.Mode.TheVariants as modes
 use Rattle.pmg_rules.proofs.AfterActs.{after_act}
 use Rattle.pmg_rules.proofs.CallFacts.{call-settled}
 use Rattle.pmg_rules.proofs.Moving.{Moves, StaysOrMoves, does_call}
-use Rattle.pmg_rules.specs.Acts.{Act, Request, cause, does, serves, takes}
+use Rattle.pmg_rules.specs.Acts.{Act, Request, cause, does, serves, takes, waits_as}
 use Rattle.pmg_rules.specs.Holdings.{Get, Holding, Standing, answer_in, call_of, released_by, settle, settled_by}
 use Rattle.pmg_node.specs.Acting.{reply_as}
 use Rattle.pmg_node.specs.Kinds.{IsTaking}
@@ -28,11 +29,13 @@ use Rattle.pmg_journal.specs.Replays.{Happening, after_all, happening}
 use Rattle.pmg_desk.specs.Telling.{IsToldOf}
 use Rattle.pmg_desk.proofs.KindLemmas.{plain}
 use Rattle.pmg_desk.proofs.OpenLemmas.{over_first}
+use Rattle.pmg_desk.proofs.ReadLemmas.{now_tells}
 use Rattle.pmg_journal.proofs.ReplayLemmas.{last_is}
 
 -- whatever is answered has an outcome that is told
 abbrev HasOutcome : Option Standing → Type 0
 HasOutcome (Some (Standing.answered get Outcome.parks)) = ⊥
+HasOutcome (Some (Standing.refreshed get Outcome.parks)) = ⊥
 HasOutcome c = Unit {0}
 
 abbrev HaveOutcomes : Holding → Type 0
@@ -48,6 +51,17 @@ settled_has get (Outcome.found value) = tt
 settled_has get Outcome.absent = tt
 settled_has get Outcome.outside = tt
 
+anew_has : (get : Get) (o : Outcome) → (o ≡ Outcome.parks → ⊥) → HasOutcome (Some (Standing.refreshed get o))
+anew_has get (Outcome.found value) tells = tt
+anew_has get Outcome.absent tells = tt
+anew_has get Outcome.outside tells = tt
+anew_has get Outcome.parks tells = tells refl
+
+waits_has : (n : ℕ) (get : Get) (mode : Mode) → HasOutcome (Some (waits_as n get mode))
+waits_has n get modes.Wait = tt
+waits_has n get modes.Now = tt
+waits_has n get modes.Refresh = tt
+
 module _ (jobs : Jobs) (id : ℕ) (h : Holding) where
   settle_has : (c : Option Standing) → HasOutcome c → HasOutcome (option_map (settle jobs id h) c)
   settle_has None has = tt
@@ -55,13 +69,17 @@ module _ (jobs : Jobs) (id : ℕ) (h : Holding) where
   settle_has (Some (Standing.released f gone)) has = tt
   settle_has (Some (Standing.parked get)) has = settled_has get (answer_in jobs id h get modes.Wait)
   settle_has (Some (Standing.answered get outcome)) has = has
+  settle_has (Some (Standing.refreshing get number)) has = tt
+  settle_has (Some (Standing.refreshed get outcome)) has = has
 
   moved_has : (p : Proc) (a : Act) (c : Option Standing) → HasOutcome (call_of h p) → StaysOrMoves jobs id h p a c → HasOutcome c
   moved_has p a c has (inl same) = subst HasOutcome (sym same) has
   moved_has p a c has (inr (Moves.entering list collect is was now)) = subst HasOutcome (sym now) tt
-  moved_has p a c has (inr (Moves.parking get mode is was answer now)) = subst HasOutcome (sym now) tt
+  moved_has p a c has (inr (Moves.parking get mode is was answer now)) = subst HasOutcome (sym now) (waits_has h.requests get mode)
   moved_has p a c has (inr (Moves.leaving x others is was now)) = subst HasOutcome (sym now) tt
   moved_has p a c has (inr (Moves.taking get outcome is was now)) = subst HasOutcome (sym now) tt
+  moved_has p a c has (inr (Moves.taking_anew get outcome is was now)) = subst HasOutcome (sym now) tt
+  moved_has p a c has (inr (Moves.answering r get number is was replied now)) = subst HasOutcome (sym now) (anew_has get _ (now_tells _))
   moved_has p a c has (inr (Moves.ending is now)) = subst HasOutcome (sym now) tt
 
 outcomes_stay : (s : Server) (a : Act) → HaveOutcomes s.holding → HaveOutcomes (after s a).holding
@@ -87,6 +105,11 @@ takes_told h p (Some (Standing.answered get (Outcome.found value))) has = tt
 takes_told h p (Some (Standing.answered get Outcome.absent)) has = tt
 takes_told h p (Some (Standing.answered get Outcome.outside)) has = tt
 takes_told h p (Some (Standing.answered get Outcome.parks)) has = absurd has
+takes_told h p (Some (Standing.refreshing get number)) has = tt
+takes_told h p (Some (Standing.refreshed get (Outcome.found value))) has = tt
+takes_told h p (Some (Standing.refreshed get Outcome.absent)) has = tt
+takes_told h p (Some (Standing.refreshed get Outcome.outside)) has = tt
+takes_told h p (Some (Standing.refreshed get Outcome.parks)) has = absurd has
 
 taking_told : (s : Server) (p : Proc) → HaveOutcomes s.holding → OrRefused IsTaking (reply_to s (Act.request (Request.take p)))
 unfolding does serves

@@ -60,6 +60,8 @@ module _ (h : Holding) (p : Proc) where
   in_fence_by (Some (Standing.released f gone)) is = cc
   in_fence_by (Some (Standing.parked get)) is = cc
   in_fence_by (Some (Standing.answered get outcome)) is = cc
+  in_fence_by (Some (Standing.refreshing get number)) is = cc
+  in_fence_by (Some (Standing.refreshed get outcome)) is = cc
 
   parked_by : (c : Option Standing) → (takes h p c).reply ≡ Reply.waiting → status_by c ≡ Status.parked
   parked_by None is = cc
@@ -70,6 +72,11 @@ module _ (h : Holding) (p : Proc) where
   parked_by (Some (Standing.answered get Outcome.absent)) is = cc
   parked_by (Some (Standing.answered get Outcome.outside)) is = cc
   parked_by (Some (Standing.answered get Outcome.parks)) is = cc
+  parked_by (Some (Standing.refreshing get number)) is = refl
+  parked_by (Some (Standing.refreshed get (Outcome.found value))) is = cc
+  parked_by (Some (Standing.refreshed get Outcome.absent)) is = cc
+  parked_by (Some (Standing.refreshed get Outcome.outside)) is = cc
+  parked_by (Some (Standing.refreshed get Outcome.parks)) is = cc
 
 module _ (s : Server) (p : Proc) where
   leave_past : StandsPast s p Status.in_fence → reply_to s (Act.request (Request.leave p)) ≡ Reply.waiting → ⊥

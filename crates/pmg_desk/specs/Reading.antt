@@ -14,6 +14,7 @@ use Rattle.pmg_fence.specs.Entering.{same_proc}
 use Rattle.pmg_jobinfo.specs.Jobs.{Jobs}
 use Rattle.pmg_jobinfo.specs.Reserved.{reserved_value}
 use Rattle.pmg_get.specs.Gets.{Seen, resolve}
+use Rattle.pmg_get.specs.declared.view.Mode.{Mode}
 use Rattle.pmg_get.specs.declared.view.Mode.TheVariants as modes
 use Rattle.pmg_publish.specs.Publications.{near_of, far_of}
 use Rattle.pmg_rules.specs.Acts.{Act, Reply, Request, reply_of, target_cause}
@@ -60,7 +61,7 @@ Reads c d get result (Ok _) = IsDue result (reply_of (resolve (seen_by c (near_o
 abbrev pub IsReadNow : Client → Client → Get → Result Value Refusal → Type 0
 IsReadNow c d get result = Reads c d get result (first_of (now_cause c get) tt)
 
--- ---- gets that wait
+-- ---- gets that may wait
 
 -- what comes of a get that was replied so; there is always something to take once it parked
 abbrev pub got_in : Reply → Result (List ℕ) Refusal
@@ -74,14 +75,14 @@ got_as (Err e) = Err e
 
 -- The client was told of a board that a journal of its node makes; that ends with the client's question, or with its taking of the
 -- answer, and with the reply that this comes of.
-abbrev pub IsGot : Client → Get → Result Value Refusal → Type 0
-IsGot c get result =
+abbrev pub IsGot : Client → Get → Mode → Result Value Refusal → Type 0
+IsGot c get mode result =
     (r : Reply) × (got_in r ≡ got_as result)
-    × ((Tells c (Act.request (Request.ask (proc_of c) get modes.Wait)) r) ⊎ (Tells c (Act.request (Request.take (proc_of c))) r))
+    × ((Tells c (Act.request (Request.ask (proc_of c) get mode)) r) ⊎ (Tells c (Act.request (Request.take (proc_of c))) r))
 
--- the call that asks for the key, and waits
-abbrev pub asking : Client → Get → Calling
-asking c get = Calling.request (Request.ask (proc_of c) get modes.Wait)
+-- the call that asks for the key
+abbrev pub asking : Client → Get → Mode → Calling
+asking c get mode = Calling.request (Request.ask (proc_of c) get mode)
 
 -- after the question of a get, which was answered so: its taking is noted where it parked, else nothing more
 abbrev pub NotesTaking : List Noted → List Noted → Calling → Result Asked Refusal → Result Value Refusal → Type 0
@@ -91,13 +92,13 @@ NotesTaking old new take (Ok askeds.Parked) result =
 NotesTaking old new take (Err e) result = (result ≡ Err e) × (new ≡ old)
 
 -- A get stands in the transcript as its question and its taking.
-abbrev pub NotesGet : Client → Client → Get → Result Value Refusal → Type 0
-NotesGet c d get result =
-    (mid : List Noted) × (asked : Result Asked Refusal) × NotesCall (noted_in c.transcript) mid (asking c get) asked_reply asked
+abbrev pub NotesGet : Client → Client → Get → Mode → Result Value Refusal → Type 0
+NotesGet c d get mode result =
+    (mid : List Noted) × (asked : Result Asked Refusal) × NotesCall (noted_in c.transcript) mid (asking c get mode) asked_reply asked
     × NotesTaking mid (noted_in d.transcript) (Calling.request (Request.take (proc_of c))) asked result
 
 -- A get of a key of its own: refused where a call of it waits, else what it put last; as one question in the transcript.
-pub record IsOwnGet (c d : Client) (get : Get) (result : Result Value Refusal) : Type 0 where
+pub record IsOwnGet (c d : Client) (get : Get) (mode : Mode) (result : Result Value Refusal) : Type 0 where
   pub busy : is_waiting c ≡ true → IsDue result (Reply.refused refusals.Busy)
-  pub answer : is_waiting c ≡ false → IsDue result (reply_of (resolve (Seen.own (finite.get (puts_of c).own get.key)) modes.Wait))
-  pub noted : NotesCall (noted_in c.transcript) (noted_in d.transcript) (asking c get) (λ (v : Value). Reply.found (spelling v)) result
+  pub answer : is_waiting c ≡ false → IsDue result (reply_of (resolve (Seen.own (finite.get (puts_of c).own get.key)) mode))
+  pub noted : NotesCall (noted_in c.transcript) (noted_in d.transcript) (asking c get mode) (λ (v : Value). Reply.found (spelling v)) result

@@ -5,7 +5,6 @@ ghost use Rattle.pmg_value.specs.Spelling.{spelling};
 ghost use Rattle.pmg_commit.specs.Data.{level_at};
 ghost use Rattle.pmg_jobinfo.specs.Jobs.{is_node};
 ghost use Rattle.pmg_publish.specs.Publications.{far_of};
-ghost use Rattle.pmg_get.specs.declared.view.Mode.TheVariants as modes;
 ghost use Rattle.pmg_holding.specs.Calls.{get_of};
 ghost use Rattle.pmg_rules.specs.Acts.{Act as ModelAct, Reply as ModelReply, Request as ModelRequest};
 ghost use Rattle.pmg_node.specs.Acting.{act_of, reply_as, request_of};
@@ -244,13 +243,14 @@ impl<'d> Client<'d> {
         rt: &R,
         target: &Proc,
         key: &Key,
+        mode: Mode,
     ) -> Result<Asked, Refusal>
-        ensures told { IsEvent result → Tells self.new (ModelAct.request (ModelRequest.ask (proc_of self.old) (get_of target.now key.now) modes.Wait))
+        ensures told { IsEvent result → Tells self.new (ModelAct.request (ModelRequest.ask (proc_of self.old) (get_of target.now key.now) mode))
             (reply_in asked_reply result) }
-        ensures noted { NotesOf self.old self.new (Calling.request (ModelRequest.ask (proc_of self.old) (get_of target.now key.now) modes.Wait)) asked_reply result }
+        ensures noted { NotesOf self.old self.new (Calling.request (ModelRequest.ask (proc_of self.old) (get_of target.now key.now) mode)) asked_reply result }
         ensures later { IsLater self.old self.new }
     {
-        let request = Request::Ask(self.proc().copy()?, target.copy()?, key.copy()?, Mode::Wait);
+        let request = Request::Ask(self.proc().copy()?, target.copy()?, key.copy()?, mode);
         asked_by(self.request(rt, None, request))
     }
 

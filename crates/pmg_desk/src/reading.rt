@@ -143,7 +143,8 @@ impl Client<'_> {
     /// What it put under the key last, unless a call of it waits.
     fn free_own(&self, key: &Key) -> Result<Value, Refusal>
         ensures busy { is_waiting self.now ≡ true → IsDue result (ModelReply.refused refusals.Busy) }
-        ensures answer { is_waiting self.now ≡ false → IsDue result (reply_of (resolve (Seen.own (finite.get (puts_of self.now).own key.now)) modes.Wait)) }
+        ensures answer { (mode : GetMode) → is_waiting self.now ≡ false
+            → IsDue result (reply_of (resolve (Seen.own (finite.get (puts_of self.now).own key.now)) mode)) }
     {
         if self.in_call() {
             return Err(Refusal::Busy);
@@ -152,31 +153,65 @@ impl Client<'_> {
     }
 
     /// A key of its own, as it put it last. The read is noted.
-    fn get_own(&mut self, key: &Key) -> Result<Value, Refusal>
+    fn get_own(&mut self, key: &Key, mode: Mode) -> Result<Value, Refusal>
         ensures later { IsLater self.old self.new }
-        ensures own { IsOwnGet self.old self.new (get_of (proc_of self.old) key.now) result }
+        ensures own { IsOwnGet self.old self.new (get_of (proc_of self.old) key.now) mode result }
     {
         let proc = self.proc();
-        let request = Request::Ask(proc.copy()?, proc.copy()?, key.copy()?, Mode::Wait);
+        let request = Request::Ask(proc.copy()?, proc.copy()?, key.copy()?, mode);
         let answer = self.free_own(key);
         self.notes.keep(Call::Request(request), &answer)?;
         answer
     }
 
-    /// It gets the target's key (PMIx Standard 5.0, PMIx_Get), and waits until there is something to answer.
-    pub fn get<R: Wait>(&mut self, rt: &R, target: &Proc, key: &Key) -> Result<Value, Refusal>
+    /// It gets the target's key in the mode, and takes the answer where it waits.
+    fn get_as<R: Wait>(
+        &mut self,
+        rt: &R,
+        target: &Proc,
+        key: &Key,
+        mode: Mode,
+    ) -> Result<Value, Refusal>
         ensures later { IsLater self.old self.new }
-        ensures own { is_own (proc_of self.old) (get_of target.now key.now) ≡ true → IsOwnGet self.old self.new (get_of target.now key.now) result }
-        ensures told { is_own (proc_of self.old) (get_of target.now key.now) ≡ false → IsEvent result → IsGot self.new (get_of target.now key.now) result }
-        ensures noted { is_own (proc_of self.old) (get_of target.now key.now) ≡ false → NotesGet self.old self.new (get_of target.now key.now) result }
+        ensures own { is_own (proc_of self.old) (get_of target.now key.now) ≡ true → IsOwnGet self.old self.new (get_of target.now key.now) mode result }
+        ensures told { is_own (proc_of self.old) (get_of target.now key.now) ≡ false → IsEvent result → IsGot self.new (get_of target.now key.now) mode result }
+        ensures noted { is_own (proc_of self.old) (get_of target.now key.now) ≡ false → NotesGet self.old self.new (get_of target.now key.now) mode result }
     {
         if self.is_own(target, key) {
-            return self.get_own(key);
+            return self.get_own(key, mode);
         }
-        match self.ask(rt, target, key)? {
+        match self.ask(rt, target, key, mode)? {
             Asked::Found(value) => Ok(value),
             Asked::Parked => value_in(self.take(rt)?),
         }
+    }
+
+    /// It gets the target's key (PMIx Standard 5.0, PMIx_Get), and waits until there is something to answer.
+    pub fn get<R: Wait>(&mut self, rt: &R, target: &Proc, key: &Key) -> Result<Value, Refusal>
+        ensures later { IsLater self.old self.new }
+        ensures own { is_own (proc_of self.old) (get_of target.now key.now) ≡ true → IsOwnGet self.old self.new (get_of target.now key.now) modes.Wait result }
+        ensures told { is_own (proc_of self.old) (get_of target.now key.now) ≡ false → IsEvent result → IsGot self.new (get_of target.now key.now) modes.Wait result }
+        ensures noted { is_own (proc_of self.old) (get_of target.now key.now) ≡ false → NotesGet self.old self.new (get_of target.now key.now) modes.Wait result }
+    {
+        self.get_as(rt, target, key, Mode::Wait)
+    }
+
+    /// It gets the target's key anew (PMIx Standard 5.0, PMIX_GET_REFRESH_CACHE). Where the target is at home at another node, that
+    /// node is asked what it has, and the get waits for the reply; any other key is told as it is there now. TooMany where no number
+    /// is left for the request. Where it is refused as NoMemory or Closed, `in_call` says whether the get waits, and `take` takes the
+    /// answer.
+    pub fn get_refresh<R: Wait>(
+        &mut self,
+        rt: &R,
+        target: &Proc,
+        key: &Key,
+    ) -> Result<Value, Refusal>
+        ensures later { IsLater self.old self.new }
+        ensures own { is_own (proc_of self.old) (get_of target.now key.now) ≡ true → IsOwnGet self.old self.new (get_of target.now key.now) modes.Refresh result }
+        ensures told { is_own (proc_of self.old) (get_of target.now key.now) ≡ false → IsEvent result → IsGot self.new (get_of target.now key.now) modes.Refresh result }
+        ensures noted { is_own (proc_of self.old) (get_of target.now key.now) ≡ false → NotesGet self.old self.new (get_of target.now key.now) modes.Refresh result }
+    {
+        self.get_as(rt, target, key, Mode::Refresh)
     }
 
     /// What it reads of the target's key, and waits for nobody.

@@ -12,6 +12,8 @@ mod growths;
 #[cfg(test)]
 mod published;
 #[cfg(test)]
+mod refreshing;
+#[cfg(test)]
 mod sets;
 #[cfg(test)]
 mod waiting;

@@ -7,8 +7,8 @@ use std::alloc::Global;
 use std::process::Abort;
 use std::sync::Wait;
 
-// Hands the frames that the one desk's node sent to the other desk: how many of them it took.
-fn hand_over<R: Wait>(rt: &R, from: &Desk, to: &Desk) -> Result<u64, Refusal> {
+/// Hands the frames that the one desk's node sent to the other desk: how many of them it took.
+pub(crate) fn hand_over<R: Wait>(rt: &R, from: &Desk, to: &Desk) -> Result<u64, Refusal> {
     let frames = from.take_frames(rt)?;
     let mut taken = 0_u64;
     for sent in frames {

@@ -46,9 +46,12 @@ scope_in word =
 unfoldable pub collect_in : List ℕ → Option Bool
 collect_in word = if bytes_eq word (codes "plain") then Some false else if bytes_eq word (codes "collect") then Some true else None
 
--- whether a get waits
+-- whether a get waits, and whether it asks the home of its target anew
 unfoldable pub mode_in : List ℕ → Option Mode
-mode_in word = if bytes_eq word (codes "wait") then Some modes.Wait else if bytes_eq word (codes "now") then Some modes.Now else None
+mode_in word =
+    if bytes_eq word (codes "wait") then Some modes.Wait
+    else if bytes_eq word (codes "now") then Some modes.Now
+    else if bytes_eq word (codes "refresh") then Some modes.Refresh else None
 
 -- a value, by its canonical bytes in hexadecimal
 unfoldable pub value_in : List ℕ → Option Value

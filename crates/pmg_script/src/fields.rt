@@ -114,7 +114,7 @@ fn collect_of(word: &[u8]) -> Result<bool, LineFault>
     }
 }
 
-/// Whether a get waits.
+/// Whether a get waits, and whether it asks the home of its target anew.
 #[tactic(auto, unfolding(crate::specs::Fields::mode_in))]
 fn mode_of(word: &[u8]) -> Result<Mode, LineFault>
     ensures { ReadsAll (λ m. m) result (mode_in word.now) }
@@ -123,6 +123,8 @@ fn mode_of(word: &[u8]) -> Result<Mode, LineFault>
         Ok(Mode::Wait)
     } else if word == b"now".as_slice() {
         Ok(Mode::Now)
+    } else if word == b"refresh".as_slice() {
+        Ok(Mode::Refresh)
     } else {
         Err(LineFault::Malformed)
     }
@@ -176,7 +178,7 @@ impl<'a> Words<'a> {
         collect_of(word)
     }
 
-    /// The next word, which says whether a get waits.
+    /// The next word, which is the mode of a get.
     pub fn mode(&mut self) -> Result<Mode, LineFault>
         ensures { Reads (λ m. m) result self.new (read_as mode_in self.old) }
     {

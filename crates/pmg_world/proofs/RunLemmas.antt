@@ -1,16 +1,20 @@
 -- What is told of a run, and the laws of every run.
-use Rattle.std.proofs.Common.{◌≡◌, List, [], ◌∷◌, ◌++◌, None, refl, sym, ap, subst, ◌∙◌, append_assoc}
+use Rattle.std.proofs.Common.{◌≡◌, ◌≤◌, List, [], ◌∷◌, ◌++◌, None, refl, sym, ap, subst, ◌∙◌, append_assoc}
+use Rattle.pmg_scope.specs.Scripts.{commits}
 use Rattle.pmg_jobinfo.specs.Jobs.{Jobs, AreJobs, home_of}
 use Rattle.pmg_fence.specs.Entering.{entry}
 use Rattle.pmg_fence.specs.Rules.{Scripts, gone_of}
 use Rattle.pmg_fence.proofs.LineLemmas.{append_empty}
+use Rattle.pmg_get.specs.Gets.{resolve}
+use Rattle.pmg_get.specs.declared.view.Mode.TheVariants as modes
 use Rattle.pmg_rules.specs.Acts.{Reply}
 use Rattle.pmg_rules.specs.Fitting.{last_fence}
 use Rattle.pmg_rules.specs.declared.sent.Sent.{Sent}
-use Rattle.pmg_world.specs.KeptLaws.{scripts_told, leaves_with, KeepsFence, ReleasesWhole, ReleasesAlike, AnswersNeverFall, IsLawful}
-use Rattle.pmg_runs.specs.Laws.{AnswersRise, answers}
+use Rattle.pmg_world.specs.KeptLaws.{scripts_told, leaves_with, asks_with, takes_with, KeepsFence, ReleasesWhole, ReleasesAlike, AnswersNeverFall, RefreshesAnew, IsLawful}
+use Rattle.pmg_runs.specs.Laws.{AnswersRise, answers, seen_at}
 use Rattle.pmg_runs.specs.Worlds.{World, Doing, Does, Happened, Step, Run, doing, start}
 use Rattle.pmg_runs.proofs.Leaving.{released_whole, released_alike}
+use Rattle.pmg_runs.proofs.Refreshing.{refresh_theorem}
 use Rattle.pmg_runs.proofs.Rising.{fence_theorem, gets_rise}
 use Rattle.pmg_runs.proofs.ToldScripts.{scripts_are_told}
 
@@ -82,21 +86,21 @@ module _ (jobs : Jobs) (are : AreJobs jobs) where
   told_at : (xs : List Happened) (w : World) → Run jobs (start jobs) xs w → w.scripts ≡ scripts_told jobs xs
   told_at xs w run = scripts_are_told jobs (start jobs) xs w run
 
-  -- a run in which a process leaves its fence
-  record WithLeave (xs : List Happened) (x : Happened) (ys : List Happened) (w : World) : Type 0 where
+  -- a run, cut where an event happens
+  record CutAt (xs : List Happened) (x : Happened) (ys : List Happened) (w : World) : Type 0 where
     before : World
     run : Run jobs (start jobs) xs before
     next : IsNext jobs before x ys w
 
-  with_leave : (told xs : List Happened) (x : Happened) (ys : List Happened) (w : World) → told ≡ xs ++ x ∷ ys → Run jobs (start jobs) told w → WithLeave xs x ys w
-  with_leave told xs x ys w cut run =
+  cut_at : (told xs : List Happened) (x : Happened) (ys : List Happened) (w : World) → told ≡ xs ++ x ∷ ys → Run jobs (start jobs) told w → CutAt xs x ys w
+  cut_at told xs x ys w cut run =
       let parts = run_cut jobs xs (x ∷ ys) (start jobs) w (subst (λ l. Run jobs (start jobs) l w) cut run) in
       record { before = parts.mid; run = parts.first; next = run_next jobs parts.mid x ys w parts.second }
 
   keeps_fence : (told : List Happened) (w : World) → Run jobs (start jobs) told w → KeepsFence jobs told
   unfolding KeepsFence
   keeps_fence told w run xs ys node p k gone cut f last collects q i apart =
-      let at = with_leave told xs (leaves_with node p k gone) ys w cut run in
+      let at = cut_at told xs (leaves_with node p k gone) ys w cut run in
       let before = told_at xs at.before at.run in
       let law = fence_theorem jobs are xs at.before at.run p k gone at.next.mid (node, at.next.step) f (ap (λ (s : Scripts). last_fence (s p)) before ∙ last) collects q i apart ys w at.next.rest in
       (law.0, ap (λ (s : Scripts). entry (s q) f) (sym before) ∙ law.1, subst (λ (s : Scripts). AnswersRise jobs (home_of jobs p) (s q) law.0.level (answers p q None ys)) (told_at told w run) law.2)
@@ -104,7 +108,7 @@ module _ (jobs : Jobs) (are : AreJobs jobs) where
   releases_whole : (told : List Happened) (w : World) → Run jobs (start jobs) told w → ReleasesWhole jobs told
   unfolding ReleasesWhole
   releases_whole told w run xs ys node p k gone cut =
-      let at = with_leave told xs (leaves_with node p k gone) ys w cut run in
+      let at = cut_at told xs (leaves_with node p k gone) ys w cut run in
       let before = told_at xs at.before at.run in
       let law = released_whole jobs are xs at.before at.run p k gone at.next.mid (node, at.next.step) in (
         law.0,
@@ -114,19 +118,56 @@ module _ (jobs : Jobs) (are : AreJobs jobs) where
         λ q i. let its = law.4 q i in (its.0, ap (λ (s : Scripts). entry (s q) law.0) (sym before) ∙ its.1),
       )
 
+  -- a run, cut where two events happen
+  record CutTwice (xs : List Happened) (x : Happened) (ys : List Happened) (y : Happened) (zs : List Happened) (w : World) : Type 0 where
+    before : World
+    run : Run jobs (start jobs) xs before
+    after : World
+    step : Step jobs before x.event x.reply after
+    mid : World
+    rest : Run jobs after ys mid
+    last : World
+    then : Step jobs mid y.event y.reply last
+    first_told : before.scripts ≡ scripts_told jobs xs
+    then_told : mid.scripts ≡ scripts_told jobs (xs ++ x ∷ ys)
+
+  cut_twice : (told xs : List Happened) (x : Happened) (ys : List Happened) (y : Happened) (zs : List Happened) (w : World) → told ≡ xs ++ x ∷ (ys ++ y ∷ zs)
+      → Run jobs (start jobs) told w → CutTwice xs x ys y zs w
+  cut_twice told xs x ys y zs w cut run =
+      let at = cut_at told xs x (ys ++ y ∷ zs) w cut run in
+      let parts = run_cut jobs ys (y ∷ zs) at.next.mid w at.next.rest in
+      let then = run_next jobs parts.mid y zs w parts.second in
+      let middle = run_both jobs xs (x ∷ ys) (start jobs) at.before parts.mid at.run (next_run jobs at.before x ys parts.mid (record { mid = at.next.mid; step = at.next.step; rest = parts.first })) in
+      record {
+        before = at.before;
+        run = at.run;
+        after = at.next.mid;
+        step = at.next.step;
+        mid = parts.mid;
+        rest = parts.first;
+        last = then.mid;
+        then = then.step;
+        first_told = told_at xs at.before at.run;
+        then_told = told_at (xs ++ x ∷ ys) parts.mid middle;
+      }
+
   releases_alike : (told : List Happened) (w : World) → Run jobs (start jobs) told w → ReleasesAlike jobs told
   unfolding ReleasesAlike
   releases_alike told w run xs ys zs m n p q k j gone others cut same =
-      let one = leaves_with m p k gone in
-      let two = leaves_with n q j others in
-      let at = with_leave told xs one (ys ++ two ∷ zs) w cut run in
-      let parts = run_cut jobs ys (two ∷ zs) at.next.mid w at.next.rest in
-      let then = run_next jobs parts.mid two zs w parts.second in
-      let middle = run_both jobs xs (one ∷ ys) (start jobs) at.before parts.mid at.run (next_run jobs at.before one ys parts.mid (record { mid = at.next.mid; step = at.next.step; rest = parts.first })) in
-      let before = told_at xs at.before at.run in
-      let after = told_at (xs ++ one ∷ ys) parts.mid middle in
-      released_alike jobs are xs at.before at.run p k gone at.next.mid (m, at.next.step) ys parts.mid parts.first q j others then.mid (n, then.step)
-      (ap (λ (s : Scripts). last_fence (s p)) before ∙ same ∙ ap (λ (s : Scripts). last_fence (s q)) (sym after))
+      let at = cut_twice told xs (leaves_with m p k gone) ys (leaves_with n q j others) zs w cut run in
+      released_alike jobs are xs at.before at.run p k gone at.after (m, at.step) ys at.mid at.rest q j others at.last (n, at.then)
+      (ap (λ (s : Scripts). last_fence (s p)) at.first_told ∙ same ∙ ap (λ (s : Scripts). last_fence (s q)) (sym at.then_told))
+
+  refreshes_anew : (told : List Happened) (w : World) → Run jobs (start jobs) told w → RefreshesAnew jobs told
+  unfolding RefreshesAnew
+  refreshes_anew told w run xs ys zs node m p get r cut stays o is =
+      let at = cut_twice told xs (asks_with node p get) ys (takes_with m p r) zs w cut run in
+      let law = refresh_theorem jobs are xs at.before at.run p get node at.after at.step ys at.mid at.rest stays m r at.last at.then o is in (
+        law.0,
+        subst (λ (s : Scripts). commits (s get.target) ≤ law.0) at.first_told law.1,
+        subst (λ (s : Scripts). law.0 ≤ commits (s get.target)) at.then_told law.2,
+        subst (λ (s : Scripts). o ≡ resolve (seen_at jobs (home_of jobs p) (s get.target) law.0 get) modes.Now) at.then_told law.3,
+      )
 
   answers_never_fall : (told : List Happened) (w : World) → Run jobs (start jobs) told w → AnswersNeverFall jobs told
   unfolding AnswersNeverFall
@@ -139,4 +180,5 @@ module _ (jobs : Jobs) (are : AreJobs jobs) where
     releases_whole = releases_whole told w run;
     releases_alike = releases_alike told w run;
     answers_never_fall = answers_never_fall told w run;
+    refreshes_anew = refreshes_anew told w run;
   }

@@ -1,16 +1,21 @@
 -- What holds of a list of events with their replies, whatever they are, where they are a run: the laws of every run, of what is told alone.
-use Rattle.std.specs.Prelude.{◌≡◌, ℕ, true, false, List, [], ◌∷◌, ◌++◌, Some, None}
+use Rattle.std.specs.Prelude.{◌≡◌, ℕ, ◌≤◌, true, false, List, [], ◌∷◌, ◌++◌, Some, None}
 use Rattle.pmg_value.specs.Lists.{In}
 use Rattle.pmg_value.specs.Signatures.{FenceName}
 use Rattle.pmg_value.specs.declared.process.Proc.{Proc}
+use Rattle.pmg_scope.specs.Scripts.{commits}
 use Rattle.pmg_frame.specs.Fences.{participants_of}
 use Rattle.pmg_jobinfo.specs.Jobs.{Jobs, home_of}
 use Rattle.pmg_fence.specs.Entering.{same_proc, entry}
 use Rattle.pmg_fence.specs.Rules.{Scripts, gone_of}
 use Rattle.pmg_fence.specs.declared.entry.Entry.{Entry}
+use Rattle.pmg_get.specs.Gets.{Outcome, resolve}
+use Rattle.pmg_get.specs.declared.view.Mode.TheVariants as modes
 use Rattle.pmg_rules.specs.Acts.{Request, Reply}
 use Rattle.pmg_rules.specs.Fitting.{last_fence}
-use Rattle.pmg_runs.specs.Laws.{AnswersRise, answers}
+use Rattle.pmg_rules.specs.Holdings.{Get}
+use Rattle.pmg_runs.specs.Laws.{AnswersRise, answers, outcome_of, seen_at}
+use Rattle.pmg_runs.specs.Refreshes.{StaysIn, wanted_anew}
 use Rattle.pmg_runs.specs.Worlds.{Event, Happened, scripts_after}
 
 -- the scripts of all processes, as the events tell them
@@ -20,6 +25,14 @@ scripts_told jobs told = scripts_after jobs (λ _. []) told
 -- the process leaves its fence, and is told that this instance is over, with who was gone
 abbrev pub leaves_with : ℕ → Proc → ℕ → List Proc → Happened
 leaves_with node p k gone = record { event = Event.request node (Request.leave p); reply = Reply.released k gone }
+
+-- the process asks for a key anew, and has to wait
+abbrev pub asks_with : ℕ → Proc → Get → Happened
+asks_with node p get = record { event = Event.request node (Request.ask p get modes.Refresh); reply = Reply.parked }
+
+-- the process asks for the answer of its get
+abbrev pub takes_with : ℕ → Proc → Reply → Happened
+takes_with node p r = record { event = Event.request node (Request.take p); reply = r }
 
 -- The fence theorem: a process that was released from a fence that collects data is answered, by each later get of another participant's
 -- keys, what that one's last commit before it entered left, or a later one (PMIx Standard 5.0, PMIx_Fence, PMIX_COLLECT_DATA).
@@ -49,9 +62,21 @@ unfoldable pub AnswersNeverFall : Jobs → List Happened → Type 0
 AnswersNeverFall jobs told =
     (p q : Proc) → same_proc p q ≡ false → AnswersRise jobs (home_of jobs p) (scripts_told jobs told q) 0 (answers p q None told)
 
+-- A get that asks anew, and has to wait, is answered with what a commit of its target left: the last one that was made when the
+-- get began, or a later one (PMIx Standard 5.0, PMIX_GET_REFRESH_CACHE).
+unfoldable pub RefreshesAnew : Jobs → List Happened → Type 0
+RefreshesAnew jobs told =
+    (xs ys zs : List Happened) (node m : ℕ) (p : Proc) (get : Get) (r : Reply)
+    → told ≡ xs ++ asks_with node p get ∷ (ys ++ takes_with m p r ∷ zs) → StaysIn p (wanted_anew get) ys
+    → (o : Outcome) → outcome_of r ≡ Some o
+    → (n : ℕ) × (commits (scripts_told jobs xs get.target) ≤ n)
+    × (n ≤ commits (scripts_told jobs (xs ++ asks_with node p get ∷ ys) get.target))
+    × (o ≡ resolve (seen_at jobs (home_of jobs p) (scripts_told jobs (xs ++ asks_with node p get ∷ ys) get.target) n get) modes.Now)
+
 -- all of that
 pub record IsLawful (jobs : Jobs) (told : List Happened) : Type 0 where
   pub keeps_fence : KeepsFence jobs told
   pub releases_whole : ReleasesWhole jobs told
   pub releases_alike : ReleasesAlike jobs told
   pub answers_never_fall : AnswersNeverFall jobs told
+  pub refreshes_anew : RefreshesAnew jobs told

@@ -7,6 +7,7 @@ mod get_acts;
 pub(crate) mod group;
 mod ignored_frames;
 mod moving_levels;
+mod refresh_acts;
 mod refusal_acts;
 mod set_acts;
 pub(crate) mod text;

@@ -77,6 +77,26 @@ const ROWS: &[Row] = &[
  ignored
 1 direct 0 pmix.host0 0
  ignored
+1 anew 1 j1 0 1
+ ignored
+1 anew 3 j1 0 1
+ ignored
+1 anew 0 j0 0 1
+ ignored
+1 anew 0 j4 0 1
+ ignored
+1 anew 0 k0 0 1
+ ignored
+1 anew 0 pmix.host0 0 1
+ ignored
+1 reply 0 1 j0 0 1 a 1 9
+ ignored
+1 reply 1 1 j1 1 2 a 2 9
+ ignored
+1 reply 1 1 j4 0 1 a 1 9
+ ignored
+1 reply 1 1 k0 0 1 a 1 9
+ ignored
 ",
             WAITING_STILL,
         ],
@@ -155,6 +175,19 @@ const ROWS: &[Row] = &[
 1 take j2
  found u8:3
 0 direct 1 pmix.host0 0
+ taken
+0 anew 1 pmix.host0 0 1
+ taken
+ to 1: refresh reply 1 request 1 pmix.host0 0..0
+1 anew 2 j1 0 7
+ taken
+ to 2: refresh reply 2 request 7 j1 0..1 a=u8:1@1
+1 anew 2 j1 1 7
+ taken
+ to 2: refresh reply 2 request 7 j1 1..1
+1 anew 2 j1 2 7
+ taken
+1 reply 1 1 pmix.host0 0
  taken
 ",
         ],

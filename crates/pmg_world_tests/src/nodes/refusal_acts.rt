@@ -179,6 +179,10 @@ const ROWS: &[Row] = &[
  Busy
 0 now j3 j2 z
  Busy
+0 refresh j0 j9 a
+ BadParam
+0 refresh j3 j1 a
+ Busy
 0 now j0 j1 a
  NotFound
 0 wait j0 j2 a

@@ -1,6 +1,6 @@
 //! What a node replies and sends, as text: one line for the reply, and one for each frame.
-use pmg_commit::Piece;
-use pmg_frame::{CommitAsk, FenceName, Frame, Header, State};
+use pmg_commit::{Piece, PieceEntry};
+use pmg_frame::{CommitAsk, FenceName, Frame, Header, RefreshReply, State};
 use pmg_node::Reply;
 use pmg_rules::Sent;
 use pmg_value::{Proc, Refusal, push_number};
@@ -44,13 +44,20 @@ fn put_procs(text: &mut Vec<u8>, procs: &[Proc]) -> Result<(), AllocError> {
     Ok(())
 }
 
-// The commits of the piece, and its keys and values, each with the number of its commit.
-fn put_piece(text: &mut Vec<u8>, piece: &Piece, alloc: Global) -> Result<(), AllocError> {
-    put(text, "piece ")?;
-    put_proc(text, piece.proc())?;
-    put_with(text, " ", piece.from())?;
-    put_with(text, "..", piece.to())?;
-    for entry in piece.entries() {
+// The process, the commits that are told, and their keys and values, each with the number of its
+// commit.
+fn put_told(
+    text: &mut Vec<u8>,
+    proc: &Proc,
+    from: u64,
+    to: u64,
+    entries: &[PieceEntry],
+    alloc: Global,
+) -> Result<(), AllocError> {
+    put_proc(text, proc)?;
+    put_with(text, " ", from)?;
+    put_with(text, "..", to)?;
+    for entry in entries {
         put(text, " ")?;
         text.extend_from_slice(entry.key.as_bytes())?;
         put(text, "=")?;
@@ -58,6 +65,21 @@ fn put_piece(text: &mut Vec<u8>, piece: &Piece, alloc: Global) -> Result<(), All
         put_with(text, "@", entry.number)?;
     }
     Ok(())
+}
+
+fn put_piece(text: &mut Vec<u8>, piece: &Piece, alloc: Global) -> Result<(), AllocError> {
+    let (from, to) = (piece.from(), piece.to());
+    put(text, "piece ")?;
+    put_told(text, piece.proc(), from, to, piece.entries(), alloc)
+}
+
+// The node that asked, under which number, and what it is told.
+fn put_reply(text: &mut Vec<u8>, reply: &RefreshReply, alloc: Global) -> Result<(), AllocError> {
+    let (from, to) = (reply.from(), reply.to());
+    put_with(text, "refresh reply ", u64::from(reply.node().index()))?;
+    put_with(text, " request ", reply.request())?;
+    put(text, " ")?;
+    put_told(text, reply.proc(), from, to, reply.entries(), alloc)
 }
 
 // Whether the fence collects data, its instance and its participants.
@@ -104,10 +126,11 @@ fn put_frame(text: &mut Vec<u8>, frame: &Frame, alloc: Global) -> Result<(), All
         }
         Frame::RangeAsk(ask) => put_ask(text, "range ask ", ask),
         Frame::DirectAsk(ask) => put_ask(text, "direct ask ", ask),
-        Frame::RefreshAsk(refresh) => put_ask(text, "refresh ask ", refresh.ask()),
-        Frame::RefreshReply(reply) => {
-            put_with(text, "refresh reply ", u64::from(reply.node().index()))
+        Frame::RefreshAsk(refresh) => {
+            put_ask(text, "refresh ask ", refresh.ask())?;
+            put_with(text, " request ", refresh.request())
         }
+        Frame::RefreshReply(reply) => put_reply(text, reply, alloc),
     }
 }
 

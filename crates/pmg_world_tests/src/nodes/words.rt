@@ -1,6 +1,9 @@
 //! Processes, keys, puts, requests and frames from words.
 use pmg_commit::{Piece, PieceEntry};
-use pmg_frame::{CommitAsk, FenceAsk, FenceName, Frame, Header, Local, Signature, State};
+use pmg_frame::{
+    CommitAsk, FenceAsk, FenceName, Frame, Header, Local, RefreshAsk, RefreshReply, Signature,
+    State,
+};
 use pmg_get::Mode;
 use pmg_node::Request;
 use pmg_scope::{Batch, Cache, Scope};
@@ -85,6 +88,7 @@ pub(crate) fn request(alloc: Global, words: &[&str]) -> Result<Option<Request>, 
         "leave" => Request::Leave(process(alloc, first)?),
         "wait" => ask(alloc, words, Mode::Wait)?,
         "now" => ask(alloc, words, Mode::Now)?,
+        "refresh" => ask(alloc, words, Mode::Refresh)?,
         "take" => Request::Take(process(alloc, first)?),
         "end" => Request::Terminate(process(alloc, first)?),
         "define" => Request::Define(key(alloc, first)?, processes(alloc, words, 3)?),
@@ -163,6 +167,23 @@ fn commit_ask(alloc: Global, words: &[&str]) -> Result<CommitAsk, Refusal> {
     )
 }
 
+// The ask of the words from the third one on, and after those of a commit's ask the request's number.
+fn refresh_ask(alloc: Global, words: &[&str]) -> Result<RefreshAsk, Refusal> {
+    RefreshAsk::new(number(words, 5), commit_ask(alloc, words)?)
+}
+
+// The reply of the words from the third one on: the node that asked, the request's number, and then
+// those of a piece; or a process and its level alone, which tell of no commit.
+fn refresh_reply(alloc: Global, words: &[&str]) -> Result<RefreshReply, Refusal> {
+    let (node, request) = (node(words, 2)?, number(words, 3));
+    if words.len() > 6 {
+        let told = words.get(2..).unwrap_or(words);
+        return RefreshReply::new(node, request, piece(alloc, told)?);
+    }
+    let proc = process(alloc, word(words, 4))?;
+    RefreshReply::nothing(alloc, node, request, proc, number(words, 5))
+}
+
 /// The frame of the words from the second one on, if they are those of one.
 pub(crate) fn frame(alloc: Global, words: &[&str]) -> Result<Option<Frame>, Refusal> {
     Ok(Some(match word(words, 1) {
@@ -171,6 +192,8 @@ pub(crate) fn frame(alloc: Global, words: &[&str]) -> Result<Option<Frame>, Refu
         "fence" => Frame::FenceAsk(FenceAsk::new(node(words, 2)?, name(alloc, words, 3)?)),
         "range" => Frame::RangeAsk(commit_ask(alloc, words)?),
         "direct" => Frame::DirectAsk(commit_ask(alloc, words)?),
+        "anew" => Frame::RefreshAsk(refresh_ask(alloc, words)?),
+        "reply" => Frame::RefreshReply(refresh_reply(alloc, words)?),
         _ => return Ok(None),
     }))
 }

@@ -55,7 +55,7 @@ fn after(alloc: Global, events: &[Event]) -> Result<World, Refusal> {
 
 // A set is defined, and a get of process 1 waits for a value of process 0. Both meet in a fence,
 // whose header node 0 asks for, and in another, before which process 0 commits what node 1 asks
-// for. Process 0 ends, and the set is deleted.
+// for. A get of process 1 asks anew, and again. Process 0 ends, and the set is deleted.
 const ROWS: &str = "\
 0 define s j0 j1|defined 1
 - deliver 1|delivered 1
@@ -86,6 +86,12 @@ const ROWS: &str = "\
 - deliver 15|delivered 1
 1 leave j1|released 2 gone -
 1 now j1 j0 a|found u8:7
+1 refresh j1 j0 a|parked
+1 nudge|ok
+1 take j1|waiting
+- deliver 16|delivered 1
+- deliver 19|delivered 1
+1 take j1|found u8:7
 0 end j0|ended 3
 0 delete s|defined 2
 ";
