@@ -24,7 +24,7 @@ use Rattle.pmg_jobinfo.specs.Reserved.{is_general, reserved_value}
 use Rattle.pmg_dmodex.specs.Levels.{Levels}
 use Rattle.pmg_rules.specs.Acts.{Act, Request, Reply, Done, also, caller_cause, busy_cause, free_cause, target_cause, number_cause, is_misnamed, cause, request_cause, reply_of, done_as, waits_as, parks, asks, serves, does, acts}
 use Rattle.pmg_rules.specs.Choosing.{Out, asking_for, due_by, due_by_request, marked_by_act, sends, chosen}
-use Rattle.pmg_rules.specs.Holdings.{Get, Standing, Holding, sealer_of, call_of, called, answer_in, seen_of, settled}
+use Rattle.pmg_rules.specs.Holdings.{Get, Standing, Holding, sealer_of, call_of, answer_in, seen_of, settled}
 use Rattle.pmg_rules.specs.Kept.{IsSettled}
 use Rattle.pmg_rules.specs.Sending.{is_quiet}
 use Rattle.pmg_node.specs.Servers.{Server, Refuses, reply_to, sent_by, after}

@@ -1,6 +1,6 @@
 -- A reply to a get that asked anew is taken.
-use Rattle.std.proofs.Common.{◌≡◌, ◌⊎◌, ℕ, nat_lt, Bool, true, false, cond, List, [], ◌∷◌, ◌++◌, map, Option, Some, None, is_some, inl, inr, refl, sym, ap, subst, ◌∙◌}
-use Rattle.std.specs.Prelude.{if◌then◌else◌, ◌==◌, ◌&&◌}
+use Rattle.std.proofs.Common.{◌≡◌, ℕ, nat_lt, Bool, true, false, cond, List, [], ◌∷◌, ◌++◌, map, Option, Some, None, refl, sym, ap, subst, ◌∙◌}
+use Rattle.std.specs.Prelude.{if◌then◌else◌}
 use Rattle.std.specs.FinMap as finite
 use Rattle.std.specs.List.{flat_map}
 use Rattle.pmg_value.specs.Process.{proc_cmp}
@@ -17,7 +17,7 @@ use Rattle.pmg_dmodex.specs.Levels.{Levels}
 use Rattle.pmg_get.specs.declared.view.Mode.TheVariants as modes
 use Rattle.pmg_rules.specs.Acts.{Act, Reply, Done, done_as, is_taken, receives, acts}
 use Rattle.pmg_rules.specs.Choosing.{Out, asking, asking_again, is_parked_on, due_by, due_by_frame, marked_by_act, sends, chosen}
-use Rattle.pmg_rules.specs.Holdings.{Get, Standing, Holding, sealer_of, call_of, joined, with_far, with_calls, answer_in, mapped, settle, settled, is_replied, answer_reply, with_reply}
+use Rattle.pmg_rules.specs.Holdings.{Standing, Holding, sealer_of, joined, with_far, with_calls, answer_in, mapped, settled, is_replied, answer_reply, with_reply}
 use Rattle.pmg_rules.specs.Kept.{IsSettled, DiffersAt, is_about, settle_where}
 use Rattle.pmg_rules.specs.Sending.{is_quiet}
 use Rattle.pmg_rules.specs.declared.due.Due.{Due}

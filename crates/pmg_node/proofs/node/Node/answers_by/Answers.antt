@@ -1,8 +1,7 @@
-use Rattle.std.proofs.Common.{◌≡◌, List, Option, sym, ap, subst, ◌∙◌}
+use Rattle.std.proofs.Common.{Option, sym, ap, subst, ◌∙◌}
 use Rattle.std.proofs.lemmas.Result.{IfOk-weaker}
 use Rattle.pmg_value.specs.declared.process.Proc.{Proc}
 use Rattle.pmg_commit.specs.Knowledge.{Contribution}
-use Rattle.pmg_dmodex.specs.Refreshes.{asker_at}
 use Rattle.pmg_frame.specs.declared.frame.Frame.TheVariants as frames
 use Rattle.pmg_rules.specs.Acts.{Act, is_taken}
 use Rattle.pmg_rules.specs.Holdings.{joined}

@@ -1,5 +1,4 @@
 use Rattle.std.proofs.Common.{◌≡◌, nat_lt, true, false, Option, sym, ap, subst, ◌∙◌}
-use Rattle.std.specs.Option.{option_map}
 use Rattle.std.proofs.lemmas.Result.{IfOk-weaker}
 use Rattle.pmg_commit.specs.Data.{level_at}
 use Rattle.pmg_commit.specs.Knowledge.{Contribution}

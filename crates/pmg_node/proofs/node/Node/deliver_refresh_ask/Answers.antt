@@ -5,7 +5,7 @@ use Rattle.pmg_frame.specs.declared.frame.Frame.TheVariants as frames
 use Rattle.pmg_jobinfo.specs.Jobs.{home_of}
 use Rattle.pmg_dmodex.specs.Levels.{Levels}
 use Rattle.pmg_holding.specs.Owns.{sealed_of}
-use Rattle.pmg_rules.specs.Acts.{Act, Done, is_known, is_peer}
+use Rattle.pmg_rules.specs.Acts.{Done, is_known, is_peer}
 use Rattle.pmg_rules.specs.Choosing.{Out, asked_marks, sends}
 use Rattle.pmg_node.specs.Servers.{Server, IsNode}
 use Rattle.pmg_rules.specs.declared.sent.Sent.{Sent}

@@ -1,9 +1,7 @@
 use Rattle.std.proofs.Common.{◌≡◌, ◌<◌, ◌+◌, ℕ, suc, arith, List, ◌++◌, Some, sym, ap, subst, ◌∙◌}
-use Rattle.std.specs.FinMap as finite
 use Rattle.pmg_value.specs.declared.process.Proc.{Proc}
 use Rattle.pmg_get.specs.declared.view.Mode.TheVariants as modes
-use Rattle.pmg_dmodex.specs.Refreshes.{Refreshes, requested}
-use Rattle.pmg_dmodex.specs.Requests.{Requests, with_anew}
+use Rattle.pmg_dmodex.specs.Refreshes.{Refreshes}
 use Rattle.pmg_holding.specs.Calls.{get_of}
 use Rattle.pmg_holding.specs.Codes.{Calls}
 use Rattle.pmg_rules.specs.Acts.{Act, Request, waits_as}
