@@ -1,8 +1,8 @@
 -- A process asks for a key: how it is judged, and what the get does.
-use Rattle.std.proofs.Common.{◌≡◌, ◌⊎◌, ℕ, suc, Bool, true, false, cond, ◌&&◌, ◌||◌, not, List, [], Option, Some, None, is_none, is_some, Result, Ok, Err, inl, inr, refl, sym, ap, subst, ◌∙◌}
-use Rattle.std.specs.Prelude.{◌==◌}
+use Rattle.std.proofs.Common.{◌≡◌, ◌⊎◌, ◌<◌, ℕ, suc, Bool, true, false, cond, ◌&&◌, ◌||◌, not, List, [], Option, Some, None, is_none, is_some, Result, Ok, Err, inl, inr, refl, sym, ap, subst, ◌∙◌}
+use Rattle.std.specs.Prelude.{◌==◌, nat_le}
 use Rattle.std.specs.Option.{option_map}
-use Rattle.std.proofs.lemmas.Bool.{false≢true, not-false}
+use Rattle.std.proofs.lemmas.Bool.{false≢true, not-false, leb-false}
 use Rattle.pmg_value.specs.Answers.{Fails, IsAnswer}
 use Rattle.pmg_value.specs.CheckOrder.{first_of}
 use Rattle.pmg_value.specs.Names.{is_reserved}
@@ -24,7 +24,7 @@ use Rattle.pmg_jobinfo.specs.Reserved.{is_general, reserved_value}
 use Rattle.pmg_dmodex.specs.Levels.{Levels}
 use Rattle.pmg_rules.specs.Acts.{Act, Request, Reply, Done, also, caller_cause, busy_cause, free_cause, target_cause, number_cause, is_misnamed, cause, request_cause, reply_of, done_as, waits_as, parks, asks, serves, does, acts}
 use Rattle.pmg_rules.specs.Choosing.{Out, asking_for, due_by, due_by_request, marked_by_act, sends, chosen}
-use Rattle.pmg_rules.specs.Holdings.{Get, Standing, Holding, sealer_of, call_of, called, answer_in, seen_of, settled}
+use Rattle.pmg_rules.specs.Holdings.{Get, Standing, Holding, sealer_of, call_of, answer_in, seen_of, settled}
 use Rattle.pmg_rules.specs.Kept.{IsSettled}
 use Rattle.pmg_rules.specs.Sending.{is_quiet}
 use Rattle.pmg_node.specs.Servers.{Server, Refuses, reply_to, sent_by, after}
@@ -34,7 +34,7 @@ use Rattle.pmg_node.proofs.CommitLemmas.{then_full}
 use Rattle.pmg_rules.proofs.CallFacts.{call-called}
 use Rattle.pmg_rules.proofs.CauseFacts.{NoCause, by_causes, neither, neither_cause, free_is}
 use Rattle.pmg_rules.proofs.KeptBasics.{put_cases}
-use Rattle.pmg_rules.proofs.KeptSettled.{settled_same, resolve_parks, parks_waiting, parked_settled}
+use Rattle.pmg_rules.proofs.KeptSettled.{settled_same, resolve_parks, parks_waiting, parks_anew, parked_settled}
 use Rattle.pmg_node.proofs.RefusalLemmas.{fails_as}
 use Rattle.pmg_node.proofs.SilentLemmas.{act_free, none_due, after_is, sent_none}
 
@@ -128,6 +128,19 @@ module _ (jobs : Jobs) (id : ℕ) (h : Holding) (p : Proc) (get : Get) where
   ask_numbered mode =
       numbered_first (caller_has refusals.BadParam) (caller_has refusals.UnknownNamespace) (caller_has refusals.NotMine) (caller_has refusals.Terminated) is_busy
       (target_cause jobs p get refusals.BadParam) (target_cause jobs p get refusals.UnknownNamespace) (number_cause jobs id h get mode refusals.TooMany)
+
+full_not : (r : Result (Unit {0}) Refusal) (t : Bool) → then_full r t ≡ Ok tt → t ≡ false
+full_not (Err e) t is = absurd cc
+full_not (Ok u) true is = absurd cc
+full_not (Ok u) false is = refl
+
+-- where a get that asks anew waits, there is a number for its request
+pub number_left : (jobs : Jobs) (id : ℕ) (h : Holding) (p : Proc) (get : Get) → judged jobs id h p get modes.Refresh ≡ Ok tt → answer_in jobs id h get modes.Refresh ≡ Outcome.parks
+    → h.requests < 18446744073709551615
+number_left jobs id h p get free waits =
+    let anew = parks_anew jobs id h get waits in
+    let none = full_not (named jobs id h p get) (number_cause jobs id h get modes.Refresh refusals.TooMany) (sym (ask_numbered jobs id h p get modes.Refresh) ∙ free) in
+    leb-false 18446744073709551615 h.requests ((λ i. (not (sym anew.0 i) && not (sym anew.1 i)) && nat_le 18446744073709551615 h.requests) ∙ none)
 
 -- what is judged of an act that is not refused: the target may be named, and the caller is in no call
 pub record IsAsked (jobs : Jobs) (h : Holding) (p : Proc) (get : Get) : Type 0 where

@@ -10,7 +10,7 @@ use Rattle.pmg_frame.specs.declared.frame.Frame.TheVariants as frames
 use Rattle.pmg_jobinfo.specs.Jobs.{Jobs, home_of}
 use Rattle.pmg_dmodex.specs.Levels.{Levels}
 use Rattle.pmg_rules.specs.Acts.{Act, Done, Reply, done_as, holds_unless, cause, is_known, is_peer, is_taken, receives, does, acts}
-use Rattle.pmg_rules.specs.Choosing.{Out, asked_marks, answering, due_by, due_by_frame, marked_by_act, sends, chosen}
+use Rattle.pmg_rules.specs.Choosing.{Out, asked_marks, answering, replying, due_by, due_by_frame, marked_by_act, sends, chosen}
 use Rattle.pmg_rules.specs.Holdings.{Holding, sealer_of, holding_ask, settled}
 use Rattle.pmg_rules.specs.Kept.{IsSettled}
 use Rattle.pmg_node.specs.Servers.{Server, IsNode, after, reply_to, sent_by}
@@ -49,6 +49,10 @@ waits_for a s = record { jobs = s.jobs; id = s.id; holding = holding_ask s.holdi
 abbrev pub range_out : CommitAsk → Server → Out
 range_out a s = sends (sealer_of s.holding) (asked_marks s.marks (Some a)) (answering s.holding a.node a.proc a.level)
 
+-- and where it asks anew
+abbrev pub refresh_out : RefreshAsk → Server → Out
+refresh_out a s = sends (sealer_of s.holding) (asked_marks s.marks (Some a.ask)) (replying s.holding a)
+
 module _ (jobs : Jobs) (id : ℕ) (h : Holding) where
   pub deliver_free : (frame : Frame) → first_of (cause jobs id h (Act.deliver frame)) (tt {0}) ≡ Ok tt
   unfolding cause
@@ -81,6 +85,16 @@ module _ (jobs : Jobs) (id : ℕ) (h : Holding) where
         → chosen jobs id h marks (Act.deliver (frames.RangeAsk a)) ≡ sends (sealer_of h) (asked_marks marks (Some a)) (answering h a.node a.proc a.level)
     unfolding due_by due_by_frame marked_by_act
     range_sent marks a e = sent_as jobs id h (Act.deliver (frames.RangeAsk a)) marks (done_as Reply.taken h) (range_is a e) refl
+
+    -- a request for commits that is made anew
+    pub refresh_is : (a : RefreshAsk) → is_taken jobs id (frames.RefreshAsk a) ≡ true → acts jobs id h (Act.deliver (frames.RefreshAsk a)) ≡ done_as Reply.taken h
+    unfolding receives
+    refresh_is a e = deliver_by (frames.RefreshAsk a) true e ∙ ap (done_as Reply.taken) (settled_same jobs id h is)
+
+    pub refresh_sent : (marks : Levels) (a : RefreshAsk) → is_taken jobs id (frames.RefreshAsk a) ≡ true
+        → chosen jobs id h marks (Act.deliver (frames.RefreshAsk a)) ≡ sends (sealer_of h) (asked_marks marks (Some a.ask)) (replying h a)
+    unfolding due_by due_by_frame marked_by_act
+    refresh_sent marks a e = sent_as jobs id h (Act.deliver (frames.RefreshAsk a)) marks (done_as Reply.taken h) (refresh_is a e) refl
 
     -- a request for commits that waits for the next one where none were made
     settled_held : (b : Bool) (node : ℕ) (p : Proc) (level : ℕ) → settled jobs id (holds_unless b h node p level) ≡ holds_unless b h node p level

@@ -7,6 +7,9 @@ pub mod NodeKept
 pub mod OpenLemmas
 pub mod FrameLemmas
 pub mod PieceLemmas
+pub mod ReplyFits
+pub mod ReplyTaking
+pub mod ReplyOpen
 pub mod HeaderNews
 pub mod FenceLemmas
 pub mod TakingHeaders

@@ -1,7 +1,6 @@
 -- Gets that wait for replies, after an act.
-use Rattle.std.proofs.Common.{◌≡◌, ◌⊎◌, ◌≤◌, ℕ, suc, arith, Bool, true, false, Option, Some, None, inl, inr, refl, sym, ap, subst, ◌∙◌}
+use Rattle.std.proofs.Common.{◌≡◌, ◌⊎◌, ◌≤◌, ℕ, suc, arith, Bool, true, false, Option, Some, None, inl, inr, sym, ap, ◌∙◌}
 use Rattle.std.specs.Prelude.{if◌then◌else◌, nat_lt}
-use Rattle.std.specs.FinMap as finite
 use Rattle.pmg_value.specs.declared.process.Proc.{Proc}
 use Rattle.pmg_value.specs.Signatures.{FenceName}
 use Rattle.pmg_frame.specs.Refreshing.{told_by}
@@ -14,7 +13,7 @@ use Rattle.pmg_jobinfo.specs.Jobs.{Jobs}
 use Rattle.pmg_fence.specs.Changes.{next_name}
 use Rattle.pmg_dmodex.specs.Refreshes.{Refreshes, asker_at}
 use Rattle.pmg_rules.specs.Acts.{Act, Request, Reply, done_as, waits_as, leaves, takes, asks, signature_of, serves, does, is_taken, holds_unless, receives, acts}
-use Rattle.pmg_rules.specs.Holdings.{Get, Standing, Holding, sealer_of, call_of, with_far, with_reply, joined, uncalled, answer_in, settled}
+use Rattle.pmg_rules.specs.Holdings.{Get, Standing, Holding, sealer_of, call_of, with_far, joined, uncalled, answer_in, settled}
 use Rattle.pmg_rules.proofs.KeptBasics.{act_cases, put_cases, removed_some}
 use Rattle.pmg_rules.proofs.KeptChanges.{settled_some, settle_refreshing, replied_some, reply_refreshing}
 use Rattle.pmg_node.specs.Content.{AreOpen}

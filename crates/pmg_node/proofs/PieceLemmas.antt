@@ -34,7 +34,7 @@ settle_calls jobs id h calls (Standing.answered get outcome) = refl
 settle_calls jobs id h calls (Standing.refreshing get number) = refl
 settle_calls jobs id h calls (Standing.refreshed get outcome) = refl
 
-mapped_calls : (jobs : Jobs) (id : ℕ) (h : Holding) (calls : Calls) (looks : Standing → Bool) (m : Calls)
+pub mapped_calls : (jobs : Jobs) (id : ℕ) (h : Holding) (calls : Calls) (looks : Standing → Bool) (m : Calls)
     → mapped (settle_where jobs id h looks) m ≡ mapped (settle_where jobs id (with_calls h calls) looks) m
 mapped_calls jobs id h calls looks m = λ i. mapped (λ x. cond (looks x) (sym (settle_calls jobs id h calls x) i) x) m
 

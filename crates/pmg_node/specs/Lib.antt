@@ -2,6 +2,7 @@ pub mod Joining
 pub mod Servers
 pub mod Content
 pub mod Asking
+pub mod Replying
 pub mod Fencing
 pub mod Entries
 pub mod Endings

@@ -1,19 +1,52 @@
 //! A process asks anew for a key of a process of another node.
-ghost use Rattle.std.specs.Prelude.{◌≡◌, ◌++◌, Ok, OnOk, OnErr};
+ghost use Rattle.std.specs.Prelude.{◌≡◌, ◌<◌, ◌++◌, suc, None, Ok, OnOk, OnErr};
+ghost use Rattle.std.specs.FinMap as finite;
 ghost use Rattle.pmg_value.specs.CheckOrder.{first_of};
 ghost use Rattle.pmg_get.specs.Gets.{Outcome};
 ghost use Rattle.pmg_get.specs.declared.view.Mode.TheVariants as modes;
 ghost use Rattle.pmg_rules.specs.Acts.{Act, Request, also, asks_anew, free_cause, target_cause, number_cause};
 ghost use Rattle.pmg_holding.specs.Calls.{get_of};
-ghost use Rattle.pmg_rules.specs.Holdings.{answer_in};
+ghost use Rattle.pmg_dmodex.specs.Refreshes.{requested};
+ghost use Rattle.pmg_dmodex.specs.Requests.{with_anew};
+ghost use Rattle.pmg_rules.specs.Holdings.{Standing, answer_in};
 ghost use Rattle.pmg_node.specs.Servers.{sent_by, after};
 
 use crate::node::Node;
+use pmg_dmodex::Pending;
 use pmg_get::Mode;
+use pmg_holding::{Call, Calls, hand_out, take_back};
 use pmg_rules::Sent;
 use pmg_value::{Key, Proc, Refusal};
 use std::alloc::AllocError;
 use std::collections::VecDeque;
+
+/// The process's get waits for the reply to the node's next request, which is kept as its own. Where an allocation fails, nothing
+/// changes.
+fn wait_anew(
+    calls: &mut Calls,
+    held: &mut Pending,
+    proc: &Proc,
+    target: &Proc,
+    key: &Key,
+) -> Result<(), AllocError>
+    requires free { finite.get calls.old proc.now ≡ None }
+    requires number { held.old.anew.last < 18446744073709551615 }
+    ensures calls { OnOk result (calls.new ≡ finite.insert calls.old proc.now
+        (Standing.refreshing (get_of target.now key.now) (suc held.old.anew.last))) }
+    ensures held { OnOk result (held.new ≡ with_anew held.old (requested held.old.anew proc.now target.now)) }
+    ensures calls_err { OnErr result (calls.new ≡ calls.old) }
+    ensures held_err { OnErr result (held.new ≡ held.old) }
+{
+    let number = held.last_request() + 1;
+    let asker = proc.copy()?;
+    let call = Call::Refreshing(target.copy()?, key.copy()?, number);
+    calls.put(asker, call)?;
+    if let Err(_) = held.request(proc, target) {
+        let _ = calls.remove(proc);
+        return Err(AllocError);
+    }
+    Ok(())
+}
 
 impl Node {
     /// Whether the get is one that the home of its target, another node, is asked for anew.
@@ -57,6 +90,15 @@ impl Node {
         ensures err { OnErr result (self.new ≡ self.old) }
         ensures unsent { OnErr result (out.new.items ≡ out.old.items) }
     {
-        Err(AllocError)
+        let number = self.held.last_request() + 1;
+        let mut dues = Vec::new(self.table.registry().allocator());
+        self.ask_home_anew(target, number, &mut dues)?;
+        let alloc = self.table.registry().allocator();
+        let handed = hand_out(alloc, &self.own, &mut self.marks, None, dues, out)?;
+        if let Err(AllocError) = wait_anew(&mut self.calls, &mut self.held, proc, target, key) {
+            take_back(&mut self.marks, out, handed);
+            return Err(AllocError);
+        }
+        Ok(())
     }
 }

@@ -1,16 +1,76 @@
 //! A node asks anew for commits of a process, and the process's home replies.
-ghost use Rattle.std.specs.Prelude.{◌≡◌, ◌++◌, IfOk, OnOk, OnErr};
+ghost use Rattle.std.specs.Prelude.{◌≡◌, ◌≤◌, ◌++◌, true, IfOk, OnOk, OnErr};
+ghost use Rattle.std.specs.Option.{option_map};
+ghost use Rattle.pmg_commit.specs.Stamped.{IsSealer};
+ghost use Rattle.pmg_frame.specs.Refreshing.{told_by};
 ghost use Rattle.pmg_frame.specs.declared.frame.Frame.TheVariants as frames;
+ghost use Rattle.pmg_holding.specs.Calls.{all_instead};
+ghost use Rattle.pmg_holding.specs.Owns.{sealed_of};
 ghost use Rattle.pmg_rules.specs.Acts.{Act, is_taken};
+ghost use Rattle.pmg_rules.specs.Choosing.{due_by};
+ghost use Rattle.pmg_rules.specs.Holdings.{joined};
 ghost use Rattle.pmg_node.specs.Replies.{delivery_reply};
+ghost use Rattle.pmg_node.specs.Replying.{reply_by, replying_by};
 ghost use Rattle.pmg_node.specs.Servers.{reply_to, sent_by, after};
 
 use crate::asked::Delivery;
 use crate::node::Node;
-use pmg_frame::{RefreshAsk, RefreshReply};
-use pmg_rules::Sent;
-use std::alloc::AllocError;
+use pmg_commit::Piece;
+use pmg_frame::{Frame, RefreshAsk, RefreshReply};
+use pmg_holding::{Ahead, Own, Settled, answers_then, asks_again, hand_out, take_back};
+use pmg_rules::{Due, Sent};
+use pmg_scope::Reach;
+use pmg_store::Board;
+use pmg_value::Proc;
+use std::alloc::{AllocError, Global};
 use std::collections::VecDeque;
+
+/// What the process's commits after the one that is named sealed, be it none, as the reply.
+fn reply_of(alloc: Global, own: &Own, ask: &RefreshAsk) -> Result<RefreshReply, AllocError>
+    requires made { ask.now.ask.level ≤ (sealed_of own.now ask.now.ask.proc).level }
+    requires its { (sealed_of own.now ask.now.ask.proc).proc ≡ ask.now.ask.proc }
+    ensures { IfOk result (λ reply. reply ≡ reply_by (sealed_of own.now) ask.now) }
+{
+    let node = ask.ask().node();
+    let proc = ask.ask().proc();
+    let level = ask.ask().level();
+    // No effect at run time: the proof reads here how long the name is.
+    let _name = proc.nspace.as_bytes();
+    if level < own.level(proc) {
+        let piece = own.piece(proc, level, Reach::Far)?;
+        let (proc, from, to, entries) = piece.into_parts();
+        return Ok(RefreshReply::from_checked(node, ask.request(), proc, from, to, entries));
+    }
+    let entries = Vec::new(alloc);
+    Ok(RefreshReply::from_checked(node, ask.request(), proc.copy()?, level, level, entries))
+}
+
+/// The reply is due to the node that asks anew, unless it names a commit that was not made.
+fn reply_due(alloc: Global, own: &Own, ask: &RefreshAsk) -> Result<Vec<Due>, AllocError>
+    requires { (sealed_of own.now ask.now.ask.proc).proc ≡ ask.now.ask.proc }
+    ensures { IfOk result (λ dues. dues.items ≡ replying_by (sealed_of own.now) ask.now) }
+{
+    let mut dues = Vec::new(alloc);
+    if ask.ask().level() <= own.level(ask.ask().proc()) {
+        dues.push(Due::Whole(Sent {
+            to: ask.ask().node(),
+            frame: Frame::RefreshReply(reply_of(alloc, own, ask)?),
+        }))?;
+    }
+    Ok(dues)
+}
+
+/// What a reply tells is joined into the store for reads from other nodes, if it tells something.
+fn absorb_told(board: &mut Board, told: Option<&Piece>) -> Result<(), AllocError>
+    ensures far { OnOk result (board.new.far ≡ joined board.old.far (option_map (λ c. c.now) told.entry)) }
+    ensures near { board.new.near ≡ board.old.near }
+    ensures err { OnErr result (board.new.far ≡ board.old.far) }
+{
+    match told {
+        Some(piece) => board.absorb_far(piece),
+        None => Ok(()),
+    }
+}
 
 impl Node {
     /// Another node asks anew for the commits of an own process after those that it knows: it is told which there are, be it none.
@@ -25,12 +85,20 @@ impl Node {
         ensures err { OnErr result (self.new ≡ self.old) }
         ensures unsent { OnErr result (out.new.items ≡ out.old.items) }
     {
-        // No effect at run time: the proof reads here what holds of each node.
-        let _id = self.id;
         if !self.is_asked(ask.ask()) {
             return Ok(Delivery::Ignored);
         }
-        Err(AllocError)
+        let alloc = self.table.registry().allocator();
+        let dues = reply_due(alloc, &self.own, ask)?;
+        hand_out(
+            alloc,
+            &self.own,
+            &mut self.marks,
+            Some(ask.ask()),
+            dues,
+            out,
+        )?;
+        Ok(Delivery::Taken)
     }
 
     /// Whether the reply is to a request of this node, for commits of a process that is not at home here.
@@ -41,6 +109,61 @@ impl Node {
         reply.node() == self.id
             && self.is_known(reply.proc())
             && !self.table.registry().is_home(self.id, reply.proc())
+    }
+
+    /// What calls come to be answered once the reply, which tells this, is taken: the get that asked for it, if it waits still, and
+    /// those that wait for its process.
+    fn answers_by<'a>(
+        &'a self,
+        reply: &'a RefreshReply,
+        told: Option<&'a Piece>,
+    ) -> Result<Vec<(Proc, Settled)>, AllocError>
+        requires taken { is_taken self.now.jobs self.now.id (frames.RefreshReply reply.now) ≡ true }
+        requires told { option_map (λ c. c.now) told ≡ told_by reply.now }
+        ensures { IfOk result (λ answers. all_instead self.now.holding.calls answers.items
+            ≡ (after self.now (Act.deliver (frames.RefreshReply reply.now))).holding.calls) }
+    {
+        let ahead = Ahead {
+            board: &self.board,
+            near: None,
+            far: told,
+        };
+        let number = reply.request();
+        let proc = reply.proc();
+        let asker = self.held.asker_of(number, proc);
+        answers_then(
+            &self.table,
+            self.id,
+            &ahead,
+            &self.calls,
+            asker,
+            number,
+            proc,
+        )
+    }
+
+    /// What is due once the reply, which tells this, is taken: where more commits of its process come to be known, its home is asked
+    /// again for each get of its keys that will wait still.
+    fn asks_by<'a>(
+        &'a self,
+        reply: &'a RefreshReply,
+        told: Option<&'a Piece>,
+    ) -> Result<Vec<Due>, AllocError>
+        requires taken { is_taken self.now.jobs self.now.id (frames.RefreshReply reply.now) ≡ true }
+        requires told { option_map (λ c. c.now) told ≡ told_by reply.now }
+        ensures { IfOk result (λ dues. dues.items ≡ due_by self.now.jobs self.now.id self.now.holding
+            (Act.deliver (frames.RefreshReply reply.now)) (after self.now (Act.deliver (frames.RefreshReply reply.now))).holding) }
+    {
+        let ahead = Ahead {
+            board: &self.board,
+            near: None,
+            far: told,
+        };
+        let proc = reply.proc();
+        if ahead.far_level(proc) <= self.board.far().level(proc) {
+            return Ok(Vec::new(self.table.registry().allocator()));
+        }
+        asks_again(&self.table, self.id, &ahead, &self.calls, proc)
     }
 
     /// The home of a process replies what it sealed after the commits that were known: the get that asked for it is answered, and
@@ -56,11 +179,20 @@ impl Node {
         ensures err { OnErr result (self.new ≡ self.old) }
         ensures unsent { OnErr result (out.new.items ≡ out.old.items) }
     {
-        // No effect at run time: the proof reads here what holds of each node.
-        let _id = self.id;
         if !self.is_replied(reply) {
             return Ok(Delivery::Ignored);
         }
-        Err(AllocError)
+        let told = reply.copy()?.into_piece();
+        let answers = self.answers_by(reply, told.as_ref())?;
+        let dues = self.asks_by(reply, told.as_ref())?;
+        let alloc = self.table.registry().allocator();
+        let handed = hand_out(alloc, &self.own, &mut self.marks, None, dues, out)?;
+        if let Err(AllocError) = absorb_told(&mut self.board, told.as_ref()) {
+            take_back(&mut self.marks, out, handed);
+            return Err(AllocError);
+        }
+        self.calls.answer(answers);
+        let _ = self.held.answered(reply.request(), reply.proc());
+        Ok(Delivery::Taken)
     }
 }
