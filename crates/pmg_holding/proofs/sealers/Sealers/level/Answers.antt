@@ -1,4 +1,4 @@
-use Rattle.std.proofs.Common.{None, sym, ap, subst, ◌∙◌}
+use Rattle.std.proofs.Common.{sym, ap, subst, ◌∙◌}
 use Rattle.std.specs.Option.{option_map, unwrap_or}
 use Rattle.pmg_commit.specs.Sealed.{fresh}
 use Rattle.pmg_commit.specs.Stamped.{IsSealer}
