@@ -36,10 +36,16 @@ def drawn_value(rng):
     return bytes([tag]) + (bytes([body[0] & 1]) if tag == 1 else body)
 
 
-def drawn_name(rng):
-    """The name of a fence."""
+def drawn_run(rng, rank):
+    """A run of ranks: the process of its first rank, and its last rank, which is mostly greater."""
+    last = rng.choice([rank, rank, rank + 1, rank + 7, 4095, 4096, 0])
+    return b"\x01j" + rank.to_bytes(4, "big") + last.to_bytes(4, "big")
+
+
+def drawn_name(rng, version):
+    """The name of a fence: in version 2 with its processes as runs."""
     count = rng.randint(1, 3)
-    procs = [b"\x01j" + rank.to_bytes(4, "big") for rank in range(count)]
+    procs = [b"\x01j" + rank.to_bytes(4, "big") if version == 1 else drawn_run(rng, rank * rng.choice([1, 2, 9])) for rank in range(count)]
     return bytes([rng.choice([0, 1, 1, 2])]) + drawn_number(rng) + count.to_bytes(4, "big") + b"".join(procs)
 
 
@@ -50,26 +56,27 @@ def drawn_piece(rng):
     return drawn_proc(rng) + drawn_number(rng) + drawn_number(rng) + len(entries).to_bytes(4, "big") + b"".join(entries)
 
 
-def drawn_body(rng, kind):
-    """The body of a frame of that kind."""
+def drawn_body(rng, version, kind):
+    """The body of a frame of that version and kind."""
     node = rng.choice([0, 1, 2, 63, 64]).to_bytes(4, "big")
     if kind == 1:
         return drawn_piece(rng)
     if kind == 2:
-        local = b"\x01j" + bytes(4) + bytes([rng.randrange(3)]) + drawn_number(rng)
-        return node + drawn_name(rng) + (1).to_bytes(4, "big") + local
+        proc = b"\x01j" + bytes(4) if version == 1 else drawn_run(rng, 0)
+        return node + drawn_name(rng, version) + (1).to_bytes(4, "big") + proc + bytes([rng.randrange(3)]) + drawn_number(rng)
     if kind == 6:
         role = rng.choice([0, 1, 1, 2])
         return node + drawn_number(rng) + bytes([role]) + (drawn_piece(rng) if role else drawn_proc(rng) + drawn_number(rng))
-    return node + (drawn_name(rng) if kind == 3 else drawn_proc(rng) + drawn_number(rng))
+    return node + (drawn_name(rng, version) if kind == 3 else drawn_proc(rng) + drawn_number(rng))
 
 
 def drawn_frame(rng):
     """A frame whose length is mostly that of its body."""
+    version = rng.choice([1] * 10 + [2] * 9 + [3])
     kind = rng.choice([1, 1, 1, 2, 3, 4, 5, 6])
-    body = drawn_body(rng, kind)
+    body = drawn_body(rng, version, kind)
     size = len(body) if rng.random() < 0.9 else rng.choice([0, len(body) + 1, 2**24, 2**32 - 1])
-    return bytes([rng.choice([1] * 19 + [2]), kind]) + size.to_bytes(4, "big") + body
+    return bytes([version, kind]) + size.to_bytes(4, "big") + body
 
 
 def drawn_stream(rng):

@@ -10,7 +10,8 @@ use Rattle.std.specs.Map.{lookup}
 use Rattle.std.specs.Ordering.{is_eq, nat_cmp, ordering_then}
 use Rattle.pmg_value.specs.Lists.{In}
 use Rattle.pmg_value.proofs.ListLemmas.{in_parts}
-use Rattle.pmg_frame.specs.Spelling.{frame_spelling}
+use Rattle.pmg_frame.specs.Grammar.{IsSpelt}
+use Rattle.pmg_frame.specs.Versions.{frame_spelling}
 use Rattle.pmg_frame.proofs.FrameLaws.{one_spelling}
 use Rattle.pmg_rules.specs.declared.sent.Sent.{Sent}
 use Rattle.pmg_runs.specs.Worlds.{nth, numbered}
@@ -47,8 +48,9 @@ same_number rows a b node bytes = λ i. lookup (λ (k : Key). is_eq (ordering_th
 same_sent : (key : Key) (s t : Sent) → IsKeyOf key s → IsKeyOf key t → s ≡ t
 same_sent key s t a b =
     let node : s.to ≡ t.to = sym a.node ∙ b.node in
-    let bytes : frame_spelling s.frame ++ [] ≡ frame_spelling t.frame ++ [] = ap (λ l. l ++ []) (sym a.bytes ∙ b.bytes) in
-    let frame : s.frame ≡ t.frame = (one_spelling s.frame t.frame [] [] (a.valid, a.small, (b.valid, b.small, tt)) bytes).0 in
+    let bytes : frame_spelling 2 s.frame ++ [] ≡ frame_spelling 2 t.frame ++ [] = ap (λ l. l ++ []) (sym a.bytes ∙ b.bytes) in
+    let one : (u : Sent) → IsKeyOf key u → IsSpelt (record { version = 2; frame = u.frame }) = λ u of. record { version = refl; small = of.small; is = of.valid } in
+    let frame : s.frame ≡ t.frame = (one_spelling (record { version = 2; frame = s.frame }) (record { version = 2; frame = t.frame }) [] [] (one s a) (one t b) bytes).1 in
     λ i. record { to = node i; frame = frame i }
 
 -- ---- what is found
@@ -89,7 +91,7 @@ module _ (frames : List Sent) (rows : List (Key × ℕ)) (key : Key) (s : Sent) 
       here : (q : Key) (t : Sent) → In t (s ∷ []) → IsKeyOf q t → IsSome (number_at rows q)
       here q t (inl same) of =
           let same_node : q.0 ≡ key.0 = of.node ∙ ap (λ (x : Sent). x.to) same ∙ sym is.node in
-          let same_bytes : q.1.items ≡ key.1.items = of.bytes ∙ ap (λ (x : Sent). frame_spelling x.frame) same ∙ sym is.bytes in
+          let same_bytes : q.1.items ≡ key.1.items = of.bytes ∙ ap (λ (x : Sent). frame_spelling 2 x.frame) same ∙ sym is.bytes in
           subst IsSome (sym (same_number rows q key same_node same_bytes)) there
       here q t (inr later) of = absurd later
 
@@ -112,7 +114,7 @@ module _ (frames : List Sent) (rows : List (Key × ℕ)) (key : Key) (s : Sent) 
     all_by q t (inl i) of = some_by (is_at (key_cmp key) q) (number_at rows q) (are.all q t i of)
     all_by q t (inr (inl same)) of =
         let same_node : key.0 ≡ q.0 = is.node ∙ ap (λ (x : Sent). x.to) (sym same) ∙ sym of.node in
-        let same_bytes : key.1.items ≡ q.1.items = is.bytes ∙ ap (λ (x : Sent). frame_spelling x.frame) (sym same) ∙ sym of.bytes in
+        let same_bytes : key.1.items ≡ q.1.items = is.bytes ∙ ap (λ (x : Sent). frame_spelling 2 x.frame) (sym same) ∙ sym of.bytes in
         subst (λ b. IsSome (cond b (Some n) (number_at rows q))) (sym (parts_tied key q same_node same_bytes)) refl
     all_by q t (inr (inr later)) of = absurd later
 

@@ -8,7 +8,7 @@ use Rattle.std.specs.Ordering.{nat_cmp, ordering_then}
 use Rattle.std.specs.declared.cmp.Ordering.{Ordering}
 use Rattle.pmg_value.specs.Lists.{In}
 use Rattle.pmg_frame.specs.Grammar.{IsFrame}
-use Rattle.pmg_frame.specs.Spelling.{body_spelling, frame_spelling}
+use Rattle.pmg_frame.specs.Versions.{body_spelling, frame_spelling}
 use Rattle.pmg_rules.specs.declared.sent.Sent.{Sent}
 use Rattle.pmg_runs.specs.Worlds.{numbered}
 use Rattle.pmg_audit.specs.declared.sends.Sends.{Sends}
@@ -28,9 +28,9 @@ number_at rows key = lookup (is_at (key_cmp key)) rows
 -- the frame is found there: the node is its own, and the bytes are its encoding
 pub record IsKeyOf (key : Key) (s : Sent) : Type 0 where
   pub node : key.0 ≡ s.to
-  pub bytes : key.1.items ≡ frame_spelling s.frame
+  pub bytes : key.1.items ≡ frame_spelling 2 s.frame
   pub valid : IsFrame s.frame
-  pub small : length (body_spelling s.frame) ≤ 16777216
+  pub small : length (body_spelling 2 s.frame) ≤ 16777216
 
 -- what is found is the number of a frame that is found there, and each frame has a number there
 pub record AreNumbers (frames : List Sent) (rows : List (Key × ℕ)) : Type 0 where

@@ -2,7 +2,7 @@
 ghost use Rattle.std.specs.Prelude.{◌≡◌, ◌≤◌, ◌++◌, ◌∷◌, [], length, Some, IfOk, IfSome, IsNone, OnOk};
 ghost use Rattle.pmg_value.specs.Lists.{In};
 ghost use Rattle.pmg_frame.specs.Grammar.{IsFrame};
-ghost use Rattle.pmg_frame.specs.Spelling.{body_spelling, frame_spelling};
+ghost use Rattle.pmg_frame.specs.Versions.{body_spelling, frame_spelling};
 ghost use Rattle.pmg_rules.specs.Sending.{sent as sent_to};
 ghost use Rattle.pmg_runs.specs.Worlds.{numbered};
 ghost use Rattle.pmg_audit.specs.Sends.{AreNumbered};
@@ -32,9 +32,9 @@ impl Drop for Sends {
 /// What a frame to the node is found by: the node, and the frame's encoding.
 fn key_of(alloc: Global, node: u64, frame: &Frame) -> Result<(u64, Vec<u8>), AllocError>
     ensures node { IfOk result (λ key. key.0 ≡ node) }
-    ensures bytes { IfOk result (λ key. key.1.items ≡ frame_spelling frame.now) }
+    ensures bytes { IfOk result (λ key. key.1.items ≡ frame_spelling 2 frame.now) }
     ensures valid { OnOk result (IsFrame frame.now) }
-    ensures small { OnOk result (length (body_spelling frame.now) ≤ 16777216) }
+    ensures small { OnOk result (length (body_spelling 2 frame.now) ≤ 16777216) }
 {
     let encoded = frame.encode(alloc)?;
     let mut bytes = Vec::new(alloc);

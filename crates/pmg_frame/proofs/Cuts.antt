@@ -1,15 +1,17 @@
 -- However a stream is cut, it is the same stream.
-use Rattle.std.proofs.Common.{◌≡◌, ℕ, zero, suc, ◌+◌, ◌-◌, ◌<◌, ◌≤◌, Bool, true, false, ltb, cond, List, [], ◌∷◌, ◌++◌, length, drop, Option, Some, None, Result, Ok, Err, refl, sym, ap, subst, ◌∙◌, append_assoc, arith, ◌⊎◌, inl, inr}
+use Rattle.std.proofs.Common.{◌≡◌, ℕ, zero, suc, ◌+◌, ◌-◌, ◌<◌, ◌≤◌, Bool, true, false, ltb, cond, List, [], ◌∷◌, ◌++◌, length, map, drop, Option, Some, None, Result, Ok, Err, refl, sym, ap, subst, ◌∙◌, append_assoc, arith, ◌⊎◌, inl, inr}
 use Rattle.std.specs.List.{flat_map}
 use Rattle.std.proofs.lemmas.Bool.{ltb-false, le-ltb}
 use Rattle.std.proofs.lemmas.List.{length-append, length-drop, take-append-le, drop-append-le, drop_at}
+use Rattle.pmg_value.specs.Lists.{Each}
 use Rattle.pmg_value.specs.declared.refusal.Fault.{Fault}
 use Rattle.pmg_wire.specs.Reading.{Place, past, front, ◌>>=◌, IsBytes, Takes}
 use Rattle.pmg_wire.proofs.Steps.{bind_ok, Takes-then, IsBytes-after}
 use Rattle.pmg_frame.specs.declared.frame.Frame.{Frame}
-use Rattle.pmg_frame.specs.Grammar.{AreFrames, SpellsFrame}
+use Rattle.pmg_frame.specs.Grammar.{IsSpelt, SpellsFrame}
 use Rattle.pmg_frame.specs.Reading.{read_frame_body, read_head, behind_head, read_frame}
-use Rattle.pmg_frame.specs.Spelling.{frame_spelling}
+use Rattle.pmg_frame.specs.Versions.{frame_spelling, Spelt, spelt_text}
+use Rattle.pmg_frame.specs.declared.reading.Head.{Head}
 use Rattle.pmg_frame.specs.Streams.{Runs, StopsAt, more_at, left_after, Feeds, Says, SameFeed, Said, said_behind, said_at, said_from, said_by}
 use Rattle.pmg_frame.proofs.FrameLaws.{frame_found, frame_only, chosen, some_is}
 
@@ -31,15 +33,15 @@ frame_more at b six =
     ∙ ap (λ (x : Place). read_head (front 6 at) >>= λ head. behind_head head.0 x) (past_more 6 at b six)
 
 -- where the body is there too
-behind_long : (head : ℕ × ℕ) (at : Place) → head.1 ≤ length at.rest → behind_head head at ≡ (read_frame_body head.0 (front head.1 at) >>= λ frame. Ok (Some (frame, past at head.1)))
+behind_long : (head : Head) (at : Place) → head.len ≤ length at.rest → behind_head head at ≡ (read_frame_body head.version head.kind (front head.len at) >>= λ frame. Ok (Some (frame, past at head.len)))
 unfolding behind_head
-behind_long head at le = rw (le-ltb (length at.rest) head.1 le) refl
+behind_long head at le = rw (le-ltb (length at.rest) head.len le) refl
 
-behind_more : (head : ℕ × ℕ) (at : Place) (b : List ℕ) → head.1 ≤ length at.rest → behind_head head (more_at at b) ≡ (read_frame_body head.0 (front head.1 at) >>= λ frame. Ok (Some (frame, more_at (past at head.1) b)))
+behind_more : (head : Head) (at : Place) (b : List ℕ) → head.len ≤ length at.rest → behind_head head (more_at at b) ≡ (read_frame_body head.version head.kind (front head.len at) >>= λ frame. Ok (Some (frame, more_at (past at head.len) b)))
 behind_more head at b le =
     behind_long head (more_at at b) (omega (arith, length-append at.rest b))
-    ∙ ap (λ (x : Place). read_frame_body head.0 x >>= λ frame. Ok (Some (frame, past (more_at at b) head.1))) (front_more head.1 at b le)
-    ∙ ap (λ (x : Place). read_frame_body head.0 (front head.1 at) >>= λ frame. Ok (Some (frame, x))) (past_more head.1 at b le)
+    ∙ ap (λ (x : Place). read_frame_body head.version head.kind x >>= λ frame. Ok (Some (frame, past (more_at at b) head.len))) (front_more head.len at b le)
+    ∙ ap (λ (x : Place). read_frame_body head.version head.kind (front head.len at) >>= λ frame. Ok (Some (frame, x))) (past_more head.len at b le)
 
 -- how a fault comes about
 chosen_err : {A : Type 0} (b : Bool) (r : Result (Option A) Fault) (f : Fault) → cond b (Ok None) r ≡ Err f → (b ≡ false) × (r ≡ Err f)
@@ -64,13 +66,13 @@ unfolding read_frame behind_head
 stable_frame at b frame mid e =
     let long = chosen (ltb (length at.rest) 6) _ (frame, mid) e in
     let head = bind_ok (read_head (front 6 at)) (λ h. behind_head h.0 (past at 6)) (Some (frame, mid)) long.1 in
-    let behind = chosen (ltb (length (drop 6 at.rest)) head.0.0.1) _ (frame, mid) head.2 in
-    let body = bind_ok (read_frame_body head.0.0.0 (front head.0.0.1 (past at 6))) (λ x. Ok (Some (x, past (past at 6) head.0.0.1))) (Some (frame, mid)) behind.1 in
-    let same : (body.0, past (past at 6) head.0.0.1) ≡ (frame, mid) = some_is _ (frame, mid) body.2 in
+    let behind = chosen (ltb (length (drop 6 at.rest)) head.0.0.len) _ (frame, mid) head.2 in
+    let body = bind_ok (read_frame_body head.0.0.version head.0.0.kind (front head.0.0.len (past at 6))) (λ x. Ok (Some (x, past (past at 6) head.0.0.len))) (Some (frame, mid)) behind.1 in
+    let same : (body.0, past (past at 6) head.0.0.len) ≡ (frame, mid) = some_is _ (frame, mid) body.2 in
     frame_more at b (ltb-false _ _ long.0)
-    ∙ ap (λ (r : Result ((ℕ × ℕ) × Place) Fault). r >>= λ h. behind_head h.0 (more_at (past at 6) b)) head.1
+    ∙ ap (λ (r : Result (Head × Place) Fault). r >>= λ h. behind_head h.0 (more_at (past at 6) b)) head.1
     ∙ behind_more head.0.0 (past at 6) b (ltb-false _ _ behind.0)
-    ∙ ap (λ (r : Result Frame Fault). r >>= λ x. Ok (Some (x, more_at (past (past at 6) head.0.0.1) b))) body.1
+    ∙ ap (λ (r : Result Frame Fault). r >>= λ x. Ok (Some (x, more_at (past (past at 6) head.0.0.len) b))) body.1
     ∙ ap (λ (x : Frame × Place). Ok (Some (x.0, more_at x.1 b))) same
 
 -- a fault that is there is there with more bytes after it
@@ -80,14 +82,14 @@ stable_fault at b f e =
     let long = chosen_err (ltb (length at.rest) 6) _ f e in
     frame_more at b (ltb-false _ _ long.0)
     ∙ elim (bind_err (read_head (front 6 at)) (λ h. behind_head h.0 (past at 6)) f long.1) [
-      | inl bad ↦ ap (λ (r : Result ((ℕ × ℕ) × Place) Fault). r >>= λ h. behind_head h.0 (more_at (past at 6) b)) bad
+      | inl bad ↦ ap (λ (r : Result (Head × Place) Fault). r >>= λ h. behind_head h.0 (more_at (past at 6) b)) bad
       | inr head ↦
-          let behind = chosen_err (ltb (length (drop 6 at.rest)) head.0.0.1) _ f head.2 in
-          ap (λ (r : Result ((ℕ × ℕ) × Place) Fault). r >>= λ h. behind_head h.0 (more_at (past at 6) b)) head.1
+          let behind = chosen_err (ltb (length (drop 6 at.rest)) head.0.0.len) _ f head.2 in
+          ap (λ (r : Result (Head × Place) Fault). r >>= λ h. behind_head h.0 (more_at (past at 6) b)) head.1
           ∙ behind_more head.0.0 (past at 6) b (ltb-false _ _ behind.0)
-          ∙ elim (bind_err (read_frame_body head.0.0.0 (front head.0.0.1 (past at 6))) (λ x. Ok (Some (x, past (past at 6) head.0.0.1))) f behind.1) [
-            | inl bad ↦ ap (λ (r : Result Frame Fault). r >>= λ x. Ok (Some (x, more_at (past (past at 6) head.0.0.1) b))) bad
-            | inr body ↦ absurd (let e : Ok (Some (body.0, past (past at 6) head.0.0.1)) ≡ Err f = body.2 in cc)
+          ∙ elim (bind_err (read_frame_body head.0.0.version head.0.0.kind (front head.0.0.len (past at 6))) (λ x. Ok (Some (x, past (past at 6) head.0.0.len))) f behind.1) [
+            | inl bad ↦ ap (λ (r : Result Frame Fault). r >>= λ x. Ok (Some (x, more_at (past (past at 6) head.0.0.len) b))) bad
+            | inr body ↦ absurd (let e : Ok (Some (body.0, past (past at 6) head.0.0.len)) ≡ Err f = body.2 in cc)
           ]
     ]
 
@@ -159,34 +161,50 @@ is_determined at bytes fs gs f g new other p q =
 
 -- ---- spelled
 
-runs_spelled : (at : Place) (fs : List Frame) (end : Place) → IsBytes at.rest → Runs at fs end → Takes at (flat_map frame_spelling fs) end × AreFrames fs
+-- frames, spelled one after another from a place on, each in its version
+record AreSpelt (at : Place) (fs : List Frame) (end : Place) : Type 0 where
+  spelt : List Spelt
+  are_those : map (λ s. s.frame) spelt ≡ fs
+  takes : Takes at (flat_map spelt_text spelt) end
+  are : Each IsSpelt spelt
+
+runs_spelled : (at : Place) (fs : List Frame) (end : Place) → IsBytes at.rest → Runs at fs end → AreSpelt at fs end
 unfolding Runs
-runs_spelled at [] end fits r = (record { parts = ap (λ (x : Place). x.rest) (sym r); place = ap (λ (x : Place). x.offset) r ∙ omega arith }, tt)
+runs_spelled at [] end fits r = record { spelt = []; are_those = refl; takes = record { parts = ap (λ (x : Place). x.rest) (sym r); place = ap (λ (x : Place). x.offset) r ∙ omega arith }; are = tt }
 runs_spelled at (f ∷ fs) end fits r =
-    let one = frame_found at f r.0 fits r.1 in
-    let others = runs_spelled r.0 fs end (IsBytes-after (frame_spelling f) fits one.takes) r.2 in
-    (Takes-then (frame_spelling f) (flat_map frame_spelling fs) one.takes others.0, (one.is, one.small, others.1))
+    let found = frame_found at f r.0 fits r.1 in
+    let v = found.0 in
+    let one = found.1 in
+    let others = runs_spelled r.0 fs end (IsBytes-after (frame_spelling v f) fits one.takes) r.2 in
+    record {
+      spelt = record { version = v; frame = f } ∷ others.spelt;
+      are_those = ap (λ (gs : List Frame). f ∷ gs) others.are_those;
+      takes = Takes-then (frame_spelling v f) (flat_map spelt_text others.spelt) one.takes others.takes;
+      are = (record { version = one.version; small = one.small; is = one.is }, others.are);
+    }
 
 pub is_spelled : (at : Place) (bytes : List ℕ) (fs : List Frame) (fault : Option Fault) (new : Option Place) → IsBytes (at.rest ++ bytes) → (fed : Feeds at bytes fs fault new) → Says (more_at at bytes) fs fault fed.end
 is_spelled at bytes fs fault new fits fed =
     let s = runs_spelled (more_at at bytes) fs fed.end fits fed.runs in
-    record { takes = s.0; are = s.1; stops = fed.stops }
+    record { spelt = s.spelt; are_those = s.are_those; takes = s.takes; are = s.are; stops = fed.stops }
 
-spelled_runs : (at : Place) (fs : List Frame) (end : Place) → Takes at (flat_map frame_spelling fs) end → AreFrames fs → Runs at fs end
+spelled_runs : (at : Place) (spelt : List Spelt) (end : Place) → Takes at (flat_map spelt_text spelt) end → Each IsSpelt spelt → Runs at (map (λ s. s.frame) spelt) end
 unfolding Runs
 spelled_runs at [] end t are =
     let offset : end.offset ≡ at.offset = omega (arith, t.place) in
     λ i. record { offset = offset i; rest = sym t.parts i }
-spelled_runs at (f ∷ fs) end t are =
-    let text = frame_spelling f in
-    let others = flat_map frame_spelling fs in
+spelled_runs at (s ∷ ss) end t are =
+    let text = spelt_text s in
+    let others = flat_map spelt_text ss in
     let mid : Place = record { offset = at.offset + length text; rest = others ++ end.rest } in
-    let one : SpellsFrame at f mid = record { takes = record { parts = t.parts ∙ append_assoc text others end.rest; place = refl }; small = are.1; is = are.0 } in
+    let one : SpellsFrame s.version at s.frame mid =
+    record { version = are.0.version; takes = record { parts = t.parts ∙ append_assoc text others end.rest; place = refl }; small = are.0.small; is = are.0.is } in
     let behind : Takes mid others end = record { parts = refl; place = omega (arith, t.place, length-append text others) } in
-    (mid, frame_only at f mid one, spelled_runs mid fs end behind are.2)
+    (mid, frame_only s.version at s.frame mid one, spelled_runs mid ss end behind are.1)
 
 pub is_found : (at end : Place) (bytes : List ℕ) (fs : List Frame) (fault : Option Fault) → Says (more_at at bytes) fs fault end → Feeds at bytes fs fault (left_after fault end)
-is_found at end bytes fs fault s = record { end = end; runs = spelled_runs (more_at at bytes) fs end s.takes s.are; stops = s.stops; left = refl }
+is_found at end bytes fs fault s =
+    record { end = end; runs = subst (λ (gs : List Frame). Runs (more_at at bytes) gs end) s.are_those (spelled_runs (more_at at bytes) s.spelt end s.takes s.are); stops = s.stops; left = refl }
 
 -- ---- one frame more
 
@@ -207,11 +225,11 @@ unfolding read_frame behind_head
 moves_on at frame mid e =
     let long = chosen (ltb (length at.rest) 6) _ (frame, mid) e in
     let head = bind_ok (read_head (front 6 at)) (λ h. behind_head h.0 (past at 6)) (Some (frame, mid)) long.1 in
-    let behind = chosen (ltb (length (drop 6 at.rest)) head.0.0.1) _ (frame, mid) head.2 in
-    let body = bind_ok (read_frame_body head.0.0.0 (front head.0.0.1 (past at 6))) (λ x. Ok (Some (x, past (past at 6) head.0.0.1))) (Some (frame, mid)) behind.1 in
-    let same : (body.0, past (past at 6) head.0.0.1) ≡ (frame, mid) = some_is _ (frame, mid) body.2 in
-    let rest : length (drop head.0.0.1 (drop 6 at.rest)) ≡ length mid.rest = ap (λ (x : Frame × Place). length x.1.rest) same in
-    omega (arith, rest, ltb-false _ _ long.0, length-drop head.0.0.1 (drop 6 at.rest), length-drop 6 at.rest)
+    let behind = chosen (ltb (length (drop 6 at.rest)) head.0.0.len) _ (frame, mid) head.2 in
+    let body = bind_ok (read_frame_body head.0.0.version head.0.0.kind (front head.0.0.len (past at 6))) (λ x. Ok (Some (x, past (past at 6) head.0.0.len))) (Some (frame, mid)) behind.1 in
+    let same : (body.0, past (past at 6) head.0.0.len) ≡ (frame, mid) = some_is _ (frame, mid) body.2 in
+    let rest : length (drop head.0.0.len (drop 6 at.rest)) ≡ length mid.rest = ap (λ (x : Frame × Place). length x.1.rest) same in
+    omega (arith, rest, ltb-false _ _ long.0, length-drop head.0.0.len (drop 6 at.rest), length-drop 6 at.rest)
 
 -- where whole frames end
 pub record IsEnd (offset : ℕ) (held : List ℕ) (end : Place) : Type 0 where
@@ -220,8 +238,9 @@ pub record IsEnd (offset : ℕ) (held : List ℕ) (end : Place) : Type 0 where
 
 pub runs_end : (offset : ℕ) (held : List ℕ) (fs : List Frame) (end : Place) → IsBytes held → Runs (record { offset = offset; rest = held }) fs end → IsEnd offset held end
 runs_end offset held fs end fits r =
-    let text = flat_map frame_spelling fs in
-    let t = (runs_spelled (record { offset = offset; rest = held }) fs end fits r).0 in
+    let spelt = runs_spelled (record { offset = offset; rest = held }) fs end fits r in
+    let text = flat_map spelt_text spelt.spelt in
+    let t = spelt.takes in
     let lengths : length held ≡ length text + length end.rest = ap length t.parts ∙ length-append text end.rest in
     let used : length text ≡ length held - length end.rest = omega arith in
     let rest : end.rest ≡ drop (length held - length end.rest) held = sym (ap (drop (length held - length end.rest)) t.parts ∙ drop_at text end.rest (length held - length end.rest) used) in
@@ -265,4 +284,4 @@ is_said bytes fits =
     let at : Place = record { offset = 0; rest = bytes } in
     let run = said_runs (suc (length bytes)) at (omega arith) in
     let spelled = runs_spelled at (said_by bytes).frames (said_by bytes).end fits run.runs in
-    record { takes = spelled.0; are = spelled.1; stops = run.stops }
+    record { spelt = spelled.spelt; are_those = spelled.are_those; takes = spelled.takes; are = spelled.are; stops = run.stops }

@@ -49,12 +49,12 @@ participant_again before o p rest f = let h = f.order in rw (proc_again admits.C
 
 -- ---- their order
 
-less_is : (r : Ordering) → IsTrue (is_lt r) → r ≡ Less
+pub less_is : (r : Ordering) → IsTrue (is_lt r) → r ≡ Less
 less_is Less h = refl
 less_is Equal h = absurd cc
 less_is Greater h = absurd cc
 
-below_more : (p q : Proc) (qs : List Proc) → proc_cmp p q ≡ Less → AllByRecursion (λ r. proc_cmp q r ≡ Less) qs → AllByRecursion (λ r. proc_cmp p r ≡ Less) qs
+pub below_more : (p q : Proc) (qs : List Proc) → proc_cmp p q ≡ Less → AllByRecursion (λ r. proc_cmp q r ≡ Less) qs → AllByRecursion (λ r. proc_cmp p r ≡ Less) qs
 below_more p q [] less h = tt
 below_more p q (r ∷ rs) less h = (procs_total.trans p q r less h.0, below_more p q rs less h.1)
 
@@ -189,20 +189,18 @@ pub name_if : (at : Place) → IsBytes at.rest → IfRead (read_name at) (TakesN
 unfolding read_name
 name_if at fits = bind_if (λ f. Ok (fence_name f.0, f.1)) (name_fields_if at fits) (λ f after t. done_if (named at f after t))
 
-pub fields_of : FenceName → NameFields
+abbrev pub fields_of : FenceName → NameFields
 fields_of name = record { collect = name.signature.collect; number = name.instance; list = participants_of name }
 
-are_fields_of : (name : FenceName) → IsName name → AreFields (fields_of name)
-unfolding fields_of
+pub are_fields_of : (name : FenceName) → IsName name → AreFields (fields_of name)
 are_fields_of name is = record { number = is.number; some = is.some; few = is.few; chain = chain_of (participants_of name) (in_order_rises name.signature.participants) is.clients }
 
-name_of-fields_of : (name : FenceName) → fence_name (fields_of name) ≡ name
-unfolding fields_of
+pub name_of-fields_of : (name : FenceName) → fence_name (fields_of name) ≡ name
 name_of-fields_of name =
     ap (λ (s : set.FinSet proc_cmp). record { signature = record { participants = s; collect = name.signature.collect }; instance = name.instance }) (from_list-in_order procs_total exact_procs name.signature.participants)
 
 pub name_again : (o : ℕ) (name : FenceName) (rest : List ℕ) → IsName name → read_name (place o (name_spelling name ++ rest)) ≡ Ok (name, place (o + length (name_spelling name)) rest)
-unfolding read_name fields_of fields_spelling
+unfolding read_name fields_spelling
 name_again o name rest is =
     let read = name_fields_again o (fields_of name) rest (are_fields_of name is) in
     rw read (ap (λ (f : FenceName). Ok (f, place (o + length (name_spelling name)) rest)) (name_of-fields_of name))

@@ -61,7 +61,7 @@ level_again o n rest is = let small : n ≤ 4294967295 = leb-true n 4294967295 i
 
 -- ---- locals
 
-is_gone-state_of : (b : Bool) → is_gone (state_of b) ≡ b
+pub is_gone-state_of : (b : Bool) → is_gone (state_of b) ≡ b
 is_gone-state_of true = refl
 is_gone-state_of false = refl
 

@@ -1,5 +1,5 @@
--- What passes the test of a header keeps the rules of one, and headers and asks fit into a frame.
-use Rattle.std.proofs.Common.{ℕ, ◌+◌, ◌*◌, ◌≤◌, ◌&&◌, nat_lt, nat_le, List, [], ◌∷◌, ◌++◌, length, Option, Some, None, false, IsTrue, refl, sym, subst, ◌∙◌, arith, inl, inr}
+-- What passes the test of a header keeps the rules of one, and headers and asks fit into a frame of either version.
+use Rattle.std.proofs.Common.{ℕ, ◌+◌, ◌*◌, ◌≤◌, Bool, true, ◌==◌, cond, ◌&&◌, nat_lt, nat_le, List, [], ◌∷◌, ◌++◌, length, Option, Some, None, false, IsTrue, refl, sym, subst, ◌∙◌, arith, inl, inr}
 use Rattle.std.specs.FinSet as set
 use Rattle.std.specs.Cmp.{Equal-is}
 use Rattle.std.specs.Int.{w32, w64, to_be_bytes}
@@ -16,9 +16,12 @@ use Rattle.pmg_value.proofs.ListLemmas.{in_from_list_any}
 use Rattle.pmg_value.proofs.ProcessOrder.{procs_total, exact_procs}
 use Rattle.pmg_wire.specs.Many.{Chain}
 use Rattle.pmg_wire.specs.Spelling.{proc_spelling}
-use Rattle.pmg_frame.specs.Fences.{participants_of, is_gone, is_local_rising, is_listed, is_level, is_header, Header, CommitAsk}
-use Rattle.pmg_frame.specs.Grammar.{IsClient, IsName, FollowsLocal, IsHeader, IsCommitAsk, AreHeaders, AreFitting}
-use Rattle.pmg_frame.specs.Spelling.{flag_spelling, name_spelling, local_spelling, header_body, commit_ask_body, asker_spelling}
+use Rattle.pmg_frame.specs.Fences.{participants_of, is_gone, is_local_rising, is_listed, is_level, is_header, Header, FenceAsk, CommitAsk}
+use Rattle.pmg_frame.specs.Grammar.{IsClient, IsName, FollowsLocal, IsHeader, IsFenceAsk, IsCommitAsk, AreHeaders, AreFitting}
+use Rattle.pmg_frame.specs.Runs.{proc_ranks, local_ranks, RankRun, next_rank, with_item, runs_of}
+use Rattle.pmg_frame.specs.RunSpelling.{run_spelling, short_name, local_run_spelling, short_header, short_fence_ask}
+use Rattle.pmg_frame.specs.Spelling.{flag_spelling, name_spelling, local_spelling, header_body, fence_ask_body, commit_ask_body, asker_spelling}
+use Rattle.pmg_frame.specs.Versions.{body_spelling}
 use Rattle.pmg_frame.specs.declared.frame.Frame.TheVariants as frames
 use Rattle.pmg_frame.specs.declared.local.Local.{Local}
 use Rattle.pmg_frame.proofs.FenceLaws.{length_4}
@@ -115,17 +118,86 @@ header_short h is =
       length_4 (to_be_bytes w32 h.node) (name_spelling h.name) (to_be_bytes w32 (length h.locals)) (flat_map local_spelling h.locals),
     )
 
+-- ---- sizes of runs, which are no more than the items
+
+run_first : (p : Proc) (n : ℕ) → IsTrue (is_nspace p.nspace) → length (run_spelling (record { first = p; last = n })) ≤ 264
+run_first p n name = added (proc_spelling p) (to_be_bytes w32 n) 260 4 (proc_short p name) (omega arith)
+
+with_proc : (p : Proc) (rs : List (RankRun Proc)) → IsTrue (is_nspace p.nspace) → length (flat_map run_spelling (with_item proc_ranks p rs)) ≤ 264 + length (flat_map run_spelling rs)
+with_proc p [] name = added (run_spelling (record { first = p; last = p.rank })) [] 264 0 (run_first p p.rank name) (omega arith)
+with_proc p (r ∷ rs) name = by (proc_ranks.same (next_rank proc_ranks p) r.first) where
+  by : (b : Bool) → length (flat_map run_spelling (cond b (record { first = p; last = r.last } ∷ rs) (record { first = p; last = p.rank } ∷ r ∷ rs))) ≤ 264 + length (flat_map run_spelling (r ∷ rs))
+  by true =
+      let n = length (flat_map run_spelling rs) in
+      omega (arith, added (run_spelling (record { first = p; last = r.last })) (flat_map run_spelling rs) 264 n (run_first p r.last name) (omega arith), length-append (run_spelling r) (flat_map run_spelling rs))
+  by false = added (run_spelling (record { first = p; last = p.rank })) (flat_map run_spelling (r ∷ rs)) 264 (length (flat_map run_spelling (r ∷ rs))) (run_first p p.rank name) (omega arith)
+
+runs_short : (ps : List Proc) → Each IsClient ps → length (flat_map run_spelling (runs_of proc_ranks ps)) ≤ 264 * length ps
+unfolding runs_of
+runs_short [] is = omega arith
+runs_short (p ∷ ps) is = omega (arith, with_proc p (runs_of proc_ranks ps) is.0.name, runs_short ps is.1)
+
+short_name_short : (name : FenceName) → IsName name → length (short_name name) ≤ 1081357
+short_name_short name is =
+    let ps = participants_of name in
+    let rs = runs_of proc_ranks ps in
+    omega (arith, runs_short ps is.clients, is.few, length_4 (flag_spelling name.signature.collect) (to_be_bytes w64 name.instance) (to_be_bytes w32 (length rs)) (flat_map run_spelling rs))
+
+local_run_first : (l : Local) (n : ℕ) → IsTrue (is_nspace l.proc.nspace) → length (local_run_spelling (record { first = l; last = n })) ≤ 273
+local_run_first l n name = omega (arith, proc_short l.proc name, length_4 (proc_spelling l.proc) (to_be_bytes w32 n) (flag_spelling (is_gone l.state)) (to_be_bytes w64 l.level))
+
+with_local : (l : Local) (rs : List (RankRun Local)) → IsTrue (is_nspace l.proc.nspace) → length (flat_map local_run_spelling (with_item local_ranks l rs)) ≤ 273 + length (flat_map local_run_spelling rs)
+with_local l [] name = added (local_run_spelling (record { first = l; last = l.proc.rank })) [] 273 0 (local_run_first l l.proc.rank name) (omega arith)
+with_local l (r ∷ rs) name = by (local_ranks.same (next_rank local_ranks l) r.first) where
+  by : (b : Bool) → length (flat_map local_run_spelling (cond b (record { first = l; last = r.last } ∷ rs) (record { first = l; last = l.proc.rank } ∷ r ∷ rs))) ≤ 273 + length (flat_map local_run_spelling (r ∷ rs))
+  by true =
+      let n = length (flat_map local_run_spelling rs) in
+      omega (arith, added (local_run_spelling (record { first = l; last = r.last })) (flat_map local_run_spelling rs) 273 n (local_run_first l r.last name) (omega arith), length-append (local_run_spelling r) (flat_map local_run_spelling rs))
+  by false =
+      added (local_run_spelling (record { first = l; last = l.proc.rank })) (flat_map local_run_spelling (r ∷ rs)) 273 (length (flat_map local_run_spelling (r ∷ rs))) (local_run_first l l.proc.rank name) (omega arith)
+
+local_runs_short : (name : FenceName) (before : Option Local) (ls : List Local) → Chain (FollowsLocal name) before ls → length (flat_map local_run_spelling (runs_of local_ranks ls)) ≤ 273 * length ls
+unfolding runs_of
+local_runs_short name before [] chain = omega arith
+local_runs_short name before (l ∷ ls) chain = omega (arith, with_local l (runs_of local_ranks ls) chain.0.is.name, local_runs_short name (Some l) ls chain.1)
+
+short_header_short : (h : Header) → IsHeader h → length (short_header h) ≤ 16777216
+short_header_short h is =
+    let rs = runs_of local_ranks h.locals in
+    omega (
+      arith,
+      short_name_short h.name is.name,
+      local_runs_short h.name None h.locals is.locals,
+      is.few,
+      is.name.few,
+      length_4 (to_be_bytes w32 h.node) (short_name h.name) (to_be_bytes w32 (length rs)) (flat_map local_run_spelling rs),
+    )
+
+-- ---- what fits, in either version
+
+header_fits : (v : ℕ) (h : Header) → IsHeader h → length (body_spelling v (frames.Header h)) ≤ 16777216
+header_fits v h is = by (v == 1) where
+  by : (b : Bool) → length (cond b (header_body h) (short_header h)) ≤ 16777216
+  by true = header_short h is
+  by false = short_header_short h is
+
+fence_ask_fits : (v : ℕ) (a : FenceAsk) → IsFenceAsk a → length (body_spelling v (frames.FenceAsk a)) ≤ 16777216
+fence_ask_fits v a is = by (v == 1) where
+  by : (b : Bool) → length (cond b (fence_ask_body a) (short_fence_ask a)) ≤ 16777216
+  by true = omega (arith, name_short a.name is.name, length-append (to_be_bytes w32 a.node) (name_spelling a.name))
+  by false = omega (arith, short_name_short a.name is.name, length-append (to_be_bytes w32 a.node) (short_name a.name))
+
 commit_ask_short : (a : CommitAsk) → IsCommitAsk a → length (commit_ask_body a) ≤ 16777216
 commit_ask_short a is = omega (arith, proc_short a.proc is.name, length_3 (to_be_bytes w32 a.node) (proc_spelling a.proc) (to_be_bytes w64 a.level))
 
 pub are_fitting : AreFitting
-are_fitting (frames.Piece c) is kind = absurd cc
-are_fitting (frames.Header h) is kind = header_short h is
-are_fitting (frames.FenceAsk a) is kind = omega (arith, name_short a.name is.name, length-append (to_be_bytes w32 a.node) (name_spelling a.name))
-are_fitting (frames.RangeAsk a) is kind = commit_ask_short a is
-are_fitting (frames.DirectAsk a) is kind = commit_ask_short a is
-are_fitting (frames.RefreshAsk a) is kind =
+are_fitting v (frames.Piece c) is kind = absurd cc
+are_fitting v (frames.Header h) is kind = header_fits v h is
+are_fitting v (frames.FenceAsk a) is kind = fence_ask_fits v a is
+are_fitting v (frames.RangeAsk a) is kind = commit_ask_short a is
+are_fitting v (frames.DirectAsk a) is kind = commit_ask_short a is
+are_fitting v (frames.RefreshAsk a) is kind =
     let ask = proc_short a.ask.proc is.ask.name in
     let tail = proc_spelling a.ask.proc ++ to_be_bytes w64 a.ask.level in
     omega (arith, ask, length-append (asker_spelling a.ask.node a.request false) tail, length-append (proc_spelling a.ask.proc) (to_be_bytes w64 a.ask.level))
-are_fitting (frames.RefreshReply r) is kind = absurd cc
+are_fitting v (frames.RefreshReply r) is kind = absurd cc

@@ -12,5 +12,15 @@ pub mod HeaderTests
 pub mod RefreshLaws
 pub mod RefreshTests
 pub mod EncodedLemmas
+pub mod ReadBack
 pub mod FenceOrderLemmas
 pub mod SameLemmas
+pub mod RunRules
+pub mod RunSteps
+pub mod RunLaws
+pub mod RunLoops
+pub mod RunFronts
+pub mod Among
+pub mod RunFar
+pub mod LocalRunLaws
+pub mod RunEnds

@@ -17,7 +17,8 @@ use Rattle.pmg_frame.specs.FenceReading.{read_level}
 use Rattle.pmg_frame.specs.Grammar.{IsFrame, IsRefreshAsk, IsRefreshReply}
 use Rattle.pmg_frame.specs.Refreshing.{RefreshAsk, RefreshReply, refresh_ask, refresh_reply, is_request}
 use Rattle.pmg_frame.specs.RefreshReading.{read_request, read_asker, read_refresh_ask, read_refresh_reply, read_refresh}
-use Rattle.pmg_frame.specs.Spelling.{flag_spelling, asker_spelling, piece_body, kind_of, body_spelling, refresh_ask_body, refresh_reply_body}
+use Rattle.pmg_frame.specs.Spelling.{flag_spelling, asker_spelling, piece_body, refresh_ask_body, refresh_reply_body}
+use Rattle.pmg_frame.specs.Versions.{kind_of, body_spelling}
 use Rattle.pmg_frame.specs.declared.frame.Frame.{Frame}
 use Rattle.pmg_frame.specs.declared.frame.Frame.TheVariants as frames
 use Rattle.pmg_frame.proofs.HeaderLaws.{node_if, node_again, level_if, level_again, regroup_3}
@@ -125,9 +126,9 @@ refresh_reply_again o r rest is = rw (told_again true o r.told rest is.told) ref
 
 -- ---- either
 
--- what a body of this kind took
-pub record TakesRefresh (at : Place) (frame : Frame) (after : Place) : Type 0 where
-  pub takes : Takes at (body_spelling frame) after
+-- what a body of this kind took, which is one in all versions
+pub record TakesRefresh (v : ℕ) (at : Place) (frame : Frame) (after : Place) : Type 0 where
+  pub takes : Takes at (body_spelling v frame) after
   pub is : IsFrame frame
   pub of_kind : kind_of frame ≡ 6
 
@@ -136,9 +137,9 @@ whole at mid after node request n r role text e f asker rest =
     subst (λ (k : ℕ). Takes at (asker_spelling k r role ++ text) after) (sym e)
     (subst (λ (k : ℕ). Takes at (asker_spelling node k role ++ text) after) (sym f) (Takes-then (asker_spelling node request role) text asker rest))
 
-pub refresh_if : (at : Place) → IsBytes at.rest → IfRead (read_refresh at) (TakesRefresh at)
+pub refresh_if : (v : ℕ) (at : Place) → IsBytes at.rest → IfRead (read_refresh at) (TakesRefresh v at)
 unfolding read_refresh
-refresh_if at fits =
+refresh_if v at fits =
     bind_if (λ asker. cond asker.0.1.1 (read_refresh_reply asker.0.0 asker.0.1.0 asker.1 >>= λ x. Ok (frames.RefreshReply x.0, x.1))
     (read_refresh_ask asker.0.0 asker.0.1.0 asker.1 >>= λ x. Ok (frames.RefreshAsk x.0, x.1))) (asker_if at fits) (λ asker b k.
     let b_fits : IsBytes b.rest = IsBytes-after (asker_spelling asker.0 asker.1.0 asker.1.1) fits k.takes in

@@ -62,7 +62,7 @@ same_states states.Gone states.Gone = (λ _. refl, λ _. refl)
 same_states states.Entered states.Gone = (λ h. absurd cc, λ h. absurd cc)
 same_states states.Gone states.Entered = (λ h. absurd cc, λ h. absurd cc)
 
-same_locals : (l m : Local) → Decides (local_tests.ghosts.eq l m) (l ≡ m)
+pub same_locals : (l m : Local) → Decides (local_tests.ghosts.eq l m) (l ≡ m)
 same_locals l m =
     let forth : (l.proc ≡ m.proc) × ((l.state ≡ m.state) × (l.level ≡ m.level)) → l ≡ m = λ h.
     ap (λ (p : Proc). record { proc = p; state = l.state; level = l.level }) h.0

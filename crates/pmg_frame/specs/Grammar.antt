@@ -24,7 +24,8 @@ use Rattle.pmg_frame.specs.declared.frame.Frame.TheVariants as frames
 use Rattle.pmg_frame.specs.PieceReading.{is_after, is_range}
 use Rattle.pmg_frame.specs.Reading.{read_frame}
 use Rattle.pmg_frame.specs.Refreshing.{RefreshAsk, RefreshReply, is_request, is_refresh_reply}
-use Rattle.pmg_frame.specs.Spelling.{piece_body, refresh_reply_body, body_spelling, frame_spelling}
+use Rattle.pmg_frame.specs.Spelling.{piece_body, refresh_reply_body}
+use Rattle.pmg_frame.specs.Versions.{is_version, body_spelling, frame_spelling, Spelt, spelt_text}
 
 -- An entry of a piece of the commits from+1 to to: of a greater key than the entry before, of one of these
 -- commits, and with the canonical bytes of a value.
@@ -114,28 +115,30 @@ IsFrame (frames.DirectAsk a) = IsCommitAsk a
 IsFrame (frames.RefreshAsk a) = IsRefreshAsk a
 IsFrame (frames.RefreshReply r) = IsRefreshReply r
 
--- a frame, spelled
-pub record SpellsFrame (at : Place) (frame : Frame) (after : Place) : Type 0 where
-  pub takes : Takes at (frame_spelling frame) after
-  pub small : length (body_spelling frame) ≤ 16777216
+-- a frame, spelled in that version
+pub record SpellsFrame (v : ℕ) (at : Place) (frame : Frame) (after : Place) : Type 0 where
+  pub version : IsTrue (is_version v)
+  pub takes : Takes at (frame_spelling v frame) after
+  pub small : length (body_spelling v frame) ≤ 16777216
   pub is : IsFrame frame
 
--- each is a frame whose body is not too long
-abbrev pub AreFrames : List Frame → Type 0
-AreFrames [] = Unit {0}
-AreFrames (frame ∷ others) = IsFrame frame × (length (body_spelling frame) ≤ 16777216) × AreFrames others
+-- a frame in one of the versions, whose body is not too long
+pub record IsSpelt (s : Spelt) : Type 0 where
+  pub version : IsTrue (is_version s.version)
+  pub small : length (body_spelling s.version s.frame) ≤ 16777216
+  pub is : IsFrame s.frame
 
--- what is read as a frame is spelled so
+-- what is read as a frame is spelled so, in one of the versions
 abbrev pub IsFound : Type 0
-IsFound = (at : Place) (frame : Frame) (after : Place) → IsBytes at.rest → read_frame at ≡ Ok (Some (frame, after)) → SpellsFrame at frame after
+IsFound = (at : Place) (frame : Frame) (after : Place) → IsBytes at.rest → read_frame at ≡ Ok (Some (frame, after)) → (v : ℕ) × SpellsFrame v at frame after
 
--- what is spelled as a frame is read
+-- what is spelled as a frame, in either version, is read
 abbrev pub IsOnly : Type 0
-IsOnly = (at : Place) (frame : Frame) (after : Place) → SpellsFrame at frame after → read_frame at ≡ Ok (Some (frame, after))
+IsOnly = (v : ℕ) (at : Place) (frame : Frame) (after : Place) → SpellsFrame v at frame after → read_frame at ≡ Ok (Some (frame, after))
 
--- no frame's spelling begins another's
+-- no frame's spelling begins another's, whatever their versions
 abbrev pub IsOneSpelling : Type 0
-IsOneSpelling = (f g : Frame) (x y : List ℕ) → AreFrames (f ∷ g ∷ []) → frame_spelling f ++ x ≡ frame_spelling g ++ y → (f ≡ g) × (x ≡ y)
+IsOneSpelling = (s t : Spelt) (x y : List ℕ) → IsSpelt s → IsSpelt t → spelt_text s ++ x ≡ spelt_text t ++ y → (s.version ≡ t.version) × (s.frame ≡ t.frame) × (x ≡ y)
 
 -- an entry's key is a key, and its bytes are a value's
 pub record IsEntry (e : Entry) : Type 0 where
@@ -173,6 +176,6 @@ has_entries (frames.DirectAsk a) = false
 has_entries (frames.RefreshAsk a) = false
 has_entries (frames.RefreshReply r) = true
 
--- each header, and each ask, fits into a frame
+-- each header, and each ask, fits into a frame of either version
 abbrev pub AreFitting : Type 0
-AreFitting = (frame : Frame) → IsFrame frame → has_entries frame ≡ false → length (body_spelling frame) ≤ 16777216
+AreFitting = (v : ℕ) (frame : Frame) → IsFrame frame → has_entries frame ≡ false → length (body_spelling v frame) ≤ 16777216

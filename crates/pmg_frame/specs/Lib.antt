@@ -7,9 +7,13 @@ pub mod PieceReading
 pub mod Reading
 pub mod RefreshReading
 pub mod Refreshing
+pub mod RunReading
+pub mod RunSpelling
+pub mod Runs
 pub mod Sameness
 pub mod Spelling
 pub mod Streams
+pub mod Versions
 pub use Rattle.pmg_commit.specs.Entries
 pub use Rattle.pmg_commit.specs.Knowledge
 pub use Rattle.pmg_wire.specs.Reading as Places

@@ -1,4 +1,4 @@
--- How frames are written: each has one spelling.
+-- How the bodies of frames are written, with each process by itself.
 use Rattle.std.specs.Prelude.{ℕ, Bool, true, false, if◌then◌else◌, List, [], ◌∷◌, ◌++◌, length}
 use Rattle.std.specs.List.{flat_map}
 use Rattle.std.specs.Int.{w32, w64, to_be_bytes}
@@ -10,8 +10,6 @@ use Rattle.pmg_value.specs.Signatures.{FenceName}
 use Rattle.pmg_frame.specs.Fences.{participants_of, is_gone, Header, FenceAsk, CommitAsk}
 use Rattle.pmg_frame.specs.Refreshing.{RefreshAsk, RefreshReply}
 use Rattle.pmg_frame.specs.declared.local.Local.{Local}
-use Rattle.pmg_frame.specs.declared.frame.Frame.{Frame}
-use Rattle.pmg_frame.specs.declared.frame.Frame.TheVariants as frames
 
 -- an entry: its key, the number of its commit, its value's canonical bytes
 abbrev pub entry_spelling : Entry → List ℕ
@@ -60,31 +58,3 @@ refresh_ask_body a = asker_spelling a.ask.node a.request false ++ (proc_spelling
 -- the body of a reply: who asked, and then as the body of a piece
 abbrev pub refresh_reply_body : RefreshReply → List ℕ
 refresh_reply_body r = asker_spelling r.node r.request true ++ piece_body r.told
-
--- the number of a frame's kind
-abbrev pub kind_of : Frame → ℕ
-kind_of (frames.Piece c) = 1
-kind_of (frames.Header h) = 2
-kind_of (frames.FenceAsk a) = 3
-kind_of (frames.RangeAsk a) = 4
-kind_of (frames.DirectAsk a) = 5
-kind_of (frames.RefreshAsk a) = 6
-kind_of (frames.RefreshReply r) = 6
-
--- a frame's body
-abbrev pub body_spelling : Frame → List ℕ
-body_spelling (frames.Piece c) = piece_body c
-body_spelling (frames.Header h) = header_body h
-body_spelling (frames.FenceAsk a) = fence_ask_body a
-body_spelling (frames.RangeAsk a) = commit_ask_body a
-body_spelling (frames.DirectAsk a) = commit_ask_body a
-body_spelling (frames.RefreshAsk a) = refresh_ask_body a
-body_spelling (frames.RefreshReply r) = refresh_reply_body r
-
--- a frame's head: the version, the kind, and the length of the body
-abbrev pub head_spelling : ℕ → ℕ → List ℕ
-head_spelling kind len = 1 ∷ kind ∷ to_be_bytes w32 len
-
--- a frame: its head and its body
-abbrev pub frame_spelling : Frame → List ℕ
-frame_spelling frame = head_spelling (kind_of frame) (length (body_spelling frame)) ++ body_spelling frame

@@ -1,15 +1,16 @@
 -- A stream of frames, in whatever pieces it comes.
-use Rattle.std.specs.Prelude.{◌≡◌, ℕ, zero, suc, ◌+◌, ◌≤◌, ◌^◌, ◌⊎◌, ◌==◌, if◌then◌else◌, List, [], ◌∷◌, ◌++◌, length, Option, Some, None, Result, Ok, Err}
+use Rattle.std.specs.Prelude.{◌≡◌, ℕ, zero, suc, ◌+◌, ◌≤◌, ◌^◌, ◌⊎◌, ◌==◌, if◌then◌else◌, List, [], ◌∷◌, ◌++◌, length, map, Option, Some, None, Result, Ok, Err}
 use Rattle.std.specs.List.{flat_map}
+use Rattle.pmg_value.specs.Lists.{Each}
 use Rattle.pmg_value.specs.declared.refusal.Fault.{Fault}
 use Rattle.pmg_value.specs.declared.refusal.Cause.TheVariants as causes
 use Rattle.pmg_value.specs.declared.refusal.Refusal.{Refusal}
 use Rattle.pmg_value.specs.declared.refusal.Refusal.TheVariants as refusals
 use Rattle.pmg_wire.specs.Reading.{Place, fault, IsBytes, Takes}
 use Rattle.pmg_frame.specs.declared.frame.Frame.{Frame}
-use Rattle.pmg_frame.specs.Grammar.{AreFrames}
+use Rattle.pmg_frame.specs.Grammar.{IsSpelt}
 use Rattle.pmg_frame.specs.Reading.{read_frame}
-use Rattle.pmg_frame.specs.Spelling.{frame_spelling}
+use Rattle.pmg_frame.specs.Versions.{Spelt, spelt_text}
 
 -- from a place on, these whole frames follow one another, up to a later place
 unfoldable pub Runs : Place → List Frame → Place → Type 0
@@ -57,11 +58,13 @@ abbrev pub finished : Option Place → Result (Unit {0}) Refusal
 finished None = Err refusals.Closed
 finished (Some at) = if length at.rest == 0 then Ok tt else Err (refusals.BadFrame (fault at.offset causes.Cut))
 
--- What the bytes of a stream say: these frames, spelled one after another, and then a fault or a rest that is
--- no whole frame.
+-- What the bytes of a stream say: these frames, spelled one after another, each in its version, and then a fault or
+-- a rest that is no whole frame.
 pub record Says (at : Place) (frames : List Frame) (fault : Option Fault) (end : Place) : Type 0 where
-  pub takes : Takes at (flat_map frame_spelling frames) end
-  pub are : AreFrames frames
+  pub spelt : List Spelt
+  pub are_those : map (λ s. s.frame) spelt ≡ frames
+  pub takes : Takes at (flat_map spelt_text spelt) end
+  pub are : Each IsSpelt spelt
   pub stops : StopsAt end fault
 
 -- what is read from a place on: the whole frames, the fault after them if there is one, and where they end

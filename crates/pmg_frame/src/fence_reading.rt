@@ -15,8 +15,8 @@ use pmg_value::{Cause, MAX_NODE, NodeId, Proc, Refusal};
 use pmg_wire::{Admits, Cursor, get_flag, get_proc};
 use std::alloc::Global;
 
-// Whether the process is greater than the one before, where there is one.
-fn is_greater(before: Option<&Proc>, process: &Proc) -> bool
+/// Whether the process is greater than the one before, where there is one.
+pub fn is_greater(before: Option<&Proc>, process: &Proc) -> bool
     ensures { result ≡ is_greater (option_copied before.entry) process.now }
 {
     match before {
@@ -108,7 +108,7 @@ pub fn get_level(at: &mut Cursor<'_>) -> Result<u64, Refusal>
 }
 
 // Whether the process is greater than that of the one before, where there is one.
-fn is_behind(before: Option<&Local>, process: &Proc) -> bool
+pub fn is_behind(before: Option<&Local>, process: &Proc) -> bool
     ensures { result ≡ is_greater (option_map (λ l. l.proc) (option_copied before.entry)) process.now }
 {
     match before {

@@ -1,7 +1,8 @@
-ghost use Rattle.std.specs.Prelude.{◌≡◌, ◌≤◌, ◌↔◌, length, IsTrue, IfOk, OnOk};
+ghost use Rattle.std.specs.Prelude.{◌≡◌, ◌≤◌, ◌↔◌, ◌⊎◌, false, length, Err, IsTrue, IfOk, IfErr, OnOk};
+ghost use Rattle.pmg_value.specs.declared.refusal.Refusal.TheVariants as refusals;
 ghost use Rattle.pmg_frame.specs.Frames.{ReadsBack};
 ghost use Rattle.pmg_frame.specs.Grammar.{IsFrame};
-ghost use Rattle.pmg_frame.specs.Spelling.{body_spelling, frame_spelling};
+ghost use Rattle.pmg_frame.specs.Versions.{is_version, body_spelling, frame_spelling};
 
 use crate::asks::{CommitAsk, FenceAsk};
 use crate::header::Header;
@@ -16,6 +17,7 @@ use crate::writing::{
 };
 use bytes::BytesMut;
 use pmg_commit::Piece;
+use pmg_value::Refusal;
 use std::alloc::{AllocError, Global};
 
 /// The greatest size of a frame's body, in bytes.
@@ -43,24 +45,58 @@ pub enum Frame {
     RefreshReply(RefreshReply),
 }
 
+/// Whether there are frames of that version.
+pub fn is_version(version: u8) -> bool
+    ensures { result ≡ is_version version }
+{
+    version == 1 || version == 2
+}
+
+// The frame's one spelling in a version that there is.
+fn encode_in(frame: &Frame, alloc: Global, version: u8) -> Result<BytesMut, AllocError>
+    requires { IsTrue (is_version version) }
+    ensures bytes { IfOk result (λ out. out.items ≡ frame_spelling version frame.now) }
+    ensures valid { OnOk result (IsFrame frame.now) }
+    ensures small { OnOk result (length (body_spelling version frame.now) ≤ 16777216) }
+    ensures read_back { IfOk result (λ out. ReadsBack frame.now out.items) }
+{
+    match frame {
+        Frame::Piece(piece) => encode_piece(alloc, version, piece),
+        Frame::Header(header) => encode_header(alloc, version, header),
+        Frame::FenceAsk(ask) => encode_fence_ask(alloc, version, ask),
+        Frame::RangeAsk(ask) => encode_commit_ask(alloc, version, 4, ask),
+        Frame::DirectAsk(ask) => encode_commit_ask(alloc, version, 5, ask),
+        Frame::RefreshAsk(ask) => encode_refresh_ask(alloc, version, ask),
+        Frame::RefreshReply(reply) => encode_refresh_reply(alloc, version, reply),
+    }
+}
+
 impl Frame {
-    /// The frame's one spelling: its head and its body. What is encoded keeps the rules of its kind and fits
-    /// into a frame, so it is read back as the same frame.
+    /// The frame's one spelling in version 2: its head and its body. What is encoded keeps the rules of its
+    /// kind and fits into a frame, so it is read back as the same frame.
     pub fn encode(&self, alloc: Global) -> Result<BytesMut, AllocError>
-        ensures bytes { IfOk result (λ out. out.items ≡ frame_spelling self.now) }
+        ensures bytes { IfOk result (λ out. out.items ≡ frame_spelling 2 self.now) }
         ensures valid { OnOk result (IsFrame self.now) }
-        ensures small { OnOk result (length (body_spelling self.now) ≤ 16777216) }
+        ensures small { OnOk result (length (body_spelling 2 self.now) ≤ 16777216) }
         ensures read_back { IfOk result (λ out. ReadsBack self.now out.items) }
     {
-        match self {
-            Frame::Piece(piece) => encode_piece(alloc, piece),
-            Frame::Header(header) => encode_header(alloc, header),
-            Frame::FenceAsk(ask) => encode_fence_ask(alloc, ask),
-            Frame::RangeAsk(ask) => encode_commit_ask(alloc, 4, ask),
-            Frame::DirectAsk(ask) => encode_commit_ask(alloc, 5, ask),
-            Frame::RefreshAsk(ask) => encode_refresh_ask(alloc, ask),
-            Frame::RefreshReply(reply) => encode_refresh_reply(alloc, reply),
+        encode_in(self, alloc, 2)
+    }
+
+    /// The frame's one spelling in that version, which is read back as `encode` says. Refused as BadParam where the
+    /// version is neither 1 nor 2, and as NoMemory.
+    pub fn encode_as(&self, alloc: Global, version: u8) -> Result<BytesMut, Refusal>
+        ensures bytes { IfOk result (λ out. out.items ≡ frame_spelling version self.now) }
+        ensures valid { OnOk result (IsFrame self.now) }
+        ensures small { OnOk result (length (body_spelling version self.now) ≤ 16777216) }
+        ensures read_back { IfOk result (λ out. ReadsBack self.now out.items) }
+        ensures refused { (result ≡ Err refusals.BadParam) ↔ (is_version version ≡ false) }
+        ensures no_other { IfErr result (λ e. (e ≡ refusals.BadParam) ⊎ (e ≡ refusals.NoMemory)) }
+    {
+        if !is_version(version) {
+            return Err(Refusal::BadParam);
         }
+        Ok(encode_in(self, alloc, version)?)
     }
 
     /// A copy, equal to this frame.

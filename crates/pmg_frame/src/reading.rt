@@ -1,12 +1,18 @@
-ghost use Rattle.std.specs.Prelude.{◌≡◌, ◌≤◌, length, IfOk};
+ghost use Rattle.std.specs.Prelude.{◌≡◌, ◌==◌, ◌≤◌, if◌then◌else◌, length, IfOk};
 ghost use Rattle.pmg_wire.specs.Reading.{Reads, ReadsAll};
+ghost use Rattle.pmg_frame.specs.FenceReading.{read_header, read_fence_ask};
+ghost use Rattle.pmg_frame.specs.RunReading.{read_short_header, read_short_ask};
 ghost use Rattle.pmg_frame.specs.Reading.{read_fields, read_frame_body, read_head};
 ghost use Rattle.pmg_frame.specs.Frames.{ReadsFrame};
 
+use crate::asks::FenceAsk;
 use crate::fence_reading::{get_commit_ask, get_fence_ask, get_header};
-use crate::frame::{Frame, HEAD_SIZE, MAX_BODY_SIZE};
+use crate::frame::{Frame, HEAD_SIZE, MAX_BODY_SIZE, is_version};
+use crate::header::Header;
+use crate::local_run_reading::get_short_header;
 use crate::piece_reading::get_piece;
 use crate::refresh_reading::get_refresh;
+use crate::run_reading::get_short_ask;
 use pmg_value::{Cause, Refusal};
 use pmg_wire::Cursor;
 use std::alloc::Global;
@@ -14,16 +20,45 @@ use std::alloc::Global;
 /// The greatest number of a kind: kinds are counted from 1.
 const MAX_KIND: u8 = 6;
 
-// The fields of a body of that kind.
+/// What a head tells: the version, the kind, and the length of the body.
+pub(crate) struct Head {
+    version: u8,
+    kind: u8,
+    len: u32,
+}
+
+// The body of a header, as the version writes it.
+fn get_header_as(alloc: Global, version: u8, at: &mut Cursor<'_>) -> Result<Header, Refusal>
+    ensures { Reads (λ h. h) result at.new (if version == 1 then read_header at.old else read_short_header at.old) }
+{
+    if version == 1 {
+        get_header(alloc, at)
+    } else {
+        get_short_header(alloc, at)
+    }
+}
+
+// The body of a fence ask, as the version writes it.
+fn get_fence_ask_as(alloc: Global, version: u8, at: &mut Cursor<'_>) -> Result<FenceAsk, Refusal>
+    ensures { Reads (λ a. a) result at.new (if version == 1 then read_fence_ask at.old else read_short_ask at.old) }
+{
+    if version == 1 {
+        get_fence_ask(alloc, at)
+    } else {
+        get_short_ask(alloc, at)
+    }
+}
+
+// The fields of a body of that version and kind.
 #[tactic(auto, unfolding(crate::specs::Reading::read_fields))]
-fn get_fields(alloc: Global, kind: u8, at: &mut Cursor<'_>) -> Result<Frame, Refusal>
+fn get_fields(alloc: Global, version: u8, kind: u8, at: &mut Cursor<'_>) -> Result<Frame, Refusal>
     requires { length at.old.rest ≤ 16777216 }
-    ensures { Reads (λ f. f) result at.new (read_fields kind at.old) }
+    ensures { Reads (λ f. f) result at.new (read_fields version kind at.old) }
 {
     match kind {
         1 => Ok(Frame::Piece(get_piece(alloc, at)?)),
-        2 => Ok(Frame::Header(get_header(alloc, at)?)),
-        3 => Ok(Frame::FenceAsk(get_fence_ask(alloc, at)?)),
+        2 => Ok(Frame::Header(get_header_as(alloc, version, at)?)),
+        3 => Ok(Frame::FenceAsk(get_fence_ask_as(alloc, version, at)?)),
         4 => Ok(Frame::RangeAsk(get_commit_ask(alloc, at)?)),
         5 => Ok(Frame::DirectAsk(get_commit_ask(alloc, at)?)),
         _ => get_refresh(alloc, at),
@@ -31,11 +66,11 @@ fn get_fields(alloc: Global, kind: u8, at: &mut Cursor<'_>) -> Result<Frame, Ref
 }
 
 #[tactic(auto, unfolding(crate::specs::Reading::read_frame_body))]
-fn get_body(alloc: Global, kind: u8, at: &mut Cursor<'_>) -> Result<Frame, Refusal>
+fn get_body(alloc: Global, version: u8, kind: u8, at: &mut Cursor<'_>) -> Result<Frame, Refusal>
     requires { length at.old.rest ≤ 16777216 }
-    ensures { ReadsAll (λ f. f) result (read_frame_body kind at.old) }
+    ensures { ReadsAll (λ f. f) result (read_frame_body version kind at.old) }
 {
-    let frame = get_fields(alloc, kind, at)?;
+    let frame = get_fields(alloc, version, kind, at)?;
     if !at.rest().is_empty() {
         return Err(Refusal::bad_frame(at.offset(), Cause::Long));
     }
@@ -43,12 +78,13 @@ fn get_body(alloc: Global, kind: u8, at: &mut Cursor<'_>) -> Result<Frame, Refus
 }
 
 #[tactic(auto, unfolding(crate::specs::Reading::read_head))]
-fn get_head(at: &mut Cursor<'_>) -> Result<(u8, u32), Refusal>
-    ensures read { Reads (λ h. (h.0, h.1)) result at.new (read_head at.old) }
-    ensures small { IfOk result (λ h. h.1 ≤ 16777216) }
+fn get_head(at: &mut Cursor<'_>) -> Result<Head, Refusal>
+    ensures read { Reads (λ h. h) result at.new (read_head at.old) }
+    ensures small { IfOk result (λ h. h.len ≤ 16777216) }
 {
     let version_at = at.offset();
-    if at.get_u8()? != 1 {
+    let version = at.get_u8()?;
+    if !is_version(version) {
         return Err(Refusal::bad_frame(version_at, Cause::Version));
     }
     let kind_at = at.offset();
@@ -61,7 +97,7 @@ fn get_head(at: &mut Cursor<'_>) -> Result<(u8, u32), Refusal>
     if len > MAX_BODY_SIZE {
         return Err(Refusal::bad_frame(len_at, Cause::Length));
     }
-    Ok((kind, len))
+    Ok(Head { version, kind, len })
 }
 
 /// Reads the next frame, or nothing while it is not all there. Refused as BadFrame at the first fault, and as
@@ -74,14 +110,14 @@ pub fn get_frame(alloc: Global, at: &mut Cursor<'_>) -> Result<Option<Frame>, Re
         return Ok(None);
     }
     let mut head = at.window(HEAD_SIZE);
-    let (kind, len) = get_head(&mut head)?;
+    let Head { version, kind, len } = get_head(&mut head)?;
     let mut behind = at.fork();
     behind.skip(HEAD_SIZE);
     if behind.rest().len() < len as usize {
         return Ok(None);
     }
     let mut body = behind.window(len as usize);
-    let frame = get_body(alloc, kind, &mut body)?;
+    let frame = get_body(alloc, version, kind, &mut body)?;
     behind.skip(len as usize);
     *at = behind;
     Ok(Some(frame))

@@ -1,4 +1,4 @@
-//! Frames as bytes: each kind has one spelling.
+//! Frames as bytes: each kind has one spelling in each version.
 ghost use Rattle.std.specs.Prelude.{◌≡◌, ◌++◌, ◌+◌, ◌*◌, ◌<◌, ◌≤◌, ◌^◌, IfOk, OnOk, IsTrue, map, length};
 ghost use Rattle.std.specs.Int.{w32, to_be_bytes};
 ghost use Rattle.std.specs.List.{flat_map, list_all};
@@ -9,35 +9,38 @@ ghost use Rattle.pmg_frame.specs.declared.frame.Frame.TheVariants as frames;
 ghost use Rattle.pmg_frame.specs.Fences.{is_gone};
 ghost use Rattle.pmg_frame.specs.Grammar.{IsEntry, AreEntries, IsName, IsHeader, IsFenceAsk, IsCommitAsk, IsRefreshAsk, IsRefreshReply, IsFrame};
 ghost use Rattle.pmg_frame.specs.Refreshing.{is_request};
-ghost use Rattle.pmg_frame.specs.Spelling.{entry_spelling, piece_body, head_spelling, frame_spelling, flag_spelling, procs_spelling, name_spelling, local_spelling, header_body, fence_ask_body, commit_ask_body, asker_spelling, refresh_ask_body, refresh_reply_body};
+ghost use Rattle.pmg_frame.specs.Spelling.{entry_spelling, piece_body, flag_spelling, procs_spelling, name_spelling, local_spelling, header_body, fence_ask_body, commit_ask_body, asker_spelling, refresh_ask_body, refresh_reply_body};
+ghost use Rattle.pmg_frame.specs.Versions.{head_spelling, frame_spelling};
 
 use crate::asks::{CommitAsk, FenceAsk};
 use crate::fence_name::FenceName;
 use crate::frame::HEAD_SIZE;
 use crate::header::Header;
 use crate::local::{Local, State};
+use crate::local_run_writing::encode_short_header;
 use crate::refreshes::{RefreshAsk, RefreshReply};
+use crate::run_writing::encode_short_fence_ask;
 use bytes::BytesMut;
 use pmg_commit::{Piece, PieceEntry};
 use pmg_value::{NodeId, Proc};
 use pmg_wire::{put_key, put_proc, put_value};
 use std::alloc::{AllocError, Global};
 
-fn put_head(out: &mut BytesMut, kind: u8, len: u32) -> Result<(), AllocError>
-    ensures { OnOk result (out.new.items ≡ out.old.items ++ head_spelling kind len) }
+pub fn put_head(out: &mut BytesMut, version: u8, kind: u8, len: u32) -> Result<(), AllocError>
+    ensures { OnOk result (out.new.items ≡ out.old.items ++ head_spelling version kind len) }
 {
-    out.extend_from_slice(&[1, kind])?;
+    out.extend_from_slice(&[version, kind])?;
     out.extend_from_slice(&len.to_be_bytes())
 }
 
-pub fn encode_piece(alloc: Global, piece: &Piece) -> Result<BytesMut, AllocError>
-    ensures bytes { IfOk result (λ out. out.items ≡ frame_spelling (frames.Piece piece.now)) }
+pub fn encode_piece(alloc: Global, version: u8, piece: &Piece) -> Result<BytesMut, AllocError>
+    ensures bytes { IfOk result (λ out. out.items ≡ frame_spelling version (frames.Piece piece.now)) }
     ensures valid { OnOk result (IsFrame (frames.Piece piece.now)) }
     ensures small { OnOk result (length (piece_body piece.now) ≤ 16777216) }
 {
     let size = piece.size();
     let mut out = BytesMut::with_capacity(alloc, HEAD_SIZE + size)?;
-    put_head(&mut out, 1, size as u32)?;
+    put_head(&mut out, version, 1, size as u32)?;
     put_told(
         &mut out,
         piece.proc(),
@@ -87,7 +90,7 @@ fn put_entry(out: &mut BytesMut, entry: &PieceEntry) -> Result<(), AllocError>
 }
 
 /// The bytes that a process takes in a frame.
-fn proc_size(proc: &Proc) -> usize
+pub fn proc_size(proc: &Proc) -> usize
     ensures value { result ≡ length (proc_spelling proc.now) }
     ensures bound { result ≤ 260 }
 {
@@ -128,14 +131,14 @@ fn name_size(name: &FenceName) -> usize
     procs_size(name.signature().participants()) + 13
 }
 
-fn put_flag(out: &mut BytesMut, flag: bool) -> Result<(), AllocError>
+pub fn put_flag(out: &mut BytesMut, flag: bool) -> Result<(), AllocError>
     ensures { OnOk result (out.new.items ≡ out.old.items ++ flag_spelling flag) }
 {
     let byte = if flag { 1 } else { 0 };
     out.extend_from_slice(&[byte])
 }
 
-fn put_node(out: &mut BytesMut, node: NodeId) -> Result<(), AllocError>
+pub fn put_node(out: &mut BytesMut, node: NodeId) -> Result<(), AllocError>
     ensures bytes { OnOk result (out.new.items ≡ out.old.items ++ to_be_bytes w32 node) }
     ensures bound { node ≤ 63 }
 {
@@ -171,7 +174,7 @@ fn put_local(out: &mut BytesMut, local: &Local) -> Result<(), AllocError>
     out.extend_from_slice(&local.level.to_be_bytes())
 }
 
-fn is_gone(state: State) -> bool
+pub fn is_gone(state: State) -> bool
     ensures { result ≡ is_gone state }
 {
     match state {
@@ -189,7 +192,7 @@ fn put_locals(out: &mut BytesMut, locals: &[Local]) -> Result<(), AllocError>
     Ok(())
 }
 
-fn put_header(out: &mut BytesMut, header: &Header) -> Result<(), AllocError>
+pub fn put_header(out: &mut BytesMut, header: &Header) -> Result<(), AllocError>
     ensures bytes { OnOk result (out.new.items ≡ out.old.items ++ header_body header.now) }
     ensures valid { OnOk result (IsHeader header.now) }
 {
@@ -200,15 +203,26 @@ fn put_header(out: &mut BytesMut, header: &Header) -> Result<(), AllocError>
     put_locals(out, locals)
 }
 
-pub fn encode_header(alloc: Global, header: &Header) -> Result<BytesMut, AllocError>
-    ensures bytes { IfOk result (λ out. out.items ≡ frame_spelling (frames.Header header.now)) }
+fn encode_full_header(alloc: Global, header: &Header) -> Result<BytesMut, AllocError>
+    ensures bytes { IfOk result (λ out. out.items ≡ frame_spelling 1 (frames.Header header.now)) }
     ensures valid { OnOk result (IsFrame (frames.Header header.now)) }
 {
     let size = name_size(header.name()) + locals_size(header.locals()) + 8;
     let mut out = BytesMut::with_capacity(alloc, HEAD_SIZE + size)?;
-    put_head(&mut out, 2, size as u32)?;
+    put_head(&mut out, 1, 2, size as u32)?;
     put_header(&mut out, header)?;
     Ok(out)
+}
+
+pub fn encode_header(alloc: Global, version: u8, header: &Header) -> Result<BytesMut, AllocError>
+    ensures bytes { IfOk result (λ out. out.items ≡ frame_spelling version (frames.Header header.now)) }
+    ensures valid { OnOk result (IsFrame (frames.Header header.now)) }
+{
+    if version == 1 {
+        encode_full_header(alloc, header)
+    } else {
+        encode_short_header(alloc, version, header)
+    }
 }
 
 fn put_fence_ask(out: &mut BytesMut, ask: &FenceAsk) -> Result<(), AllocError>
@@ -219,15 +233,26 @@ fn put_fence_ask(out: &mut BytesMut, ask: &FenceAsk) -> Result<(), AllocError>
     put_name(out, ask.name())
 }
 
-pub fn encode_fence_ask(alloc: Global, ask: &FenceAsk) -> Result<BytesMut, AllocError>
-    ensures bytes { IfOk result (λ out. out.items ≡ frame_spelling (frames.FenceAsk ask.now)) }
+fn encode_full_fence_ask(alloc: Global, ask: &FenceAsk) -> Result<BytesMut, AllocError>
+    ensures bytes { IfOk result (λ out. out.items ≡ frame_spelling 1 (frames.FenceAsk ask.now)) }
     ensures valid { OnOk result (IsFrame (frames.FenceAsk ask.now)) }
 {
     let size = name_size(ask.name()) + 4;
     let mut out = BytesMut::with_capacity(alloc, HEAD_SIZE + size)?;
-    put_head(&mut out, 3, size as u32)?;
+    put_head(&mut out, 1, 3, size as u32)?;
     put_fence_ask(&mut out, ask)?;
     Ok(out)
+}
+
+pub fn encode_fence_ask(alloc: Global, version: u8, ask: &FenceAsk) -> Result<BytesMut, AllocError>
+    ensures bytes { IfOk result (λ out. out.items ≡ frame_spelling version (frames.FenceAsk ask.now)) }
+    ensures valid { OnOk result (IsFrame (frames.FenceAsk ask.now)) }
+{
+    if version == 1 {
+        encode_full_fence_ask(alloc, ask)
+    } else {
+        encode_short_fence_ask(alloc, version, ask)
+    }
 }
 
 fn put_commit_ask(out: &mut BytesMut, ask: &CommitAsk) -> Result<(), AllocError>
@@ -239,13 +264,18 @@ fn put_commit_ask(out: &mut BytesMut, ask: &CommitAsk) -> Result<(), AllocError>
     out.extend_from_slice(&ask.level().to_be_bytes())
 }
 
-pub fn encode_commit_ask(alloc: Global, kind: u8, ask: &CommitAsk) -> Result<BytesMut, AllocError>
-    ensures bytes { IfOk result (λ out. out.items ≡ head_spelling kind (length (commit_ask_body ask.now)) ++ commit_ask_body ask.now) }
+pub fn encode_commit_ask(
+    alloc: Global,
+    version: u8,
+    kind: u8,
+    ask: &CommitAsk,
+) -> Result<BytesMut, AllocError>
+    ensures bytes { IfOk result (λ out. out.items ≡ head_spelling version kind (length (commit_ask_body ask.now)) ++ commit_ask_body ask.now) }
     ensures valid { OnOk result (IsCommitAsk ask.now) }
 {
     let size = proc_size(ask.proc()) + 12;
     let mut out = BytesMut::with_capacity(alloc, HEAD_SIZE + size)?;
-    put_head(&mut out, kind, size as u32)?;
+    put_head(&mut out, version, kind, size as u32)?;
     put_commit_ask(&mut out, ask)?;
     Ok(out)
 }
@@ -269,13 +299,17 @@ fn put_refresh_ask(out: &mut BytesMut, refresh: &RefreshAsk) -> Result<(), Alloc
     out.extend_from_slice(&ask.level().to_be_bytes())
 }
 
-pub fn encode_refresh_ask(alloc: Global, refresh: &RefreshAsk) -> Result<BytesMut, AllocError>
-    ensures bytes { IfOk result (λ out. out.items ≡ frame_spelling (frames.RefreshAsk refresh.now)) }
+pub fn encode_refresh_ask(
+    alloc: Global,
+    version: u8,
+    refresh: &RefreshAsk,
+) -> Result<BytesMut, AllocError>
+    ensures bytes { IfOk result (λ out. out.items ≡ frame_spelling version (frames.RefreshAsk refresh.now)) }
     ensures valid { OnOk result (IsFrame (frames.RefreshAsk refresh.now)) }
 {
     let size = proc_size(refresh.ask().proc()) + 21;
     let mut out = BytesMut::with_capacity(alloc, HEAD_SIZE + size)?;
-    put_head(&mut out, 6, size as u32)?;
+    put_head(&mut out, version, 6, size as u32)?;
     put_refresh_ask(&mut out, refresh)?;
     Ok(out)
 }
@@ -288,14 +322,18 @@ fn put_refresh_reply(out: &mut BytesMut, reply: &RefreshReply) -> Result<(), All
     put_told(out, reply.proc(), reply.from(), reply.to(), reply.entries())
 }
 
-pub fn encode_refresh_reply(alloc: Global, reply: &RefreshReply) -> Result<BytesMut, AllocError>
-    ensures bytes { IfOk result (λ out. out.items ≡ frame_spelling (frames.RefreshReply reply.now)) }
+pub fn encode_refresh_reply(
+    alloc: Global,
+    version: u8,
+    reply: &RefreshReply,
+) -> Result<BytesMut, AllocError>
+    ensures bytes { IfOk result (λ out. out.items ≡ frame_spelling version (frames.RefreshReply reply.now)) }
     ensures valid { OnOk result (IsFrame (frames.RefreshReply reply.now)) }
     ensures small { OnOk result (length (refresh_reply_body reply.now) ≤ 16777216) }
 {
     let size = reply.size();
     let mut out = BytesMut::with_capacity(alloc, HEAD_SIZE + size)?;
-    put_head(&mut out, 6, size as u32)?;
+    put_head(&mut out, version, 6, size as u32)?;
     put_refresh_reply(&mut out, reply)?;
     Ok(out)
 }

@@ -1,9 +1,10 @@
 -- Streams that are merged, in whatever order, print what they print as one stream.
-use Rattle.std.proofs.Common.{◌≡◌, ℕ, suc, nat_lt, nat_le, ◌≤◌, ◌==◌, Bool, true, false, arith, List, [], ◌∷◌, ◌++◌, length, Option, Some, None, Result, Ok, Err, inl, inr, refl, sym, ap, subst, ◌∙◌, append-nil}
+use Rattle.std.proofs.Common.{◌≡◌, ℕ, suc, nat_lt, nat_le, ◌≤◌, ◌==◌, Bool, true, false, arith, List, [], ◌∷◌, ◌++◌, length, map, Option, Some, None, Result, Ok, Err, inl, inr, refl, sym, ap, subst, ◌∙◌, append-nil}
 use Rattle.std.specs.List.{flat_map}
 use Rattle.std.specs.Prelude.{if◌then◌else◌, OnOk}
 use Rattle.std.proofs.lemmas.Bool.{ltb-false, eqb-true}
 use Rattle.std.proofs.lemmas.Grind.{flat_map-append}
+use Rattle.std.proofs.lemmas.List.{map-append}
 use Rattle.pmg_value.specs.declared.refusal.Cause.TheVariants as causes
 use Rattle.pmg_value.specs.declared.refusal.Fault.{Fault}
 use Rattle.pmg_value.specs.Lists.{In, Each, SameItems}
@@ -12,9 +13,9 @@ use Rattle.pmg_wire.specs.Reading.{Place, fault, IsBytes, Takes, ◌>>=◌}
 use Rattle.pmg_commit.specs.Knowledge.{Contribution}
 use Rattle.pmg_frame.specs.declared.frame.Frame.{Frame}
 use Rattle.pmg_frame.specs.declared.frame.Frame.TheVariants as frames
-use Rattle.pmg_frame.specs.Grammar.{AreFrames}
+use Rattle.pmg_frame.specs.Grammar.{IsSpelt}
 use Rattle.pmg_frame.specs.Reading.{read_frame}
-use Rattle.pmg_frame.specs.Spelling.{frame_spelling}
+use Rattle.pmg_frame.specs.Versions.{Spelt, spelt_text}
 use Rattle.pmg_frame.specs.Streams.{said_by}
 use Rattle.pmg_frame.proofs.Cuts.{is_said, is_found}
 use Rattle.pmg_store.specs.Convergence.{MergesAlike, MergesAsOne}
@@ -114,12 +115,12 @@ written_alike old new (Ok done) xs ys same few dumps = by_due (merge_of xs) refl
 
 -- ---- as one
 
--- a stream of whole frames, which tell these contributions
+-- a stream of whole frames, each in its version, which tell these contributions
 record IsWhole (bytes : List ℕ) (cs : List Contribution) : Type 0 where
-  frames : List Frame
-  spelled : bytes ≡ flat_map frame_spelling frames
-  are : AreFrames frames
-  told : contributions frames ≡ cs
+  spelt : List Spelt
+  spelled : bytes ≡ flat_map spelt_text spelt
+  are : Each IsSpelt spelt
+  told : contributions (map (λ s. s.frame) spelt) ≡ cs
 
 no_item : {X : Type 0} (xs : List X) → length xs ≡ 0 → xs ≡ []
 no_item [] none = refl
@@ -135,11 +136,12 @@ whole bytes cs fits is =
     let said = said_by bytes in
     let says = is_said bytes fits in
     let all = parts said.frames said.fault said.end.offset (length said.end.rest) is in
+    let text = flat_map spelt_text says.spelt in
     record {
-      frames = said.frames;
-      spelled = says.takes.parts ∙ ap (λ rest. flat_map frame_spelling said.frames ++ rest) (no_item said.end.rest all.1) ∙ append-nil (flat_map frame_spelling said.frames);
+      spelt = says.spelt;
+      spelled = says.takes.parts ∙ ap (λ rest. text ++ rest) (no_item said.end.rest all.1) ∙ append-nil text;
       are = says.are;
-      told = all.0;
+      told = ap contributions says.are_those ∙ all.0;
     }
   where
     parts : (fs : List Frame) (f : Option Fault) (offset left : ℕ) → told_by_said fs f offset left ≡ Ok cs → (contributions fs ≡ cs) × (left ≡ 0)
@@ -153,16 +155,17 @@ nothing_follows offset = refl
 
 told_whole : (bytes : List ℕ) (cs : List Contribution) → IsWhole bytes cs → told_in bytes ≡ Ok cs
 told_whole bytes cs w =
-    let end : Place = record { offset = length (flat_map frame_spelling w.frames); rest = [] } in
-    let takes : Takes (record { offset = 0; rest = bytes }) (flat_map frame_spelling w.frames) end =
-    record { parts = w.spelled ∙ sym (append-nil (flat_map frame_spelling w.frames)); place = omega arith } in
-    let fed = is_found start end bytes w.frames None (record { takes = takes; are = w.are; stops = nothing_follows end.offset }) in
+    let text = flat_map spelt_text w.spelt in
+    let fs = map (λ (s : Spelt). s.frame) w.spelt in
+    let end : Place = record { offset = length text; rest = [] } in
+    let takes : Takes (record { offset = 0; rest = bytes }) text end = record { parts = w.spelled ∙ sym (append-nil text); place = omega arith } in
+    let fed = is_found start end bytes fs None (record { spelt = w.spelt; are_those = refl; takes = takes; are = w.are; stops = nothing_follows end.offset }) in
     let last : end ≡ fed.end = let same = fed.left in cc in
-    told_of_feed bytes w.frames None (Some end) fed ∙ (λ i. told_by_said w.frames None (sym last i).offset (length (sym last i).rest)) ∙ ap Ok w.told
+    told_of_feed bytes fs None (Some end) fed ∙ (λ i. told_by_said fs None (sym last i).offset (length (sym last i).rest)) ∙ ap Ok w.told
 
-are_both : (fs gs : List Frame) → AreFrames fs → AreFrames gs → AreFrames (fs ++ gs)
-are_both [] gs first second = second
-are_both (f ∷ fs) gs first second = (first.0, first.1, are_both fs gs first.2 second)
+are_both : (ss ts : List Spelt) → Each IsSpelt ss → Each IsSpelt ts → Each IsSpelt (ss ++ ts)
+are_both [] ts first second = second
+are_both (s ∷ ss) ts first second = (first.0, are_both ss ts first.1 second)
 
 with_both : (o : Option Contribution) (cs ds es : List Contribution) → cs ≡ ds ++ es → with_told o cs ≡ with_told o ds ++ es
 with_both None cs ds es e = e
@@ -180,10 +183,13 @@ told_both (frames.RefreshReply r ∷ fs) gs = with_both (told_by r) (contributio
 
 both_whole : (a b : List ℕ) (xs ys : List Contribution) → IsWhole a xs → IsWhole b ys → IsWhole (a ++ b) (xs ++ ys)
 both_whole a b xs ys v w = record {
-  frames = v.frames ++ w.frames;
-  spelled = (λ i. v.spelled i ++ w.spelled i) ∙ sym (flat_map-append frame_spelling v.frames w.frames);
-  are = are_both v.frames w.frames v.are w.are;
-  told = told_both v.frames w.frames ∙ (λ i. v.told i ++ w.told i);
+  spelt = v.spelt ++ w.spelt;
+  spelled = (λ i. v.spelled i ++ w.spelled i) ∙ sym (flat_map-append spelt_text v.spelt w.spelt);
+  are = are_both v.spelt w.spelt v.are w.are;
+  told =
+      ap contributions (map-append (λ (s : Spelt). s.frame) v.spelt w.spelt)
+      ∙ told_both (map (λ (s : Spelt). s.frame) v.spelt) (map (λ (s : Spelt). s.frame) w.spelt)
+      ∙ (λ i. v.told i ++ w.told i);
 }
 
 told_alone : (bytes : List ℕ) (cs : List Contribution) → told_by_input bytes ≡ Ok cs → told_in bytes ≡ Ok cs
@@ -194,7 +200,7 @@ told_alone bytes cs is = parts (nat_le (length bytes) INPUT_LIMIT) is
     parts false is = absurd cc
 
 all_whole : (number : ℕ) (streams : List (List ℕ)) (cs : List Contribution) → Each IsBytes streams → told_from number streams ≡ Ok cs → IsWhole (one_after_the_other streams) cs
-all_whole number [] cs fits is = record { frames = []; spelled = refl; are = tt; told = cc }
+all_whole number [] cs fits is = record { spelt = []; spelled = refl; are = tt; told = cc }
 all_whole number (bytes ∷ others) cs fits is =
     let apart = told_apart number bytes others cs is in
     let first = whole bytes apart.0 fits.0 (told_alone bytes apart.0 apart.2) in

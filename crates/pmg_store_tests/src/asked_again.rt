@@ -89,7 +89,7 @@ fn feed(rt: &impl Abort, stream: &mut Stream, bytes: &[u8]) -> Fed {
     }
 }
 
-// The bytes of the frames that are found where these are fed in parts, and the offset of the fault.
+// The bytes of the frames that are found where these are fed in parts, each in its version, and the offset of the fault.
 fn found(rt: &impl Abort, alloc: Global, bytes: &[u8]) -> (Vec<u8>, Option<u64>) {
     let mut stream = Stream::new(alloc);
     let mut found = Vec::new(alloc);
@@ -97,7 +97,8 @@ fn found(rt: &impl Abort, alloc: Global, bytes: &[u8]) -> (Vec<u8>, Option<u64>)
     for part in bytes.chunks(20) {
         let fed = feed(rt, &mut stream, part);
         for frame in &fed.frames {
-            let encoded = again!(rt, frame.encode(alloc));
+            let version = bytes.get(found.len()).copied().unwrap_or(0);
+            let encoded = again!(rt, frame.encode_as(alloc, version));
             again!(rt, found.extend_from_slice(&encoded));
         }
         offset = fed.fault.map(|fault| fault.offset);
@@ -105,7 +106,7 @@ fn found(rt: &impl Abort, alloc: Global, bytes: &[u8]) -> (Vec<u8>, Option<u64>)
     (found, offset)
 }
 
-// A frame of each kind, and a byte that begins none.
+// A frame of each kind in each version, and a byte that begins none.
 fn frames_and_fault(rt: &impl Abort, alloc: Global) -> Vec<u8> {
     let mut bytes = Vec::new(alloc);
     for line in FRAMES.lines() {
@@ -113,7 +114,7 @@ fn frames_and_fault(rt: &impl Abort, alloc: Global) -> Vec<u8> {
         let frame = again!(rt, decoded(alloc, text));
         again!(rt, bytes.extend_from_slice(&frame));
     }
-    again!(rt, bytes.extend_from_slice(b"\x02\x01\x00\x00\x00\x00"));
+    again!(rt, bytes.extend_from_slice(b"\x03\x01\x00\x00\x00\x00"));
     bytes
 }
 

@@ -1,15 +1,17 @@
 //! What no clause says: that frames of which bytes, faults and offsets were found by hand are read and written so,
 //! however their bytes come.
 use crate::making::{MEMORY, fence_name};
-use crate::spelled::{FRAMES, edited, made};
-use pmg_frame::{FenceName, Frame, Stream};
+use crate::spelled::{FRAMES, edited, full_header, made};
+use pmg_frame::{FenceName, Frame, HEAD_SIZE, Stream};
 use pmg_value::{Cause, Fault, Refusal};
 use std::alloc::Global;
 use std::process::Abort;
 
-// Requires that these bytes say this frame alone, which is written so, and that a copy is the same.
+// Requires that these bytes say this frame alone, which is written so in their version, and that a copy is the same.
 fn assert_one(rt: &impl Abort, alloc: Global, bytes: &[u8], frame: &Frame) {
-    assert!(rt; frame.encode(alloc).expect(rt, MEMORY).as_slice() == bytes);
+    let version = bytes.first().copied().unwrap_or(0);
+    let written = frame.encode_as(alloc, version).expect(rt, MEMORY);
+    assert!(rt; written.as_slice() == bytes);
     let fed = Stream::new(alloc).feed(bytes).expect(rt, MEMORY);
     assert!(rt; fed.fault == None && fed.frames.len() == 1);
     for read in &fed.frames {
@@ -51,6 +53,31 @@ fn each_kind_is_read_and_written_whole_and_split(rt: HostRuntime) {
     }
 }
 
+#[test]
+fn frames_are_written_in_version_2_and_in_no_version_past_it(rt: HostRuntime) {
+    let alloc = rt.alloc();
+    let frame = made(&rt, alloc, "short-header");
+    let written = frame.encode(alloc).expect(&rt, MEMORY);
+    assert!(rt; written.as_slice() == edited(&rt, alloc, "short-header").as_slice());
+    for version in [0, 3, 255] {
+        assert!(rt; frame.encode_as(alloc, version).err() == Some(Refusal::BadParam));
+    }
+}
+
+// Requires that the frame has a body of that size in that version, and is read back.
+fn assert_size(rt: &impl Abort, alloc: Global, frame: &Frame, version: u8, size: usize) {
+    let bytes = frame.encode_as(alloc, version).expect(rt, MEMORY);
+    assert!(rt; bytes.get(HEAD_SIZE..).unwrap_or(&[]).len() == size);
+    assert_one(rt, alloc, &bytes, frame);
+}
+
+#[test]
+fn a_header_of_all_ranks_is_short_as_one_run(rt: HostRuntime) {
+    let frame = Frame::Header(full_header(&rt, rt.alloc()));
+    assert_size(&rt, rt.alloc(), &frame, 1, 86_037);
+    assert_size(&rt, rt.alloc(), &frame, 2, 50);
+}
+
 // Feeds bytes, and requires that so many frames are in them and then a fault at that offset.
 fn assert_fault(rt: &impl Abort, stream: &mut Stream, bytes: &[u8], frames: usize, offset: u64) {
     let fed = stream.feed(bytes).expect(rt, MEMORY);
@@ -84,7 +111,9 @@ fn a_fault_closes_the_stream(rt: HostRuntime) {
 
 // Frames with edits, and of each the first fault, which is found with its last byte.
 const FAULTS: &str = "\
-piece 0=02 1=09 ..6: Version at 0
+piece 0=00 1=09 ..6: Version at 0
+piece 0=03 1=09 ..6: Version at 0
+piece 0=02 5=00 ..6: Short at 6
 piece 1=00 2=09 ..6: Kind at 1
 piece 1=07 ..6: Kind at 1
 piece 2=01 5=01 ..6: Length at 2
@@ -155,6 +184,49 @@ refresh-reply 44=02: Short at 58
 refresh-reply 42=01 46=00: Count at 41
 refresh-reply 44=00: Long at 45
 refresh-reply 57=02: Bool at 57
+short-header 1=07 ..6: Kind at 1
+short-header 9=40: Node at 6
+short-header 10=02 18=00: Bool at 10
+short-header 18=00 22=00: Number at 11
+short-header 22=00 23=00: Count at 19
+short-header 21=10 22=01: Count at 19
+short-header 23=00 31=10: Name at 23
+short-header 27=10 31=10: Rank at 25
+short-header 31=10 36=00: Rank at 29
+short-header 28=02 36=00: Rank at 29
+short-header 36=00 37=00: Count at 33
+short-header 35=10 36=01: Count at 33
+short-header 37=00 45=10: Name at 37
+short-header 41=10 45=10: Rank at 39
+short-header 38=6b 45=10: Rank at 43
+short-header 42=01 47=02: Rank at 43
+short-header 38=6b 47=02: Member at 37
+short-header 46=02 47=02: Member at 37
+short-header 47=02 51=01: Bool at 47
+short-header 51=01: Level at 48
+short-header 5=31 ..55: Short at 48
+short-header 36=02: Short at 56
+mixed-header 76=00: Order at 66
+mixed-header 71=01 75=10: Order at 66
+mixed-header 67=69 75=10: Order at 66
+mixed-header 70=10 71=00: Rank at 68
+mixed-header 71=03 75=03: Member at 66
+mixed-header 75=03 76=02: Member at 66
+mixed-header 76=02 80=01: Bool at 76
+mixed-header 76=00 80=01: Level at 77
+mixed-header 42=03 103=01: Rank at 39
+mixed-header 46=02: Long at 85
+mixed-header 46=04: Short at 104
+mixed-ask 9=40: Node at 6
+mixed-ask 38=02 41=10: Order at 33
+mixed-ask 38=01 41=10: Order at 33
+mixed-ask 34=69 41=10: Order at 33
+mixed-ask 34=69 37=10: Rank at 35
+mixed-ask 31=0f 32=ff 34=6b: Count at 39
+mixed-ask 31=0f 32=ff 34=6b 41=10: Rank at 39
+mixed-ask 22=01: Long at 33
+mixed-ask 22=03: Short at 43
+mixed-ask 5=24 ..42: Short at 39
 refresh-none 40=02: Range at 25
 refresh-none 40=04 44=01: Short at 45
 ";

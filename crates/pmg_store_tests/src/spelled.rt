@@ -7,7 +7,7 @@ use pmg_value::{Key, NodeId, Proc, Value};
 use std::alloc::Global;
 use std::process::Abort;
 
-/// Of each kind of frame its name and its bytes, field by field as the formats list them.
+/// Of each kind of frame in each version its name and its bytes, field by field as the formats list them.
 pub const FRAMES: &str = "\
 piece 01 01 00000027 016a 00000000 0000000000000000 0000000000000001 00000001 \
  0001 61 0000000000000001 01 01
@@ -24,6 +24,17 @@ refresh-reply 01 06 00000034 00000001 0000000000000001 01 016a 00000000 00000000
  0000000000000001 00000001 0001 61 0000000000000001 01 01
 refresh-none 01 06 00000027 00000001 0000000000000002 01 016a 00000000 0000000000000003 \
  0000000000000003 00000000
+short-piece 02 01 00000027 016a 00000000 0000000000000000 0000000000000001 00000001 \
+ 0001 61 0000000000000001 01 01
+short-header 02 02 00000032 00000000 01 0000000000000001 00000001 016a 00000000 00000001 \
+ 00000001 016a 00000000 00000000 00 0000000000000001
+mixed-header 02 02 00000062 00000000 01 0000000000000001 00000002 016a 00000000 00000002 \
+ 016a 00000004 00000004 00000003 016a 00000000 00000001 00 0000000000000001 \
+ 016a 00000002 00000002 01 0000000000000001 016a 00000004 00000004 00 0000000000000002
+mixed-ask 02 03 00000025 00000001 01 0000000000000001 00000002 016a 00000000 00000001 \
+ 016a 00000003 00000003
+short-refresh-reply 02 06 00000034 00000001 0000000000000001 01 016a 00000000 0000000000000000 \
+ 0000000000000001 00000001 0001 61 0000000000000001 01 01
 ";
 
 /// The dump of the frame `piece`, which has 45 bytes.
@@ -45,18 +56,56 @@ pub fn first_commit(rt: &impl Abort, alloc: Global, keys: &[&[u8]]) -> Piece {
     Piece::new(proc, 0, 1, entries).expect(rt, MEMORY)
 }
 
+// What a header tells of the process of that rank of j.
+fn local(rt: &impl Abort, alloc: Global, rank: u32, state: State, level: u64) -> Local {
+    let proc = proc(alloc, rank).expect(rt, MEMORY);
+    Local { proc, state, level }
+}
+
 // Node 0 tells of the first collecting fence of 0 and 1 of j: 0 has entered at level 1.
 fn header(rt: &impl Abort, alloc: Global) -> Header {
     let mut locals = Vec::new(alloc);
-    let local = Local {
-        proc: proc(alloc, 0).expect(rt, MEMORY),
-        state: State::Entered,
-        level: 1,
-    };
-    locals.push(local).expect(rt, MEMORY);
+    let first = local(rt, alloc, 0, State::Entered, 1);
+    locals.push(first).expect(rt, MEMORY);
     let node = NodeId::new(0).expect(rt, MEMORY);
     let fence = fence_name(rt, alloc, &[1, 0, 1], true, 1);
     Header::new(node, fence, locals).expect(rt, MEMORY)
+}
+
+// Node 0 tells of the first collecting fence of 0, 1, 2 and 4 of j: 2 is gone, and 4 has entered at level 2.
+fn mixed_header(rt: &impl Abort, alloc: Global) -> Header {
+    let mut locals = Vec::new(alloc);
+    for rank in 0..2 {
+        let entered = local(rt, alloc, rank, State::Entered, 1);
+        locals.push(entered).expect(rt, MEMORY);
+    }
+    let gone = local(rt, alloc, 2, State::Gone, 1);
+    locals.push(gone).expect(rt, MEMORY);
+    let later = local(rt, alloc, 4, State::Entered, 2);
+    locals.push(later).expect(rt, MEMORY);
+    let node = NodeId::new(0).expect(rt, MEMORY);
+    let fence = fence_name(rt, alloc, &[0, 1, 2, 4], true, 1);
+    Header::new(node, fence, locals).expect(rt, MEMORY)
+}
+
+/// Node 0 tells of the first collecting fence of all ranks that j may have: each has entered at level 1.
+pub fn full_header(rt: &impl Abort, alloc: Global) -> Header {
+    let mut ranks = Vec::new(alloc);
+    let mut locals = Vec::new(alloc);
+    for rank in 0..4096 {
+        let entered = local(rt, alloc, rank, State::Entered, 1);
+        locals.push(entered).expect(rt, MEMORY);
+        ranks.push(rank).expect(rt, MEMORY);
+    }
+    let node = NodeId::new(0).expect(rt, MEMORY);
+    let fence = fence_name(rt, alloc, &ranks, true, 1);
+    Header::new(node, fence, locals).expect(rt, MEMORY)
+}
+
+// The ask of that node for a header of the first collecting fence of these ranks of j.
+fn fence_ask(rt: &impl Abort, alloc: Global, node: NodeId, ranks: &[u32]) -> Frame {
+    let fence = fence_name(rt, alloc, ranks, true, 1);
+    Frame::FenceAsk(FenceAsk::new(node, fence))
 }
 
 // The ask of that node for the commits of the process 0 of j after the level.
@@ -68,14 +117,13 @@ fn commit_ask(rt: &impl Abort, alloc: Global, node: NodeId, level: u64) -> Commi
 /// The frame of that name, made from what it says.
 pub fn made(rt: &impl Abort, alloc: Global, name: &str) -> Frame {
     let node = NodeId::new(1).expect(rt, MEMORY);
-    match name {
+    match name.strip_prefix("short-").unwrap_or(name) {
         "piece" => Frame::Piece(first_commit(rt, alloc, &[b"a"])),
         "pair" => Frame::Piece(first_commit(rt, alloc, &[b"a", b"b"])),
         "header" => Frame::Header(header(rt, alloc)),
-        "fence-ask" => {
-            let fence = fence_name(rt, alloc, &[1, 0, 1], true, 1);
-            Frame::FenceAsk(FenceAsk::new(node, fence))
-        }
+        "mixed-header" => Frame::Header(mixed_header(rt, alloc)),
+        "fence-ask" => fence_ask(rt, alloc, node, &[1, 0, 1]),
+        "mixed-ask" => fence_ask(rt, alloc, node, &[0, 1, 3]),
         "range-ask" => Frame::RangeAsk(commit_ask(rt, alloc, node, 2)),
         "direct-ask" => Frame::DirectAsk(commit_ask(rt, alloc, node, 3)),
         "refresh-ask" => {
