@@ -80,7 +80,7 @@ module _ (jobs : Jobs) (id : ℕ) (h : Holding) where
   unfolding does
   does_kind (Act.request r) = serves_kind r
   does_kind (Act.commit p b) = tt
-  does_kind (Act.deliver frame) = delivers_kind frame (is_taken jobs id frame)
+  does_kind (Act.deliver frame) = delivers_kind frame (is_taken jobs id h.table frame)
 
   acts_kind : (a : Act) → IsKind a (acts jobs id h a).reply
   acts_kind a = over_first jobs id h (IsKind a) (does jobs id h a) check_order (cause jobs id h a) (λ e is. refused_kind a e) (does_kind a)

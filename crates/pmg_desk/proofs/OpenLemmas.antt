@@ -91,7 +91,7 @@ module _ (jobs : Jobs) (id : ℕ) (h : Holding) where
   unfolding does
   does_open (Act.request r) = serves_open r
   does_open (Act.commit p b) = tt
-  does_open (Act.deliver frame) = delivers_open frame (is_taken jobs id frame)
+  does_open (Act.deliver frame) = delivers_open frame (is_taken jobs id h.table frame)
 
   -- a refusal for a cause that is there
   there_open : (causes : Refusal → Bool) (e : Refusal) → causes refusals.Closed ≡ false → causes e ≡ true → IsOpen (Reply.refused e)

@@ -12,6 +12,7 @@ use Rattle.pmg_value.specs.declared.refusal.Refusal.{Refusal}
 use Rattle.pmg_jobinfo.specs.Jobs.{Jobs}
 use Rattle.pmg_commit.specs.Data.{Data, level_at}
 use Rattle.pmg_fence.proofs.FitLemmas.{ready_stays}
+use Rattle.pmg_fence.proofs.OldLemmas.{ready_young}
 use Rattle.pmg_fence.specs.Tables.{gone_by}
 use Rattle.pmg_rules.proofs.AfterActs.{freed_by_ready}
 use Rattle.pmg_rules.specs.Acts.{Act, Reply, Request, cause, does, leaves, serves}
@@ -158,7 +159,8 @@ ready_told jobs id p n gone known told = at_first (released_by (after_all start 
           ready = then;
           gone_then = ready.1 ∙ (λ i. gone_by (jobs_same start one i) (id_same start one i) table f);
           is_known = subst (λ (xs : List Happening). IsPrefix (published_over start xs) known) is until;
-          levels_known = ready_stays jobs id table table f (level_at (after_all start one).holding.far) (level_at (far_of known)) (λ other ls there. there) (more_known one two is) then;
+          levels_known = ready_stays jobs id table table f (level_at (after_all start one).holding.far) (level_at (far_of known)) (λ young other ls there. there)
+              (ready_young jobs id table f (level_at (after_all start one).holding.far) then) (more_known one two is) then;
         }
 
     at_first : (f : FenceName) × (call_of (after_all start es).holding p ≡ Some (Standing.released f gone)) × (f.instance ≡ n) → WasReady jobs id p n gone known

@@ -139,7 +139,7 @@ module _ (jobs : Jobs) (id : ℕ) where
       unfolding does
       does_in (Act.request r) = serves_in r
       does_in (Act.commit p b) = sealing_in p (sealed_with (sealer_of h p) b) (holds.sealers p)
-      does_in (Act.deliver frame) = delivers_in frame (is_taken jobs id frame)
+      does_in (Act.deliver frame) = delivers_in frame (is_taken jobs id h.table frame)
 
       acts_in : (a : Act) → IsIn (acts jobs id h a).left
       acts_in a = elim (by_causes (cause jobs id h a) (does jobs id h a)) [

@@ -1,43 +1,39 @@
 -- What a table keeps beside stays right.
-use Rattle.std.proofs.Common.{◌≡◌, Bor, ℕ, suc, Bool, true, false, ◌&&◌, nat_le, nat_lt, cond, List, [], ◌∷◌, ◌++◌, map, Option, Some, None, is_some, inl, inr, refl, sym, ap, ◌∙◌, subst, arith}
+use Rattle.std.proofs.Common.{◌≡◌, Bor, ℕ, Bool, true, false, cond, List, [], ◌∷◌, ◌++◌, map, Option, Some, None, is_some, inl, inr, refl, sym, ap, ◌∙◌, subst}
 use Rattle.std.specs.FinMap as finite
 use Rattle.std.specs.FinSet as set
-use Rattle.std.specs.BTreeMap.Range.{range_contains}
-use Rattle.std.specs.Cmp.{nat_cmp_total}
-use Rattle.std.specs.List.{filter, flat_map}
+use Rattle.std.specs.List.{flat_map}
 use Rattle.std.specs.List.Sorted.{IsStrictlySortedBy}
 use Rattle.std.specs.Map.{keys_of}
 use Rattle.std.proofs.lemmas.List.Concat.{flat_map-append}
 use Rattle.std.specs.Option.{option_map, unwrap_or}
-use Rattle.std.specs.Ordering.{is_eq, is_lt, nat_cmp}
-use Rattle.std.specs.declared.ops.Bound.TheVariants.{Excluded, Unbounded}
-use Rattle.std.proofs.lemmas.Bool.{and_parts, cases_lt, false≢true, leb-true, le-leb, ltb-true}
-use Rattle.std.proofs.lemmas.Cmp.{tied_itself}
-use Rattle.std.proofs.lemmas.List.Folds.{flat_map-map}
-use Rattle.std.proofs.lemmas.Map.Keys.{ge_from_not_lt}
+use Rattle.std.specs.Ordering.{nat_cmp}
+use Rattle.std.proofs.lemmas.Bool.{false≢true}
 use Rattle.pmg_value.specs.Process.{proc_cmp}
 use Rattle.pmg_value.specs.Signatures.{Signature, FenceName}
 use Rattle.pmg_value.specs.declared.process.Proc.{Proc}
-use Rattle.pmg_value.proofs.ProcessOrder.{procs_total, exact_procs}
+use Rattle.pmg_value.proofs.ProcessOrder.{procs_total}
 use Rattle.pmg_value.specs.Lists.{In}
 use Rattle.pmg_value.proofs.RowLemmas.{entries_of_nothing, insert_same}
 use Rattle.pmg_frame.specs.FenceOrder.{signature_cmp, signature_total}
 use Rattle.pmg_frame.proofs.FenceOrderLemmas.{signatures_exact}
 use Rattle.pmg_frame.specs.Fences.{Header, is_instance, is_level}
 use Rattle.pmg_frame.specs.declared.local.Local.{Local}
+use Rattle.pmg_jobinfo.specs.Jobs.{Jobs}
 use Rattle.pmg_fence.specs.declared.change.Change.{Change}
 use Rattle.pmg_fence.specs.declared.change.Change.TheVariants as changes
 use Rattle.pmg_fence.specs.Entering.{same_proc, same_signature, locals_of, told}
-use Rattle.pmg_fence.specs.Tables.{Numbers, Fence, Series, Fences, no_fences, no_series, names_of, fence_of, series_at, has_name, fence_at, count_of, entry_at, own_header}
-use Rattle.pmg_fence.specs.Codes.{Known, Owns, Signatures}
-use Rattle.pmg_fence.specs.Changes.{placed, changed, ended_by, fence_entered, present, newly}
-use Rattle.pmg_fence.specs.Kept.{known_of, own_of, instead, told_with, ended_told, series_in, series_told, HasSignaturesOf, fence_changed, counts_changed, placed_by, changed_with, IsKept, CanChange, EntersUpTo}
+use Rattle.pmg_fence.specs.Tables.{Numbers, Fence, Series, Fences, no_fences, no_series, names_of, fence_of, series_at, has_name, is_old, fence_at, entry_at, own_header}
+use Rattle.pmg_fence.specs.Codes.{AllSeries, Known, Owns, Signatures}
+use Rattle.pmg_value.specs.Rows as rows
+use Rattle.pmg_fence.specs.Changes.{placed, with_counts, series_kept, forgotten, with_fences, changed, ended_by, present, newly}
+use Rattle.pmg_fence.specs.Kept.{known_of, own_of, instead, ended_told, series_in, series_told, HasSignaturesOf, fence_changed, counts_noted, newly_told, changed_with, IsKept, CanChange}
 use Rattle.pmg_fence.proofs.EndLemmas.{newly_same, names_in}
-use Rattle.pmg_fence.proofs.EntryLemmas.{signature_itself}
-use Rattle.pmg_fence.proofs.IndexLemmas.{only_some, brought_alike, keys_rise, each_row}
+use Rattle.pmg_fence.proofs.IndexLemmas.{brought_alike, keys_rise, each_row}
 use Rattle.pmg_fence.proofs.HeaderLemmas.{by_proc, told_alike}
-use Rattle.pmg_fence.proofs.StepLemmas.{new_fence, no_names, no_counts, levels_placed, count_same, count_is, not_it}
-use Rattle.pmg_fence.proofs.TableLemmas.{same_instance, same_name, name_exact, series_placed, fence-placed, name-placed, count-placed, ends-placed, signature_exact}
+use Rattle.pmg_fence.proofs.OldLemmas.{series_then, fence-counts, name-counts, ends-counts, name_was, level_was, ends-forgotten}
+use Rattle.pmg_fence.proofs.StepLemmas.{new_fence, no_names}
+use Rattle.pmg_fence.proofs.TableLemmas.{same_name, name_exact, series_placed, fence-placed, name-placed, ends-placed, signature_exact}
 use Rattle.pmg_fence.proofs.Trees.{get_put}
 
 nothing : {A : Type 0} (x : A) → None ≡ Some x → ⊥
@@ -63,7 +59,6 @@ kept_own k owns new g kept now = record {
   names = kept.names;
   levels = kept.levels;
   ends = kept.ends;
-  entered = kept.entered;
 }
 
 -- whatever headers wait
@@ -74,7 +69,6 @@ kept_waiting k owns waiting kept = record {
   names = kept.names;
   levels = kept.levels;
   ends = kept.ends;
-  entered = kept.entered;
 }
 
 -- those of the signature are there then
@@ -109,70 +103,6 @@ changed_level fence (changes.Entered q level) p n can others e =
     entered_level (same_proc p q) level n (finite.get fence.levels p) can (others n) (sym (finite.get-insert procs_total fence.levels q level p) ∙ e)
 changed_level fence (changes.Told h) p n can others e = others n e
 
--- ---- who entered so many fences of a signature entered each up to that one
-
-abbrev pub HasEntered : Fences → Signature → Proc → ℕ → Type 0
-HasEntered t g p i = nat_le i (count_of t g p) ≡ true → is_some (finite.get (fence_at t (fence_of g i)).levels p) ≡ true
-
-module _ (t : Fences) (f : FenceName) (fence : Fence) (counts : Numbers) (g : Signature) (p : Proc) (i : ℕ) where
-  -- a change that is nothing to the process
-  entered_same : finite.get fence.levels p ≡ finite.get (fence_at t f).levels p → unwrap_or (finite.get counts p) 0 ≡ count_of t f.signature p → HasEntered t g p i → HasEntered (placed t f fence counts) g p i
-  entered_same levels count was all =
-      ap is_some (levels_placed t f fence counts p (fence_of g i) levels) ∙ was (ap (nat_le i) (sym (count_same t f fence counts g p count)) ∙ all)
-
-  -- another signature
-  entered_other : same_signature g f.signature ≡ false → HasEntered t g p i → HasEntered (placed t f fence counts) g p i
-  entered_other other was all =
-      ap (λ (x : Fence). is_some (finite.get x.levels p)) (fence-placed t f fence counts (fence_of g i) ∙ ap (λ b. cond (b && same_instance i f.instance) fence (fence_at t (fence_of g i))) other)
-      ∙ was (ap (nat_le i) (sym (count-placed t f fence counts g p ∙ ap (λ b. cond b (unwrap_or (finite.get counts p) 0) (count_of t g p)) other)) ∙ all)
-
-number_below : (i j n : ℕ) → same_instance i j ≡ false → nat_le i j ≡ true → j ≡ suc n → nat_le i n ≡ true
-number_below i j n other all next =
-    let low = leb-true i j all in
-    let apart : i ≡ j → ⊥ = λ e. false≢true (sym other ∙ ap (same_instance i) (sym e) ∙ ap is_eq (tied_itself nat_cmp_total i)) in
-    le-leb i n (elim (cases_lt n i) [
-      | inl above ↦ absurd (apart (omega (arith, low, next, above)))
-      | inr below ↦ below
-    ])
-
--- the process enters its next fence
-module _ (t : Fences) (f : FenceName) (p : Proc) (level : ℕ) (next : f.instance ≡ suc (count_of t f.signature p)) where
-  abbrev pub with_entry : Fences
-  with_entry = placed t f (fence_entered (fence_at t f) p level) (finite.insert (series_at t f.signature).counts p f.instance)
-
-  its_count : count_of with_entry f.signature p ≡ f.instance
-  its_count =
-      count-placed t f _ _ f.signature p ∙ ap (λ b. cond b (unwrap_or (finite.get (finite.insert (series_at t f.signature).counts p f.instance) p) 0) (count_of t f.signature p)) (signature_itself f.signature)
-      ∙ ap (λ (o : Option ℕ). unwrap_or o 0) (get_put procs_total exact_procs (series_at t f.signature).counts p f.instance)
-
-  its_fence : (i : ℕ) → fence_at with_entry (fence_of f.signature i) ≡ cond (same_instance i f.instance) (fence_entered (fence_at t f) p level) (fence_at t (fence_of f.signature i))
-  its_fence i = fence-placed t f _ _ (fence_of f.signature i) ∙ ap (λ b. cond (b && same_instance i f.instance) (fence_entered (fence_at t f) p level) (fence_at t (fence_of f.signature i))) (signature_itself f.signature)
-
-  by_instance : (i : ℕ) (b : Bool) → same_instance i f.instance ≡ b → HasEntered t f.signature p i → nat_le i f.instance ≡ true
-      → is_some (finite.get (cond b (fence_entered (fence_at t f) p level) (fence_at t (fence_of f.signature i))).levels p) ≡ true
-  by_instance i true e was all = ap is_some (get_put procs_total exact_procs (fence_at t f).levels p level)
-  by_instance i false e was all = was (number_below i f.instance (count_of t f.signature p) e all next)
-
-  entered_it : (i : ℕ) → HasEntered t f.signature p i → HasEntered with_entry f.signature p i
-  entered_it i was all =
-      ap (λ (x : Fence). is_some (finite.get x.levels p)) (its_fence i) ∙ by_instance i (same_instance i f.instance) refl was (ap (nat_le i) (sym its_count) ∙ all)
-
-  entered_at : (g : Signature) (i : ℕ) (b : Bool) → same_signature g f.signature ≡ b → HasEntered t g p i → HasEntered with_entry g p i
-  entered_at g i true e was =
-      subst (λ h. HasEntered with_entry h p i) (sym (signature_exact g f.signature e)) (entered_it i (subst (λ h. HasEntered t h p i) (signature_exact g f.signature e) was))
-  entered_at g i false e was = entered_other t f _ _ g p i e was
-
-  pub entered_next : (q : Proc) (g : Signature) (i : ℕ) → HasEntered t g q i → HasEntered with_entry g q i
-  entered_next q g i was = by_proc q p
-      (λ e. subst (λ r. HasEntered with_entry g r i) (sym e) (entered_at g i (same_signature g f.signature) refl (subst (λ r. HasEntered t g r i) e was)))
-      (λ other. entered_same t f _ _ g q i (not_it p q (fence_at t f).levels level other)
-      (ap (λ (o : Option ℕ). unwrap_or o 0) (not_it p q (series_at t f.signature).counts f.instance other) ∙ count_is t f.signature q) was)
-
-entered_changed : (t : Fences) (f : FenceName) (change : Change) → CanChange t f change → (g : Signature) (p : Proc) (i : ℕ) → HasEntered t g p i → HasEntered (placed_by t f change) g p i
-entered_changed t f changes.Learned can g p i was = entered_same t f _ _ g p i refl (count_is t f.signature p) was
-entered_changed t f (changes.Entered q level) can g p i was = entered_next t f q level can.1 p g i was
-entered_changed t f (changes.Told h) can g p i was = entered_same t f _ _ g p i refl (count_is t f.signature p) was
-
 can_level : (t : Fences) (f : FenceName) (change : Change) → CanChange t f change → HasLevel change
 can_level t f changes.Learned can = tt
 can_level t f (changes.Entered q level) can = can.0
@@ -183,49 +113,103 @@ held_by : (b : Bool) (owns : Owns) (h g : Signature) (o : Option Series) (x : Se
 held_by true owns h g o x e own others there = ap (λ (q : Signature). is_some (finite.get owns q)) (signature_exact h g e) ∙ own
 held_by false owns h g o x e own others there = others there
 
+held_inserted : (t : Fences) (owns : Owns) (g : Signature) (x : Series) (h : Signature) → is_some (finite.get owns g) ≡ true
+    → (is_some (finite.get t.series h) ≡ true → is_some (finite.get owns h) ≡ true) → is_some (finite.get (finite.insert t.series g x) h) ≡ true → is_some (finite.get owns h) ≡ true
+held_inserted t owns g x h own others there =
+    held_by (same_signature h g) owns h g (finite.get t.series h) x refl own others (ap is_some (sym (finite.get-insert signature_total t.series g x h)) ∙ there)
+
 held_placed : (t : Fences) (owns : Owns) (f : FenceName) (fence : Fence) (counts : Numbers) (h : Signature) → is_some (finite.get owns f.signature) ≡ true
     → (is_some (finite.get t.series h) ≡ true → is_some (finite.get owns h) ≡ true) → is_some (finite.get (placed t f fence counts).series h) ≡ true → is_some (finite.get owns h) ≡ true
 unfolding placed
-held_placed t owns f fence counts h own others there =
-    held_by (same_signature h f.signature) owns h f.signature (finite.get t.series h) (series_placed t f fence counts) refl own others
-    (ap is_some (sym (finite.get-insert signature_total t.series f.signature (series_placed t f fence counts) h)) ∙ there)
+held_placed t owns f fence counts h = held_inserted t owns f.signature (series_placed t f fence counts) h
+
+held_counts : (t : Fences) (owns : Owns) (g : Signature) (counts : Numbers) (h : Signature) → is_some (finite.get owns g) ≡ true
+    → (is_some (finite.get t.series h) ≡ true → is_some (finite.get owns h) ≡ true) → is_some (finite.get (with_counts t g counts).series h) ≡ true → is_some (finite.get owns h) ≡ true
+unfolding with_counts
+held_counts t owns g counts h = held_inserted t owns g (series_then t g counts) h
 
 module _ (k : Known) (owns : Owns) (f : FenceName) (change : Change) (l : Option Local) (kept : IsKept k owns) (own : is_some (finite.get owns f.signature) ≡ true) (number : is_instance f.instance ≡ true) (can : CanChange k.fences f change) where
-  level_kept : (x : FenceName) (p : Proc) (n : ℕ) → finite.get (fence_at (placed_by k.fences f change) x).levels p ≡ Some n → is_level n ≡ true
+  abbrev fence_then : Fence
+  fence_then = fence_changed (fence_at k.fences f) change
+
+  abbrev counts_then : Numbers
+  counts_then = counts_noted k.fences f change
+
+  abbrev waiting_then : List Header
+  waiting_then = k.waiting ++ newly_told k f l
+
+  level_kept : (x : FenceName) (p : Proc) (n : ℕ) → finite.get (fence_at (placed k.fences f fence_then counts_then) x).levels p ≡ Some n → is_level n ≡ true
   level_kept x p n e =
-      leveled_by (same_name x f) (fence_changed (fence_at k.fences f) change) (fence_at k.fences x) p n (λ m. changed_level (fence_at k.fences f) change p m (can_level k.fences f change can) (kept.levels f p)) (kept.levels x p)
-      (ap (λ (y : Fence). finite.get y.levels p) (sym (fence-placed k.fences f _ _ x)) ∙ e)
+      leveled_by (same_name x f) fence_then (fence_at k.fences x) p n (λ m. changed_level (fence_at k.fences f) change p m (can_level k.fences f change can) (kept.levels f p)) (kept.levels x p)
+      (ap (λ (y : Fence). finite.get y.levels p) (sym (fence-placed k.fences f fence_then counts_then x)) ∙ e)
+
+  placed_kept : IsKept (record { jobs = k.jobs; node = k.node; fences = placed k.fences f fence_then counts_then; waiting = waiting_then }) owns
+  placed_kept = record {
+    own = kept.own;
+    held = λ h. held_placed k.fences owns f fence_then counts_then h own (kept.held h);
+    names = λ x e. named_by (same_name x f) k.fences x f refl number (kept.names x) (sym (name-placed k.fences f fence_then counts_then x) ∙ e);
+    levels = level_kept;
+    ends = λ p n e. kept.ends p n (sym (ap (λ (m : Numbers). finite.get m p) (ends-placed k.fences f fence_then counts_then)) ∙ e);
+  }
+
+  counted_kept : IsKept (record { jobs = k.jobs; node = k.node; fences = with_counts k.fences f.signature counts_then; waiting = waiting_then }) owns
+  counted_kept = record {
+    own = kept.own;
+    held = λ h. held_counts k.fences owns f.signature counts_then h own (kept.held h);
+    names = λ x e. kept.names x (sym (name-counts k.fences f.signature counts_then x) ∙ e);
+    levels = λ x p n e. kept.levels x p n (sym (ap (λ (y : Fence). finite.get y.levels p) (fence-counts k.fences f.signature counts_then x)) ∙ e);
+    ends = λ p n e. kept.ends p n (sym (ap (λ (m : Numbers). finite.get m p) (ends-counts k.fences f.signature counts_then)) ∙ e);
+  }
 
   pub kept_changed : IsKept (changed_with k f change l) owns
-  kept_changed = record {
-    own = kept.own;
-    held = λ h. held_placed k.fences owns f _ _ h own (kept.held h);
-    names = λ x e. named_by (same_name x f) k.fences x f refl number (kept.names x) (sym (name-placed k.fences f _ _ x) ∙ e);
-    levels = level_kept;
-    ends = λ p n e. kept.ends p n (sym (ap (λ (m : Numbers). finite.get m p) (ends-placed k.fences f (fence_changed (fence_at k.fences f) change) (counts_changed (series_at k.fences f.signature).counts f.instance change))) ∙ e);
-    entered = λ g p i is. entered_changed k.fences f change can g p i (kept.entered g p i is);
-  }
+  kept_changed = by_old (is_old k.fences f)
+    where
+      by_old : (b : Bool) → IsKept (record { jobs = k.jobs; node = k.node; fences = cond b (with_counts k.fences f.signature counts_then) (placed k.fences f fence_then counts_then); waiting = waiting_then }) owns
+      by_old true = counted_kept
+      by_old false = placed_kept
+
+-- ---- what is forgotten
+
+held_before : (t : Fences) (g h : Signature) → is_some (finite.get (forgotten t g).series h) ≡ true → is_some (finite.get t.series h) ≡ true
+unfolding forgotten
+held_before t g h = by_there (finite.get t.series g) refl
+  where
+    by_signature : (s : Series) → finite.get t.series g ≡ Some s → (b : Bool) → same_signature h g ≡ b → is_some (cond b (Some (series_kept (series_at t g))) (finite.get t.series h)) ≡ true → is_some (finite.get t.series h) ≡ true
+    by_signature s is true same e = ap (λ x. is_some (finite.get t.series x)) (signature_exact h g same) ∙ ap (λ (o : Option Series). is_some o) is
+    by_signature s is false same e = e
+
+    by_there : (o : Option Series) → finite.get t.series g ≡ o → is_some (finite.get (cond (is_some o) (finite.insert t.series g (series_kept (series_at t g))) t.series) h) ≡ true → is_some (finite.get t.series h) ≡ true
+    by_there (Some s) is there = by_signature s is (same_signature h g) refl (sym (ap (λ (o : Option Series). is_some o) (finite.get-insert signature_total t.series g (series_kept (series_at t g)) h)) ∙ there)
+    by_there None is there = there
+
+pub kept_forgotten : (k : Known) (owns : Owns) (g : Signature) → IsKept k owns → IsKept (with_fences k (forgotten k.fences g)) owns
+kept_forgotten k owns g kept = record {
+  own = kept.own;
+  held = λ h there. kept.held h (held_before k.fences g h there);
+  names = λ f e. kept.names f (name_was k.fences g f e);
+  levels = λ f p n e. kept.levels f p n (level_was k.fences g f p n e);
+  ends = λ p n e. kept.ends p n (sym (ap (λ (m : Numbers). finite.get m p) (ends-forgotten k.fences g)) ∙ e);
+}
+
+-- the table that is kept then
+pub forget_done : (k : Known) (g : Signature) (jobs : Jobs) (node : ℕ) (series new : AllSeries) (ends : Numbers) (waiting : List Header) → known_of jobs node series ends waiting ≡ k
+    → new ≡ rows.changed_at series g (series_kept (series_in series g)) → known_of jobs node new ends waiting ≡ with_fences k (forgotten k.fences g)
+unfolding forgotten series_at
+forget_done k g jobs node series new ends waiting view is = (λ i. known_of jobs node (is i) ends waiting) ∙ ap (λ (x : Known). with_fences x (forgotten x.fences g)) view
 
 -- ---- an end
 
 pub kept_ended : (k : Known) (owns : Owns) (p : Proc) (level : ℕ) → IsKept k owns → is_level level ≡ true → IsKept (changed k (ended_by k.fences p level)) owns
-unfolding has_name fence_at series_at count_of
+unfolding has_name fence_at series_at
 kept_ended k owns p level kept small = record {
   own = kept.own;
   held = kept.held;
   names = kept.names;
   levels = kept.levels;
   ends = λ q n e. entered_level (same_proc q p) level n (finite.get k.fences.ends q) small (kept.ends q n) (sym (finite.get-insert procs_total k.fences.ends p level q) ∙ e);
-  entered = kept.entered;
 }
 
 -- ---- a new table
-
-no_entries : (i : ℕ) → is_instance i ≡ true → nat_le i 0 ≡ true → ⊥
-no_entries i is all =
-    let some = ltb-true 0 i (and_parts (nat_lt 0 i) (nat_le i 4294967295) is).0 in
-    let none = leb-true i 0 all in
-    omega (arith, some, none)
 
 pub kept_new : (k : Known) (owns : Owns) → k.fences ≡ no_fences → owns ≡ finite.empty → IsKept k owns
 kept_new k owns none nobody = record {
@@ -234,7 +218,6 @@ kept_new k owns none nobody = record {
   names = λ f e. absurd (false≢true (sym (ap (λ t. has_name t f) none ∙ no_names f) ∙ e));
   levels = λ f p n e. absurd (nothing n (sym (ap (λ t. finite.get (fence_at t f).levels p) none ∙ ap (λ (x : Fence). finite.get x.levels p) (new_fence f) ∙ finite.get-empty proc_cmp p) ∙ e));
   ends = λ p n e. absurd (nothing n (sym (ap (λ (t : Fences). finite.get t.ends p) none ∙ finite.get-empty proc_cmp p) ∙ e));
-  entered = λ g p i is all. absurd (no_entries i is (sym (ap (nat_le i) (ap (λ t. count_of t g p) none ∙ no_counts g p)) ∙ all));
 }
 
 -- ---- what is read of it
@@ -250,17 +233,6 @@ unfolding has_name
 instance_there k owns g i o kept is there = kept.names (fence_of g i) (sym (ap is_some is) ∙ sym (some_now o) ∙ there)
 
 -- ---- an end, in the fences of one signature
-
--- each fence that it entered
-pub entered_up_to : (k : Known) (owns : Owns) (g : Signature) (p : Proc) (n : ℕ) → IsKept k owns → n ≡ count_of k.fences g p → EntersUpTo k.fences g p n
-entered_up_to k owns g p n kept is i all there = kept.entered g p i (kept.names (fence_of g i) there) (ap (nat_le i) (sym is) ∙ all)
-
-ended_entered : (k : Known) (l : Local) (g : Signature) (i n : ℕ) → EntersUpTo k.fences g l.proc n → nat_le i n ≡ true → ended_told k l (fence_of g i) ≡ []
-ended_entered k l g i n each all = by_name (has_name k.fences (fence_of g i)) refl
-  where
-    by_name : (b : Bool) → has_name k.fences (fence_of g i) ≡ b → cond b (cond (is_some (finite.get (fence_at k.fences (fence_of g i)).levels l.proc)) [] (told_with k (fence_of g i) (Some l))) [] ≡ []
-    by_name true e = ap (λ b. cond b [] (told_with k (fence_of g i) (Some l))) (each i all e)
-    by_name false e = refl
 
 -- a fence in which it is no own participant
 pub ended_other : (k : Known) (l : Local) (f : FenceName) → (In l.proc (own_of k f.signature) → ⊥) → ended_told k l f ≡ []
@@ -278,31 +250,7 @@ ended_other k l f other = by_name (has_name k.fences f) refl (is_some (finite.ge
     by_name true e true = refl
     by_name true e false = ap (newly k.node f (told (entry_at k.fences f) (own_of k f.signature))) same ∙ newly_same k.node f (told (entry_at k.fences f) (own_of k f.signature))
 
--- of some fences of one signature
-by_rows : (n : FenceName → List Header) (g : Signature) (es : List (ℕ × Fence)) → flat_map n (map (fence_of g) (keys_of es)) ≡ flat_map (λ (e : ℕ × Fence). n (fence_of g e.0)) es
-by_rows n g es = flat_map-map n (fence_of g) (keys_of es) ∙ flat_map-map (λ i. n (fence_of g i)) (λ (e : ℕ × Fence). e.0) es
-
-only_later : (n : FenceName → List Header) (g : Signature) (later : ℕ → Bool) (es : List (ℕ × Fence)) → ((i : ℕ) → later i ≡ false → n (fence_of g i) ≡ [])
-    → flat_map n (map (fence_of g) (keys_of (filter (λ x. later x.0) es))) ≡ flat_map n (map (fence_of g) (keys_of es))
-only_later n g later es each =
-    by_rows n g (filter (λ x. later x.0) es) ∙ only_some (λ (e : ℕ × Fence). n (fence_of g e.0)) (λ x. later x.0) es (λ e. each e.0) ∙ sym (by_rows n g es)
-
-abbrev pub is_later : ℕ → ℕ → Bool
-is_later count i = range_contains nat_cmp (Excluded count) Unbounded i
-
-not_later : (count i : ℕ) → is_later count i ≡ false → nat_le i count ≡ true
-not_later count i e = le-leb i count (ge_from_not_lt count i (by_test (is_lt (nat_cmp count i)) e))
-  where
-    by_test : (b : Bool) → (b && true) ≡ false → b ≡ false
-    by_test true h = h
-    by_test false h = refl
-
--- of the fences of one signature those that the process has not entered yet
-pub later_told : (k : Known) (l : Local) (g : Signature) (n : ℕ) (es : List (ℕ × Fence)) → EntersUpTo k.fences g l.proc n
-    → flat_map (ended_told k l) (map (fence_of g) (keys_of (filter (λ x. is_later n x.0) es))) ≡ flat_map (ended_told k l) (map (fence_of g) (keys_of es))
-later_told k l g n es each = only_later (ended_told k l) g (is_later n) es (λ i e. ended_entered k l g i n each (not_later n i e))
-
--- and of those of others nothing
+-- of those of others nothing
 others_told : (k : Known) (l : Local) (g : Signature) (ns : List ℕ) → (In l.proc (own_of k g) → ⊥) → flat_map (ended_told k l) (map (fence_of g) ns) ≡ []
 others_told k l g [] other = refl
 others_told k l g (i ∷ ns) other = ap (λ hs. hs ++ flat_map (ended_told k l) (map (fence_of g) ns)) (ended_other k l (fence_of g i) other) ∙ others_told k l g ns other

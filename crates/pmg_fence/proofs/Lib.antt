@@ -1,6 +1,7 @@
 pub mod EntryLemmas
 pub mod HeaderLemmas
 pub mod TableLemmas
+pub mod OldLemmas
 pub mod Trees
 pub mod NumberLemmas
 pub mod RowFacts

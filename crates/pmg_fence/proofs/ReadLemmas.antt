@@ -12,7 +12,7 @@ use Rattle.pmg_frame.specs.declared.local.Local.{Local}
 use Rattle.pmg_jobinfo.specs.Jobs.{home_of}
 use Rattle.pmg_fence.specs.declared.entry.Entry.{Entry}
 use Rattle.pmg_fence.specs.Entering.{locals_of, lines, told}
-use Rattle.pmg_fence.specs.Tables.{Fence, fence_of, series_at, fence_at, entry_at, entry_in, own_header, header_at, told_of, is_covered, is_ready, says_gone, gone_by}
+use Rattle.pmg_fence.specs.Tables.{Fence, fence_of, series_at, is_old, fence_at, entry_at, entry_in, own_header, header_at, told_of, is_covered, is_ready, says_gone, gone_by}
 use Rattle.pmg_fence.specs.Codes.{Known}
 use Rattle.pmg_fence.specs.Kept.{entry_with, known_fence, own_of, told_by}
 use Rattle.pmg_fence.proofs.HeaderLemmas.{told_says, in_filter}
@@ -49,7 +49,7 @@ pub filter_alike : {A : Type 0} (p r : A → Bool) (xs : List A) → ((x : A) �
 filter_alike p r [] same = refl
 filter_alike p r (x ∷ xs) same = (λ i. cond (same x (inl refl) i) (x ∷ filter_alike p r xs (λ y j. same y (inr j)) i) (filter_alike p r xs (λ y j. same y (inr j)) i))
 
-all_alike : {A : Type 0} (p r : A → Bool) (xs : List A) → ((x : A) → In x xs → p x ≡ r x) → list_all p xs ≡ list_all r xs
+pub all_alike : {A : Type 0} (p r : A → Bool) (xs : List A) → ((x : A) → In x xs → p x ≡ r x) → list_all p xs ≡ list_all r xs
 all_alike p r [] same = refl
 all_alike p r (x ∷ xs) same = (λ i. same x (inl refl) i && all_alike p r xs (λ y j. same y (inr j)) i)
 
@@ -78,11 +78,12 @@ module _ (k : Known) (f : FenceName) (one two three : Signature) (n : ℕ) (o : 
   abbrev pub covered_by : (Proc → ℕ) → Proc → Bool
   covered_by level q = is_covered f.signature.collect (level q) (told_by k (known_fence o) whole q)
 
-  pub ready_done : (level : Proc → ℕ) → list_all (covered_by level) items ≡ is_ready k.jobs k.node k.fences f level
+  pub ready_done : (level : Proc → ℕ) → is_old k.fences f ≡ false → list_all (covered_by level) items ≡ is_ready k.jobs k.node k.fences f level
   unfolding is_ready
-  ready_done level =
+  ready_done level young =
       ap (list_all (covered_by level)) listed_all
       ∙ all_alike _ _ (participants_of f) (λ q j. ap (is_covered f.signature.collect (level q)) (told_is k f (known_fence o) whole looked every q j))
+      ∙ ap (λ b. not b && list_all (λ q. is_covered f.signature.collect (level q) (told_of k.jobs k.node k.fences f q)) (participants_of f)) (sym young)
 
 -- ---- all of a list, one by one
 

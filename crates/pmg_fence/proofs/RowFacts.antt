@@ -1,7 +1,9 @@
 -- Headers of one fence in memory, and fences of one signature.
-use Rattle.std.proofs.Common.{◌≡◌, ℕ, Bool, true, false, List, Option, Some, None, is_some, refl, sym, ap, ◌∙◌, Bor}
+use Rattle.std.proofs.Common.{◌≡◌, ℕ, suc, Bool, true, false, not, nat_lt, cond, List, [], ◌∷◌, map, Option, Some, None, is_some, refl, sym, ap, ◌∙◌, Bor}
 use Rattle.std.specs.FinMap as finite
 use Rattle.std.specs.FinMap.{nat_cmp-IsAntisymmetric}
+use Rattle.std.specs.FinMap.Entries.{find, find-where_key}
+use Rattle.std.specs.List.{filter}
 use Rattle.std.specs.Option.{option_map, option_copied}
 use Rattle.std.specs.Ordering.{nat_cmp}
 use Rattle.std.specs.Cmp.{nat_cmp_total}
@@ -67,3 +69,25 @@ series_is rows m g x same e = get_at signature_total signatures_exact (λ s. s) 
 
 pub series_is_none : (rows : List (Signature × Series)) (m : AllSeries) (g : Signature) → rows_of (λ s. s) rows ≡ m → None ≡ at_key signature_cmp g rows → finite.get m g ≡ None
 series_is_none rows m g same e = get_at signature_total signatures_exact (λ s. s) rows m g same ∙ same_option (at_key signature_cmp g rows) ∙ sym e
+
+-- ---- the fences of one signature that are kept
+
+as_rows : (rows : List (ℕ × Fence)) → map (λ (e : ℕ × Fence). (e.0, e.1)) rows ≡ rows
+as_rows [] = refl
+as_rows (e ∷ rows) = ap (λ (es : List (ℕ × Fence)). e ∷ es) (as_rows rows)
+
+found_at : (rows : List (ℕ × Fence)) (k : ℕ) → finite.get (rows_of {R = nat_cmp} (λ (f : Fence). f) rows) k ≡ find nat_cmp k rows
+found_at rows k = finite.get-from_entries nat_cmp_total (map (λ (e : ℕ × Fence). (e.0, e.1)) rows) k ∙ ap (find nat_cmp k) (as_rows rows)
+
+pub instances_kept : (rows kept : List (ℕ × Fence)) (m : Instances) (top : ℕ) → rows_of (λ f. f) rows ≡ m → kept ≡ filter (λ (e : ℕ × Fence). not (nat_lt (suc e.0) top)) rows
+    → rows_of (λ f. f) kept ≡ finite.retain_keys m (λ k. not (nat_lt (suc k) top))
+instances_kept rows kept m top same is =
+    finite.same_map nat_cmp_total nat_cmp-IsAntisymmetric (rows_of (λ f. f) kept) (finite.retain_keys m stays) (λ k.
+    found_at kept k
+    ∙ ap (find nat_cmp k) is
+    ∙ find-where_key nat_cmp stays k (λ i e. ap stays (sym (nat_cmp-IsAntisymmetric k i e))) rows
+    ∙ ap (λ (o : Option Fence). cond (stays k) o None) (sym (found_at rows k) ∙ ap (λ (x : Instances). finite.get x k) same)
+    ∙ sym (finite.get-retain_keys m stays k (λ i e. ap stays (sym (nat_cmp-IsAntisymmetric k i e)))))
+  where
+    stays : ℕ → Bool
+    stays k = not (nat_lt (suc k) top)

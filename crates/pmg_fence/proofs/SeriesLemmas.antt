@@ -1,21 +1,39 @@
--- Entries into the fences of one signature.
-use Rattle.std.proofs.Common.{◌≡◌, ℕ, ap, ◌∙◌}
+-- Entries into old fences of one signature, taken back.
+use Rattle.std.proofs.Common.{◌≡◌, ℕ, cond, Option, Some, None, is_some, refl, sym, ap, ◌∙◌}
+use Rattle.std.specs.FinMap.{nat_cmp-IsAntisymmetric}
+use Rattle.std.specs.Cmp.{nat_cmp_total}
+use Rattle.std.specs.Option.{unwrap_or}
+use Rattle.pmg_value.proofs.RowLemmas.{insert_same}
 use Rattle.std.specs.FinMap as finite
-use Rattle.pmg_value.specs.declared.process.Proc.{Proc}
-use Rattle.pmg_fence.specs.Tables.{Numbers, Series}
+use Rattle.pmg_fence.specs.Tables.{Numbers, Fence, Series, no_fence}
 use Rattle.pmg_fence.specs.Codes.{Instances}
-use Rattle.pmg_fence.specs.Changes.{fence_entered}
-use Rattle.pmg_fence.specs.Kept.{fence_in, series_changed}
-use Rattle.pmg_fence.specs.declared.change.Change.TheVariants as changes
+use Rattle.pmg_fence.specs.TakenBack.{number_back, instances_back, series_back}
+use Rattle.pmg_fence.specs.declared.fence.FenceBefore.TheVariants as fence_befores
+use Rattle.pmg_fence.specs.declared.numbers.NumberBefore.{NumberBefore}
+use Rattle.pmg_fence.specs.declared.series.SeriesBefore.{SeriesBefore}
 
-abbrev pub series_with : Numbers → Instances → Series
-series_with counts fences = record { counts = counts; fences = fences }
+abbrev pub series_with : Numbers → Instances → ℕ → Series
+series_with counts fences top = record { counts = counts; fences = fences; top = top }
 
-pub entry_done : (old put : Numbers) (fences after : Instances) (s : Series) (p counted : Proc) (k level : ℕ)
-    → counted ≡ p → put ≡ finite.insert old counted k
-    → after ≡ finite.insert fences k (fence_entered (fence_in fences k) p level) → series_with old fences ≡ s
-    → series_with put after ≡ series_changed s k (changes.Entered p level)
-unfolding series_changed
-entry_done old put fences after s p counted k level same is now view =
-    (λ i. series_with ((is ∙ ap (λ q. finite.insert old q k) same) i) (now i))
-    ∙ ap (λ x. series_changed x k (changes.Entered p level)) view
+-- ---- an old instance
+
+learned_back : (m : Instances) (k : ℕ) → instances_back m k (Some fence_befores.Learned) ≡ m
+learned_back m k = by_there (finite.get m k) refl
+  where
+    by_there : (o : Option Fence) → finite.get m k ≡ o → cond (is_some o) (finite.insert m k (unwrap_or o no_fence)) m ≡ m
+    by_there (Some x) e = insert_same nat_cmp_total nat_cmp-IsAntisymmetric m k x e
+    by_there None e = refl
+
+-- what a change of the counts alone is taken back by
+abbrev nothing_more : Option NumberBefore → ℕ → SeriesBefore
+nothing_more count top = record { count = count; fence = Some fence_befores.Learned; top = top }
+
+-- a count, taken back
+pub counted_back : (old put : Numbers) (fences : Instances) (top k : ℕ) (s : Series) (count : NumberBefore) (before : SeriesBefore) → number_back put count ≡ old → before ≡ nothing_more (Some count) top
+    → series_with old fences top ≡ s → series_back (series_with put fences top) k before ≡ s
+counted_back old put fences top k s count before back is view = ap (series_back (series_with put fences top) k) is ∙ (λ i. series_with (back i) (learned_back fences k i) top) ∙ view
+
+-- and no change at all
+pub same_back : (old : Numbers) (fences : Instances) (top k : ℕ) (s : Series) (before : SeriesBefore) → before ≡ nothing_more None top → series_with old fences top ≡ s → series_back s k before ≡ s
+same_back old fences top k s before is view =
+    ap (series_back s k) is ∙ ap (λ x. series_back x k (nothing_more None top)) (sym view) ∙ (λ i. series_with old (learned_back fences k i) top) ∙ view

@@ -19,14 +19,15 @@ use Rattle.pmg_frame.specs.declared.local.Local.{Local}
 use Rattle.pmg_jobinfo.specs.Jobs.{Jobs, home_of}
 use Rattle.pmg_fence.specs.Codes.{Headers}
 use Rattle.pmg_fence.specs.Entering.{same_proc, same_signature, enters, header_of, level_before, level_at_end}
-use Rattle.pmg_fence.specs.Tables.{Numbers, Fence, Series, Fences, no_fence, no_fences, no_series, series_at, has_name, fence_at, count_of}
-use Rattle.pmg_fence.specs.Changes.{placed, next_name, entered_by, ended_by, fence_entered, fence_told, first_of}
+use Rattle.pmg_fence.specs.Tables.{Numbers, Fence, Series, Fences, no_fence, no_fences, no_series, series_at, has_name, is_old, fence_at, count_of}
+use Rattle.pmg_fence.specs.Changes.{placed, with_counts, forgotten, next_name, counts_entered, noted_entry, ended_by, fence_entered, fence_told, first_of}
 use Rattle.pmg_fence.specs.Rules.{FitsFences, FitsTable, Scripts, Grows, with_call, NewFits, PutFits, CommitFits, EnterFits, EndFits, OthersFit, LearnFits, HeaderFits}
 use Rattle.pmg_fence.proofs.EntryLemmas.{Idle, puts, commits_now, ends_now, proc_itself, has_end_next, enters_enter, enters_idle, level_idle, level_entered, level_other, no_end}
 use Rattle.pmg_fence.proofs.HeaderLemmas.{by_proc}
 use Rattle.pmg_fence.proofs.LineLemmas.{append_empty}
 use Rattle.pmg_fence.proofs.FitLemmas.{header_stays}
-use Rattle.pmg_fence.proofs.TableLemmas.{same_name, same_instance, signature_exact, name_exact, fence-placed, count-placed}
+use Rattle.pmg_fence.proofs.OldLemmas.{apart_names, fence-counts, old-counts, count-counts, ends-counts, fence-forgotten, old-forgotten, count-forgotten, ends-forgotten, header_was}
+use Rattle.pmg_fence.proofs.TableLemmas.{same_name, same_instance, signature_exact, name_exact, fence-placed, count-placed, old-placed}
 use Rattle.pmg_fence.proofs.Trees.{get_put}
 
 -- ---- scripts with one more call
@@ -72,7 +73,7 @@ pub placed_fits : (s : Script) (t : Fences) (f : FenceName) (fence : Fence) (cou
 unfolding placed
 placed_fits s t f fence counts q levels count fits = record {
   counts = λ g. count_same t f fence counts g q count ∙ fits.counts g;
-  levels = λ x. levels_placed t f fence counts q x levels ∙ fits.levels x;
+  levels = λ x young. levels_placed t f fence counts q x levels ∙ fits.levels x (old-placed t f fence counts x young);
   ends = fits.ends;
 }
 
@@ -89,11 +90,48 @@ pub count_is : (t : Fences) (g : Signature) (q : Proc) → unwrap_or (finite.get
 unfolding count_of
 count_is t g q = refl
 
-pub learn_fits : LearnFits
-learn_fits jobs node scripts t f fits = record {
-  own = λ q e. placed_fits (scripts q) t f (fence_at t f) (series_at t f.signature).counts q refl (count_is t f.signature q) (fits.own q e);
-  headers = λ x other ls h. fits.headers x other ls (sym (ap (λ m. finite.get m other) (headers_placed t f (fence_at t f) (series_at t f.signature).counts x refl)) ∙ h);
+-- ---- what is forgotten, and other counts
+
+-- a table that fits does so where old instances are forgotten
+pub forgotten_fits : (s : Script) (t : Fences) (g : Signature) (q : Proc) → FitsFences s t q → FitsFences s (forgotten t g) q
+forgotten_fits s t g q fits = record {
+  counts = λ h. count-forgotten t g h q ∙ fits.counts h;
+  levels = λ x young.
+      let was : is_old t x ≡ false = sym (old-forgotten t g x) ∙ young in
+      ap (λ (y : Fence). finite.get y.levels q) (fence-forgotten t g x was) ∙ fits.levels x was;
+  ends = ap (λ (m : Numbers). finite.get m q) (ends-forgotten t g) ∙ fits.ends;
 }
+
+pub table_forgotten : (jobs : Jobs) (node : ℕ) (scripts : Scripts) (t : Fences) (g : Signature) → FitsTable jobs node scripts t → FitsTable jobs node scripts (forgotten t g)
+table_forgotten jobs node scripts t g fits = record {
+  own = λ q e. forgotten_fits (scripts q) t g q (fits.own q e);
+  headers = λ x other ls h. fits.headers x other ls (header_was t g x other ls h);
+}
+
+-- counts that are nothing to the process
+counted_fits : (s : Script) (t : Fences) (g : Signature) (counts : Numbers) (q : Proc) → unwrap_or (finite.get counts q) 0 ≡ count_of t g q → FitsFences s t q → FitsFences s (with_counts t g counts) q
+counted_fits s t g counts q count fits = record {
+  counts = λ h. count-counts t g counts h q
+      ∙ same_count (same_signature h g) (unwrap_or (finite.get counts q) 0) (count_of t h q) (λ e. count ∙ ap (λ k. count_of t k q) (sym (signature_exact h g e)))
+      ∙ fits.counts h;
+  levels = λ x young. ap (λ (y : Fence). finite.get y.levels q) (fence-counts t g counts x) ∙ fits.levels x (sym (old-counts t g counts x) ∙ young);
+  ends = ap (λ (m : Numbers). finite.get m q) (ends-counts t g counts) ∙ fits.ends;
+}
+
+-- ---- a name
+
+pub learn_fits : LearnFits
+learn_fits jobs node scripts t f fits = by_old (is_old t f)
+  where
+    placing : FitsTable jobs node scripts (placed t f (fence_at t f) (series_at t f.signature).counts)
+    placing = record {
+      own = λ q e. placed_fits (scripts q) t f (fence_at t f) (series_at t f.signature).counts q refl (count_is t f.signature q) (fits.own q e);
+      headers = λ x other ls h. fits.headers x other ls (sym (ap (λ m. finite.get m other) (headers_placed t f (fence_at t f) (series_at t f.signature).counts x refl)) ∙ h);
+    }
+
+    by_old : (b : Bool) → FitsTable jobs node scripts (cond b t (forgotten (placed t f (fence_at t f) (series_at t f.signature).counts) f.signature))
+    by_old true = fits
+    by_old false = table_forgotten jobs node scripts (placed t f (fence_at t f) (series_at t f.signature).counts) f.signature placing
 
 -- ---- an entry
 
@@ -113,41 +151,87 @@ apart_by s t p g x fits other same number =
     false≢true (sym other ∙ (λ i. same i && alike i))
 
 its_level : (s : Script) (t : Fences) (p : Proc) (g : Signature) (x : FenceName) (b : Bool) → same_name x (next_name t g p) ≡ b → has_end s ≡ false → FitsFences s t p
-    → finite.get (cond b (fence_entered (fence_at t (next_name t g p)) p (commits s)) (fence_at t x)).levels p ≡ level_before (s ++ Call.enter g ∷ []) x.signature x.instance
-its_level s t p g x true e live fits =
+    → is_old t x ≡ false → finite.get (cond b (fence_entered (fence_at t (next_name t g p)) p (commits s)) (fence_at t x)).levels p ≡ level_before (s ++ Call.enter g ∷ []) x.signature x.instance
+its_level s t p g x true e live fits young =
     get_put procs_total exact_procs (fence_at t (next_name t g p)).levels p (commits s)
     ∙ ap Some (open_commits s live) ∙ sym (level_entered s g live)
     ∙ ap (λ n. level_before (s ++ Call.enter g ∷ []) g (suc n)) (sym (fits.counts g))
     ∙ ap (λ (y : FenceName). level_before (s ++ Call.enter g ∷ []) y.signature y.instance) (sym (name_exact x (next_name t g p) e))
-its_level s t p g x false e live fits = fits.levels x ∙ sym (level_other s g x.signature x.instance live (apart_by s t p g x fits e))
+its_level s t p g x false e live fits young = fits.levels x young ∙ sym (level_other s g x.signature x.instance live (apart_by s t p g x fits e))
 
-entered_fits : (s : Script) (t : Fences) (p : Proc) (g : Signature) → has_end s ≡ false → FitsFences s t p → FitsFences (s ++ Call.enter g ∷ []) (entered_by t g p (commits s)) p
-unfolding placed
-entered_fits s t p g live fits =
-    let f = next_name t g p in
-    let fence = fence_entered (fence_at t f) p (commits s) in
-    let counts = finite.insert (series_at t g).counts p (suc (count_of t g p)) in
-    record {
-      counts = λ h. count-placed t f fence counts h p
-          ∙ ap (λ o. cond (same_signature h g) (unwrap_or o 0) (count_of t h p)) (get_put procs_total exact_procs (series_at t g).counts p (suc (count_of t g p)))
-          ∙ its_count s t p g h (same_signature h g) refl fits ∙ sym (enters_enter s g h live);
-      levels = λ x. ap (λ (y : Fence). finite.get y.levels p) (fence-placed t f fence counts x) ∙ its_level s t p g x (same_name x f) refl live fits;
-      ends = fits.ends ∙ no_end s live ∙ sym (no_end (s ++ Call.enter g ∷ []) (has_end_next s (Call.enter g ∷ []) live));
-    }
+module _ (s : Script) (t : Fences) (p : Proc) (g : Signature) (live : has_end s ≡ false) (fits : FitsFences s t p) where
+  counts_then : (h : Signature) → cond (same_signature h g) (unwrap_or (finite.get (counts_entered t g p) p) 0) (count_of t h p) ≡ enters (s ++ Call.enter g ∷ []) h
+  counts_then h =
+      ap (λ o. cond (same_signature h g) (unwrap_or o 0) (count_of t h p)) (get_put procs_total exact_procs (series_at t g).counts p (suc (count_of t g p)))
+      ∙ its_count s t p g h (same_signature h g) refl fits ∙ sym (enters_enter s g h live)
+
+  ends_then : finite.get t.ends p ≡ level_at_end (s ++ Call.enter g ∷ [])
+  ends_then = fits.ends ∙ no_end s live ∙ sym (no_end (s ++ Call.enter g ∷ []) (has_end_next s (Call.enter g ∷ []) live))
+
+  -- the process enters a fence that is not old
+  placed_entry : FitsFences (s ++ Call.enter g ∷ []) (placed t (next_name t g p) (fence_entered (fence_at t (next_name t g p)) p (commits s)) (counts_entered t g p)) p
+  unfolding placed
+  placed_entry =
+      let f = next_name t g p in
+      let fence = fence_entered (fence_at t f) p (commits s) in
+      record {
+        counts = λ h. count-placed t f fence (counts_entered t g p) h p ∙ counts_then h;
+        levels = λ x young. ap (λ (y : Fence). finite.get y.levels p) (fence-placed t f fence (counts_entered t g p) x)
+            ∙ its_level s t p g x (same_name x f) refl live fits (old-placed t f fence (counts_entered t g p) x young);
+        ends = ends_then;
+      }
+
+  -- the entry into an old fence is counted
+  counted_entry : is_old t (next_name t g p) ≡ true → FitsFences (s ++ Call.enter g ∷ []) (with_counts t g (counts_entered t g p)) p
+  counted_entry old = record {
+    counts = λ h. count-counts t g (counts_entered t g p) h p ∙ counts_then h;
+    levels = λ x young.
+        let was : is_old t x ≡ false = sym (old-counts t g (counts_entered t g p) x) ∙ young in
+        ap (λ (y : Fence). finite.get y.levels p) (fence-counts t g (counts_entered t g p) x)
+        ∙ fits.levels x was ∙ sym (level_other s g x.signature x.instance live (apart_by s t p g x fits (apart_names t x (next_name t g p) was old)));
+    ends = ap (λ (m : Numbers). finite.get m p) (ends-counts t g (counts_entered t g p)) ∙ ends_then;
+  }
+
+module _ (jobs : Jobs) (node : ℕ) (scripts : Scripts) (t : Fences) (p : Proc) (g : Signature) (home : home_of jobs p ≡ node) (live : has_end (scripts p) ≡ false) (fits : FitsTable jobs node scripts t) where
+  abbrev grown : Scripts
+  grown = with_call scripts p (Call.enter g)
+
+  -- to each other process the counts are what they were
+  other_count : (q : Proc) → same_proc q p ≡ false → unwrap_or (finite.get (counts_entered t g p) q) 0 ≡ count_of t g q
+  other_count q other = ap (λ o. unwrap_or o 0) (not_it p q (series_at t g).counts (suc (count_of t g p)) other) ∙ count_is t g q
+
+  grown_header : (x : FenceName) (other : ℕ) (ls : List Local) → header_of jobs scripts x other ≡ Some ls → header_of jobs grown x other ≡ Some ls
+  grown_header x other ls = header_stays jobs scripts grown x other ls (call_grows scripts p (Call.enter g))
+
+  entry_placed : FitsTable jobs node grown (placed t (next_name t g p) (fence_entered (fence_at t (next_name t g p)) p (commits (scripts p))) (counts_entered t g p))
+  entry_placed =
+      let f = next_name t g p in
+      let level = commits (scripts p) in
+      let fence = fence_entered (fence_at t f) p level in
+      record {
+        own = λ q e. said_at scripts p (Call.enter g) (placed t f fence (counts_entered t g p)) q (placed_entry (scripts p) t p g live (fits.own p home)) (λ other.
+            placed_fits (scripts q) t f fence (counts_entered t g p) q (not_it p q (fence_at t f).levels level other) (other_count q other) (fits.own q e));
+        headers = λ x other ls h. grown_header x other ls (fits.headers x other ls (sym (ap (λ m. finite.get m other) (headers_placed t f fence (counts_entered t g p) x refl)) ∙ h));
+      }
+
+  entry_counted : is_old t (next_name t g p) ≡ true → FitsTable jobs node grown (with_counts t g (counts_entered t g p))
+  entry_counted old = record {
+    own = λ q e. said_at scripts p (Call.enter g) (with_counts t g (counts_entered t g p)) q (counted_entry (scripts p) t p g live (fits.own p home) old) (λ other.
+        counted_fits (scripts q) t g (counts_entered t g p) q (other_count q other) (fits.own q e));
+    headers = λ x other ls h. grown_header x other ls (fits.headers x other ls (sym (ap (λ (y : Fence). finite.get y.headers other) (fence-counts t g (counts_entered t g p) x)) ∙ h));
+  }
+
+  entry_noted : FitsTable jobs node grown (noted_entry t g p (commits (scripts p)))
+  entry_noted = by_old (is_old t (next_name t g p)) refl
+    where
+      by_old : (b : Bool) → is_old t (next_name t g p) ≡ b
+          → FitsTable jobs node grown (cond b (with_counts t g (counts_entered t g p)) (placed t (next_name t g p) (fence_entered (fence_at t (next_name t g p)) p (commits (scripts p))) (counts_entered t g p)))
+      by_old true e = entry_counted e
+      by_old false e = entry_placed
 
 pub enter_fits : EnterFits
 enter_fits jobs node scripts t p g home live fits =
-    let f = next_name t g p in
-    let level = commits (scripts p) in
-    let fence = fence_entered (fence_at t f) p level in
-    let counts = finite.insert (series_at t g).counts p (suc (count_of t g p)) in
-    record {
-      own = λ q e. said_at scripts p (Call.enter g) (entered_by t g p level) q (entered_fits (scripts p) t p g live (fits.own p home)) (λ other.
-          placed_fits (scripts q) t f fence counts q (not_it p q (fence_at t f).levels level other)
-          (ap (λ o. unwrap_or o 0) (not_it p q (series_at t g).counts (suc (count_of t g p)) other) ∙ count_is t g q) (fits.own q e));
-      headers = λ x other ls h. header_stays jobs scripts (with_call scripts p (Call.enter g)) x other ls (call_grows scripts p (Call.enter g))
-          (fits.headers x other ls (sym (ap (λ m. finite.get m other) (headers_placed t f fence counts x refl)) ∙ h));
-    }
+    table_forgotten jobs node (with_call scripts p (Call.enter g)) (noted_entry t g p (commits (scripts p))) g (entry_noted jobs node scripts t p g home live fits)
 
 -- ---- an end
 
@@ -155,13 +239,13 @@ end_level : (s : Script) → has_end s ≡ false → level_at_end (s ++ Call.ter
 end_level s live = ap (λ b. cond b (Some (commits (s ++ Call.terminate ∷ []))) None) (has_end_next s (Call.terminate ∷ []) live)
 
 pub end_fits : EndFits
-unfolding fence_at count_of series_at
+unfolding fence_at count_of series_at is_old
 end_fits jobs node scripts t p home live fits =
     let last = commits (scripts p ++ Call.terminate ∷ []) in
     let mine = fits.own p home in
     let left : FitsFences (scripts p ++ Call.terminate ∷ []) (ended_by t p last) p = record {
       counts = λ g. mine.counts g ∙ sym (enters_idle (scripts p) Call.terminate g ends_now);
-      levels = λ f. mine.levels f ∙ sym (level_idle (scripts p) Call.terminate f.signature f.instance ends_now);
+      levels = λ f young. mine.levels f young ∙ sym (level_idle (scripts p) Call.terminate f.signature f.instance ends_now);
       ends = get_put procs_total exact_procs t.ends p last ∙ sym (end_level (scripts p) live);
     } in
     record {
@@ -176,7 +260,7 @@ end_fits jobs node scripts t p home live fits =
 idle_fits : (s : Script) (t : Fences) (p : Proc) (call : Call) → Idle call → has_end s ≡ false → has_end (call ∷ []) ≡ false → FitsFences s t p → FitsFences (s ++ call ∷ []) t p
 idle_fits s t p call idle live open_still fits = record {
   counts = λ g. fits.counts g ∙ sym (enters_idle s call g idle);
-  levels = λ f. fits.levels f ∙ sym (level_idle s call f.signature f.instance idle);
+  levels = λ f young. fits.levels f young ∙ sym (level_idle s call f.signature f.instance idle);
   ends = fits.ends ∙ no_end s live ∙ sym (no_end (s ++ call ∷ []) (has_end_next s (call ∷ []) live ∙ open_still));
 }
 
@@ -225,7 +309,7 @@ unfolding level_before
 new_fits jobs node = record {
   own = λ p e. record {
     counts = λ g. no_counts g p;
-    levels = λ f. ap (λ (x : Fence). finite.get x.levels p) (new_fence f) ∙ finite.get-empty proc_cmp p;
+    levels = λ f young. ap (λ (x : Fence). finite.get x.levels p) (new_fence f) ∙ finite.get-empty proc_cmp p;
     ends = finite.get-empty proc_cmp p;
   };
   headers = λ f other ls h. absurd (false≢true (ap is_some (sym (ap (λ (x : Fence). finite.get x.headers other) (new_fence f) ∙ finite.get-empty nat_cmp other) ∙ h)));
@@ -255,13 +339,20 @@ told_by_name jobs node scripts t h its fits x other ls true e is =
     (told_headers jobs scripts h.name h.node h.locals (fence_at t h.name).headers (fits.headers h.name) its other ls is)
 told_by_name jobs node scripts t h its fits x other ls false e is = fits.headers x other ls is
 
+-- what is known of the header's fence then
+abbrev told_then : Fences → Header → Fence
+told_then t h = fence_told (fence_at t h.name) h.node h.locals
+
 pub header_fits : HeaderFits
-header_fits jobs node scripts t h its fits =
-    let f = h.name in
-    let fence = fence_told (fence_at t f) h.node h.locals in
-    let counts = (series_at t f.signature).counts in
-    record {
-      own = λ q e. placed_fits (scripts q) t f fence counts q refl (count_is t f.signature q) (fits.own q e);
-      headers = λ x other ls found. told_by_name jobs node scripts t h its fits x other ls (same_name x f) refl
-          (sym (ap (λ (y : Fence). finite.get y.headers other) (fence-placed t f fence counts x)) ∙ found);
+header_fits jobs node scripts t h its fits = by_old (is_old t h.name)
+  where
+    placing : FitsTable jobs node scripts (placed t h.name (told_then t h) (series_at t h.name.signature).counts)
+    placing = record {
+      own = λ q e. placed_fits (scripts q) t h.name (told_then t h) (series_at t h.name.signature).counts q refl (count_is t h.name.signature q) (fits.own q e);
+      headers = λ x other ls found. told_by_name jobs node scripts t h its fits x other ls (same_name x h.name) refl
+          (sym (ap (λ (y : Fence). finite.get y.headers other) (fence-placed t h.name (told_then t h) (series_at t h.name.signature).counts x)) ∙ found);
     }
+
+    by_old : (b : Bool) → FitsTable jobs node scripts (cond b t (forgotten (placed t h.name (told_then t h) (series_at t h.name.signature).counts) h.name.signature))
+    by_old true = fits
+    by_old false = table_forgotten jobs node scripts (placed t h.name (told_then t h) (series_at t h.name.signature).counts) h.name.signature placing

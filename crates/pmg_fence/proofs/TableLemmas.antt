@@ -1,5 +1,6 @@
 -- What a change of a fence leaves.
-use Rattle.std.proofs.Common.{◌≡◌, ℕ, Bool, true, false, ◌&&◌, cond, Option, Some, is_some, refl, sym, ap, ◌∙◌}
+use Rattle.std.proofs.Common.{◌≡◌, ℕ, suc, Bool, true, false, ◌&&◌, nat_lt, cond, Option, Some, is_some, refl, sym, ap, ◌∙◌, arith}
+use Rattle.std.proofs.lemmas.Bool.Decides.{nat_tests}
 use Rattle.std.specs.FinMap as finite
 use Rattle.std.specs.FinMap.{nat_cmp-IsAntisymmetric}
 use Rattle.std.specs.Option.{unwrap_or}
@@ -10,8 +11,9 @@ use Rattle.pmg_value.specs.declared.process.Proc.{Proc}
 use Rattle.pmg_frame.specs.FenceOrder.{signature_total}
 use Rattle.pmg_frame.proofs.FenceOrderLemmas.{signatures_exact}
 use Rattle.pmg_fence.specs.Entering.{same_signature}
-use Rattle.pmg_fence.specs.Tables.{Numbers, Fence, Series, Fences, no_fence, no_series, series_at, has_name, fence_at, count_of}
-use Rattle.pmg_fence.specs.Changes.{placed}
+use Rattle.pmg_fence.proofs.EntryLemmas.{signature_itself}
+use Rattle.pmg_fence.specs.Tables.{Numbers, Fence, Series, Fences, no_fence, no_series, series_at, has_name, is_old, fence_at, count_of}
+use Rattle.pmg_fence.specs.Changes.{greater_of, placed}
 
 -- the test of two instances
 abbrev pub same_instance : ℕ → ℕ → Bool
@@ -39,10 +41,29 @@ unwrap_cond : {A : Type 0} (b : Bool) (x : A) (o : Option A) (d : A) → unwrap_
 unwrap_cond true x o d = refl
 unwrap_cond false x o d = refl
 
+-- what lies below neither the greater of two lies below neither
+below_greater : (k m n : ℕ) → nat_lt k (greater_of m n) ≡ false → nat_lt k m ≡ false
+below_greater k m n e = by_test (nat_lt m n) refl e
+  where
+    by_test : (b : Bool) → nat_lt m n ≡ b → nat_lt k (cond b n m) ≡ false → nat_lt k m ≡ false
+    by_test true less h = grind (arith, nat_tests)
+    by_test false less h = h
+
+greater_reaches : (m n : ℕ) → nat_lt (suc n) m ≡ false → nat_lt (suc n) (greater_of m n) ≡ false
+greater_reaches m n e = by_test (nat_lt m n)
+  where
+    by_test : (b : Bool) → nat_lt (suc n) (cond b n m) ≡ false
+    by_test true = grind (arith, nat_tests)
+    by_test false = e
+
 module _ (t : Fences) (f : FenceName) (fence : Fence) (counts : Numbers) where
   -- what is known of the fence's signature then
   abbrev pub series_placed : Series
-  series_placed = record { counts = counts; fences = finite.insert (series_at t f.signature).fences f.instance fence }
+  series_placed = record {
+    counts = counts;
+    fences = finite.insert (series_at t f.signature).fences f.instance fence;
+    top = greater_of (series_at t f.signature).top f.instance;
+  }
 
   pub series-placed : (g : Signature) → series_at (placed t f fence counts) g ≡ cond (same_signature g f.signature) series_placed (series_at t g)
   unfolding placed series_at
@@ -83,6 +104,33 @@ module _ (t : Fences) (f : FenceName) (fence : Fence) (counts : Numbers) where
       by_test : (b : Bool) → unwrap_or (finite.get (cond b series_placed (series_at t g)).counts p) 0 ≡ cond b (unwrap_or (finite.get counts p) 0) (unwrap_or (finite.get (series_at t g).counts p) 0)
       by_test true = refl
       by_test false = refl
+
+  pub top-placed : (g : Signature) → (series_at (placed t f fence counts) g).top ≡ cond (same_signature g f.signature) (greater_of (series_at t f.signature).top f.instance) (series_at t g).top
+  top-placed g = ap (λ (s : Series). s.top) (series-placed g) ∙ by_test (same_signature g f.signature)
+    where
+      by_test : (b : Bool) → (cond b series_placed (series_at t g)).top ≡ cond b (greater_of (series_at t f.signature).top f.instance) (series_at t g).top
+      by_test true = refl
+      by_test false = refl
+
+  -- what is not old then was not old before
+  pub old-placed : (x : FenceName) → is_old (placed t f fence counts) x ≡ false → is_old t x ≡ false
+  unfolding is_old
+  old-placed x e = by_test (same_signature x.signature f.signature) refl (sym (ap (nat_lt (suc x.instance)) (top-placed x.signature)) ∙ e)
+    where
+      by_test : (b : Bool) → same_signature x.signature f.signature ≡ b → nat_lt (suc x.instance) (cond b (greater_of (series_at t f.signature).top f.instance) (series_at t x.signature).top) ≡ false
+          → nat_lt (suc x.instance) (series_at t x.signature).top ≡ false
+      by_test true same h =
+          ap (λ g. nat_lt (suc x.instance) (series_at t g).top) (signature_exact x.signature f.signature same)
+          ∙ below_greater (suc x.instance) (series_at t f.signature).top f.instance h
+      by_test false same h = h
+
+  -- the fence itself is not old then, where it was not
+  pub old_there : is_old t f ≡ false → is_old (placed t f fence counts) f ≡ false
+  unfolding is_old
+  old_there e =
+      ap (nat_lt (suc f.instance)) (top-placed f.signature)
+      ∙ ap (λ b. nat_lt (suc f.instance) (cond b (greater_of (series_at t f.signature).top f.instance) (series_at t f.signature).top)) (signature_itself f.signature)
+      ∙ greater_reaches (series_at t f.signature).top f.instance e
 
   pub ends-placed : (placed t f fence counts).ends ≡ t.ends
   unfolding placed

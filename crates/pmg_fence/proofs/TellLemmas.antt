@@ -1,5 +1,5 @@
 -- Own headers that come to exist, and what a change of one fence leaves.
-use Rattle.std.proofs.Common.{◌&&◌, Bor, IsTrue, subst, ◌≡◌, ℕ, Bool, true, false, cond, List, [], ◌∷◌, ◌++◌, Option, Some, None, is_some, refl, sym, ap, ◌∙◌}
+use Rattle.std.proofs.Common.{◌&&◌, Bor, IsTrue, subst, ◌≡◌, ℕ, suc, nat_lt, Bool, true, false, cond, List, [], ◌∷◌, ◌++◌, Option, Some, None, is_some, refl, sym, ap, ◌∙◌}
 use Rattle.std.specs.FinMap as finite
 use Rattle.std.specs.Option.{option_map}
 use Rattle.pmg_value.specs.Signatures.{Signature, FenceName}
@@ -9,10 +9,10 @@ use Rattle.pmg_frame.specs.declared.local.Local.{Local}
 use Rattle.pmg_jobinfo.specs.Jobs.{Jobs}
 use Rattle.pmg_fence.specs.declared.change.Change.{Change}
 use Rattle.pmg_fence.specs.Entering.{locals_of, told}
-use Rattle.pmg_fence.specs.Tables.{Numbers, Fence, Fences, fence_of, series_at, has_name, fence_at, entry_at, own_header}
+use Rattle.pmg_fence.specs.Tables.{Numbers, Fence, Fences, fence_of, series_at, has_name, is_old, fence_at, entry_at, own_header}
 use Rattle.pmg_fence.specs.Codes.{Known, AllSeries, Owns}
-use Rattle.pmg_fence.specs.Changes.{placed, present, newly}
-use Rattle.pmg_fence.specs.Kept.{instead, entry_with, known_fence, own_of, told_with, changed_with, placed_by, known_of, series_in, series_changed, IsKept, IsLine}
+use Rattle.pmg_fence.specs.Changes.{placed, with_counts, present, newly}
+use Rattle.pmg_fence.specs.Kept.{counts_noted, fence_changed, instead, entry_with, known_fence, own_of, told_with, newly_told, changed_with, noted_by, known_of, series_in, series_counted, series_placed, series_changed, IsKept, IsLine}
 use Rattle.pmg_fence.proofs.LimitLemmas.{header_fits, told_level}
 
 -- what is known of a fence that was looked up
@@ -66,18 +66,31 @@ header_told k g i l b o hs is e made all = newly_absent k.node (fence_of g i) (p
 
 -- ---- one fence has changed
 
+-- the fences with the changed ones of the signature
+abbrev inserted : Fences → FenceName → Change → Fences
+inserted t f change = record { series = finite.insert t.series f.signature (series_changed (series_in t.series f.signature) f.instance change); ends = t.ends }
+
+noted_is : (t : Fences) (f : FenceName) (change : Change) → inserted t f change ≡ noted_by t f change
+unfolding is_old placed with_counts series_at fence_at series_changed
+noted_is t f change = by_old (is_old t f)
+  where
+    by_old : (b : Bool) → record { series = finite.insert t.series f.signature (cond b (series_counted (series_in t.series f.signature) (counts_noted t f change)) (series_placed (series_in t.series f.signature) f.instance change (counts_noted t f change))); ends = t.ends }
+        ≡ cond b (with_counts t f.signature (counts_noted t f change)) (placed t f (fence_changed (fence_at t f) change) (counts_noted t f change))
+    by_old true = refl
+    by_old false = refl
+
 pub change_done : (k : Known) (f : FenceName) (change : Change) (l : Option Local) (jobs : Jobs) (node : ℕ) (series new : AllSeries) (ends : Numbers) (waiting told_now after : List Header)
     → known_of jobs node series ends waiting ≡ k → new ≡ finite.insert series f.signature (series_changed (series_in series f.signature) f.instance change)
-    → told_now ≡ told_with k f l → after ≡ waiting ++ told_now → known_of jobs node new ends after ≡ changed_with k f change l
-unfolding placed series_at fence_at series_changed
+    → told_now ≡ newly_told k f l → after ≡ waiting ++ told_now → known_of jobs node new ends after ≡ changed_with k f change l
 change_done k f change l jobs node series new ends waiting told_now after view is told_is all =
     (λ i. known_of jobs node (is i) ends ((all ∙ ap (λ hs. waiting ++ hs) told_is) i))
     ∙ ap (λ (x : Known). record {
       jobs = x.jobs;
       node = x.node;
-      fences = placed_by x.fences f change;
-      waiting = x.waiting ++ told_with k f l;
+      fences = inserted x.fences f change;
+      waiting = x.waiting ++ newly_told k f l;
     }) view
+    ∙ ap (λ t. record { jobs = k.jobs; node = k.node; fences = t; waiting = k.waiting ++ newly_told k f l }) (noted_is k.fences f change)
 
 -- the header that was made
 pub header_is : (k : Known) (g one : Signature) (i node : ℕ) (name : FenceName) (ls : List Local) (h : Header) (now : Option (List Local)) → one ≡ g → node ≡ k.node → name.signature ≡ one
@@ -100,3 +113,13 @@ present_is k g i None own b is there e = e ∙ absent_there k.jobs k.node k.fenc
 present_is k g i (Some x) own b is there e =
     present_there k g i x.now b (told (entry_with x.now k.fences.ends) own) there e
     (ap (told (entry_with x.now k.fences.ends)) is ∙ told_known k.fences (fence_of g i) x.now None (own_of k g) (fence_known k.fences g i (Some x.now) there))
+
+-- ---- an old fence, and one that is not
+
+pub old_told : (k : Known) (g : Signature) (i : ℕ) (l : Option Local) → nat_lt (suc i) (series_at k.fences g).top ≡ true → [] ≡ newly_told k (fence_of g i) l
+unfolding is_old
+old_told k g i l e = ap (λ b. cond b [] (told_with k (fence_of g i) l)) (sym e)
+
+pub young_told : (k : Known) (g : Signature) (i : ℕ) (l : Option Local) → nat_lt (suc i) (series_at k.fences g).top ≡ false → told_with k (fence_of g i) l ≡ newly_told k (fence_of g i) l
+unfolding is_old
+young_told k g i l e = ap (λ b. cond b [] (told_with k (fence_of g i) l)) (sym e)

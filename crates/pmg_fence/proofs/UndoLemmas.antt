@@ -11,12 +11,13 @@ use Rattle.pmg_fence.specs.declared.series.SeriesBefore.{SeriesBefore}
 use Rattle.pmg_fence.specs.declared.table.ChangeBefore.TheVariants as change_befores
 use Rattle.pmg_fence.specs.declared.table.TableBefore.{TableBefore}
 use Rattle.pmg_fence.specs.Entering.{same_signature}
-use Rattle.pmg_fence.specs.Tables.{Numbers, Fence, Fences, fence_of}
+use Rattle.pmg_fence.specs.Tables.{Series, Fences, is_old, fence_at, fence_of}
 use Rattle.pmg_fence.specs.Codes.{Known, Owns}
-use Rattle.pmg_fence.specs.Changes.{placed, taken}
-use Rattle.pmg_fence.specs.Kept.{told_with, changed_with, IsKept}
+use Rattle.pmg_fence.specs.Changes.{placed, with_counts, taken}
+use Rattle.pmg_fence.specs.Kept.{newly_told, fence_changed, counts_noted, changed_with, noted_by, IsKept}
 use Rattle.pmg_fence.specs.TakenBack.{fences_back, change_back, table_back, CanTakeBack}
 use Rattle.pmg_fence.proofs.KeptLemmas.{kept_waiting}
+use Rattle.pmg_fence.proofs.OldLemmas.{series_then}
 use Rattle.pmg_fence.proofs.TableLemmas.{series_placed}
 
 there_still : {X : Type 0} (b : Bool) (x : X) (o : Option X) → is_some o ≡ true → is_some (cond b (Some x) o) ≡ true
@@ -24,11 +25,16 @@ there_still true x o there = refl
 there_still false x o there = there
 
 -- the signatures of the fences that were held are held
-still_held : (t : Fences) (f : FenceName) (fence : Fence) (counts : Numbers) (h : Signature) → is_some (finite.get t.series h) ≡ true → is_some (finite.get (placed t f fence counts).series h) ≡ true
-unfolding placed
-still_held t f fence counts h there =
-    ap is_some (finite.get-insert signature_total t.series f.signature (series_placed t f fence counts) h)
-    ∙ there_still (same_signature h f.signature) (series_placed t f fence counts) (finite.get t.series h) there
+inserted_still : (t : Fences) (g : Signature) (x : Series) (h : Signature) → is_some (finite.get t.series h) ≡ true → is_some (finite.get (finite.insert t.series g x) h) ≡ true
+inserted_still t g x h there = ap is_some (finite.get-insert signature_total t.series g x h) ∙ there_still (same_signature h g) x (finite.get t.series h) there
+
+still_held : (t : Fences) (f : FenceName) (change : Change) (h : Signature) → is_some (finite.get t.series h) ≡ true → is_some (finite.get (noted_by t f change).series h) ≡ true
+unfolding placed with_counts
+still_held t f change h there = by_old (is_old t f)
+  where
+    by_old : (b : Bool) → is_some (finite.get (cond b (with_counts t f.signature (counts_noted t f change)) (placed t f (fence_changed (fence_at t f) change) (counts_noted t f change))).series h) ≡ true
+    by_old true = inserted_still t f.signature (series_then t f.signature (counts_noted t f change)) h there
+    by_old false = inserted_still t f.signature (series_placed t f (fence_changed (fence_at t f) change) (counts_noted t f change)) h there
 
 pub note_fits : (old new : Known) (owns : Owns) (before : TableBefore) (f : FenceName) (change : Change) (l : Option Local) → IsKept old owns → new ≡ changed_with old f change l
     → table_back new before ≡ old → CanTakeBack new before
@@ -36,11 +42,10 @@ note_fits old new owns before f change l was is back = λ others kept.
     let now = subst (λ (k : Known). IsKept k others) is kept in
     subst (λ (k : Known). IsKept k others) (sym back) (record {
       own = now.own;
-      held = λ h there. now.held h (still_held old.fences f _ _ h there);
+      held = λ h there. now.held h (still_held old.fences f change h there);
       names = was.names;
       levels = was.levels;
       ends = was.ends;
-      entered = was.entered;
     })
 
 pub note_back : (old new : Known) (f kept : FenceName) (g : Signature) (i : ℕ) (change : Change) (l : Option Local) (n : ℕ) (before : Option SeriesBefore)
@@ -50,7 +55,7 @@ note_back old new f kept g i change l n before copied same number many is back =
     let name : kept ≡ fence_of g i = copied ∙ (λ j. fence_of (sym same j) (sym number j)) in
     let fences : fences_back new.fences kept before ≡ old.fences = ap (λ x. fences_back new.fences x before) name ∙ back in
     let waiting : take n new.waiting ≡ old.waiting =
-    (λ j. take (many j) ((is j).waiting)) ∙ take-append_seam old.waiting (told_with old (fence_of g i) l) in
+    (λ j. take (many j) ((is j).waiting)) ∙ take-append_seam old.waiting (newly_told old (fence_of g i) l) in
     λ j. record { jobs = (is j).jobs; node = (is j).node; fences = fences j; waiting = waiting j }
 
 -- ---- where the headers that came to exist were taken in between

@@ -1,7 +1,8 @@
 -- How what a node keeps of fences changes.
-use Rattle.std.specs.Prelude.{ℕ, suc, nat_le, List, [], ◌∷◌, ◌++◌, Option, Some, None, Result, Ok, Err, if◌then◌else◌}
+use Rattle.std.specs.Prelude.{ℕ, suc, not, nat_le, nat_lt, List, [], ◌∷◌, ◌++◌, Option, Some, None, Result, Ok, Err, if◌then◌else◌}
 use Rattle.std.specs.FinMap as finite
 use Rattle.std.specs.List.{flat_map}
+use Rattle.pmg_value.specs.Rows as rows
 use Rattle.pmg_value.specs.Signatures.{Signature, FenceName}
 use Rattle.pmg_value.specs.declared.process.Proc.{Proc}
 use Rattle.pmg_value.specs.declared.refusal.Refusal.{Refusal}
@@ -9,18 +10,43 @@ use Rattle.pmg_value.specs.declared.refusal.Refusal.TheVariants as refusals
 use Rattle.pmg_frame.specs.Fences.{Header, header}
 use Rattle.pmg_frame.specs.declared.local.Local.{Local}
 use Rattle.pmg_jobinfo.specs.Jobs.{Jobs}
-use Rattle.pmg_fence.specs.Tables.{Numbers, Fence, Fences, fence_of, series_at, has_name, fence_at, count_of, own_header, names_of}
+use Rattle.pmg_fence.specs.Tables.{Numbers, Fence, Series, Fences, fence_of, series_at, has_name, is_old, fence_at, count_of, own_header, names_of}
 use Rattle.pmg_fence.specs.Codes.{Known}
 
--- Each change of a fence: this is known of it now, and these are the counts of its signature.
+-- the greater of two instances
+abbrev pub greater_of : ℕ → ℕ → ℕ
+greater_of m n = if nat_lt m n then n else m
+
+-- Each change of a fence: this is known of it now, and these are the counts of its signature. Nothing is forgotten yet.
 unfoldable pub placed : Fences → FenceName → Fence → Numbers → Fences
 placed t f fence counts = record {
-  series = finite.insert t.series f.signature (record { counts = counts; fences = finite.insert (series_at t f.signature).fences f.instance fence });
+  series = finite.insert t.series f.signature (record {
+    counts = counts;
+    fences = finite.insert (series_at t f.signature).fences f.instance fence;
+    top = greater_of (series_at t f.signature).top f.instance;
+  });
   ends = t.ends;
 }
 
+-- other counts of the signature, and nothing else
+unfoldable pub with_counts : Fences → Signature → Numbers → Fences
+with_counts t g counts = record {
+  series = finite.insert t.series g (record { counts = counts; fences = (series_at t g).fences; top = (series_at t g).top });
+  ends = t.ends;
+}
+
+-- of the fences of one signature those of the greatest instance and of the one before
+abbrev pub series_kept : Series → Series
+series_kept s = record { counts = s.counts; fences = finite.retain_keys s.fences (λ k. not (nat_lt (suc k) s.top)); top = s.top }
+
+-- Of the signature's fences all but those of the greatest instance and of the one before are forgotten; how often each process
+-- entered is not.
+unfoldable pub forgotten : Fences → Signature → Fences
+forgotten t g = record { series = rows.changed_at t.series g (series_kept (series_at t g)); ends = t.ends }
+
+-- what is known of a fence changes, and what it made old is forgotten; of an old fence nothing changes
 abbrev pub with_fence : Fences → FenceName → Fence → Fences
-with_fence t f fence = placed t f fence (series_at t f.signature).counts
+with_fence t f fence = if is_old t f then t else forgotten (placed t f fence (series_at t f.signature).counts) f.signature
 
 -- a name is learned
 abbrev pub learned : Fences → FenceName → Fences
@@ -34,10 +60,19 @@ next_name t g p = fence_of g (suc (count_of t g p))
 abbrev pub fence_entered : Fence → Proc → ℕ → Fence
 fence_entered fence p level = record { levels = finite.insert fence.levels p level; headers = fence.headers }
 
+-- how often each process entered fences of the signature, once the process has entered the next one
+abbrev pub counts_entered : Fences → Signature → Proc → Numbers
+counts_entered t g p = finite.insert (series_at t g).counts p (suc (count_of t g p))
+
+-- what is known once the process has entered at its level, before anything is forgotten: of an old fence the entry alone is counted
+abbrev pub noted_entry : Fences → Signature → Proc → ℕ → Fences
+noted_entry t g p level =
+    if is_old t (next_name t g p) then with_counts t g (counts_entered t g p)
+    else placed t (next_name t g p) (fence_entered (fence_at t (next_name t g p)) p level) (counts_entered t g p)
+
 -- a process enters at its level
 abbrev pub entered_by : Fences → Signature → Proc → ℕ → Fences
-entered_by t g p level =
-    placed t (next_name t g p) (fence_entered (fence_at t (next_name t g p)) p level) (finite.insert (series_at t g).counts p (suc (count_of t g p)))
+entered_by t g p level = forgotten (noted_entry t g p level) g
 
 -- a process ends at its level
 abbrev pub ended_by : Fences → Proc → ℕ → Fences
@@ -69,6 +104,10 @@ newly node f None (Some locals) = header node f locals ∷ []
 -- the own header of the fence, where it has come to exist
 unfoldable pub news : Jobs → ℕ → Fences → Fences → FenceName → List Header
 news jobs node old new f = newly node f (present jobs node old f) (present jobs node new f)
+
+-- what the table holds, with these fences
+abbrev pub with_fences : Known → Fences → Known
+with_fences k t = record { jobs = k.jobs; node = k.node; fences = t; waiting = k.waiting }
 
 -- what the table holds once one fence has changed: its own header waits where it has come to exist
 abbrev pub changed_at : Known → FenceName → Fences → Known

@@ -33,7 +33,8 @@ abbrev pub coded_instances : Coded Instances
 coded_instances = finite.code coded_ℕ coded_fence
 
 abbrev pub coded_series : Coded Series
-coded_series = code_by (Numbers × Instances) (coded× coded_numbers coded_instances) (λ s. (s.counts, s.fences)) (λ p. record { counts = p.0; fences = p.1 }) (λ _. refl)
+coded_series =
+    code_by (Numbers × (Instances × ℕ)) (coded× coded_numbers (coded× coded_instances coded_ℕ)) (λ s. (s.counts, (s.fences, s.top))) (λ p. record { counts = p.0; fences = p.1.0; top = p.1.1 }) (λ _. refl)
 
 -- all fences, by signature
 abbrev pub AllSeries : Type 0

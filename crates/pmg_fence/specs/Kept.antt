@@ -1,5 +1,5 @@
 -- What the small tables of a fence table keep.
-use Rattle.std.specs.Prelude.{◌≡◌, ℕ, suc, ◌+◌, nat_le, Bool, true, ◌==◌, List, [], ◌++◌, map, Option, Some, None, is_some, if◌then◌else◌}
+use Rattle.std.specs.Prelude.{◌≡◌, ℕ, suc, ◌+◌, nat_lt, Bool, true, ◌==◌, List, [], ◌++◌, map, Option, Some, None, is_some, if◌then◌else◌}
 use Rattle.std.specs.List.{filter, flat_map}
 use Rattle.std.specs.FinMap as finite
 use Rattle.std.specs.FinSet as set
@@ -14,9 +14,9 @@ use Rattle.pmg_fence.specs.declared.change.Change.{Change}
 use Rattle.pmg_fence.specs.declared.change.Change.TheVariants as changes
 use Rattle.pmg_fence.specs.declared.entry.Entry.{Entry}
 use Rattle.pmg_fence.specs.Entering.{same_proc, entered, entry_by, local_of, locals_of, told}
-use Rattle.pmg_fence.specs.Tables.{Numbers, Fence, Series, Fences, no_fence, no_series, series_at, fence_of, has_name, fence_at, count_of, entry_at, entry_in}
+use Rattle.pmg_fence.specs.Tables.{Numbers, Fence, Series, Fences, no_fence, no_series, series_at, fence_of, has_name, is_old, fence_at, count_of, entry_at, entry_in}
 use Rattle.pmg_fence.specs.Codes.{Instances, AllSeries, Known, Owns, Signatures, Index}
-use Rattle.pmg_fence.specs.Changes.{placed, fence_entered, fence_told, present, newly}
+use Rattle.pmg_fence.specs.Changes.{greater_of, placed, with_counts, forgotten, fence_entered, fence_told, present, newly}
 use Rattle.pmg_jobinfo.specs.Jobs.{Jobs, home_of}
 
 abbrev pub fence_changed : Fence → Change → Fence
@@ -33,19 +33,38 @@ counts_changed counts k (changes.Told h) = counts
 abbrev pub fence_in : Instances → ℕ → Fence
 fence_in fences k = unwrap_or (finite.get fences k) no_fence
 
--- the instance has changed, and the counts have not
-abbrev pub series_placed : Series → ℕ → Change → Series
-series_placed s k change = record { counts = s.counts; fences = finite.insert s.fences k (fence_changed (fence_in s.fences k) change) }
+-- the instance has changed, and these are the counts now
+abbrev pub series_placed : Series → ℕ → Change → Numbers → Series
+series_placed s k change counts = record {
+  counts = counts;
+  fences = finite.insert s.fences k (fence_changed (fence_in s.fences k) change);
+  top = greater_of s.top k;
+}
 
+-- the counts alone have changed
+abbrev pub series_counted : Series → Numbers → Series
+series_counted s counts = record { counts = counts; fences = s.fences; top = s.top }
+
+-- of an old instance the counts alone change
 unfoldable pub series_changed : Series → ℕ → Change → Series
-series_changed s k change = record { counts = counts_changed s.counts k change; fences = finite.insert s.fences k (fence_changed (fence_in s.fences k) change) }
+series_changed s k change =
+    if nat_lt (suc k) s.top then series_counted s (counts_changed s.counts k change) else series_placed s k change (counts_changed s.counts k change)
 
 abbrev pub series_in : AllSeries → Signature → Series
 series_in all g = unwrap_or (finite.get all g) no_series
 
--- the table once the fence has changed
+-- the counts of the fence's signature, once the fence has changed
+abbrev pub counts_noted : Fences → FenceName → Change → Numbers
+counts_noted t f change = counts_changed (series_at t f.signature).counts f.instance change
+
+-- the table once the fence has changed, before anything is forgotten: where the fence is old, the counts alone change
+abbrev pub noted_by : Fences → FenceName → Change → Fences
+noted_by t f change =
+    if is_old t f then with_counts t f.signature (counts_noted t f change) else placed t f (fence_changed (fence_at t f) change) (counts_noted t f change)
+
+-- the table once the fence has changed, and what it made old is forgotten
 abbrev pub placed_by : Fences → FenceName → Change → Fences
-placed_by t f change = placed t f (fence_changed (fence_at t f) change) (counts_changed (series_at t f.signature).counts f.instance change)
+placed_by t f change = forgotten (noted_by t f change) f.signature
 
 -- what comes to be told of a process by the change
 abbrev pub line_of : Change → Option Local
@@ -78,9 +97,13 @@ own_of k g = own_by k.jobs k.node g
 abbrev pub told_with : Known → FenceName → Option Local → List Header
 told_with k f l = newly k.node f (present k.jobs k.node k.fences f) (told (instead l (entry_at k.fences f)) (locals_of k.jobs f k.node))
 
--- the table, once the fence has changed and one process stands to it so
+-- the same where the fence is not old: of an old one no header is told
+abbrev pub newly_told : Known → FenceName → Option Local → List Header
+newly_told k f l = if is_old k.fences f then [] else told_with k f l
+
+-- the table, once the fence has changed and one process stands to it so, before anything is forgotten
 abbrev pub changed_with : Known → FenceName → Change → Option Local → Known
-changed_with k f change l = record { jobs = k.jobs; node = k.node; fences = placed_by k.fences f change; waiting = k.waiting ++ told_with k f l }
+changed_with k f change l = record { jobs = k.jobs; node = k.node; fences = noted_by k.fences f change; waiting = k.waiting ++ newly_told k f l }
 
 abbrev pub known_of : Jobs → ℕ → AllSeries → Numbers → List Header → Known
 known_of jobs node series ends waiting = record { jobs = jobs; node = node; fences = record { series = series; ends = ends }; waiting = waiting }
@@ -125,15 +148,14 @@ HasSignaturesOf owns p found = (g : Signature) (ps : List Proc) → finite.get o
 
 -- ---- what a table keeps beside
 
--- Beside what it holds a table keeps own participants, of each signature of a fence whose name it has; its numbers of
--- instances and levels are within their limits; and who entered so many fences of a signature entered each up to that one.
+-- Beside what it holds a table keeps own participants, of each signature of a fence whose name it has; and its numbers of
+-- instances and levels are within their limits.
 pub record IsKept (k : Known) (owns : Owns) : Type 0 where
   pub own : (g : Signature) (ps : List Proc) → finite.get owns g ≡ Some ps → ps ≡ own_of k g
   pub held : (g : Signature) → is_some (finite.get k.fences.series g) ≡ true → is_some (finite.get owns g) ≡ true
   pub names : (f : FenceName) → has_name k.fences f ≡ true → is_instance f.instance ≡ true
   pub levels : (f : FenceName) (p : Proc) (n : ℕ) → finite.get (fence_at k.fences f).levels p ≡ Some n → is_level n ≡ true
   pub ends : (p : Proc) (n : ℕ) → finite.get k.fences.ends p ≡ Some n → is_level n ≡ true
-  pub entered : (g : Signature) (p : Proc) (i : ℕ) → is_instance i ≡ true → nat_le i (count_of k.fences g p) ≡ true → is_some (finite.get (fence_at k.fences (fence_of g i)).levels p) ≡ true
 
 -- what a table can take: an entry is the process's next of the signature, and at a level
 abbrev pub CanChange : Fences → FenceName → Change → Type 0
@@ -149,7 +171,3 @@ IsLine (Some l) = is_level l.level ≡ true
 -- so many of them can be told of at most, with one to come
 abbrev pub most_told : Fence → Numbers → ℕ
 most_told fence ends = finite.len fence.levels + finite.len ends + 1
-
--- of the fences of the signature up to that one the process entered each whose name is there
-abbrev pub EntersUpTo : Fences → Signature → Proc → ℕ → Type 0
-EntersUpTo t g p n = (i : ℕ) → nat_le i n ≡ true → has_name t (fence_of g i) ≡ true → is_some (finite.get (fence_at t (fence_of g i)).levels p) ≡ true

@@ -13,13 +13,13 @@ use Rattle.pmg_jobinfo.specs.Jobs.{Jobs, home_of}
 use Rattle.pmg_fence.specs.declared.entry.Entry.{Entry}
 use Rattle.pmg_fence.specs.Entering.{same_proc, enters, level_before, level_at_end, entry, header_of}
 use Rattle.pmg_fence.specs.Changes.{learned, entered_by, ended_by, with_header}
-use Rattle.pmg_fence.specs.Tables.{Fences, no_fences, fence_at, count_of, own_header, header_at, told_of, is_ready, says_gone, gone_by}
+use Rattle.pmg_fence.specs.Tables.{Fences, no_fences, is_old, fence_at, count_of, own_header, header_at, told_of, is_ready, says_gone, gone_by}
 
--- What is kept of an own process's fences fits its script: how often it entered those of each signature, at which levels,
--- and the level at which it ended.
+-- What is kept of an own process's fences fits its script: how often it entered those of each signature, at which levels where
+-- the fence is not old, and the level at which it ended.
 pub record FitsFences (s : Script) (t : Fences) (p : Proc) : Type 0 where
   pub counts : (g : Signature) → count_of t g p ≡ enters s g
-  pub levels : (f : FenceName) → finite.get (fence_at t f).levels p ≡ level_before s f.signature f.instance
+  pub levels : (f : FenceName) → is_old t f ≡ false → finite.get (fence_at t f).levels p ≡ level_before s f.signature f.instance
   pub ends : finite.get t.ends p ≡ level_at_end s
 
 -- the scripts of all processes
@@ -97,25 +97,25 @@ HeaderFits =
 
 -- ---- what a table that fits says
 
--- its own header is the one that the scripts say, and so is each header that it has
+-- of a fence that is not old its own header is the one that the scripts say, and so is each header that it has
 abbrev pub OwnHeaderIsTrue : Type 0
 OwnHeaderIsTrue =
-    (jobs : Jobs) (node : ℕ) (scripts : Scripts) (t : Fences) (f : FenceName) → FitsTable jobs node scripts t → own_header jobs node t f ≡ header_of jobs scripts f node
+    (jobs : Jobs) (node : ℕ) (scripts : Scripts) (t : Fences) (f : FenceName) → FitsTable jobs node scripts t → is_old t f ≡ false → own_header jobs node t f ≡ header_of jobs scripts f node
 
 abbrev pub HeadersAreTrue : Type 0
 HeadersAreTrue =
-    (jobs : Jobs) (node : ℕ) (scripts : Scripts) (t : Fences) (f : FenceName) (other : ℕ) (ls : List Local) → FitsTable jobs node scripts t
+    (jobs : Jobs) (node : ℕ) (scripts : Scripts) (t : Fences) (f : FenceName) (other : ℕ) (ls : List Local) → FitsTable jobs node scripts t → is_old t f ≡ false
     → header_at jobs node t f other ≡ Some ls → header_of jobs scripts f other ≡ Some ls
 
 -- what is told of a participant is how it stands to the fence
 abbrev pub ToldIsTrue : Type 0
 ToldIsTrue =
-    (jobs : Jobs) (node : ℕ) (scripts : Scripts) (t : Fences) (f : FenceName) (q : Proc) (e : Entry) → FitsTable jobs node scripts t
+    (jobs : Jobs) (node : ℕ) (scripts : Scripts) (t : Fences) (f : FenceName) (q : Proc) (e : Entry) → FitsTable jobs node scripts t → is_old t f ≡ false
     → In q (participants_of f) → told_of jobs node t f q ≡ Some e → entry (scripts q) f ≡ Some e
 
--- whatever was learned and told in between, a header that is there stays as it is
+-- whatever was learned and told in between, a header that is there stays as it is while the fence is not old
 abbrev pub Keeps : Jobs → ℕ → Fences → Fences → FenceName → Type 0
-Keeps jobs node old new f = (other : ℕ) (ls : List Local) → header_at jobs node old f other ≡ Some ls → header_at jobs node new f other ≡ Some ls
+Keeps jobs node old new f = is_old new f ≡ false → (other : ℕ) (ls : List Local) → header_at jobs node old f other ≡ Some ls → header_at jobs node new f other ≡ Some ls
 
 -- a learned name and a header that comes change no header that is there, not even one that its node sent before
 abbrev pub LearnKeeps : Type 0
@@ -134,12 +134,6 @@ abbrev pub EndKeeps : Type 0
 EndKeeps =
     (jobs : Jobs) (node : ℕ) (scripts : Scripts) (t : Fences) (p : Proc) (f : FenceName) → home_of jobs p ≡ node → has_end (scripts p) ≡ false
     → FitsTable jobs node scripts t → Keeps jobs node t (ended_by t p (commits (scripts p ++ Call.terminate ∷ []))) f
-
--- a fence that is ready stays ready, whatever comes to be known
-abbrev pub ReadyStays : Type 0
-ReadyStays =
-    (jobs : Jobs) (node : ℕ) (old new : Fences) (f : FenceName) (level later : Proc → ℕ) → Keeps jobs node old new f → ((q : Proc) → level q ≤ later q)
-    → is_ready jobs node old f level ≡ true → is_ready jobs node new f later ≡ true
 
 -- each participant of a fence that is ready has entered or is gone, and where the fence collects, its level then is known
 abbrev pub ReadyIsWhole : Type 0

@@ -1,5 +1,5 @@
 -- What a node keeps of fences, and what it says of them.
-use Rattle.std.specs.Prelude.{ℕ, Bool, false, ◌==◌, ◌||◌, not, nat_le, List, map, Option, Some, None, if◌then◌else◌}
+use Rattle.std.specs.Prelude.{ℕ, suc, Bool, false, ◌==◌, ◌&&◌, ◌||◌, not, nat_le, nat_lt, List, map, Option, Some, None, if◌then◌else◌}
 use Rattle.std.specs.FinMap as finite
 use Rattle.std.specs.List.{filter, find, flat_map, list_all}
 use Rattle.std.specs.Option.{option_map, unwrap_or}
@@ -23,12 +23,14 @@ pub record Fence : Type 0 where
   pub levels : Numbers
   pub headers : finite.FinMap nat_cmp (List Local)
 
--- The fences of one signature: how often each own process entered them, and what is known of each, by its instance.
+-- The fences of one signature: how often each own process entered them; what is known of each that is kept, by its instance; and
+-- the greatest instance that was learned or entered, 0 with none.
 pub record Series : Type 0 where
   pub counts : Numbers
   pub fences : finite.FinMap nat_cmp Fence
+  pub top : ℕ
 
--- The fences whose names the node has, by signature, and the levels at which own processes ended.
+-- The fences whose names the node keeps, by signature, and the levels at which own processes ended.
 pub record Fences : Type 0 where
   pub series : finite.FinMap signature_cmp Series
   pub ends : Numbers
@@ -37,7 +39,7 @@ abbrev pub no_fence : Fence
 no_fence = record { levels = finite.empty; headers = finite.empty }
 
 abbrev pub no_series : Series
-no_series = record { counts = finite.empty; fences = finite.empty }
+no_series = record { counts = finite.empty; fences = finite.empty; top = 0 }
 
 abbrev pub no_fences : Fences
 no_fences = record { series = finite.empty; ends = finite.empty }
@@ -51,6 +53,10 @@ series_at t g = unwrap_or (finite.get t.series g) no_series
 -- the node has the name
 unfoldable pub has_name : Fences → FenceName → Bool
 has_name t f = finite.contains_key (series_at t f.signature).fences f.instance
+
+-- the instance lies below the greatest one of its signature and the one before, which alone are kept
+unfoldable pub is_old : Fences → FenceName → Bool
+is_old t f = nat_lt (suc f.instance) (series_at t f.signature).top
 
 unfoldable pub fence_at : Fences → FenceName → Fence
 fence_at t f = unwrap_or (finite.get (series_at t f.signature).fences f.instance) no_fence
@@ -88,10 +94,11 @@ abbrev pub is_covered : Bool → ℕ → Option Entry → Bool
 is_covered collect level None = false
 is_covered collect level (Some e) = not collect || nat_le e.level level
 
--- The fence is ready: of each participant its home's header tells, and where the fence collects data, all is known that the
--- participant sealed before it entered, or ended (PMIx Standard 5.0, PMIx_Fence, PMIX_COLLECT_DATA).
+-- The fence is ready: it is not old, of each participant its home's header tells, and where the fence collects data, all is known
+-- that the participant sealed before it entered, or ended (PMIx Standard 5.0, PMIx_Fence, PMIX_COLLECT_DATA).
 unfoldable pub is_ready : Jobs → ℕ → Fences → FenceName → (Proc → ℕ) → Bool
-is_ready jobs node t f level = list_all (λ q. is_covered f.signature.collect (level q) (told_of jobs node t f q)) (participants_of f)
+is_ready jobs node t f level =
+    not (is_old t f) && list_all (λ q. is_covered f.signature.collect (level q) (told_of jobs node t f q)) (participants_of f)
 
 abbrev pub says_gone : Option Entry → Bool
 says_gone None = false

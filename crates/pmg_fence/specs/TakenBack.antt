@@ -40,7 +40,7 @@ counts_back m None = m
 counts_back m (Some before) = number_back m before
 
 abbrev pub series_back : Series → ℕ → SeriesBefore → Series
-series_back s k before = record { counts = counts_back s.counts before.count; fences = instances_back s.fences k before.fence }
+series_back s k before = record { counts = counts_back s.counts before.count; fences = instances_back s.fences k before.fence; top = before.top }
 
 -- all fences, with those that the signature had
 abbrev pub all_series_back : AllSeries → Signature → ℕ → Option SeriesBefore → AllSeries

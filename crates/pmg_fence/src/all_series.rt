@@ -1,7 +1,8 @@
 ghost use Rattle.std.specs.Prelude.{◌≡◌, IfOk, OnOk, OnErr};
 ghost use Rattle.std.specs.FinMap as finite;
 ghost use Rattle.std.specs.Option.{option_map};
-ghost use Rattle.pmg_value.specs.Rows.{rows_of};
+ghost use Rattle.pmg_value.specs.Rows.{rows_of, changed_at};
+ghost use Rattle.pmg_fence.specs.Changes.{series_kept};
 ghost use Rattle.pmg_fence.specs.Kept.{series_in, series_changed};
 ghost use Rattle.pmg_fence.specs.TakenBack.{all_series_back};
 
@@ -81,6 +82,16 @@ impl AllSeries {
         series.change(instance, change)?;
         self.rows.insert(signature.copy()?, series)?;
         Ok(None)
+    }
+
+    /// Of the signature's fences forgets all but those of the greatest instance and of the one before. It takes no memory.
+    pub fn forget(&mut self, signature: &Signature)
+        ensures { self.new ≡ changed_at self.old signature.now (series_kept (series_in self.old signature.now)) }
+    {
+        let Some(series) = self.rows.get_mut(signature) else {
+            return;
+        };
+        series.forget();
     }
 
     /// Takes the fences of the signature out.

@@ -4,7 +4,6 @@ ghost use Rattle.pmg_fence.specs.Rules.{
   OwnHeaderIsTrue,
   HeadersAreTrue,
   ToldIsTrue,
-  ReadyStays,
   ReadyIsWhole,
   GoneAreTrue,
   NewFits,
@@ -27,13 +26,12 @@ pub fn entry_rules()
     ensures header_stays { HeaderStays }
 {}
 
-/// The rules of a table that fits the scripts: its headers are those that the scripts tell, a fence that is ready stays
-/// ready, each participant has then entered or is gone, and the gone are those that ended before they entered.
+/// The rules of a table that fits the scripts: of a fence that is not old its headers are those that the scripts tell; once a
+/// fence is ready, each participant has entered or is gone, and the gone are those that ended before they entered.
 pub fn table_rules()
     ensures own_header_is_true { OwnHeaderIsTrue }
     ensures headers_are_true { HeadersAreTrue }
     ensures told_is_true { ToldIsTrue }
-    ensures ready_stays { ReadyStays }
     ensures ready_is_whole { ReadyIsWhole }
     ensures gone_are_true { GoneAreTrue }
 {}
@@ -51,7 +49,8 @@ pub fn call_rules()
     ensures header_fits { HeaderFits }
 {}
 
-/// The rules of headers that are there: each stays as it is, whatever is learned and told, and whatever own processes do.
+/// The rules of headers that are there: each stays as it is while its fence is not old, whatever is learned and told, and whatever
+/// own processes do.
 pub fn header_rules()
     ensures learn_keeps { LearnKeeps }
     ensures header_keeps { HeaderKeeps }

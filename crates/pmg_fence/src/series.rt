@@ -1,9 +1,11 @@
-ghost use Rattle.std.specs.Prelude.{◌≡◌, IfOk, OnOk, OnErr};
+ghost use Rattle.pmg_fence.specs.declared.fence.FenceBefore.TheVariants as fence_befores;
+ghost use Rattle.std.specs.Prelude.{◌≡◌, Some, suc, not, nat_lt, IfOk, OnOk, OnErr};
 ghost use Rattle.std.specs.FinMap as finite;
 ghost use Rattle.std.specs.Option.{option_map, unwrap_or};
 ghost use Rattle.pmg_value.specs.Rows.{rows_of};
 ghost use Rattle.pmg_fence.specs.Tables.{no_series};
-ghost use Rattle.pmg_fence.specs.Kept.{fence_in, fence_changed, series_placed, series_changed};
+ghost use Rattle.pmg_fence.specs.Changes.{greater_of, series_kept};
+ghost use Rattle.pmg_fence.specs.Kept.{counts_changed, fence_in, fence_changed, series_placed, series_counted, series_changed};
 ghost use Rattle.pmg_fence.specs.TakenBack.{instances_back, series_back};
 ghost use Rattle.pmg_fence.specs.declared.change.Change.TheVariants as changes;
 
@@ -89,6 +91,13 @@ impl Instances {
         Ok(None)
     }
 
+    /// Forgets the instances below the greatest one, which this is, and the one before. It takes no memory.
+    pub fn forget(&mut self, top: u64)
+        ensures { self.new ≡ finite.retain_keys self.old (λ k. not (nat_lt (suc k) top)) }
+    {
+        self.rows.retain(|instance, _| !is_below(*instance, top));
+    }
+
     /// Takes the instance out.
     fn remove(&mut self, instance: u64)
         ensures { self.new ≡ finite.remove self.old instance }
@@ -111,10 +120,26 @@ impl Instances {
     }
 }
 
-/// The fences of one signature: how often each own process entered them, and what is known of each.
+/// Whether the instance lies below the greatest one and the one before.
+pub fn is_below(instance: u64, top: u64) -> bool
+    ensures { result ≡ nat_lt (suc instance) top }
+{
+    instance < top && instance + 1 < top
+}
+
+/// The greater of two instances.
+fn greater_of(one: u64, other: u64) -> u64
+    ensures { result ≡ greater_of one other }
+{
+    if one < other { other } else { one }
+}
+
+/// The fences of one signature: how often each own process entered them, what is known of each that is kept, and the greatest
+/// instance that was learned or entered, 0 with none.
 pub struct Series {
     counts: Numbers,
     fences: Instances,
+    top: u64,
 }
 
 impl Drop for Series {
@@ -122,6 +147,7 @@ impl Drop for Series {
         let Series {
             counts: _,
             fences: _,
+            top: _,
         } = self;
     }
 }
@@ -135,19 +161,35 @@ impl Model for Series {
 
     ghost coded = { coded_series };
 
-    ghost view = { λ a. record { counts = a.counts; fences = a.fences } };
+    ghost view = { λ a. record { counts = a.counts; fences = a.fences; top = a.top } };
 }
 
 /// What the fences of one signature were before a change, by which it can be taken back: how often the process that entered
-/// had entered, and what was known of the instance, if anything was.
+/// had entered, what was known of the instance, if anything was, and which instance was the greatest.
 pub struct SeriesBefore {
     count: Option<NumberBefore>,
     fence: Option<FenceBefore>,
+    top: u64,
 }
 
 impl Drop for SeriesBefore {
     fn drop(self) {
-        let SeriesBefore { count: _, fence: _ } = self;
+        let SeriesBefore {
+            count: _,
+            fence: _,
+            top: _,
+        } = self;
+    }
+}
+
+/// What the fences of one signature were before a change of the counts alone.
+fn nothing_before(count: Option<NumberBefore>, top: u64) -> SeriesBefore
+    ensures { result ≡ record { count = count; fence = Some fence_befores.Learned; top = top } }
+{
+    SeriesBefore {
+        count,
+        fence: Some(FenceBefore::Learned),
+        top,
     }
 }
 
@@ -159,6 +201,7 @@ impl Series {
         Series {
             counts: Numbers::new(alloc),
             fences: Instances::new(alloc),
+            top: 0,
         }
     }
 
@@ -183,14 +226,31 @@ impl Series {
         self.fences.rows()
     }
 
+    /// Whether the instance lies below the greatest one and the one before.
+    pub fn is_old(&self, instance: u64) -> bool
+        ensures { result ≡ nat_lt (suc instance) self.now.top }
+    {
+        is_below(instance, self.top)
+    }
+
+    /// Forgets all instances but the greatest one and the one before. It takes no memory.
+    pub fn forget(&mut self)
+        ensures { self.new ≡ series_kept self.old }
+    {
+        self.fences.forget(self.top);
+    }
+
     /// Keeps what becomes known of the instance, and tells what there was before. An entry is the process's entry of that
-    /// number.
+    /// number. Of an old instance an entry is counted, and nothing else is kept.
     #[tactic(auto, unfolding(crate::specs::Kept::series_changed))]
     pub fn change(&mut self, instance: u64, change: Change) -> Result<SeriesBefore, AllocError>
         ensures before { IfOk result (λ b. series_back self.new instance b ≡ self.old) }
         ensures ok { OnOk result (self.new ≡ series_changed self.old instance change) }
         ensures err { OnErr result (self.new ≡ self.old) }
     {
+        if self.is_old(instance) {
+            return self.count_old(instance, change);
+        }
         match change {
             Change::Entered(proc, level) => self.enter(instance, proc, level),
             Change::Learned => self.place(instance, Change::Learned),
@@ -198,20 +258,42 @@ impl Series {
         }
     }
 
-    /// Keeps what becomes known of the instance, and tells what was known before, if anything was.
+    /// Counts the entry into an old instance, where the change is one, and tells what there was before.
+    fn count_old(&mut self, instance: u64, change: Change) -> Result<SeriesBefore, AllocError>
+        ensures before { IfOk result (λ b. series_back self.new instance b ≡ self.old) }
+        ensures ok { OnOk result (self.new ≡ series_counted self.old (counts_changed self.old.counts instance change)) }
+        ensures err { OnErr result (self.new ≡ self.old) }
+    {
+        match change {
+            Change::Entered(proc, _) => {
+                let before = self.counts.put(proc, instance)?;
+                Ok(nothing_before(Some(before), self.top))
+            }
+            Change::Learned => Ok(nothing_before(None, self.top)),
+            Change::Told(_) => Ok(nothing_before(None, self.top)),
+        }
+    }
+
+    /// Keeps what becomes known of the instance without an entry, and tells what was known before.
     fn place(&mut self, instance: u64, change: Change) -> Result<SeriesBefore, AllocError>
         ensures before { IfOk result (λ b. series_back self.new instance b ≡ self.old) }
-        ensures ok { OnOk result (self.new ≡ series_placed self.old instance change) }
+        ensures ok { OnOk result (self.new ≡ series_placed self.old instance change self.old.counts) }
         ensures err { OnErr result (self.new ≡ self.old) }
     {
         let fence = self.fences.change(instance, change)?;
-        Ok(SeriesBefore { count: None, fence })
+        let top = self.top;
+        self.top = greater_of(top, instance);
+        Ok(SeriesBefore {
+            count: None,
+            fence,
+            top,
+        })
     }
 
     /// Keeps the process's entry into the instance, which is its entry of that number, and tells what there was before.
     fn enter(&mut self, instance: u64, proc: Proc, level: u64) -> Result<SeriesBefore, AllocError>
         ensures before { IfOk result (λ b. series_back self.new instance b ≡ self.old) }
-        ensures ok { OnOk result (self.new ≡ series_changed self.old instance (changes.Entered proc level)) }
+        ensures ok { OnOk result (self.new ≡ series_placed self.old instance (changes.Entered proc level) (finite.insert self.old.counts proc instance)) }
         ensures err { OnErr result (self.new ≡ self.old) }
     {
         let counted = proc.copy()?;
@@ -221,10 +303,15 @@ impl Series {
                 self.counts.take_back(&before);
                 Err(AllocError)
             }
-            Ok(fence) => Ok(SeriesBefore {
-                count: Some(before),
-                fence,
-            }),
+            Ok(fence) => {
+                let top = self.top;
+                self.top = greater_of(top, instance);
+                Ok(SeriesBefore {
+                    count: Some(before),
+                    fence,
+                    top,
+                })
+            }
         }
     }
 
@@ -236,6 +323,7 @@ impl Series {
             self.counts.take_back(count);
         }
         self.fences.take_back(instance, &before.fence);
+        self.top = before.top;
     }
 }
 
@@ -244,6 +332,7 @@ impl Copied for Series {
         Ok(Series {
             counts: self.counts.copy()?,
             fences: self.fences.copy()?,
+            top: self.top,
         })
     }
 }

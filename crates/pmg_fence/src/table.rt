@@ -1,4 +1,4 @@
-ghost use Rattle.std.specs.Prelude.{◌≡◌, ◌≤◌, ◌<◌, ◌^◌, ◌==◌, ◌++◌, [], Some, None, IsTrue, IfOk, OnOk, OnErr, is_some};
+ghost use Rattle.std.specs.Prelude.{◌≡◌, ◌≤◌, ◌<◌, ◌^◌, suc, nat_lt, ◌==◌, ◌++◌, [], Some, None, IsTrue, IfOk, OnOk, OnErr, is_some};
 ghost use Rattle.std.specs.FinMap as finite;
 ghost use Rattle.std.specs.Fn.{FnReturnsAt};
 ghost use Rattle.std.specs.Prelude.{ℕ};
@@ -8,9 +8,9 @@ ghost use Rattle.pmg_value.specs.Answers.{Gives};
 ghost use Rattle.pmg_frame.specs.Fences.{header, is_instance};
 ghost use Rattle.pmg_jobinfo.specs.Jobs.{home_of};
 ghost use Rattle.pmg_fence.specs.Entering.{told, lines};
-ghost use Rattle.pmg_fence.specs.Tables.{no_fences, series_at, count_of, entry_in, says_gone, gone_by, is_ready};
-ghost use Rattle.pmg_fence.specs.Changes.{learned, next_name, entered_by, with_header, changed_at, changed, ended_by, enter_answer, taken};
-ghost use Rattle.pmg_fence.specs.Kept.{entry_with, known_fence, own_of, told_by, EntersUpTo};
+ghost use Rattle.pmg_fence.specs.Tables.{no_fences, series_at, count_of, is_old, entry_in, says_gone, gone_by, is_ready};
+ghost use Rattle.pmg_fence.specs.Changes.{learned, next_name, entered_by, with_header, with_fences, forgotten, changed_at, changed, ended_by, enter_answer, taken};
+ghost use Rattle.pmg_fence.specs.Kept.{entry_with, known_fence, own_of, told_by};
 
 mod changes;
 mod looks;
@@ -33,7 +33,9 @@ use std::mem;
 
 /// What one node knows of fences: which of its own processes entered them and at which level, which ended, and what the
 /// headers of other nodes tell (PMIx Standard 5.0, PMIx_Fence). Fences are told apart by their signature, that is by their
-/// participants and by whether data is collected; each participant's k-th entry meets the k-th of each other.
+/// participants and by whether data is collected; each participant's k-th entry meets the k-th of each other. Of each signature
+/// the greatest instance that was learned or entered is kept, and the one before; those below are old and forgotten, but how often
+/// each process entered is not.
 pub struct Table {
     node: NodeId,
     registry: Registry,
@@ -198,7 +200,6 @@ impl Table {
     /// How often the process entered fences of the signature.
     pub fn count(&self, signature: &Signature, proc: &Proc) -> u64
         ensures value { result ≡ count_of self.now.fences signature.now proc.now }
-        ensures entered { EntersUpTo self.now.fences signature.now proc.now result }
     {
         match self.series.get(signature) {
             Some(series) => series.count(proc),
@@ -215,6 +216,30 @@ impl Table {
             Some(series) => series.fence(instance),
             None => None,
         }
+    }
+
+    /// Whether the instance of the signature is old.
+    fn is_old_at(&self, signature: &Signature, instance: u64) -> bool
+        ensures { result ≡ nat_lt (suc instance) (series_at self.now.fences signature.now).top }
+    {
+        match self.series.get(signature) {
+            Some(series) => series.is_old(instance),
+            None => false,
+        }
+    }
+
+    /// Whether the fence is old: its instance lies below the greatest one of its signature and the one before, and is forgotten.
+    pub fn is_old(&self, name: &FenceName) -> bool
+        ensures { result ≡ is_old self.now.fences name.now }
+    {
+        self.is_old_at(name.signature(), name.instance())
+    }
+
+    /// Of the signature's fences forgets all but those of the greatest instance and of the one before. It takes no memory.
+    pub fn forget(&mut self, signature: &Signature)
+        ensures { self.new ≡ with_fences self.old (forgotten self.old.fences signature.now) }
+    {
+        self.series.forget(signature);
     }
 
     /// How the own process stands to the fence.
@@ -238,8 +263,8 @@ impl Table {
     }
 
     /// The process enters its next fence of the signature, after so many commits: the number of the entry, which is the
-    /// instance, is given. Where this completes the node's header, that waits to be taken. Refused as TooMany past 4294967295
-    /// entries, and as NoMemory.
+    /// instance, is given. Where this completes the node's header, that waits to be taken. Into an old fence the entry alone is
+    /// counted. Refused as TooMany past 4294967295 entries, and as NoMemory.
     pub fn enter(&mut self, signature: &Signature, proc: &Proc, level: u64) -> Result<u64, Refusal>
         requires { level ≤ 4294967295 }
         ensures answer { Gives (λ n. n) result (enter_answer self.old.fences signature.now proc.now) }
@@ -258,23 +283,33 @@ impl Table {
         };
         let entered = Change::Entered(proc.copy()?, level);
         self.change(signature, count + 1, Some(&line), entered)?;
+        self.forget(signature);
         Ok(count + 1)
     }
 
-    /// Keeps the fence's name. Where each own participant ended already, the node's header waits to be taken.
+    /// Keeps the fence's name. Where each own participant ended already, the node's header waits to be taken. Of an old fence
+    /// nothing is kept.
     pub fn learn(&mut self, name: &FenceName) -> Result<(), AllocError>
         ensures ok { OnOk result (self.new ≡ changed_at self.old name.now (learned self.old.fences name.now)) }
         ensures err { OnErr result (self.new ≡ self.old) }
     {
+        if self.is_old(name) {
+            return Ok(());
+        }
         self.change(name.signature(), name.instance(), None, Change::Learned)?;
+        self.forget(name.signature());
         Ok(())
     }
 
-    /// Keeps the header and the fence's name. The first header of a node counts: a later one changes nothing.
+    /// Keeps the header and the fence's name. The first header of a node counts: a later one changes nothing. Of an old fence
+    /// nothing is kept.
     pub fn put_header(&mut self, header: Header) -> Result<(), AllocError>
         ensures ok { OnOk result (self.new ≡ changed_at self.old header.name (with_header self.old.fences header)) }
         ensures err { OnErr result (self.new ≡ self.old) }
     {
+        if self.is_old(header.name()) {
+            return Ok(());
+        }
         let name = header.name().copy()?;
         self.change(
             name.signature(),
@@ -282,6 +317,7 @@ impl Table {
             None,
             Change::Told(header),
         )?;
+        self.forget(name.signature());
         Ok(())
     }
 
@@ -360,13 +396,16 @@ impl Table {
         Ok(gone)
     }
 
-    /// Whether the fence is ready, where the node knows of each process its commits up to a level: of each participant the
-    /// header of its home tells, and where the fence collects data, the participant's level there is known.
+    /// Whether the fence is ready, where the node knows of each process its commits up to a level: it is not old, of each
+    /// participant the header of its home tells, and where the fence collects data, the participant's level there is known.
     pub fn ready<L: Fn(&Proc) -> u64>(&self, name: &FenceName, levels: L) -> bool
         requires { L.IsAlwaysCallable levels }
         ensures { (level : Proc → ℕ) → ((p : Proc) (n : ℕ) → FnReturnsAt L.Fn levels p n → n ≡ level p)
             → result ≡ is_ready self.now.jobs self.now.node self.now.fences name.now level }
     {
+        if self.is_old(name) {
+            return false;
+        }
         let fence = self.fence(name.signature(), name.instance());
         let whole = self.is_whole(name.signature(), fence);
         for proc in name.signature().participants() {

@@ -9,6 +9,7 @@ use std::alloc::Global;
 use std::process::Abort;
 
 mod back;
+mod old;
 
 // Three nodes. The processes of rank 0 and 1 of j are at home at the nodes of their numbers, that of rank 2 at node 1, and
 // that of rank 3 at node 2.

@@ -397,7 +397,7 @@ module _ (s : Server) (p : Proc) (list : List Proc) (collect : Bool) where
     free = free;
     done = refl;
     loud = refl;
-    differs = enter_differs s.jobs s.id s.holding its_name _ _ p;
+    differs = enter_differs s.jobs s.id s.holding its_name (changes.Entered p (sealer_of s.holding p).level) p;
     owes = λ left is. ap (λ t. flat_map (announcing s.jobs s.id) (news s.jobs s.id s.holding.table t its_name)) is;
     asked = λ marks. refl;
   }

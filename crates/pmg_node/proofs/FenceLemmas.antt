@@ -1,16 +1,11 @@
 -- Acts that change one fence.
-use Rattle.std.proofs.Common.{◌≡◌, ℕ, Bool, true, false, cond, List, [], take, Option, Some, None, Ok, refl, sym, ap, subst, ◌∙◌}
-use Rattle.std.specs.FinMap as finite
-use Rattle.std.specs.FinMap.{nat_cmp-IsAntisymmetric}
-use Rattle.std.specs.Cmp.{nat_cmp_total}
+use Rattle.std.proofs.Common.{◌≡◌, ℕ, Bool, true, false, ◌&&◌, not, cond, List, [], take, Option, Some, None, Ok, refl, sym, ap, subst, ◌∙◌}
+use Rattle.std.proofs.lemmas.Bool.{false≢true}
 use Rattle.std.specs.List.{flat_map}
-use Rattle.std.specs.Option.{option_map, unwrap_or}
+use Rattle.std.specs.Option.{option_map}
 use Rattle.pmg_value.specs.CheckOrder.{first_of}
 use Rattle.pmg_value.specs.Signatures.{FenceName}
-use Rattle.pmg_value.proofs.RowLemmas.{insert_same}
-use Rattle.pmg_frame.specs.FenceOrder.{signature_total}
 use Rattle.pmg_frame.specs.Fences.{FenceAsk, Header, header}
-use Rattle.pmg_frame.proofs.FenceOrderLemmas.{signatures_exact}
 use Rattle.pmg_frame.specs.declared.frame.Frame.{Frame}
 use Rattle.pmg_frame.specs.declared.frame.Frame.TheVariants as frames
 use Rattle.pmg_frame.specs.declared.local.Local.{Local}
@@ -18,17 +13,17 @@ use Rattle.pmg_jobinfo.specs.Jobs.{Jobs}
 use Rattle.pmg_dmodex.specs.Levels.{Levels}
 use Rattle.pmg_dmodex.specs.Refreshes.{Refreshes}
 use Rattle.pmg_dmodex.specs.Requests.{Requests}
-use Rattle.pmg_fence.specs.Changes.{placed, learned, present, news, taken}
+use Rattle.pmg_fence.specs.Changes.{learned, present, news, taken}
 use Rattle.pmg_fence.specs.Codes.{Known}
 use Rattle.pmg_fence.specs.Kept.{placed_by}
-use Rattle.pmg_fence.specs.Tables.{Fences, no_fence, no_series, has_name, series_at, fence_at}
+use Rattle.pmg_fence.specs.Tables.{Fences, is_old}
 use Rattle.pmg_fence.specs.TakenBack.{table_back, CanTakeBack}
 use Rattle.pmg_fence.specs.declared.change.Change.{Change}
 use Rattle.pmg_fence.specs.declared.change.Change.TheVariants as changes
 use Rattle.pmg_fence.specs.declared.table.TableBefore.{TableBefore}
 use Rattle.pmg_fence.proofs.KeptLemmas.{kept_waiting}
 use Rattle.pmg_store.specs.declared.board.Board.{Board}
-use Rattle.pmg_rules.specs.Acts.{Act, Reply, Done, done_as, cause, is_taken, receives, does}
+use Rattle.pmg_rules.specs.Acts.{Act, Reply, Done, done_as, cause, is_peer, is_concerned, is_complete, is_taken, receives, does}
 use Rattle.pmg_rules.specs.Choosing.{announcing, telling_of, due_by, due_by_frame, marked_by_act, sends}
 use Rattle.pmg_holding.specs.Codes.{Calls}
 use Rattle.pmg_node.specs.Content.{server_of, IsContent}
@@ -43,9 +38,10 @@ use Rattle.pmg_rules.specs.declared.due.Due.{Due}
 use Rattle.pmg_rules.specs.declared.sent.Sent.{Sent}
 use Rattle.pmg_node.proofs.ActLemmas.{accepted_reply, accepted_after, accepted_sent}
 use Rattle.pmg_node.proofs.FrameLemmas.{deliver_free}
-use Rattle.pmg_rules.proofs.ChoosingNews.{present_named, keyed}
+use Rattle.pmg_rules.proofs.ChoosingNews.{present_named}
 use Rattle.pmg_node.proofs.HeaderNews.{present_lists, telling_alike, news_alike}
-use Rattle.pmg_rules.proofs.KeptAgain.{settled_names, placed_differs}
+use Rattle.pmg_rules.proofs.KeptAgain.{settled_names, change_differs, learned_changed, header_changed}
+use Rattle.pmg_rules.proofs.LearnedAgain.{learned_again}
 use Rattle.pmg_rules.proofs.KeptSettled.{settled_same}
 use Rattle.pmg_node.proofs.NodeKept.{node_stays}
 use Rattle.pmg_node.proofs.OpenLemmas.{still_open}
@@ -160,7 +156,20 @@ module _
 
 -- ---- frames
 
-does_taken : (jobs : Jobs) (id : ℕ) (h : Holding) (frame : Frame) → is_taken jobs id frame ≡ true → does jobs id h (Act.deliver frame) ≡ done_as Reply.taken (receives jobs id h frame)
+not_last : (a b : Bool) → (a && not b) ≡ true → b ≡ false
+not_last true true e = absurd (false≢true e)
+not_last true false e = refl
+not_last false b e = absurd (false≢true e)
+
+header_young : (jobs : Jobs) (id : ℕ) (t : Fences) (hd : Header) → is_taken jobs id t (frames.Header hd) ≡ true → is_old t hd.name ≡ false
+unfolding is_taken
+header_young jobs id t hd e = not_last (is_peer jobs id hd.node && is_concerned jobs id hd.name && is_complete jobs hd) (is_old t hd.name) e
+
+ask_young : (jobs : Jobs) (id : ℕ) (t : Fences) (ask : FenceAsk) → is_taken jobs id t (frames.FenceAsk ask) ≡ true → is_old t ask.name ≡ false
+unfolding is_taken
+ask_young jobs id t ask e = not_last (is_peer jobs id ask.node && is_concerned jobs id ask.name) (is_old t ask.name) e
+
+does_taken : (jobs : Jobs) (id : ℕ) (h : Holding) (frame : Frame) → is_taken jobs id h.table frame ≡ true → does jobs id h (Act.deliver frame) ≡ done_as Reply.taken (receives jobs id h frame)
 unfolding does
 does_taken jobs id h frame e = ap (λ (b : Bool). cond b (done_as Reply.taken (receives jobs id h frame)) (done_as Reply.ignored h)) e
 
@@ -170,26 +179,30 @@ none_mapped f (Some x) e = absurd cc
 
 module _ (s : Server) where
   -- a header
-  header_act : (hd : Header) → is_taken s.jobs s.id (frames.Header hd) ≡ true → ChangesFence s (Act.deliver (frames.Header hd)) hd.name (changes.Told hd) Reply.taken s.holding.calls
+  header_act : (hd : Header) → is_taken s.jobs s.id s.holding.table (frames.Header hd) ≡ true → ChangesFence s (Act.deliver (frames.Header hd)) hd.name (changes.Told hd) Reply.taken s.holding.calls
   unfolding receives due_by due_by_frame marked_by_act
   header_act hd e = record {
     free = deliver_free s.jobs s.id s.holding (frames.Header hd);
-    done = does_taken s.jobs s.id s.holding (frames.Header hd) e;
+    done =
+        does_taken s.jobs s.id s.holding (frames.Header hd) e
+        ∙ ap (λ t. done_as Reply.taken (with_table s.holding t)) (header_changed s.holding.table hd (header_young s.jobs s.id s.holding.table hd e));
     loud = refl;
-    differs = placed_differs s.jobs s.id s.holding hd.name _ _;
+    differs = change_differs s.jobs s.id s.holding hd.name (changes.Told hd);
     owes = λ left is. ap (λ t. flat_map (announcing s.jobs s.id) (news s.jobs s.id s.holding.table t hd.name)) is;
     asked = λ marks. refl;
   }
 
   -- a request for a header that is not there
-  ask_act : (ask : FenceAsk) → is_taken s.jobs s.id (frames.FenceAsk ask) ≡ true → own_header_of s.jobs s.id s.holding ask.name ≡ None
+  ask_act : (ask : FenceAsk) → is_taken s.jobs s.id s.holding.table (frames.FenceAsk ask) ≡ true → own_header_of s.jobs s.id s.holding ask.name ≡ None
       → ChangesFence s (Act.deliver (frames.FenceAsk ask)) ask.name changes.Learned Reply.taken s.holding.calls
   unfolding receives due_by due_by_frame marked_by_act
   ask_act ask e none = record {
     free = deliver_free s.jobs s.id s.holding (frames.FenceAsk ask);
-    done = does_taken s.jobs s.id s.holding (frames.FenceAsk ask) e;
+    done =
+        does_taken s.jobs s.id s.holding (frames.FenceAsk ask) e
+        ∙ ap (λ t. done_as Reply.taken (with_table s.holding t)) (learned_changed s.holding.table ask.name (ask_young s.jobs s.id s.holding.table ask e));
     loud = refl;
-    differs = placed_differs s.jobs s.id s.holding ask.name _ _;
+    differs = change_differs s.jobs s.id s.holding ask.name changes.Learned;
     owes = λ left is.
         ap (λ o. telling_of s.jobs s.id ask.node ask.name o (flat_map (announcing s.jobs s.id) (news s.jobs s.id s.holding.table left.table ask.name))) none
         ∙ ap (λ t. flat_map (announcing s.jobs s.id) (news s.jobs s.id s.holding.table t ask.name)) is;
@@ -214,7 +227,7 @@ module _
   abbrev ends : Server
   ends = server_of table_then id board own ended held marks_then
 
-  pub header_steps : (hd copy : Header) → name ≡ hd.name → copy ≡ hd → is_taken s.jobs s.id (frames.Header hd) ≡ true
+  pub header_steps : (hd copy : Header) → name ≡ hd.name → copy ≡ hd → is_taken s.jobs s.id s.holding.table (frames.Header hd) ≡ true
       → AreSettledIn name table.jobs id (placed_by table.fences name (changes.Told copy)) board.near board.far calls ended
       → table_then ≡ fence_after table name (changes.Told copy) → marks_then ≡ (sends (sealed_of own) marks (fence_dues table name (changes.Told copy))).marks
       → Steps s (Act.deliver (frames.Header hd)) Reply.taken table_then id held.anew ends (sends (sealed_of own) marks (fence_dues table name (changes.Told copy))).frames
@@ -222,7 +235,7 @@ module _
       fence_steps table id board own calls held marks s view kept (Act.deliver (frames.Header hd)) hd.name (changes.Told hd) Reply.taken (λ m. m) (header_act s hd taken) name named (changes.Told copy)
       (ap (λ (x : Header). changes.Told x) copied) ended are table_then table_is marks_then marks_are
 
-  pub ask_steps : (ask : FenceAsk) → name ≡ ask.name → is_taken s.jobs s.id (frames.FenceAsk ask) ≡ true
+  pub ask_steps : (ask : FenceAsk) → name ≡ ask.name → is_taken s.jobs s.id s.holding.table (frames.FenceAsk ask) ≡ true
       → option_map (header table.node name) (present table.jobs table.node table.fences name) ≡ None
       → AreSettledIn name table.jobs id (placed_by table.fences name changes.Learned) board.near board.far calls ended
       → table_then ≡ fence_after table name changes.Learned → marks_then ≡ (sends (sealed_of own) marks (fence_dues table name changes.Learned)).marks
@@ -241,24 +254,6 @@ some_mapped : {A B : Type 0} (f : A → B) (o : Option A) (y : B) → Some y ≡
 some_mapped f None y e = absurd cc
 some_mapped f (Some x) y e = (x, refl, cc)
 
--- a name that is there is learned again
-learned_again : (t : Fences) (f : FenceName) → has_name t f ≡ true → learned t f ≡ t
-unfolding placed has_name series_at fence_at
-learned_again t f there =
-    let found = keyed f.signature f.instance (finite.get t.series f.signature) there in
-    let s = found.0 in
-    let rows : finite.insert s.fences f.instance (unwrap_or (finite.get s.fences f.instance) no_fence) ≡ s.fences =
-    ap (λ o. finite.insert s.fences f.instance (unwrap_or o no_fence)) found.3
-    ∙ insert_same nat_cmp_total nat_cmp-IsAntisymmetric s.fences f.instance found.2 found.3 in
-    let all =
-    ap
-    (λ o. let x = unwrap_or o no_series in
-    finite.insert t.series f.signature (record { counts = x.counts; fences = finite.insert x.fences f.instance (unwrap_or (finite.get x.fences f.instance) no_fence) }))
-    found.1
-    ∙ ap (λ fs. finite.insert t.series f.signature (record { counts = s.counts; fences = fs })) rows
-    ∙ insert_same signature_total signatures_exact t.series f.signature s found.1 in
-    λ i. record { series = all i; ends = t.ends }
-
 module _
     (table : Known)
     (id : ℕ)
@@ -271,7 +266,7 @@ module _
     (view : server_of table id board own calls held marks ≡ s)
     (kept : IsContent table id held.anew (server_of table id board own calls held marks))
     (ask : FenceAsk)
-    (its : is_taken s.jobs s.id (frames.FenceAsk ask) ≡ true)
+    (its : is_taken s.jobs s.id s.holding.table (frames.FenceAsk ask) ≡ true)
     (hd : Header)
     (there : Some hd ≡ option_map (header table.node ask.name) (present table.jobs table.node table.fences ask.name))
     (marks_then : Levels)
@@ -286,13 +281,16 @@ module _
   its_header = some_mapped (header id ask.name) (present table.jobs id table.fences ask.name) hd
       (there ∙ (λ i. option_map (header (kept.same i) ask.name) (present table.jobs (kept.same i) table.fences ask.name)))
 
+  its_now : is_taken was.jobs was.id was.holding.table (frames.FenceAsk ask) ≡ true
+  its_now = ap (λ (x : Server). is_taken x.jobs x.id x.holding.table (frames.FenceAsk ask)) view ∙ its
+
   known : learned table.fences ask.name ≡ table.fences
-  known = learned_again table.fences ask.name (present_named table.jobs id table.fences ask.name its_header.0 its_header.1)
+  known = learned_again table.fences ask.name kept.node.server.holds.two (present_named table.jobs id table.fences ask.name its_header.0 its_header.1)
 
   does_nothing : does was.jobs was.id was.holding asks ≡ done_as Reply.taken was.holding
   unfolding receives
   does_nothing =
-      does_taken was.jobs was.id was.holding (frames.FenceAsk ask) (ap (λ (x : Server). is_taken x.jobs x.id (frames.FenceAsk ask)) view ∙ its)
+      does_taken was.jobs was.id was.holding (frames.FenceAsk ask) its_now
       ∙ ap (λ t. done_as Reply.taken (with_table was.holding t)) known
 
   is_loud : is_quiet (does was.jobs was.id was.holding asks).reply ≡ false

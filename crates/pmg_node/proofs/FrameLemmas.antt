@@ -8,6 +8,7 @@ use Rattle.pmg_frame.specs.Refreshing.{RefreshAsk}
 use Rattle.pmg_frame.specs.declared.frame.Frame.{Frame}
 use Rattle.pmg_frame.specs.declared.frame.Frame.TheVariants as frames
 use Rattle.pmg_jobinfo.specs.Jobs.{Jobs, home_of}
+use Rattle.pmg_fence.specs.Tables.{Fences}
 use Rattle.pmg_dmodex.specs.Levels.{Levels}
 use Rattle.pmg_rules.specs.Acts.{Act, Done, Reply, done_as, holds_unless, cause, is_known, is_peer, is_taken, receives, does, acts}
 use Rattle.pmg_rules.specs.Choosing.{Out, asked_marks, answering, replying, due_by, due_by_frame, marked_by_act, sends, chosen}
@@ -24,18 +25,18 @@ pub not_below_is : (m n : ℕ) → n ≤ m → nat_lt m n ≡ false
 not_below_is m n h = grind (arith, nat_tests)
 
 -- whether a request for commits is taken
-pub range_taken : (jobs : Jobs) (id : ℕ) (a : CommitAsk) → is_taken jobs id (frames.RangeAsk a) ≡ (is_peer jobs id a.node && is_known jobs a.proc && (home_of jobs a.proc == id))
+pub range_taken : (jobs : Jobs) (id : ℕ) (t : Fences) (a : CommitAsk) → is_taken jobs id t (frames.RangeAsk a) ≡ (is_peer jobs id a.node && is_known jobs a.proc && (home_of jobs a.proc == id))
 unfolding is_taken
-range_taken jobs id a = refl
+range_taken jobs id t a = refl
 
-pub direct_taken : (jobs : Jobs) (id : ℕ) (a : CommitAsk) → is_taken jobs id (frames.DirectAsk a) ≡ (is_peer jobs id a.node && is_known jobs a.proc && (home_of jobs a.proc == id))
+pub direct_taken : (jobs : Jobs) (id : ℕ) (t : Fences) (a : CommitAsk) → is_taken jobs id t (frames.DirectAsk a) ≡ (is_peer jobs id a.node && is_known jobs a.proc && (home_of jobs a.proc == id))
 unfolding is_taken
-direct_taken jobs id a = refl
+direct_taken jobs id t a = refl
 
-pub refresh_taken : (jobs : Jobs) (id : ℕ) (a : RefreshAsk)
-    → is_taken jobs id (frames.RefreshAsk a) ≡ (is_peer jobs id a.ask.node && is_known jobs a.ask.proc && (home_of jobs a.ask.proc == id))
+pub refresh_taken : (jobs : Jobs) (id : ℕ) (t : Fences) (a : RefreshAsk)
+    → is_taken jobs id t (frames.RefreshAsk a) ≡ (is_peer jobs id a.ask.node && is_known jobs a.ask.proc && (home_of jobs a.ask.proc == id))
 unfolding is_taken
-refresh_taken jobs id a = refl
+refresh_taken jobs id t a = refl
 
 -- the node with other marks
 abbrev pub with_marks : Levels → Server → Server
@@ -59,7 +60,7 @@ module _ (jobs : Jobs) (id : ℕ) (h : Holding) where
   deliver_free frame = refl
 
   -- the frame is ignored, or taken
-  pub deliver_by : (frame : Frame) (b : Bool) → is_taken jobs id frame ≡ b
+  pub deliver_by : (frame : Frame) (b : Bool) → is_taken jobs id h.table frame ≡ b
       → acts jobs id h (Act.deliver frame) ≡ done_as (cond b Reply.taken Reply.ignored) (settled jobs id (cond b (receives jobs id h frame) h))
   unfolding does
   deliver_by frame true e =
@@ -70,28 +71,28 @@ module _ (jobs : Jobs) (id : ℕ) (h : Holding) where
       ∙ ap (λ (b : Bool). let d = cond b (done_as Reply.taken (receives jobs id h frame)) (done_as Reply.ignored h) in done_as d.reply (settled jobs id d.left)) e
 
   module _ (is : IsSettled jobs id h) where
-    pub ignored_is : (frame : Frame) → is_taken jobs id frame ≡ false → acts jobs id h (Act.deliver frame) ≡ done_as Reply.ignored h
+    pub ignored_is : (frame : Frame) → is_taken jobs id h.table frame ≡ false → acts jobs id h (Act.deliver frame) ≡ done_as Reply.ignored h
     ignored_is frame e = deliver_by frame false e ∙ ap (done_as Reply.ignored) (settled_same jobs id h is)
 
-    pub ignored_silent : (marks : Levels) (frame : Frame) → is_taken jobs id frame ≡ false → chosen jobs id h marks (Act.deliver frame) ≡ record { frames = []; marks = marks }
+    pub ignored_silent : (marks : Levels) (frame : Frame) → is_taken jobs id h.table frame ≡ false → chosen jobs id h marks (Act.deliver frame) ≡ record { frames = []; marks = marks }
     ignored_silent marks frame e = quiet_silent jobs id h (Act.deliver frame) marks (done_as Reply.ignored h) (ignored_is frame e) refl
 
     -- a request for commits
-    pub range_is : (a : CommitAsk) → is_taken jobs id (frames.RangeAsk a) ≡ true → acts jobs id h (Act.deliver (frames.RangeAsk a)) ≡ done_as Reply.taken h
+    pub range_is : (a : CommitAsk) → is_taken jobs id h.table (frames.RangeAsk a) ≡ true → acts jobs id h (Act.deliver (frames.RangeAsk a)) ≡ done_as Reply.taken h
     unfolding receives
     range_is a e = deliver_by (frames.RangeAsk a) true e ∙ ap (done_as Reply.taken) (settled_same jobs id h is)
 
-    pub range_sent : (marks : Levels) (a : CommitAsk) → is_taken jobs id (frames.RangeAsk a) ≡ true
+    pub range_sent : (marks : Levels) (a : CommitAsk) → is_taken jobs id h.table (frames.RangeAsk a) ≡ true
         → chosen jobs id h marks (Act.deliver (frames.RangeAsk a)) ≡ sends (sealer_of h) (asked_marks marks (Some a)) (answering h a.node a.proc a.level)
     unfolding due_by due_by_frame marked_by_act
     range_sent marks a e = sent_as jobs id h (Act.deliver (frames.RangeAsk a)) marks (done_as Reply.taken h) (range_is a e) refl
 
     -- a request for commits that is made anew
-    pub refresh_is : (a : RefreshAsk) → is_taken jobs id (frames.RefreshAsk a) ≡ true → acts jobs id h (Act.deliver (frames.RefreshAsk a)) ≡ done_as Reply.taken h
+    pub refresh_is : (a : RefreshAsk) → is_taken jobs id h.table (frames.RefreshAsk a) ≡ true → acts jobs id h (Act.deliver (frames.RefreshAsk a)) ≡ done_as Reply.taken h
     unfolding receives
     refresh_is a e = deliver_by (frames.RefreshAsk a) true e ∙ ap (done_as Reply.taken) (settled_same jobs id h is)
 
-    pub refresh_sent : (marks : Levels) (a : RefreshAsk) → is_taken jobs id (frames.RefreshAsk a) ≡ true
+    pub refresh_sent : (marks : Levels) (a : RefreshAsk) → is_taken jobs id h.table (frames.RefreshAsk a) ≡ true
         → chosen jobs id h marks (Act.deliver (frames.RefreshAsk a)) ≡ sends (sealer_of h) (asked_marks marks (Some a.ask)) (replying h a)
     unfolding due_by due_by_frame marked_by_act
     refresh_sent marks a e = sent_as jobs id h (Act.deliver (frames.RefreshAsk a)) marks (done_as Reply.taken h) (refresh_is a e) refl
@@ -101,7 +102,7 @@ module _ (jobs : Jobs) (id : ℕ) (h : Holding) where
     settled_held true node p level = settled_same jobs id h is
     settled_held false node p level = settled_same jobs id (holding_ask h node p level) (record { fences = is.fences; gets = is.gets })
 
-    pub direct_is : (a : CommitAsk) → is_taken jobs id (frames.DirectAsk a) ≡ true
+    pub direct_is : (a : CommitAsk) → is_taken jobs id h.table (frames.DirectAsk a) ≡ true
         → acts jobs id h (Act.deliver (frames.DirectAsk a)) ≡ done_as Reply.taken (holds_unless (nat_lt a.level (sealer_of h a.proc).level) h a.node a.proc a.level)
     unfolding receives
     direct_is a e = deliver_by (frames.DirectAsk a) true e ∙ ap (done_as Reply.taken) (settled_held (nat_lt a.level (sealer_of h a.proc).level) a.node a.proc a.level)
@@ -111,7 +112,7 @@ module _ (jobs : Jobs) (id : ℕ) (h : Holding) where
     same_out true marks node p level = refl
     same_out false marks node p level = refl
 
-    pub direct_sent : (marks : Levels) (a : CommitAsk) → is_taken jobs id (frames.DirectAsk a) ≡ true
+    pub direct_sent : (marks : Levels) (a : CommitAsk) → is_taken jobs id h.table (frames.DirectAsk a) ≡ true
         → chosen jobs id h marks (Act.deliver (frames.DirectAsk a)) ≡ sends (sealer_of h) (asked_marks marks (Some a)) (answering h a.node a.proc a.level)
     unfolding due_by due_by_frame marked_by_act
     direct_sent marks a e =
@@ -124,7 +125,7 @@ pub record Ignores (s : Server) (frame : Frame) : Type 0 where
   pub left : after s (Act.deliver frame) ≡ s
   pub sent : sent_by s (Act.deliver frame) ≡ []
 
-pub ignores : (s : Server) → IsNode s → (frame : Frame) → is_taken s.jobs s.id frame ≡ false → Ignores s frame
+pub ignores : (s : Server) → IsNode s → (frame : Frame) → is_taken s.jobs s.id s.holding.table frame ≡ false → Ignores s frame
 ignores s kept frame none =
     let is = ignored_is s.jobs s.id s.holding kept.server.settled frame none in
     let silent = ignored_silent s.jobs s.id s.holding kept.server.settled s.marks frame none in

@@ -107,7 +107,7 @@ module _ (jobs : Jobs) (id : ℕ) (h : Holding) where
   unfolding does
   done_all (Act.request r) = request_all r
   done_all (Act.commit p b) = sealed_joins p (sealed_with (sealer_of h p) b) (sealer_of h p).level
-  done_all (Act.deliver frame) = frame_all frame (is_taken jobs id frame)
+  done_all (Act.deliver frame) = frame_all frame (is_taken jobs id h.table frame)
 
   all_by : (a : Act) (r : Result (Unit {0}) Refusal) → IsAll a (over jobs id h (then_answer r (does jobs id h a)))
   all_by a (Ok u) = done_all a

@@ -11,6 +11,7 @@ pub mod ReplyFits
 pub mod ReplyTaking
 pub mod ReplyOpen
 pub mod HeaderNews
+pub mod ForgettingLemmas
 pub mod FenceLemmas
 pub mod TakingHeaders
 pub mod SealedActs

@@ -90,7 +90,7 @@ module _ (jobs : Jobs) (id : ℕ) (h : Holding) (has : HasSealers jobs id h) whe
   unfolding does
   do_has (Act.request r) = serve_has r
   do_has (Act.commit p b) = sealing_has p (sealed_with (sealer_of h p) b)
-  do_has (Act.deliver frame) = deliver_has frame (is_taken jobs id frame)
+  do_has (Act.deliver frame) = deliver_has frame (is_taken jobs id h.table frame)
 
   pub sealers_stay : (a : Act) → Has (acts jobs id h a).left
   sealers_stay a = act_cases jobs id h a (λ d. Has d.left) (λ free. do_has a) (λ e. has)

@@ -107,7 +107,7 @@ module _ (jobs : Jobs) (id : ℕ) (h : Holding) where
   unfolding does
   does_old (Act.request r) = serves_old r
   does_old (Act.commit by b) = λ p get number e. inl e
-  does_old (Act.deliver frame) = delivers_old frame (is_taken jobs id frame)
+  does_old (Act.deliver frame) = delivers_old frame (is_taken jobs id h.table frame)
 
   acts_old : (a : Act) → AreOld (acts jobs id h a).left
   acts_old a = act_cases jobs id h a (λ d. AreOld d.left) (λ free. settled_old (does jobs id h a).left (does_old a)) (λ e. same_old)

@@ -38,7 +38,7 @@ pub mapped_calls : (jobs : Jobs) (id : ℕ) (h : Holding) (calls : Calls) (looks
     → mapped (settle_where jobs id h looks) m ≡ mapped (settle_where jobs id (with_calls h calls) looks) m
 mapped_calls jobs id h calls looks m = λ i. mapped (λ x. cond (looks x) (sym (settle_calls jobs id h calls x) i) x) m
 
-module _ (s : Server) (c : Contribution) (taken : is_taken s.jobs s.id (frames.Piece c) ≡ true) where
+module _ (s : Server) (c : Contribution) (taken : is_taken s.jobs s.id s.holding.table (frames.Piece c) ≡ true) where
   abbrev a : Act
   a = Act.deliver (frames.Piece c)
 
@@ -101,7 +101,7 @@ module _ (s : Server) (c : Contribution) (taken : is_taken s.jobs s.id (frames.P
       ∙ ap (λ (h : Holding). due_by s.jobs s.id s.holding a h) (sym left_is)
 
 -- the node once the piece is taken, where its parts are so
-pub piece_moved : (s t : Server) (c : Contribution) → t ≡ s → is_taken s.jobs s.id (frames.Piece c) ≡ true → (near far : Data) (calls : Calls) (marks : Levels) (answers : List (Proc × Settled)) (dues : List Due)
+pub piece_moved : (s t : Server) (c : Contribution) → t ≡ s → is_taken s.jobs s.id s.holding.table (frames.Piece c) ≡ true → (near far : Data) (calls : Calls) (marks : Levels) (answers : List (Proc × Settled)) (dues : List Due)
     → near ≡ t.holding.near → far ≡ absorbed t.holding.far c → calls ≡ all_instead t.holding.calls answers → marks ≡ (sends (sealer_of t.holding) t.marks dues).marks
     → all_instead s.holding.calls answers ≡ (after s (Act.deliver (frames.Piece c))).holding.calls → dues ≡ due_by s.jobs s.id s.holding (Act.deliver (frames.Piece c)) (after s (Act.deliver (frames.Piece c))).holding
     → record {

@@ -164,7 +164,7 @@ module _ (jobs : Jobs) (id : ℕ) (h : Holding) where
 
   pub deliver_accepted : (frame : Frame) → IsAccepted (acts jobs id h (Act.deliver frame)).reply
   unfolding cause does
-  deliver_accepted frame = by_test (is_taken jobs id frame)
+  deliver_accepted frame = by_test (is_taken jobs id h.table frame)
     where
       by_test : (b : Bool) → IsAccepted (over jobs id h (Ok (if b then done_as Reply.taken (receives jobs id h frame) else done_as Reply.ignored h))).reply
       by_test true = tt

@@ -47,7 +47,7 @@ told_of r = by_test (nat_lt r.told.from r.told.to)
     by_test false = tt
 
 told_differs : (jobs : Jobs) (id : ℕ) (h : Holding) (q : Proc) (told : Option Contribution) → IsOf q told → DiffersAt jobs id q h (with_far h (joined h.far told))
-told_differs jobs id h q None of = record { calls = λ p s e apart. e; near = λ p other. refl; far = λ p other. refl; told = λ f p none. refl }
+told_differs jobs id h q None of = record { calls = λ p s e apart. e; near = λ p other. refl; far = λ p other. refl; old = λ f young. young; told = λ f p young none. refl }
 told_differs jobs id h q (Some c) of = subst (λ (p : Proc). DiffersAt jobs id p h (with_far h (absorbed h.far c))) of (piece_differs jobs id h c)
 
 -- ---- the calls
@@ -111,7 +111,7 @@ module _ (jobs : Jobs) (id : ℕ) (h : Holding) (number : ℕ) (q : Proc) where
 abbrev pub with_told : Option Contribution → Calls → Levels → Server → Server
 with_told told calls marks s = record { jobs = s.jobs; id = s.id; holding = with_calls (with_far s.holding (joined s.holding.far told)) calls; marks = marks }
 
-module _ (s : Server) (r : RefreshReply) (taken : is_taken s.jobs s.id (frames.RefreshReply r) ≡ true) where
+module _ (s : Server) (r : RefreshReply) (taken : is_taken s.jobs s.id s.holding.table (frames.RefreshReply r) ≡ true) where
   abbrev a : Act
   a = Act.deliver (frames.RefreshReply r)
 
@@ -195,7 +195,7 @@ module _ (s : Server) (r : RefreshReply) (taken : is_taken s.jobs s.id (frames.R
       ∙ ap (λ (h : Holding). due_by s.jobs s.id s.holding a h) (sym left_is)
 
 -- the node once the reply is taken, where its parts are so
-pub reply_moved : (s t : Server) (r : RefreshReply) → t ≡ s → is_taken s.jobs s.id (frames.RefreshReply r) ≡ true
+pub reply_moved : (s t : Server) (r : RefreshReply) → t ≡ s → is_taken s.jobs s.id s.holding.table (frames.RefreshReply r) ≡ true
     → (near far : Data) (calls : Calls) (held marks : Levels) (requests : ℕ) (answers : List (Proc × Settled)) (dues : List Due)
     → near ≡ t.holding.near → far ≡ joined t.holding.far (told_by r) → calls ≡ all_instead t.holding.calls answers → held ≡ t.holding.held → requests ≡ t.holding.requests
     → marks ≡ (sends (sealer_of t.holding) t.marks dues).marks

@@ -6,7 +6,7 @@ use Rattle.pmg_commit.specs.Data.{Data}
 use Rattle.pmg_jobinfo.specs.Jobs.{Jobs}
 use Rattle.pmg_fence.specs.Changes.{news, changed_at, taken}
 use Rattle.pmg_fence.specs.Codes.{Known}
-use Rattle.pmg_fence.specs.Kept.{placed_by}
+use Rattle.pmg_fence.specs.Kept.{noted_by, placed_by}
 use Rattle.pmg_fence.specs.Tables.{Fences}
 use Rattle.pmg_fence.specs.declared.change.Change.{Change}
 use Rattle.pmg_holding.specs.Codes.{Calls}
@@ -14,6 +14,10 @@ use Rattle.pmg_rules.specs.Holdings.{Holding, mapped}
 use Rattle.pmg_rules.specs.Kept.{is_in, settle_where}
 use Rattle.pmg_holding.specs.Telling.{announcing_by}
 use Rattle.pmg_rules.specs.declared.due.Due.{Due}
+
+-- the table, once a change of the fence is noted and the own headers that came to exist are taken, before anything is forgotten
+abbrev pub fence_noted : Known → FenceName → Change → Known
+fence_noted k f change = taken (changed_at k f (noted_by k.fences f change)) []
 
 -- the table, once the fence has changed and the own headers that came to exist are taken
 abbrev pub fence_after : Known → FenceName → Change → Known

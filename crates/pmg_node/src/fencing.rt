@@ -96,7 +96,7 @@ fn send_news(
 }
 
 /// The fence changes in the table. Its own header is announced where it comes to exist by this, and whoever can be released from
-/// it is. Where an allocation fails, all is as before.
+/// it is; at last the instances of its signature that are old by now are forgotten. Where an allocation fails, all is as before.
 pub(crate) fn change_fence(
     around: &Around<'_>,
     table: &mut Table,
@@ -127,5 +127,6 @@ pub(crate) fn change_fence(
         return Err(AllocError);
     };
     calls.answer(answers);
+    table.forget(name.signature());
     Ok(())
 }

@@ -62,22 +62,24 @@ impl Node {
         are_members(registry, name) && takes_part(registry, name, self.id)
     }
 
-    /// Whether the header comes from another node, is of a fence that concerns this one, and lists its node's participants.
+    /// Whether the header comes from another node, is of a fence that concerns this one and is not forgotten, and lists its node's
+    /// participants.
     #[tactic(auto, unfolding(pmg_rules::specs::Acts::is_taken))]
     fn is_told(&self, header: &Header) -> bool
-        ensures { result ≡ is_taken self.now.jobs self.now.id (frames.Header header.now) }
+        ensures { result ≡ is_taken self.now.jobs self.now.id self.now.holding.table (frames.Header header.now) }
     {
         self.is_peer(header.node())
             && self.is_concerned(header.name())
             && is_complete(self.table.registry(), header)
+            && !self.table.is_old(header.name())
     }
 
-    /// Whether the request comes from another node, and is for a header of a fence that concerns this one.
+    /// Whether the request comes from another node, and is for a header of a fence that concerns this one and is not forgotten.
     #[tactic(auto, unfolding(pmg_rules::specs::Acts::is_taken))]
     fn is_asked_for(&self, ask: &FenceAsk) -> bool
-        ensures { result ≡ is_taken self.now.jobs self.now.id (frames.FenceAsk ask.now) }
+        ensures { result ≡ is_taken self.now.jobs self.now.id self.now.holding.table (frames.FenceAsk ask.now) }
     {
-        self.is_peer(ask.node()) && self.is_concerned(ask.name())
+        self.is_peer(ask.node()) && self.is_concerned(ask.name()) && !self.table.is_old(ask.name())
     }
 
     /// Another node tells its header of a fence.

@@ -20,14 +20,14 @@ impl Node {
     /// Whether the piece is of a process that is not at home at this node.
     #[tactic(auto, unfolding(pmg_rules::specs::Acts::is_taken))]
     fn is_foreign(&self, piece: &Piece) -> bool
-        ensures { result ≡ is_taken self.now.jobs self.now.id (frames.Piece piece.now) }
+        ensures { result ≡ is_taken self.now.jobs self.now.id self.now.holding.table (frames.Piece piece.now) }
     {
         self.is_known(piece.proc()) && !self.table.registry().is_home(self.id, piece.proc())
     }
 
     /// What calls come to be answered once the piece is taken.
     fn answers_to<'a>(&'a self, piece: &'a Piece) -> Result<Vec<(Proc, Settled)>, AllocError>
-        requires { is_taken self.now.jobs self.now.id (frames.Piece piece.now) ≡ true }
+        requires { is_taken self.now.jobs self.now.id self.now.holding.table (frames.Piece piece.now) ≡ true }
         ensures { IfOk result (λ answers. all_instead self.now.holding.calls answers.items
             ≡ (after self.now (Act.deliver (frames.Piece piece.now))).holding.calls) }
     {
@@ -42,7 +42,7 @@ impl Node {
     /// What is due once the piece is taken: where more commits of its process come to be known, its home is asked again for
     /// each get of its keys that will wait still.
     fn asks_after<'a>(&'a self, piece: &'a Piece) -> Result<Vec<Due>, AllocError>
-        requires { is_taken self.now.jobs self.now.id (frames.Piece piece.now) ≡ true }
+        requires { is_taken self.now.jobs self.now.id self.now.holding.table (frames.Piece piece.now) ≡ true }
         ensures { IfOk result (λ dues. dues.items ≡ due_by self.now.jobs self.now.id self.now.holding
             (Act.deliver (frames.Piece piece.now)) (after self.now (Act.deliver (frames.Piece piece.now))).holding) }
     {

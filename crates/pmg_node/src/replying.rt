@@ -104,7 +104,7 @@ impl Node {
     /// Whether the reply is to a request of this node, for commits of a process that is not at home here.
     #[tactic(auto, unfolding(pmg_rules::specs::Acts::is_taken))]
     fn is_replied(&self, reply: &RefreshReply) -> bool
-        ensures { result ≡ is_taken self.now.jobs self.now.id (frames.RefreshReply reply.now) }
+        ensures { result ≡ is_taken self.now.jobs self.now.id self.now.holding.table (frames.RefreshReply reply.now) }
     {
         reply.node() == self.id
             && self.is_known(reply.proc())
@@ -118,7 +118,7 @@ impl Node {
         reply: &'a RefreshReply,
         told: Option<&'a Piece>,
     ) -> Result<Vec<(Proc, Settled)>, AllocError>
-        requires taken { is_taken self.now.jobs self.now.id (frames.RefreshReply reply.now) ≡ true }
+        requires taken { is_taken self.now.jobs self.now.id self.now.holding.table (frames.RefreshReply reply.now) ≡ true }
         requires told { option_map (λ c. c.now) told ≡ told_by reply.now }
         ensures { IfOk result (λ answers. all_instead self.now.holding.calls answers.items
             ≡ (after self.now (Act.deliver (frames.RefreshReply reply.now))).holding.calls) }
@@ -149,7 +149,7 @@ impl Node {
         reply: &'a RefreshReply,
         told: Option<&'a Piece>,
     ) -> Result<Vec<Due>, AllocError>
-        requires taken { is_taken self.now.jobs self.now.id (frames.RefreshReply reply.now) ≡ true }
+        requires taken { is_taken self.now.jobs self.now.id self.now.holding.table (frames.RefreshReply reply.now) ≡ true }
         requires told { option_map (λ c. c.now) told ≡ told_by reply.now }
         ensures { IfOk result (λ dues. dues.items ≡ due_by self.now.jobs self.now.id self.now.holding
             (Act.deliver (frames.RefreshReply reply.now)) (after self.now (Act.deliver (frames.RefreshReply reply.now))).holding) }

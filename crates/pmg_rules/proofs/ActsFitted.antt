@@ -310,7 +310,7 @@ module _ (jobs : Jobs) (scripts : Scripts) (node : ℕ) (h : Holding) (fits : Fi
       subst (FitsCall (scripts p)) (sym (get-mapped (answer_reply jobs node g r.request r.told.proc) h.calls p))
       (answered_call g r.request r.told.proc (scripts p) (call_of h p) (fits.calls p at)))
 
-  frame_fits : (frame : Frame) → is_taken jobs node frame ≡ true → HonestFrame jobs scripts frame → Fits jobs scripts node (receives jobs node h frame)
+  frame_fits : (frame : Frame) → is_taken jobs node h.table frame ≡ true → HonestFrame jobs scripts frame → Fits jobs scripts node (receives jobs node h frame)
   unfolding receives is_taken
   frame_fits (frames.Piece c) taken honest = fits_piece jobs scripts node h c (away_by (home_of jobs c.proc) _ taken) honest fits
   frame_fits (frames.Header hd) taken honest = with_table_fits _ (header_fits jobs node scripts h.table hd honest fits.table)
@@ -320,7 +320,7 @@ module _ (jobs : Jobs) (scripts : Scripts) (node : ℕ) (h : Holding) (fits : Fi
   frame_fits (frames.RefreshAsk a) taken honest = fits
   frame_fits (frames.RefreshReply r) taken honest = reply_fits r (away_by (home_of jobs r.told.proc) _ taken) honest
 
-  deliver_done : (frame : Frame) (b : Bool) → is_taken jobs node frame ≡ b → HonestFrame jobs scripts frame
+  deliver_done : (frame : Frame) (b : Bool) → is_taken jobs node h.table frame ≡ b → HonestFrame jobs scripts frame
       → DoneFits (cond b (done_as Reply.taken (receives jobs node h frame)) (done_as Reply.ignored h)) None
   deliver_done frame true taken honest = fits_settled jobs scripts node (receives jobs node h frame) (frame_fits frame taken honest)
   deliver_done frame false taken honest = fits_settled jobs scripts node h fits
@@ -346,7 +346,7 @@ module _ (jobs : Jobs) (scripts : Scripts) (node : ℕ) (h : Holding) (fits : Fi
   act_done are hosts (Act.commit p b) fit none =
       let free = free_is jobs node h p (neither_cause (free_cause jobs node h p) (seal_cause (sealer_of h p) b) none).0 in
       commit_done p b free.0 free.1 (fit (live_by p free.0))
-  act_done are hosts (Act.deliver frame) fit none = deliver_done frame (is_taken jobs node frame) refl fit
+  act_done are hosts (Act.deliver frame) fit none = deliver_done frame (is_taken jobs node h.table frame) refl fit
 
 pub acts_fit : ActsFit
 acts_fit jobs are scripts node h fits hosts a fit = elim (by_causes (cause jobs node h a) (does jobs node h a)) [

@@ -115,7 +115,7 @@ module _ (jobs : Jobs) (id : ℕ) (h : Holding) (own : HeldAreOwn jobs id h) whe
       let parts = and_parts (is_peer jobs id from && is_known jobs p) (home_of jobs p == id) taken in
       own_with jobs id h.held p from _ (is_home (home_of jobs p) parts.1) (and_parts (is_peer jobs id from) (is_known jobs p) parts.0).0 own
 
-  frame_own : (frame : Frame) → is_taken jobs id frame ≡ true → HeldAreOwn jobs id (receives jobs id h frame)
+  frame_own : (frame : Frame) → is_taken jobs id h.table frame ≡ true → HeldAreOwn jobs id (receives jobs id h frame)
   unfolding receives is_taken
   frame_own (frames.Piece c) taken = own
   frame_own (frames.Header hd) taken = own
@@ -125,7 +125,7 @@ module _ (jobs : Jobs) (id : ℕ) (h : Holding) (own : HeldAreOwn jobs id h) whe
   frame_own (frames.RefreshAsk a) taken = own
   frame_own (frames.RefreshReply r) taken = own
 
-  deliver_own : (frame : Frame) (b : Bool) → is_taken jobs id frame ≡ b → HeldAreOwn jobs id (cond b (done_as Reply.taken (receives jobs id h frame)) (done_as Reply.ignored h)).left
+  deliver_own : (frame : Frame) (b : Bool) → is_taken jobs id h.table frame ≡ b → HeldAreOwn jobs id (cond b (done_as Reply.taken (receives jobs id h frame)) (done_as Reply.ignored h)).left
   deliver_own frame true taken = frame_own frame taken
   deliver_own frame false taken = own
 
@@ -144,7 +144,7 @@ module _ (jobs : Jobs) (id : ℕ) (h : Holding) (own : HeldAreOwn jobs id h) whe
   unfolding does
   does_own (Act.request r) = request_own r
   does_own (Act.commit by b) = own_without jobs id h.held by _ own
-  does_own (Act.deliver frame) = deliver_own frame (is_taken jobs id frame) refl
+  does_own (Act.deliver frame) = deliver_own frame (is_taken jobs id h.table frame) refl
 
 pub held_stay_own : HeldStayOwn
 held_stay_own jobs id h a own = after_act jobs id h a (HeldAreOwn jobs id) own (λ none. does_own jobs id h own a)

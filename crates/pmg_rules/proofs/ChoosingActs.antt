@@ -1,8 +1,8 @@
 -- What each act sends goes to other nodes, and may be sent.
-use Rattle.std.proofs.Common.{◌≡◌, ℕ, ◌<◌, Bool, true, false, List, [], Option, Some, None, inl, inr, refl, sym, ap, subst, ◌∙◌, arith}
+use Rattle.std.proofs.Common.{◌≡◌, ℕ, ◌<◌, Bool, true, false, cond, List, [], Option, Some, None, inl, inr, refl, sym, ap, subst, ◌∙◌, arith}
 use Rattle.std.specs.Prelude.{if◌then◌else◌, nat_lt}
 use Rattle.std.specs.List.{flat_map}
-use Rattle.std.proofs.lemmas.Bool.{and_parts, or_parts, not-false, eqb-true}
+use Rattle.std.proofs.lemmas.Bool.{false≢true, and_parts, or_parts, not-true, not-false, eqb-true}
 use Rattle.pmg_value.specs.Lists.{In}
 use Rattle.pmg_value.proofs.ListLemmas.{in_parts}
 use Rattle.pmg_pset.specs.Refusing.{delete_cause}
@@ -18,11 +18,10 @@ use Rattle.pmg_frame.specs.declared.frame.Frame.{Frame}
 use Rattle.pmg_frame.specs.declared.frame.Frame.TheVariants as frames
 use Rattle.pmg_frame.specs.declared.local.Local.{Local}
 use Rattle.pmg_jobinfo.specs.Jobs.{Jobs, AreJobs, home_of}
-use Rattle.pmg_fence.specs.Changes.{news, present, learned, next_name}
-use Rattle.pmg_fence.specs.Entering.{locals_of}
-use Rattle.pmg_fence.specs.Tables.{Fences, series_at, fence_at, entry_at, has_name, own_header, names_of}
-use Rattle.pmg_fence.proofs.HeaderLemmas.{told_alike}
-use Rattle.pmg_fence.proofs.NewsLemmas.{name_there, entry_learned}
+use Rattle.pmg_fence.specs.Changes.{news, present, placed, forgotten, learned, next_name}
+use Rattle.pmg_fence.specs.Tables.{Fences, is_old, series_at, fence_at, has_name, names_of}
+use Rattle.pmg_fence.proofs.OldLemmas.{old-forgotten, present_alike, fence-with, name-with, ends-with}
+use Rattle.pmg_fence.proofs.TableLemmas.{same_name, old_there}
 use Rattle.pmg_dmodex.specs.Levels.{Levels}
 use Rattle.pmg_rules.specs.Acts.{Request, Act, Reply, Done, done_as, also, node_cause, list_cause, set_cause, name_cause, seal_cause, signature_of, members_of, cause, request_cause, is_peer, is_taken, serves, receives, does, acts}
 use Rattle.pmg_rules.specs.Choosing.{Out, announcing, telling_of, asking_again, asking_risen, due_by, due_by_request, due_by_frame, marked_by_act, sends, chosen}
@@ -35,21 +34,34 @@ use Rattle.pmg_rules.specs.declared.sent.Sent.{Sent}
 use Rattle.pmg_rules.proofs.KeptBasics.{IsFree, act_cases, bad, unknown, foreign, caller_is, host_home}
 use Rattle.pmg_rules.proofs.KeptChanges.{sealer_there, settled_holds}
 use Rattle.pmg_rules.proofs.KeptActs.{own_by, do_holds, receive_holds}
+use Rattle.pmg_rules.proofs.ChoosingNews.{present_named}
 use Rattle.pmg_rules.proofs.SendingLists.{flat_in, each_from, sent_for}
 use Rattle.pmg_rules.proofs.ChoosingAllowed.{IsFine, fine_sent, news_own, telling_fine, announcing_fine, settling_fine, spreading_fine, answering_fine, replying_fine, asking_for_fine, asking_again_fine, nudging_fine}
 
 -- ---- an own header stays where its name is learned
 
-there_by : (b : Bool) (o : Option (List Local)) (ls : List Local) → (if b then o else None) ≡ Some ls → o ≡ Some ls
-there_by true o ls e = e
-there_by false o ls e = absurd cc
+-- a fence that is not old is not old where its name is learned
+learned_young : (t : Fences) (f : FenceName) → is_old t f ≡ false → is_old (learned t f) f ≡ false
+learned_young t f young = by_old (is_old t f) young
+  where
+    by_old : (b : Bool) → b ≡ false → is_old (if b then t else forgotten (placed t f (fence_at t f) (series_at t f.signature).counts) f.signature) f ≡ false
+    by_old true e = absurd (false≢true (sym e))
+    by_old false e = old-forgotten (placed t f (fence_at t f) (series_at t f.signature).counts) f.signature f ∙ old_there t f (fence_at t f) (series_at t f.signature).counts young
 
-pub present_learned : (jobs : Jobs) (id : ℕ) (t : Fences) (f : FenceName) (ls : List Local) → present jobs id t f ≡ Some ls → present jobs id (learned t f) f ≡ Some ls
-unfolding present own_header
-present_learned jobs id t f ls e =
-    ap (λ b. if b then own_header jobs id (learned t f) f else None) (name_there t f (fence_at t f) (series_at t f.signature).counts)
-    ∙ told_alike (entry_at (learned t f) f) (entry_at t f) (locals_of jobs f id) (λ q i. entry_learned t f q)
-    ∙ there_by (has_name t f) (own_header jobs id t f) ls e
+same_cond : {A : Type 0} (b : Bool) (x : A) → cond b x x ≡ x
+same_cond true x = refl
+same_cond false x = refl
+
+there_cond : (b c : Bool) → c ≡ true → cond b true c ≡ c
+there_cond true c e = sym e
+there_cond false c e = refl
+
+pub present_learned : (jobs : Jobs) (id : ℕ) (t : Fences) (f : FenceName) (ls : List Local) → is_old t f ≡ false → present jobs id t f ≡ Some ls → present jobs id (learned t f) f ≡ Some ls
+present_learned jobs id t f ls young e =
+    let still = learned_young t f young in
+    present_alike jobs id t (learned t f) f (fence-with t f (fence_at t f) f still ∙ same_cond (same_name f f) (fence_at t f)) (ends-with t f (fence_at t f))
+    (name-with t f (fence_at t f) f still ∙ there_cond (same_name f f) (has_name t f) (present_named jobs id t f ls e))
+    ∙ e
 
 -- ---- what is due after an act
 
@@ -95,7 +107,7 @@ module _ (jobs : Jobs) (are : AreJobs jobs) (id : ℕ) (old : Holding) (holds : 
       by_level true j = asking_again_fine jobs id a new are q d j
       by_level false j = absurd j
 
-  frame_fine : (frame : Frame) → is_taken jobs id frame ≡ true → (new : Holding) → new ≡ settled jobs id (receives jobs id old frame) → Holds jobs id new
+  frame_fine : (frame : Frame) → is_taken jobs id old.table frame ≡ true → (new : Holding) → new ≡ settled jobs id (receives jobs id old frame) → Holds jobs id new
       → (d : Due) → In d (due_by_frame jobs id old frame new) → IsFine jobs id (Act.deliver frame) new d
   unfolding due_by_frame is_taken receives
   frame_fine (frames.Piece c) taken new is after d i = risen_fine (Act.deliver (frames.Piece c)) new c.proc d i
@@ -108,8 +120,8 @@ module _ (jobs : Jobs) (are : AreJobs jobs) (id : ℕ) (old : Holding) (holds : 
           → In d (telling_of jobs id a.node a.name o (flat_map (announcing jobs id) (news jobs id old.table new.table a.name))) → IsFine jobs id (Act.deliver (frames.FenceAsk a)) new d
       by_header (Some locals) e j =
           telling_fine jobs id (Act.deliver (frames.FenceAsk a)) new (header id a.name locals) a.node
-          (refl, ap (λ (x : Holding). own_header_of jobs id x a.name) is ∙ present_learned jobs id old.table a.name locals e)
-          (and_parts _ _ taken).0 d j
+          (refl, ap (λ (x : Holding). own_header_of jobs id x a.name) is ∙ present_learned jobs id old.table a.name locals (not-true (is_old old.table a.name) (and_parts _ _ taken).1) e)
+          (and_parts _ _ (and_parts _ _ taken).0).0 d j
       by_header None e j =
           let found = flat_in (announcing jobs id) (news jobs id old.table new.table a.name) d j in
           announcing_fine jobs id (Act.deliver (frames.FenceAsk a)) new found.0 (news_own jobs id (Act.deliver (frames.FenceAsk a)) new old.table a.name found.0 found.1) d found.2
@@ -150,9 +162,9 @@ module _ (jobs : Jobs) (are : AreJobs jobs) (id : ℕ) (old : Holding) (holds : 
       let z = sealed_with (sealer_of old p) b in
       let after = settled_holds jobs id (sealing old p z) (do_holds jobs id old holds (Act.commit p b) free) in
       well_by marks (Act.commit p b) (done_as (Reply.committed z.level) (settled jobs id (sealing old p z))) after (settling_fine jobs id (Act.commit p b) (settled jobs id (sealing old p z)) old p holds after (own_by jobs id old p (seal_cause (sealer_of old p) b) free).1)
-  done_well marks (Act.deliver frame) free = by_taken (is_taken jobs id frame) refl
+  done_well marks (Act.deliver frame) free = by_taken (is_taken jobs id old.table frame) refl
     where
-      by_taken : (b : Bool) → is_taken jobs id frame ≡ b
+      by_taken : (b : Bool) → is_taken jobs id old.table frame ≡ b
           → IsWell marks (Act.deliver frame) (done_as (if b then done_as Reply.taken (receives jobs id old frame) else done_as Reply.ignored old).reply (settled jobs id (if b then done_as Reply.taken (receives jobs id old frame) else done_as Reply.ignored old).left))
       by_taken true taken =
           let after = settled_holds jobs id (receives jobs id old frame) (receive_holds jobs id old holds frame taken) in

@@ -1,5 +1,5 @@
 -- What each act makes due covers what it changed.
-use Rattle.std.proofs.Common.{◌≡◌, ℕ, suc, ◌<◌, ◌≤◌, Bool, true, false, cond, List, [], ◌∷◌, ◌++◌, Option, Some, None, inl, refl, sym, ap, subst, ◌∙◌, arith}
+use Rattle.std.proofs.Common.{◌≡◌, ℕ, ◌<◌, ◌≤◌, Bool, true, false, cond, List, [], ◌∷◌, ◌++◌, Option, Some, None, inl, refl, sym, ap, subst, ◌∙◌, arith}
 use Rattle.std.specs.Prelude.{if◌then◌else◌, nat_lt}
 use Rattle.std.specs.FinMap as finite
 use Rattle.std.specs.FinMap.{nat_cmp-IsAntisymmetric}
@@ -18,9 +18,10 @@ use Rattle.pmg_frame.specs.declared.frame.Frame.{Frame}
 use Rattle.pmg_frame.specs.declared.frame.Frame.TheVariants as frames
 use Rattle.pmg_frame.specs.declared.local.Local.{Local}
 use Rattle.pmg_jobinfo.specs.Jobs.{Jobs}
-use Rattle.pmg_fence.specs.Changes.{news, present, placed, ended_by, fence_entered, fence_told, next_name}
+use Rattle.pmg_fence.specs.Changes.{news, present, learned, with_header, ended_by, fence_told, next_name}
 use Rattle.pmg_fence.specs.Entering.{same_proc}
-use Rattle.pmg_fence.specs.Tables.{Numbers, Fence, series_at, fence_at, has_name, count_of, gone_by, names_of}
+use Rattle.pmg_fence.specs.Tables.{Fences, series_at, fence_at, has_name, gone_by, names_of}
+use Rattle.pmg_fence.proofs.TableLemmas.{same_name}
 use Rattle.pmg_fence.proofs.HeaderLemmas.{by_proc, in_filter}
 use Rattle.pmg_dmodex.specs.Levels.{levels_of, level_at as held_at, below}
 use Rattle.pmg_get.specs.declared.view.Mode.{Mode}
@@ -36,7 +37,10 @@ use Rattle.pmg_rules.proofs.KeptChanges.{settled_call, settled_some, sealer_othe
 use Rattle.pmg_rules.proofs.CallFacts.{get-mapped, call-uncalled}
 use Rattle.pmg_rules.proofs.SendingLists.{in_flat}
 use Rattle.pmg_rules.proofs.SendingOwed.{Covers}
-use Rattle.pmg_rules.proofs.ChoosingNews.{by_name, present_named, present_other, news_has, name_listed}
+use Rattle.pmg_rules.proofs.ChoosingNews.{by_name, present_named, present_with, present_entered, news_has, name_listed}
+
+no_locals : (ls : List Local) → None ≡ Some ls → ⊥
+no_locals ls e = cc
 
 -- an act that asks for nothing
 pub record IsPlain (a : Act) : Type 0 where
@@ -80,14 +84,16 @@ module _ (jobs : Jobs) (id : ℕ) (old : Holding) (holds : Holds jobs id old) wh
     nudged = λ is d i. absurd (plain.nudges is);
   }
 
-  -- once one fence has changed its news cover the own headers
-  pub placed_headers : (new : Holding) (f : FenceName) (fence : Fence) (counts : Numbers) → new.table ≡ placed old.table f fence counts → (g : FenceName) (locals : List Local)
-      → own_header_of jobs id new g ≡ Some locals → own_header_of jobs id old g ≡ None → (d : Due) → In d (announcing jobs id (header id g locals)) → In d (flat_map (announcing jobs id) (news jobs id old.table new.table f))
-  placed_headers new f fence counts is g locals now before d i =
+  -- once one fence has changed its news cover the own headers, where no other one came to exist
+  pub changed_headers : (new : Holding) (f : FenceName)
+      → ((x : FenceName) (ls : List Local) → same_name x f ≡ false → own_header_of jobs id new x ≡ Some ls → own_header_of jobs id old x ≡ Some ls)
+      → (g : FenceName) (locals : List Local) → own_header_of jobs id new g ≡ Some locals → own_header_of jobs id old g ≡ None
+      → (d : Due) → In d (announcing jobs id (header id g locals)) → In d (flat_map (announcing jobs id) (news jobs id old.table new.table f))
+  changed_headers new f others g locals now before d i =
       in_flat (announcing jobs id) (news jobs id old.table new.table f) (header id g locals) d
       (by_name g f
       (λ same. subst (λ x. In (header id g locals) (news jobs id old.table new.table x)) same (news_has jobs id old.table new.table g locals now before))
-      (λ other. absurd (no_header new g locals (ap (λ t. present jobs id t g) is ∙ present_other jobs id old.table f fence counts g other) now before)))
+      (λ other. absurd (no_locals locals (sym before ∙ others g locals other now))))
       i
 
   -- after a commit the nodes that waited are sent it
@@ -189,9 +195,8 @@ module _ (jobs : Jobs) (id : ℕ) (old : Holding) (holds : Holds jobs id old) wh
       let h = (enters_fence old p g).left in
       let new = settled jobs id h in
       let f = next_name old.table g p in
-      let fence = fence_entered (fence_at old.table f) p (sealer_of old p).level in
       record {
-        headers = placed_headers new f fence (finite.insert (series_at old.table g).counts p (suc (count_of old.table g p))) refl;
+        headers = changed_headers new f (present_entered jobs id old.table g p (sealer_of old p).level holds.two);
         pieces = λ q node level held less. absurd (no_piece new q node level refl held less);
         gets = λ q s before now d i.
             absurd (fence_asks_none new (is_ready_at jobs id h f) f (gone_by jobs id h.table f) s d (newly_called p (Standing.in_fence f) h refl q s now before).1 i);
@@ -304,13 +309,13 @@ module _ (jobs : Jobs) (id : ℕ) (old : Holding) (holds : Holds jobs id old) wh
       not_asked ask asked = cc
 
   -- a header, or a name
-  placed_covers : (frame : Frame) (f : FenceName) (fence : Fence) (counts : Numbers) → let new = settled jobs id (with_table old (placed old.table f fence counts)) in (dues : List Due)
+  table_covers : (frame : Frame) (t : Fences) → let new = settled jobs id (with_table old t) in (dues : List Due)
       → ((g : FenceName) (locals : List Local) → own_header_of jobs id new g ≡ Some locals → own_header_of jobs id old g ≡ None
       → (d : Due) → In d (announcing jobs id (header id g locals)) → In d dues)
       → ((ask : FenceAsk) (locals : List Local) → frame ≡ frames.FenceAsk ask → own_header_of jobs id old ask.name ≡ Some locals → In (sendings.Whole (sent ask.node (frames.Header (header id ask.name locals)))) dues)
       → ((ask : RefreshAsk) → frame ≡ frames.RefreshAsk ask → ⊥) → (asked_by (Act.deliver frame) ≡ None) → Covers jobs id old (Act.deliver frame) new dues
-  placed_covers frame f fence counts dues heads asks no_anew none =
-      let h = with_table old (placed old.table f fence counts) in
+  table_covers frame t dues heads asks no_anew none =
+      let h = with_table old t in
       let new = settled jobs id h in
       record {
         headers = heads;
@@ -325,17 +330,18 @@ module _ (jobs : Jobs) (id : ℕ) (old : Holding) (holds : Holds jobs id old) wh
       not_asked : (ask : CommitAsk) → asked_by (Act.deliver frame) ≡ Some ask → ⊥
       not_asked ask asked = cc
 
-  fence_ask_covers : (a : FenceAsk) (fence : Fence) (counts : Numbers) → let new = settled jobs id (with_table old (placed old.table a.name fence counts)) in
+  fence_ask_covers : (a : FenceAsk) → let new = settled jobs id (with_table old (learned old.table a.name)) in
       Covers jobs id old (Act.deliver (frames.FenceAsk a)) new (telling_of jobs id a.node a.name (own_header_of jobs id old a.name) (flat_map (announcing jobs id) (news jobs id old.table new.table a.name)))
-  fence_ask_covers a fence counts =
-      let new = settled jobs id (with_table old (placed old.table a.name fence counts)) in
-      let others = flat_map (announcing jobs id) (news jobs id old.table new.table a.name) in
-      placed_covers (frames.FenceAsk a) a.name fence counts (telling_of jobs id a.node a.name (own_header_of jobs id old a.name) others)
+  fence_ask_covers a =
+      let t = learned old.table a.name in
+      let new = settled jobs id (with_table old t) in
+      let others = flat_map (announcing jobs id) (news jobs id old.table t a.name) in
+      let apart = present_with jobs id old.table a.name (fence_at old.table a.name) holds.two in
+      table_covers (frames.FenceAsk a) t (telling_of jobs id a.node a.name (own_header_of jobs id old a.name) others)
       (λ g locals now before d i.
       by_name g a.name
-      (λ same. subst (λ o. In d (telling_of jobs id a.node a.name o others)) (sym (ap (own_header_of jobs id old) (sym same) ∙ before))
-      (placed_headers new a.name fence counts refl g locals now before d i))
-      (λ other. absurd (no_header new g locals (present_other jobs id old.table a.name fence counts g other) now before)))
+      (λ same. subst (λ o. In d (telling_of jobs id a.node a.name o others)) (sym (ap (own_header_of jobs id old) (sym same) ∙ before)) (changed_headers new a.name apart g locals now before d i))
+      (λ other. absurd (no_locals locals (sym before ∙ apart g locals other now))))
       (λ ask locals is there. there_told ask (one_ask ask is) locals there others)
       (λ ask is. not_anew ask is) refl
     where
@@ -414,16 +420,16 @@ module _ (jobs : Jobs) (id : ℕ) (old : Holding) (holds : Holds jobs id old) wh
       not_anew ask is = cc
   frame_covers (frames.Header hd) =
       let fence = fence_told (fence_at old.table hd.name) hd.node hd.locals in
-      let counts = (series_at old.table hd.name.signature).counts in
-      let new = settled jobs id (with_table old (placed old.table hd.name fence counts)) in
-      placed_covers (frames.Header hd) hd.name fence counts _ (placed_headers new hd.name fence counts refl) (λ ask locals is there. absurd (not_ask ask is)) (λ ask is. not_anew ask is) refl
+      let t = with_header old.table hd in
+      table_covers (frames.Header hd) t _ (changed_headers (settled jobs id (with_table old t)) hd.name (present_with jobs id old.table hd.name fence holds.two)) (λ ask locals is there. absurd (not_ask ask is))
+      (λ ask is. not_anew ask is) refl
     where
       not_ask : (ask : FenceAsk) → frames.Header hd ≡ frames.FenceAsk ask → ⊥
       not_ask ask is = cc
 
       not_anew : (ask : RefreshAsk) → frames.Header hd ≡ frames.RefreshAsk ask → ⊥
       not_anew ask is = cc
-  frame_covers (frames.FenceAsk a) = fence_ask_covers a (fence_at old.table a.name) (series_at old.table a.name.signature).counts
+  frame_covers (frames.FenceAsk a) = fence_ask_covers a
   frame_covers (frames.RangeAsk a) = commit_ask_covers (frames.RangeAsk a) a (settled jobs id old) same_stays refl (λ ask is. not_ask ask is) (λ ask is. not_anew ask is)
     where
       not_ask : (ask : FenceAsk) → frames.RangeAsk a ≡ frames.FenceAsk ask → ⊥

@@ -8,16 +8,18 @@ use Rattle.std.specs.Ordering.{nat_cmp}
 use Rattle.std.proofs.lemmas.Bool.{false≢true}
 use Rattle.pmg_value.specs.Lists.{In}
 use Rattle.pmg_value.specs.Signatures.{Signature, FenceName}
+use Rattle.pmg_value.specs.declared.process.Proc.{Proc}
 use Rattle.pmg_value.proofs.ListLemmas.{in_map}
 use Rattle.pmg_frame.specs.Fences.{header}
 use Rattle.pmg_frame.specs.declared.local.Local.{Local}
 use Rattle.pmg_frame.proofs.FenceOrderLemmas.{signatures_exact}
 use Rattle.pmg_jobinfo.specs.Jobs.{Jobs}
-use Rattle.pmg_fence.specs.Changes.{placed, present, newly, news}
-use Rattle.pmg_fence.specs.Entering.{entry_by, locals_of}
-use Rattle.pmg_fence.specs.Tables.{Numbers, Fence, Series, Fences, fence_of, no_series, series_at, has_name, fence_at, entry_at, own_header, names_of}
-use Rattle.pmg_fence.proofs.HeaderLemmas.{told_alike}
-use Rattle.pmg_fence.proofs.TableLemmas.{same_name, name_exact, fence-placed, name-placed, ends-placed}
+use Rattle.pmg_fence.specs.Changes.{with_fence, next_name, fence_entered, entered_by, present, newly, news}
+use Rattle.pmg_fence.specs.Tables.{Fence, Series, Fences, fence_of, no_series, series_at, has_name, is_old, fence_at, own_header, names_of}
+use Rattle.pmg_fence.proofs.OldLemmas.{present_alike, fence-with, name-with, ends-with, fence-entered, name-entered, ends-entered}
+use Rattle.pmg_fence.proofs.TableLemmas.{same_name, name_exact}
+use Rattle.pmg_rules.specs.Kept.{HasTwo}
+use Rattle.pmg_rules.proofs.Forgetting.{known_names, entry_names}
 use Rattle.pmg_rules.proofs.KeptBasics.{entry_listed}
 use Rattle.pmg_rules.proofs.SendingLists.{in_flat}
 
@@ -38,17 +40,30 @@ pub present_named : (jobs : Jobs) (id : ℕ) (t : Fences) (f : FenceName) (ls : 
 unfolding present
 present_named jobs id t f ls e = if_there (has_name t f) (own_header jobs id t f) ls e
 
--- a change of one fence leaves the own headers of the others
-pub present_other : (jobs : Jobs) (id : ℕ) (t : Fences) (f : FenceName) (fence : Fence) (counts : Numbers) (x : FenceName) → same_name x f ≡ false
-    → present jobs id (placed t f fence counts) x ≡ present jobs id t x
-unfolding present own_header entry_at
-present_other jobs id t f fence counts x other =
-    let new = placed t f fence counts in
-    let named : has_name new x ≡ has_name t x = name-placed t f fence counts x ∙ ap (λ b. cond b true (has_name t x)) other in
-    let kept : fence_at new x ≡ fence_at t x = fence-placed t f fence counts x ∙ ap (λ b. cond b fence (fence_at t x)) other in
-    let own : own_header jobs id new x ≡ own_header jobs id t x =
-    told_alike (entry_at new x) (entry_at t x) (locals_of jobs x id) (λ q i j. entry_by (finite.get (kept j).levels q) (finite.get (ends-placed t f fence counts j) q)) in
-    λ i. if named i then own i else None
+-- of two tables that have no more than two fences of a signature, where the second knows the same of a fence unless it is old, its
+-- own header in the second is that in the first
+present_was : (jobs : Jobs) (id : ℕ) (t new : Fences) (x : FenceName) (ls : List Local) → HasTwo new
+    → (is_old new x ≡ false → (fence_at new x ≡ fence_at t x) × (has_name new x ≡ has_name t x)) → new.ends ≡ t.ends → present jobs id new x ≡ Some ls → present jobs id t x ≡ Some ls
+present_was jobs id t new x ls two same ends now =
+    let its = same (two x (present_named jobs id new x ls now)).0 in
+    sym (present_alike jobs id t new x its.0 ends its.1) ∙ now
+
+-- a change of one fence brings no own header of another
+pub present_with : (jobs : Jobs) (id : ℕ) (t : Fences) (f : FenceName) (fence : Fence) → HasTwo t → (x : FenceName) (ls : List Local) → same_name x f ≡ false
+    → present jobs id (with_fence t f fence) x ≡ Some ls → present jobs id t x ≡ Some ls
+present_with jobs id t f fence two x ls other =
+    present_was jobs id t (with_fence t f fence) x ls ((known_names (λ _. Unit {0}) t f fence tt).two two)
+    (λ young. (fence-with t f fence x young ∙ ap (λ b. cond b fence (fence_at t x)) other, name-with t f fence x young ∙ ap (λ b. cond b true (has_name t x)) other))
+    (ends-with t f fence)
+
+-- nor does an entry
+pub present_entered : (jobs : Jobs) (id : ℕ) (t : Fences) (g : Signature) (p : Proc) (level : ℕ) → HasTwo t → (x : FenceName) (ls : List Local) → same_name x (next_name t g p) ≡ false
+    → present jobs id (entered_by t g p level) x ≡ Some ls → present jobs id t x ≡ Some ls
+present_entered jobs id t g p level two x ls other =
+    let fence = fence_entered (fence_at t (next_name t g p)) p level in
+    present_was jobs id t (entered_by t g p level) x ls ((entry_names (λ _. Unit {0}) t g p level tt).two two)
+    (λ young. (fence-entered t g p level x young ∙ ap (λ b. cond b fence (fence_at t x)) other, name-entered t g p level x young ∙ ap (λ b. cond b true (has_name t x)) other))
+    (ends-entered t g p level)
 
 -- where an own header comes to exist it is among the news
 pub news_has : (jobs : Jobs) (id : ℕ) (old new : Fences) (f : FenceName) (locals : List Local) → present jobs id new f ≡ Some locals → present jobs id old f ≡ None

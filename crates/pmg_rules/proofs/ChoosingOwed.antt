@@ -114,14 +114,14 @@ module _ (jobs : Jobs) (are : AreJobs jobs) (id : ℕ) (old : Holding) (holds : 
       act_cases jobs id old (Act.commit p b) (IsPaid (Act.commit p b)) (λ free. free_commit p b)
       (λ e. paid_none (Act.commit p b) (done_as (Reply.refused e) old) (old_stays jobs id old holds) (plain_commit jobs id old holds p b))
 
-  taken_paid : (frame : Frame) (b : Bool) → is_taken jobs id frame ≡ b
+  taken_paid : (frame : Frame) (b : Bool) → is_taken jobs id old.table frame ≡ b
       → IsPaid (Act.deliver frame) (done_as (if b then done_as Reply.taken (receives jobs id old frame) else done_as Reply.ignored old).reply (settled jobs id (if b then done_as Reply.taken (receives jobs id old frame) else done_as Reply.ignored old).left))
   unfolding due_by
   taken_paid frame true taken = paid_by (Act.deliver frame) (done_as Reply.taken (settled jobs id (receives jobs id old frame))) refl (frame_covers jobs id old holds frame)
   taken_paid frame false ignored = λ s owes. absurd (ignored_none (settled jobs id old) (same_stays jobs id old holds) s owes)
     where
-      other_frame : (x y : Frame) → Act.deliver x ≡ Act.deliver y → is_taken jobs id y ≡ true → is_taken jobs id x ≡ true
-      other_frame x y is t = ap (is_taken jobs id) (one_frame jobs id old holds x y is) ∙ t
+      other_frame : (x y : Frame) → Act.deliver x ≡ Act.deliver y → is_taken jobs id old.table y ≡ true → is_taken jobs id old.table x ≡ true
+      other_frame x y is t = ap (is_taken jobs id old.table) (one_frame jobs id old holds x y is) ∙ t
 
       ignored_covers : (new : Holding) → Stays jobs id old holds new → Covers jobs id old (Act.deliver frame) new []
       ignored_covers new stays = record {
@@ -156,7 +156,7 @@ module _ (jobs : Jobs) (are : AreJobs jobs) (id : ℕ) (old : Holding) (holds : 
 
   deliver_paid : (frame : Frame) → IsPaid (Act.deliver frame) (done_as (does jobs id old (Act.deliver frame)).reply (settled jobs id (does jobs id old (Act.deliver frame)).left))
   unfolding does
-  deliver_paid frame = taken_paid frame (is_taken jobs id frame) refl
+  deliver_paid frame = taken_paid frame (is_taken jobs id old.table frame) refl
 
   act_paid : (a : Act) → IsPaid a (acts jobs id old a)
   act_paid (Act.request (Request.enter p list collect)) = called_paid (Request.enter p list collect) refl

@@ -132,7 +132,7 @@ module _ (jobs : Jobs) (id : ℕ) (h : Holding) where
   unfolding does
   does_gain (Act.request r) = request_gains r
   does_gain (Act.commit by b) = record { near = covers_joined h.near _; far = covers_joined h.far _ }
-  does_gain (Act.deliver frame) = deliver_gains frame (is_taken jobs id frame)
+  does_gain (Act.deliver frame) = deliver_gains frame (is_taken jobs id h.table frame)
 
 pub act_gains : (jobs : Jobs) (id : ℕ) (h : Holding) (a : Act) → Gains h (acts jobs id h a).left
 act_gains jobs id h a = elim (by_causes (cause jobs id h a) (does jobs id h a)) [

@@ -30,12 +30,11 @@ use Rattle.pmg_frame.specs.Fences.{participants_of}
 use Rattle.pmg_frame.specs.Refreshing.{told_by}
 use Rattle.pmg_frame.specs.declared.frame.Frame.{Frame}
 use Rattle.pmg_frame.specs.declared.frame.Frame.TheVariants as frames
-use Rattle.pmg_fence.specs.Changes.{next_name, fence_entered, fence_told, ended_by, entered_by}
+use Rattle.pmg_fence.specs.Changes.{learned, next_name, fence_told, with_header, ended_by, entered_by}
 use Rattle.pmg_fence.specs.Entering.{same_proc}
-use Rattle.pmg_frame.specs.FenceOrder.{signature_cmp}
-use Rattle.pmg_fence.specs.Tables.{Series, count_of, series_at, fence_at, has_name, no_fences, no_series}
+use Rattle.pmg_fence.specs.Tables.{fence_at, has_name, is_old}
 use Rattle.pmg_fence.proofs.EntryLemmas.{proc_itself}
-use Rattle.pmg_fence.proofs.NewsLemmas.{name_there}
+use Rattle.pmg_fence.proofs.StepLemmas.{no_names}
 use Rattle.pmg_get.specs.Gets.{Outcome, Seen, resolve, found_or}
 use Rattle.pmg_get.specs.declared.view.Mode.{Mode}
 use Rattle.pmg_get.specs.declared.view.Mode.TheVariants as modes
@@ -48,8 +47,9 @@ use Rattle.pmg_jobinfo.proofs.RuleLemmas.{each_is_member}
 use Rattle.pmg_rules.specs.Acts.{also, caller_cause, busy_cause, Request, Act, Reply, done_as, cause, request_cause, list_of, list_cause, signature_of, signature_cause, free_cause, target_cause, number_cause, is_misnamed, is_peer, is_concerned, is_taken, serves, does, acts, leaves, takes, waits_as, requests_after, asks, enters_fence, receives, holds_unless}
 use Rattle.pmg_rules.specs.Holdings.{settled_by, sealer_in, Get, Standing, Holding, new_holding, sealer_of, call_of, answer_in, seen_of, with_far, with_table, with_requests, uncalled, joined, settled, sealing}
 use Rattle.pmg_rules.specs.Kept.{IsOwn, IsSettled, Holds, IsServer, ServerStays, NewIsServer}
+use Rattle.pmg_rules.proofs.Forgetting.{ended_names, known_names, entry_names, entry_named}
 use Rattle.pmg_rules.proofs.KeptBasics.{host_is, IsFree, act_cases, bad, unknown, foreign, outside, caller_is, is_member_by}
-use Rattle.pmg_rules.proofs.KeptChanges.{settled_some, settle_fence, settle_parked, settled_holds, called_holds, uncalled_holds, requests_holds, reply_holds, far_holds, table_holds, sealing_holds, asked_holds, placed_holds}
+use Rattle.pmg_rules.proofs.KeptChanges.{settled_some, settle_fence, settle_parked, settled_holds, called_holds, uncalled_holds, requests_holds, reply_holds, far_holds, names_hold, sealing_holds, asked_holds}
 use Rattle.pmg_rules.proofs.Lasting.{act_counts, released_lasts, new_counts}
 use Rattle.pmg_rules.proofs.Reading.{answered_have}
 
@@ -161,12 +161,12 @@ module _ (jobs : Jobs) (id : ℕ) (h : Holding) (holds : Holds jobs id h) where
   enter_holds : (p : Proc) (g : Signature) → IsEntry jobs id p g → Holds jobs id (enters_fence h p g).left
   enter_holds p g entry =
       let f = next_name h.table g p in
-      let fence = fence_entered (fence_at h.table f) p (sealer_of h p).level in
-      let counts = finite.insert (series_at h.table g).counts p (suc (count_of h.table g p)) in
-      called_holds jobs id (with_table h (entered_by h.table g p (sealer_of h p).level)) (placed_holds jobs id h holds f fence counts (entry_concerned jobs id p f entry)) p (Standing.in_fence f) entry.own
-      (λ get is. absurd (not_get f get is)) (λ get number is. absurd (not_anew f get number is))
+      let t = entered_by h.table g p (sealer_of h p).level in
+      called_holds jobs id (with_table h t)
+      (names_hold jobs id h holds t (entry_names (λ x. is_concerned jobs id x ≡ true) h.table g p (sealer_of h p).level (entry_concerned jobs id p f entry)))
+      p (Standing.in_fence f) entry.own (λ get is. absurd (not_get f get is)) (λ get number is. absurd (not_anew f get number is))
       (λ x is. let same = one_name f x is in (
-        ap (has_name (entered_by h.table g p (sealer_of h p).level)) (sym same) ∙ name_there h.table f fence counts,
+        λ young. ap (has_name t) (sym same) ∙ entry_named h.table g p (sealer_of h p).level (ap (is_old t) same ∙ young),
         ap (λ (y : FenceName). set.contains y.signature.participants p) (sym same) ∙ entry.part,
       ))
     where
@@ -209,11 +209,11 @@ module _ (jobs : Jobs) (id : ℕ) (h : Holding) (holds : Holds jobs id h) where
   ask_holds p get mode Outcome.outside own target = holds
 
   end_holds : (p : Proc) → Holds jobs id (uncalled (with_table (sealing h p (ended_with (sealer_of h p))) (ended_by h.table p (ended_with (sealer_of h p)).level)) p)
-  unfolding has_name series_at
   end_holds p =
       let z = ended_with (sealer_of h p) in
-      uncalled_holds jobs id (with_table (sealing h p z) (ended_by h.table p z.level))
-      (table_holds jobs id (sealing h p z) (sealing_holds jobs id h holds p z (holds.sealers p)) (ended_by h.table p z.level) (λ f e. holds.names f e) (λ f e. e)) p
+      let t = ended_by h.table p z.level in
+      uncalled_holds jobs id (with_table (sealing h p z) t)
+      (names_hold jobs id (sealing h p z) (sealing_holds jobs id h holds p z (holds.sealers p)) t (ended_names (λ x. is_concerned jobs id x ≡ true) h.table p z.level)) p
 
   change_holds : (name bytes : List ℕ) → Holds jobs id (sealing h host (changed h.sets name bytes))
   unfolding sealer_in
@@ -240,11 +240,14 @@ module _ (jobs : Jobs) (id : ℕ) (h : Holding) (holds : Holds jobs id h) where
   unless_holds true node p level e home peer = holds
   unless_holds false node p level e home peer = asked_holds jobs id h holds node p level home peer (ltb-false level (sealer_of h p).level e)
 
-  pub receive_holds : (frame : Frame) → is_taken jobs id frame ≡ true → Holds jobs id (receives jobs id h frame)
+  pub receive_holds : (frame : Frame) → is_taken jobs id h.table frame ≡ true → Holds jobs id (receives jobs id h frame)
   unfolding receives is_taken
   receive_holds (frames.Piece c) taken = far_holds jobs id h holds _
-  receive_holds (frames.Header hd) taken = placed_holds jobs id h holds hd.name (fence_told (fence_at h.table hd.name) hd.node hd.locals) (series_at h.table hd.name.signature).counts (and_parts _ _ (and_parts _ _ taken).0).1
-  receive_holds (frames.FenceAsk a) taken = placed_holds jobs id h holds a.name (fence_at h.table a.name) (series_at h.table a.name.signature).counts (and_parts _ _ taken).1
+  receive_holds (frames.Header hd) taken =
+      names_hold jobs id h holds (with_header h.table hd)
+      (known_names (λ x. is_concerned jobs id x ≡ true) h.table hd.name (fence_told (fence_at h.table hd.name) hd.node hd.locals) (and_parts _ _ (and_parts _ _ (and_parts _ _ taken).0).0).1)
+  receive_holds (frames.FenceAsk a) taken =
+      names_hold jobs id h holds (learned h.table a.name) (known_names (λ x. is_concerned jobs id x ≡ true) h.table a.name (fence_at h.table a.name) (and_parts _ _ (and_parts _ _ taken).0).1)
   receive_holds (frames.RangeAsk a) taken = holds
   receive_holds (frames.DirectAsk a) taken =
       unless_holds (nat_lt a.level (sealer_of h a.proc).level) a.node a.proc a.level refl (eqb-true (home_of jobs a.proc) id (and_parts _ _ taken).1) (and_parts _ _ (and_parts _ _ taken).0).0
@@ -253,7 +256,7 @@ module _ (jobs : Jobs) (id : ℕ) (h : Holding) (holds : Holds jobs id h) where
       let told = joined h.far (told_by r) in
       reply_holds jobs id (with_far h told) (far_holds jobs id h holds told) r.request r.told.proc
 
-  deliver_by : (frame : Frame) (b : Bool) → is_taken jobs id frame ≡ b → Holds jobs id (if b then done_as Reply.taken (receives jobs id h frame) else done_as Reply.ignored h).left
+  deliver_by : (frame : Frame) (b : Bool) → is_taken jobs id h.table frame ≡ b → Holds jobs id (if b then done_as Reply.taken (receives jobs id h frame) else done_as Reply.ignored h).left
   deliver_by frame true taken = receive_holds frame taken
   deliver_by frame false ignored = holds
 
@@ -261,7 +264,7 @@ module _ (jobs : Jobs) (id : ℕ) (h : Holding) (holds : Holds jobs id h) where
   unfolding does
   do_holds (Act.request r) free = serve_holds r free
   do_holds (Act.commit p b) free = sealing_holds jobs id h holds p (sealed_with (sealer_of h p) b) (holds.sealers p)
-  do_holds (Act.deliver frame) free = deliver_by frame (is_taken jobs id frame) refl
+  do_holds (Act.deliver frame) free = deliver_by frame (is_taken jobs id h.table frame) refl
 
 -- ---- any act
 
@@ -316,12 +319,6 @@ no_held : (jobs : Jobs) (id : ℕ) (p : Proc) (node level : ℕ) → held_at (ne
 no_held jobs id p node level e =
     let none = sym (finite.get-empty nat_cmp node) ∙ ap (λ (o : Option NodeLevels). finite.get (unwrap_or o finite.empty) node) (sym (finite.get-empty proc_cmp p)) ∙ e in cc
 
-no_name : (f : FenceName) → has_name no_fences f ≡ false
-unfolding has_name series_at
-no_name f =
-    ap (λ (o : Option Series). is_some (finite.get (unwrap_or o no_series).fences f.instance)) (finite.get-empty signature_cmp f.signature)
-    ∙ ap is_some (finite.get-empty nat_cmp f.instance)
-
 pub new_is_server : NewIsServer
 unfolding sealer_in
 new_is_server jobs id = record {
@@ -337,13 +334,14 @@ new_is_server jobs id = record {
     homes = λ p node level e. absurd (no_held jobs id p node level e);
     askers = λ p node level e. absurd (no_held jobs id p node level e);
     levels = λ p node level e. absurd (no_held jobs id p node level e);
-    names = λ f e. absurd (false≢true (sym (no_name f) ∙ e));
-    there = λ p f e. absurd (no_call jobs id p (Standing.in_fence f) e);
+    names = λ f e. absurd (false≢true (sym (no_names f) ∙ e));
+    two = λ f e. absurd (false≢true (sym (no_names f) ∙ e));
+    there = λ p f e young. absurd (no_call jobs id p (Standing.in_fence f) e);
     parts = λ p f e. absurd (no_call jobs id p (Standing.in_fence f) e);
   };
   counted = new_counts jobs id;
   released = record {
-    released = λ p f gone e. absurd (no_call jobs id p (Standing.released f gone) e);
+    released = λ p f gone e young. absurd (no_call jobs id p (Standing.released f gone) e);
     waits = λ p f e. absurd (no_call jobs id p (Standing.in_fence f) e);
   };
   answered = λ p get outcome e parks. no_call jobs id p (Standing.answered get outcome) e;

@@ -16,13 +16,11 @@ use Rattle.pmg_value.proofs.RowLemmas.{get-map_of}
 use Rattle.pmg_commit.specs.Data.{Data}
 use Rattle.pmg_commit.specs.Sealed.{Sealed, fresh}
 use Rattle.pmg_fence.specs.Entering.{same_proc}
-use Rattle.pmg_fence.specs.Tables.{Numbers, Fence, Fences, has_name}
-use Rattle.pmg_fence.specs.Changes.{placed}
+use Rattle.pmg_fence.specs.Tables.{Fences, has_name, is_old}
 use Rattle.pmg_fence.proofs.EntryLemmas.{proc_itself}
 use Rattle.pmg_fence.proofs.Trees.{get_put}
 use Rattle.pmg_fence.proofs.IndexLemmas.{each_row}
 use Rattle.pmg_fence.proofs.HeaderLemmas.{by_proc, filter_in}
-use Rattle.pmg_fence.proofs.TableLemmas.{same_name, name_exact, name-placed}
 use Rattle.pmg_dmodex.specs.Levels.{Levels, NodeLevels, levels_of, level_at as held_at, with_level, without_below, not_below}
 use Rattle.pmg_dmodex.specs.Requests.{least}
 use Rattle.pmg_get.specs.Gets.{Outcome}
@@ -31,6 +29,7 @@ use Rattle.pmg_jobinfo.specs.Jobs.{Jobs, is_member, home_of}
 use Rattle.pmg_rules.specs.Acts.{is_peer, is_concerned}
 use Rattle.pmg_rules.specs.Holdings.{Get, Standing, Holding, sealer_in, sealer_of, call_of, is_ready_at, with_far, with_table, with_requests, called, uncalled, sealing, holding_ask, settled_by, released_by, answer_in, settle, settled, is_replied, answer_reply, with_reply}
 use Rattle.pmg_rules.specs.Kept.{IsOwn, Holds}
+use Rattle.pmg_rules.proofs.Forgetting.{NamesAfter, young_before}
 use Rattle.pmg_rules.proofs.KeptBasics.{lookup_row, put_cases, removed_some, put_other, get-mapped, mapped_some, host_is}
 
 -- ---- what is settled
@@ -246,6 +245,7 @@ module _ (jobs : Jobs) (id : ℕ) (h : Holding) (holds : Holds jobs id h) where
     askers = holds.askers;
     levels = holds.levels;
     names = holds.names;
+    two = holds.two;
     there = λ p f e. let was = settled_some jobs id h p (Standing.in_fence f) e in holds.there p f (was.1 ∙ ap Some (settle_fence jobs id h was.0 f was.2).0);
     parts = λ p f e. let was = settled_some jobs id h p (Standing.in_fence f) e in holds.parts p f (was.1 ∙ ap Some (settle_fence jobs id h was.0 f was.2).0);
   }
@@ -253,7 +253,7 @@ module _ (jobs : Jobs) (id : ℕ) (h : Holding) (holds : Holds jobs id h) where
   -- a process comes to be in a call
   pub called_holds : (p : Proc) (s : Standing) → IsOwn jobs id p → ((get : Get) → s ≡ Standing.parked get → is_member jobs get.target ≡ true)
       → ((get : Get) (number : ℕ) → s ≡ Standing.refreshing get number → (is_member jobs get.target ≡ true) × (number ≤ h.requests))
-      → ((f : FenceName) → s ≡ Standing.in_fence f → (has_name h.table f ≡ true) × (set.contains f.signature.participants p ≡ true)) → Holds jobs id (called h p s)
+      → ((f : FenceName) → s ≡ Standing.in_fence f → (is_old h.table f ≡ false → has_name h.table f ≡ true) × (set.contains f.signature.participants p ≡ true)) → Holds jobs id (called h p s)
   called_holds p s own target anew fence = record {
     sealers = holds.sealers;
     callers = λ q t e. put_cases h.calls p q s t e (λ same is. subst (IsOwn jobs id) (sym same) own) (holds.callers q t);
@@ -263,6 +263,7 @@ module _ (jobs : Jobs) (id : ℕ) (h : Holding) (holds : Holds jobs id h) where
     askers = holds.askers;
     levels = holds.levels;
     names = holds.names;
+    two = holds.two;
     there = λ q f e. put_cases h.calls p q s (Standing.in_fence f) e (λ same is. (fence f is).0) (holds.there q f);
     parts = λ q f e. put_cases h.calls p q s (Standing.in_fence f) e (λ same is. subst (λ x. set.contains f.signature.participants x ≡ true) (sym same) (fence f is).1) (holds.parts q f);
   }
@@ -278,6 +279,7 @@ module _ (jobs : Jobs) (id : ℕ) (h : Holding) (holds : Holds jobs id h) where
     askers = holds.askers;
     levels = holds.levels;
     names = holds.names;
+    two = holds.two;
     there = λ q f e. holds.there q f (removed_some h.calls p q (Standing.in_fence f) e);
     parts = λ q f e. holds.parts q f (removed_some h.calls p q (Standing.in_fence f) e);
   }
@@ -293,6 +295,7 @@ module _ (jobs : Jobs) (id : ℕ) (h : Holding) (holds : Holds jobs id h) where
     askers = holds.askers;
     levels = holds.levels;
     names = holds.names;
+    two = holds.two;
     there = holds.there;
     parts = holds.parts;
   }
@@ -312,6 +315,7 @@ module _ (jobs : Jobs) (id : ℕ) (h : Holding) (holds : Holds jobs id h) where
     askers = holds.askers;
     levels = holds.levels;
     names = holds.names;
+    two = holds.two;
     there = λ p f e.
         let was = replied_some jobs id h number q p (Standing.in_fence f) e in
         holds.there p f (was.1 ∙ ap Some (reply_in_fence jobs id h number q was.0 f was.2));
@@ -331,14 +335,14 @@ module _ (jobs : Jobs) (id : ℕ) (h : Holding) (holds : Holds jobs id h) where
     askers = holds.askers;
     levels = holds.levels;
     names = holds.names;
+    two = holds.two;
     there = holds.there;
     parts = holds.parts;
   }
 
-  -- a name comes, of a fence of the group and of the node
-  pub table_holds : (t : Fences) → ((f : FenceName) → has_name t f ≡ true → is_concerned jobs id f ≡ true) → ((f : FenceName) → has_name h.table f ≡ true → has_name t f ≡ true)
-      → Holds jobs id (with_table h t)
-  table_holds t concerned more = record {
+  -- a name comes, of a fence of the group and of the node, and what it made old is forgotten
+  pub names_hold : (t : Fences) → NamesAfter (λ f. is_concerned jobs id f ≡ true) h.table t → Holds jobs id (with_table h t)
+  names_hold t after = record {
     sealers = holds.sealers;
     callers = holds.callers;
     targets = holds.targets;
@@ -346,8 +350,9 @@ module _ (jobs : Jobs) (id : ℕ) (h : Holding) (holds : Holds jobs id h) where
     homes = holds.homes;
     askers = holds.askers;
     levels = holds.levels;
-    names = concerned;
-    there = λ p f e. more f (holds.there p f e);
+    names = λ f has. elim (after.names f has) [ inl was ↦ holds.names f was | inr concerned ↦ concerned ];
+    two = after.two holds.two;
+    there = λ p f e young. after.kept f (holds.there p f e (young_before (λ x. is_concerned jobs id x ≡ true) h.table t after f young)) young;
     parts = holds.parts;
   }
 
@@ -368,6 +373,7 @@ module _ (jobs : Jobs) (id : ℕ) (h : Holding) (holds : Holds jobs id h) where
         (λ same. subst (λ (y : Sealed). y.level ≤ n) (sym (ap (sealer_of (sealing h p z)) same ∙ sealer_there h p z)) (was.1 same))
         (λ other. subst (λ (y : Sealed). y.level ≤ n) (sym (sealer_other h p z q other)) (holds.levels q node n was.0));
     names = holds.names;
+    two = holds.two;
     there = holds.there;
     parts = holds.parts;
   }
@@ -387,6 +393,7 @@ module _ (jobs : Jobs) (id : ℕ) (h : Holding) (holds : Holds jobs id h) where
             (λ same at is. subst (λ x. (sealer_of h x).level ≤ n) (sym same) (subst (λ k. (sealer_of h p).level ≤ k) is (least_level (held_at h.held p node) (holds.levels p node) refl)))
             (holds.levels q other n);
         names = holds.names;
+        two = holds.two;
         there = holds.there;
         parts = holds.parts;
       }
@@ -398,19 +405,3 @@ module _ (jobs : Jobs) (id : ℕ) (h : Holding) (holds : Holds jobs id h) where
       least_level : (o : Option ℕ) → ((m : ℕ) → o ≡ Some m → (sealer_of h p).level ≤ m) → o ≡ o → (sealer_of h p).level ≤ least o level
       least_level None each is = known
       least_level (Some m) each is = least_by (nat_le m level) m level (sealer_of h p).level (each m refl) known
-
--- a fence has changed, one of the group and of the node
-pub placed_holds : (jobs : Jobs) (id : ℕ) (h : Holding) → Holds jobs id h → (f : FenceName) (fence : Fence) (counts : Numbers) → is_concerned jobs id f ≡ true
-    → Holds jobs id (with_table h (placed h.table f fence counts))
-placed_holds jobs id h holds f fence counts concerned =
-    table_holds jobs id h holds (placed h.table f fence counts)
-    (λ x e. by_name x (same_name x f) refl (sym (name-placed h.table f fence counts x) ∙ e))
-    (λ x e. name-placed h.table f fence counts x ∙ more (same_name x f) (has_name h.table x) e)
-  where
-    by_name : (x : FenceName) (b : Bool) → same_name x f ≡ b → cond b true (has_name h.table x) ≡ true → is_concerned jobs id x ≡ true
-    by_name x true t e = ap (is_concerned jobs id) (name_exact x f t) ∙ concerned
-    by_name x false t e = holds.names x e
-
-    more : (b c : Bool) → c ≡ true → cond b true c ≡ true
-    more true c e = refl
-    more false c e = e

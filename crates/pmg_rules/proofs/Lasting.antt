@@ -15,13 +15,14 @@ use Rattle.pmg_pset.specs.Sets.{host, changed}
 use Rattle.pmg_frame.specs.declared.frame.Frame.{Frame}
 use Rattle.pmg_frame.specs.declared.frame.Frame.TheVariants as frames
 use Rattle.pmg_jobinfo.specs.Jobs.{Jobs}
-use Rattle.pmg_fence.specs.Changes.{placed, next_name, entered_by, ended_by, fence_entered, fence_told}
+use Rattle.pmg_fence.specs.Changes.{placed, with_counts, forgotten, with_fence, next_name, noted_entry, entered_by, ended_by, fence_entered, fence_told}
 use Rattle.pmg_fence.specs.Entering.{same_signature}
 use Rattle.pmg_fence.specs.Rules.{Keeps}
-use Rattle.pmg_fence.specs.Tables.{Numbers, Fence, Fences, no_fences, series_at, fence_at, count_of}
+use Rattle.pmg_fence.specs.Tables.{Numbers, Fence, Fences, no_fences, is_old, series_at, fence_at, count_of}
 use Rattle.pmg_fence.proofs.FitLemmas.{ready_stays, gone_stay}
 use Rattle.pmg_fence.proofs.HeaderLemmas.{by_proc}
 use Rattle.pmg_fence.proofs.KeepLemmas.{learn_keeps, header_keeps, enter_lasts, end_lasts}
+use Rattle.pmg_fence.proofs.OldLemmas.{fence-counts, count-counts, ends-counts, count-forgotten, ends-forgotten, level_was}
 use Rattle.pmg_fence.proofs.StepLemmas.{count_is, new_fence}
 use Rattle.pmg_fence.proofs.TableLemmas.{same_instance, signature_exact, fence-placed, count-placed, ends-placed}
 use Rattle.pmg_fence.proofs.Trees.{get_put}
@@ -35,6 +36,7 @@ use Rattle.pmg_rules.proofs.CauseFacts.{NoCause, IsCaller, caller_is, free_is, n
 use Rattle.pmg_rules.proofs.Growing.{act_gains}
 use Rattle.pmg_rules.proofs.KeptBasics.{put_cases, put_other}
 use Rattle.pmg_rules.proofs.KeptChanges.{sealer_there, sealer_other}
+use Rattle.pmg_rules.proofs.Names.{young_still}
 
 -- ---- a header that is there stays as it is, where an entry and an end leave it so
 
@@ -49,7 +51,7 @@ module _
   KeepsIn t = Keeps jobs node h.table t f
 
   same_kept : KeepsIn h.table
-  same_kept other ls is = is
+  same_kept young other ls is = is
 
   leave_keeps : (by : Proc) (c : Option Standing) → KeepsIn (leaves h by c).left.table
   leave_keeps by (Some (Standing.in_fence x)) = same_kept
@@ -110,12 +112,34 @@ module _
   unfolding cause does
   does_keep (Act.request r) none = request_keeps r none
   does_keep (Act.commit by b) none = same_kept
-  does_keep (Act.deliver frame) none = deliver_keeps frame (is_taken jobs node frame)
+  does_keep (Act.deliver frame) none = deliver_keeps frame (is_taken jobs node h.table frame)
 
   pub headers_last : (a : Act) → KeepsIn (acts jobs node h a).left.table
   headers_last a = after_act jobs node h a (λ g. KeepsIn g.table) same_kept (λ none. does_keep a none)
 
 -- ---- a table counts the entries of own processes, and knows of their ends alone
+
+-- what is forgotten was counted
+forgotten_counts : (h : Holding) (t : Fences) (g : Signature) → IsCounted (with_table h t) → IsCounted (with_table h (forgotten t g))
+forgotten_counts h t g counted = record {
+  entered = λ x q level e. subst (λ n. x.instance ≤ n) (sym (count-forgotten t g x.signature q)) (counted.entered x q level (level_was t g x q level e));
+  ended = λ q level e. counted.ended q level (ap (λ (m : Numbers). finite.get m q) (sym (ends-forgotten t g)) ∙ e);
+}
+
+-- where counts of one signature have not fallen, and nothing else changed
+more_counts : (h : Holding) → IsCounted h → (g : Signature) (counts : Numbers) → ((q : Proc) → count_of h.table g q ≤ unwrap_or (finite.get counts q) 0)
+    → IsCounted (with_table h (with_counts h.table g counts))
+more_counts h counted g counts more = record {
+  entered = λ x q level e.
+      let within = counted.entered x q level (ap (λ (y : Fence). finite.get y.levels q) (sym (fence-counts h.table g counts x)) ∙ e) in
+      subst (λ n. x.instance ≤ n) (sym (count-counts h.table g counts x.signature q)) (still x q (same_signature x.signature g) refl within);
+  ended = λ q level e. counted.ended q level (ap (λ (m : Numbers). finite.get m q) (sym (ends-counts h.table g counts)) ∙ e);
+}
+  where
+    still : (x : FenceName) (q : Proc) (b : Bool) → same_signature x.signature g ≡ b → x.instance ≤ count_of h.table x.signature q
+        → x.instance ≤ cond b (unwrap_or (finite.get counts q) 0) (count_of h.table x.signature q)
+    still x q true same within = let is = ap (λ y. count_of h.table y q) (signature_exact x.signature g same) in omega (arith, within, is, more q)
+    still x q false other within = within
 
 module _
     (h : Holding)
@@ -147,12 +171,19 @@ module _
 
 module _ (jobs : Jobs) (id : ℕ) (h : Holding) (counted : IsCounted h) where
   -- a name or a header comes
-  known_counts : (f : FenceName) (fence : Fence) → fence.levels ≡ (fence_at h.table f).levels → IsCounted (with_table h (placed h.table f fence (series_at h.table f.signature).counts))
-  known_counts f fence same =
-      placed_counts h counted f fence (series_at h.table f.signature).counts (λ q. omega (arith, count_is h.table f.signature q))
-      (λ q level e.
-      let within = counted.entered f q level (ap (λ (m : Numbers). finite.get m q) (sym same) ∙ e) in
-      omega (arith, within, count_is h.table f.signature q))
+  known_counts : (f : FenceName) (fence : Fence) → fence.levels ≡ (fence_at h.table f).levels → IsCounted (with_table h (with_fence h.table f fence))
+  known_counts f fence same = by_old (is_old h.table f)
+    where
+      counts : Numbers
+      counts = (series_at h.table f.signature).counts
+
+      by_old : (b : Bool) → IsCounted (with_table h (cond b h.table (forgotten (placed h.table f fence (series_at h.table f.signature).counts) f.signature)))
+      by_old true = record { entered = counted.entered; ended = counted.ended }
+      by_old false =
+          forgotten_counts h (placed h.table f fence counts) f.signature
+          (placed_counts h counted f fence counts (λ q. omega (arith, count_is h.table f.signature q)) (λ q level e.
+          let within = counted.entered f q level (ap (λ (m : Numbers). finite.get m q) (sym same) ∙ e) in
+          omega (arith, within, count_is h.table f.signature q)))
 
   -- ---- an entry
   module _ (p : Proc) (g : Signature) where
@@ -182,10 +213,16 @@ module _ (jobs : Jobs) (id : ℕ) (h : Holding) (counted : IsCounted h) where
         let within : suc (count_of h.table g p) ≤ count_of h.table g q = counted.entered (next_name h.table g p) q level there in
         omega (arith, within, no_fewer q))
 
+    noted_counts : IsCounted (with_table h (noted_entry h.table g p (sealer_of h p).level))
+    noted_counts = by_old (is_old h.table (next_name h.table g p))
+      where
+        by_old : (b : Bool) → IsCounted (with_table h (cond b (with_counts h.table g its_counts) (placed h.table (next_name h.table g p) (fence_entered (fence_at h.table (next_name h.table g p)) p (sealer_of h p).level) its_counts)))
+        by_old true = more_counts h counted g its_counts no_fewer
+        by_old false = placed_counts h counted (next_name h.table g p) (fence_entered (fence_at h.table (next_name h.table g p)) p (sealer_of h p).level) its_counts no_fewer entry_within
+
     enter_counts : IsCounted (enters_fence h p g).left
     enter_counts =
-        let made =
-        placed_counts h counted (next_name h.table g p) (fence_entered (fence_at h.table (next_name h.table g p)) p (sealer_of h p).level) its_counts no_fewer entry_within in
+        let made = forgotten_counts h (noted_entry h.table g p (sealer_of h p).level) g noted_counts in
         record { entered = made.entered; ended = made.ended }
 
   -- ---- a commit
@@ -274,12 +311,12 @@ module _ (jobs : Jobs) (id : ℕ) (h : Holding) (counted : IsCounted h) where
   unfolding does
   does_count (Act.request r) = request_counts r
   does_count (Act.commit by b) = sealing_counts by (sealed_with (sealer_of h by) b) (λ e. e)
-  does_count (Act.deliver frame) = deliver_counts frame (is_taken jobs id frame)
+  does_count (Act.deliver frame) = deliver_counts frame (is_taken jobs id h.table frame)
 
   pub act_counts : (a : Act) → IsCounted (acts jobs id h a).left
   act_counts a = after_act jobs id h a IsCounted counted (λ none. let done = does_count a in record { entered = done.entered; ended = done.ended })
 
-  -- ---- a fence that is ready stays so
+  -- ---- a fence that is ready stays so while it is not old
   not_ended : (p : Proc) → IsCaller jobs id h p → finite.get h.table.ends p ≡ None
   not_ended p caller = by_end (finite.get h.table.ends p) refl
     where
@@ -306,11 +343,11 @@ module _ (jobs : Jobs) (id : ℕ) (h : Holding) (counted : IsCounted h) where
       let new : Holding = (acts jobs id h a).left in
       let gains = act_gains jobs id h a in
       record {
-        released = λ p f gone e. elim (freed_by_ready jobs id h a p f gone e) [
+        released = λ p f gone e young. elim (freed_by_ready jobs id h a p f gone e) [
           | inl was ↦
-              let old = before.released p f gone was in (
-                ready_stays jobs id h.table new.table f (level_at h.far) (level_at new.far) (headers_stay f a) gains.far.levels old.0,
-                old.1 ∙ gone_stay jobs id h.table new.table f (level_at h.far) (headers_stay f a) old.0,
+              let old = before.released p f gone was (young_still jobs id h a f young) in (
+                ready_stays jobs id h.table new.table f (level_at h.far) (level_at new.far) (headers_stay f a) young gains.far.levels old.0,
+                old.1 ∙ gone_stay jobs id h.table new.table f (level_at h.far) (headers_stay f a) young old.0,
               )
           | inr now ↦ now
         ];

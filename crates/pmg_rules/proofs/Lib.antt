@@ -1,5 +1,6 @@
 pub mod KeptBasics
 pub mod KeptChanges
+pub mod Forgetting
 pub mod KeptActs
 pub mod CauseFacts
 pub mod CallFacts
@@ -13,6 +14,7 @@ pub mod Settling
 pub mod Growing
 pub mod AfterActs
 pub mod Reading
+pub mod Names
 pub mod Lasting
 pub mod Releasing
 pub mod Asking
@@ -21,6 +23,7 @@ pub mod SendingOwed
 pub mod ChoosingAllowed
 pub mod ChoosingActs
 pub mod ChoosingNews
+pub mod LearnedAgain
 pub mod ChoosingCovers
 pub mod ChoosingOwed
 pub mod KeptAgain

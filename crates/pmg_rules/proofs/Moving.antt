@@ -143,4 +143,4 @@ module _ (jobs : Jobs) (id : ℕ) (h : Holding) (p : Proc) where
   unfolding cause does
   does_call (Act.request r) none = request_move r none
   does_call (Act.commit by b) none = inl refl
-  does_call (Act.deliver frame) none = deliver_move frame (is_taken jobs id frame)
+  does_call (Act.deliver frame) none = deliver_move frame (is_taken jobs id h.table frame)

@@ -1,4 +1,4 @@
--- A process in a fence is released exactly where the fence is ready.
+-- A process in a fence that is not old is released exactly where the fence is ready.
 use Rattle.std.proofs.Common.{◌≡◌, ℕ, true, false, Some, inl, inr, sym, ap, subst, ◌∙◌}
 use Rattle.pmg_value.specs.Lists.{In}
 use Rattle.pmg_value.specs.Signatures.{Signature, FenceName}
@@ -28,6 +28,7 @@ use Rattle.pmg_rules.proofs.Growing.{act_rises}
 use Rattle.pmg_rules.proofs.Reading.{grows_unless}
 use Rattle.pmg_rules.proofs.AfterActs.{ready_frees, freed_by_ready}
 use Rattle.pmg_rules.proofs.Lasting.{headers_last}
+use Rattle.pmg_rules.proofs.Names.{young_still}
 
 -- ---- entries and the gone, as scripts grow
 
@@ -68,11 +69,11 @@ released_where_ready jobs are scripts node h fits hosts a fit before =
     let after = acts_fit jobs are scripts node h fits hosts a fit in
     let rises = act_rises jobs node h a in
     record {
-      released = λ p f gone e. elim (freed_by_ready jobs node h a p f gone e) [
+      released = λ p f gone e young. elim (freed_by_ready jobs node h a p f gone e) [
         | inl was ↦
-            let old = before.released p f gone was in
+            let old = before.released p f gone was (young_still jobs node h a f young) in
             let ready : is_ready_at jobs node new f ≡ true =
-            ready_stays jobs node h.table new.table f (level_at h.far) (level_at new.far) (act_keeps jobs scripts node h fits f a) rises.far old.0 in
+            ready_stays jobs node h.table new.table f (level_at h.far) (level_at new.far) (act_keeps jobs scripts node h fits f a) young rises.far old.0 in
             let whole : (q : Proc) → In q (participants_of f) → (e : Entry) × (entry (scripts q) f ≡ Some e) = λ q i.
             let its = ready_is_whole jobs node scripts h.table f (level_at h.far) fits.table old.0 q i in
             (its.0, its.1) in (

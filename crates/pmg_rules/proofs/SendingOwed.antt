@@ -47,11 +47,11 @@ pub record Covers (jobs : Jobs) (id : ℕ) (old : Holding) (a : Act) (new : Hold
       → (d : Due) → In d (announcing jobs id (header id f locals)) → In d dues
   pub pieces : (p : Proc) (node level : ℕ) → held_at old.held p node ≡ Some level → level < (sealer_of new p).level → In (piece_due new p node level) dues
   pub gets : (p : Proc) (s : Standing) → call_of old p ≡ None → call_of new p ≡ Some s → (d : Due) → In d (asking_for jobs id new (Some s)) → In d dues
-  pub asked_header : (ask : FenceAsk) (locals : List Local) → a ≡ Act.deliver (frames.FenceAsk ask) → is_taken jobs id (frames.FenceAsk ask) ≡ true
+  pub asked_header : (ask : FenceAsk) (locals : List Local) → a ≡ Act.deliver (frames.FenceAsk ask) → is_taken jobs id old.table (frames.FenceAsk ask) ≡ true
       → own_header_of jobs id old ask.name ≡ Some locals → In (sendings.Whole (sent ask.node (frames.Header (header id ask.name locals)))) dues
-  pub asked_piece : (ask : CommitAsk) (frame : Frame) → a ≡ Act.deliver frame → asked_by a ≡ Some ask → is_taken jobs id frame ≡ true
+  pub asked_piece : (ask : CommitAsk) (frame : Frame) → a ≡ Act.deliver frame → asked_by a ≡ Some ask → is_taken jobs id old.table frame ≡ true
       → ask.level < (sealer_of new ask.proc).level → In (piece_due new ask.proc ask.node ask.level) dues
-  pub asked_anew : (ask : RefreshAsk) → a ≡ Act.deliver (frames.RefreshAsk ask) → is_taken jobs id (frames.RefreshAsk ask) ≡ true
+  pub asked_anew : (ask : RefreshAsk) → a ≡ Act.deliver (frames.RefreshAsk ask) → is_taken jobs id old.table (frames.RefreshAsk ask) ≡ true
       → ask.ask.level ≤ (sealer_of new ask.ask.proc).level → In (sendings.Whole (sent ask.ask.node (frames.RefreshReply (reply_anew new ask)))) dues
   pub nudged : a ≡ Act.request Request.nudge → (d : Due) → In d (nudging jobs id new) → In d dues
 

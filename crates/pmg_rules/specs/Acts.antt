@@ -29,7 +29,7 @@ use Rattle.pmg_jobinfo.specs.Refusing.{expand_cause}
 use Rattle.pmg_jobinfo.specs.Reserved.{is_general}
 use Rattle.pmg_fence.specs.Changes.{learned, next_name, entered_by, ended_by, with_header}
 use Rattle.pmg_fence.specs.Entering.{same_proc, locals_of}
-use Rattle.pmg_fence.specs.Tables.{count_of}
+use Rattle.pmg_fence.specs.Tables.{Fences, is_old, count_of}
 use Rattle.pmg_get.specs.Gets.{Outcome}
 use Rattle.pmg_get.specs.declared.view.Mode.{Mode}
 use Rattle.pmg_get.specs.declared.view.Mode.TheVariants as modes
@@ -196,16 +196,16 @@ abbrev pub is_complete : Jobs → Header → Bool
 is_complete jobs hd = eq_by_cmp (slice_cmp proc_cmp) (map (λ l. l.proc) hd.locals) (locals_of jobs hd.name hd.node)
 
 -- Whether a frame is taken: it comes from another node, names processes of the group alone, is no piece of an own process,
--- asks for an own process alone, is of a fence in which the node has a participant, and replies to a request of the node itself for
--- a process of another one. Any other is ignored.
-unfoldable pub is_taken : Jobs → ℕ → Frame → Bool
-is_taken jobs id (frames.Piece c) = is_known jobs c.proc && not (home_of jobs c.proc == id)
-is_taken jobs id (frames.Header hd) = is_peer jobs id hd.node && is_concerned jobs id hd.name && is_complete jobs hd
-is_taken jobs id (frames.FenceAsk a) = is_peer jobs id a.node && is_concerned jobs id a.name
-is_taken jobs id (frames.RangeAsk a) = is_peer jobs id a.node && is_known jobs a.proc && (home_of jobs a.proc == id)
-is_taken jobs id (frames.DirectAsk a) = is_peer jobs id a.node && is_known jobs a.proc && (home_of jobs a.proc == id)
-is_taken jobs id (frames.RefreshAsk a) = is_peer jobs id a.ask.node && is_known jobs a.ask.proc && (home_of jobs a.ask.proc == id)
-is_taken jobs id (frames.RefreshReply r) = (r.node == id) && is_known jobs r.told.proc && not (home_of jobs r.told.proc == id)
+-- asks for an own process alone, is of a fence in which the node has a participant and that is not old, and replies to a request
+-- of the node itself for a process of another one. Any other is ignored.
+unfoldable pub is_taken : Jobs → ℕ → Fences → Frame → Bool
+is_taken jobs id table (frames.Piece c) = is_known jobs c.proc && not (home_of jobs c.proc == id)
+is_taken jobs id table (frames.Header hd) = is_peer jobs id hd.node && is_concerned jobs id hd.name && is_complete jobs hd && not (is_old table hd.name)
+is_taken jobs id table (frames.FenceAsk a) = is_peer jobs id a.node && is_concerned jobs id a.name && not (is_old table a.name)
+is_taken jobs id table (frames.RangeAsk a) = is_peer jobs id a.node && is_known jobs a.proc && (home_of jobs a.proc == id)
+is_taken jobs id table (frames.DirectAsk a) = is_peer jobs id a.node && is_known jobs a.proc && (home_of jobs a.proc == id)
+is_taken jobs id table (frames.RefreshAsk a) = is_peer jobs id a.ask.node && is_known jobs a.ask.proc && (home_of jobs a.ask.proc == id)
+is_taken jobs id table (frames.RefreshReply r) = (r.node == id) && is_known jobs r.told.proc && not (home_of jobs r.told.proc == id)
 
 -- ---- what is replied, and what is held then
 
@@ -312,7 +312,7 @@ receives jobs id h (frames.RefreshReply r) = with_reply jobs id (with_far h (joi
 unfoldable pub does : Jobs → ℕ → Holding → Act → Done
 does jobs id h (Act.request r) = serves jobs id h r
 does jobs id h (Act.commit p b) = commits_as h p (sealed_with (sealer_of h p) b)
-does jobs id h (Act.deliver frame) = if is_taken jobs id frame then done_as Reply.taken (receives jobs id h frame) else done_as Reply.ignored h
+does jobs id h (Act.deliver frame) = if is_taken jobs id h.table frame then done_as Reply.taken (receives jobs id h frame) else done_as Reply.ignored h
 
 -- a refusal changes nothing; after any other act whoever can be released is, and each get is answered that can be
 abbrev pub over : Jobs → ℕ → Holding → Result Done Refusal → Done

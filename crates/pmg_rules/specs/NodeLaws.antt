@@ -1,18 +1,20 @@
 -- What holds of every act of a node.
-use Rattle.std.specs.Prelude.{◌≡◌, ◌⊎◌, ℕ, true, List, Some}
-use Rattle.pmg_value.specs.Signatures.{FenceName}
+use Rattle.std.specs.Prelude.{◌≡◌, ◌⊎◌, ℕ, ◌≤◌, true, false, List, Option, Some, None}
+use Rattle.pmg_value.specs.Signatures.{Signature, FenceName}
 use Rattle.pmg_value.specs.declared.process.Proc.{Proc}
 use Rattle.pmg_pset.specs.Sets.{host}
+use Rattle.pmg_frame.specs.declared.frame.Frame.TheVariants as frames
 use Rattle.pmg_jobinfo.specs.Jobs.{Jobs, AreJobs, home_of}
 use Rattle.pmg_fence.specs.Rules.{Scripts}
-use Rattle.pmg_fence.specs.Tables.{gone_by}
+use Rattle.pmg_fence.specs.Changes.{next_name}
+use Rattle.pmg_fence.specs.Tables.{has_name, is_old, fence_of, gone_by}
 use Rattle.pmg_dmodex.specs.Levels.{level_at as held_at}
 use Rattle.pmg_get.specs.Gets.{Outcome}
 use Rattle.pmg_get.specs.declared.view.Mode.TheVariants as modes
-use Rattle.pmg_rules.specs.Acts.{Request, Act, is_peer, says, acts}
+use Rattle.pmg_rules.specs.Acts.{Request, Act, signature_of, is_peer, says, acts}
 use Rattle.pmg_rules.specs.Fitting.{Fits, FitsAct, FitsHost, is_refusal, unless_refused}
 use Rattle.pmg_rules.specs.Holdings.{Get, Standing, Holding, call_of, is_ready_at, answer_in}
-use Rattle.pmg_rules.specs.Kept.{AreAnswered, AreUnready, ReleasedRight}
+use Rattle.pmg_rules.specs.Kept.{top_in, HasTwo, AreAnswered, AreUnready, ReleasedRight}
 
 -- Whatever scripts the content of a node fits: after an act it fits them with the calls added that the act says, and as they are
 -- where it was refused.
@@ -61,11 +63,45 @@ FreedStays =
     → call_of h p ≡ Some (Standing.released f gone) → (a ≡ Act.request (Request.leave p) → ⊥) → (a ≡ Act.request (Request.terminate p) → ⊥)
     → call_of (acts jobs node h a).left p ≡ Some (Standing.released f gone)
 
--- after each act a process in a fence is released exactly where the fence is ready
+-- after each act a process in a fence that is not old is released exactly where the fence is ready
 abbrev pub ReleasedWhereReady : Type 0
 ReleasedWhereReady =
     (jobs : Jobs) → AreJobs jobs → (scripts : Scripts) (node : ℕ) (h : Holding) → Fits jobs scripts node h → FitsHost (scripts host) → (a : Act) → FitsAct jobs scripts a
     → ReleasedRight jobs node h → ReleasedRight jobs node (acts jobs node h a).left
+
+-- ---- fences that are kept
+
+-- the fence that an act names: the one that a process enters next, or that of a header or of a request for headers
+abbrev pub fence_named : Jobs → Holding → Act → Option FenceName
+fence_named jobs h (Act.request (Request.enter p list collect)) = Some (next_name h.table (signature_of jobs p list collect) p)
+fence_named jobs h (Act.deliver (frames.Header hd)) = Some hd.name
+fence_named jobs h (Act.deliver (frames.FenceAsk a)) = Some a.name
+fence_named jobs h _ = None
+
+-- a name that is there after an act was there, or the act names it
+abbrev pub NamesCome : Type 0
+NamesCome =
+    (jobs : Jobs) (node : ℕ) (h : Holding) (a : Act) (f : FenceName) → has_name (acts jobs node h a).left.table f ≡ true → (has_name h.table f ≡ true) ⊎ (fence_named jobs h a ≡ Some f)
+
+-- the greatest instance of a signature is the one that it was, or the act names it
+abbrev pub TopsCome : Type 0
+TopsCome =
+    (jobs : Jobs) (node : ℕ) (h : Holding) (a : Act) (g : Signature)
+    → (top_in (acts jobs node h a).left.table g ≡ top_in h.table g) ⊎ (fence_named jobs h a ≡ Some (fence_of g (top_in (acts jobs node h a).left.table g)))
+
+-- after each act a node has no name but those of the two instances of each signature
+abbrev pub TwoStay : Type 0
+TwoStay = (jobs : Jobs) (node : ℕ) (h : Holding) (a : Act) → HasTwo h.table → HasTwo (acts jobs node h a).left.table
+
+-- a name that is there stays until its fence is old
+abbrev pub NamesStay : Type 0
+NamesStay =
+    (jobs : Jobs) (node : ℕ) (h : Holding) (a : Act) (f : FenceName) → has_name h.table f ≡ true → is_old (acts jobs node h a).left.table f ≡ false
+    → has_name (acts jobs node h a).left.table f ≡ true
+
+-- and what is old stays old, as the greatest instance never falls
+abbrev pub TopsRise : Type 0
+TopsRise = (jobs : Jobs) (node : ℕ) (h : Holding) (a : Act) (g : Signature) → top_in h.table g ≤ top_in (acts jobs node h a).left.table g
 
 -- ---- requests that wait
 

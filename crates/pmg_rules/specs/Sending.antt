@@ -74,13 +74,13 @@ pub data Owes (jobs : Jobs) (id : ℕ) (old : Holding) (a : Act) (new : Holding)
   new_header : (f : FenceName) (locals : List Local) (node : ℕ) → own_header_of jobs id new f ≡ Some locals → own_header_of jobs id old f ≡ None
       → TakesPart jobs id f node → Owes jobs id old a new (sent node (frames.Header (header id f locals)))
   -- its header, where that was there: to the node that asks for it
-  asked_header : (ask : FenceAsk) (locals : List Local) → a ≡ Act.deliver (frames.FenceAsk ask) → is_taken jobs id (frames.FenceAsk ask) ≡ true
+  asked_header : (ask : FenceAsk) (locals : List Local) → a ≡ Act.deliver (frames.FenceAsk ask) → is_taken jobs id old.table (frames.FenceAsk ask) ≡ true
       → own_header_of jobs id old ask.name ≡ Some locals → Owes jobs id old a new (sent ask.node (frames.Header (header id ask.name locals)))
   -- commits that were made: to the node that asks for them
-  asked_piece : (ask : CommitAsk) (frame : Frame) → a ≡ Act.deliver frame → asked_by a ≡ Some ask → is_taken jobs id frame ≡ true
+  asked_piece : (ask : CommitAsk) (frame : Frame) → a ≡ Act.deliver frame → asked_by a ≡ Some ask → is_taken jobs id old.table frame ≡ true
       → ask.level < (sealer_of new ask.proc).level → Owes jobs id old a new (sent ask.node (piece_from new ask.proc ask.level))
   -- to a node that asks anew, unless it names a commit that was not made: what was made since, be it nothing
-  asked_reply : (ask : RefreshAsk) → a ≡ Act.deliver (frames.RefreshAsk ask) → is_taken jobs id (frames.RefreshAsk ask) ≡ true
+  asked_reply : (ask : RefreshAsk) → a ≡ Act.deliver (frames.RefreshAsk ask) → is_taken jobs id old.table (frames.RefreshAsk ask) ≡ true
       → ask.ask.level ≤ (sealer_of new ask.ask.proc).level → Owes jobs id old a new (sent ask.ask.node (frames.RefreshReply (reply_anew new ask)))
   -- the next commit: to each node that waited for it
   held_piece : (p : Proc) (node level : ℕ) → held_at old.held p node ≡ Some level → level < (sealer_of new p).level

@@ -91,7 +91,7 @@ module _ (jobs : Jobs) (id : ℕ) (h : Holding) where
   unfolding does
   does_counts (Act.request r) = request_counts r
   does_counts (Act.commit by b) = same_number _
-  does_counts (Act.deliver frame) = deliver_counts frame (is_taken jobs id frame)
+  does_counts (Act.deliver frame) = deliver_counts frame (is_taken jobs id h.table frame)
 
   act_counts : (a : Act) → h.requests ≤ (acts jobs id h a).left.requests
   act_counts a = after_act jobs id h a (λ g. h.requests ≤ g.requests) (same_number _) (λ none. does_counts a)

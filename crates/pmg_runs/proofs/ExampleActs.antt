@@ -1,5 +1,5 @@
 -- The acts of the examples: what each is replied, and what is held then.
-use Rattle.std.proofs.Common.{◌≡◌, ℕ, suc, true, false, ◌&&◌, ◌||◌, ◌==◌, not, nat_lt, nat_le, is_some, cond, List, [], ◌∷◌, Option, Some, None, Ok, refl, ap, ◌∙◌}
+use Rattle.std.proofs.Common.{◌≡◌, ℕ, true, false, ◌&&◌, ◌||◌, ◌==◌, not, nat_lt, nat_le, is_some, cond, List, [], ◌∷◌, Option, Some, None, Ok, refl, ap, ◌∙◌}
 use Rattle.std.specs.FinSet as set
 use Rattle.std.specs.List.{list_all, list_any}
 use Rattle.std.specs.Ordering.{eq_by_cmp}
@@ -15,16 +15,16 @@ use Rattle.pmg_frame.specs.declared.frame.Frame.{Frame}
 use Rattle.pmg_frame.specs.declared.frame.Frame.TheVariants as frames
 use Rattle.pmg_jobinfo.specs.Expansion.{expansion}
 use Rattle.pmg_jobinfo.specs.Jobs.{home_of, is_member}
-use Rattle.pmg_fence.specs.Changes.{placed, next_name, entered_by, ended_by, fence_entered}
+use Rattle.pmg_fence.specs.Changes.{next_name, entered_by, ended_by}
 use Rattle.pmg_fence.specs.Entering.{same_proc}
-use Rattle.pmg_fence.specs.Tables.{Fences, no_fences, no_fence, fence_of, fence_at, count_of}
-use Rattle.pmg_fence.proofs.StepLemmas.{new_fence, no_counts}
+use Rattle.pmg_fence.specs.Tables.{Fences, no_fences, is_old, count_of}
+use Rattle.pmg_fence.proofs.StepLemmas.{no_counts}
 use Rattle.pmg_rules.specs.Acts.{Request, Act, Reply, Done, also, free_cause, busy_cause, caller_cause, list_cause, signature_cause, request_cause, cause, is_known, is_taken, done_as, leaves, receives, serves, does, over, acts}
 use Rattle.pmg_rules.specs.Holdings.{Standing, Holding, sealer_of, call_of, called, uncalled, with_table, sealing, settled}
 use Rattle.pmg_rules.proofs.CauseFacts.{NoCause}
 use Rattle.pmg_runs.specs.Examples.{two, j0, j1, meeting}
 use Rattle.pmg_runs.proofs.ExampleGroup.{ranked, is_there, home_of_j0, home_of_j1, j0_is_member, j1_is_member, who_meets, rising, locals_at_0, locals_at_1}
-use Rattle.pmg_runs.proofs.ExampleTables.{entered_counts, header_of_0, header_of_1, gone_then}
+use Rattle.pmg_runs.proofs.ExampleTables.{ended_table, not_old_ended, its_name, entered_table, entered_young, header_of_0, header_of_1, gone_then}
 use Rattle.pmg_runs.proofs.ExampleNodes.{accepted, both_causes, calls_well, in_meeting, new_0, ended_sealer, ended_0, heard_0, new_1, entered_1, waits_1, told_1, lacks_1, its_piece, freed_1, left_1, sealer_level, idle_new, in_entered, in_told, in_freed}
 use Rattle.pmg_runs.proofs.Starting.{sealer-new}
 
@@ -86,19 +86,13 @@ module _ (h : Holding) (p : Proc) (part : list_any (same_proc p) both ≡ true) 
       both_causes (free_cause two id h p) (also (list_cause two both) (signature_cause h meeting.signature p)) well
       (both_causes (list_cause two both) (signature_cause h meeting.signature p) good_list good_signature)
 
-  its_name : next_name no_fences meeting.signature p ≡ meeting
-  its_name = ap (λ n. fence_of meeting.signature (suc n)) (no_counts meeting.signature p)
-
-  its_fence : fence_at no_fences (next_name no_fences meeting.signature p) ≡ no_fence
-  its_fence = new_fence (next_name no_fences meeting.signature p)
-
   pub enters_so : (id level : ℕ) → NoCause (free_cause two id h p) → (sealer_of h p).level ≡ level
       → acts two id h (entering p) ≡ done_as (Reply.entered 1) (settled two id (in_meeting h p level))
   unfolding does serves expansion
   enters_so id level well at =
       accepted id h (entering p) (may_enter id well)
       ∙ (λ i. over two id h (Ok (enters_by (none i) (at i))))
-      ∙ (λ i. done_as (Reply.entered (its_name i).instance) (settled two id (called (with_table h (placed no_fences (its_name i) (fence_entered (its_fence i) p level) (entered_counts p level))) p (Standing.in_fence (its_name i)))))
+      ∙ (λ i. done_as (Reply.entered (its_name p level i).instance) (settled two id (called (with_table h (entered_table p level)) p (Standing.in_fence (its_name p level i)))))
     where
       enters_by : Fences → ℕ → Done
       enters_by t n =
@@ -143,7 +137,7 @@ leaves_it state z its one = leaves_as (freed_1 state z) (Some (Standing.released
 
 -- ---- frames come
 
-pub takes_frame : (id : ℕ) (h : Holding) (frame : Frame) → is_taken two id frame ≡ true → acts two id h (Act.deliver frame) ≡ done_as Reply.taken (settled two id (receives two id h frame))
+pub takes_frame : (id : ℕ) (h : Holding) (frame : Frame) → is_taken two id h.table frame ≡ true → acts two id h (Act.deliver frame) ≡ done_as Reply.taken (settled two id (receives two id h frame))
 unfolding cause does
 takes_frame id h frame taken = ap (λ b. over two id h (Ok (cond b (done_as Reply.taken (receives two id h frame)) (done_as Reply.ignored h)))) taken
 
@@ -156,26 +150,27 @@ one_at_0 = ap (list_any (λ p. home_of two p == 0)) who_meets ∙ (λ i. (home_o
 one_at_1 : list_any (λ p. home_of two p == 1) (participants_of meeting) ≡ true
 one_at_1 = ap (list_any (λ p. home_of two p == 1)) who_meets ∙ (λ i. (home_of_j0 i == 1) || ((home_of_j1 i == 1) || false))
 
-pub its_header_taken : is_taken two 0 (frames.Header header_of_1) ≡ true
+-- the other one's header, where the fence is not old
+pub its_header_taken : (t : Fences) → is_old t meeting ≡ false → is_taken two 0 t (frames.Header header_of_1) ≡ true
 unfolding is_taken
-its_header_taken = (λ i. (all_members i && one_at_0 i) && eq_by_cmp (slice_cmp proc_cmp) (j1 ∷ []) (locals_at_1 i))
+its_header_taken t young = (λ i. (all_members i && one_at_0 i) && eq_by_cmp (slice_cmp proc_cmp) (j1 ∷ []) (locals_at_1 i) && not (young i))
 
-header_taken : (state : State) → is_taken two 1 (frames.Header (header_of_0 state)) ≡ true
+header_taken : (state : State) (t : Fences) → is_old t meeting ≡ false → is_taken two 1 t (frames.Header (header_of_0 state)) ≡ true
 unfolding is_taken
-header_taken state = (λ i. (all_members i && one_at_1 i) && eq_by_cmp (slice_cmp proc_cmp) (j0 ∷ []) (locals_at_0 i))
+header_taken state t young = (λ i. (all_members i && one_at_1 i) && eq_by_cmp (slice_cmp proc_cmp) (j0 ∷ []) (locals_at_0 i) && not (young i))
 
-pub piece_taken : (z : Sealed) → z.proc ≡ j0 → is_taken two 1 (frames.Piece (its_piece z)) ≡ true
+pub piece_taken : (t : Fences) (z : Sealed) → z.proc ≡ j0 → is_taken two 1 t (frames.Piece (its_piece z)) ≡ true
 unfolding is_taken
-piece_taken z its = ap (λ p. is_known two p && not (home_of two p == 1)) its ∙ (λ i. (j0_is_member i || is_host j0) && not (home_of_j0 i == 1))
+piece_taken t z its = ap (λ p. is_known two p && not (home_of two p == 1)) its ∙ (λ i. (j0_is_member i || is_host j0) && not (home_of_j0 i == 1))
 
 pub hears : acts two 0 ended_0 (Act.deliver (frames.Header header_of_1)) ≡ done_as Reply.taken heard_0
-unfolding receives heard_0
-hears = takes_frame 0 ended_0 (frames.Header header_of_1) its_header_taken
+unfolding receives heard_0 ended_0
+hears = takes_frame 0 ended_0 (frames.Header header_of_1) (its_header_taken ended_table (not_old_ended meeting))
 
 pub is_told : (state : State) → acts two 1 waits_1 (Act.deliver (frames.Header (header_of_0 state))) ≡ done_as Reply.taken (told_1 state)
-unfolding receives told_1
-is_told state = takes_frame 1 waits_1 (frames.Header (header_of_0 state)) (header_taken state)
+unfolding receives told_1 waits_1 entered_1
+is_told state = takes_frame 1 waits_1 (frames.Header (header_of_0 state)) (header_taken state (entered_table j1 0) (entered_young j1 0))
 
 pub is_freed : (state : State) (z : Sealed) → z.proc ≡ j0 → acts two 1 (lacks_1 state) (Act.deliver (frames.Piece (its_piece z))) ≡ done_as Reply.taken (freed_1 state z)
 unfolding receives freed_1
-is_freed state z its = takes_frame 1 (lacks_1 state) (frames.Piece (its_piece z)) (piece_taken z its)
+is_freed state z its = takes_frame 1 (lacks_1 state) (frames.Piece (its_piece z)) (piece_taken (lacks_1 state).table z its)

@@ -31,7 +31,7 @@ use Rattle.pmg_rules.proofs.Sealing.{sealer_here}
 use Rattle.pmg_runs.specs.Worlds.{World, Doing, Does, cache_of, puts, reply_in, start}
 use Rattle.pmg_runs.specs.Examples.{two, j0, meeting, its_key, its_value}
 use Rattle.pmg_runs.proofs.ExampleGroup.{home_of_j0, j0_is_member, locals_at_0}
-use Rattle.pmg_runs.proofs.ExampleTables.{lines_of_0, lines_of_1, header_of_0, header_of_1, entered_table, entered_only, entered_is, told_before}
+use Rattle.pmg_runs.proofs.ExampleTables.{lines_of_0, lines_of_1, header_of_0, header_of_1, entered_table, entered_young, entered_only, entered_is, told_before}
 use Rattle.pmg_runs.proofs.ExampleNodes.{AreIdle, goes_on, accepted, both_causes, in_meeting, new_0, its_piece, idle_new, idle_settled}
 use Rattle.pmg_runs.proofs.ExampleActs.{both, entering, free, enters_so, takes_frame, its_header_taken}
 use Rattle.pmg_runs.proofs.ExampleOwed.{AsksNothing, SendsNews, NoneWaits, NoneParks, request_asks, frame_asks, same_news, idle_parks, called_parks, settled_parks, none_held_new, nothing_below, new_waits, steps, other_than_0, header_allowed, one_new, piece_allowed}
@@ -214,8 +214,8 @@ unfoldable pub met_0 : Holding
 met_0 = settled two 0 (with_table joined_0 (with_header joined_0.table header_of_1))
 
 meets : acts two 0 joined_0 (Act.deliver (frames.Header header_of_1)) ≡ done_as Reply.taken met_0
-unfolding receives met_0
-meets = takes_frame 0 joined_0 (frames.Header header_of_1) its_header_taken
+unfolding receives met_0 joined_0
+meets = takes_frame 0 joined_0 (frames.Header header_of_1) (its_header_taken (entered_table j0 1) (entered_young j0 1))
 
 joined_waits : NoneWaits joined_0
 unfolding joined_0

@@ -9,6 +9,7 @@ use Rattle.pmg_scope.specs.declared.scope.Scope.TheVariants as scopes
 use Rattle.pmg_commit.specs.Data.{absorbed, level_at}
 use Rattle.pmg_commit.specs.Sealed.{Sealed}
 use Rattle.pmg_fence.specs.Entering.{same_proc}
+use Rattle.pmg_fence.specs.Tables.{Fences}
 use Rattle.pmg_frame.specs.Fences.{CommitAsk, commit_ask}
 use Rattle.pmg_frame.specs.declared.frame.Frame.TheVariants as frames
 use Rattle.pmg_get.specs.Gets.{Seen, Outcome, resolve}
@@ -140,16 +141,16 @@ step_parks = subst (NodeStep two 1 new_1 asking Reply.parked asked_1) home_is_as
 abbrev being_asked : Act
 being_asked = Act.deliver (frames.DirectAsk its_ask)
 
-ask_taken : is_taken two 0 (frames.DirectAsk its_ask) ≡ true
+ask_taken : (t : Fences) → is_taken two 0 t (frames.DirectAsk its_ask) ≡ true
 unfolding is_taken
-ask_taken = (λ i. is_peer two 0 1 && (j0_is_member i || is_host j0) && (home_of_j0 i == 0))
+ask_taken t = (λ i. is_peer two 0 1 && (j0_is_member i || is_host j0) && (home_of_j0 i == 0))
 
 unfoldable telling_0 : Holding
 telling_0 = settled two 0 committed_0
 
 tells : acts two 0 committed_0 being_asked ≡ done_as Reply.taken telling_0
 unfolding receives telling_0
-tells = takes_frame 0 committed_0 (frames.DirectAsk its_ask) ask_taken ∙ (λ i. done_as Reply.taken (settled two 0 (holds_unless (nat_lt 0 (committed_level i)) committed_0 1 j0 0)))
+tells = takes_frame 0 committed_0 (frames.DirectAsk its_ask) (ask_taken committed_0.table) ∙ (λ i. done_as Reply.taken (settled two 0 (holds_unless (nat_lt 0 (committed_level i)) committed_0 1 j0 0)))
 
 abbrev told : Sealed
 told = sealer_of telling_0 j0
@@ -189,7 +190,7 @@ being_told = Act.deliver (frames.Piece (its_piece told))
 
 hears : acts two 1 asked_1 being_told ≡ done_as Reply.taken heard_1
 unfolding receives heard_1
-hears = takes_frame 1 asked_1 (frames.Piece (its_piece told)) (piece_taken told told_proc)
+hears = takes_frame 1 asked_1 (frames.Piece (its_piece told)) (piece_taken asked_1.table told told_proc)
 
 asked_server : IsServer two 1 asked_1
 asked_server = server_then 1 new_1 (new_is_server two 1) asking Reply.parked asked_1 parks

@@ -1,4 +1,5 @@
 pub mod ToldScripts
+pub mod Naming
 pub mod Speaking
 pub mod Steps
 pub mod Starting
@@ -11,9 +12,9 @@ pub mod Rising
 pub mod StepView
 pub mod Counting
 pub mod Refreshed
-pub mod Naming
 pub mod Turning
 pub mod Turned
+pub mod Keeping
 pub mod ExampleGroup
 pub mod ExampleTables
 pub mod ExampleNodes

@@ -154,7 +154,7 @@ module _ (jobs : Jobs) (p : Proc) (get : Get) (number low : ℕ) where
           same_number : (m n : ℕ) → (m == n) ≡ true → n ≡ m
           same_number m n e = grind (arith, nat_tests)
 
-          at_home : is_taken jobs id (frames.RefreshReply r) ≡ true → r.node ≡ id
+          at_home : is_taken jobs id h.table (frames.RefreshReply r) ≡ true → r.node ≡ id
           at_home taken = same_number id r.node (itself (and_parts _ _ (and_parts _ _ taken).0).0)
             where
               itself : (r.node == id) ≡ true → (id == r.node) ≡ true

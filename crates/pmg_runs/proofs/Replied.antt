@@ -67,8 +67,8 @@ replied_to jobs id h r taken = (cond taken (done_as Reply.taken (receives jobs i
 
 module _ (jobs : Jobs) (id : ℕ) (h : Holding) (p : Proc) (r : RefreshReply) (get : Get) (number : ℕ) (outcome : Outcome) (was : call_of h p ≡ Some (Standing.refreshing get number)) where
   -- where the get is answered, the reply was taken
-  taken_if : (b : Bool) → is_taken jobs id (frames.RefreshReply r) ≡ b → call_of (replied_to jobs id h r b) p ≡ Some (Standing.refreshed get outcome)
-      → is_taken jobs id (frames.RefreshReply r) ≡ true
+  taken_if : (b : Bool) → is_taken jobs id h.table (frames.RefreshReply r) ≡ b → call_of (replied_to jobs id h r b) p ≡ Some (Standing.refreshed get outcome)
+      → is_taken jobs id h.table (frames.RefreshReply r) ≡ true
   taken_if true is now = is
   taken_if false is now = absurd (apart (sym was ∙ now))
     where
@@ -76,10 +76,10 @@ module _ (jobs : Jobs) (id : ℕ) (h : Holding) (p : Proc) (r : RefreshReply) (g
       apart e = cc
 
   pub was_taken : (a : Act) → a ≡ Act.deliver (frames.RefreshReply r) → call_of (does jobs id h a).left p ≡ Some (Standing.refreshed get outcome)
-      → is_taken jobs id (frames.RefreshReply r) ≡ true
+      → is_taken jobs id h.table (frames.RefreshReply r) ≡ true
   unfolding does
   was_taken a is now =
-      taken_if (is_taken jobs id (frames.RefreshReply r)) refl (subst (λ x. call_of (does jobs id h x).left p ≡ Some (Standing.refreshed get outcome)) is now)
+      taken_if (is_taken jobs id h.table (frames.RefreshReply r)) refl (subst (λ x. call_of (does jobs id h x).left p ≡ Some (Standing.refreshed get outcome)) is now)
 
   -- with what is known then
   known_then : (b : Bool) → b ≡ true → answer_in jobs id (with_far h (joined h.far (told_by r))) get modes.Now ≡ answer_in jobs id (replied_to jobs id h r b) get modes.Now
@@ -92,7 +92,7 @@ module _ (jobs : Jobs) (id : ℕ) (h : Holding) (p : Proc) (r : RefreshReply) (g
   unfolding does
   answer_anew a is now =
       subst (λ x. answer_in jobs id (with_far h (joined h.far (told_by r))) get modes.Now ≡ answer_in jobs id (does jobs id h x).left get modes.Now) (sym is)
-      (known_then (is_taken jobs id (frames.RefreshReply r)) (was_taken a is now))
+      (known_then (is_taken jobs id h.table (frames.RefreshReply r)) (was_taken a is now))
 
   far_of : (b : Bool) → b ≡ true → joined h.far (told_by r) ≡ (replied_to jobs id h r b).far
   unfolding receives
@@ -102,4 +102,4 @@ module _ (jobs : Jobs) (id : ℕ) (h : Holding) (p : Proc) (r : RefreshReply) (g
   pub far_then : (a : Act) → a ≡ Act.deliver (frames.RefreshReply r) → call_of (does jobs id h a).left p ≡ Some (Standing.refreshed get outcome)
       → joined h.far (told_by r) ≡ (does jobs id h a).left.far
   unfolding does
-  far_then a is now = subst (λ x. joined h.far (told_by r) ≡ (does jobs id h x).left.far) (sym is) (far_of (is_taken jobs id (frames.RefreshReply r)) (was_taken a is now))
+  far_then a is now = subst (λ x. joined h.far (told_by r) ≡ (does jobs id h x).left.far) (sym is) (far_of (is_taken jobs id h.table (frames.RefreshReply r)) (was_taken a is now))

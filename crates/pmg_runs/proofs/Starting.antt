@@ -1,5 +1,6 @@
 -- A world in which nobody has called is one in which all holds.
 use Rattle.std.proofs.Common.{◌≡◌, ◌≤◌, ℕ, Bool, true, false, cond, List, [], ◌∷◌, map, Option, Some, None, refl, sym, ap, subst, ◌∙◌, arith}
+use Rattle.std.proofs.lemmas.Bool.{false≢true}
 use Rattle.std.specs.FinMap as finite
 use Rattle.std.specs.FinMap.Entries.{find}
 use Rattle.std.specs.Cmp.{Equal-is}
@@ -77,6 +78,7 @@ start_good jobs = record {
   honest = tt;
   hosts = ([], refl);
   freed = λ node p f gone e. absurd (nowhere (sym (new_call p) ∙ e));
+  kept = λ node f has. absurd (false≢true (sym (tables.no_names f) ∙ has));
 }
   where
     nowhere : {f : FenceName} {gone : List Proc} → None ≡ Some (Standing.released f gone) → ⊥

@@ -28,17 +28,20 @@ use Rattle.pmg_fence.proofs.StepLemmas.{put_fits}
 use Rattle.pmg_rules.specs.Acts.{Act, Reply, Done, Said, cause, does, over, acts, said_by, says}
 use Rattle.pmg_rules.specs.Fitting.{Fits, HonestFrame, FitsHost, FitsAct, is_refusal, unless_refused, with_said}
 use Rattle.pmg_rules.specs.Holdings.{Holding, sealer_of, is_ready_at}
+use Rattle.pmg_rules.specs.Kept.{HasTwo}
 use Rattle.pmg_rules.specs.Sending.{Allowed}
 use Rattle.pmg_rules.specs.declared.sent.Sent.{Sent}
 use Rattle.pmg_rules.proofs.ActsFitted.{acts_fit, calls_none}
 use Rattle.pmg_rules.proofs.CauseFacts.{by_causes}
 use Rattle.pmg_rules.proofs.Fitted.{fits_saying, fits_elsewhere}
 use Rattle.pmg_rules.proofs.Growing.{act_rises}
+use Rattle.pmg_rules.proofs.Names.{two_stay}
 use Rattle.pmg_rules.proofs.Reading.{grows_unless}
 use Rattle.pmg_rules.proofs.Releasing.{entry_grown, gone_grown}
 use Rattle.pmg_rules.proofs.AfterActs.{freed_by_ready}
 use Rattle.pmg_runs.specs.Worlds.{World, Event, Doing, ActStep, Does, Step, changed_at, reply_in, doing}
 use Rattle.pmg_runs.specs.Laws.{Good, WasReady, FreedRight}
+use Rattle.pmg_runs.proofs.Naming.{present_has_name}
 use Rattle.pmg_runs.proofs.Speaking.{SpeakerIs, act_speaks, host_said, IsPut, DoingFits, doing_fits}
 
 -- ---- frames
@@ -64,17 +67,17 @@ unfolding present
 present_is_own jobs node t f ls e = own_of_present (has_name t f) (own_header jobs node t f) ls e
 
 -- what a node may send is honest
-pub allowed_honest : (jobs : Jobs) (scripts : Scripts) (node : ℕ) (act : Act) (h : Holding) → Fits jobs scripts node h → (frame : Frame) → Allowed jobs node act h frame → HonestFrame jobs scripts frame
+pub allowed_honest : (jobs : Jobs) (scripts : Scripts) (node : ℕ) (act : Act) (h : Holding) → Fits jobs scripts node h → HasTwo h.table → (frame : Frame) → Allowed jobs node act h frame → HonestFrame jobs scripts frame
 unfolding Allowed
-allowed_honest jobs scripts node act h fits (frames.Piece c) allowed =
+allowed_honest jobs scripts node act h fits two (frames.Piece c) allowed =
     subst (λ x. IsHonest (scripts c.proc) reach.Far x) (sym allowed.2) (pieces_are_honest (sealer_of h c.proc) (scripts c.proc) c.from reach.Far (fits.own c.proc allowed.0).sealer refl)
-allowed_honest jobs scripts node act h fits (frames.Header hd) allowed =
-    ap (header_of jobs scripts hd.name) allowed.0 ∙ sym (own_header_is_true jobs node scripts h.table hd.name fits.table) ∙ present_is_own jobs node h.table hd.name hd.locals allowed.1
-allowed_honest jobs scripts node act h fits (frames.FenceAsk a) allowed = tt
-allowed_honest jobs scripts node act h fits (frames.RangeAsk a) allowed = tt
-allowed_honest jobs scripts node act h fits (frames.DirectAsk a) allowed = tt
-allowed_honest jobs scripts node act h fits (frames.RefreshAsk a) allowed = tt
-allowed_honest jobs scripts node act h fits (frames.RefreshReply r) allowed = subst (λ (x : RefreshReply). IsHonest (scripts x.told.proc) reach.Far x.told) (sym allowed.4) told
+allowed_honest jobs scripts node act h fits two (frames.Header hd) allowed =
+    ap (header_of jobs scripts hd.name) allowed.0 ∙ sym (own_header_is_true jobs node scripts h.table hd.name fits.table (two hd.name (present_has_name jobs node h.table hd.name hd.locals allowed.1)).0) ∙ present_is_own jobs node h.table hd.name hd.locals allowed.1
+allowed_honest jobs scripts node act h fits two (frames.FenceAsk a) allowed = tt
+allowed_honest jobs scripts node act h fits two (frames.RangeAsk a) allowed = tt
+allowed_honest jobs scripts node act h fits two (frames.DirectAsk a) allowed = tt
+allowed_honest jobs scripts node act h fits two (frames.RefreshAsk a) allowed = tt
+allowed_honest jobs scripts node act h fits two (frames.RefreshReply r) allowed = subst (λ (x : RefreshReply). IsHonest (scripts x.told.proc) reach.Far x.told) (sym allowed.4) told
   where
     ask : RefreshAsk
     ask = allowed.0
@@ -178,6 +181,9 @@ module _ (jobs : Jobs) (are : AreJobs jobs) (w : World) (good : Good jobs w) (n 
     | inr now ↦ ready_now jobs scripts_by n left_by f gone left_fits now.0 now.1
   ]
 
+  left_two : HasTwo left_by.table
+  left_two = two_stay jobs n (w.nodes n) a (good.kept n)
+
   same_level : (k : ℕ) → k ≤ k
   same_level k = omega arith
 
@@ -186,10 +192,11 @@ module _ (jobs : Jobs) (are : AreJobs jobs) (w : World) (good : Good jobs w) (n 
     fits = each_node (λ m h. Fits jobs scripts_by m h) w.nodes n left_by left_fits others_still;
     honest = each_both (λ s. HonestFrame jobs scripts_by s.frame) w.sent out
         (each_still (λ s. HonestFrame jobs w.scripts s.frame) (λ s. HonestFrame jobs scripts_by s.frame) w.sent (λ s. frame_stays jobs w.scripts scripts_by scripts_grow s.frame) good.honest)
-        (each_still (λ s. Allowed jobs n a left_by s.frame) (λ s. HonestFrame jobs scripts_by s.frame) out (λ s. allowed_honest jobs scripts_by n a left_by left_fits s.frame) allowed);
+        (each_still (λ s. Allowed jobs n a left_by s.frame) (λ s. HonestFrame jobs scripts_by s.frame) out (λ s. allowed_honest jobs scripts_by n a left_by left_fits left_two s.frame) allowed);
     hosts = said_rightly (λ s. FitsHost (s host)) good.hosts (λ refused speaks. host_said jobs n w.scripts refused (says jobs a) speaks good.hosts);
     freed = each_node (λ m h. FreedRight scripts_by h) w.nodes n left_by left_freed (λ m away p f gone e.
         ready_grown w.scripts scripts_by (w.nodes m).far (w.nodes m).far f gone scripts_grow (λ q. same_level _) (good.freed m p f gone e));
+    kept = each_node (λ m h. HasTwo h.table) w.nodes n left_by left_two (λ m away. good.kept m);
   }
 
 -- ---- a put
@@ -224,6 +231,7 @@ module _ (jobs : Jobs) (w : World) (good : Good jobs w) (said : Said) (put : IsP
     honest = each_still (λ s. HonestFrame jobs w.scripts s.frame) (λ s. HonestFrame jobs scripts_put s.frame) w.sent (λ s. frame_stays jobs w.scripts scripts_put put_grows s.frame) good.honest;
     hosts = host_said jobs (home_of jobs put.proc) w.scripts false (said_by put.proc put_call) (refl, inl put.member) good.hosts;
     freed = λ m p f gone e. ready_grown w.scripts scripts_put (w.nodes m).far (w.nodes m).far f gone put_grows (λ q. same_height _) (good.freed m p f gone e);
+    kept = good.kept;
   }
     where
       by_node : (m : ℕ) (b : Bool) → (m == home_of jobs put.proc) ≡ b → Fits jobs scripts_put m (w.nodes m)

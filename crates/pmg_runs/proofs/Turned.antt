@@ -1,17 +1,20 @@
 -- What holds of names and turns holds after each step.
-use Rattle.std.proofs.Common.{◌≡◌, ℕ, Bool, true, false, ◌==◌, cond, List, [], ◌∷◌, Option, Some, None, Result, inl, inr, refl, sym, ap, subst, ◌∙◌, arith}
+use Rattle.std.proofs.Common.{◌≡◌, ◌<◌, ◌⊎◌, ℕ, Bool, true, false, ◌==◌, cond, List, [], ◌∷◌, Option, Some, None, Result, inl, inr, refl, sym, ap, subst, ◌∙◌, arith}
+use Rattle.std.specs.FinMap as finite
+use Rattle.std.specs.Option.{unwrap_or}
 use Rattle.std.proofs.lemmas.Bool.{false≢true}
 use Rattle.std.proofs.lemmas.Bool.Decides.{nat_tests}
 use Rattle.pmg_value.specs.Lists.{Each}
-use Rattle.pmg_value.specs.Signatures.{FenceName}
+use Rattle.pmg_value.specs.Signatures.{Signature, FenceName}
 use Rattle.pmg_value.specs.declared.process.Proc.{Proc}
 use Rattle.pmg_value.specs.declared.refusal.Refusal.{Refusal}
 use Rattle.pmg_scope.specs.Cached.{unsealed_of}
 use Rattle.pmg_scope.specs.Scripts.{Call, Script}
+use Rattle.pmg_frame.specs.FenceOrder.{signature_cmp}
 use Rattle.pmg_jobinfo.specs.Jobs.{Jobs, AreJobs, is_node, home_of}
 use Rattle.pmg_fence.specs.Changes.{next_name}
 use Rattle.pmg_fence.specs.Rules.{Scripts, Grows}
-use Rattle.pmg_fence.specs.Tables.{has_name}
+use Rattle.pmg_fence.specs.Tables.{Series, Fences, no_series, no_fences, fence_of, series_at}
 use Rattle.pmg_fence.proofs.EntryLemmas.{puts}
 use Rattle.pmg_fence.proofs.StepLemmas.{no_names}
 use Rattle.pmg_get.specs.Gets.{Outcome}
@@ -20,16 +23,19 @@ use Rattle.pmg_get.specs.declared.view.Mode.TheVariants as modes
 use Rattle.pmg_rules.specs.Acts.{Request, Act, Reply, Done, Said, signature_of, cause, waits_as, does, serves, over, said_by, says}
 use Rattle.pmg_rules.specs.Fitting.{Fits, FitsAct, is_refusal, unless_refused, with_said}
 use Rattle.pmg_rules.specs.Holdings.{Get, Standing, Holding, sealer_of, call_of, settled}
+use Rattle.pmg_rules.specs.Kept.{top_in}
 use Rattle.pmg_rules.specs.Sending.{Allowed}
 use Rattle.pmg_rules.specs.declared.sent.Sent.{Sent}
 use Rattle.pmg_rules.proofs.CauseFacts.{NoCause, by_causes}
+use Rattle.pmg_rules.proofs.Forgetting.{NamesAfter, entry_named, not_old_before}
 use Rattle.pmg_rules.proofs.Moving.{Moves, StaysOrMoves, does_call}
+use Rattle.pmg_rules.proofs.Names.{does_names}
 use Rattle.pmg_rules.proofs.Reading.{grows_unless}
 use Rattle.pmg_rules.proofs.Settling.{settled_in_fence}
 use Rattle.pmg_runs.specs.Worlds.{World, Event, Doing, Does, Happened, Run, start, numbered, delivers, not_there, requests, own_get, is_own, cache_of, reply_in, doing}
 use Rattle.pmg_runs.specs.Laws.{Good, FreedRight}
-use Rattle.pmg_runs.specs.Turns.{NamesEntered, AreNamed, ArePast, IsInTurn, Turned, NamesWereEntered, AlwaysInTurn}
-use Rattle.pmg_runs.proofs.Naming.{ActNames, NamesAfter, does_names, name_kept, name_entered, name_of_entry, entered_grown, names_grown, allowed_named}
+use Rattle.pmg_runs.specs.Turns.{WasEntered, NamesEntered, Waits, AreNamed, ArePast, IsInTurn, Turned, NamesWereEntered, AlwaysInTurn}
+use Rattle.pmg_runs.proofs.Naming.{ActNames, names_entered, entry_caller, entered_grown, names_grown, allowed_named}
 use Rattle.pmg_runs.proofs.Speaking.{DoingFits, IsPut, numbered_is, doing_fits}
 use Rattle.pmg_runs.proofs.Starting.{new_call, start_good}
 use Rattle.pmg_runs.proofs.Steps.{act_world, left_by, scripts_by, world_by, scripts_grow, act_good, each_node, each_both, each_still, step_good}
@@ -37,10 +43,13 @@ use Rattle.pmg_runs.proofs.Turning.{PastBy, EntersSame, enters_said, past_more, 
 
 -- ---- names after an act
 
-entry_named : (jobs : Jobs) (n : ℕ) (h : Holding) (p : Proc) (list : List Proc) (collect : Bool)
-    → has_name (does jobs n h (Act.request (Request.enter p list collect))).left.table (next_name h.table (signature_of jobs p list collect) p) ≡ true
-unfolding does serves
-entry_named jobs n h p list collect = name_of_entry h.table (signature_of jobs p list collect) p (sealer_of h p).level
+-- who was in a fence is in it rightly after the act
+waits_still : (scripts grown : Scripts) (old new : Fences) → Grows scripts grown → NamesAfter (WasEntered grown) old new → (p : Proc) (f : FenceName) → Waits scripts old p f → Waits grown new p f
+waits_still scripts grown old new grows after p f was = record {
+  named = λ keeps. after.kept f (was.named (not_old_before old new f (after.rises f.signature) keeps)) keeps;
+  part = was.part;
+  entered = entered_grown scripts grown f grows was.entered;
+}
 
 -- a get that waits is in no fence
 waits_no_fence : (n : ℕ) (get : Get) (mode : Mode) (f : FenceName) → Some (waits_as n get mode) ≡ Some (Standing.in_fence f) → ⊥
@@ -48,53 +57,86 @@ waits_no_fence n get modes.Wait f e = cc
 waits_no_fence n get modes.Now f e = cc
 waits_no_fence n get modes.Refresh f e = cc
 
-in_fence_named : (jobs : Jobs) (n : ℕ) (h : Holding) (a : Act) (p : Proc) (f : FenceName) (c : Option Standing) → StaysOrMoves jobs n h p a c
-    → ((call_of h p ≡ Some (Standing.in_fence f)) → has_name (does jobs n h a).left.table f ≡ true) → c ≡ Some (Standing.in_fence f) → has_name (does jobs n h a).left.table f ≡ true
-in_fence_named jobs n h a p f c (inl same) kept e = kept (sym same ∙ e)
-in_fence_named jobs n h a p f c (inr (Moves.entering list collect is was now)) kept e =
-    subst (λ x. has_name (does jobs n h x).left.table f ≡ true) (sym is) (subst (λ x. has_name (does jobs n h (Act.request (Request.enter p list collect))).left.table x ≡ true) same (entry_named jobs n h p list collect))
-  where
-    same : next_name h.table (signature_of jobs p list collect) p ≡ f
-    same = let both : Some (Standing.in_fence (next_name h.table (signature_of jobs p list collect) p)) ≡ Some (Standing.in_fence f) = sym now ∙ e in cc
-in_fence_named jobs n h a p f c (inr (Moves.parking get mode is was answer now)) kept e = absurd (elsewhere (sym now ∙ e))
-  where
-    elsewhere : Some (waits_as h.requests get mode) ≡ Some (Standing.in_fence f) → ⊥
-    elsewhere z = waits_no_fence h.requests get mode f z
-in_fence_named jobs n h a p f c (inr (Moves.leaving x gone is was now)) kept e = absurd (elsewhere (sym now ∙ e))
-  where
-    elsewhere : None ≡ Some (Standing.in_fence f) → ⊥
-    elsewhere z = cc
-in_fence_named jobs n h a p f c (inr (Moves.taking get outcome is was now)) kept e = absurd (elsewhere (sym now ∙ e))
-  where
-    elsewhere : None ≡ Some (Standing.in_fence f) → ⊥
-    elsewhere z = cc
-in_fence_named jobs n h a p f c (inr (Moves.taking_anew get outcome is was now)) kept e = absurd (elsewhere (sym now ∙ e))
-  where
-    elsewhere : None ≡ Some (Standing.in_fence f) → ⊥
-    elsewhere z = cc
-in_fence_named jobs n h a p f c (inr (Moves.answering r get number is was its now)) kept e = absurd (elsewhere (sym now ∙ e))
-  where
-    elsewhere : {o : Outcome} → Some (Standing.refreshed get o) ≡ Some (Standing.in_fence f) → ⊥
-    elsewhere z = cc
-in_fence_named jobs n h a p f c (inr (Moves.ending is now)) kept e = absurd (elsewhere (sym now ∙ e))
-  where
-    elsewhere : None ≡ Some (Standing.in_fence f) → ⊥
-    elsewhere z = cc
+module _ (jobs : Jobs) (scripts : Scripts) (n : ℕ) (h : Holding) (fits : Fits jobs scripts n h) (named : AreNamed scripts h) where
+  abbrev after_it : Act → Scripts
+  after_it a = unless_refused (is_refusal (does jobs n h a).reply) scripts (says jobs a)
 
-does_named : (jobs : Jobs) (scripts : Scripts) (n : ℕ) (h : Holding) → Fits jobs scripts n h → AreNamed scripts h → (a : Act) → NoCause (cause jobs n h a) → ActNames scripts a
-    → AreNamed (unless_refused (is_refusal (does jobs n h a).reply) scripts (says jobs a)) (settled jobs n (does jobs n h a).left)
-does_named jobs scripts n h fits named a none names =
-    let d = (does jobs n h a).left in
-    let grown = unless_refused (is_refusal (does jobs n h a).reply) scripts (says jobs a) in
-    let after : NamesAfter grown h.table d.table = does_names jobs scripts n h fits a none names in
-    record {
-      names = λ f has. name_entered scripts grown h.table d.table f (grows_unless (is_refusal (does jobs n h a).reply) scripts (says jobs a)) after named.names has;
-      calls = λ p f e.
-          in_fence_named jobs n h a p f (call_of d p) (does_call jobs n h p a none) (λ was. name_kept grown h.table d.table f after (named.calls p f was)) (settled_in_fence jobs n d p f e).0;
-    }
+  grows_then : (a : Act) → Grows scripts (after_it a)
+  grows_then a = grows_unless (is_refusal (does jobs n h a).reply) scripts (says jobs a)
+
+  names_then : (a : Act) → NoCause (cause jobs n h a) → ActNames scripts a → NamesAfter (WasEntered (after_it a)) h.table (does jobs n h a).left.table
+  names_then a none names = does_names jobs n h (WasEntered (after_it a)) a (names_entered jobs scripts n h fits a none names)
+
+  -- and so is who enters it
+  entry_waits : (p : Proc) (list : List Proc) (collect : Bool) → NoCause (cause jobs n h (Act.request (Request.enter p list collect)))
+      → Waits (after_it (Act.request (Request.enter p list collect))) (does jobs n h (Act.request (Request.enter p list collect))).left.table p (next_name h.table (signature_of jobs p list collect) p)
+  unfolding does serves
+  entry_waits p list collect none = record {
+    named = entry_named h.table (signature_of jobs p list collect) p (sealer_of h p).level;
+    part = (entry_caller jobs scripts n h fits p list collect none).1;
+    entered = names_entered jobs scripts n h fits (Act.request (Request.enter p list collect)) none tt;
+  }
+
+  in_fence_waits : (a : Act) → NoCause (cause jobs n h a) → ActNames scripts a → (p : Proc) (f : FenceName) (c : Option Standing) → StaysOrMoves jobs n h p a c → c ≡ Some (Standing.in_fence f)
+      → Waits (after_it a) (does jobs n h a).left.table p f
+  in_fence_waits a none names p f c (inl same) e =
+      waits_still scripts (after_it a) h.table (does jobs n h a).left.table (grows_then a) (names_then a none names) p f (named.calls p f (sym same ∙ e))
+  in_fence_waits a none names p f c (inr (Moves.entering list collect is was now)) e =
+      subst (λ x. NoCause (cause jobs n h x) → Waits (after_it x) (does jobs n h x).left.table p f) (sym is)
+      (λ free. subst (Waits (after_it entry) (does jobs n h entry).left.table p) same (entry_waits p list collect free)) none
+    where
+      entry : Act
+      entry = Act.request (Request.enter p list collect)
+
+      same : next_name h.table (signature_of jobs p list collect) p ≡ f
+      same = let both : Some (Standing.in_fence (next_name h.table (signature_of jobs p list collect) p)) ≡ Some (Standing.in_fence f) = sym now ∙ e in cc
+  in_fence_waits a none names p f c (inr (Moves.parking get mode is was answer now)) e = absurd (waits_no_fence h.requests get mode f (sym now ∙ e))
+  in_fence_waits a none names p f c (inr (Moves.leaving x gone is was now)) e = absurd (elsewhere (sym now ∙ e))
+    where
+      elsewhere : None ≡ Some (Standing.in_fence f) → ⊥
+      elsewhere z = cc
+  in_fence_waits a none names p f c (inr (Moves.taking get outcome is was now)) e = absurd (elsewhere (sym now ∙ e))
+    where
+      elsewhere : None ≡ Some (Standing.in_fence f) → ⊥
+      elsewhere z = cc
+  in_fence_waits a none names p f c (inr (Moves.taking_anew get outcome is was now)) e = absurd (elsewhere (sym now ∙ e))
+    where
+      elsewhere : None ≡ Some (Standing.in_fence f) → ⊥
+      elsewhere z = cc
+  in_fence_waits a none names p f c (inr (Moves.answering r get number is was its now)) e = absurd (elsewhere (sym now ∙ e))
+    where
+      elsewhere : {o : Outcome} → Some (Standing.refreshed get o) ≡ Some (Standing.in_fence f) → ⊥
+      elsewhere z = cc
+  in_fence_waits a none names p f c (inr (Moves.ending is now)) e = absurd (elsewhere (sym now ∙ e))
+    where
+      elsewhere : None ≡ Some (Standing.in_fence f) → ⊥
+      elsewhere z = cc
+
+  top_then : (a : Act) (g : Signature) (top : ℕ) → (top ≡ top_in h.table g) ⊎ WasEntered (after_it a) (fence_of g top) → 0 < top → WasEntered (after_it a) (fence_of g top)
+  top_then a g top (inl same) pos =
+      subst (λ k. WasEntered (after_it a) (fence_of g k)) (sym same)
+      (entered_grown scripts (after_it a) (fence_of g (top_in h.table g)) (grows_then a) (named.tops g (subst (λ k. 0 < k) same pos)))
+  top_then a g top (inr was) pos = was
+
+  does_named : (a : Act) → NoCause (cause jobs n h a) → ActNames scripts a → AreNamed (after_it a) (settled jobs n (does jobs n h a).left)
+  does_named a none names =
+      let d = (does jobs n h a).left in
+      let after = names_then a none names in
+      record {
+        names = λ f has. elim (after.names f has) [
+          | inl was ↦ entered_grown scripts (after_it a) f (grows_then a) (named.names f was)
+          | inr now ↦ now
+        ];
+        tops = λ g pos. top_then a g (top_in d.table g) (after.tops g) pos;
+        calls = λ p f e. in_fence_waits a none names p f (call_of d p) (does_call jobs n h p a none) (settled_in_fence jobs n d p f e).0;
+      }
 
 named_grown : (scripts grown : Scripts) (h : Holding) → Grows scripts grown → AreNamed scripts h → AreNamed grown h
-named_grown scripts grown h grows named = record { names = λ f has. entered_grown scripts grown f grows (named.names f has); calls = named.calls }
+named_grown scripts grown h grows named = record {
+  names = λ f has. entered_grown scripts grown f grows (named.names f has);
+  tops = λ g pos. entered_grown scripts grown (fence_of g (top_in h.table g)) grows (named.tops g pos);
+  calls = λ p f e. let was = named.calls p f e in record { named = was.named; part = was.part; entered = entered_grown scripts grown f grows was.entered };
+}
 
 -- ---- an act
 
@@ -237,10 +279,15 @@ does_turned jobs are w good turned (Doing.by_cache answer o) fit names r v step 
 
 -- ---- a run
 
+pub no_top : (g : Signature) → top_in no_fences g ≡ 0
+unfolding series_at
+no_top g = ap (λ (o : Option Series). (unwrap_or o no_series).top) (finite.get-empty signature_cmp g)
+
 start_turned : (jobs : Jobs) → Turned jobs (start jobs)
 start_turned jobs = record {
   named = λ m. record {
     names = λ f has. absurd (false≢true (sym (no_names f) ∙ has));
+    tops = λ g pos. let none = no_top g in absurd (omega (arith, pos, none));
     calls = λ p f e. absurd (nowhere (sym (new_call p) ∙ e));
   };
   past = λ p g k pos le. absurd (omega (arith, pos, le));
@@ -258,7 +305,7 @@ run_turned jobs are (x ∷ xs) w v good turned run =
     run_turned jobs are xs run.0 v (step_good jobs are w good x.event x.reply run.0 run.1)
     (does_turned jobs are w good turned (doing jobs w x.event) (doing_fits jobs w good x.event) (doing_names jobs w turned x.event) x.reply run.0 run.1) run.2
 
-always_turned : (jobs : Jobs) → AreJobs jobs → (xs : List Happened) (w : World) → Run jobs (start jobs) xs w → Turned jobs w
+pub always_turned : (jobs : Jobs) → AreJobs jobs → (xs : List Happened) (w : World) → Run jobs (start jobs) xs w → Turned jobs w
 always_turned jobs are xs w run = run_turned jobs are xs (start jobs) w (start_good jobs) (start_turned jobs) run
 
 pub names_were_entered : NamesWereEntered

@@ -20,6 +20,7 @@ use Rattle.pmg_get.specs.declared.view.Mode.{Mode}
 use Rattle.pmg_rules.specs.Acts.{Request, Reply}
 use Rattle.pmg_rules.specs.Fitting.{Fits, HonestFrame, FitsHost, last_fence}
 use Rattle.pmg_rules.specs.Holdings.{Get, Standing, Holding, call_of, seen_of}
+use Rattle.pmg_rules.specs.Kept.{HasTwo}
 use Rattle.pmg_rules.specs.Sending.{sent}
 use Rattle.pmg_runs.specs.Worlds.{World, Event, Step, Happened, Run, start, scripts_after}
 
@@ -121,12 +122,13 @@ abbrev pub FreedRight : Scripts → Holding → Type 0
 FreedRight scripts h = (p : Proc) (f : FenceName) (gone : List Proc) → call_of h p ≡ Some (Standing.released f gone) → WasReady scripts h.far f gone
 
 -- What each node holds fits the scripts; each frame ever sent tells nothing but what they tell; the host's process changes the sets
--- alone; and whoever is released is so rightly.
+-- alone; whoever is released is so rightly; and of fences each node keeps no more than it should.
 pub record Good (jobs : Jobs) (w : World) : Type 0 where
   pub fits : (node : ℕ) → Fits jobs w.scripts node (w.nodes node)
   pub honest : Each (λ s. HonestFrame jobs w.scripts s.frame) w.sent
   pub hosts : FitsHost (w.scripts host)
   pub freed : (node : ℕ) → FreedRight w.scripts (w.nodes node)
+  pub kept : (node : ℕ) → HasTwo (w.nodes node).table
 
 abbrev pub AlwaysGood : Type 0
 AlwaysGood = (jobs : Jobs) → AreJobs jobs → (xs : List Happened) (w : World) → Run jobs (start jobs) xs w → Good jobs w

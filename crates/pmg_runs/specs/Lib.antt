@@ -1,4 +1,5 @@
 pub mod Worlds
+pub mod Forgetting
 pub mod Laws
 pub mod Refreshes
 pub mod Turns

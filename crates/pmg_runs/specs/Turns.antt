@@ -1,5 +1,5 @@
 -- Fences in turn: which were entered, and that none is run past.
-use Rattle.std.specs.Prelude.{◌≡◌, ◌⊎◌, ℕ, ◌<◌, ◌≤◌, true, List, Some}
+use Rattle.std.specs.Prelude.{◌≡◌, ◌⊎◌, ℕ, ◌<◌, ◌≤◌, true, false, List, Some}
 use Rattle.pmg_value.specs.Lists.{In, Each}
 use Rattle.pmg_value.specs.Signatures.{Signature, FenceName}
 use Rattle.pmg_value.specs.declared.process.Proc.{Proc}
@@ -10,9 +10,10 @@ use Rattle.pmg_frame.specs.declared.frame.Frame.TheVariants as frames
 use Rattle.pmg_jobinfo.specs.Jobs.{Jobs, AreJobs, home_of}
 use Rattle.pmg_fence.specs.Entering.{enters, level_before, entry}
 use Rattle.pmg_fence.specs.Rules.{Scripts}
-use Rattle.pmg_fence.specs.Tables.{has_name, fence_of}
+use Rattle.pmg_fence.specs.Tables.{Fences, is_old, has_name, fence_of}
 use Rattle.pmg_fence.specs.declared.entry.Entry.{Entry}
 use Rattle.pmg_rules.specs.Holdings.{Standing, Holding, call_of}
+use Rattle.pmg_rules.specs.Kept.{top_in}
 use Rattle.pmg_runs.specs.Worlds.{World, Happened, Run, start}
 
 -- some process entered the fence
@@ -33,10 +34,17 @@ NamesEntered scripts (frames.DirectAsk a) = Unit {0}
 NamesEntered scripts (frames.RefreshAsk a) = Unit {0}
 NamesEntered scripts (frames.RefreshReply r) = Unit {0}
 
--- each name that a node has was entered, and so was each fence that a process is in
+-- a process is in the fence: the node has its name unless it is old, the process takes part, and it was entered
+pub record Waits (scripts : Scripts) (t : Fences) (p : Proc) (f : FenceName) : Type 0 where
+  pub named : is_old t f ≡ false → has_name t f ≡ true
+  pub part : In p (participants_of f)
+  pub entered : WasEntered scripts f
+
+-- each name that a node has was entered, and so was the greatest instance of each signature, and each fence that a process is in
 pub record AreNamed (scripts : Scripts) (h : Holding) : Type 0 where
   pub names : (f : FenceName) → has_name h.table f ≡ true → WasEntered scripts f
-  pub calls : (p : Proc) (f : FenceName) → call_of h p ≡ Some (Standing.in_fence f) → has_name h.table f ≡ true
+  pub tops : (g : Signature) → 0 < top_in h.table g → WasEntered scripts (fence_of g (top_in h.table g))
+  pub calls : (p : Proc) (f : FenceName) → call_of h p ≡ Some (Standing.in_fence f) → Waits scripts h.table p f
 
 -- of the fences of one signature that a process entered each is over, or it is in that one, or it ended
 abbrev pub ArePast : Scripts → Holding → Proc → Type 0

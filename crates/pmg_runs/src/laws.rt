@@ -1,4 +1,5 @@
 ghost use Rattle.pmg_runs.specs.Examples.{RunOfTwo, RunOfMeeting, RunOfWaiting};
+ghost use Rattle.pmg_runs.specs.Forgetting.{KeepsTwo, KeepsWaiting};
 ghost use Rattle.pmg_runs.specs.Laws.{
   AlwaysGood,
   ScriptsAreTold,
@@ -13,7 +14,8 @@ ghost use Rattle.pmg_runs.specs.Turns.{NamesWereEntered, AlwaysInTurn};
 
 /// What holds over every interleaving of the steps of a group, whatever frames are delivered, when, how often, or never. What
 /// each node holds fits the scripts of all processes, which are those that the events tell. Of one fence each node sends one
-/// header, and each fence whose name a node has was entered. No process runs past a fence that is not over. Nobody is released
+/// header, and each fence whose name a node has was entered. No process runs past a fence that is not over. Of the fences of one
+/// signature a node keeps two at most, and those in which its processes wait are among them. Nobody is released
 /// from a fence before each participant has entered or is gone, and all who are released are told the same. Who was released
 /// from a fence that collects data is answered what each participant had sealed before it entered, or something later; and what
 /// one process is answered about another never falls back. A get that asks the home of its target anew, and waits for the reply, is
@@ -24,6 +26,8 @@ pub fn every_interleaving()
     ensures one_header { OneHeader }
     ensures names_were_entered { NamesWereEntered }
     ensures always_in_turn { AlwaysInTurn }
+    ensures keeps_two { KeepsTwo }
+    ensures keeps_waiting { KeepsWaiting }
     ensures fence_theorem { FenceTheorem }
     ensures released_whole { ReleasedWhole }
     ensures released_alike { ReleasedAlike }

@@ -2,7 +2,7 @@
 ghost use Rattle.std.specs.Prelude.{◌≡◌, ◌≤◌, IsTrue, IfOk, OnOk, OnErr};
 ghost use Rattle.std.specs.Option.{option_map};
 ghost use Rattle.pmg_fence.specs.Changes.{changed_at, changed, ended_by};
-ghost use Rattle.pmg_fence.specs.Kept.{line_of, placed_by, IsLine, CanChange};
+ghost use Rattle.pmg_fence.specs.Kept.{line_of, noted_by, IsLine, CanChange};
 ghost use Rattle.pmg_fence.specs.TakenBack.{table_back, CanTakeBack};
 
 use super::{ChangeBefore, Table, TableBefore};
@@ -28,12 +28,14 @@ fn line_of(change: &Change) -> Result<Option<Local>, AllocError>
 
 impl Table {
     /// Keeps the fence's name and what becomes known of it, and tells what there was before, by which it can be taken back. An
-    /// entry has to be the process's next of the signature. Where this completes the node's header, that waits to be taken.
+    /// entry has to be the process's next of the signature. Where this completes the node's header, that waits to be taken. Of an
+    /// old fence an entry is counted, and nothing else is kept. Nothing is forgotten yet: that is a call of its own, `forget`,
+    /// which cannot be taken back.
     pub fn note(&mut self, name: &FenceName, change: Change) -> Result<TableBefore, AllocError>
         requires { CanChange self.old.fences name.now change }
         ensures before { IfOk result (λ b. table_back self.new b ≡ self.old) }
         ensures fits { IfOk result (λ b. CanTakeBack self.new b) }
-        ensures ok { OnOk result (self.new ≡ changed_at self.old name.now (placed_by self.old.fences name.now change)) }
+        ensures ok { OnOk result (self.new ≡ changed_at self.old name.now (noted_by self.old.fences name.now change)) }
         ensures err { OnErr result (self.new ≡ self.old) }
     {
         let kept = name.copy()?;

@@ -7,7 +7,7 @@ ghost use Rattle.pmg_value.specs.declared.process.Proc.{Proc};
 ghost use Rattle.pmg_frame.specs.Fences.{header, is_instance, is_level};
 ghost use Rattle.pmg_fence.specs.Entering.{told, lines};
 ghost use Rattle.pmg_fence.specs.Tables.{names_of, fence_of, entry_at};
-ghost use Rattle.pmg_fence.specs.Kept.{instead, entry_with, known_fence, own_by, own_of, told_with, changed_with, ended_told, series_told, most_told, IsLine, CanChange};
+ghost use Rattle.pmg_fence.specs.Kept.{instead, entry_with, known_fence, own_by, own_of, told_with, newly_told, changed_with, ended_told, series_told, most_told, IsLine, CanChange};
 ghost use Rattle.pmg_fence.specs.TakenBack.{fences_back};
 
 use super::{Table, count_in, home_of};
@@ -21,7 +21,6 @@ use pmg_jobinfo::Registry;
 use pmg_value::{NodeId, Proc};
 use std::alloc::AllocError;
 use std::collections::VecDeque;
-use std::ops::Bound;
 
 /// The participants at home at the node, in their order.
 fn own_participants(
@@ -197,8 +196,25 @@ impl Table {
         }
     }
 
+    /// The same where the instance is not old: of an old one nothing is told.
+    fn news_now(
+        &self,
+        signature: &Signature,
+        instance: u64,
+        line: Option<&Local>,
+    ) -> Result<VecDeque<Header>, AllocError>
+        requires number { IsTrue (is_instance instance) }
+        requires line { IsLine (option_map (λ l. l.now) line) }
+        ensures { IfOk result (λ q. q.items ≡ newly_told self.now (fence_of signature.now instance) (option_map (λ l. l.now) line.entry)) }
+    {
+        if self.is_old_at(signature, instance) {
+            return Ok(VecDeque::new(self.series.allocator()));
+        }
+        Ok(self.news_of(signature, instance, line)?)
+    }
+
     /// Keeps what becomes known of the fence, by which the process of the line stands to it so; and tells what the fences of
-    /// its signature were before, if it had any.
+    /// its signature were before, if it had any. Nothing is forgotten yet.
     pub(crate) fn change(
         &mut self,
         signature: &Signature,
@@ -214,7 +230,7 @@ impl Table {
         ensures err { OnErr result (self.new ≡ self.old) }
     {
         keep_own(&mut self.owns, &self.registry, self.node, signature)?;
-        let mut news = self.news_of(signature, instance, line)?;
+        let mut news = self.news_now(signature, instance, line)?;
         let start = self.waiting.len();
         self.waiting.append(&mut news)?;
         match self.series.change(signature, instance, change) {
@@ -245,7 +261,7 @@ impl Table {
         Ok(self.news_of(signature, instance, Some(line))?)
     }
 
-    /// Adds those of the fences of one signature: those that the process has not entered yet.
+    /// Adds those of the fences of one signature.
     fn add_news(
         &self,
         news: &mut VecDeque<Header>,
@@ -258,9 +274,7 @@ impl Table {
         let Some(series) = self.series.get(signature) else {
             return Ok(());
         };
-        let entered = self.count(signature, &line.proc);
-        let later = (Bound::Excluded(entered), Bound::Unbounded);
-        for (instance, _) in series.rows().range(later) {
+        for (instance, _) in series.rows().iter() {
             let mut more = self.news_at_end(signature, *instance, line)?;
             news.append(&mut more)?;
         }

@@ -25,23 +25,29 @@ fn seen(rt: &impl Abort, table: &Table, meeting: Meeting) -> Seen {
     )
 }
 
-fn has_name(rt: &impl Abort, table: &Table, meeting: Meeting, instance: u64) -> bool {
+pub(super) fn has_name(rt: &impl Abort, table: &Table, meeting: Meeting, instance: u64) -> bool {
     table.has_name(&meeting.name(rt, instance))
 }
 
-fn has_header(rt: &impl Abort, table: &Table, meeting: Meeting, instance: u64, node: u32) -> bool {
+pub(super) fn has_header(
+    rt: &impl Abort,
+    table: &Table,
+    meeting: Meeting,
+    instance: u64,
+    node: u32,
+) -> bool {
     let node = NodeId::new(node).expect(rt, MEMORY);
     table.has_header(&meeting.name(rt, instance), node)
 }
 
 // How often process 0 entered.
-fn count(rt: &impl Abort, table: &Table, meeting: Meeting) -> u64 {
+pub(super) fn count(rt: &impl Abort, table: &Table, meeting: Meeting) -> u64 {
     let proc = process(rt, meeting.alloc, 0);
     table.count(&meeting.signature(rt), &proc)
 }
 
 // How many headers wait.
-fn waiting(rt: &impl Abort, table: &Table) -> u64 {
+pub(super) fn waiting(rt: &impl Abort, table: &Table) -> u64 {
     table.copy().expect(rt, MEMORY).take_headers().len() as u64
 }
 

@@ -1,5 +1,6 @@
 use Rattle.pmg_rules.proofs.ActsFitted.{acts_fit}
 use Rattle.pmg_rules.proofs.Asking.{held_stay_own}
+use Rattle.pmg_rules.proofs.Names.{names_come, tops_come, two_stay, names_stay, tops_rise}
 use Rattle.pmg_rules.proofs.Reading.{answers_stay, answered_have}
 use Rattle.pmg_rules.proofs.Releasing.{released_where_ready}
 use Rattle.pmg_rules.proofs.AfterActs.{parked_wait, ready_frees, freed_by_ready, freed_stays}
@@ -15,5 +16,10 @@ returns c = record {
   freed_by_ready = freed_by_ready;
   freed_stays = freed_stays;
   released_where_ready = released_where_ready;
+  names_come = names_come;
+  tops_come = tops_come;
+  two_stay = two_stay;
+  names_stay = names_stay;
+  tops_rise = tops_rise;
   held_stay_own = held_stay_own;
 }

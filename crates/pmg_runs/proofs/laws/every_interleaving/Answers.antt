@@ -1,3 +1,4 @@
+use Rattle.pmg_runs.proofs.Keeping.{keeps_two, keeps_waiting}
 use Rattle.pmg_runs.proofs.Leaving.{released_whole, released_alike}
 use Rattle.pmg_runs.proofs.Refreshed.{refresh_theorem}
 use Rattle.pmg_runs.proofs.Rising.{fence_theorem, gets_rise}
@@ -13,6 +14,8 @@ returns c = record {
   one_header = one_header;
   names_were_entered = names_were_entered;
   always_in_turn = always_in_turn;
+  keeps_two = keeps_two;
+  keeps_waiting = keeps_waiting;
   fence_theorem = fence_theorem;
   released_whole = released_whole;
   released_alike = released_alike;

@@ -20,7 +20,7 @@ returns c =
     let inside = c.self.inside in
     let s : Server = server_of inside.table inside.id inside.board inside.own inside.calls inside.held inside.marks in
     let reply = c.args.reply.now in
-    let taken = ap (λ (x : Server). is_taken x.jobs x.id (frames.RefreshReply reply)) c.self.view_is ∙ c.requires.taken in
+    let taken = ap (λ (x : Server). is_taken x.jobs x.id x.holding.table (frames.RefreshReply reply)) c.self.view_is ∙ c.requires.taken in
     IfOk-weaker c.answers_then.result _ _ (λ answers are.
     ap (λ (x : Server). all_instead x.holding.calls answers.items) (sym c.self.view_is)
     ∙ reply_answers s reply taken c.self.invariant.node.server.settled c.request-number.result c.proc-proc.result.now c.request-number.ensures c.proc-proc.ensures answers.items

@@ -14,7 +14,7 @@ returns c =
     let inside = c.self.inside in
     let s : Server = server_of inside.table inside.id inside.board inside.own inside.calls inside.held inside.marks in
     let piece = c.args.piece.now in
-    let taken = ap (λ (x : Server). is_taken x.jobs x.id (frames.Piece piece)) c.self.view_is ∙ c.requires in
+    let taken = ap (λ (x : Server). is_taken x.jobs x.id x.holding.table (frames.Piece piece)) c.self.view_is ∙ c.requires in
     IfOk-weaker c.answers_about.result _ _ (λ answers are.
     ap (λ (x : Server). all_instead x.holding.calls answers.items) (sym c.self.view_is)
     ∙ piece_answers s piece taken c.self.invariant.node.server.settled c.proc.result.now c.proc.ensures.value answers.items are

@@ -16,7 +16,7 @@ returns-then-level_with-level c =
     let inside = c.self.inside in
     let s : Server = server_of inside.table inside.id inside.board inside.own inside.calls inside.held inside.marks in
     let piece = c.args.piece.now in
-    let taken = ap (λ (x : Server). is_taken x.jobs x.id (frames.Piece piece)) c.self.view_is ∙ c.requires in
+    let taken = ap (λ (x : Server). is_taken x.jobs x.id x.holding.table (frames.Piece piece)) c.self.view_is ∙ c.requires in
     let none : nat_lt (level_at inside.board.far piece.proc) (level_at (absorbed inside.board.far piece) piece.proc) ≡ false =
     (λ i. nat_lt (level_at (sym c.far-far.ensures i) (sym c.proc-proc.ensures.value i)) (level_at (absorbed (sym c.far-far.ensures i) piece) (sym c.proc-proc.ensures.value i)))
     ∙ (λ i. nat_lt (sym c.level.ensures.value i) (sym c.level_with.ensures.value i))
@@ -30,7 +30,7 @@ returns c =
     let inside = c.self.inside in
     let s : Server = server_of inside.table inside.id inside.board inside.own inside.calls inside.held inside.marks in
     let piece = c.args.piece.now in
-    let taken = ap (λ (x : Server). is_taken x.jobs x.id (frames.Piece piece)) c.self.view_is ∙ c.requires in
+    let taken = ap (λ (x : Server). is_taken x.jobs x.id x.holding.table (frames.Piece piece)) c.self.view_is ∙ c.requires in
     let more : nat_lt (level_at inside.board.far piece.proc) (level_at (absorbed inside.board.far piece) piece.proc) ≡ true =
     (λ i. nat_lt (level_at (sym c.far-far.ensures i) (sym c.proc-proc.ensures.value i)) (level_at (absorbed (sym c.far-far.ensures i) piece) (sym c.proc-proc.ensures.value i)))
     ∙ (λ i. nat_lt (sym c.level.ensures.value i) (sym c.level_with.ensures.value i))

@@ -20,7 +20,7 @@ returns-then-far_level-level c =
     let inside = c.self.inside in
     let s : Server = server_of inside.table inside.id inside.board inside.own inside.calls inside.held inside.marks in
     let reply = c.args.reply.now in
-    let taken = ap (λ (x : Server). is_taken x.jobs x.id (frames.RefreshReply reply)) c.self.view_is ∙ c.requires.taken in
+    let taken = ap (λ (x : Server). is_taken x.jobs x.id x.holding.table (frames.RefreshReply reply)) c.self.view_is ∙ c.requires.taken in
     let none : nat_lt (level_at inside.board.far reply.told.proc) (level_at (joined inside.board.far (told_by reply)) reply.told.proc) ≡ false =
     (λ i. nat_lt (level_at (sym c.far.ensures i) (sym c.proc-proc.ensures i)) (level_at (joined inside.board.far (sym c.requires.told i)) (sym c.proc-proc.ensures i)))
     ∙ (λ i. nat_lt (sym c.level.ensures.value i) (sym c.far_level.ensures.value i))
@@ -34,7 +34,7 @@ returns c =
     let inside = c.self.inside in
     let s : Server = server_of inside.table inside.id inside.board inside.own inside.calls inside.held inside.marks in
     let reply = c.args.reply.now in
-    let taken = ap (λ (x : Server). is_taken x.jobs x.id (frames.RefreshReply reply)) c.self.view_is ∙ c.requires.taken in
+    let taken = ap (λ (x : Server). is_taken x.jobs x.id x.holding.table (frames.RefreshReply reply)) c.self.view_is ∙ c.requires.taken in
     let more : nat_lt (level_at inside.board.far reply.told.proc) (level_at (joined inside.board.far (told_by reply)) reply.told.proc) ≡ true =
     (λ i. nat_lt (level_at (sym c.far.ensures i) (sym c.proc-proc.ensures i)) (level_at (joined inside.board.far (sym c.requires.told i)) (sym c.proc-proc.ensures i)))
     ∙ (λ i. nat_lt (sym c.level.ensures.value i) (sym c.far_level.ensures.value i))

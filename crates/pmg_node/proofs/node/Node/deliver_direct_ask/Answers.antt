@@ -23,7 +23,7 @@ returns-then-not-is_asked-clause-reply c =
     let s = c.args.self.now in
     let a : Frame = frames.DirectAsk c.args.ask.now in
     let kept = subst IsNode c.self.view_is c.self.invariant.node in
-    let none = direct_taken s.jobs s.id c.args.ask.now ∙ sym c.is_asked.ensures ∙ c.if-not-is_asked.true in
+    let none = direct_taken s.jobs s.id s.holding.table c.args.ask.now ∙ sym c.is_asked.ensures ∙ c.if-not-is_asked.true in
     ap (λ (d : Done). d.reply) (ignored_is s.jobs s.id s.holding kept.server.settled a none)
 
 pub returns-then-not-is_asked-clause-ok : goal.returns-then-not-is_asked-clause-ok
@@ -31,7 +31,7 @@ returns-then-not-is_asked-clause-ok c =
     let s = c.args.self.now in
     let a : Frame = frames.DirectAsk c.args.ask.now in
     let kept = subst IsNode c.self.view_is c.self.invariant.node in
-    let none = direct_taken s.jobs s.id c.args.ask.now ∙ sym c.is_asked.ensures ∙ c.if-not-is_asked.true in
+    let none = direct_taken s.jobs s.id s.holding.table c.args.ask.now ∙ sym c.is_asked.ensures ∙ c.if-not-is_asked.true in
     sym (after_is s (Act.deliver a) (ignored_silent s.jobs s.id s.holding kept.server.settled s.marks a none) _ (ignored_is s.jobs s.id s.holding kept.server.settled a none))
 
 pub returns-then-not-is_asked-clause-sent : goal.returns-then-not-is_asked-clause-sent
@@ -39,7 +39,7 @@ returns-then-not-is_asked-clause-sent c =
     let s = c.args.self.now in
     let a : Frame = frames.DirectAsk c.args.ask.now in
     let kept = subst IsNode c.self.view_is c.self.invariant.node in
-    let none = direct_taken s.jobs s.id c.args.ask.now ∙ sym c.is_asked.ensures ∙ c.if-not-is_asked.true in
+    let none = direct_taken s.jobs s.id s.holding.table c.args.ask.now ∙ sym c.is_asked.ensures ∙ c.if-not-is_asked.true in
     sym (append-nil c.args.out.now.items)
     ∙ ap (λ (x : List Sent). c.args.out.now.items ++ x) (sym (sent_none s (Act.deliver a) (ignored_silent s.jobs s.id s.holding kept.server.settled s.marks a none)))
 
@@ -49,7 +49,7 @@ returns-then-level-clause-reply c =
     let inside = c.self.inside in
     let ask = c.args.ask.now in
     let kept = subst IsNode c.self.view_is c.self.invariant.node in
-    let taken = direct_taken s.jobs s.id ask ∙ sym c.is_asked.ensures ∙ c.if-not-is_asked.false in
+    let taken = direct_taken s.jobs s.id s.holding.table ask ∙ sym c.is_asked.ensures ∙ c.if-not-is_asked.false in
     ap (λ (d : Done). d.reply) (direct_is s.jobs s.id s.holding kept.server.settled ask taken)
 
 pub returns-then-level-clause-ok : goal.returns-then-level-clause-ok
@@ -58,7 +58,7 @@ returns-then-level-clause-ok c =
     let inside = c.self.inside in
     let ask = c.args.ask.now in
     let kept = subst IsNode c.self.view_is c.self.invariant.node in
-    let taken = direct_taken s.jobs s.id ask ∙ sym c.is_asked.ensures ∙ c.if-not-is_asked.false in
+    let taken = direct_taken s.jobs s.id s.holding.table ask ∙ sym c.is_asked.ensures ∙ c.if-not-is_asked.false in
     let below : nat_lt ask.level (sealer_of s.holding ask.proc).level ≡ true =
     (λ i. nat_lt (sym c.level-2.ensures.value i) (sealer_of (sym c.self.view_is i).holding ask.proc).level)
     ∙ (λ i. nat_lt c.level-2.result (sealed_of inside.own (sym c.proc-2.ensures.value i)).level)
@@ -85,7 +85,7 @@ returns-then-level-clause-sent c =
     let inside = c.self.inside in
     let ask = c.args.ask.now in
     let kept = subst IsNode c.self.view_is c.self.invariant.node in
-    let taken = direct_taken s.jobs s.id ask ∙ sym c.is_asked.ensures ∙ c.if-not-is_asked.false in
+    let taken = direct_taken s.jobs s.id s.holding.table ask ∙ sym c.is_asked.ensures ∙ c.if-not-is_asked.false in
     let due = c.in_ok-dues.ensures ∙ (λ i. answering_by (sealed_of inside.own) (c.node.ensures i) (c.proc.ensures.value i) (c.level.ensures.value i)) in
     c.in_ok-handed.ensures.frames
     ∙ ap (λ (ds : List Due). c.args.out.now.items ++ (sends (sealed_of inside.own) (asked_marks inside.marks (Some ask)) ds).frames) due
@@ -98,7 +98,7 @@ invariant_of-self-in_default c =
     let inside = c.self.inside in
     let ask = c.args.ask.now in
     let kept = subst IsNode c.self.view_is c.self.invariant.node in
-    let taken = direct_taken s.jobs s.id ask ∙ sym c.is_asked.ensures ∙ c.if-not-is_asked.false in
+    let taken = direct_taken s.jobs s.id s.holding.table ask ∙ sym c.is_asked.ensures ∙ c.if-not-is_asked.false in
     let below : nat_lt ask.level (sealer_of s.holding ask.proc).level ≡ false =
     (λ i. nat_lt (sym c.level-2.ensures.value i) (sealer_of (sym c.self.view_is i).holding ask.proc).level)
     ∙ (λ i. nat_lt c.level-2.result (sealed_of inside.own (sym c.proc-2.ensures.value i)).level)
@@ -135,7 +135,7 @@ returns-clause-reply c =
     let inside = c.self.inside in
     let ask = c.args.ask.now in
     let kept = subst IsNode c.self.view_is c.self.invariant.node in
-    let taken = direct_taken s.jobs s.id ask ∙ sym c.is_asked.ensures ∙ c.if-not-is_asked.false in
+    let taken = direct_taken s.jobs s.id s.holding.table ask ∙ sym c.is_asked.ensures ∙ c.if-not-is_asked.false in
     ap (λ (d : Done). d.reply) (direct_is s.jobs s.id s.holding kept.server.settled ask taken)
 
 pub returns-clause-ok : goal.returns-clause-ok
@@ -144,7 +144,7 @@ returns-clause-ok c =
     let inside = c.self.inside in
     let ask = c.args.ask.now in
     let kept = subst IsNode c.self.view_is c.self.invariant.node in
-    let taken = direct_taken s.jobs s.id ask ∙ sym c.is_asked.ensures ∙ c.if-not-is_asked.false in
+    let taken = direct_taken s.jobs s.id s.holding.table ask ∙ sym c.is_asked.ensures ∙ c.if-not-is_asked.false in
     let below : nat_lt ask.level (sealer_of s.holding ask.proc).level ≡ false =
     (λ i. nat_lt (sym c.level-2.ensures.value i) (sealer_of (sym c.self.view_is i).holding ask.proc).level)
     ∙ (λ i. nat_lt c.level-2.result (sealed_of inside.own (sym c.proc-2.ensures.value i)).level)
@@ -175,7 +175,7 @@ returns-clause-sent c =
     let inside = c.self.inside in
     let ask = c.args.ask.now in
     let kept = subst IsNode c.self.view_is c.self.invariant.node in
-    let taken = direct_taken s.jobs s.id ask ∙ sym c.is_asked.ensures ∙ c.if-not-is_asked.false in
+    let taken = direct_taken s.jobs s.id s.holding.table ask ∙ sym c.is_asked.ensures ∙ c.if-not-is_asked.false in
     let due = c.in_ok-dues.ensures ∙ (λ i. answering_by (sealed_of inside.own) (c.node.ensures i) (c.proc.ensures.value i) (c.level.ensures.value i)) in
     c.in_ok-handed.ensures.frames
     ∙ ap (λ (ds : List Due). c.args.out.now.items ++ (sends (sealed_of inside.own) (asked_marks inside.marks (Some ask)) ds).frames) due

@@ -18,7 +18,7 @@ returns-then-not-is_asked-clause-reply c =
     let s = c.args.self.now in
     let a : Frame = frames.RangeAsk c.args.ask.now in
     let kept = subst IsNode c.self.view_is c.self.invariant.node in
-    let none = range_taken s.jobs s.id c.args.ask.now ∙ sym c.is_asked.ensures ∙ c.if-not-is_asked.true in
+    let none = range_taken s.jobs s.id s.holding.table c.args.ask.now ∙ sym c.is_asked.ensures ∙ c.if-not-is_asked.true in
     ap (λ (d : Done). d.reply) (ignored_is s.jobs s.id s.holding kept.server.settled a none)
 
 pub returns-then-not-is_asked-clause-ok : goal.returns-then-not-is_asked-clause-ok
@@ -26,7 +26,7 @@ returns-then-not-is_asked-clause-ok c =
     let s = c.args.self.now in
     let a : Frame = frames.RangeAsk c.args.ask.now in
     let kept = subst IsNode c.self.view_is c.self.invariant.node in
-    let none = range_taken s.jobs s.id c.args.ask.now ∙ sym c.is_asked.ensures ∙ c.if-not-is_asked.true in
+    let none = range_taken s.jobs s.id s.holding.table c.args.ask.now ∙ sym c.is_asked.ensures ∙ c.if-not-is_asked.true in
     sym (after_is s (Act.deliver a) (ignored_silent s.jobs s.id s.holding kept.server.settled s.marks a none) _ (ignored_is s.jobs s.id s.holding kept.server.settled a none))
 
 pub returns-then-not-is_asked-clause-sent : goal.returns-then-not-is_asked-clause-sent
@@ -34,7 +34,7 @@ returns-then-not-is_asked-clause-sent c =
     let s = c.args.self.now in
     let a : Frame = frames.RangeAsk c.args.ask.now in
     let kept = subst IsNode c.self.view_is c.self.invariant.node in
-    let none = range_taken s.jobs s.id c.args.ask.now ∙ sym c.is_asked.ensures ∙ c.if-not-is_asked.true in
+    let none = range_taken s.jobs s.id s.holding.table c.args.ask.now ∙ sym c.is_asked.ensures ∙ c.if-not-is_asked.true in
     sym (append-nil c.args.out.now.items)
     ∙ ap (λ (x : List Sent). c.args.out.now.items ++ x) (sym (sent_none s (Act.deliver a) (ignored_silent s.jobs s.id s.holding kept.server.settled s.marks a none)))
 
@@ -42,7 +42,7 @@ pub returns-clause-reply : goal.returns-clause-reply
 returns-clause-reply c =
     let s = c.args.self.now in
     let kept = subst IsNode c.self.view_is c.self.invariant.node in
-    let taken = range_taken s.jobs s.id c.args.ask.now ∙ sym c.is_asked.ensures ∙ c.if-not-is_asked.false in
+    let taken = range_taken s.jobs s.id s.holding.table c.args.ask.now ∙ sym c.is_asked.ensures ∙ c.if-not-is_asked.false in
     ap (λ (d : Done). d.reply) (range_is s.jobs s.id s.holding kept.server.settled c.args.ask.now taken)
 
 pub returns-clause-ok : goal.returns-clause-ok
@@ -51,7 +51,7 @@ returns-clause-ok c =
     let inside = c.self.inside in
     let ask = c.args.ask.now in
     let kept = subst IsNode c.self.view_is c.self.invariant.node in
-    let taken = range_taken s.jobs s.id ask ∙ sym c.is_asked.ensures ∙ c.if-not-is_asked.false in
+    let taken = range_taken s.jobs s.id s.holding.table ask ∙ sym c.is_asked.ensures ∙ c.if-not-is_asked.false in
     let due = c.in_ok-dues.ensures ∙ (λ i. answering_by (sealed_of inside.own) (c.node.ensures i) (c.proc.ensures.value i) (c.level.ensures.value i)) in
     let out : c.hand_out.new.marks ≡ (range_out ask s).marks =
     c.in_ok-hand_out.ensures.marks
@@ -72,7 +72,7 @@ returns-clause-sent c =
     let inside = c.self.inside in
     let ask = c.args.ask.now in
     let kept = subst IsNode c.self.view_is c.self.invariant.node in
-    let taken = range_taken s.jobs s.id ask ∙ sym c.is_asked.ensures ∙ c.if-not-is_asked.false in
+    let taken = range_taken s.jobs s.id s.holding.table ask ∙ sym c.is_asked.ensures ∙ c.if-not-is_asked.false in
     let due = c.in_ok-dues.ensures ∙ (λ i. answering_by (sealed_of inside.own) (c.node.ensures i) (c.proc.ensures.value i) (c.level.ensures.value i)) in
     c.in_ok-hand_out.ensures.frames
     ∙ ap (λ (ds : List Due). c.args.out.now.items ++ (sends (sealed_of inside.own) (asked_marks inside.marks (Some ask)) ds).frames) due

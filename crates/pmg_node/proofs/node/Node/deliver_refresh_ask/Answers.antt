@@ -16,7 +16,7 @@ pub returns-then-not-is_asked-clause-reply : goal.returns-then-not-is_asked-clau
 returns-then-not-is_asked-clause-reply c =
     let s = c.args.self.now in
     let frame : Frame = frames.RefreshAsk c.args.ask.now in
-    let none = refresh_taken s.jobs s.id c.args.ask.now ∙ ap (λ (a : CommitAsk). is_peer s.jobs s.id a.node && is_known s.jobs a.proc && (home_of s.jobs a.proc == s.id)) (sym c.ask.ensures) ∙ sym c.is_asked.ensures ∙ c.if-not-is_asked.true in
+    let none = refresh_taken s.jobs s.id s.holding.table c.args.ask.now ∙ ap (λ (a : CommitAsk). is_peer s.jobs s.id a.node && is_known s.jobs a.proc && (home_of s.jobs a.proc == s.id)) (sym c.ask.ensures) ∙ sym c.is_asked.ensures ∙ c.if-not-is_asked.true in
     let its = ignores s (subst IsNode c.self.view_is c.self.invariant.node) frame none in
     its.reply
 
@@ -24,7 +24,7 @@ pub returns-then-not-is_asked-clause-ok : goal.returns-then-not-is_asked-clause-
 returns-then-not-is_asked-clause-ok c =
     let s = c.args.self.now in
     let frame : Frame = frames.RefreshAsk c.args.ask.now in
-    let none = refresh_taken s.jobs s.id c.args.ask.now ∙ ap (λ (a : CommitAsk). is_peer s.jobs s.id a.node && is_known s.jobs a.proc && (home_of s.jobs a.proc == s.id)) (sym c.ask.ensures) ∙ sym c.is_asked.ensures ∙ c.if-not-is_asked.true in
+    let none = refresh_taken s.jobs s.id s.holding.table c.args.ask.now ∙ ap (λ (a : CommitAsk). is_peer s.jobs s.id a.node && is_known s.jobs a.proc && (home_of s.jobs a.proc == s.id)) (sym c.ask.ensures) ∙ sym c.is_asked.ensures ∙ c.if-not-is_asked.true in
     let its = ignores s (subst IsNode c.self.view_is c.self.invariant.node) frame none in
     sym its.left
 
@@ -32,7 +32,7 @@ pub returns-then-not-is_asked-clause-sent : goal.returns-then-not-is_asked-claus
 returns-then-not-is_asked-clause-sent c =
     let s = c.args.self.now in
     let frame : Frame = frames.RefreshAsk c.args.ask.now in
-    let none = refresh_taken s.jobs s.id c.args.ask.now ∙ ap (λ (a : CommitAsk). is_peer s.jobs s.id a.node && is_known s.jobs a.proc && (home_of s.jobs a.proc == s.id)) (sym c.ask.ensures) ∙ sym c.is_asked.ensures ∙ c.if-not-is_asked.true in
+    let none = refresh_taken s.jobs s.id s.holding.table c.args.ask.now ∙ ap (λ (a : CommitAsk). is_peer s.jobs s.id a.node && is_known s.jobs a.proc && (home_of s.jobs a.proc == s.id)) (sym c.ask.ensures) ∙ sym c.is_asked.ensures ∙ c.if-not-is_asked.true in
     let its = ignores s (subst IsNode c.self.view_is c.self.invariant.node) frame none in
     sym (append-nil c.args.out.now.items) ∙ ap (λ (x : List Sent). c.args.out.now.items ++ x) (sym its.sent)
 
@@ -43,7 +43,7 @@ pub returns-clause-reply : goal.returns-clause-reply
 returns-clause-reply c =
     let s = c.args.self.now in
     let kept = subst IsNode c.self.view_is c.self.invariant.node in
-    let taken = refresh_taken s.jobs s.id c.args.ask.now ∙ ap (λ (a : CommitAsk). is_peer s.jobs s.id a.node && is_known s.jobs a.proc && (home_of s.jobs a.proc == s.id)) (sym c.ask.ensures) ∙ sym c.is_asked.ensures ∙ c.if-not-is_asked.false in
+    let taken = refresh_taken s.jobs s.id s.holding.table c.args.ask.now ∙ ap (λ (a : CommitAsk). is_peer s.jobs s.id a.node && is_known s.jobs a.proc && (home_of s.jobs a.proc == s.id)) (sym c.ask.ensures) ∙ sym c.is_asked.ensures ∙ c.if-not-is_asked.false in
     ap (λ (d : Done). d.reply) (refresh_is s.jobs s.id s.holding kept.server.settled c.args.ask.now taken)
 
 pub returns-clause-ok : goal.returns-clause-ok
@@ -52,7 +52,7 @@ returns-clause-ok c =
     let inside = c.self.inside in
     let ask = c.args.ask.now in
     let kept = subst IsNode c.self.view_is c.self.invariant.node in
-    let taken = refresh_taken s.jobs s.id c.args.ask.now ∙ ap (λ (a : CommitAsk). is_peer s.jobs s.id a.node && is_known s.jobs a.proc && (home_of s.jobs a.proc == s.id)) (sym c.ask.ensures) ∙ sym c.is_asked.ensures ∙ c.if-not-is_asked.false in
+    let taken = refresh_taken s.jobs s.id s.holding.table c.args.ask.now ∙ ap (λ (a : CommitAsk). is_peer s.jobs s.id a.node && is_known s.jobs a.proc && (home_of s.jobs a.proc == s.id)) (sym c.ask.ensures) ∙ sym c.is_asked.ensures ∙ c.if-not-is_asked.false in
     let out : c.hand_out.new.marks ≡ (refresh_out ask s).marks =
     c.in_ok-hand_out.ensures.marks
     ∙ (λ i. (sends (sealed_of inside.own) (asked_marks inside.marks (Some (c.ask-2.ensures i))) (c.in_ok-dues.ensures i)).marks)
@@ -72,7 +72,7 @@ returns-clause-sent c =
     let inside = c.self.inside in
     let ask = c.args.ask.now in
     let kept = subst IsNode c.self.view_is c.self.invariant.node in
-    let taken = refresh_taken s.jobs s.id c.args.ask.now ∙ ap (λ (a : CommitAsk). is_peer s.jobs s.id a.node && is_known s.jobs a.proc && (home_of s.jobs a.proc == s.id)) (sym c.ask.ensures) ∙ sym c.is_asked.ensures ∙ c.if-not-is_asked.false in
+    let taken = refresh_taken s.jobs s.id s.holding.table c.args.ask.now ∙ ap (λ (a : CommitAsk). is_peer s.jobs s.id a.node && is_known s.jobs a.proc && (home_of s.jobs a.proc == s.id)) (sym c.ask.ensures) ∙ sym c.is_asked.ensures ∙ c.if-not-is_asked.false in
     c.in_ok-hand_out.ensures.frames
     ∙ (λ i. c.args.out.now.items ++ (sends (sealed_of inside.own) (asked_marks inside.marks (Some (c.ask-2.ensures i))) (c.in_ok-dues.ensures i)).frames)
     ∙ ap (λ (x : Server). c.args.out.now.items ++ (refresh_out ask x).frames) c.self.view_is
