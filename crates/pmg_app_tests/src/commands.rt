@@ -1,70 +1,91 @@
 //! What no clause says of `dump` and `merge`: what readers and writers that fail leave.
-use crate::running::{FailingWriter, check_memory, check_written, run_failing, run_into, run_on};
-use pmg_app::carry_out;
+use crate::running::{FailingWriter, check_written, run_failing, run_into, run_on, status_of};
 use pmg_commands::Chosen;
 use pmg_store::WatchedReader;
-use pmg_value::{Refusal, WatchedWriter};
+use pmg_value::WatchedWriter;
 use std::io;
+use std::process::Abort;
+use std::sync::Wait;
+use std::thread::Threads;
+use std::time::Clock;
 
 const ONE_CONTRIBUTION: &[u8] =
     b"010100000027016a00000000000000000000000000000000000000010000000100016100000000000000010101";
 
 #[test]
-fn input_without_end_is_refused(rt: HostRuntime) -> Result<(), Refusal> {
+fn input_without_end_is_refused(rt: HostRuntime) {
     let mut reader = WatchedReader::new(io::repeat(b' '));
     let mut writer = WatchedWriter::new(Vec::new(rt.alloc()));
-    let status = carry_out(
-        &rt,
-        Chosen::Dump,
-        Vec::new(rt.alloc()),
-        &mut reader,
-        &mut writer,
-    );
-    check_memory(status, &writer)?;
+    let status = status_of(&rt, Chosen::Dump, &mut reader, &mut writer);
+    let printed = writer.into_inner();
     assert!(rt; status == 1);
-    assert!(rt;
-        writer.into_inner().as_slice() == b"refused 10 BadFrame: Input at 67108864\n".as_slice()
-    );
-    Ok(())
+    assert!(rt; printed.as_slice() == b"refused 10 BadFrame: Input at 67108864\n".as_slice());
+}
+
+// Requires that a reader that fails at that read has the command print that alone.
+fn assert_read_fault<T: AllocGlobal + Threads + Wait + Clock + Sync + Abort>(
+    rt: &T,
+    chosen: Chosen,
+    fails_at: usize,
+) {
+    let (status, reads, printed) = run_failing(rt, chosen, ONE_CONTRIBUTION, fails_at);
+    assert!(rt; status == 1);
+    assert!(rt; reads == fails_at);
+    assert!(rt; printed.as_slice() == b"read fault\n".as_slice());
 }
 
 #[test]
-fn a_failing_reader_prints_read_fault_alone(rt: HostRuntime) -> Result<(), Refusal> {
+fn a_failing_reader_prints_read_fault_alone(rt: HostRuntime) {
     for chosen in [Chosen::Dump, Chosen::Merge] {
         for fails_at in 1..=10 {
-            let (status, reads, printed) = run_failing(&rt, chosen, ONE_CONTRIBUTION, fails_at)?;
-            assert!(rt; status == 1);
-            assert!(rt; reads == fails_at);
-            assert!(rt; printed.as_slice() == b"read fault\n".as_slice());
+            assert_read_fault(&rt, chosen, fails_at);
         }
     }
-    Ok(())
+}
+
+// Requires that a writer that fails after so many writes holds a prefix of the whole, with which the command ends with that status
+// only where it is all.
+fn assert_prefix<T: AllocGlobal + Threads + Wait + Clock + Sync + Abort>(
+    rt: &T,
+    chosen: Chosen,
+    text: &[u8],
+    whole: &[u8],
+    status: u8,
+    writes: usize,
+) {
+    let writer = FailingWriter::new(rt, rt.alloc(), writes, true);
+    let (failing, writer) = run_into(rt, chosen, text, writer);
+    check_written(rt, &writer.held, whole);
+    assert!(rt; whole.starts_with(writer.held.as_slice()));
+    let is_whole = writer.held.len() == whole.len();
+    assert!(rt; failing == if is_whole { status } else { 1 });
+}
+
+// Requires it after each number of writes below ten.
+fn assert_prefixes<T: AllocGlobal + Threads + Wait + Clock + Sync + Abort>(
+    rt: &T,
+    chosen: Chosen,
+    text: &[u8],
+) {
+    let (status, whole) = run_on(rt, chosen, text);
+    for writes in 0..10 {
+        assert_prefix(rt, chosen, text, &whole, status, writes);
+    }
 }
 
 #[test]
-fn a_failing_writer_holds_a_prefix_and_no_line(rt: HostRuntime) -> Result<(), Refusal> {
+fn a_failing_writer_holds_a_prefix_and_no_line(rt: HostRuntime) {
     for chosen in [Chosen::Dump, Chosen::Merge] {
-        for text in [ONE_CONTRIBUTION, b"010".as_slice()] {
-            let (status, whole) = run_on(&rt, chosen, text)?;
-            for writes in 0..10 {
-                let writer = FailingWriter::new(rt.alloc(), writes, true)?;
-                let (failing, writer) = run_into(&rt, chosen, text, writer)?;
-                check_written(&writer.held, &whole)?;
-                assert!(rt; whole.starts_with(writer.held.as_slice()));
-                let is_whole = writer.held.len() == whole.len();
-                assert!(rt; failing == if is_whole { status } else { 1 });
-            }
-        }
+        assert_prefixes(&rt, chosen, ONE_CONTRIBUTION);
+        assert_prefixes(&rt, chosen, b"010");
     }
-    Ok(())
 }
 
 #[test]
-fn output_that_cannot_be_flushed_is_a_write_fault(rt: HostRuntime) -> Result<(), Refusal> {
-    let writer = FailingWriter::new(rt.alloc(), 100, false)?;
-    let (status, writer) = run_into(&rt, Chosen::Dump, b"", writer)?;
-    check_written(&writer.held, b"")?;
+fn output_that_cannot_be_flushed_is_a_write_fault(rt: HostRuntime) {
+    let writer = FailingWriter::new(&rt, rt.alloc(), 100, false);
+    let (status, writer) = run_into(&rt, Chosen::Dump, b"", writer);
+    check_written(&rt, &writer.held, b"");
     assert!(rt; status == 1);
     assert!(rt; writer.held.is_empty());
-    Ok(())
 }

@@ -1,11 +1,13 @@
 //! Jobs that are run, with reports found by hand.
 use crate::programs::{Fencing, Meeting, Refreshing, Refused, Reporting, number_in, push_line};
+use crate::running::{MEMORY, give_up_where};
+use pmg_audit::Run;
 use pmg_job::Job;
-use pmg_launch::{Exchange, Links, Outcome, Program, run, run_linked};
+use pmg_launch::{Exchange, Links, Outcome, Program, Report, run, run_linked};
 use pmg_node::{Reply, Request};
 use pmg_value::{NodeId, Proc, Refusal, WatchedWriter};
 use pmg_world::{Event, Told};
-use std::alloc::{AllocError, Global};
+use std::alloc::Global;
 use std::process::Abort;
 use std::sync::Wait;
 use std::thread::Threads;
@@ -28,43 +30,50 @@ const FOUR_ADDRESSES: &str =
 const MOST: &[u8] = br#"{"nodes":["a","b","c","d","e","f","g","h"],"spaces":[
     {"name":"k","homes":[0,1,2,3,4,5,6,7,0,1,2,3,4,5,6,7]},{"name":"j","homes":[7,7,7,6,5,4,3,2,1,0,0,0,1,2,3,4]}]}"#;
 
-// Refused as NoMemory where a client was.
-fn check_memory(outcome: &Outcome) -> Result<(), Refusal> {
-    for report in &outcome.reports {
-        if report.answer == Err(Refusal::NoMemory) {
-            return Err(Refusal::NoMemory);
-        }
+// Gives up as NoMemory where a client was refused so.
+fn check_memory(rt: &impl Abort, reports: &[Report]) {
+    for report in reports {
+        give_up_where(rt, report.answer == Err(Refusal::NoMemory));
     }
-    Ok(())
+}
+
+// All that the clients reported.
+fn reported(rt: &impl Abort, alloc: Global, reports: &[Report]) -> Vec<u8> {
+    let mut text = Vec::new(alloc);
+    for report in reports {
+        text.extend_from_slice(&report.text).expect(rt, MEMORY);
+    }
+    text
+}
+
+// The text, and behind it the far dump of node 0.
+fn with_dump(rt: &impl Abort, text: Vec<u8>, run: &Run) -> Vec<u8> {
+    let mut writer = WatchedWriter::new(text);
+    if let Some(node) = run.node(NodeId::new(0).expect(rt, MEMORY)) {
+        let is_whole = node.board().far().dump(&mut writer).is_ok();
+        give_up_where(rt, !is_whole);
+    }
+    writer.into_inner()
 }
 
 // All that the clients reported, and behind it the far dump of node 0.
-fn text_of(alloc: Global, outcome: &Outcome) -> Result<Vec<u8>, Refusal> {
-    check_memory(outcome)?;
-    let mut writer = WatchedWriter::new(Vec::new(alloc));
-    let mut is_whole = true;
-    for report in &outcome.reports {
-        is_whole = writer.put_text(&report.text).is_ok() && is_whole;
-    }
-    if let Some(node) = outcome.run.node(NodeId::new(0)?) {
-        is_whole = node.board().far().dump(&mut writer).is_ok() && is_whole;
-    }
-    if !is_whole {
-        return Err(Refusal::NoMemory);
-    }
-    Ok(writer.into_inner())
+fn text_of(rt: &impl Abort, alloc: Global, outcome: &Outcome) -> Vec<u8> {
+    check_memory(rt, &outcome.reports);
+    let text = reported(rt, alloc, &outcome.reports);
+    with_dump(rt, text, &outcome.run)
 }
 
 // Runs the job over such links with these programs, and gives the text of its outcome.
-fn text_by<R: Threads + Wait + Clock + Sync>(
+fn text_by<R: Threads + Wait + Clock + Sync + Abort>(
     rt: &R,
     alloc: Global,
     job: &[u8],
     programs: Vec<Box<dyn Program>>,
     links: Links,
-) -> Result<Vec<u8>, Refusal> {
-    let outcome = run_linked(rt, Job::read(alloc, job)?, programs, links)?;
-    text_of(alloc, &outcome)
+) -> Vec<u8> {
+    let job = Job::read(alloc, job).expect(rt, MEMORY);
+    let outcome = run_linked(rt, job, programs, links).expect(rt, MEMORY);
+    text_of(rt, alloc, &outcome)
 }
 
 // Links over which frames are lost, sent twice and held back as often, and nodes ask again for 20 seconds.
@@ -77,131 +86,184 @@ fn links_of(lose: u32, repeat: u32, hold: u32) -> Links {
     }
 }
 
+// Requires that four clients of two nodes with these programs report their addresses, over such links.
+fn assert_addresses<R: Threads + Wait + Clock + Sync + Abort>(
+    rt: &R,
+    alloc: Global,
+    programs: Vec<Box<dyn Program>>,
+    links: Links,
+) {
+    let text = text_by(rt, alloc, TWO_NODES, programs, links);
+    assert!(rt; text.as_slice() == FOUR_ADDRESSES.as_bytes());
+}
+
 #[test]
-fn addresses_of_two_nodes(rt: HostRuntime) -> Result<(), Refusal> {
+fn addresses_of_two_nodes(rt: HostRuntime) {
     let alloc = rt.alloc();
     for links in [Links::default(), links_of(3, 4, 2)] {
         let mut programs: Vec<Box<dyn Program>> = Vec::new(alloc);
         for _ in 0..4 {
-            programs.push(Box::new(alloc, Exchange::new(rt, alloc))?)?;
+            let exchange = Box::new(alloc, Exchange::new(rt, alloc)).expect(&rt, MEMORY);
+            programs.push(exchange).expect(&rt, MEMORY);
         }
-        let text = text_by(&rt, alloc, TWO_NODES, programs, links)?;
-        assert_eq!(rt; text.as_slice(), FOUR_ADDRESSES.as_bytes());
+        assert_addresses(&rt, alloc, programs, links);
     }
-    Ok(())
+}
+
+// The links of that turn, which lose no frame, or one in three, four or five: of links that lose each second frame, each answer may be
+// the one that is lost.
+fn links_at(turn: u32) -> Links {
+    let lose = [0, 3, 4, 5][turn as usize % 4];
+    links_of(lose, turn / 4 % 6, turn / 24 % 6)
 }
 
 // Whatever links lose, repeat and hold back, the clients report the same.
 #[test]
-fn bad_links_change_no_report(rt: HostRuntime) -> Result<(), Refusal> {
+fn bad_links_change_no_report(rt: HostRuntime) {
     let alloc = rt.alloc();
     for turn in 0..RUNS {
-        // of links that lose each second frame, each answer may be the one that is lost
-        let lose = [0, 3, 4, 5][turn as usize % 4];
-        let links = links_of(lose, turn / 4 % 6, turn / 24 % 6);
         let mut programs: Vec<Box<dyn Program>> = Vec::new(alloc);
         for _ in 0..4 {
-            programs.push(Box::new(alloc, Exchange::new(rt, alloc))?)?;
+            let exchange = Box::new(alloc, Exchange::new(rt, alloc)).expect(&rt, MEMORY);
+            programs.push(exchange).expect(&rt, MEMORY);
         }
-        let text = text_by(&rt, alloc, TWO_NODES, programs, links)?;
-        assert_eq!(rt; text.as_slice(), FOUR_ADDRESSES.as_bytes());
+        assert_addresses(&rt, alloc, programs, links_at(turn));
     }
-    Ok(())
+}
+
+// Requires that a job of four processes is refused as BadParam with these programs.
+fn assert_bad_count<R: Threads + Wait + Clock + Sync + Abort>(
+    rt: &R,
+    alloc: Global,
+    programs: Vec<Box<dyn Program>>,
+) {
+    let job = Job::read(alloc, TWO_NODES).expect(rt, MEMORY);
+    let refusal = run_linked(rt, job, programs, Links::default()).err();
+    give_up_where(rt, refusal == Some(Refusal::NoMemory));
+    assert!(rt; refusal == Some(Refusal::BadParam));
 }
 
 #[test]
-fn a_job_has_a_program_for_each_process(rt: HostRuntime) -> Result<(), Refusal> {
+fn a_job_has_a_program_for_each_process(rt: HostRuntime) {
     let alloc = rt.alloc();
     for count in [0, 3, 5] {
         let mut programs: Vec<Box<dyn Program>> = Vec::new(alloc);
         for _ in 0..count {
-            programs.push(Box::new(alloc, Refused)?)?;
+            let refused = Box::new(alloc, Refused).expect(&rt, MEMORY);
+            programs.push(refused).expect(&rt, MEMORY);
         }
-        match text_by(&rt, alloc, TWO_NODES, programs, Links::default()) {
-            Err(Refusal::BadParam) => {}
-            Err(refusal) => return Err(refusal),
-            Ok(_) => return Err(Refusal::NotFound),
-        }
+        assert_bad_count(&rt, alloc, programs);
     }
-    Ok(())
 }
 
-// A rank below 16 as decimal digits, each behind that byte.
-fn push_rank(text: &mut Vec<u8>, rank: u8, before: &[u8]) -> Result<(), AllocError> {
+// The bytes behind the text.
+fn push(rt: &impl Abort, text: &mut Vec<u8>, bytes: &[u8]) {
+    text.extend_from_slice(bytes).expect(rt, MEMORY);
+}
+
+// A rank below 16 as decimal digits, each behind these bytes.
+fn push_rank(rt: &impl Abort, text: &mut Vec<u8>, rank: u8, before: &[u8]) {
     if rank >= 10 {
-        text.extend_from_slice(before)?;
-        text.push(b'1')?;
+        push(rt, text, before);
+        push(rt, text, b"1");
     }
-    text.extend_from_slice(before)?;
-    text.push(b'0' + rank % 10)?;
-    Ok(())
+    push(rt, text, before);
+    push(rt, text, &[b'0' + rank % 10]);
 }
 
 // What 16 clients of a namespace report where there are 32.
-fn push_reports(text: &mut Vec<u8>, name: u8) -> Result<(), AllocError> {
+fn push_reports(rt: &impl Abort, text: &mut Vec<u8>, name: &[u8]) {
     for rank in 0..16 {
-        text.extend_from_slice(b"client ")?;
-        text.push(name)?;
-        text.push(b' ')?;
-        push_rank(text, rank, b"")?;
-        text.extend_from_slice(b" found 31 own 1\n")?;
+        push(rt, text, b"client ");
+        push(rt, text, name);
+        push(rt, text, b" ");
+        push_rank(rt, text, rank, b"");
+        push(rt, text, b" found 31 own 1\n");
     }
-    Ok(())
 }
 
 // The dump of the addresses of the 16 processes of a namespace, whose name is spelt so.
-fn push_addresses(text: &mut Vec<u8>, name: u8, spelt: &[u8]) -> Result<(), AllocError> {
+fn push_addresses(rt: &impl Abort, text: &mut Vec<u8>, name: &[u8], spelt: &[u8]) {
     for rank in 0..16 {
-        text.extend_from_slice(b"proc ")?;
-        text.push(name)?;
-        text.push(b' ')?;
-        push_rank(text, rank, b"")?;
-        text.extend_from_slice(b" level 1\n  string:")?;
-        text.extend_from_slice(spelt)?;
-        text.extend_from_slice(b"2f")?;
-        push_rank(text, rank, b"3")?;
-        text.extend_from_slice(b" addr\n")?;
+        push(rt, text, b"proc ");
+        push(rt, text, name);
+        push(rt, text, b" ");
+        push_rank(rt, text, rank, b"");
+        push(rt, text, b" level 1\n  string:");
+        push(rt, text, spelt);
+        push(rt, text, b"2f");
+        push_rank(rt, text, rank, b"3");
+        push(rt, text, b" addr\n");
     }
-    Ok(())
+}
+
+// What the largest job says.
+fn text_of_most(rt: &impl Abort, alloc: Global) -> Vec<u8> {
+    let mut text = Vec::new(alloc);
+    push_reports(rt, &mut text, b"j");
+    push_reports(rt, &mut text, b"k");
+    push_addresses(rt, &mut text, b"j", b"6a");
+    push_addresses(rt, &mut text, b"k", b"6b");
+    text
+}
+
+// Requires that the largest job with these programs says that.
+fn assert_most<R: Threads + Wait + Clock + Sync + Abort>(
+    rt: &R,
+    alloc: Global,
+    programs: Vec<Box<dyn Program>>,
+    wanted: &[u8],
+) {
+    let text = text_by(rt, alloc, MOST, programs, Links::default());
+    assert!(rt; text.as_slice() == wanted);
 }
 
 #[test]
-fn runs_of_the_largest_job_say_the_same(rt: HostRuntime) -> Result<(), Refusal> {
+fn runs_of_the_largest_job_say_the_same(rt: HostRuntime) {
     let alloc = rt.alloc();
-    let mut wanted = Vec::new(alloc);
-    push_reports(&mut wanted, b'j')?;
-    push_reports(&mut wanted, b'k')?;
-    push_addresses(&mut wanted, b'j', b"6a")?;
-    push_addresses(&mut wanted, b'k', b"6b")?;
+    let wanted = text_of_most(&rt, alloc);
     for _ in 0..RUNS {
         let mut programs: Vec<Box<dyn Program>> = Vec::new(alloc);
         for _ in 0..32 {
-            programs.push(Box::new(alloc, Exchange::new(rt, alloc))?)?;
+            let exchange = Box::new(alloc, Exchange::new(rt, alloc)).expect(&rt, MEMORY);
+            programs.push(exchange).expect(&rt, MEMORY);
         }
-        let text = text_by(&rt, alloc, MOST, programs, Links::default())?;
-        assert_eq!(rt; text.as_slice(), wanted.as_slice());
+        assert_most(&rt, alloc, programs, &wanted);
     }
-    Ok(())
 }
 
 // Runs the job of two clients with these programs, and gives what each reported and answered.
-fn run_two<R: Threads + Wait + Clock + Sync>(
+fn run_two<R: Threads + Wait + Clock + Sync + Abort>(
     rt: &R,
     alloc: Global,
     job: &[u8],
     first: Box<dyn Program>,
     second: Box<dyn Program>,
-) -> Result<Outcome, Refusal> {
+) -> Outcome {
     let mut programs = Vec::new(alloc);
-    programs.push(first)?;
-    programs.push(second)?;
-    let outcome = run(rt, Job::read(alloc, job)?, programs)?;
-    check_memory(&outcome)?;
-    Ok(outcome)
+    programs.push(first).expect(rt, MEMORY);
+    programs.push(second).expect(rt, MEMORY);
+    let job = Job::read(alloc, job).expect(rt, MEMORY);
+    let outcome = run(rt, job, programs).expect(rt, MEMORY);
+    check_memory(rt, &outcome.reports);
+    outcome
+}
+
+// Requires that two clients of a node with these programs are not refused.
+fn assert_done<R: Threads + Wait + Clock + Sync + Abort>(
+    rt: &R,
+    alloc: Global,
+    first: Box<dyn Program>,
+    second: Box<dyn Program>,
+) {
+    let outcome = run_two(rt, alloc, TWO_CLIENTS, first, second);
+    for report in &outcome.reports {
+        assert!(rt; report.answer == Ok(()));
+    }
 }
 
 #[test]
-fn two_clients_meet(rt: HostRuntime) -> Result<(), Refusal> {
+fn two_clients_meet(rt: HostRuntime) {
     let alloc = rt.alloc();
     let first = Meeting {
         rt,
@@ -213,82 +275,108 @@ fn two_clients_meet(rt: HostRuntime) -> Result<(), Refusal> {
         alloc,
         is_first: false,
     };
-    let outcome = run_two(
-        &rt,
-        alloc,
-        TWO_CLIENTS,
-        Box::new(alloc, first)?,
-        Box::new(alloc, second)?,
-    )?;
-    for report in &outcome.reports {
-        assert_eq!(rt; report.answer, Ok(()));
-    }
-    Ok(())
+    let first = Box::new(alloc, first).expect(&rt, MEMORY);
+    let second = Box::new(alloc, second).expect(&rt, MEMORY);
+    assert_done(&rt, alloc, first, second);
+}
+
+// Requires that the program of a client answered that, and wrote that.
+fn assert_report(rt: &impl Abort, report: &Report, answer: Result<(), Refusal>, text: &[u8]) {
+    assert!(rt; report.answer == answer);
+    assert!(rt; report.text.as_slice() == text);
+}
+
+// Requires that of two clients of a node with these programs the first is refused as Stale, and the second learns that it is gone.
+fn assert_gone<R: Threads + Wait + Clock + Sync + Abort>(
+    rt: &R,
+    alloc: Global,
+    first: Box<dyn Program>,
+    second: Box<dyn Program>,
+) {
+    let outcome = run_two(rt, alloc, TWO_CLIENTS, first, second);
+    let [first, second] = outcome.reports.as_slice() else {
+        panic!(rt; "two clients report");
+    };
+    assert_report(rt, first, Err(Refusal::Stale), b"no");
+    assert_report(rt, second, Ok(()), b"0");
 }
 
 #[test]
-fn who_refused_is_gone_from_the_fence(rt: HostRuntime) -> Result<(), Refusal> {
+fn who_refused_is_gone_from_the_fence(rt: HostRuntime) {
     let alloc = rt.alloc();
-    let refused = Box::new(alloc, Refused)?;
-    let fencing = Box::new(alloc, Fencing { rt })?;
-    let outcome = run_two(&rt, alloc, TWO_CLIENTS, refused, fencing)?;
-    let [first, second] = outcome.reports.as_slice() else {
-        return Err(Refusal::BadParam);
-    };
-    assert_eq!(rt; first.answer, Err(Refusal::Stale));
-    assert_eq!(rt; second.answer, Ok(()));
-    assert!(rt; first.text.as_slice() == b"no".as_slice());
-    assert!(rt; second.text.as_slice() == b"0".as_slice());
-    Ok(())
+    let refused = Box::new(alloc, Refused).expect(&rt, MEMORY);
+    let fencing = Box::new(alloc, Fencing { rt }).expect(&rt, MEMORY);
+    assert_gone(&rt, alloc, refused, fencing);
+}
+
+// The letter of a call that `Reporting` reports, and the process that made it.
+fn letter_of(event: &Event) -> Option<(u8, &Proc)> {
+    match event {
+        Event::Commit(_, by) => Some((b'c', by)),
+        Event::Request(_, Request::Enter(by, ..)) => Some((b'e', by)),
+        Event::Request(_, Request::Leave(by)) => Some((b'l', by)),
+        Event::Request(_, Request::Ask(by, ..) | Request::Take(by)) => Some((b'f', by)),
+        _ => None,
+    }
+}
+
+// The number that the call of that letter is answered with.
+fn number_of(letter: u8, reply: &Reply) -> Option<u64> {
+    match reply {
+        Reply::Committed(number) if letter == b'c' => Some(*number),
+        Reply::Entered(instance) if letter == b'e' => Some(*instance),
+        Reply::Released(instance, _) if letter == b'l' => Some(*instance),
+        Reply::Found(value) if letter == b'f' => Some(number_in(value)),
+        _ => None,
+    }
 }
 
 // What a client reports of an event that it made, as `Reporting` does; none of other events.
 fn told_line(told: &Told, proc: &Proc) -> Option<(u8, u64)> {
-    match (&told.event, &told.answer) {
-        (Event::Commit(_, by), Ok(Reply::Committed(number))) if by == proc => Some((b'c', *number)),
-        (Event::Request(_, Request::Enter(by, ..)), Ok(Reply::Entered(instance))) if by == proc => {
-            Some((b'e', *instance))
-        }
-        (Event::Request(_, Request::Leave(by)), Ok(Reply::Released(instance, _))) if by == proc => {
-            Some((b'l', *instance))
-        }
-        (Event::Request(_, Request::Ask(by, ..) | Request::Take(by)), Ok(Reply::Found(value)))
-            if by == proc => { Some((b'f', number_in(value))) }
+    let (letter, by) = letter_of(&told.event)?;
+    match &told.answer {
+        Ok(reply) if by == proc => Some((letter, number_of(letter, reply)?)),
         _ => None,
     }
 }
 
 // What the run tells of the process, as `Reporting` reports it.
-fn told_of(alloc: Global, outcome: &Outcome, proc: &Proc) -> Result<Vec<u8>, Refusal> {
+fn told_of(rt: &impl Abort, alloc: Global, run: &Run, proc: &Proc) -> Vec<u8> {
     let mut text = Vec::new(alloc);
-    for told in outcome.run.events() {
+    for told in run.events() {
         if let Some((letter, number)) = told_line(told, proc) {
-            push_line(&mut text, letter, number)?;
+            push_line(&mut text, letter, number).expect(rt, MEMORY);
         }
     }
-    Ok(text)
+    text
 }
 
-// Whether each of two clients of two nodes reports that text, and the run that is audited tells the same of it: its answers are those
-// that the client reported, in its order.
-fn is_seen<R: Threads + Wait + Clock + Sync>(
+// Requires that the client reports that text, and the run that is audited tells the same of it: its answers are those that the client
+// reported, in its order.
+fn assert_told(rt: &impl Abort, alloc: Global, run: &Run, report: &Report, wanted: &[u8]) {
+    let told = told_of(rt, alloc, run, &report.proc);
+    assert!(rt; report.text.as_slice() == wanted);
+    assert!(rt; told.as_slice() == wanted);
+}
+
+// Requires it of two clients of two nodes with these programs.
+fn assert_seen<R: Threads + Wait + Clock + Sync + Abort>(
     rt: &R,
     alloc: Global,
     first: Box<dyn Program>,
     second: Box<dyn Program>,
     wanted: [&[u8]; 2],
-) -> Result<bool, Refusal> {
-    let outcome = run_two(rt, alloc, ACROSS, first, second)?;
-    let mut is_same = true;
-    for (report, want) in outcome.reports.iter().zip(wanted) {
-        is_same = is_same && report.text.as_slice() == want;
-        is_same = is_same && told_of(alloc, &outcome, &report.proc)?.as_slice() == want;
-    }
-    Ok(is_same)
+) {
+    let outcome = run_two(rt, alloc, ACROSS, first, second);
+    let [first, second] = outcome.reports.as_slice() else {
+        panic!(rt; "two clients report");
+    };
+    assert_told(rt, alloc, &outcome.run, first, wanted[0]);
+    assert_told(rt, alloc, &outcome.run, second, wanted[1]);
 }
 
 #[test]
-fn the_run_is_what_the_clients_saw(rt: HostRuntime) -> Result<(), Refusal> {
+fn the_run_is_what_the_clients_saw(rt: HostRuntime) {
     let alloc = rt.alloc();
     let one = Reporting {
         rt,
@@ -304,13 +392,13 @@ fn the_run_is_what_the_clients_saw(rt: HostRuntime) -> Result<(), Refusal> {
         b"c1\ne1\nl1\nf20\nc2\ne2\nl2\nf21\n",
         b"c1\ne1\nl1\nf10\nc2\ne2\nl2\nf11\n",
     ];
-    let (one, two) = (Box::new(alloc, one)?, Box::new(alloc, two)?);
-    assert!(rt; is_seen(&rt, alloc, one, two, wanted)?);
-    Ok(())
+    let one = Box::new(alloc, one).expect(&rt, MEMORY);
+    let two = Box::new(alloc, two).expect(&rt, MEMORY);
+    assert_seen(&rt, alloc, one, two, wanted);
 }
 
 #[test]
-fn a_get_that_asks_anew_finds_the_last_commit(rt: HostRuntime) -> Result<(), Refusal> {
+fn a_get_that_asks_anew_finds_the_last_commit(rt: HostRuntime) {
     let alloc = rt.alloc();
     let one = Refreshing {
         rt,
@@ -326,7 +414,7 @@ fn a_get_that_asks_anew_finds_the_last_commit(rt: HostRuntime) -> Result<(), Ref
         b"c1\ne1\nl1\ne2\nl2\nc2\ne3\nl3\n",
         b"e1\nl1\nf10\ne2\nl2\ne3\nl3\nf10\nf11\n",
     ];
-    let (one, two) = (Box::new(alloc, one)?, Box::new(alloc, two)?);
-    assert!(rt; is_seen(&rt, alloc, one, two, wanted)?);
-    Ok(())
+    let one = Box::new(alloc, one).expect(&rt, MEMORY);
+    let two = Box::new(alloc, two).expect(&rt, MEMORY);
+    assert_seen(&rt, alloc, one, two, wanted);
 }

@@ -32,16 +32,21 @@ fn tell<R: Wait>(
 }
 
 // Looks for a key of another process until it is there. Refused as NotFound where it never was.
-fn look(alloc: Global, client: &mut Client<'_>, other: &Proc, name: &[u8]) -> Result<(), Refusal> {
-    let key = Key::read(alloc, name)?;
+fn look_for(client: &mut Client<'_>, other: &Proc, key: &Key) -> Result<(), Refusal> {
     for _ in 0..TURNS {
-        match client.get_now(other, &key) {
-            Ok(_) => return Ok(()),
-            Err(Refusal::NotFound) => {}
-            Err(refusal) => return Err(refusal),
+        match client.get_now(other, key).err() {
+            None => return Ok(()),
+            Some(Refusal::NotFound) => {}
+            Some(refusal) => return Err(refusal),
         }
     }
     Err(Refusal::NotFound)
+}
+
+// Looks for the key of that name.
+fn look(alloc: Global, client: &mut Client<'_>, other: &Proc, name: &[u8]) -> Result<(), Refusal> {
+    let key = Key::read(alloc, name)?;
+    look_for(client, other, &key)
 }
 
 impl<R: Wait + Send + Drop> Program for Meeting<R> {
@@ -56,12 +61,11 @@ impl<R: Wait + Send + Drop> Program for Meeting<R> {
         };
         if self.is_first {
             tell(&self.rt, self.alloc, client, b"a")?;
-            look(self.alloc, client, second, b"b")?;
+            look(self.alloc, client, second, b"b")
         } else {
             look(self.alloc, client, first, b"a")?;
-            tell(&self.rt, self.alloc, client, b"b")?;
+            tell(&self.rt, self.alloc, client, b"b")
         }
-        Ok(())
     }
 }
 
@@ -87,6 +91,22 @@ pub struct Fencing<R: Wait> {
     pub rt: R,
 }
 
+// The ranks of the processes.
+fn push_ranks(out: &mut Vec<u8>, procs: &[Proc]) -> Result<(), Refusal> {
+    for proc in procs {
+        push_number(out, u64::from(proc.rank.number()))?;
+    }
+    Ok(())
+}
+
+// The ranks of those that were gone from the fence.
+fn push_gone(out: &mut Vec<u8>, release: &Release) -> Result<(), Refusal> {
+    match release {
+        Release::Released(_, gone) => push_ranks(out, gone),
+        _ => Err(Refusal::NotFound),
+    }
+}
+
 impl<R: Wait + Send + Drop> Program for Fencing<R> {
     fn run(
         &mut self,
@@ -94,13 +114,8 @@ impl<R: Wait + Send + Drop> Program for Fencing<R> {
         procs: &[Proc],
         out: &mut Vec<u8>,
     ) -> Result<(), Refusal> {
-        let Release::Released(_, gone) = client.fence(&self.rt, procs, false)? else {
-            return Err(Refusal::NotFound);
-        };
-        for proc in &gone {
-            push_number(out, u64::from(proc.rank.number()))?;
-        }
-        Ok(())
+        let release = client.fence(&self.rt, procs, false)?;
+        push_gone(out, &release)
     }
 }
 
@@ -129,6 +144,14 @@ pub fn number_in(value: &Value) -> u64 {
     }
 }
 
+// Reports the instance of the fence that was left.
+fn push_left(out: &mut Vec<u8>, release: &Release) -> Result<(), Refusal> {
+    match release {
+        Release::Released(instance, _) => push_line(out, b'l', *instance),
+        _ => Err(Refusal::NotFound),
+    }
+}
+
 // Meets all in a fence, which collects data or not, and reports it.
 fn meet<R: Wait>(
     rt: &R,
@@ -138,9 +161,62 @@ fn meet<R: Wait>(
     out: &mut Vec<u8>,
 ) -> Result<(), Refusal> {
     push_line(out, b'e', client.enter(rt, procs, collect)?)?;
-    match &client.leave(rt)? {
-        Release::Released(instance, _) => push_line(out, b'l', *instance),
-        _ => Err(Refusal::NotFound),
+    let release = client.leave(rt)?;
+    push_left(out, &release)
+}
+
+// Puts the number under the key, for all, commits it, and reports that.
+fn commit_number<R: Wait>(
+    rt: &R,
+    client: &mut Client<'_>,
+    key: &Key,
+    number: u32,
+    out: &mut Vec<u8>,
+) -> Result<(), Refusal> {
+    client.put(Scope::Global, key.copy()?, Value::U32(number))?;
+    push_line(out, b'c', client.commit(rt)?)
+}
+
+// Gets the number of that process, and reports it.
+fn get_number<R: Wait>(
+    rt: &R,
+    client: &mut Client<'_>,
+    proc: &Proc,
+    key: &Key,
+    out: &mut Vec<u8>,
+) -> Result<(), Refusal> {
+    let value = client.get(rt, proc, key)?;
+    push_line(out, b'f', number_in(&value))
+}
+
+// Puts the number, meets all, and asks for what the other put.
+fn exchange<R: Wait>(
+    rt: &R,
+    client: &mut Client<'_>,
+    procs: &[Proc],
+    other: &Proc,
+    key: &Key,
+    number: u32,
+    out: &mut Vec<u8>,
+) -> Result<(), Refusal> {
+    commit_number(rt, client, key, number, out)?;
+    meet(rt, client, procs, true, out)?;
+    get_number(rt, client, other, key, out)
+}
+
+impl<R: Wait> Reporting<R> {
+    // The same under the key of that name.
+    fn exchange_under(
+        &self,
+        client: &mut Client<'_>,
+        procs: &[Proc],
+        other: &Proc,
+        name: &[u8],
+        number: u32,
+        out: &mut Vec<u8>,
+    ) -> Result<(), Refusal> {
+        let key = Key::read(self.alloc, name)?;
+        exchange(&self.rt, client, procs, other, &key, number, out)
     }
 }
 
@@ -154,23 +230,13 @@ impl<R: Wait + Send + Drop> Program for Reporting<R> {
         let (Some(first), Some(second)) = (procs.first(), procs.last()) else {
             return Err(Refusal::BadParam);
         };
-        let (other, own) = if self.is_first {
-            (second, 10)
+        if self.is_first {
+            self.exchange_under(client, procs, second, b"a", 10, out)?;
+            self.exchange_under(client, procs, second, b"b", 11, out)
         } else {
-            (first, 20)
-        };
-        for round in 0..2 {
-            let key = Key::read(self.alloc, &[b'a' + round])?;
-            client.put(
-                Scope::Global,
-                key.copy()?,
-                Value::U32(own + u32::from(round)),
-            )?;
-            push_line(out, b'c', client.commit(&self.rt)?)?;
-            meet(&self.rt, client, procs, true, out)?;
-            push_line(out, b'f', number_in(&client.get(&self.rt, other, &key)?))?;
+            self.exchange_under(client, procs, first, b"a", 20, out)?;
+            self.exchange_under(client, procs, first, b"b", 21, out)
         }
-        Ok(())
     }
 }
 
@@ -181,18 +247,6 @@ pub struct Refreshing<R: Wait> {
     pub rt: R,
     pub alloc: Global,
     pub is_first: bool,
-}
-
-// Puts the number under the key, for all, commits it, and reports that.
-fn commit_number<R: Wait>(
-    rt: &R,
-    client: &mut Client<'_>,
-    key: &Key,
-    number: u32,
-    out: &mut Vec<u8>,
-) -> Result<(), Refusal> {
-    client.put(Scope::Global, key.copy()?, Value::U32(number))?;
-    push_line(out, b'c', client.commit(rt)?)
 }
 
 // Puts a number, and another one after the second fence.
@@ -210,48 +264,33 @@ fn put_twice<R: Wait>(
     meet(rt, client, procs, false, out)
 }
 
-// Gets the number of the first client, and reports it.
-fn get_number<R: Wait>(
-    rt: &R,
-    client: &mut Client<'_>,
-    procs: &[Proc],
-    key: &Key,
-    out: &mut Vec<u8>,
-) -> Result<(), Refusal> {
-    let Some(first) = procs.first() else {
-        return Err(Refusal::BadParam);
-    };
-    push_line(out, b'f', number_in(&client.get(rt, first, key)?))
-}
-
-// Gets the number anew, and reports it.
+// Gets the number of that process anew, and reports it.
 fn get_number_anew<R: Wait>(
     rt: &R,
     client: &mut Client<'_>,
-    procs: &[Proc],
+    proc: &Proc,
     key: &Key,
     out: &mut Vec<u8>,
 ) -> Result<(), Refusal> {
-    let Some(first) = procs.first() else {
-        return Err(Refusal::BadParam);
-    };
-    push_line(out, b'f', number_in(&client.get_refresh(rt, first, key)?))
+    let value = client.get_refresh(rt, proc, key)?;
+    push_line(out, b'f', number_in(&value))
 }
 
-// Gets the number between the fences, and twice after them.
+// Gets the number of the first client between the fences, and twice after them.
 fn get_thrice<R: Wait>(
     rt: &R,
     client: &mut Client<'_>,
     procs: &[Proc],
+    first: &Proc,
     key: &Key,
     out: &mut Vec<u8>,
 ) -> Result<(), Refusal> {
     meet(rt, client, procs, false, out)?;
-    get_number(rt, client, procs, key, out)?;
+    get_number(rt, client, first, key, out)?;
     meet(rt, client, procs, false, out)?;
     meet(rt, client, procs, false, out)?;
-    get_number(rt, client, procs, key, out)?;
-    get_number_anew(rt, client, procs, key, out)
+    get_number(rt, client, first, key, out)?;
+    get_number_anew(rt, client, first, key, out)
 }
 
 impl<R: Wait + Send + Drop> Program for Refreshing<R> {
@@ -261,11 +300,14 @@ impl<R: Wait + Send + Drop> Program for Refreshing<R> {
         procs: &[Proc],
         out: &mut Vec<u8>,
     ) -> Result<(), Refusal> {
+        let Some(first) = procs.first() else {
+            return Err(Refusal::BadParam);
+        };
         let key = Key::read(self.alloc, b"a")?;
         if self.is_first {
             put_twice(&self.rt, client, procs, &key, out)
         } else {
-            get_thrice(&self.rt, client, procs, &key, out)
+            get_thrice(&self.rt, client, procs, first, &key, out)
         }
     }
 }

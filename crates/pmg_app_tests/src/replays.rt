@@ -1,64 +1,77 @@
 //! What scripts print, and what they end with, where a reader or a writer fails.
 use crate::running::{FailingWriter, check_written, run_failing, run_into};
 use pmg_commands::Chosen;
-use pmg_value::Refusal;
+use std::process::Abort;
+use std::sync::Wait;
+use std::thread::Threads;
+use std::time::Clock;
 
 const SHORT: &str = "nodes n0\nspace j 0\nend j 0";
 
 const SHORT_REPLIES: &str = "ok\nok\nended 1\n";
 
+// Requires that a reader that fails at that read is told as a read fault behind that.
+fn assert_read_fault<T: AllocGlobal + Threads + Wait + Clock + Sync + Abort>(
+    rt: &T,
+    fails_at: usize,
+    want: &str,
+) {
+    let (status, reads, printed) = run_failing(rt, Chosen::Replay, SHORT.as_bytes(), fails_at);
+    assert!(rt; printed.as_slice() == want.as_bytes());
+    assert!(rt; status == 1);
+    assert!(rt; reads == fails_at);
+}
+
 #[test]
-fn a_read_fault_is_told_after_the_replies_of_whole_lines(rt: HostRuntime) -> Result<(), Refusal> {
-    let cases = [
-        (1, "read fault\n"),
-        (9, "read fault\n"),
-        (10, "ok\nread fault\n"),
-        (19, "ok\nread fault\n"),
-        (20, "ok\nok\nread fault\n"),
-        (27, "ok\nok\nread fault\n"),
-    ];
-    for (fails_at, want) in cases {
-        let (status, reads, printed) = run_failing(
-            &rt,
-            Chosen::Replay,
-            SHORT.as_bytes(),
-            fails_at,
-        )?;
-        assert!(rt; printed.as_slice() == want.as_bytes());
-        assert!(rt; status == 1);
-        assert!(rt; reads == fails_at);
-    }
-    let (status, _, printed) = run_failing(&rt, Chosen::Replay, SHORT.as_bytes(), 28)?;
+fn a_read_fault_is_told_after_the_replies_of_whole_lines(rt: HostRuntime) {
+    assert_read_fault(&rt, 1, "read fault\n");
+    assert_read_fault(&rt, 9, "read fault\n");
+    assert_read_fault(&rt, 10, "ok\nread fault\n");
+    assert_read_fault(&rt, 19, "ok\nread fault\n");
+    assert_read_fault(&rt, 20, "ok\nok\nread fault\n");
+    assert_read_fault(&rt, 27, "ok\nok\nread fault\n");
+    let (status, _, printed) = run_failing(&rt, Chosen::Replay, SHORT.as_bytes(), 28);
     assert!(rt; printed.as_slice() == SHORT_REPLIES.as_bytes());
     assert!(rt; status == 0);
-    Ok(())
+}
+
+// Requires that a writer that fails after so many writes holds so much of the replies, and that the script ends with that status.
+fn assert_prefix<T: AllocGlobal + Threads + Wait + Clock + Sync + Abort>(
+    rt: &T,
+    writes: usize,
+    held: usize,
+    ends: u8,
+) {
+    let writer = FailingWriter::new(rt, rt.alloc(), writes, true);
+    let (status, writer) = run_into(rt, Chosen::Replay, SHORT.as_bytes(), writer);
+    check_written(rt, &writer.held, SHORT_REPLIES.as_bytes());
+    let before = SHORT_REPLIES.as_bytes().get(..held).unwrap_or(b"");
+    assert!(rt; status == ends);
+    assert!(rt; writer.held.as_slice() == before);
 }
 
 #[test]
-fn a_failing_writer_holds_a_prefix_of_the_replies(rt: HostRuntime) -> Result<(), Refusal> {
-    for (writes, held) in [(0, 0), (1, 3), (2, 6), (3, 13)] {
-        let writer = FailingWriter::new(rt.alloc(), writes, true)?;
-        let (status, writer) = run_into(&rt, Chosen::Replay, SHORT.as_bytes(), writer)?;
-        check_written(&writer.held, SHORT_REPLIES.as_bytes())?;
-        let before = SHORT_REPLIES.as_bytes().get(..held).unwrap_or(b"");
-        assert!(rt; status == 1);
-        assert!(rt; writer.held.as_slice() == before);
-    }
-    let writer = FailingWriter::new(rt.alloc(), 4, true)?;
-    let (status, writer) = run_into(&rt, Chosen::Replay, SHORT.as_bytes(), writer)?;
-    check_written(&writer.held, SHORT_REPLIES.as_bytes())?;
-    assert!(rt; status == 0);
-    assert!(rt; writer.held.as_slice() == SHORT_REPLIES.as_bytes());
-    Ok(())
+fn a_failing_writer_holds_a_prefix_of_the_replies(rt: HostRuntime) {
+    assert_prefix(&rt, 0, 0, 1);
+    assert_prefix(&rt, 1, 3, 1);
+    assert_prefix(&rt, 2, 6, 1);
+    assert_prefix(&rt, 3, 13, 1);
+    assert_prefix(&rt, 4, SHORT_REPLIES.len(), 0);
+}
+
+// Requires that the script ends with 1 where its replies cannot be flushed.
+fn assert_write_fault<T: AllocGlobal + Threads + Wait + Clock + Sync + Abort>(
+    rt: &T,
+    script: &str,
+) {
+    let writer = FailingWriter::new(rt, rt.alloc(), 100, false);
+    let (status, writer) = run_into(rt, Chosen::Replay, script.as_bytes(), writer);
+    assert!(rt; status == 1);
+    assert!(rt; !writer.held.is_empty());
 }
 
 #[test]
-fn replies_that_cannot_be_flushed_are_a_write_fault(rt: HostRuntime) -> Result<(), Refusal> {
-    for script in [SHORT, "nodes"] {
-        let writer = FailingWriter::new(rt.alloc(), 100, false)?;
-        let (status, writer) = run_into(&rt, Chosen::Replay, script.as_bytes(), writer)?;
-        assert!(rt; status == 1);
-        assert!(rt; !writer.held.is_empty());
-    }
-    Ok(())
+fn replies_that_cannot_be_flushed_are_a_write_fault(rt: HostRuntime) {
+    assert_write_fault(&rt, SHORT);
+    assert_write_fault(&rt, "nodes");
 }

@@ -1,15 +1,19 @@
 //! Commands that are run on a text: on one that is given whole, by a reader that fails, and into a writer that fails. Where an
-//! allocation fails they are refused as NoMemory.
+//! allocation fails the test gives up as NoMemory.
 use pmg_app::carry_out;
 use pmg_commands::Chosen;
 use pmg_store::WatchedReader;
 use pmg_value::{Refusal, WatchedWriter};
 use std::alloc::Global;
 use std::io::{ErrorKind, Read, Write};
+use std::process::Abort;
 use std::sync::Wait;
 use std::thread::Threads;
 use std::time::Clock;
 use std::{io, str};
+
+/// A test gives up where a call of it fails, and says this word and the error.
+pub(crate) const MEMORY: &str = "memory";
 
 // Gives `text`, at most ten bytes a read, and fails at the read of number `fails_at`.
 #[derive(Drop)]
@@ -49,15 +53,16 @@ pub(crate) struct FailingWriter {
 impl FailingWriter {
     /// A writer that has taken nothing yet.
     pub(crate) fn new(
+        rt: &impl Abort,
         alloc: Global,
         writes: usize,
         flushes: bool,
-    ) -> Result<FailingWriter, Refusal> {
-        Ok(FailingWriter {
-            held: Vec::with_capacity(alloc, ROOM)?,
+    ) -> FailingWriter {
+        FailingWriter {
+            held: Vec::with_capacity(alloc, ROOM).expect(rt, MEMORY),
             writes,
             flushes,
-        })
+        }
     }
 }
 
@@ -81,68 +86,89 @@ impl Write for FailingWriter {
     }
 }
 
-/// Refused as NoMemory where the status says so, or where there is no memory for what is printed.
-pub(crate) fn check_memory<W: Write>(status: u8, writer: &WatchedWriter<W>) -> Result<(), Refusal> {
+/// Gives up as NoMemory, where memory was wanted and not given.
+pub(crate) fn give_up_where(rt: &impl Abort, lacks_memory: bool) {
+    let answer = if lacks_memory {
+        Err(Refusal::NoMemory)
+    } else {
+        Ok(())
+    };
+    answer.expect(rt, MEMORY);
+}
+
+// Whether the status says that an allocation failed, or there was no memory for what is printed.
+fn lacks_memory<W: Write>(status: u8, writer: &WatchedWriter<W>) -> bool {
     match writer.failure() {
-        Some(error) if error.kind() == ErrorKind::OutOfMemory => Err(Refusal::NoMemory),
-        _ if status == NO_MEMORY => Err(Refusal::NoMemory),
-        _ => Ok(()),
+        Some(error) => status == NO_MEMORY || error.kind() == ErrorKind::OutOfMemory,
+        None => status == NO_MEMORY,
     }
 }
 
-/// Refused as NoMemory where what was written is no beginning of the text, and its last line is that of an allocation that failed, or a
+/// Gives up where what was written is no beginning of the text, and its last line is that of an allocation that failed, or a
 /// beginning of it.
-pub(crate) fn check_written(held: &[u8], text: &[u8]) -> Result<(), Refusal> {
+pub(crate) fn check_written(rt: &impl Abort, held: &[u8], text: &[u8]) {
+    give_up_where(rt, !text.starts_with(held) && ends_with_no_memory(held));
+}
+
+// Whether the last line is that of an allocation that failed, or a beginning of it.
+fn ends_with_no_memory(held: &[u8]) -> bool {
     let shown = str::from_utf8(held).unwrap_or("no text");
     match shown.lines().last() {
-        Some(line) if !text.starts_with(held) && NO_MEMORY_LINE.starts_with(line) => {
-            Err(Refusal::NoMemory)
-        }
-        _ => Ok(()),
+        Some(line) => NO_MEMORY_LINE.starts_with(line),
+        None => false,
     }
+}
+
+/// The status that the command ends with, for this reader and this writer.
+pub(crate) fn status_of<T: AllocGlobal + Threads + Wait + Clock + Sync + Abort, R: Read, W: Write>(
+    rt: &T,
+    chosen: Chosen,
+    reader: &mut WatchedReader<R>,
+    writer: &mut WatchedWriter<W>,
+) -> u8 {
+    let status = carry_out(rt, chosen, Vec::new(rt.alloc()), reader, writer);
+    give_up_where(rt, lacks_memory(status, writer));
+    status
 }
 
 /// The status that the command ends with, and what it prints, for this text on standard input.
-pub(crate) fn run_on<T: AllocGlobal + Threads + Wait + Clock + Sync>(
+pub(crate) fn run_on<T: AllocGlobal + Threads + Wait + Clock + Sync + Abort>(
     rt: &T,
     chosen: Chosen,
     text: &[u8],
-) -> Result<(u8, Vec<u8>), Refusal> {
+) -> (u8, Vec<u8>) {
     let mut reader = WatchedReader::new(text);
     let mut writer = WatchedWriter::new(Vec::new(rt.alloc()));
-    let status = carry_out(rt, chosen, Vec::new(rt.alloc()), &mut reader, &mut writer);
-    check_memory(status, &writer)?;
-    Ok((status, writer.into_inner()))
+    let status = status_of(rt, chosen, &mut reader, &mut writer);
+    (status, writer.into_inner())
 }
 
 /// The same with this writer: the status, and the writer.
-pub(crate) fn run_into<T: AllocGlobal + Threads + Wait + Clock + Sync>(
+pub(crate) fn run_into<T: AllocGlobal + Threads + Wait + Clock + Sync + Abort>(
     rt: &T,
     chosen: Chosen,
     text: &[u8],
     writer: FailingWriter,
-) -> Result<(u8, FailingWriter), Refusal> {
+) -> (u8, FailingWriter) {
     let mut reader = WatchedReader::new(text);
     let mut writer = WatchedWriter::new(writer);
-    let status = carry_out(rt, chosen, Vec::new(rt.alloc()), &mut reader, &mut writer);
-    check_memory(status, &writer)?;
-    Ok((status, writer.into_inner()))
+    let status = status_of(rt, chosen, &mut reader, &mut writer);
+    (status, writer.into_inner())
 }
 
 /// The same with a reader that fails at the read of that number: the status, how often it was read, and what is printed.
-pub(crate) fn run_failing<T: AllocGlobal + Threads + Wait + Clock + Sync>(
+pub(crate) fn run_failing<T: AllocGlobal + Threads + Wait + Clock + Sync + Abort>(
     rt: &T,
     chosen: Chosen,
     text: &[u8],
     fails_at: usize,
-) -> Result<(u8, usize, Vec<u8>), Refusal> {
+) -> (u8, usize, Vec<u8>) {
     let mut reader = WatchedReader::new(FailingReader {
         text,
         reads: 0,
         fails_at,
     });
     let mut writer = WatchedWriter::new(Vec::new(rt.alloc()));
-    let status = carry_out(rt, chosen, Vec::new(rt.alloc()), &mut reader, &mut writer);
-    check_memory(status, &writer)?;
-    Ok((status, reader.reads(), writer.into_inner()))
+    let status = status_of(rt, chosen, &mut reader, &mut writer);
+    (status, reader.reads(), writer.into_inner())
 }
