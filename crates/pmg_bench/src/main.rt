@@ -1,12 +1,14 @@
-//! What fences, reads, jobs and audits cost: each line on standard input is a number and, if it is not of fences, what is done so often.
+//! What fences, reads, jobs, audits and headers cost: each line on standard input is a number and, if it is not of fences, what is done so often.
 #![tactic(auto)]
 
 mod audits;
 mod calls;
 mod fences;
+mod headers;
 mod jobs;
 mod reads;
 
+use crate::headers::Way;
 use pmg_launch::{Exchange, Program};
 use pmg_value::Refusal;
 use std::alloc::Global;
@@ -22,6 +24,7 @@ enum Work {
     ReadsOfClient,
     Jobs,
     Audits,
+    Headers(Way, u8),
 }
 
 impl Work {
@@ -34,6 +37,9 @@ impl Work {
             Work::ReadsOfClient => "reads of 100 processes by a client",
             Work::Jobs => "jobs of 8 nodes and 32 clients",
             Work::Audits => "events of 4 nodes audited",
+            Work::Headers(Way::Written, _) => "headers of 4095 ranks written",
+            Work::Headers(Way::Read, _) => "headers of 4095 ranks read",
+            Work::Headers(Way::Delivered, _) => "headers of 4095 ranks delivered",
         }
     }
 }
@@ -76,7 +82,26 @@ fn work_of(line: &str) -> (Work, &str) {
     if let Some(number) = line.strip_suffix(" events") {
         return (Work::Audits, number);
     }
-    (Work::Fences, line)
+    match line.split_once(" headers ") {
+        Some((number, how)) => (headers_of(how), number),
+        None => (Work::Fences, line),
+    }
+}
+
+/// What is done with headers, by the words for it: in version 2 of frames where they do not end in 1.
+fn headers_of(how: &str) -> Work {
+    let version = if how.strip_suffix(" 1").is_some() {
+        1
+    } else {
+        2
+    };
+    if how.starts_with("written") {
+        return Work::Headers(Way::Written, version);
+    }
+    if how.starts_with("read") {
+        return Work::Headers(Way::Read, version);
+    }
+    Work::Headers(Way::Delivered, version)
 }
 
 /// How many jobs are to be run.
@@ -99,6 +124,7 @@ fn done<R: Wait>(rt: &R, alloc: Global, work: Work, text: &str) -> Result<u64, R
         Work::ReadsOfClient => calls::read_now(rt, alloc, count),
         Work::Jobs => Ok(0),
         Work::Audits => audits::audit_rounds(alloc, count),
+        Work::Headers(way, version) => headers::run(alloc, way, version, count),
     }
 }
 

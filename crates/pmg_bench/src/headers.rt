@@ -1,0 +1,135 @@
+use pmg_frame::{FenceName, Frame, Header, Local, Signature, State, Stream};
+use pmg_jobinfo::Registry;
+use pmg_node::{Act, Node};
+use pmg_rules::Sent;
+use pmg_value::{NodeId, Nspace, Proc, Rank, Refusal};
+use std::alloc::Global;
+use std::collections::VecDeque;
+
+/// The processes of a header: ranks 0 to 4095 of one namespace, each entered at one level.
+const LOCALS: u32 = 4096;
+
+/// What is done with each header.
+#[derive(Clone, Copy, PartialEq)]
+pub enum Way {
+    /// It is written as bytes.
+    Written,
+    /// Its bytes are read.
+    Read,
+    /// Its bytes are read, and it is delivered at a node, which learns the fence by it and forgets the one before the last.
+    Delivered,
+}
+
+/// Does that with so many headers, in that version of frames: how many of them, which are all.
+pub fn run(alloc: Global, way: Way, version: u8, count: u64) -> Result<u64, Refusal> {
+    match way {
+        Way::Written => write_all(alloc, version, count),
+        Way::Read => read_all(alloc, version, count),
+        Way::Delivered => deliver_all(alloc, version, count),
+    }
+}
+
+/// The process of that rank.
+fn process(alloc: Global, rank: u32) -> Result<Proc, Refusal> {
+    Ok(Proc::new(Nspace::read(alloc, b"j")?, Rank::new(rank)))
+}
+
+/// The participants of each fence: those of the header, and one at the node that is told.
+fn participants(alloc: Global) -> Result<Vec<Proc>, Refusal> {
+    let mut procs = Vec::new(alloc);
+    for rank in 0..LOCALS {
+        procs.push(process(alloc, rank)?)?;
+    }
+    Ok(procs)
+}
+
+/// The header that node 1 sends of the instance of that number: of all participants but the first, which is at home at node 0.
+fn header(alloc: Global, signature: &Signature, instance: u64) -> Result<Header, Refusal> {
+    let name = FenceName::new(signature.copy()?, instance)?;
+    let mut locals = Vec::new(alloc);
+    for rank in 1..LOCALS {
+        let proc = process(alloc, rank)?;
+        let state = State::Entered;
+        locals.push(Local {
+            proc,
+            state,
+            level: 1,
+        })?;
+    }
+    Header::new(NodeId::new(1)?, name, locals)
+}
+
+/// Writes one header so often.
+fn write_all(alloc: Global, version: u8, count: u64) -> Result<u64, Refusal> {
+    let signature = Signature::new(participants(alloc)?, true)?;
+    let frame = Frame::Header(header(alloc, &signature, 1)?);
+    for _ in 0..count {
+        let _bytes = frame.encode_as(alloc, version)?;
+    }
+    Ok(count)
+}
+
+/// Reads one header so often.
+fn read_all(alloc: Global, version: u8, count: u64) -> Result<u64, Refusal> {
+    let signature = Signature::new(participants(alloc)?, true)?;
+    let frame = Frame::Header(header(alloc, &signature, 1)?);
+    let bytes = frame.encode_as(alloc, version)?;
+    let mut read = 0_u64;
+    for _ in 0..count {
+        let fed = Stream::new(alloc).feed(bytes.as_slice())?;
+        read = read.wrapping_add(fed.frames.len() as u64);
+    }
+    Ok(read)
+}
+
+/// The registry of two nodes: the first process is at home at node 0, the others are at node 1.
+fn registry(alloc: Global) -> Result<Registry, Refusal> {
+    let names: [&[u8]; 2] = [b"n0", b"n1"];
+    let mut homes = Vec::new(alloc);
+    for rank in 0..LOCALS {
+        homes.push(NodeId::new(u32::from(rank > 0))?)?;
+    }
+    let mut registry = Registry::new(alloc, &names)?;
+    registry.register(Nspace::read(alloc, b"j")?, &homes)?;
+    Ok(registry)
+}
+
+/// The node 0 of the group.
+fn told_node(alloc: Global) -> Result<Node, Refusal> {
+    let node = NodeId::new(0)?;
+    let registry = registry(alloc)?;
+    if !registry.has_node(node) {
+        return Err(Refusal::BadParam);
+    }
+    Ok(Node::new(node, registry)?)
+}
+
+/// Hands the node the header of the instance of that number as bytes: how many frames it took.
+fn tell(
+    alloc: Global,
+    node: &mut Node,
+    signature: &Signature,
+    version: u8,
+    instance: u64,
+) -> Result<u64, Refusal> {
+    let bytes = Frame::Header(header(alloc, signature, instance)?).encode_as(alloc, version)?;
+    let fed = Stream::new(alloc).feed(bytes.as_slice())?;
+    let mut sent: VecDeque<Sent> = VecDeque::new(alloc);
+    let mut taken = 0_u64;
+    for frame in &fed.frames {
+        node.act_into(&Act::Deliver(frame.copy()?), &mut sent)?;
+        taken = taken.wrapping_add(1);
+    }
+    Ok(taken)
+}
+
+/// Delivers so many headers, of one instance after another.
+fn deliver_all(alloc: Global, version: u8, count: u64) -> Result<u64, Refusal> {
+    let signature = Signature::new(participants(alloc)?, true)?;
+    let mut node = told_node(alloc)?;
+    let mut taken = 0_u64;
+    for instance in 1..=count {
+        taken = taken.wrapping_add(tell(alloc, &mut node, &signature, version, instance)?);
+    }
+    Ok(taken)
+}
