@@ -3,6 +3,7 @@
 ghost use Rattle.std.specs.Prelude.{false};
 
 use crate::failing::{FailingReader, FailingWriter};
+use crate::nodes::words::MEMORY;
 use pmg_script::{Ended, LineFault, Player, play_script};
 use pmg_store::{Failure, WatchedReader};
 use pmg_value::{Refusal, WatchedWriter};
@@ -52,14 +53,10 @@ struct Played {
     text: Vec<u8>,
 }
 
-const NO_MEMORY: Failure = Failure::Refused(Refusal::NoMemory);
-
 // What comes of a script whose replies are written three bytes at a time, with a writer that fails
 // after so many writes.
-fn play<R: Read + Drop>(alloc: Global, reader: R, writes: usize) -> Result<Played, Failure> {
-    let Ok(held) = Vec::with_capacity(alloc, 64) else {
-        return Err(NO_MEMORY);
-    };
+fn play<R: Read + Drop>(rt: &impl Abort, alloc: Global, reader: R, writes: usize) -> Played {
+    let held = Vec::with_capacity(alloc, 64).expect(rt, MEMORY);
     let mut reader = WatchedReader::new(reader);
     let mut writer = WatchedWriter::new(FailingWriter {
         held,
@@ -68,31 +65,25 @@ fn play<R: Read + Drop>(alloc: Global, reader: R, writes: usize) -> Result<Playe
     });
     let mut echo = Echo { alloc, lines: 0 };
     let ended = play_script(alloc, &mut reader, &mut echo, &mut writer);
-    Ok(Played {
+    Played {
         ended,
         reads: reader.reads(),
         lines: echo.lines,
         text: writer.into_inner().held,
-    })
+    }
 }
 
 // The script ended so, and these are its replies. Where an allocation failed, that is told.
-fn is_played(
-    rt: &impl Abort,
-    played: &Played,
-    ended: Result<Ended, Failure>,
-    replies: &[u8],
-) -> Result<(), Failure> {
-    if played.ended == Err(NO_MEMORY) {
-        return Err(NO_MEMORY);
+fn is_played(rt: &impl Abort, played: &Played, ended: Result<Ended, Failure>, replies: &[u8]) {
+    if played.ended == Err(Failure::Refused(Refusal::NoMemory)) {
+        played.ended.expect(rt, MEMORY);
     }
     assert!(rt; played.ended == ended);
     assert!(rt; played.text.as_slice() == replies);
-    Ok(())
 }
 
 #[test]
-fn how_the_bytes_come_makes_no_difference(rt: HostRuntime) -> Result<(), Failure> {
+fn how_the_bytes_come_makes_no_difference(rt: HostRuntime) {
     for most in 1..=7 {
         let reader = FailingReader {
             left: SCRIPT.as_bytes(),
@@ -100,13 +91,10 @@ fn how_the_bytes_come_makes_no_difference(rt: HostRuntime) -> Result<(), Failure
             fails_at: 0,
             fault: ErrorKind::Interrupted,
         };
-        let Ok(reader) = BufReader::new(rt.alloc(), reader) else {
-            return Err(NO_MEMORY);
-        };
-        let played = play(rt.alloc(), reader, usize::MAX)?;
-        is_played(&rt, &played, Ok(Ended::AtEnd), REPLIES.as_bytes())?;
+        let reader = BufReader::new(rt.alloc(), reader).expect(&rt, MEMORY);
+        let played = play(&rt, rt.alloc(), reader, usize::MAX);
+        is_played(&rt, &played, Ok(Ended::AtEnd), REPLIES.as_bytes());
     }
-    Ok(())
 }
 
 // What stands there when the read of that number fails, from 1: the replies of the lines that ended
@@ -123,7 +111,7 @@ const BEFORE_A_READ: [&str; 8] = [
 ];
 
 #[test]
-fn a_failing_reader_leaves_the_replies_of_whole_lines(rt: HostRuntime) -> Result<(), Failure> {
+fn a_failing_reader_leaves_the_replies_of_whole_lines(rt: HostRuntime) {
     for (before, want) in BEFORE_A_READ.iter().enumerate() {
         let fails_at = before.wrapping_add(1);
         let reader = FailingReader {
@@ -132,11 +120,10 @@ fn a_failing_reader_leaves_the_replies_of_whole_lines(rt: HostRuntime) -> Result
             fails_at,
             fault: ErrorKind::Interrupted,
         };
-        let played = play(rt.alloc(), reader, usize::MAX)?;
-        is_played(&rt, &played, Err(Failure::Read), want.as_bytes())?;
+        let played = play(&rt, rt.alloc(), reader, usize::MAX);
+        is_played(&rt, &played, Err(Failure::Read), want.as_bytes());
         assert_eq!(rt; played.reads, fails_at);
     }
-    Ok(())
 }
 
 // How many bytes of the replies stand there after so many writes, how many lines were done, and how
@@ -152,14 +139,14 @@ const AFTER_WRITES: [(usize, usize, usize); 7] = [
 ];
 
 #[test]
-fn a_failing_writer_leaves_a_prefix_and_ends_the_script(rt: HostRuntime) -> Result<(), Failure> {
+fn a_failing_writer_leaves_a_prefix_and_ends_the_script(rt: HostRuntime) {
     for (writes, (len, lines, reads)) in AFTER_WRITES.iter().enumerate() {
-        let played = play(rt.alloc(), SCRIPT.as_bytes(), writes)?;
+        let played = play(&rt, rt.alloc(), SCRIPT.as_bytes(), writes);
         let before = REPLIES.as_bytes().get(..*len).unwrap_or(b"");
-        is_played(&rt, &played, Err(Failure::Write), before)?;
+        is_played(&rt, &played, Err(Failure::Write), before);
         assert!(rt; played.lines == *lines && played.reads == *reads);
     }
     // a writer that takes little gets all
-    let played = play(rt.alloc(), SCRIPT.as_bytes(), 7)?;
-    is_played(&rt, &played, Ok(Ended::AtEnd), REPLIES.as_bytes())
+    let played = play(&rt, rt.alloc(), SCRIPT.as_bytes(), 7);
+    is_played(&rt, &played, Ok(Ended::AtEnd), REPLIES.as_bytes());
 }

@@ -1,13 +1,15 @@
-//! What no clause says of whole scripts: what is written where a reader or a writer fails. What scripts are replied is shown by
-//! `examples/replay.rows`.
+//! What no clause says of whole scripts: what is written where a reader or a writer fails. What
+//! scripts are replied is shown by `examples/replay.rows`.
 use crate::failing::{FailingReader, FailingWriter};
 use crate::nodes::text::put_line;
+use crate::nodes::words::MEMORY;
 use pmg_script::Ended;
 use pmg_store::{Failure, WatchedReader};
 use pmg_value::{Refusal, WatchedWriter};
 use pmg_world::replay;
-use std::alloc::{AllocError, Global};
+use std::alloc::Global;
 use std::io::{ErrorKind, Read};
+use std::process::Abort;
 
 const NO_MEMORY: Failure = Failure::Refused(Refusal::NoMemory);
 
@@ -42,13 +44,8 @@ struct Outcome {
 }
 
 // What comes of a script, of whose replies so many bytes can be written, one by one.
-fn played<R: Read + Drop>(alloc: Global, reader: R, writes: usize) -> Outcome {
-    let Ok(held) = Vec::with_capacity(alloc, ROOM) else {
-        return Outcome {
-            result: Err(NO_MEMORY),
-            text: Vec::new(alloc),
-        };
-    };
+fn played<R: Read + Drop>(rt: &impl Abort, alloc: Global, reader: R, writes: usize) -> Outcome {
+    let held = Vec::with_capacity(alloc, ROOM).expect(rt, MEMORY);
     let mut reader = WatchedReader::new(reader);
     let mut writer = WatchedWriter::new(FailingWriter {
         held,
@@ -70,16 +67,16 @@ fn has_ended(played: &Outcome, failure: Failure, replies: &[u8]) -> bool {
 }
 
 // The script, and its replies.
-fn texts(alloc: Global) -> Result<(Vec<u8>, Vec<u8>), AllocError> {
+fn texts(rt: &impl Abort, alloc: Global) -> (Vec<u8>, Vec<u8>) {
     let mut script = Vec::new(alloc);
     let mut replies = Vec::new(alloc);
     for row in COLLECTING.lines() {
         if let Some((line, reply)) = row.split_once('|') {
-            put_line(&mut script, line)?;
-            put_line(&mut replies, reply)?;
+            put_line(&mut script, line).expect(rt, MEMORY);
+            put_line(&mut replies, reply).expect(rt, MEMORY);
         }
     }
-    Ok((script, replies))
+    (script, replies)
 }
 
 // How long the replies are that stand whole before the byte of that number, each with its line
@@ -99,8 +96,8 @@ fn told_before(reads: usize) -> usize {
 }
 
 #[test]
-fn replies_before_a_read_fault_stay(rt: HostRuntime) -> Result<(), AllocError> {
-    let (script, replies) = texts(rt.alloc())?;
+fn replies_before_a_read_fault_stay(rt: HostRuntime) {
+    let (script, replies) = texts(&rt, rt.alloc());
     for fails_at in 1..=script.len().saturating_add(1) {
         let reader = FailingReader {
             left: &script,
@@ -108,21 +105,19 @@ fn replies_before_a_read_fault_stay(rt: HostRuntime) -> Result<(), AllocError> {
             fails_at,
             fault: ErrorKind::Other,
         };
-        let played = played(rt.alloc(), reader, usize::MAX);
+        let played = played(&rt, rt.alloc(), reader, usize::MAX);
         let told = told_before(fails_at.saturating_sub(1));
         let before = replies.get(..told).unwrap_or(b"");
         assert!(rt; has_ended(&played, Failure::Read, before));
     }
-    Ok(())
 }
 
 #[test]
-fn write_faults_leave_a_prefix(rt: HostRuntime) -> Result<(), AllocError> {
-    let (script, replies) = texts(rt.alloc())?;
+fn write_faults_leave_a_prefix(rt: HostRuntime) {
+    let (script, replies) = texts(&rt, rt.alloc());
     for most in 0..replies.len() {
-        let played = played(rt.alloc(), script.as_slice(), most);
+        let played = played(&rt, rt.alloc(), script.as_slice(), most);
         let before = replies.get(..most).unwrap_or(b"");
         assert!(rt; has_ended(&played, Failure::Write, before));
     }
-    Ok(())
 }

@@ -4,7 +4,7 @@ mod asked_again;
 
 use crate::nodes::group::registry;
 use crate::nodes::text::{put_line, shown};
-use crate::nodes::words::{key, number, process, request, scope_of, value, word, words_of};
+use crate::nodes::words::{MEMORY, key, number, process, request, scope_of, value, word, words_of};
 use pmg_value::Refusal;
 use pmg_world::{Event, World, reply_line};
 use std::alloc::Global;
@@ -28,50 +28,78 @@ fn event(alloc: Global, words: &[&str]) -> Result<Event, Refusal> {
     }
 }
 
+// The event of a line.
+fn event_of(alloc: Global, line: &str) -> Result<Event, Refusal> {
+    let words = words_of(alloc, line)?;
+    event(alloc, &words)
+}
+
+// Puts the events of the rows and the lines of their answers.
+fn put_events(
+    events: &mut Vec<Event>,
+    answers: &mut Vec<u8>,
+    alloc: Global,
+    rows: &str,
+) -> Result<(), Refusal> {
+    for row in rows.lines() {
+        if let Some((line, answer)) = row.split_once('|') {
+            events.push(event_of(alloc, line)?)?;
+            put_line(answers, answer)?;
+        }
+    }
+    Ok(())
+}
+
 // The events of the rows, each up to a bar, and the lines of the answers that are wanted, each
 // after it.
 fn events(alloc: Global, rows: &str) -> Result<(Vec<Event>, Vec<u8>), Refusal> {
     let mut events = Vec::new(alloc);
     let mut answers = Vec::new(alloc);
-    for row in rows.lines() {
-        if let Some((line, answer)) = row.split_once('|') {
-            events.push(event(alloc, &words_of(alloc, line)?)?)?;
-            put_line(&mut answers, answer)?;
-        }
-    }
+    put_events(&mut events, &mut answers, alloc, rows)?;
     Ok((events, answers))
+}
+
+// Puts the lines of all answers of a world.
+fn put_lines(text: &mut Vec<u8>, alloc: Global, world: &World) -> Result<(), Refusal> {
+    for told in world.events() {
+        let line = reply_line(alloc, false, &told.answer)?;
+        text.extend_from_slice(&line)?;
+    }
+    Ok(())
 }
 
 // The lines of all answers of a world.
 fn lines(alloc: Global, world: &World) -> Result<Vec<u8>, Refusal> {
     let mut text = Vec::new(alloc);
-    for told in world.events() {
-        text.extend_from_slice(&reply_line(alloc, false, &told.answer)?)?;
-    }
+    put_lines(&mut text, alloc, world)?;
     Ok(text)
 }
 
-// What these events are answered with, from the start on. Where an allocation fails, the world
-// stands after the events that it tells of, and the others happen then.
-fn answers(alloc: Global, events: &[Event]) -> Result<Vec<u8>, Refusal> {
-    let mut world = World::new(&registry(alloc, 2, &[0, 1])?)?;
+// These events happen. Where an allocation fails, the world stands after the events that it tells
+// of, and the others happen then.
+fn run(rt: &impl Abort, world: &mut World, events: &[Event]) {
     if let Err(failed) = world.run(events) {
         let told = world.events().len();
         let left = events.get(told..).unwrap_or(events);
-        if told != failed.done || world.run(left).is_err() {
-            return Ok(Vec::new(alloc));
-        }
+        assert!(rt; told == failed.done);
+        assert!(rt; world.run(left).is_ok());
     }
-    lines(alloc, &world)
+}
+
+// What these events are answered with, from the start on.
+fn answers(rt: &impl Abort, alloc: Global, events: &[Event]) -> Vec<u8> {
+    let registry = registry(alloc, 2, &[0, 1]).expect(rt, MEMORY);
+    let mut world = World::new(&registry).expect(rt, MEMORY);
+    run(rt, &mut world, events);
+    lines(alloc, &world).expect(rt, MEMORY)
 }
 
 // The events of the rows are answered as is wanted, in a group of two nodes with one process of
 // namespace j each.
-fn happens(rt: &impl Abort, alloc: Global, rows: &str) -> Result<(), Refusal> {
-    let (events, wanted) = events(alloc, rows)?;
-    let text = answers(alloc, &events)?;
+fn happens(rt: &impl Abort, alloc: Global, rows: &str) {
+    let (events, wanted) = events(alloc, rows).expect(rt, MEMORY);
+    let text = answers(rt, alloc, &events);
     assert_eq!(rt; shown(&text), shown(&wanted));
-    Ok(())
 }
 
 // Process 1 puts, commits and enters; its header and its commit reach node 0, where process 0
@@ -91,8 +119,8 @@ const MEETING: &str = "\
 ";
 
 #[test]
-fn both_meet(rt: HostRuntime) -> Result<(), Refusal> {
-    happens(&rt, rt.alloc(), MEETING)
+fn both_meet(rt: HostRuntime) {
+    happens(&rt, rt.alloc(), MEETING);
 }
 
 // A node and frames that are not there, and a process that is at home elsewhere.
@@ -106,8 +134,8 @@ const STRANGE: &str = "\
 ";
 
 #[test]
-fn nothing_is_there(rt: HostRuntime) -> Result<(), Refusal> {
-    happens(&rt, rt.alloc(), STRANGE)
+fn nothing_is_there(rt: HostRuntime) {
+    happens(&rt, rt.alloc(), STRANGE);
 }
 
 // What no commit sealed is seen by nobody but the process itself; a refused put changes nothing.
@@ -122,6 +150,6 @@ const PUTS: &str = "\
 ";
 
 #[test]
-fn puts_are_sealed_by_commits(rt: HostRuntime) -> Result<(), Refusal> {
-    happens(&rt, rt.alloc(), PUTS)
+fn puts_are_sealed_by_commits(rt: HostRuntime) {
+    happens(&rt, rt.alloc(), PUTS);
 }

@@ -1,7 +1,6 @@
 //! What goes out of fences when nodes ask, processes end and nodes are nudged: to whom, and in
 //! which order.
 use crate::nodes::group::{Row, play_all};
-use pmg_value::Refusal;
 
 const ROWS: &[Row] = &[
     // A fence ask teaches the name: the own header, which exists by that, goes to all; asked for
@@ -120,6 +119,6 @@ const ROWS: &[Row] = &[
 ];
 
 #[test]
-fn news_of_fences_go_out_in_order(rt: HostRuntime) -> Result<(), Refusal> {
-    play_all(&rt, rt.alloc(), ROWS)
+fn news_of_fences_go_out_in_order(rt: HostRuntime) {
+    play_all(&rt, rt.alloc(), ROWS);
 }

@@ -1,11 +1,11 @@
 //! The nodes of a group, and scripts of what they do, line by line.
 use crate::nodes::text::{put, put_answer, put_line, put_sent, shown};
-use crate::nodes::words::{batch, frame, key, number, process, request, word, words_of};
+use crate::nodes::words::{MEMORY, batch, frame, key, number, process, request, word, words_of};
 use pmg_jobinfo::Registry;
 use pmg_node::{Act, Node, Reply, Status};
 use pmg_rules::Sent;
 use pmg_value::{NodeId, Nspace, Refusal, Value, WatchedWriter};
-use std::alloc::{AllocError, Global};
+use std::alloc::Global;
 use std::collections::VecDeque;
 use std::process::Abort;
 
@@ -45,23 +45,26 @@ pub(crate) fn registry(alloc: Global, count: usize, homes: &[u32]) -> Result<Reg
     Ok(registry)
 }
 
-fn nodes_of(registry: &Registry) -> Result<Vec<Node>, Refusal> {
-    let mut nodes = Vec::new(registry.allocator());
-    for index in 0..registry.node_count() {
-        let id = NodeId::new(index as u32)?;
-        let registry = registry.copy()?;
-        if !registry.has_node(id) {
-            return Err(Refusal::BadParam);
-        }
-        nodes.push(Node::new(id, registry)?)?;
-    }
-    Ok(nodes)
+// The node of that number, of which no process has called.
+fn node_of(rt: &impl Abort, registry: &Registry, id: NodeId) -> Node {
+    let registry = registry.copy().expect(rt, MEMORY);
+    assert!(rt; registry.has_node(id));
+    Node::new(id, registry).expect(rt, MEMORY)
 }
 
-// Puts how the process stands.
-fn put_status(text: &mut Vec<u8>, node: &Node, proc: &str, alloc: Global) -> Result<(), Refusal> {
-    let proc = process(alloc, proc)?;
-    let word = match node.status(&proc) {
+fn nodes_of(rt: &impl Abort, registry: &Registry) -> Vec<Node> {
+    let mut nodes = Vec::new(registry.allocator());
+    for index in 0..registry.node_count() {
+        let id = NodeId::new(index as u32).expect(rt, MEMORY);
+        nodes.push(node_of(rt, registry, id)).expect(rt, MEMORY);
+    }
+    nodes
+}
+
+// How the process stands.
+fn status(rt: &impl Abort, node: &Node, proc: &str, alloc: Global) -> &'static str {
+    let proc = process(alloc, proc).expect(rt, MEMORY);
+    match node.status(&proc) {
         Status::Stranger => "stranger",
         Status::Idle => "idle",
         Status::InFence => "in fence",
@@ -69,193 +72,200 @@ fn put_status(text: &mut Vec<u8>, node: &Node, proc: &str, alloc: Global) -> Res
         Status::Parked => "parked",
         Status::Answered => "answered",
         Status::Ended => "ended",
-    };
-    put_line(text, word)?;
-    Ok(())
+    }
 }
 
 // Puts the texts of the members.
-fn put_items(text: &mut Vec<u8>, members: &[Value], alloc: Global) -> Result<(), Refusal> {
-    put(text, "members")?;
+fn put_items(rt: &impl Abort, text: &mut Vec<u8>, members: &[Value], alloc: Global) {
+    put(text, "members").expect(rt, MEMORY);
     for member in members {
-        put(text, " ")?;
-        text.extend_from_slice(&member.to_text(alloc)?)?;
+        let member = member.to_text(alloc).expect(rt, MEMORY);
+        put(text, " ").expect(rt, MEMORY);
+        text.extend_from_slice(&member).expect(rt, MEMORY);
     }
-    put(text, "\n")?;
-    Ok(())
+    put(text, "\n").expect(rt, MEMORY);
 }
 
 // Puts who belongs to the set, or why it is not told.
-fn put_members(text: &mut Vec<u8>, node: &Node, name: &str, alloc: Global) -> Result<(), Refusal> {
-    let members = node.set_members(&key(alloc, name)?);
-    match members {
-        Ok(members) => put_items(text, members.items(), alloc),
-        Err(refusal) => {
-            put(text, refusal.name())?;
-            put(text, "\n")?;
-            Ok(())
-        }
+fn put_members(rt: &impl Abort, text: &mut Vec<u8>, node: &Node, name: &str, alloc: Global) {
+    let name = key(alloc, name).expect(rt, MEMORY);
+    match node.set_members(&name) {
+        Ok(members) => put_items(rt, text, members.items(), alloc),
+        Err(refusal) => put_line(text, refusal.name()).expect(rt, MEMORY),
     }
 }
 
-fn dump_lines(alloc: Global, node: &Node) -> Result<Vec<u8>, Refusal> {
+// What the node has to tell to other nodes.
+fn dump_lines(rt: &impl Abort, alloc: Global, node: &Node) -> Vec<u8> {
     let mut writer = WatchedWriter::new(Vec::new(alloc));
-    if node.board().far().dump(&mut writer).is_err() {
-        return Err(Refusal::NoMemory);
-    }
-    Ok(writer.into_inner())
+    node.board().far().dump(&mut writer).expect(rt, MEMORY);
+    writer.into_inner()
 }
 
 // Puts the line, and the lines of what comes of it with a blank before each.
-fn put_played(text: &mut Vec<u8>, line: &str, found: &[u8]) -> Result<(), AllocError> {
-    put_line(text, line)?;
+fn put_played(rt: &impl Abort, text: &mut Vec<u8>, line: &str, found: &[u8]) {
+    put_line(text, line).expect(rt, MEMORY);
     for line in shown(found).lines() {
-        put(text, " ")?;
-        put_line(text, line)?;
+        put(text, " ").expect(rt, MEMORY);
+        put_line(text, line).expect(rt, MEMORY);
     }
-    Ok(())
+}
+
+// What the node replies to the act, or why it is refused.
+fn replied(node: &mut Node, act: &Act, sent: &mut VecDeque<Sent>) -> Result<Reply, Refusal> {
+    let acted = node.act_into(act, sent)?;
+    Ok(acted.reply)
 }
 
 impl Group {
     // The group of that registry: none of its processes has called.
-    fn new(registry: &Registry) -> Result<Group, Refusal> {
+    fn new(rt: &impl Abort, registry: &Registry) -> Group {
         let alloc = registry.allocator();
-        Ok(Group {
+        Group {
             alloc,
-            nodes: nodes_of(registry)?,
+            nodes: nodes_of(rt, registry),
             sent: VecDeque::new(alloc),
-        })
+        }
+    }
+
+    // The node of that number.
+    fn node(&self, rt: &impl Abort, at: usize) -> &Node {
+        self.nodes.get(at).expect(rt, "a node")
     }
 
     // The delivery of the frame that was sent to the node as the one of that number, from 1.
-    fn delivery(&self, at: usize, number: usize) -> Result<Act, Refusal> {
-        let Some(sent) = self.sent.get(number.wrapping_sub(1)) else {
-            return Err(Refusal::BadParam);
-        };
-        if sent.to.index() as usize != at {
-            return Err(Refusal::BadParam);
+    fn delivery(&self, rt: &impl Abort, at: usize, number: usize) -> Act {
+        let sent = self.sent.get(number.wrapping_sub(1)).expect(rt, "a frame");
+        assert!(rt; sent.to.index() as usize == at);
+        Act::Deliver(sent.frame.copy().expect(rt, MEMORY))
+    }
+
+    // The commit of the words.
+    fn commit(&self, rt: &impl Abort, words: &[&str]) -> Act {
+        let puts = batch(rt, self.alloc, words);
+        let proc = process(self.alloc, word(words, 2)).expect(rt, MEMORY);
+        Act::Commit(proc, puts)
+    }
+
+    // The delivery of the frame of the words, if they are those of one.
+    fn arrival(&self, rt: &impl Abort, words: &[&str]) -> Option<Act> {
+        match frame(rt, self.alloc, words) {
+            Some(frame) => Some(Act::Deliver(frame)),
+            None => None,
         }
-        Ok(Act::Deliver(sent.frame.copy()?))
     }
 
     // The act of the words, unless they only look.
-    fn act(&self, at: usize, words: &[&str]) -> Result<Option<Act>, Refusal> {
-        if word(words, 1) == "commit" {
-            let proc = process(self.alloc, word(words, 2))?;
-            return Ok(Some(Act::Commit(proc, batch(self.alloc, words)?)));
-        }
-        if word(words, 1) == "deliver" {
-            return Ok(Some(self.delivery(at, number(words, 2) as usize)?));
-        }
-        if let Some(request) = request(self.alloc, words)? {
-            return Ok(Some(Act::Request(request)));
-        }
-        match frame(self.alloc, words)? {
-            Some(frame) => Ok(Some(Act::Deliver(frame))),
-            None => Ok(None),
+    fn act(&self, rt: &impl Abort, at: usize, words: &[&str]) -> Option<Act> {
+        match word(words, 1) {
+            "commit" => Some(self.commit(rt, words)),
+            "deliver" => Some(self.delivery(rt, at, number(words, 2) as usize)),
+            _ => match request(self.alloc, words).expect(rt, MEMORY) {
+                Some(request) => Some(Act::Request(request)),
+                None => self.arrival(rt, words),
+            },
         }
     }
 
     // All that is seen of the node: what is known to other nodes, how each process stands, and what
     // was sent.
-    fn seen(&self, at: usize) -> Result<Vec<u8>, Refusal> {
-        let Some(node) = self.nodes.get(at) else {
-            return Err(Refusal::BadParam);
-        };
-        let mut text = dump_lines(self.alloc, node)?;
+    fn seen(&self, rt: &impl Abort, at: usize) -> Vec<u8> {
+        let node = self.node(rt, at);
+        let mut text = dump_lines(rt, self.alloc, node);
         for proc in ["j0", "j1", "j2", "j3"] {
-            put_status(&mut text, node, proc, self.alloc)?;
+            put_line(&mut text, status(rt, node, proc, self.alloc)).expect(rt, MEMORY);
         }
-        for sent in self.sent.iter() {
-            put_sent(&mut text, sent, self.alloc)?;
+        self.put_sent_after(rt, &mut text, 0);
+        text
+    }
+
+    // Puts the lines of the frames that were sent after so many.
+    fn put_sent_after(&self, rt: &impl Abort, text: &mut Vec<u8>, before: usize) {
+        for sent in self.sent.iter().skip(before) {
+            put_sent(text, sent, self.alloc).expect(rt, MEMORY);
         }
-        Ok(text)
     }
 
     // The node does the act: the reply, or why it is refused.
-    fn act_once(&mut self, at: usize, act: &Act) -> Result<Reply, Refusal> {
-        let Some(node) = self.nodes.get_mut(at) else {
-            return Err(Refusal::BadParam);
-        };
-        let acted = node.act_into(act, &mut self.sent)?;
-        Ok(acted.reply)
+    fn act_once(&mut self, rt: &impl Abort, at: usize, act: &Act) -> Result<Reply, Refusal> {
+        let node = self.nodes.get_mut(at).expect(rt, "a node");
+        replied(node, act, &mut self.sent)
     }
 
     // The same. Where an allocation of the act fails, nothing that is seen may change, and the act
-    // is asked for again; where another one fails, there is no answer.
-    fn answer(&mut self, at: usize, act: &Act) -> Result<Result<Reply, Refusal>, Refusal> {
-        let before = self.seen(at)?;
-        let answer = self.act_once(at, act);
-        if !matches!(answer, Err(Refusal::NoMemory)) || self.seen(at)? != before {
-            return Ok(answer);
+    // is asked for again.
+    fn answer(&mut self, rt: &impl Abort, at: usize, act: &Act) -> Result<Reply, Refusal> {
+        let before = self.seen(rt, at);
+        let answer = self.act_once(rt, at, act);
+        if matches!(answer, Err(Refusal::NoMemory)) && self.seen(rt, at) == before {
+            return self.act_once(rt, at, act);
         }
-        Ok(self.act_once(at, act))
+        answer
     }
 
-    // The lines of the answer, and of the frames that were sent after so many.
-    fn lines(&self, answer: &Result<Reply, Refusal>, before: usize) -> Result<Vec<u8>, Refusal> {
+    // The lines of what the act is answered with, and of the frames that are sent with it.
+    fn acted(&mut self, rt: &impl Abort, at: usize, act: &Act) -> Vec<u8> {
+        let before = self.sent.len();
         let mut text = Vec::new(self.alloc);
-        put_answer(&mut text, answer, self.alloc)?;
-        for sent in self.sent.iter().skip(before) {
-            put_sent(&mut text, sent, self.alloc)?;
-        }
-        Ok(text)
+        let answer = self.answer(rt, at, act);
+        put_answer(&mut text, &answer, self.alloc).expect(rt, MEMORY);
+        self.put_sent_after(rt, &mut text, before);
+        text
     }
 
     // The lines of what is looked at.
-    fn look(&self, at: usize, words: &[&str]) -> Result<Vec<u8>, Refusal> {
-        let Some(node) = self.nodes.get(at) else {
-            return Err(Refusal::BadParam);
-        };
-        let mut text = Vec::new(self.alloc);
-        match word(words, 1) {
-            "members" => put_members(&mut text, node, word(words, 2), self.alloc)?,
-            "status" => put_status(&mut text, node, word(words, 2), self.alloc)?,
-            "dump" => return dump_lines(self.alloc, node),
-            _ => return Err(Refusal::BadParam),
+    fn look(&self, rt: &impl Abort, at: usize, words: &[&str]) -> Vec<u8> {
+        let node = self.node(rt, at);
+        let what = word(words, 1);
+        if what == "dump" {
+            return dump_lines(rt, self.alloc, node);
         }
-        Ok(text)
+        let mut text = Vec::new(self.alloc);
+        if what == "members" {
+            put_members(rt, &mut text, node, word(words, 2), self.alloc);
+        } else {
+            assert_eq!(rt; what, "status");
+            let status = status(rt, node, word(words, 2), self.alloc);
+            put_line(&mut text, status).expect(rt, MEMORY);
+        }
+        text
     }
 
     // What comes of a line: its words name the node, and then what is done there.
-    fn play(&mut self, line: &str) -> Result<Vec<u8>, Refusal> {
-        let words = words_of(self.alloc, line)?;
+    fn play(&mut self, rt: &impl Abort, line: &str) -> Vec<u8> {
+        let words = words_of(self.alloc, line).expect(rt, MEMORY);
         let at = number(&words, 0) as usize;
-        let Some(act) = self.act(at, &words)? else {
-            return self.look(at, &words);
-        };
-        let before = self.sent.len();
-        let answer = self.answer(at, &act)?;
-        self.lines(&answer, before)
+        match self.act(rt, at, &words) {
+            Some(act) => self.acted(rt, at, &act),
+            None => self.look(rt, at, &words),
+        }
     }
 
     // Plays those lines of the script that begin with no blank, and gives each with what comes of
     // it.
-    fn transcript(&mut self, script: &str) -> Result<Vec<u8>, Refusal> {
+    fn transcript(&mut self, rt: &impl Abort, script: &str) -> Vec<u8> {
         let mut text = Vec::new(self.alloc);
         for line in script.lines() {
             if !line.starts_with(' ') {
-                put_played(&mut text, line, &self.play(line)?)?;
+                put_played(rt, &mut text, line, &self.play(rt, line));
             }
         }
-        Ok(text)
+        text
     }
 
     // What comes of each line of the scripts is what stands after it there.
-    fn plays(&mut self, rt: &impl Abort, name: &str, scripts: &[&str]) -> Result<(), Refusal> {
+    fn plays(&mut self, rt: &impl Abort, name: &str, scripts: &[&str]) {
         for script in scripts {
-            let text = self.transcript(script)?;
+            let text = self.transcript(rt, script);
             assert_eq!(rt; (name, shown(&text)), (name, *script));
         }
-        Ok(())
     }
 }
 
 /// The scripts of each row come out on a group of its own.
-pub(crate) fn play_all(rt: &impl Abort, alloc: Global, rows: &[Row]) -> Result<(), Refusal> {
+pub(crate) fn play_all(rt: &impl Abort, alloc: Global, rows: &[Row]) {
     for (name, count, homes, scripts) in rows {
-        let mut group = Group::new(&registry(alloc, *count, homes)?)?;
-        group.plays(rt, name, scripts)?;
+        let registry = registry(alloc, *count, homes).expect(rt, MEMORY);
+        Group::new(rt, &registry).plays(rt, name, scripts);
     }
-    Ok(())
 }

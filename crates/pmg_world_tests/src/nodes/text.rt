@@ -1,9 +1,9 @@
 //! What a node replies and sends, as text: one line for the reply, and one for each frame.
 use pmg_commit::{Piece, PieceEntry};
-use pmg_frame::{CommitAsk, FenceName, Frame, Header, RefreshReply, State};
+use pmg_frame::{CommitAsk, FenceName, Frame, Header, Local, RefreshReply, State};
 use pmg_node::Reply;
 use pmg_rules::Sent;
-use pmg_value::{Proc, Refusal, push_number};
+use pmg_value::{Proc, Refusal, Value, push_number};
 use std::alloc::{AllocError, Global};
 use std::str;
 
@@ -44,8 +44,21 @@ fn put_procs(text: &mut Vec<u8>, procs: &[Proc]) -> Result<(), AllocError> {
     Ok(())
 }
 
-// The process, the commits that are told, and their keys and values, each with the number of its
-// commit.
+fn put_value(text: &mut Vec<u8>, value: &Value, alloc: Global) -> Result<(), AllocError> {
+    let value = value.to_text(alloc)?;
+    text.extend_from_slice(&value)
+}
+
+// A blank, the key and the value, and the number of its commit.
+fn put_entry(text: &mut Vec<u8>, entry: &PieceEntry, alloc: Global) -> Result<(), AllocError> {
+    put(text, " ")?;
+    text.extend_from_slice(entry.key.as_bytes())?;
+    put(text, "=")?;
+    put_value(text, &entry.value, alloc)?;
+    put_with(text, "@", entry.number)
+}
+
+// The process, the commits that are told, and their keys and values.
 fn put_told(
     text: &mut Vec<u8>,
     proc: &Proc,
@@ -58,11 +71,7 @@ fn put_told(
     put_with(text, " ", from)?;
     put_with(text, "..", to)?;
     for entry in entries {
-        put(text, " ")?;
-        text.extend_from_slice(entry.key.as_bytes())?;
-        put(text, "=")?;
-        text.extend_from_slice(&entry.value.to_text(alloc)?)?;
-        put_with(text, "@", entry.number)?;
+        put_entry(text, entry, alloc)?;
     }
     Ok(())
 }
@@ -93,17 +102,23 @@ fn put_name(text: &mut Vec<u8>, name: &FenceName) -> Result<(), AllocError> {
     put_procs(text, name.signature().participants())
 }
 
+// What is told of a participant.
+fn put_local(text: &mut Vec<u8>, local: &Local) -> Result<(), AllocError> {
+    put(text, ", ")?;
+    put_proc(text, &local.proc)?;
+    let word = match local.state {
+        State::Entered => " entered ",
+        State::Gone => " gone ",
+    };
+    put_with(text, word, local.level)
+}
+
 // The node, the fence, and what is told of each participant.
 fn put_header(text: &mut Vec<u8>, header: &Header) -> Result<(), AllocError> {
     put_with(text, "header ", u64::from(header.node().index()))?;
     put_name(text, header.name())?;
     for local in header.locals() {
-        put(text, ", ")?;
-        put_proc(text, &local.proc)?;
-        match local.state {
-            State::Entered => put_with(text, " entered ", local.level)?,
-            State::Gone => put_with(text, " gone ", local.level)?,
-        }
+        put_local(text, local)?;
     }
     Ok(())
 }
@@ -144,6 +159,12 @@ fn put_release(text: &mut Vec<u8>, instance: u64, gone: &[Proc]) -> Result<(), A
     put_procs(text, gone)
 }
 
+// What is found.
+fn put_found(text: &mut Vec<u8>, value: &Value, alloc: Global) -> Result<(), AllocError> {
+    put(text, "found ")?;
+    put_value(text, value, alloc)
+}
+
 /// The line of a reply, or of a refusal by its name.
 pub(crate) fn put_answer(
     text: &mut Vec<u8>,
@@ -151,23 +172,20 @@ pub(crate) fn put_answer(
     alloc: Global,
 ) -> Result<(), AllocError> {
     match answer {
-        Ok(Reply::Done) => put(text, "ok")?,
-        Ok(Reply::Committed(number)) => put_with(text, "commit ", *number)?,
-        Ok(Reply::Entered(instance)) => put_with(text, "entered ", *instance)?,
-        Ok(Reply::Idle) => put(text, "idle")?,
-        Ok(Reply::Waiting) => put(text, "waiting")?,
-        Ok(Reply::Released(instance, gone)) => put_release(text, *instance, gone)?,
-        Ok(Reply::Found(value)) => {
-            put(text, "found ")?;
-            text.extend_from_slice(&value.to_text(alloc)?)?
-        }
-        Ok(Reply::Parked) => put(text, "parked")?,
-        Ok(Reply::Taken) => put(text, "taken")?,
-        Ok(Reply::Ignored) => put(text, "ignored")?,
-        Ok(Reply::Ended(number)) => put_with(text, "ended ", *number)?,
-        Ok(Reply::Defined(number)) => put_with(text, "defined ", *number)?,
-        Err(refusal) => put(text, refusal.name())?,
-    }
+        Ok(Reply::Done) => put(text, "ok"),
+        Ok(Reply::Committed(number)) => put_with(text, "commit ", *number),
+        Ok(Reply::Entered(instance)) => put_with(text, "entered ", *instance),
+        Ok(Reply::Idle) => put(text, "idle"),
+        Ok(Reply::Waiting) => put(text, "waiting"),
+        Ok(Reply::Released(instance, gone)) => put_release(text, *instance, gone),
+        Ok(Reply::Found(value)) => put_found(text, value, alloc),
+        Ok(Reply::Parked) => put(text, "parked"),
+        Ok(Reply::Taken) => put(text, "taken"),
+        Ok(Reply::Ignored) => put(text, "ignored"),
+        Ok(Reply::Ended(number)) => put_with(text, "ended ", *number),
+        Ok(Reply::Defined(number)) => put_with(text, "defined ", *number),
+        Err(refusal) => put(text, refusal.name()),
+    }?;
     put(text, "\n")
 }
 

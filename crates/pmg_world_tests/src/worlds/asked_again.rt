@@ -3,18 +3,20 @@
 //! allocation fails.
 use crate::nodes::group::registry;
 use crate::nodes::text::{put_sent, shown};
-use crate::worlds::{events, lines};
+use crate::nodes::words::MEMORY;
+use crate::worlds::{events, lines, put_lines};
 use pmg_store::Store;
 use pmg_value::{NodeId, Refusal, WatchedWriter};
 use pmg_world::{Event, World};
 use std::alloc::Global;
+use std::process::Abort;
 
-// The answer, asked for a second time where an allocation failed.
+// What the call gives, asked for a second time where an allocation failed.
 macro_rules! again {
-    ($call:expr) => {
+    ($rt:expr, $call:expr) => {
         match $call {
-            Err(_) => $call,
-            answer => answer,
+            Ok(given) => given,
+            Err(_) => $call.expect($rt, MEMORY),
         }
     };
 }
@@ -29,28 +31,67 @@ fn put_dump(text: &mut Vec<u8>, alloc: Global, store: &Store) -> Result<(), Refu
     Ok(())
 }
 
-// All that is seen of the world: the answers, the frames that were sent, and what both nodes hold.
-fn seen(alloc: Global, world: &World) -> Result<Vec<u8>, Refusal> {
-    let mut text = lines(alloc, world)?;
-    for sent in world.sent().iter() {
-        put_sent(&mut text, sent, alloc)?;
-    }
+// Puts what both nodes hold.
+fn put_dumps(text: &mut Vec<u8>, alloc: Global, world: &World) -> Result<(), Refusal> {
     for index in 0..2 {
         if let Some(node) = world.node(NodeId::new(index)?) {
-            put_dump(&mut text, alloc, node.board().near())?;
-            put_dump(&mut text, alloc, node.board().far())?;
+            put_dump(text, alloc, node.board().near())?;
+            put_dump(text, alloc, node.board().far())?;
         }
     }
+    Ok(())
+}
+
+// Puts the frames that were sent.
+fn put_frames(text: &mut Vec<u8>, alloc: Global, world: &World) -> Result<(), Refusal> {
+    for sent in world.sent().iter() {
+        put_sent(text, sent, alloc)?;
+    }
+    Ok(())
+}
+
+// Puts the answers, the frames that were sent, and what both nodes hold.
+fn put_seen(text: &mut Vec<u8>, alloc: Global, world: &World) -> Result<(), Refusal> {
+    put_lines(text, alloc, world)?;
+    put_frames(text, alloc, world)?;
+    put_dumps(text, alloc, world)
+}
+
+// All that is seen of the world.
+fn seen_once(alloc: Global, world: &World) -> Result<Vec<u8>, Refusal> {
+    let mut text = Vec::new(alloc);
+    put_seen(&mut text, alloc, world)?;
     Ok(text)
 }
 
+fn seen(rt: &impl Abort, alloc: Global, world: &World) -> Vec<u8> {
+    again!(rt, seen_once(alloc, world))
+}
+
 // A world after these events.
-fn after(alloc: Global, events: &[Event]) -> Result<World, Refusal> {
-    let mut world = World::new(&registry(alloc, 2, &[0, 1])?)?;
+fn after_once(alloc: Global, events: &[Event]) -> Result<World, Refusal> {
+    let registry = registry(alloc, 2, &[0, 1])?;
+    let mut world = World::new(&registry)?;
     if world.run(events).is_err() {
         return Err(Refusal::NoMemory);
     }
     Ok(world)
+}
+
+fn after(rt: &impl Abort, alloc: Global, events: &[Event]) -> World {
+    again!(rt, after_once(alloc, events))
+}
+
+// The events happen. Where an allocation fails, the world stands after those that it counts, and the
+// others happen then.
+fn happen(rt: &impl Abort, alloc: Global, world: &mut World, events: &[Event]) {
+    if let Err(failed) = world.run(events) {
+        let done = events.get(..failed.done).unwrap_or(&[]);
+        let left = events.get(failed.done..).unwrap_or(&[]);
+        let other = after(rt, alloc, done);
+        assert!(rt; seen(rt, alloc, world) == seen(rt, alloc, &other));
+        assert!(rt; world.run(left).is_ok());
+    }
 }
 
 // A set is defined, and a get of process 1 waits for a value of process 0. Both meet in a fence,
@@ -97,19 +138,13 @@ const ROWS: &str = "\
 ";
 
 #[test]
-fn each_kind_of_event_happens(rt: HostRuntime) -> Result<(), Refusal> {
+fn each_kind_of_event_happens(rt: HostRuntime) {
     let alloc = rt.alloc();
-    let (events, wanted) = again!(events(alloc, ROWS))?;
-    let mut world = again!(after(alloc, &[]))?;
-    if let Err(failed) = world.run(&events) {
-        let done = events.get(..failed.done).unwrap_or(&[]);
-        let left = events.get(failed.done..).unwrap_or(&[]);
-        assert!(rt; seen(alloc, &world)? == seen(alloc, &after(alloc, done)?)?);
-        assert!(rt; world.run(left).is_ok());
-    }
-    assert_eq!(rt; shown(&again!(lines(alloc, &world))?), shown(&wanted));
-    assert!(rt;
-        again!(seen(alloc, &world))? == again!(seen(alloc, &again!(after(alloc, &events))?))?
-    );
-    Ok(())
+    let (events, wanted) = again!(&rt, events(alloc, ROWS));
+    let mut world = after(&rt, alloc, &[]);
+    happen(&rt, alloc, &mut world, &events);
+    let told = again!(&rt, lines(alloc, &world));
+    assert_eq!(rt; shown(&told), shown(&wanted));
+    let other = after(&rt, alloc, &events);
+    assert!(rt; seen(&rt, alloc, &world) == seen(&rt, alloc, &other));
 }
