@@ -10,7 +10,7 @@ ghost use Rattle.pmg_commands.specs.Output.{IsStatus, Prints, TellsReadFault};
 
 use pmg_audit::Run;
 use pmg_commands::{AUDIT_FAULT, DONE, FAILED, conclude, finish};
-use pmg_job::Job;
+use pmg_jobfile::Job;
 use pmg_launch::{Outcome, Program, Report, run};
 use pmg_store::{Failure, MOST_READS, WatchedReader, read_input};
 use pmg_value::{NodeId, Refusal, WatchedWriter, WriteFault};

@@ -2,11 +2,11 @@
 use crate::programs::{Fencing, Meeting, Refreshing, Refused, Reporting, number_in, push_line};
 use crate::running::{MEMORY, give_up_where};
 use pmg_audit::Run;
-use pmg_job::Job;
+use pmg_jobfile::Job;
 use pmg_launch::{Exchange, Links, Outcome, Program, Report, run, run_linked};
 use pmg_node::{Reply, Request};
 use pmg_value::{NodeId, Proc, Refusal, WatchedWriter};
-use pmg_world::{Event, Told};
+use pmg_world::{Event, LoggedEvent};
 use std::alloc::Global;
 use std::process::Abort;
 use std::sync::Wait;
@@ -38,7 +38,7 @@ fn check_memory(rt: &impl Abort, reports: &[Report]) {
 }
 
 // All that the clients reported.
-fn reported(rt: &impl Abort, alloc: Global, reports: &[Report]) -> Vec<u8> {
+fn report_lines(rt: &impl Abort, alloc: Global, reports: &[Report]) -> Vec<u8> {
     let mut text = Vec::new(alloc);
     for report in reports {
         text.extend_from_slice(&report.text).expect(rt, MEMORY);
@@ -59,7 +59,7 @@ fn with_dump(rt: &impl Abort, text: Vec<u8>, run: &Run) -> Vec<u8> {
 // All that the clients reported, and behind it the far dump of node 0.
 fn text_of(rt: &impl Abort, alloc: Global, outcome: &Outcome) -> Vec<u8> {
     check_memory(rt, &outcome.reports);
-    let text = reported(rt, alloc, &outcome.reports);
+    let text = report_lines(rt, alloc, &outcome.reports);
     with_dump(rt, text, &outcome.run)
 }
 
@@ -332,7 +332,7 @@ fn number_of(letter: u8, reply: &Reply) -> Option<u64> {
 }
 
 // What a client reports of an event that it made, as `Reporting` does; none of other events.
-fn told_line(told: &Told, proc: &Proc) -> Option<(u8, u64)> {
+fn told_line(told: &LoggedEvent, proc: &Proc) -> Option<(u8, u64)> {
     let (letter, by) = letter_of(&told.event)?;
     match &told.answer {
         Ok(reply) if by == proc => Some((letter, number_of(letter, reply)?)),

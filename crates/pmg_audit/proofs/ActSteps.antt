@@ -10,15 +10,15 @@ use Rattle.pmg_scope.specs.Cached.{Cached, Unsealed, after_commit, no_puts, unse
 use Rattle.pmg_jobinfo.specs.Jobs.{Jobs, is_node}
 use Rattle.pmg_fence.specs.Entering.{same_proc}
 use Rattle.pmg_fence.proofs.EntryLemmas.{proc_itself}
-use Rattle.pmg_rules.specs.Acts.{Act, Done, Reply, Request, does, says}
-use Rattle.pmg_rules.specs.Fitting.{is_refusal, unless_refused}
-use Rattle.pmg_rules.specs.Sending.{sent}
-use Rattle.pmg_rules.specs.declared.sent.Sent.{Sent}
-use Rattle.pmg_rules.proofs.KeptBasics.{act_cases}
+use Rattle.pmg_node_model.specs.Acts.{Act, Done, Reply, Request, does, says}
+use Rattle.pmg_node_model.specs.Fitting.{is_refusal, unless_refused}
+use Rattle.pmg_node_model.specs.Sending.{sent}
+use Rattle.pmg_node_model.specs.declared.sent.Sent.{Sent}
+use Rattle.pmg_node_model.proofs.KeptBasics.{act_cases}
 use Rattle.pmg_frame.specs.declared.frame.Frame.{Frame}
 use Rattle.pmg_node.specs.Servers.{Server, reply_to}
-use Rattle.pmg_runs.specs.Worlds.{Doing, Event, World, cache_of, doing, numbered, said_in}
-use Rattle.pmg_world.specs.Caching.{AllCached, cached_by}
+use Rattle.pmg_group_model.specs.Worlds.{Doing, Event, World, cache_of, doing, numbered, said_in}
+use Rattle.pmg_world.specs.Caching.{AllCached, cached_for}
 use Rattle.pmg_world.specs.Keeping.{AreCaches, own_key}
 use Rattle.pmg_world.proofs.ClientLemmas.{commit_seals, frame_keeps, request_keeps, unsealed_is}
 use Rattle.pmg_world.proofs.HappenLemmas.{at_node_is, commit_there, frame_there, request_there}
@@ -45,16 +45,16 @@ cond_same true x = refl
 cond_same false x = refl
 
 -- the cache of each process once one's is sealed
-sealed_by : (all : AllCached) (p q : Proc) → cached_by (changed_at all p (after_commit (cached_by all p))) q ≡ cond (same_proc q p) (after_commit (cached_by all q)) (cached_by all q)
+sealed_by : (all : AllCached) (p q : Proc) → cached_for (changed_at all p (after_commit (cached_for all p))) q ≡ cond (same_proc q p) (after_commit (cached_for all q)) (cached_for all q)
 sealed_by all p q = by (finite.get all p) refl
   where
-    same : (b : Bool) → same_proc q p ≡ b → (f : Cached → Cached) → cond b (f (cached_by all p)) (cached_by all q) ≡ cond b (f (cached_by all q)) (cached_by all q)
-    same true e f = ap (λ (r : Proc). f (cached_by all r)) (sym (exact_procs q p ((Equal-is _).0 e)))
+    same : (b : Bool) → same_proc q p ≡ b → (f : Cached → Cached) → cond b (f (cached_for all p)) (cached_for all q) ≡ cond b (f (cached_for all q)) (cached_for all q)
+    same true e f = ap (λ (r : Proc). f (cached_for all r)) (sym (exact_procs q p ((Equal-is _).0 e)))
     same false e f = refl
 
-    none : (b : Bool) → same_proc q p ≡ b → cached_by all p ≡ no_puts → cached_by all q ≡ cond b (after_commit (cached_by all q)) (cached_by all q)
+    none : (b : Bool) → same_proc q p ≡ b → cached_for all p ≡ no_puts → cached_for all q ≡ cond b (after_commit (cached_for all q)) (cached_for all q)
     none true e nothing =
-        let is : cached_by all q ≡ no_puts = ap (cached_by all) (exact_procs q p ((Equal-is _).0 e)) ∙ nothing in
+        let is : cached_for all q ≡ no_puts = ap (cached_for all) (exact_procs q p ((Equal-is _).0 e)) ∙ nothing in
         is ∙ sym (ap after_commit is)
     none false e nothing = refl
 
@@ -63,10 +63,10 @@ sealed_by all p q = by (finite.get all p) refl
     read false x o = refl
 
     by : (o : Option Cached) → finite.get all p ≡ o
-        → cached_by (cond (is_some o) (finite.insert all p (after_commit (cached_by all p))) all) q ≡ cond (same_proc q p) (after_commit (cached_by all q)) (cached_by all q)
+        → cached_for (cond (is_some o) (finite.insert all p (after_commit (cached_for all p))) all) q ≡ cond (same_proc q p) (after_commit (cached_for all q)) (cached_for all q)
     by (Some c) e =
-        ap (λ (o : Option Cached). unwrap_or o no_puts) (finite.get-insert procs_total all p (after_commit (cached_by all p)) q)
-        ∙ read (same_proc q p) (after_commit (cached_by all p)) (finite.get all q) ∙ same (same_proc q p) refl after_commit
+        ap (λ (o : Option Cached). unwrap_or o no_puts) (finite.get-insert procs_total all p (after_commit (cached_for all p)) q)
+        ∙ read (same_proc q p) (after_commit (cached_for all p)) (finite.get all q) ∙ same (same_proc q p) refl after_commit
     by None e = none (same_proc q p) refl (ap (λ (o : Option Cached). unwrap_or o no_puts) e)
 
 -- ---- an act
@@ -76,7 +76,7 @@ pub record IsDone (jobs : Jobs) (w : World) (all : AllCached) (final : List Sent
   pub doing_is : doing jobs w e ≡ Doing.at_node n a
   pub caches : AllCached
   pub kept : AreCaches caches (unless_refused (is_refusal r) w.scripts (says jobs a))
-  pub own : (q : Proc) → cached_by caches q ≡ cond (is_by q a) (cache_then (cached_by all q) a r) (cached_by all q)
+  pub own : (q : Proc) → cached_for caches q ≡ cond (is_by q a) (cache_then (cached_for all q) a r) (cached_for all q)
   pub place : place_of w.scripts final e r ≡ Some (n, happening a r)
   pub said : said_in jobs e ≡ says jobs a
 
@@ -94,7 +94,7 @@ not_own (Request.delete name) e = refl
 not_own Request.nudge e = refl
 
 module _ (jobs : Jobs) (w : World) (all : AllCached) (kept : AreCaches all w.scripts) (final : List Sent) (n : ℕ) (node : is_node jobs n ≡ true) where
-  commit_done : (p : Proc) (b : Unsealed) (r : Reply) → IsCommitted r → b ≡ unsealed_of (cached_by all p) → IsDone jobs w all final n (Act.commit p b) (Event.commit n p) r
+  commit_done : (p : Proc) (b : Unsealed) (r : Reply) → IsCommitted r → b ≡ unsealed_of (cached_for all p) → IsDone jobs w all final n (Act.commit p b) (Event.commit n p) r
   unfolding says
   commit_done p b r (inl refused) seals =
       let batch : unsealed_of (cache_of (w.scripts p)) ≡ b = sym (seals ∙ unsealed_is all w.scripts kept p) in
@@ -102,7 +102,7 @@ module _ (jobs : Jobs) (w : World) (all : AllCached) (kept : AreCaches all w.scr
         doing_is = commit_there jobs w n p node ∙ ap (λ (x : Unsealed). Doing.at_node n (Act.commit p x)) batch;
         caches = all;
         kept = subst (λ t. AreCaches all (unless_refused t w.scripts (says jobs (Act.commit p b)))) (sym refused.0) kept;
-        own = λ q. sym (ap (λ (c : Cached). cond (same_proc q p) c (cached_by all q)) (refused.1 (cached_by all q)) ∙ cond_same (same_proc q p) (cached_by all q));
+        own = λ q. sym (ap (λ (c : Cached). cond (same_proc q p) c (cached_for all q)) (refused.1 (cached_for all q)) ∙ cond_same (same_proc q p) (cached_for all q));
         place = ap (λ (x : Unsealed). Some (n, happening (Act.commit p x) r)) batch;
         said = refl;
       }
@@ -110,9 +110,9 @@ module _ (jobs : Jobs) (w : World) (all : AllCached) (kept : AreCaches all w.scr
       let batch : unsealed_of (cache_of (w.scripts p)) ≡ b = sym (seals ∙ unsealed_is all w.scripts kept p) in
       record {
         doing_is = commit_there jobs w n p node ∙ ap (λ (x : Unsealed). Doing.at_node n (Act.commit p x)) batch;
-        caches = changed_at all p (after_commit (cached_by all p));
-        kept = commit_seals all w.scripts kept jobs (is_refusal r) p b (changed_at all p (after_commit (cached_by all p))) done.0 refl;
-        own = λ q. sealed_by all p q ∙ ap (λ (c : Cached). cond (same_proc q p) c (cached_by all q)) (sym (done.1 (cached_by all q)));
+        caches = changed_at all p (after_commit (cached_for all p));
+        kept = commit_seals all w.scripts kept jobs (is_refusal r) p b (changed_at all p (after_commit (cached_for all p))) done.0 refl;
+        own = λ q. sealed_by all p q ∙ ap (λ (c : Cached). cond (same_proc q p) c (cached_for all q)) (sym (done.1 (cached_for all q)));
         place = ap (λ (x : Unsealed). Some (n, happening (Act.commit p x) r)) batch;
         said = refl;
       }
@@ -122,7 +122,7 @@ module _ (jobs : Jobs) (w : World) (all : AllCached) (kept : AreCaches all w.scr
     doing_is = request_there jobs w n q node ∙ at_node_is jobs w n q (not_own q own);
     caches = all;
     kept = request_keeps all w.scripts kept jobs (is_refusal r) q;
-    own = λ p. sym (cond_same (is_by p (Act.request q)) (cached_by all p));
+    own = λ p. sym (cond_same (is_by p (Act.request q)) (cached_for all p));
     place = refl;
     said = refl;
   }
@@ -141,7 +141,7 @@ module _ (jobs : Jobs) (w : World) (all : AllCached) (kept : AreCaches all w.scr
 
   -- an act that the server replies to so
   pub act_done : (s : Server) (a : Act) (e : Event) → IsEventOf w.sent n a e → ((i : ℕ) (x : Sent) → numbered w.sent i ≡ Some x → numbered final i ≡ Some x)
-      → ((p : Proc) → is_by p a ≡ true → Seals (cached_by all p) a × (is_own_ask a ≡ false)) → is_own_ask a ≡ false → IsDone jobs w all final n a e (reply_to s a)
+      → ((p : Proc) → is_by p a ≡ true → Seals (cached_for all p) a × (is_own_ask a ≡ false)) → is_own_ask a ≡ false → IsDone jobs w all final n a e (reply_to s a)
   act_done s (Act.commit p b) e is grows seals own =
       subst (λ (x : Event). IsDone jobs w all final n (Act.commit p b) x (reply_to s (Act.commit p b))) (sym is)
       (commit_done p b (reply_to s (Act.commit p b)) (commit_replied s p b) (seals p (proc_itself p)).0)

@@ -8,7 +8,7 @@ use Rattle.pmg_jobinfo.specs.Jobs.{Jobs, AreJobs}
 use Rattle.pmg_journal.specs.Transcripts.{noted_in}
 use Rattle.pmg_journal.specs.declared.journal.Journal.{Journal}
 use Rattle.pmg_journal.specs.declared.transcript.Transcript.{Transcript}
-use Rattle.pmg_audit.specs.Agreeing.{AreAgreed, AreApart}
+use Rattle.pmg_audit.specs.Agreeing.{AreAgreed, AreOfOtherProcs}
 use Rattle.pmg_audit.specs.Dues.{takes_all}
 use Rattle.pmg_audit.specs.Faults.{AreOne, IsFault, IsReplayFault}
 use Rattle.pmg_audit.specs.Moves.{Move}
@@ -39,7 +39,7 @@ pub err_on : {A X : Type 0} (r : Result A X) (P Q : X → Type 0) → IfErr r P 
 err_on (Ok x) P Q is on = tt
 err_on (Err e) P Q is on = on e is
 
-module _ (jobs : Jobs) (are : AreJobs jobs) (js : List Journal) (ts : List Transcript) (first : List Saying) (sayings : AreSayings first ts) (apart : AreApart ts) where
+module _ (jobs : Jobs) (are : AreJobs jobs) (js : List Journal) (ts : List Transcript) (first : List Saying) (sayings : AreSayings first ts) (apart : AreOfOtherProcs ts) where
   pub whole_by : Each (λ (t : Transcript). takes_all no_puts (noted_in t) ≡ true) ts → (r : AllReplayed) → EndsWell jobs js first r → AreWhole jobs js ts r
   unfolding EndsWell
   whole_by taken r ended = are_whole jobs are js ts first sayings apart r ended.0 ended.1.done taken ended.1.told ended.1.last ended.1.fresh
@@ -54,7 +54,7 @@ module _ (jobs : Jobs) (are : AreJobs jobs) (js : List Journal) (ts : List Trans
 
 -- a refusal of the transcripts alone
 pub collision_by : (jobs : Jobs) (js : List Journal) (ts : List Transcript) (e : Refusal)
-    → ((e ≡ refusals.NoMemory → ⊥) → (e ≡ refusals.Collision) × (AreApart ts → Each (λ (t : Transcript). takes_all no_puts (noted_in t) ≡ true) ts → ⊥)) → IsReplayFault jobs js ts e
+    → ((e ≡ refusals.NoMemory → ⊥) → (e ≡ refusals.Collision) × (AreOfOtherProcs ts → Each (λ (t : Transcript). takes_all no_puts (noted_in t) ≡ true) ts → ⊥)) → IsReplayFault jobs js ts e
 collision_by jobs js ts refusals.NoMemory is = tt
 collision_by jobs js ts refusals.Collision is = λ agreed. (is (λ same. absurd cc)).1 agreed.apart agreed.taken
 collision_by jobs js ts e is = let same = (is (λ same. absurd cc)).0 in absurd cc

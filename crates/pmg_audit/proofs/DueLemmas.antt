@@ -7,10 +7,10 @@ use Rattle.pmg_value.specs.declared.process.Proc.{Proc}
 use Rattle.pmg_value.specs.declared.refusal.Refusal.{Refusal}
 use Rattle.pmg_scope.specs.Cached.{Cached, no_puts, put_cause, unsealed_of, with_put}
 use Rattle.pmg_scope.specs.declared.scope.Scope.{Scope}
-use Rattle.pmg_rules.specs.Acts.{Act, Reply, Request}
+use Rattle.pmg_node_model.specs.Acts.{Act, Reply, Request}
 use Rattle.pmg_journal.specs.Transcripts.{Calling, Noted, cached_by, commit_by, noted, noted_of}
 use Rattle.pmg_journal.specs.declared.transcript.Called.{Called}
-use Rattle.pmg_audit.specs.Dues.{Due, act_by, act_said, due, due_in, due_of, dues, is_passed, put_by_call, put_of, puts_after, puts_next, takes, takes_all}
+use Rattle.pmg_audit.specs.Dues.{Due, act_by, act_said, made_due, due_in, due_of, dues, is_passed, put_by_call, due_put, puts_after, puts_next, takes_put, takes_all}
 use Rattle.pmg_audit.specs.Moves.{AllPut, Move, Put, PutsFit, Seals, cache_then, is_by, is_own_ask, put_all}
 
 -- ---- events that are said, as moves
@@ -64,15 +64,15 @@ abbrev Rest : Proc → List Noted → Type 0
 Rest p ns = (d e : Cached) (qs : List Put) → e ≡ put_all d qs → AllPut d qs → takes_all e ns ≡ true → DuesFit p d (dues p e qs ns)
 
 module _ (p : Proc) (ns : List Noted) (rest : Rest p ns) (c0 c : Cached) (puts : List Put) (same : c ≡ put_all c0 puts) (all : AllPut c0 puts) where
-  put_fits : (scope : Scope) (key value : List ℕ) (reply : Reply) → takes c (Calling.put scope key value) reply ≡ true → takes_all (cached_by c (Calling.put scope key value) reply) ns ≡ true
+  put_fits : (scope : Scope) (key value : List ℕ) (reply : Reply) → takes_put c (Calling.put scope key value) reply ≡ true → takes_all (cached_by c (Calling.put scope key value) reply) ns ≡ true
       → DuesFit p c0 (dues p (cached_by c (Calling.put scope key value) reply) (put_by_call puts (Calling.put scope key value) reply) ns)
-  put_fits scope key value Reply.done takes later =
-      let x = put_of scope key value in
+  put_fits scope key value Reply.done takes_put later =
+      let x = due_put scope key value in
       rest c0 (with_put c scope key value) (puts ++ x ∷ []) (ap (λ (z : Cached). with_put z scope key value) same ∙ sym (put_all_more c0 puts x))
-      (all_put_more c0 puts x all (subst (λ (z : Cached). first_of (put_cause z scope key value) (tt {0}) ≡ Ok tt) same (ok_is _ takes))) later
-  put_fits scope key value reply takes later = rest c0 c puts same all later
+      (all_put_more c0 puts x all (subst (λ (z : Cached). first_of (put_cause z scope key value) (tt {0}) ≡ Ok tt) same (ok_is _ takes_put))) later
+  put_fits scope key value reply takes_put later = rest c0 c puts same all later
 
-  commit_fits : (reply : Reply) → takes_all (commit_by c reply) ns ≡ true → DuesFit p c0 (due puts (Act.commit p (unsealed_of c)) reply ∷ dues p (commit_by c reply) [] ns)
+  commit_fits : (reply : Reply) → takes_all (commit_by c reply) ns ≡ true → DuesFit p c0 (made_due puts (Act.commit p (unsealed_of c)) reply ∷ dues p (commit_by c reply) [] ns)
   unfolding DuesFit
   commit_fits reply later =
       ((all, ap unsealed_of same, refl), rest (commit_by (put_all c0 puts) reply) (commit_by c reply) [] (ap (λ (z : Cached). commit_by z reply) same) tt later)
@@ -83,21 +83,21 @@ module _ (p : Proc) (ns : List Noted) (rest : Rest p ns) (c0 c : Cached) (puts :
   request_fits r reply true is later = rest c0 c puts same all later
   request_fits r reply false is later = ((all, tt, is), rest (put_all c0 puts) c [] same tt later)
 
-  call_fits : (call : Calling) (reply : Reply) (passed : Bool) → is_passed reply ≡ passed → takes c call reply ≡ true → takes_all (cached_by c call reply) ns ≡ true
+  call_fits : (call : Calling) (reply : Reply) (passed : Bool) → is_passed reply ≡ passed → takes_put c call reply ≡ true → takes_all (cached_by c call reply) ns ≡ true
       → DuesFit p c0 (due_of puts reply (cond passed None (act_by p c call)) ++ dues p (cached_by c call reply) (puts_next puts (noted call reply) (cond passed None (act_by p c call))) ns)
-  call_fits call reply true is takes later =
+  call_fits call reply true is takes_put later =
       let none = passed_same c puts call reply is in
       rest c0 (cached_by c call reply) (put_by_call puts call reply) (none.0 ∙ same ∙ ap (put_all c0) (sym none.1)) (subst (AllPut c0) (sym none.1) all) later
-  call_fits (Calling.put scope key value) reply false is takes later = put_fits scope key value reply takes later
-  call_fits Calling.commit reply false is takes later = commit_fits reply later
-  call_fits (Calling.request r) reply false is takes later = request_fits r reply (is_own_ask (Act.request r)) refl later
+  call_fits (Calling.put scope key value) reply false is takes_put later = put_fits scope key value reply takes_put later
+  call_fits Calling.commit reply false is takes_put later = commit_fits reply later
+  call_fits (Calling.request r) reply false is takes_put later = request_fits r reply (is_own_ask (Act.request r)) refl later
 
 -- what the calls say fits the cache
 dues_fit : (p : Proc) (ns : List Noted) → Rest p ns
 unfolding dues takes_all DuesFit
 dues_fit p [] d e qs same all taken = tt
 dues_fit p (n ∷ ns) d e qs same all taken =
-    let parts = and_parts (takes e n.call n.reply) _ taken in
+    let parts = and_parts (takes_put e n.call n.reply) _ taken in
     call_fits p ns (λ c0 c puts. dues_fit p ns c0 c puts) d e qs same all n.call n.reply (is_passed n.reply) refl parts.0 parts.1
 
 -- moves whose puts a transcript says fit the cache
@@ -131,11 +131,11 @@ pub left_end : (p : Proc) (c : Cached) (puts : List Put) → puts_after p c puts
 unfolding puts_after
 left_end p c puts = refl
 
-pub taken_stops : (c : Cached) (n : Noted) (ns : List Noted) → takes c n.call n.reply ≡ false → takes_all c (n ∷ ns) ≡ false
+pub taken_stops : (c : Cached) (n : Noted) (ns : List Noted) → takes_put c n.call n.reply ≡ false → takes_all c (n ∷ ns) ≡ false
 unfolding takes_all
 taken_stops c n ns stops = ap (λ b. b && takes_all (cached_by c n.call n.reply) ns) stops
 
-pub taken_next : (c d : Cached) (n : Noted) (ns : List Noted) → takes c n.call n.reply ≡ true → d ≡ cached_by c n.call n.reply → takes_all d ns ≡ takes_all c (n ∷ ns)
+pub taken_next : (c d : Cached) (n : Noted) (ns : List Noted) → takes_put c n.call n.reply ≡ true → d ≡ cached_by c n.call n.reply → takes_all d ns ≡ takes_all c (n ∷ ns)
 unfolding takes_all
 taken_next c d n ns goes is = ap (λ (x : Cached). takes_all x ns) is ∙ sym (ap (λ b. b && takes_all (cached_by c n.call n.reply) ns) goes)
 

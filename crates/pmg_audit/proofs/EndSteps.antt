@@ -10,21 +10,21 @@ use Rattle.pmg_jobinfo.specs.Jobs.{Jobs, AreJobs, home_of}
 use Rattle.pmg_fence.specs.Entering.{same_proc}
 use Rattle.pmg_fence.proofs.EntryLemmas.{proc_itself}
 use Rattle.pmg_fence.proofs.HeaderLemmas.{by_proc}
-use Rattle.pmg_rules.proofs.KeptBasics.{home_is_node}
+use Rattle.pmg_node_model.proofs.KeptBasics.{home_is_node}
 use Rattle.pmg_node.specs.Opening.{new_server}
 use Rattle.pmg_node.specs.Servers.{Server}
 use Rattle.pmg_journal.specs.Replays.{Happening, after_all}
 use Rattle.pmg_journal.specs.Transcripts.{noted_in}
 use Rattle.pmg_journal.specs.declared.journal.Journal.{Journal}
 use Rattle.pmg_journal.specs.declared.transcript.Transcript.{Transcript}
-use Rattle.pmg_audit.specs.Agreeing.{AreAgreed, AreApart, AreSaid, MayPut, MayPutLast, home_after, said_for}
-use Rattle.pmg_audit.specs.Codes.{all_of, put_in, rest_of, said_in}
-use Rattle.pmg_audit.specs.Dues.{Due, due_event, due_in, last_puts, said_by, takes_all}
+use Rattle.pmg_audit.specs.Agreeing.{AreAgreed, AreOfOtherProcs, AreSaid, MayPut, MayPutLast, home_after, said_for}
+use Rattle.pmg_audit.specs.Codes.{all_of, audited_put, rest_of, audited_due}
+use Rattle.pmg_audit.specs.Dues.{Due, due_event, due_in, last_puts, dues_of, takes_all}
 use Rattle.pmg_audit.specs.Moves.{Move, Put, PutsFit, event_in, is_by}
 use Rattle.pmg_audit.specs.Orders.{moves_at}
 use Rattle.pmg_audit.specs.Replaying.{AllMayPut, AreReplayed, AreWhole, MayPutAt, SomeUnsaid, moves_by}
 use Rattle.pmg_audit.specs.Runs.{ArePut, TellsOf, told_at}
-use Rattle.pmg_audit.specs.Taking.{AreSayings, SomeLeft, last_of, lasts_of, procs_of}
+use Rattle.pmg_audit.specs.Taking.{AreSayings, SomeLeft, last_of, lasts_of, sayers}
 use Rattle.pmg_audit.specs.declared.moves.Due.{Due as KeptDue}
 use Rattle.pmg_audit.specs.declared.moves.Saying.{Saying}
 use Rattle.pmg_audit.specs.declared.replaying.AllReplayed.{AllReplayed}
@@ -46,24 +46,24 @@ each_at P (y ∷ xs) x each i = elim i [ inl same ↦ subst P (sym same) each.0 
 -- ---- what transcripts say
 
 -- a process has a transcript, or says nothing
-said_cases : (ts : List Transcript) (p : Proc) → Each IsTaken ts → ((t : Transcript) × In t ts × (t.proc ≡ p) × (said_for ts p ≡ said_by t) × IsTaken t) ⊎ (said_for ts p ≡ [])
+said_cases : (ts : List Transcript) (p : Proc) → Each IsTaken ts → ((t : Transcript) × In t ts × (t.proc ≡ p) × (said_for ts p ≡ dues_of t) × IsTaken t) ⊎ (said_for ts p ≡ [])
 said_cases [] p taken = inr refl
 said_cases (t ∷ ts) p taken =
     by_proc p t.proc
-    (λ same. inl (t, inl refl, sym same, ap (λ b. cond b (said_by t) (said_for ts p)) (ap (same_proc p) (sym same) ∙ proc_itself p), taken.0))
+    (λ same. inl (t, inl refl, sym same, ap (λ b. cond b (dues_of t) (said_for ts p)) (ap (same_proc p) (sym same) ∙ proc_itself p), taken.0))
     (λ apart.
-    let rest = ap (λ b. cond b (said_by t) (said_for ts p)) apart in
+    let rest = ap (λ b. cond b (dues_of t) (said_for ts p)) apart in
     elim (said_cases ts p taken.1) [
       | inl some ↦ inl (some.0, inr some.1, some.2, rest ∙ some.3, some.4)
       | inr none ↦ inr (rest ∙ none)
     ])
 
 -- what a transcript says is what its process says
-said_own : (ts : List Transcript) (t : Transcript) → AreApart ts → In t ts → said_for ts t.proc ≡ said_by t
+said_own : (ts : List Transcript) (t : Transcript) → AreOfOtherProcs ts → In t ts → said_for ts t.proc ≡ dues_of t
 said_own [] t apart i = absurd i
 said_own (u ∷ ts) t apart i = elim i [
-  | inl same ↦ ap (λ b. cond b (said_by u) (said_for ts t.proc)) (ap (λ (x : Transcript). same_proc t.proc x.proc) (sym same) ∙ proc_itself t.proc) ∙ ap said_by (sym same)
-  | inr later ↦ ap (λ b. cond b (said_by u) (said_for ts t.proc)) (other (same_proc t.proc u.proc) refl later) ∙ said_own ts t apart.1 later
+  | inl same ↦ ap (λ b. cond b (dues_of u) (said_for ts t.proc)) (ap (λ (x : Transcript). same_proc t.proc x.proc) (sym same) ∙ proc_itself t.proc) ∙ ap dues_of (sym same)
+  | inr later ↦ ap (λ b. cond b (dues_of u) (said_for ts t.proc)) (other (same_proc t.proc u.proc) refl later) ∙ said_own ts t apart.1 later
 ]
   where
     other : (b : Bool) → same_proc t.proc u.proc ≡ b → In t ts → b ≡ false
@@ -83,8 +83,8 @@ rest_empty : (ss : List Saying) (p : Proc) → Each (λ (s : Saying). s.dues.ite
 rest_empty [] p each = refl
 rest_empty (s ∷ ss) p each = by (same_proc p s.proc) (rest_empty ss p each.1)
   where
-    by : (b : Bool) → rest_of ss p ≡ [] → cond b (map said_in s.dues.items) (rest_of ss p) ≡ []
-    by true rest = ap (map said_in) each.0
+    by : (b : Bool) → rest_of ss p ≡ [] → cond b (map audited_due s.dues.items) (rest_of ss p) ≡ []
+    by true rest = ap (map audited_due) each.0
     by false rest = rest
 
 -- ---- of what processes they are
@@ -93,14 +93,14 @@ AreDistinct : List Proc → Type 0
 AreDistinct [] = Unit {0}
 AreDistinct (p ∷ ps) = Each (λ (q : Proc). p ≡ q → ⊥) ps × AreDistinct ps
 
-each_proc : (p : Proc) (ss : List Saying) (ts : List Transcript) → AreSayings ss ts → Each (λ (u : Transcript). p ≡ u.proc → ⊥) ts → Each (λ (q : Proc). p ≡ q → ⊥) (procs_of ss)
+each_proc : (p : Proc) (ss : List Saying) (ts : List Transcript) → AreSayings ss ts → Each (λ (u : Transcript). p ≡ u.proc → ⊥) ts → Each (λ (q : Proc). p ≡ q → ⊥) (sayers ss)
 unfolding AreSayings
 each_proc p [] [] are each = tt
 each_proc p [] (t ∷ ts) are each = absurd are
 each_proc p (s ∷ ss) [] are each = absurd are
 each_proc p (s ∷ ss) (t ∷ ts) are each = (λ same. each.0 (same ∙ are.0.proc), each_proc p ss ts are.1 each.1)
 
-are_distinct : (ss : List Saying) (ts : List Transcript) → AreSayings ss ts → AreApart ts → AreDistinct (procs_of ss)
+are_distinct : (ss : List Saying) (ts : List Transcript) → AreSayings ss ts → AreOfOtherProcs ts → AreDistinct (sayers ss)
 unfolding AreSayings AreDistinct
 are_distinct [] [] are apart = tt
 are_distinct [] (t ∷ ts) are apart = absurd are
@@ -110,24 +110,24 @@ are_distinct (s ∷ ss) (t ∷ ts) are apart = (
   are_distinct ss ts are.1 apart.1,
 )
 
-proc_in : (ss : List Saying) (s : Saying) → In s ss → In s.proc (procs_of ss)
+proc_in : (ss : List Saying) (s : Saying) → In s ss → In s.proc (sayers ss)
 proc_in [] s i = absurd i
 proc_in (r ∷ ss) s i = elim i [ inl same ↦ inl (ap (λ (x : Saying). x.proc) same) | inr later ↦ inr (proc_in ss s later) ]
 
-own_rest : (ss : List Saying) (s : Saying) → AreDistinct (procs_of ss) → In s ss → rest_of ss s.proc ≡ map said_in s.dues.items
+own_rest : (ss : List Saying) (s : Saying) → AreDistinct (sayers ss) → In s ss → rest_of ss s.proc ≡ map audited_due s.dues.items
 unfolding AreDistinct
 own_rest [] s distinct i = absurd i
 own_rest (r ∷ ss) s distinct i = elim i [
-  | inl same ↦ ap (λ b. cond b (map said_in r.dues.items) (rest_of ss s.proc)) (ap (λ (x : Saying). same_proc s.proc x.proc) (sym same) ∙ proc_itself s.proc)
-      ∙ ap (λ (x : Saying). map said_in x.dues.items) (sym same)
-  | inr later ↦ ap (λ b. cond b (map said_in r.dues.items) (rest_of ss s.proc)) (other (same_proc s.proc r.proc) refl later) ∙ own_rest ss s distinct.1 later
+  | inl same ↦ ap (λ b. cond b (map audited_due r.dues.items) (rest_of ss s.proc)) (ap (λ (x : Saying). same_proc s.proc x.proc) (sym same) ∙ proc_itself s.proc)
+      ∙ ap (λ (x : Saying). map audited_due x.dues.items) (sym same)
+  | inr later ↦ ap (λ b. cond b (map audited_due r.dues.items) (rest_of ss s.proc)) (other (same_proc s.proc r.proc) refl later) ∙ own_rest ss s distinct.1 later
 ]
   where
     other : (b : Bool) → same_proc s.proc r.proc ≡ b → In s ss → b ≡ false
-    other true e later = absurd (each_at (λ (q : Proc). r.proc ≡ q → ⊥) (procs_of ss) s.proc distinct.0 (proc_in ss s later) (sym (exact_procs s.proc r.proc ((Equal-is _).0 e))))
+    other true e later = absurd (each_at (λ (q : Proc). r.proc ≡ q → ⊥) (sayers ss) s.proc distinct.0 (proc_in ss s later) (sym (exact_procs s.proc r.proc ((Equal-is _).0 e))))
     other false e later = refl
 
-transcript_of : (ss : List Saying) (ts : List Transcript) (p : Proc) → AreSayings ss ts → In p (procs_of ss) → (t : Transcript) × In t ts × (t.proc ≡ p)
+transcript_of : (ss : List Saying) (ts : List Transcript) (p : Proc) → AreSayings ss ts → In p (sayers ss) → (t : Transcript) × In t ts × (t.proc ≡ p)
 unfolding AreSayings
 transcript_of [] [] p are i = absurd i
 transcript_of [] (t ∷ ts) p are i = absurd i
@@ -162,11 +162,11 @@ lasts_are (s ∷ ss) (t ∷ ts) are = (λ i. (are.0.proc i, are.0.last i) ∷ la
 nothing_more : (xs ys : List Happening) → xs ++ ys ≡ xs → ys ≡ []
 nothing_more xs ys is = append_cancel_left xs ys [] (is ∙ sym (append-nil xs))
 
-no_dues : (ds : List KeptDue) → map due_event (map said_in ds) ≡ [] → ds ≡ []
+no_dues : (ds : List KeptDue) → map due_event (map audited_due ds) ≡ [] → ds ≡ []
 no_dues [] is = refl
 no_dues (d ∷ ds) is = absurd cc
 
-module _ (jobs : Jobs) (are : AreJobs jobs) (js : List Journal) (ts : List Transcript) (first : List Saying) (sayings : AreSayings first ts) (apart : AreApart ts)
+module _ (jobs : Jobs) (are : AreJobs jobs) (js : List Journal) (ts : List Transcript) (first : List Saying) (sayings : AreSayings first ts) (apart : AreOfOtherProcs ts)
     (r : AllReplayed) (ss : List Saying) (done : AreReplayed jobs js first (length jobs.nodes) r ss) where
   abbrev all : List (List Move)
   all = all_of r.lanes.items
@@ -197,13 +197,13 @@ module _ (jobs : Jobs) (are : AreJobs jobs) (js : List Journal) (ts : List Trans
       each_from last_said (MayPutLast jobs js) MayLast (λ t may. may) ts
       (subst (Each MayLast) lasts_said
       (each_to last_of (MayPutAt jobs r.nodes.items) MayLast
-      (λ s may. let d = home_after jobs js s.proc in subst (λ (x : Server). MayPut x s.proc (map put_in s.last_puts.items)) (server_is s.proc d) (may d)) ss each))
+      (λ s may. let d = home_after jobs js s.proc in subst (λ (x : Server). MayPut x s.proc (map audited_put s.last_puts.items)) (server_is s.proc d) (may d)) ss each))
 
   -- where it may not the transcripts do not agree
   pub barred_unlike : (AllMayPut jobs r.nodes.items ss → ⊥) → AreAgreed jobs js ts → ⊥
   barred_unlike barred agreed =
       barred (each_from last_of (MayPutAt jobs r.nodes.items) MayLast
-      (λ s may d. subst (λ (x : Server). MayPut x s.proc (map put_in s.last_puts.items)) (sym (server_is s.proc d)) may) ss
+      (λ s may d. subst (λ (x : Server). MayPut x s.proc (map audited_put s.last_puts.items)) (sym (server_is s.proc d)) may) ss
       (subst (Each MayLast) (sym lasts_said) (each_to last_said (MayPutLast jobs js) MayLast (λ t may. may) ts agreed.last)))
 
   module _ (taken : Each IsTaken ts) (told : Each (λ (s : Saying). s.dues.items ≡ []) ss) (last : AllMayPut jobs r.nodes.items ss) where
@@ -248,8 +248,8 @@ module _ (jobs : Jobs) (are : AreJobs jobs) (js : List Journal) (ts : List Trans
       let distinct = subst AreDistinct (sym procs) (are_distinct first ts sayings apart) in
       let of = transcript_of first ts p sayings (subst (In p) procs (proc_in ss s some.1)) in
       let t : Transcript = of.0 in
-      let tells : map due_event (said_by t) ≡ filter (λ (e : Happening). is_by t.proc e.act) (told_at js (home_of jobs t.proc)) = each_at (TellsOf jobs js) ts t agreed.calls of.1 in
-      let own : said_by t ≡ map due_in (moves_by t.proc (moves_at all (home_of jobs t.proc))) ++ rest_of ss t.proc = sym (said_own ts t apart of.1) ∙ said_is t.proc in
+      let tells : map due_event (dues_of t) ≡ filter (λ (e : Happening). is_by t.proc e.act) (told_at js (home_of jobs t.proc)) = each_at (TellsOf jobs js) ts t agreed.calls of.1 in
+      let own : dues_of t ≡ map due_in (moves_by t.proc (moves_at all (home_of jobs t.proc))) ++ rest_of ss t.proc = sym (said_own ts t apart of.1) ∙ said_is t.proc in
       let made = map due_event (map due_in (moves_by t.proc (moves_at all (home_of jobs t.proc)))) in
       let none : map due_event (rest_of ss t.proc) ≡ [] = nothing_more made (map due_event (rest_of ss t.proc))
       (sym (map-append due_event (map due_in (moves_by t.proc (moves_at all (home_of jobs t.proc)))) (rest_of ss t.proc)) ∙ ap (map due_event) (sym own) ∙ tells ∙ sym (made_is t.proc)) in

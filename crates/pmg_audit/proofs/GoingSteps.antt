@@ -4,13 +4,13 @@ use Rattle.std.proofs.lemmas.Bool.Decides.{nat_tests}
 use Rattle.std.proofs.lemmas.List.{append-nil, get_or-set_other, get_or-set_same, length-replicate, length-set}
 use Rattle.pmg_value.specs.Lists.{In, Each}
 use Rattle.pmg_value.proofs.ListLemmas.{in_append_left, in_append_right, in_map, in_parts}
-use Rattle.pmg_rules.specs.Acts.{Act}
-use Rattle.pmg_rules.specs.Sending.{sent}
-use Rattle.pmg_rules.specs.declared.sent.Sent.{Sent}
-use Rattle.pmg_runs.specs.Worlds.{Event, Happened}
-use Rattle.pmg_audit.specs.Going.{IsGoing, IsOpen, IsReady, MayGoNext, frames_of, left, weight}
+use Rattle.pmg_node_model.specs.Acts.{Act}
+use Rattle.pmg_node_model.specs.Sending.{sent}
+use Rattle.pmg_node_model.specs.declared.sent.Sent.{Sent}
+use Rattle.pmg_group_model.specs.Worlds.{Event, Happened}
+use Rattle.pmg_audit.specs.Going.{IsOrderGoing, IsOpen, IsReady, MayGoNext, frames_of, left, weight}
 use Rattle.pmg_audit.specs.Moves.{Move, caller_of}
-use Rattle.pmg_audit.specs.Orders.{AreTold, Goes, IsEventOf, MayGo, NoOrder, Tells, happened, moves_at, put_rest, puts_told, rests}
+use Rattle.pmg_audit.specs.Orders.{AreTold, Goes, IsEventOf, MayGo, NoOrder, TellsMoves, event_happened, moves_at, put_rest, puts_told, rests}
 
 same_index : (k n : ℕ) → (k == n) ≡ true → k ≡ n
 same_index k n e = grind (arith, nat_tests)
@@ -87,7 +87,7 @@ le_cases (suc j) (suc k) le = elim (le_cases j k (omega (arith, le))) [ inl less
 
 -- ---- no order
 
-module _ (all : List (List Move)) (done : List ℕ) (frames : List Sent) (told : List Happened) (going : IsGoing all done frames told)
+module _ (all : List (List Move)) (done : List ℕ) (frames : List Sent) (told : List Happened) (going : IsOrderGoing all done frames told)
     (none : (n : ℕ) → IsReady all done frames n → ⊥) (open_at : ℕ) (is_open : IsOpen all done open_at) where
   -- where each node is at most where it is done, with these moves left and these frames sent
   record IsBehind (js : ℕ → List Move) (some : List Sent) : Type 0 where
@@ -158,7 +158,7 @@ module _ (all : List (List Move)) (done : List ℕ) (frames : List Sent) (told :
   rest_next : put_rest (rests all done) n (drop (suc (slice_index done n)) (moves_at all n)) ≡ rests all done2
   rest_next = λ i k. (rest_at k (k == n) refl ∙ ap (λ d. drop d (moves_at all k)) (sym (done_at k (k == n) refl))) i
 
-  covered_at : IsGoing all done frames told → (k : ℕ) (b : Bool) → (k == n) ≡ b
+  covered_at : IsOrderGoing all done frames told → (k : ℕ) (b : Bool) → (k == n) ≡ b
       → Each (λ s. In s (frames ++ m.frames)) (frames_of (take (cond b (suc (slice_index done n)) (slice_index done k)) (moves_at all k)))
   covered_at going k true e =
       subst (λ i. Each (λ s. In s (frames ++ m.frames)) (frames_of (take (suc (slice_index done n)) (moves_at all i)))) (sym (same_index k n e))
@@ -171,12 +171,12 @@ module _ (all : List (List Move)) (done : List ℕ) (frames : List Sent) (told :
       ]))))
   covered_at going k false e = each_on _ frames m.frames (going.covered k)
 
-  told_on : IsGoing all done frames told → IsEventOf frames n m.act e → (order : List ℕ) (others : List Happened) (final : List Sent)
-      → Tells (rests all done2) (frames ++ m.frames) order others final → AreTold all ((told ++ (puts_told (caller_of m.act) m.puts ++ happened e m.reply ∷ [])) ++ others) final
-  unfolding Tells
+  told_on : IsOrderGoing all done frames told → IsEventOf frames n m.act e → (order : List ℕ) (others : List Happened) (final : List Sent)
+      → TellsMoves (rests all done2) (frames ++ m.frames) order others final → AreTold all ((told ++ (puts_told (caller_of m.act) m.puts ++ event_happened e m.reply ∷ [])) ++ others) final
+  unfolding TellsMoves
   told_on going event order others final tells =
       let puts = puts_told (caller_of m.act) m.puts in
-      let one : Happened = happened e m.reply in
+      let one : Happened = event_happened e m.reply in
       let cut : told ++ (puts ++ one ∷ others) ≡ (told ++ (puts ++ one ∷ [])) ++ others =
       ap (λ l. told ++ l) (sym (append_assoc puts (one ∷ []) others)) ∙ sym (append_assoc told (puts ++ one ∷ []) others) in
       subst (λ l. AreTold all l final) cut
@@ -188,11 +188,11 @@ module _ (all : List (List Move)) (done : List ℕ) (frames : List Sent) (told :
         place_at (moves_at all n) (slice_index done n) m there,
         event,
         refl,
-        subst (λ js. Tells js (frames ++ m.frames) order others final) (sym rest_next) tells,
+        subst (λ js. TellsMoves js (frames ++ m.frames) order others final) (sym rest_next) tells,
       ))
 
-  pub going_next : IsGoing all done frames told → IsEventOf frames n m.act e
-      → IsGoing all done2 (frames ++ m.frames) (told ++ (puts_told (caller_of m.act) m.puts ++ happened e m.reply ∷ []))
+  pub going_next : IsOrderGoing all done frames told → IsEventOf frames n m.act e
+      → IsOrderGoing all done2 (frames ++ m.frames) (told ++ (puts_told (caller_of m.act) m.puts ++ event_happened e m.reply ∷ []))
   going_next going event = record {
     count = length-set done n (slice_index done n + 1) ∙ going.count;
     covered = λ k. subst (λ d. Each (λ s. In s (frames ++ m.frames)) (frames_of (take d (moves_at all k)))) (sym (done_at k (k == n) refl)) (covered_at going k (k == n) refl);
@@ -230,19 +230,19 @@ zeros_at zero k = refl
 zeros_at (suc count) zero = refl
 zeros_at (suc count) (suc k) = zeros_at count k
 
-pub going_start : (all : List (List Move)) (count : ℕ) → count ≡ length all → IsGoing all (replicate count 0) [] []
+pub going_start : (all : List (List Move)) (count : ℕ) → count ≡ length all → IsOrderGoing all (replicate count 0) [] []
 unfolding AreTold
 going_start all count is = record {
   count = length-replicate count 0 ∙ is;
   covered = λ n. subst (λ d. Each (λ s. In s []) (frames_of (take d (moves_at all n)))) (sym (zeros_at count n)) tt;
-  sound = λ order others final tells. start order others final (subst (λ js. Tells js [] order others final) (λ i n. drop (zeros_at count n i) (moves_at all n)) tells);
+  sound = λ order others final tells. start order others final (subst (λ js. TellsMoves js [] order others final) (λ i n. drop (zeros_at count n i) (moves_at all n)) tells);
 }
   where
-    start : (order : List ℕ) (others : List Happened) (final : List Sent) → Tells (moves_at all) [] order others final → AreTold all others final
+    start : (order : List ℕ) (others : List Happened) (final : List Sent) → TellsMoves (moves_at all) [] order others final → AreTold all others final
     start order others final tells = (order, tells)
 
-pub going_end : (all : List (List Move)) (done : List ℕ) (frames : List Sent) (told : List Happened) → IsGoing all done frames told → ((n : ℕ) → rests all done n ≡ []) → AreTold all told frames
-unfolding Tells
+pub going_end : (all : List (List Move)) (done : List ℕ) (frames : List Sent) (told : List Happened) → IsOrderGoing all done frames told → ((n : ℕ) → rests all done n ≡ []) → AreTold all told frames
+unfolding TellsMoves
 going_end all done frames told going none = subst (λ l. AreTold all l frames) (append-nil told) (going.sound [] [] frames (none, refl, refl))
 
 -- ---- how many are left

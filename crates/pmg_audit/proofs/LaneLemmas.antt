@@ -4,7 +4,7 @@ use Rattle.std.proofs.lemmas.List.{take_more, map-append, drop_all, length-map}
 use Rattle.std.proofs.lemmas.Option.{slice_get-get_or, slice_get_past, slice_get-map}
 use Rattle.pmg_value.specs.Lists.{In}
 use Rattle.pmg_value.proofs.ListLemmas.{in_append_left, in_append_right}
-use Rattle.pmg_runs.specs.Worlds.{nth, numbered}
+use Rattle.pmg_group_model.specs.Worlds.{nth, numbered}
 use Rattle.pmg_audit.specs.Codes.{all_of, lane_of, move_in}
 use Rattle.pmg_audit.specs.Moves.{Move}
 use Rattle.pmg_audit.specs.Orders.{list_or_none, moves_at, rests}

@@ -15,7 +15,7 @@ use Rattle.pmg_audit.specs.Agreeing.{AreSaid, BeginsWith, IsSaidBy, rest_after, 
 use Rattle.pmg_audit.specs.Codes.{all_of, lane_of, rest_of}
 use Rattle.pmg_audit.specs.Dues.{Due, due_in}
 use Rattle.pmg_audit.specs.Faults.{AreStale}
-use Rattle.pmg_audit.specs.Moves.{Move, Replays, caller_of, end_of, event_in}
+use Rattle.pmg_audit.specs.Moves.{Move, Replays, caller_of, server_after, event_in}
 use Rattle.pmg_audit.specs.Orders.{list_or_none, moves_at}
 use Rattle.pmg_audit.specs.Replaying.{AddsNode, AllUnsaid, AreReplayed, AreUnsaid, HaveHappened, IsReplayed, SomeUnsaid, moves_by}
 use Rattle.pmg_audit.specs.Runs.{told_at}
@@ -121,13 +121,13 @@ module _ (jobs : Jobs) (js : List Journal) (first : List Saying) (k : ℕ) (r : 
     ]
   ]
 
-  ends_now : (n : ℕ) (d : Server) → n < k + 1 → get_or r2.nodes.items n d ≡ end_of (new_server jobs n) (moves_at (all_of r2.lanes.items) n)
+  ends_now : (n : ℕ) (d : Server) → n < k + 1 → get_or r2.nodes.items n d ≡ server_after (new_server jobs n) (moves_at (all_of r2.lanes.items) n)
   ends_now n d less = elim (three n k) [
     | inl l ↦ ap (λ xs. get_or xs n d) nodes ∙ get_or_append_left r.nodes.items (one.node ∷ []) d n (subst (λ c. n < c) (sym done.nodes) l) ∙ done.ends n d l
-        ∙ ap (end_of (new_server jobs n)) (sym (old_at n l))
+        ∙ ap (server_after (new_server jobs n)) (sym (old_at n l))
     | inr rest ↦ elim rest [
-      | inl same ↦ ap (λ xs. get_or xs n d) nodes ∙ get_or_push r.nodes.items one.node d n (done.nodes ∙ sym same) ∙ replay.node ∙ ap (λ i. end_of (new_server jobs i) ms) (sym same)
-          ∙ ap (end_of (new_server jobs n)) (sym (new_at n same))
+      | inl same ↦ ap (λ xs. get_or xs n d) nodes ∙ get_or_push r.nodes.items one.node d n (done.nodes ∙ sym same) ∙ replay.node ∙ ap (λ i. server_after (new_server jobs i) ms) (sym same)
+          ∙ ap (server_after (new_server jobs n)) (sym (new_at n same))
       | inr more ↦ absurd (omega (arith, less, more))
     ]
   ]

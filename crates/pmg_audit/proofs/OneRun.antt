@@ -8,22 +8,22 @@ use Rattle.pmg_value.specs.Process.{proc_cmp}
 use Rattle.pmg_value.specs.declared.process.Proc.{Proc}
 use Rattle.pmg_scope.specs.Cached.{Cached, no_puts}
 use Rattle.pmg_jobinfo.specs.Jobs.{Jobs, AreJobs, home_of}
-use Rattle.pmg_rules.specs.declared.sent.Sent.{Sent}
-use Rattle.pmg_rules.proofs.KeptActs.{new_is_server}
+use Rattle.pmg_node_model.specs.declared.sent.Sent.{Sent}
+use Rattle.pmg_node_model.proofs.KeptActs.{new_is_server}
 use Rattle.pmg_node.specs.Opening.{new_server}
 use Rattle.pmg_node.specs.Servers.{Server}
-use Rattle.pmg_runs.specs.Worlds.{Happened, cache_of, start}
-use Rattle.pmg_runs.specs.Worlds.{Run}
-use Rattle.pmg_world.specs.Accounts.{Account, IsKept, IsRun, LeadsTo}
-use Rattle.pmg_world.specs.Caching.{cached_by}
+use Rattle.pmg_group_model.specs.Worlds.{Happened, cache_of, start}
+use Rattle.pmg_group_model.specs.Worlds.{Run}
+use Rattle.pmg_world.specs.Accounts.{Account, IsAccountLawful, IsRun, LeadsTo}
+use Rattle.pmg_world.specs.Caching.{cached_for}
 use Rattle.pmg_world.specs.Keeping.{AreCaches, AreNew, IsNodeOf}
 use Rattle.pmg_world.specs.Telling.{happened_of}
-use Rattle.pmg_world.specs.declared.event.Told.{Told}
-use Rattle.pmg_world.proofs.RunLemmas.{run_cut, run_is_lawful}
+use Rattle.pmg_world.specs.declared.event.LoggedEvent.{LoggedEvent}
+use Rattle.pmg_group_model.proofs.RunLemmas.{run_cut, run_is_lawful}
 use Rattle.pmg_world.proofs.StartLemmas.{more_new, none_new}
 use Rattle.pmg_journal.specs.declared.journal.Journal.{Journal}
 use Rattle.pmg_audit.specs.Laws.{MovesAreOneRun}
-use Rattle.pmg_audit.specs.Moves.{Move, PutsFit, Replays, end_of}
+use Rattle.pmg_audit.specs.Moves.{Move, PutsFit, Replays, server_after}
 use Rattle.pmg_audit.specs.Orders.{AreTold, list_or_none, moves_at}
 use Rattle.pmg_audit.specs.Runs.{AreEnds, AreMoves, ArePut}
 use Rattle.pmg_audit.proofs.Weaving.{IsAt, Woven, weave}
@@ -39,7 +39,7 @@ unfolding new_servers
 are_new jobs zero = none_new jobs
 are_new jobs (suc n) = more_new jobs n (suc n) (new_servers jobs n) (new_server jobs n) (are_new jobs n) refl (omega arith)
 
-nobody : (p : Proc) → cached_by finite.empty p ≡ no_puts
+nobody : (p : Proc) → cached_for finite.empty p ≡ no_puts
 nobody p = ap (λ (o : Option Cached). unwrap_or o no_puts) (finite.get-empty proc_cmp p)
 
 no_caches : AreCaches finite.empty (λ _. [])
@@ -90,7 +90,7 @@ module _ (jobs : Jobs) (are : AreJobs jobs) (js : List Journal) (all : List (Lis
   unfolding AreTold
   woven frames xs told = weave jobs are frames told.0 (moves_at all) servers finite.empty (start jobs) xs stands told.1
 
-  module _ (nodes : List Server) (frames : List Sent) (told : List Told) (order : AreTold all (map happened_of told) frames) (ends : AreEnds jobs all nodes) where
+  module _ (nodes : List Server) (frames : List Sent) (told : List LoggedEvent) (order : AreTold all (map happened_of told) frames) (ends : AreEnds jobs all nodes) where
     abbrev account : Account
     account = record { jobs = jobs; nodes = nodes; sent = frames; told = told }
 
@@ -101,7 +101,7 @@ module _ (jobs : Jobs) (are : AreJobs jobs) (js : List Journal) (all : List (Lis
     ended n d inside =
         let within = subst (λ l. n < l) ends.count inside in
         let there = subst (λ l. n < l) (sym new.count_is) within in
-        subst (IsNodeOf jobs n (web.after.nodes n)) (ap (λ (s : Server). end_of s (moves_at all n)) (new.each n d within) ∙ sym (ends.each n d inside)) (web.ends n d there)
+        subst (IsNodeOf jobs n (web.after.nodes n)) (ap (λ (s : Server). server_after s (moves_at all n)) (new.each n d within) ∙ sym (ends.each n d inside)) (web.ends n d there)
 
     leads : LeadsTo account web.after
     leads = record { run = web.run; count = ends.count; nodes = ended; sent = sym web.sent }
@@ -110,8 +110,8 @@ module _ (jobs : Jobs) (are : AreJobs jobs) (js : List Journal) (all : List (Lis
     unfolding IsRun
     is_run = (web.after, leads)
 
-    is_kept : IsKept account
-    unfolding IsKept
+    is_kept : IsAccountLawful account
+    unfolding IsAccountLawful
     is_kept xs ys cut =
         let parts = run_cut jobs xs ys (start jobs) web.after (subst (λ l. Run jobs (start jobs) l web.after) cut web.run) in
         run_is_lawful jobs are xs parts.mid parts.first

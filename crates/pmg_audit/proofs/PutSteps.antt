@@ -15,24 +15,24 @@ use Rattle.pmg_jobinfo.specs.Jobs.{Jobs, home_of}
 use Rattle.pmg_fence.specs.Entering.{same_proc}
 use Rattle.pmg_fence.specs.Rules.{Scripts}
 use Rattle.pmg_fence.proofs.EntryLemmas.{proc_itself}
-use Rattle.pmg_rules.specs.Acts.{Reply, also, free_cause, is_misnamed, said_by}
-use Rattle.pmg_rules.specs.Fitting.{with_said}
-use Rattle.pmg_rules.specs.Holdings.{Holding}
-use Rattle.pmg_rules.specs.declared.sent.Sent.{Sent}
-use Rattle.pmg_rules.proofs.KeptBasics.{put_other}
-use Rattle.pmg_runs.specs.Worlds.{Doing, Does, Event, Happened, Run, Step, World, cache_of, reply_in}
-use Rattle.pmg_world.specs.Caching.{AllCached, cached_by}
+use Rattle.pmg_node_model.specs.Acts.{Reply, also, free_cause, is_misnamed, said_by}
+use Rattle.pmg_node_model.specs.Fitting.{with_said}
+use Rattle.pmg_node_model.specs.Holdings.{NodeState}
+use Rattle.pmg_node_model.specs.declared.sent.Sent.{Sent}
+use Rattle.pmg_node_model.proofs.KeptBasics.{put_other}
+use Rattle.pmg_group_model.specs.Worlds.{Doing, Does, Event, Happened, Run, Step, World, cache_of, reply_or_refusal}
+use Rattle.pmg_world.specs.Caching.{AllCached, cached_for}
 use Rattle.pmg_world.specs.Keeping.{AreCaches}
 use Rattle.pmg_world.proofs.CauseLemmas.{due_free, first_bad}
 use Rattle.pmg_world.proofs.ClientLemmas.{put_kept}
 use Rattle.pmg_world.proofs.HappenLemmas.{put_is}
-use Rattle.pmg_world.proofs.RunLemmas.{next_run, run_none}
+use Rattle.pmg_group_model.proofs.RunLemmas.{next_run, run_none}
 use Rattle.pmg_audit.specs.Moves.{AllPut, Put, put_all}
 use Rattle.pmg_audit.specs.Orders.{put_told}
 use Rattle.pmg_audit.specs.Runs.{events_at}
 
 -- a process of which nothing is amiss is none of the standard's
-free_client : (jobs : Jobs) (node : ℕ) (h : Holding) (p : Proc) → first_of (free_cause jobs node h p) (tt {0}) ≡ Ok tt → is_reserved p.nspace ≡ false
+free_client : (jobs : Jobs) (node : ℕ) (h : NodeState) (p : Proc) → first_of (free_cause jobs node h p) (tt {0}) ≡ Ok tt → is_reserved p.nspace ≡ false
 free_client jobs node h p free = by (is_reserved p.nspace) refl
   where
     never : ◌≡◌ {A = Result (Unit {0}) Refusal} (Err refusals.BadParam) (Ok tt) → true ≡ false
@@ -75,7 +75,7 @@ module _ (jobs : Jobs) (w : World) (p : Proc) (scope : Scope) (key value : List 
       let due : first_of (also free there) Reply.done ≡ Ok Reply.done =
       due_free (free refusals.BadParam) (free refusals.UnknownNamespace) (free refusals.NotMine) (free refusals.Terminated) (free refusals.Busy) (there refusals.TooMany) Reply.done (there refusals.BadParam) both.0 ok
       ∙ ap (λ b. cond b (Err refusals.TooMany) (Ok Reply.done)) both.1 in
-      subst (λ (d : Doing). Does jobs w d Reply.done put_left) (sym (put_is jobs w p scope key value)) (record { replied = ap reply_in (sym due); left = refl })
+      subst (λ (d : Doing). Does jobs w d Reply.done put_left) (sym (put_is jobs w p scope key value)) (record { replied = ap reply_or_refusal (sym due); left = refl })
 
 -- puts of a process that are done: the scripts and the caches then
 pub record PutsDone (jobs : Jobs) (w : World) (all : AllCached) (p : Proc) (puts : List Put) : Type 0 where
@@ -83,19 +83,19 @@ pub record PutsDone (jobs : Jobs) (w : World) (all : AllCached) (p : Proc) (puts
   pub caches : AllCached
   pub run : Run jobs w (map (put_told p) puts) (with_scripts w scripts)
   pub kept : AreCaches caches scripts
-  pub own : cached_by caches p ≡ put_all (cached_by all p) puts
-  pub others : (q : Proc) → same_proc q p ≡ false → cached_by caches q ≡ cached_by all q
+  pub own : cached_for caches p ≡ put_all (cached_for all p) puts
+  pub others : (q : Proc) → same_proc q p ≡ false → cached_for caches q ≡ cached_for all q
   pub told : (frames : List Sent) (n : ℕ) (xs : List Happened) → events_at jobs w.scripts frames n (map (put_told p) puts ++ xs) ≡ events_at jobs scripts frames n xs
 
-inserted_own : (all : AllCached) (p : Proc) (x : Cached) → cached_by (finite.insert all p x) p ≡ x
+inserted_own : (all : AllCached) (p : Proc) (x : Cached) → cached_for (finite.insert all p x) p ≡ x
 inserted_own all p x = ap (λ (o : Option Cached). unwrap_or o no_puts) (finite.get-insert procs_total all p x p ∙ ap (λ b. cond b (Some x) (finite.get all p)) (proc_itself p))
 
-inserted_other : (all : AllCached) (p : Proc) (x : Cached) (q : Proc) → same_proc q p ≡ false → cached_by (finite.insert all p x) q ≡ cached_by all q
+inserted_other : (all : AllCached) (p : Proc) (x : Cached) (q : Proc) → same_proc q p ≡ false → cached_for (finite.insert all p x) q ≡ cached_for all q
 inserted_other all p x q apart = ap (λ (o : Option Cached). unwrap_or o no_puts) (put_other all p q x apart)
 
 -- puts that the cache takes, of a client in no call, are done
 pub puts_done : (jobs : Jobs) (puts : List Put) (w : World) (all : AllCached) (p : Proc) → AreCaches all w.scripts
-    → first_of (free_cause jobs (home_of jobs p) (w.nodes (home_of jobs p)) p) (tt {0}) ≡ Ok tt → AllPut (cached_by all p) puts → PutsDone jobs w all p puts
+    → first_of (free_cause jobs (home_of jobs p) (w.nodes (home_of jobs p)) p) (tt {0}) ≡ Ok tt → AllPut (cached_for all p) puts → PutsDone jobs w all p puts
 unfolding events_at
 puts_done jobs [] w all p kept free takes = record {
   scripts = w.scripts;
@@ -110,7 +110,7 @@ puts_done jobs (x ∷ xs) w all p kept free takes =
     let client = free_client jobs (home_of jobs p) (w.nodes (home_of jobs p)) p free in
     let is_cache = (kept p).client client in
     let step = put_step jobs w p x.scope x.key x.value free ((λ i. first_of (put_cause (sym is_cache i) x.scope x.key x.value) (tt {0})) ∙ takes.0) in
-    let put = with_put (cached_by all p) x.scope x.key x.value in
+    let put = with_put (cached_for all p) x.scope x.key x.value in
     let with = finite.insert all p put in
     let own = inserted_own all p put in
     let left = put_left jobs w p x.scope x.key x.value in

@@ -15,10 +15,10 @@ use Rattle.pmg_journal.specs.Replays.{Happening, IsReplay, after_all}
 use Rattle.pmg_journal.proofs.ReplayLemmas.{last_is}
 use Rattle.pmg_audit.specs.Agreeing.{AreSaid, BeginsWith, IsSaidBy, MayPut, rest_after, tail_of}
 use Rattle.pmg_audit.specs.Codes.{lane_of, rest_of}
-use Rattle.pmg_audit.specs.Dues.{Due, due, due_event, due_in}
-use Rattle.pmg_audit.specs.Moves.{Move, Put, PutsAt, Replays, caller_of, end_of, event_in, is_by, is_caller}
+use Rattle.pmg_audit.specs.Dues.{Due, made_due, due_event, due_in}
+use Rattle.pmg_audit.specs.Moves.{Move, Put, PutsAt, Replays, caller_of, server_after, event_in, is_by, is_caller}
 use Rattle.pmg_audit.specs.Replaying.{AllUnsaid, Continues, HaveHappened, IsAdded, IsReplayed, IsUnsaid, RefusesFor, TakesPuts, move_by, moves_by}
-use Rattle.pmg_audit.specs.Taking.{Takes}
+use Rattle.pmg_audit.specs.Taking.{TakesSaying}
 use Rattle.pmg_audit.specs.declared.moves.Saying.{Saying}
 use Rattle.pmg_audit.specs.declared.replaying.Replay.{Replay}
 
@@ -27,19 +27,19 @@ same_caller p q e = exact_procs p q ((Equal-is _).0 e)
 
 -- ---- moves, one more
 
-pub ends_more : (s : Server) (ms : List Move) (m : Move) → end_of s (ms ++ m ∷ []) ≡ after (end_of s ms) m.act
+pub ends_more : (s : Server) (ms : List Move) (m : Move) → server_after s (ms ++ m ∷ []) ≡ after (server_after s ms) m.act
 ends_more s [] m = refl
 ends_more s (x ∷ ms) m = ends_more (after s x.act) ms m
 
-end_jobs : (s : Server) (ms : List Move) → (end_of s ms).jobs ≡ s.jobs
+end_jobs : (s : Server) (ms : List Move) → (server_after s ms).jobs ≡ s.jobs
 end_jobs s [] = refl
 end_jobs s (x ∷ ms) = end_jobs (after s x.act) ms
 
-end_id : (s : Server) (ms : List Move) → (end_of s ms).id ≡ s.id
+end_id : (s : Server) (ms : List Move) → (server_after s ms).id ≡ s.id
 end_id s [] = refl
 end_id s (x ∷ ms) = end_id (after s x.act) ms
 
-pub end_is : (s : Server) (ms : List Move) → end_of s ms ≡ after_all s (map event_in ms)
+pub end_is : (s : Server) (ms : List Move) → server_after s ms ≡ after_all s (map event_in ms)
 end_is s [] = refl
 end_is s (x ∷ ms) = end_is (after s x.act) ms
 
@@ -47,7 +47,7 @@ pub none_replayed : (s : Server) → Replays s []
 unfolding Replays
 none_replayed s = tt
 
-pub replays_more : (s : Server) (ms : List Move) (m : Move) → Replays s ms → reply_to (end_of s ms) m.act ≡ m.reply → m.frames ≡ sent_by (end_of s ms) m.act → PutsAt (end_of s ms) (caller_of m.act) m.puts
+pub replays_more : (s : Server) (ms : List Move) (m : Move) → Replays s ms → reply_to (server_after s ms) m.act ≡ m.reply → m.frames ≡ sent_by (server_after s ms) m.act → PutsAt (server_after s ms) (caller_of m.act) m.puts
     → Replays s (ms ++ m ∷ [])
 unfolding Replays
 replays_more s [] m all reply frames puts = (reply, frames, puts, tt)
@@ -137,7 +137,7 @@ said_takes s old e puts new takes None is = tt
 said_takes s old e puts new takes (Some p) is =
     let at : PutsAt s (Some p) puts = subst (λ (o : Option Proc). PutsAt s o puts) is takes.at in
     let by : is_by p e.act ≡ true = ap (is_caller p) is ∙ proc_itself p in
-    let rest : rest_of old p ≡ due puts e.act e.reply ∷ rest_of new p = takes.rests p ∙ ap (λ b. cond b (due puts e.act e.reply ∷ rest_of new p) (rest_of new p)) by in
+    let rest : rest_of old p ≡ made_due puts e.act e.reply ∷ rest_of new p = takes.rests p ∙ ap (λ b. cond b (made_due puts e.act e.reply ∷ rest_of new p) (rest_of new p)) by in
     (at.0, subst (λ ds. BeginsWith s p ds e) (sym rest) (refl, at.1))
 
 -- ---- one event further
@@ -155,11 +155,11 @@ module _ (s : Server) (old : List Saying) (es : List Happening) (r : Replay) (ss
   not_replay (inr other) all =
       other (subst (λ (x : Server). reply_to x e.act ≡ e.reply) (ap (after_all s) (sym done.events) ∙ sym (end_is s ms) ∙ sym done.node) (last_is s es e.act e.reply all))
 
-  at_end : PutsAt (end_of s ms) (caller_of e.act) puts
+  at_end : PutsAt (server_after s ms) (caller_of e.act) puts
   at_end = subst (λ (x : Server). PutsAt x (caller_of e.act) puts) done.node takes.at
 
   away : (p : Proc) → (home_of s.jobs p ≡ s.id → ⊥) → is_by p e.act ≡ true → ⊥
-  away p far by = far (ap (λ (j : Jobs). home_of j p) (sym (end_jobs s ms)) ∙ caller_home (end_of s ms) (caller_of e.act) puts p at_end by ∙ end_id s ms)
+  away p far by = far (ap (λ (j : Jobs). home_of j p) (sym (end_jobs s ms)) ∙ caller_home (server_after s ms) (caller_of e.act) puts p at_end by ∙ end_id s ms)
 
   server : after_all s es ≡ r.node
   server = ap (after_all s) (sym done.events) ∙ sym (end_is s ms) ∙ sym done.node
@@ -169,7 +169,7 @@ module _ (s : Server) (old : List Saying) (es : List Happening) (r : Replay) (ss
 
   pub replayed_more : IsReplayed s old (es ++ e ∷ []) r2 ss2
   replayed_more = record {
-    node = added.node ∙ ap (λ (x : Server). after x e.act) done.node ∙ sym (ap (end_of s) added.lane ∙ ends_more s ms m);
+    node = added.node ∙ ap (λ (x : Server). after x e.act) done.node ∙ sym (ap (server_after s) added.lane ∙ ends_more s ms m);
     events = ap (map event_in) added.lane ∙ map-append event_in ms (m ∷ []) ∙ ap (λ l. l ++ e ∷ []) done.events;
     fresh = λ f. let both = added.fresh f in
         subst (Replays s) (sym added.lane)
@@ -187,7 +187,7 @@ module _ (s : Server) (old : List Saying) (es : List Happening) (r : Replay) (ss
 pub replayed_none : (s : Server) (old : List Saying) (r : Replay) → r.node ≡ s → lane_of r.lane ≡ [] → r.is_stale ≡ false → IsReplayed s old [] r old
 unfolding AreSaid
 replayed_none s old r node lane stale = record {
-  node = node ∙ sym (ap (end_of s) lane);
+  node = node ∙ sym (ap (server_after s) lane);
   events = ap (map event_in) lane;
   fresh = λ f. subst (Replays s) (sym lane) (none_replayed s);
   stale = λ t. absurd (false≢true (sym stale ∙ t));
@@ -212,26 +212,26 @@ not_said s old es r ss done e more not all =
 
 -- ---- the puts before an event
 
-due_same : (d : Due) (e : Happening) → due_event d ≡ e → d ≡ due d.puts e.act e.reply
-due_same d e is = (λ i. due d.puts (is i).act (is i).reply)
+due_same : (d : Due) (e : Happening) → due_event d ≡ e → d ≡ made_due d.puts e.act e.reply
+due_same d e is = (λ i. made_due d.puts (is i).act (is i).reply)
 
-pub caller_takes : (s : Server) (old : List Saying) (p : Proc) (d : Due) (new : List Saying) (e : Happening) → caller_of e.act ≡ Some p → home_of s.jobs p ≡ s.id → Takes old p d new → due_event d ≡ e → MayPut s p d.puts
+pub caller_takes : (s : Server) (old : List Saying) (p : Proc) (d : Due) (new : List Saying) (e : Happening) → caller_of e.act ≡ Some p → home_of s.jobs p ≡ s.id → TakesSaying old p d new → due_event d ≡ e → MayPut s p d.puts
     → TakesPuts s old e d.puts new
 caller_takes s old p d new e caller home takes is may = record {
   at = subst (λ (o : Option Proc). PutsAt s o d.puts) (sym caller) (home, may);
-  rests = λ q. subst (λ (o : Option Proc). rest_of old q ≡ cond (is_caller q o) (due d.puts e.act e.reply ∷ rest_of new q) (rest_of new q)) (sym caller) (by q (same_proc q p) refl);
+  rests = λ q. subst (λ (o : Option Proc). rest_of old q ≡ cond (is_caller q o) (made_due d.puts e.act e.reply ∷ rest_of new q) (rest_of new q)) (sym caller) (by q (same_proc q p) refl);
   lasts = takes.lasts;
 }
   where
-    by : (q : Proc) (b : Bool) → same_proc q p ≡ b → rest_of old q ≡ cond b (due d.puts e.act e.reply ∷ rest_of new q) (rest_of new q)
+    by : (q : Proc) (b : Bool) → same_proc q p ≡ b → rest_of old q ≡ cond b (made_due d.puts e.act e.reply ∷ rest_of new q) (rest_of new q)
     by q true same =
-        subst (λ (x : Proc). rest_of old x ≡ due d.puts e.act e.reply ∷ rest_of new x) (sym (same_caller q p same)) (takes.here ∙ ap (λ (x : Due). x ∷ rest_of new p) (due_same d e is))
+        subst (λ (x : Proc). rest_of old x ≡ made_due d.puts e.act e.reply ∷ rest_of new x) (sym (same_caller q p same)) (takes.here ∙ ap (λ (x : Due). x ∷ rest_of new p) (due_same d e is))
     by q false apart = sym (takes.others q apart)
 
 pub none_takes : (s : Server) (old : List Saying) (e : Happening) → caller_of e.act ≡ None → TakesPuts s old e [] old
 none_takes s old e caller = record {
   at = subst (λ (o : Option Proc). PutsAt s o []) (sym caller) refl;
-  rests = λ q. subst (λ (o : Option Proc). rest_of old q ≡ cond (is_caller q o) (due [] e.act e.reply ∷ rest_of old q) (rest_of old q)) (sym caller) refl;
+  rests = λ q. subst (λ (o : Option Proc). rest_of old q ≡ cond (is_caller q o) (made_due [] e.act e.reply ∷ rest_of old q) (rest_of old q)) (sym caller) refl;
   lasts = refl;
 }
 

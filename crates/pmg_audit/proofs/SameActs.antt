@@ -21,8 +21,8 @@ use Rattle.pmg_get.specs.contracts.view.ModePartialEq.TheImpl as mode_tests
 use Rattle.pmg_get.specs.contracts.view.Mode.{the_type as the_modes}
 use Rattle.pmg_get.specs.declared.view.Mode.{Mode}
 use Rattle.pmg_get.specs.declared.view.Mode.TheVariants as modes
-use Rattle.pmg_rules.specs.Acts.{Reply, Request}
-use Rattle.pmg_rules.specs.Holdings.{Get}
+use Rattle.pmg_node_model.specs.Acts.{Reply, Request}
+use Rattle.pmg_node_model.specs.Holdings.{Get}
 use Rattle.pmg_audit.specs.Sameness.{are_same_procs, is_same_flag, is_same_refusal, is_same_reply, is_same_request, is_same_text, is_same_value}
 use denote.Enum.Bare.{same_true}
 

@@ -13,10 +13,10 @@ use Rattle.pmg_value.specs.declared.process.Proc.{Proc}
 use Rattle.pmg_fence.specs.Entering.{same_proc}
 use Rattle.pmg_fence.proofs.EntryLemmas.{proc_itself}
 use Rattle.pmg_journal.specs.declared.transcript.Transcript.{Transcript}
-use Rattle.pmg_audit.specs.Agreeing.{AreApart, said_for}
-use Rattle.pmg_audit.specs.Codes.{rest_of, said_in}
+use Rattle.pmg_audit.specs.Agreeing.{AreOfOtherProcs, said_for}
+use Rattle.pmg_audit.specs.Codes.{rest_of, audited_due}
 use Rattle.pmg_audit.specs.Moves.{Put}
-use Rattle.pmg_audit.specs.Taking.{ArePlaces, AreSayings, IsAbsent, IsPlace, NoneOf, IsSayingOf, StandsAt, Takes, last_of, lasts_of, place_at, procs_of}
+use Rattle.pmg_audit.specs.Taking.{ArePlaces, AreSayings, IsAbsent, IsPlace, NoneOf, IsSayingOf, StandsAt, TakesSaying, last_of, lasts_of, place_at, sayers}
 use Rattle.pmg_audit.specs.declared.moves.Due.{Due as KeptDue}
 use Rattle.pmg_audit.specs.declared.moves.Saying.{Saying}
 
@@ -82,14 +82,14 @@ places_more ps p rows rows2 are absent more = record {
     none_by q false tie is = each_push (λ r. same_proc q r ≡ false) ps p (are.none q is) ((eq_by_cmp_equiv procs_total).symm q p ∙ tie)
 
 -- whether a process has a place
-pub kept_place : (ss : List Saying) (p : Proc) (rows : List (Proc × ℕ)) → ArePlaces (procs_of ss) rows → is_some (place_at rows p) ≡ true → (k : ℕ) × IsPlace ss p k
+pub kept_place : (ss : List Saying) (p : Proc) (rows : List (Proc × ℕ)) → ArePlaces (sayers ss) rows → is_some (place_at rows p) ≡ true → (k : ℕ) × IsPlace ss p k
 kept_place ss p rows are there = by (place_at rows p) refl there
   where
     by : (o : Option ℕ) → place_at rows p ≡ o → is_some o ≡ true → (k : ℕ) × IsPlace ss p k
     by None is some = absurd (false≢true some)
     by (Some k) is some = (k, are.found p k is)
 
-pub no_place : (ss : List Saying) (p : Proc) (rows : List (Proc × ℕ)) → ArePlaces (procs_of ss) rows → is_some (place_at rows p) ≡ false → NoneOf ss p
+pub no_place : (ss : List Saying) (p : Proc) (rows : List (Proc × ℕ)) → ArePlaces (sayers ss) rows → is_some (place_at rows p) ≡ false → NoneOf ss p
 no_place ss p rows are there = by (place_at rows p) refl there
   where
     by : (o : Option ℕ) → place_at rows p ≡ o → is_some o ≡ false → NoneOf ss p
@@ -98,19 +98,19 @@ no_place ss p rows are there = by (place_at rows p) refl there
 
 pub none_rest : (ss : List Saying) (p : Proc) → NoneOf ss p → rest_of ss p ≡ []
 none_rest [] p none = refl
-none_rest (s ∷ ss) p none = ap (λ b. cond b (map said_in s.dues.items) (rest_of ss p)) none.0 ∙ none_rest ss p none.1
+none_rest (s ∷ ss) p none = ap (λ b. cond b (map audited_due s.dues.items) (rest_of ss p)) none.0 ∙ none_rest ss p none.1
 
 pub empty_at : (ss : List Saying) (p : Proc) (k : ℕ) (d : Saying) → IsPlace ss p k → (get_or ss k d).dues.items ≡ [] → rest_of ss p ≡ []
 empty_at [] p k d place empty = absurd place
-empty_at (s ∷ ss) p zero d place empty = ap (λ b. cond b (map said_in s.dues.items) (rest_of ss p)) place ∙ ap (map said_in) empty
-empty_at (s ∷ ss) p (suc k) d place empty = ap (λ b. cond b (map said_in s.dues.items) (rest_of ss p)) place.0 ∙ empty_at ss p k d place.1 empty
+empty_at (s ∷ ss) p zero d place empty = ap (λ b. cond b (map audited_due s.dues.items) (rest_of ss p)) place ∙ ap (map audited_due) empty
+empty_at (s ∷ ss) p (suc k) d place empty = ap (λ b. cond b (map audited_due s.dues.items) (rest_of ss p)) place.0 ∙ empty_at ss p k d place.1 empty
 
 -- what a process says takes no place
-pub places_stay : (x : Saying) (ss : List Saying) (k : ℕ) (e : Saying) (rows : List (Proc × ℕ)) → x.proc ≡ (get_or ss k e).proc → ArePlaces (procs_of ss) rows → ArePlaces (procs_of (set ss k x)) rows
+pub places_stay : (x : Saying) (ss : List Saying) (k : ℕ) (e : Saying) (rows : List (Proc × ℕ)) → x.proc ≡ (get_or ss k e).proc → ArePlaces (sayers ss) rows → ArePlaces (sayers (set ss k x)) rows
 places_stay x ss k e rows same are = subst (λ (ps : List Proc). ArePlaces ps rows) (sym (map-set_same (λ (s : Saying). s.proc) ss k x e same)) are
 
 -- where what each put last is the same, the processes are
-pub procs_by : (ss rs : List Saying) → lasts_of ss ≡ lasts_of rs → procs_of ss ≡ procs_of rs
+pub procs_by : (ss rs : List Saying) → lasts_of ss ≡ lasts_of rs → sayers ss ≡ sayers rs
 procs_by ss rs same = sym (map-map first last_of ss) ∙ ap (map first) same ∙ map-map first last_of rs
   where
     first : Proc × List Put → Proc
@@ -119,24 +119,24 @@ procs_by ss rs same = sym (map-map first last_of ss) ∙ ap (map first) same ∙
 -- the first event that is said there is taken
 module _ (p : Proc) (d : KeptDue) (ds : List KeptDue) (x : Saying) where
   here_taken : (ss : List Saying) (k : ℕ) (e : Saying) → IsPlace ss p k → x.proc ≡ (get_or ss k e).proc → (get_or ss k e).dues.items ≡ d ∷ ds → x.dues.items ≡ ds
-      → rest_of ss p ≡ said_in d ∷ rest_of (set ss k x) p
+      → rest_of ss p ≡ audited_due d ∷ rest_of (set ss k x) p
   here_taken [] k e place same was now = absurd place
   here_taken (s ∷ ss) zero e place same was now =
-      ap (λ b. cond b (map said_in s.dues.items) (rest_of ss p)) place ∙ ap (map said_in) (was ∙ ap (λ l. d ∷ l) (sym now))
-      ∙ ap (λ l. said_in d ∷ l) (sym (ap (λ b. cond b (map said_in x.dues.items) (rest_of ss p)) (ap (same_proc p) same ∙ place)))
+      ap (λ b. cond b (map audited_due s.dues.items) (rest_of ss p)) place ∙ ap (map audited_due) (was ∙ ap (λ l. d ∷ l) (sym now))
+      ∙ ap (λ l. audited_due d ∷ l) (sym (ap (λ b. cond b (map audited_due x.dues.items) (rest_of ss p)) (ap (same_proc p) same ∙ place)))
   here_taken (s ∷ ss) (suc k) e place same was now =
-      ap (λ b. cond b (map said_in s.dues.items) (rest_of ss p)) place.0 ∙ here_taken ss k e place.1 same was now
-      ∙ ap (λ l. said_in d ∷ l) (sym (ap (λ b. cond b (map said_in s.dues.items) (rest_of (set ss k x) p)) place.0))
+      ap (λ b. cond b (map audited_due s.dues.items) (rest_of ss p)) place.0 ∙ here_taken ss k e place.1 same was now
+      ∙ ap (λ l. audited_due d ∷ l) (sym (ap (λ b. cond b (map audited_due s.dues.items) (rest_of (set ss k x) p)) place.0))
 
   others_stay : (q : Proc) → same_proc q p ≡ false → (ss : List Saying) (k : ℕ) (e : Saying) → IsPlace ss p k → x.proc ≡ (get_or ss k e).proc → rest_of (set ss k x) q ≡ rest_of ss q
   others_stay q apart [] k e place same = absurd place
   others_stay q apart (s ∷ ss) zero e place same =
       let not : same_proc q s.proc ≡ false = ap (same_proc q) (sym (same_proc_is p s.proc place)) ∙ apart in
-      ap (λ b. cond b (map said_in x.dues.items) (rest_of ss q)) (ap (same_proc q) same ∙ not) ∙ sym (ap (λ b. cond b (map said_in s.dues.items) (rest_of ss q)) not)
-  others_stay q apart (s ∷ ss) (suc k) e place same = ap (cond (same_proc q s.proc) (map said_in s.dues.items)) (others_stay q apart ss k e place.1 same)
+      ap (λ b. cond b (map audited_due x.dues.items) (rest_of ss q)) (ap (same_proc q) same ∙ not) ∙ sym (ap (λ b. cond b (map audited_due s.dues.items) (rest_of ss q)) not)
+  others_stay q apart (s ∷ ss) (suc k) e place same = ap (cond (same_proc q s.proc) (map audited_due s.dues.items)) (others_stay q apart ss k e place.1 same)
 
   pub taken_at : (ss : List Saying) (k : ℕ) (e : Saying) → IsPlace ss p k → last_of x ≡ last_of (get_or ss k e) → (get_or ss k e).dues.items ≡ d ∷ ds → x.dues.items ≡ ds
-      → Takes ss p (said_in d) (set ss k x)
+      → TakesSaying ss p (audited_due d) (set ss k x)
   taken_at ss k e place same was now = record {
     here = here_taken ss k e place (λ i. (same i).0) was now;
     others = λ q apart. others_stay q apart ss k e place (λ i. (same i).0);
@@ -168,15 +168,15 @@ none_apart (r ∷ ss) [] p are none = absurd are
 none_apart (r ∷ ss) (u ∷ ts) p are none =
     (λ same. absurd (false≢true (sym none.0 ∙ ap (same_proc p) (are.0.proc ∙ same) ∙ proc_itself p)), none_apart ss ts p are.1 none.1)
 
-apart_push : (ts : List Transcript) (t : Transcript) → AreApart ts → Each (λ (u : Transcript). u.proc ≡ t.proc → ⊥) ts → AreApart (ts ++ t ∷ [])
+apart_push : (ts : List Transcript) (t : Transcript) → AreOfOtherProcs ts → Each (λ (u : Transcript). u.proc ≡ t.proc → ⊥) ts → AreOfOtherProcs (ts ++ t ∷ [])
 apart_push [] t apart each = (tt, tt)
 apart_push (u ∷ ts) t apart each = (each_push (λ (v : Transcript). u.proc ≡ v.proc → ⊥) ts t apart.0 each.0, apart_push ts t apart.1 each.1)
 
-pub apart_more : (ss : List Saying) (ts : List Transcript) (t : Transcript) → AreApart ts → AreSayings ss ts → NoneOf ss t.proc → AreApart (ts ++ t ∷ [])
+pub apart_more : (ss : List Saying) (ts : List Transcript) (t : Transcript) → AreOfOtherProcs ts → AreSayings ss ts → NoneOf ss t.proc → AreOfOtherProcs (ts ++ t ∷ [])
 apart_more ss ts t apart are none = apart_push ts t apart (none_apart ss ts t.proc are none)
 
 -- a transcript of the process stands before, where a saying of it does
-pub not_apart : (ss : List Saying) (ts : List Transcript) (t : Transcript) (us : List Transcript) (k : ℕ) → AreSayings ss ts → IsPlace ss t.proc k → AreApart (ts ++ t ∷ us) → ⊥
+pub not_apart : (ss : List Saying) (ts : List Transcript) (t : Transcript) (us : List Transcript) (k : ℕ) → AreSayings ss ts → IsPlace ss t.proc k → AreOfOtherProcs (ts ++ t ∷ us) → ⊥
 unfolding AreSayings
 not_apart [] ts t us k are place apart = absurd place
 not_apart (r ∷ ss) [] t us k are place apart = absurd are
@@ -197,7 +197,7 @@ take_is xs k x inside is = take_more xs k x inside ∙ ap (λ y. take k xs ++ y 
 
 -- the first event that is said there is taken, if there is one
 pub popped_some : (p : Proc) (ss : List Saying) (k : ℕ) (e x : Saying) (o : Option KeptDue) → IsPlace ss p k → last_of x ≡ last_of (get_or ss k e)
-    → (get_or ss k e).dues.items ≡ option_to_list o ++ x.dues.items → IfSome o (λ d. Takes ss p (said_in d) (set ss k x))
+    → (get_or ss k e).dues.items ≡ option_to_list o ++ x.dues.items → IfSome o (λ d. TakesSaying ss p (audited_due d) (set ss k x))
 popped_some p ss k e x None place same is = tt
 popped_some p ss k e x (Some d) place same is = taken_at p d x.dues.items x ss k e place same is refl
 

@@ -5,15 +5,15 @@ use Rattle.pmg_value.specs.Lists.{In}
 use Rattle.std.proofs.lemmas.Option.{slice_get-get_or, slice_get_within}
 use Rattle.pmg_node.specs.Acting.{act_of, reply_as}
 use Rattle.pmg_node.specs.Servers.{reply_in}
-use Rattle.pmg_rules.specs.declared.sent.Sent.{Sent}
-use Rattle.pmg_runs.specs.Worlds.{Event}
+use Rattle.pmg_node_model.specs.declared.sent.Sent.{Sent}
+use Rattle.pmg_group_model.specs.Worlds.{Event}
 use Rattle.pmg_world.specs.Telling.{happened_of}
-use Rattle.pmg_audit.specs.Codes.{all_of, lane_of, move_in, put_in}
-use Rattle.pmg_audit.specs.Going.{IsGoing, IsNext, IsReady, MayGoNext, left}
+use Rattle.pmg_audit.specs.Codes.{all_of, lane_of, move_in, audited_put}
+use Rattle.pmg_audit.specs.Going.{IsOrderGoing, IsNext, IsReady, MayGoNext, left}
 use Rattle.pmg_audit.specs.Moves.{Move, caller_of}
-use Rattle.pmg_audit.specs.Orders.{IsEventOf, happened, moves_at, puts_told}
+use Rattle.pmg_audit.specs.Orders.{IsEventOf, event_happened, moves_at, puts_told}
 use Rattle.pmg_audit.specs.Sends.{AreNumbered}
-use Rattle.pmg_audit.specs.Telling.{GoesOn, IsMaking, work}
+use Rattle.pmg_audit.specs.Telling.{OrderGoesOn, IsMaking, work}
 use Rattle.pmg_audit.specs.declared.moves.Lane.{Lane}
 use Rattle.pmg_audit.specs.declared.moves.Move.{Move as KeptMove}
 use Rattle.pmg_audit.specs.declared.ordering.Making.{Making}
@@ -72,7 +72,7 @@ module _ (lanes : List Lane) (m m2 : Making) (node : ℕ) (e : Event) (lane : La
   there = is.there ∙ ap Some next_is
 
   module _ (done_is : m2.done.items ≡ set done node (k2 + 1))
-      (told : map happened_of m2.told.items ≡ map happened_of m.told.items ++ (puts_told (caller_of (act_of x.act)) (map put_in x.puts.items) ++ happened e (reply_in reply_as x.answer) ∷ []))
+      (told : map happened_of m2.told.items ≡ map happened_of m.told.items ++ (puts_told (caller_of (act_of x.act)) (map audited_put x.puts.items) ++ event_happened e (reply_in reply_as x.answer) ∷ []))
       (sent : m2.sends.frames.items ≡ m.sends.frames.items ++ x.frames.items) (numbered : AreNumbered m2.sends)
       (awake : m2.awake.items ≡ m.awake.items ++ map (λ (s : Sent). s.to) x.frames.items) where
     done2_is : m2.done.items ≡ set done node (slice_index done node + 1)
@@ -86,13 +86,13 @@ module _ (lanes : List Lane) (m m2 : Making) (node : ℕ) (e : Event) (lane : La
         let count = length-map x.frames.items (λ (s : Sent). s.to) in
         omega (arith, one, now, more, count)
 
-    pub goes_on : GoesOn all m m2
+    pub goes_on : OrderGoesOn all m m2
     goes_on = record {
       making = record {
         going =
-            subst (λ ds. IsGoing all ds m2.sends.frames.items (map happened_of m2.told.items)) (sym done2_is)
-            (subst (λ fs. IsGoing all (set done node (slice_index done node + 1)) fs (map happened_of m2.told.items)) (sym sent)
-            (subst (IsGoing all (set done node (slice_index done node + 1)) (m.sends.frames.items ++ x.frames.items)) (sym told)
+            subst (λ ds. IsOrderGoing all ds m2.sends.frames.items (map happened_of m2.told.items)) (sym done2_is)
+            (subst (λ fs. IsOrderGoing all (set done node (slice_index done node + 1)) fs (map happened_of m2.told.items)) (sym sent)
+            (subst (IsOrderGoing all (set done node (slice_index done node + 1)) (m.sends.frames.items ++ x.frames.items)) (sym told)
             (going_next all done m.sends.frames.items (map happened_of m.told.items) node (move_in x) e there inside making.going (subst (λ (y : Move). IsEventOf m.sends.frames.items node y.act e) next_is is.event))));
         numbered = numbered;
         awake = λ n ready.

@@ -12,21 +12,21 @@ use Rattle.pmg_jobinfo.specs.Jobs.{Jobs, AreJobs, home_of, is_node}
 use Rattle.pmg_fence.specs.Entering.{same_proc}
 use Rattle.pmg_fence.specs.Rules.{Scripts}
 use Rattle.pmg_fence.proofs.EntryLemmas.{proc_itself}
-use Rattle.pmg_rules.specs.Acts.{Act, Reply, Request, free_cause, says}
-use Rattle.pmg_rules.specs.Fitting.{is_refusal, unless_refused}
-use Rattle.pmg_rules.specs.Holdings.{Holding}
-use Rattle.pmg_rules.specs.Sending.{NodeStep}
-use Rattle.pmg_rules.specs.declared.sent.Sent.{Sent}
+use Rattle.pmg_node_model.specs.Acts.{Act, Reply, Request, free_cause, says}
+use Rattle.pmg_node_model.specs.Fitting.{is_refusal, unless_refused}
+use Rattle.pmg_node_model.specs.Holdings.{NodeState}
+use Rattle.pmg_node_model.specs.Sending.{NodeStep}
+use Rattle.pmg_node_model.specs.declared.sent.Sent.{Sent}
 use Rattle.pmg_node.specs.Servers.{Server, after, reply_to, sent_by}
-use Rattle.pmg_runs.specs.Worlds.{Doing, Does, Event, Happened, Run, Step, World, changed_at, numbered, said_in}
-use Rattle.pmg_world.specs.Caching.{AllCached, cached_by}
+use Rattle.pmg_group_model.specs.Worlds.{Doing, Does, Event, Happened, Run, Step, World, with_holding_at, numbered, said_in}
+use Rattle.pmg_world.specs.Caching.{AllCached, cached_for}
 use Rattle.pmg_world.specs.Keeping.{AreCaches, AreNodes, IsNodeOf}
 use Rattle.pmg_world.proofs.ActLemmas.{act_keeps, act_steps}
 use Rattle.pmg_world.proofs.PutLemmas.{free_at}
-use Rattle.pmg_world.proofs.RunLemmas.{next_run, run_both, run_none}
+use Rattle.pmg_group_model.proofs.RunLemmas.{next_run, run_both, run_none}
 use Rattle.pmg_world.proofs.StartLemmas.{some_server}
-use Rattle.pmg_audit.specs.Moves.{AllPut, FitsMove, Move, Put, PutsAt, PutsFit, Replays, Seals, cache_next, cache_then, caller_of, end_of, event_in, is_by, is_caller, is_own_ask, put_all}
-use Rattle.pmg_audit.specs.Orders.{IsEventOf, Tells, happened, put_rest, puts_told}
+use Rattle.pmg_audit.specs.Moves.{AllPut, FitsMove, Move, Put, PutsAt, PutsFit, Replays, Seals, cache_next, cache_then, caller_of, server_after, event_in, is_by, is_caller, is_own_ask, put_all}
+use Rattle.pmg_audit.specs.Orders.{IsEventOf, TellsMoves, event_happened, put_rest, puts_told}
 use Rattle.pmg_audit.specs.Runs.{events_at, place_of, with_place}
 use Rattle.pmg_audit.proofs.ActSteps.{IsDone, act_done}
 use Rattle.pmg_audit.proofs.PutSteps.{PutsDone, puts_done, with_scripts}
@@ -64,7 +64,7 @@ record PutsStage (jobs : Jobs) (w : World) (all : AllCached) (caller : Option Pr
   caches : AllCached
   run : Run jobs w (puts_told caller puts) (with_scripts w scripts)
   kept : AreCaches caches scripts
-  own : (q : Proc) → cached_by caches q ≡ cond (is_caller q caller) (put_all (cached_by all q) puts) (cached_by all q)
+  own : (q : Proc) → cached_for caches q ≡ cond (is_caller q caller) (put_all (cached_for all q) puts) (cached_for all q)
   told : (frames : List Sent) (n : ℕ) (xs : List Happened) → events_at jobs w.scripts frames n (puts_told caller puts ++ xs) ≡ events_at jobs scripts frames n xs
 
 none_put : (jobs : Jobs) (w : World) (all : AllCached) → AreCaches all w.scripts → PutsStage jobs w all None []
@@ -80,8 +80,8 @@ stage_of jobs w all p puts done = record {
   caches = done.caches;
   run = done.run;
   kept = done.kept;
-  own = λ q. cond_either (same_proc q p) (cached_by done.caches q) (put_all (cached_by all q) puts) (cached_by all q)
-      (λ e. subst (λ (r : Proc). cached_by done.caches r ≡ put_all (cached_by all r) puts) (sym (same_caller q p e)) done.own)
+  own = λ q. cond_either (same_proc q p) (cached_for done.caches q) (put_all (cached_for all q) puts) (cached_for all q)
+      (λ e. subst (λ (r : Proc). cached_for done.caches r ≡ put_all (cached_for all r) puts) (sym (same_caller q p e)) done.own)
       (done.others q);
   told = done.told;
 }
@@ -92,12 +92,12 @@ none_stage jobs w all p kept = record {
   caches = all;
   run = run_none jobs w;
   kept = kept;
-  own = λ q. cond_either (same_proc q p) (cached_by all q) (cached_by all q) (cached_by all q) (λ e. refl) (λ e. refl);
+  own = λ q. cond_either (same_proc q p) (cached_for all q) (cached_for all q) (cached_for all q) (λ e. refl) (λ e. refl);
   told = λ frames n xs. refl;
 }
 
 puts_stage : (jobs : Jobs) (w : World) (all : AllCached) → AreCaches all w.scripts → (n : ℕ) (s : Server) → IsNodeOf jobs n (w.nodes n) s
-    → (caller : Option Proc) (puts : List Put) → PutsAt s caller puts → ((p : Proc) → is_caller p caller ≡ true → AllPut (cached_by all p) puts) → PutsStage jobs w all caller puts
+    → (caller : Option Proc) (puts : List Put) → PutsAt s caller puts → ((p : Proc) → is_caller p caller ≡ true → AllPut (cached_for all p) puts) → PutsStage jobs w all caller puts
 puts_stage jobs w all kept n s of None puts at takes = subst (PutsStage jobs w all None) (sym at) (none_put jobs w all kept)
 puts_stage jobs w all kept n s of (Some p) puts at takes = by at.1
   where
@@ -120,7 +120,7 @@ pub record IsAt (jobs : Jobs) (js : ℕ → List Move) (servers : List Server) (
   pub caches : AreCaches all w.scripts
   pub inside : (n : ℕ) (m : Move) (rest : List Move) → js n ≡ m ∷ rest → n < length servers
   pub replays : (n : ℕ) (d : Server) → n < length servers → Replays (get_or servers n d) (js n)
-  pub fits : (p : Proc) → PutsFit p (cached_by all p) (js (home_of jobs p))
+  pub fits : (p : Proc) → PutsFit p (cached_for all p) (js (home_of jobs p))
 
 -- the first of the moves is a replay, and so are the others after it
 record FirstOf (s : Server) (m : Move) (rest : List Move) : Type 0 where
@@ -142,7 +142,7 @@ unfolding PutsFit
 first_fits p c m rest fits = record { first = fits.0; others = fits.1 }
 
 -- a caller is at home at the node
-home_by : (jobs : Jobs) (n : ℕ) (h : Holding) (s : Server) (caller : Option Proc) (puts : List Put) → IsNodeOf jobs n h s → PutsAt s caller puts → (p : Proc) → is_caller p caller ≡ true → home_of jobs p ≡ n
+home_by : (jobs : Jobs) (n : ℕ) (h : NodeState) (s : Server) (caller : Option Proc) (puts : List Put) → IsNodeOf jobs n h s → PutsAt s caller puts → (p : Proc) → is_caller p caller ≡ true → home_of jobs p ≡ n
 home_by jobs n h s None puts of at p by = absurd (false≢true by)
 home_by jobs n h s (Some q) puts of at p by =
     ap (home_of jobs) (same_caller p q by) ∙ ap (λ (j : Jobs). home_of j q) (sym of.jobs_same) ∙ at.0 ∙ of.id_same
@@ -150,11 +150,11 @@ home_by jobs n h s (Some q) puts of at p by =
 -- what the next move does
 pub record Moved (jobs : Jobs) (final : List Sent) (js : ℕ → List Move) (w : World) (n : ℕ) (m : Move) (rest : List Move) (e : Event) (servers : List Server) : Type 0 where
   pub scripts : Scripts
-  pub nodes : ℕ → Holding
+  pub nodes : ℕ → NodeState
   pub caches : AllCached
-  pub run : Run jobs w (puts_told (caller_of m.act) m.puts ++ happened e m.reply ∷ []) (record { scripts = scripts; nodes = nodes; sent = w.sent ++ m.frames })
+  pub run : Run jobs w (puts_told (caller_of m.act) m.puts ++ event_happened e m.reply ∷ []) (record { scripts = scripts; nodes = nodes; sent = w.sent ++ m.frames })
   pub at : IsAt jobs (put_rest js n rest) servers caches (record { scripts = scripts; nodes = nodes; sent = w.sent ++ m.frames })
-  pub told : (k : ℕ) (others : List Happened) → events_at jobs w.scripts final k (puts_told (caller_of m.act) m.puts ++ happened e m.reply ∷ others)
+  pub told : (k : ℕ) (others : List Happened) → events_at jobs w.scripts final k (puts_told (caller_of m.act) m.puts ++ event_happened e m.reply ∷ others)
       ≡ with_place k (Some (n, event_in m)) (events_at jobs scripts final k others)
 
 next_cache : (b : Bool) (c d e : Cached) (f g : Cached → Cached) → d ≡ cond b (f c) c → e ≡ cond b (g d) d → e ≡ cond b (g (f c)) c
@@ -164,7 +164,7 @@ next_cache false c d e f g one two = two ∙ one
 told_next : (jobs : Jobs) (scripts : Scripts) (final : List Sent) (k n : ℕ) (e : Event) (m : Move) (others : List Happened)
     → place_of scripts final e m.reply ≡ Some (n, event_in m) → (said : Scripts) → said ≡ unless_refused (is_refusal m.reply) scripts (says jobs m.act)
     → unless_refused (is_refusal m.reply) scripts (said_in jobs e) ≡ unless_refused (is_refusal m.reply) scripts (says jobs m.act)
-    → events_at jobs scripts final k (happened e m.reply ∷ others) ≡ with_place k (Some (n, event_in m)) (events_at jobs said final k others)
+    → events_at jobs scripts final k (event_happened e m.reply ∷ others) ≡ with_place k (Some (n, event_in m)) (events_at jobs said final k others)
 unfolding events_at
 told_next jobs scripts final k n e m others place said is same =
     (λ i. with_place k (place i) (events_at jobs (same i) final k others)) ∙ ap (λ (x : Scripts). with_place k (Some (n, event_in m)) (events_at jobs x final k others)) (sym is)
@@ -186,10 +186,10 @@ module _ (jobs : Jobs) (are : AreJobs jobs) (final : List Sent) (js : ℕ → Li
   home : (p : Proc) → is_by p m.act ≡ true → home_of jobs p ≡ n
   home p by = home_by jobs n (w.nodes n) s (caller_of m.act) m.puts of first.puts p by
 
-  fits_next : (p : Proc) → home_of jobs p ≡ n → FirstFits p (cached_by all p) m rest
-  fits_next p is = first_fits p (cached_by all p) m rest (subst (PutsFit p (cached_by all p)) (ap js is ∙ next) (at.fits p))
+  fits_next : (p : Proc) → home_of jobs p ≡ n → FirstFits p (cached_for all p) m rest
+  fits_next p is = first_fits p (cached_for all p) m rest (subst (PutsFit p (cached_for all p)) (ap js is ∙ next) (at.fits p))
 
-  fits_first : (p : Proc) → is_by p m.act ≡ true → AllPut (cached_by all p) m.puts × Seals (put_all (cached_by all p) m.puts) m.act × (is_own_ask m.act ≡ false)
+  fits_first : (p : Proc) → is_by p m.act ≡ true → AllPut (cached_for all p) m.puts × Seals (put_all (cached_for all p) m.puts) m.act × (is_own_ask m.act ≡ false)
   fits_first p by = (fits_next p (home p by)).first by
 
   stage : PutsStage jobs w all (caller_of m.act) m.puts
@@ -203,12 +203,12 @@ module _ (jobs : Jobs) (are : AreJobs jobs) (final : List Sent) (js : ℕ → Li
   move_done node event grows =
       subst (IsDone jobs (with_scripts w stage.scripts) stage.caches final n m.act e) first.reply
       (act_done jobs (with_scripts w stage.scripts) stage.caches stage.kept final n node s m.act e event grows
-      (λ p by. (subst (λ (c : Cached). Seals c m.act) (sym (stage.own p ∙ ap (λ b. cond b (put_all (cached_by all p) m.puts) (cached_by all p)) by)) (fits_first p by).1, (fits_first p by).2))
+      (λ p by. (subst (λ (c : Cached). Seals c m.act) (sym (stage.own p ∙ ap (λ b. cond b (put_all (cached_for all p) m.puts) (cached_for all p)) by)) (fits_first p by).1, (fits_first p by).2))
       (own_ask_called m.act (λ p by. (fits_first p by).2)))
 
   module _ (node : is_node jobs n ≡ true) (done : IsDone jobs (with_scripts w stage.scripts) stage.caches final n m.act e m.reply) where
     abbrev left : World
-    left = record { scripts = unless_refused (is_refusal m.reply) stage.scripts (says jobs m.act); nodes = changed_at w.nodes n (after s m.act).holding; sent = w.sent ++ m.frames }
+    left = record { scripts = unless_refused (is_refusal m.reply) stage.scripts (says jobs m.act); nodes = with_holding_at w.nodes n (after s m.act).holding; sent = w.sent ++ m.frames }
 
     node_steps : NodeStep jobs n (w.nodes n) m.act m.reply (after s m.act).holding m.frames
     node_steps =
@@ -229,28 +229,28 @@ module _ (jobs : Jobs) (are : AreJobs jobs) (final : List Sent) (js : ℕ → Li
         subst (λ i. Replays (get_or new_servers i d) rest) (sym (same_index k n e)) (subst (λ (x : Server). Replays x rest) (sym (get_or-set_same servers n (after s m.act) d within)) first.others)
     still_replays k d inside false e = subst (λ (x : Server). Replays x (js k)) (sym (get_or-set_other servers n k (after s m.act) d (other_index k n e))) (at.replays k d inside)
 
-    cache_is : (p : Proc) → cached_by done.caches p ≡ cache_next p (cached_by all p) m
-    cache_is p = next_cache (is_by p m.act) (cached_by all p) (cached_by stage.caches p) (cached_by done.caches p) (λ (c : Cached). put_all c m.puts) (λ (c : Cached). cache_then c m.act m.reply)
+    cache_is : (p : Proc) → cached_for done.caches p ≡ cache_next p (cached_for all p) m
+    cache_is p = next_cache (is_by p m.act) (cached_for all p) (cached_for stage.caches p) (cached_for done.caches p) (λ (c : Cached). put_all c m.puts) (λ (c : Cached). cache_then c m.act m.reply)
         (stage.own p) (done.own p)
 
     not_by : (p : Proc) → (home_of jobs p ≡ n → ⊥) → (b : Bool) → is_by p m.act ≡ b → b ≡ false
     not_by p away true by = absurd (away (home p by))
     not_by p away false by = refl
 
-    still_fits : (p : Proc) (b : Bool) → (home_of jobs p == n) ≡ b → PutsFit p (cached_by done.caches p) (cond b rest (js (home_of jobs p)))
+    still_fits : (p : Proc) (b : Bool) → (home_of jobs p == n) ≡ b → PutsFit p (cached_for done.caches p) (cond b rest (js (home_of jobs p)))
     still_fits p true is = subst (λ (c : Cached). PutsFit p c rest) (sym (cache_is p)) (fits_next p (same_index (home_of jobs p) n is)).others
     still_fits p false is =
         let away = not_by p (other_index (home_of jobs p) n is) (is_by p m.act) refl in
         subst (λ (c : Cached). PutsFit p c (js (home_of jobs p)))
-        (sym (cache_is p ∙ ap (λ b. cond b (cache_then (put_all (cached_by all p) m.puts) m.act m.reply) (cached_by all p)) away)) (at.fits p)
+        (sym (cache_is p ∙ ap (λ b. cond b (cache_then (put_all (cached_for all p) m.puts) m.act m.reply) (cached_for all p)) away)) (at.fits p)
 
     moved : Moved jobs final js w n m rest e new_servers
     moved = record {
       scripts = left.scripts;
       nodes = left.nodes;
       caches = done.caches;
-      run = run_both jobs (puts_told (caller_of m.act) m.puts) (happened e m.reply ∷ []) w (with_scripts w stage.scripts) left stage.run
-          (next_run jobs (with_scripts w stage.scripts) (happened e m.reply) [] left (record { mid = left; step = event_step; rest = run_none jobs left }));
+      run = run_both jobs (puts_told (caller_of m.act) m.puts) (event_happened e m.reply ∷ []) w (with_scripts w stage.scripts) left stage.run
+          (next_run jobs (with_scripts w stage.scripts) (event_happened e m.reply) [] left (record { mid = left; step = event_step; rest = run_none jobs left }));
       at = record {
         nodes = act_keeps jobs are servers w.nodes at.nodes n (some_server jobs) within m.act;
         caches = done.kept;
@@ -258,7 +258,7 @@ module _ (jobs : Jobs) (are : AreJobs jobs) (final : List Sent) (js : ℕ → Li
         replays = λ k d inside. still_replays k d (subst (λ l. k < l) (length-set servers n (after s m.act)) inside) (k == n) refl;
         fits = λ p. still_fits p (home_of jobs p == n) refl;
       };
-      told = λ k others. stage.told final k (happened e m.reply ∷ others)
+      told = λ k others. stage.told final k (event_happened e m.reply ∷ others)
           ∙ told_next jobs stage.scripts final k n e m others done.place left.scripts refl (ap (unless_refused (is_refusal m.reply) stage.scripts) done.said);
     }
 
@@ -275,8 +275,8 @@ pub record Grows (frames final : List Sent) : Type 0 where
   pub more : List Sent
   pub is : final ≡ frames ++ more
 
-pub tells_grow : (order : List ℕ) (js : ℕ → List Move) (frames : List Sent) (xs : List Happened) (final : List Sent) → Tells js frames order xs final → Grows frames final
-unfolding Tells
+pub tells_grow : (order : List ℕ) (js : ℕ → List Move) (frames : List Sent) (xs : List Happened) (final : List Sent) → TellsMoves js frames order xs final → Grows frames final
+unfolding TellsMoves
 tells_grow [] js frames xs final tells = record { more = []; is = tells.2 ∙ sym (append-nil frames) }
 tells_grow (n ∷ order) js frames xs final tells =
     let later = tells_grow order (put_rest js n tells.1) (frames ++ tells.0.frames) tells.3 final tells.7 in
@@ -287,7 +287,7 @@ pub record Woven (jobs : Jobs) (final : List Sent) (js : ℕ → List Move) (ser
   pub after : World
   pub run : Run jobs w xs after
   pub sent : after.sent ≡ final
-  pub ends : (n : ℕ) (d : Server) → n < length servers → IsNodeOf jobs n (after.nodes n) (end_of (get_or servers n d) (js n))
+  pub ends : (n : ℕ) (d : Server) → n < length servers → IsNodeOf jobs n (after.nodes n) (server_after (get_or servers n d) (js n))
   pub events : (n : ℕ) → events_at jobs w.scripts final n xs ≡ map event_in (js n)
 
 none_told : (jobs : Jobs) (scripts : Scripts) (final : List Sent) (n : ℕ) → events_at jobs scripts final n [] ≡ []
@@ -300,7 +300,7 @@ woven_none jobs final js servers all w xs at none nothing same = record {
   after = w;
   run = subst (λ l. Run jobs w l w) (sym nothing) (run_none jobs w);
   sent = sym same;
-  ends = λ n d inside. subst (λ l. IsNodeOf jobs n (w.nodes n) (end_of (get_or servers n d) l)) (sym (none n)) (at.nodes.each n d inside);
+  ends = λ n d inside. subst (λ l. IsNodeOf jobs n (w.nodes n) (server_after (get_or servers n d) l)) (sym (none n)) (at.nodes.each n d inside);
   events = λ n. ap (events_at jobs w.scripts final n) nothing ∙ none_told jobs w.scripts final n ∙ ap (map event_in) (sym (none n));
 }
 
@@ -309,21 +309,21 @@ placed : (k n : ℕ) (m : Move) (rest more : List Move) (b : Bool) → (k == n) 
 placed k n m rest more true e is = ap (map event_in) (sym (is (same_index k n e)))
 placed k n m rest more false e is = refl
 
-ends_on : (jobs : Jobs) (k n : ℕ) (h : Holding) (servers : List Server) (d c : Server) (m : Move) (rest more : List Move) → n < length servers → (b : Bool) → (k == n) ≡ b → (k ≡ n → more ≡ m ∷ rest)
-    → IsNodeOf jobs k h (end_of (get_or (set servers n (after (get_or servers n c) m.act)) k d) (cond b rest more)) → IsNodeOf jobs k h (end_of (get_or servers k d) more)
+ends_on : (jobs : Jobs) (k n : ℕ) (h : NodeState) (servers : List Server) (d c : Server) (m : Move) (rest more : List Move) → n < length servers → (b : Bool) → (k == n) ≡ b → (k ≡ n → more ≡ m ∷ rest)
+    → IsNodeOf jobs k h (server_after (get_or (set servers n (after (get_or servers n c) m.act)) k d) (cond b rest more)) → IsNodeOf jobs k h (server_after (get_or servers k d) more)
 ends_on jobs k n h servers d c m rest more inside true e is stands =
     let same = same_index k n e in
     let server : get_or (set servers n (after (get_or servers n c) m.act)) k d ≡ after (get_or servers k d) m.act =
     ap (λ i. get_or (set servers n (after (get_or servers n c) m.act)) i d) same ∙ get_or-set_same servers n (after (get_or servers n c) m.act) d inside
     ∙ ap (λ (x : Server). after x m.act) (get_or_default servers n c d inside) ∙ ap (λ i. after (get_or servers i d) m.act) (sym same) in
-    subst (λ l. IsNodeOf jobs k h (end_of (get_or servers k d) l)) (sym (is same)) (subst (λ (x : Server). IsNodeOf jobs k h (end_of x rest)) server stands)
+    subst (λ l. IsNodeOf jobs k h (server_after (get_or servers k d) l)) (sym (is same)) (subst (λ (x : Server). IsNodeOf jobs k h (server_after x rest)) server stands)
 ends_on jobs k n h servers d c m rest more inside false e is stands =
-    subst (λ (x : Server). IsNodeOf jobs k h (end_of x more)) (get_or-set_other servers n k (after (get_or servers n c) m.act) d (other_index k n e)) stands
+    subst (λ (x : Server). IsNodeOf jobs k h (server_after x more)) (get_or-set_other servers n k (after (get_or servers n c) m.act) d (other_index k n e)) stands
 
 -- what is told in an order is a run
 pub weave : (jobs : Jobs) → AreJobs jobs → (final : List Sent) (order : List ℕ) (js : ℕ → List Move) (servers : List Server) (all : AllCached) (w : World) (xs : List Happened)
-    → IsAt jobs js servers all w → Tells js w.sent order xs final → Woven jobs final js servers w xs
-unfolding Tells
+    → IsAt jobs js servers all w → TellsMoves js w.sent order xs final → Woven jobs final js servers w xs
+unfolding TellsMoves
 weave jobs are final [] js servers all w xs at tells = woven_none jobs final js servers all w xs at tells.0 tells.1 tells.2
 weave jobs are final (n ∷ order) js servers all w xs at tells =
     let m : Move = tells.0 in
@@ -341,8 +341,8 @@ weave jobs are final (n ∷ order) js servers all w xs at tells =
     let puts = puts_told (caller_of m.act) m.puts in
     record {
       after = done.after;
-      run = subst (λ l. Run jobs w l done.after) (append_assoc puts (happened e m.reply ∷ []) others ∙ sym tells.6)
-          (run_both jobs (puts ++ happened e m.reply ∷ []) others w mid done.after step.run done.run);
+      run = subst (λ l. Run jobs w l done.after) (append_assoc puts (event_happened e m.reply ∷ []) others ∙ sym tells.6)
+          (run_both jobs (puts ++ event_happened e m.reply ∷ []) others w mid done.after step.run done.run);
       sent = done.sent;
       ends = λ k d inside. ends_on jobs k n (done.after.nodes k) servers d (some_server jobs) m rest (js k) (at.inside n m rest next) (k == n) refl (λ same. ap js same ∙ next)
           (done.ends k d (subst (λ l. k < l) (sym (length-set servers n (after (get_or servers n (some_server jobs)) m.act))) inside));

@@ -6,26 +6,26 @@ use Rattle.pmg_value.specs.declared.process.Proc.{Proc}
 use Rattle.pmg_scope.specs.Cached.{no_puts}
 use Rattle.pmg_jobinfo.specs.Jobs.{Jobs, home_of}
 use Rattle.pmg_fence.specs.Entering.{same_proc}
-use Rattle.pmg_rules.specs.Acts.{free_cause}
+use Rattle.pmg_node_model.specs.Acts.{free_cause}
 use Rattle.pmg_node.specs.Opening.{new_server}
 use Rattle.pmg_node.specs.Servers.{Server, after}
 use Rattle.pmg_journal.specs.Replays.{Happening, after_all}
 use Rattle.pmg_journal.specs.Transcripts.{noted_in}
 use Rattle.pmg_journal.specs.declared.journal.Journal.{Journal}
 use Rattle.pmg_journal.specs.declared.transcript.Transcript.{Transcript}
-use Rattle.pmg_audit.specs.Dues.{Due, due_event, last_puts, said_by, takes_all}
+use Rattle.pmg_audit.specs.Dues.{Due, due_event, last_puts, dues_of, takes_all}
 use Rattle.pmg_audit.specs.Moves.{Put, caller_of}
 use Rattle.pmg_audit.specs.Runs.{TellsOf, told_at}
 
 -- no two transcripts are of one process
-abbrev pub AreApart : List Transcript → Type 0
-AreApart [] = Unit {0}
-AreApart (t ∷ ts) = Each (λ (u : Transcript). t.proc ≡ u.proc → ⊥) ts × AreApart ts
+abbrev pub AreOfOtherProcs : List Transcript → Type 0
+AreOfOtherProcs [] = Unit {0}
+AreOfOtherProcs (t ∷ ts) = Each (λ (u : Transcript). t.proc ≡ u.proc → ⊥) ts × AreOfOtherProcs ts
 
 -- the events that the process says it made, by its transcript
 abbrev pub said_for : List Transcript → Proc → List Due
 said_for [] p = []
-said_for (t ∷ ts) p = if same_proc p t.proc then said_by t else said_for ts p
+said_for (t ∷ ts) p = if same_proc p t.proc then dues_of t else said_for ts p
 
 -- where something was put, the process is in no call at the server, and has not ended
 abbrev pub MayPut : Server → Proc → List Put → Type 0
@@ -67,7 +67,7 @@ MayPutLast jobs js t = MayPut (home_after jobs js t.proc) t.proc (last_puts t)
 -- home, and in its transcript; each transcript says just the events that its process made there; and where it says that something was put
 -- after them, its process was in no call at the end of its home's journal, and had not ended.
 pub record AreAgreed (jobs : Jobs) (js : List Journal) (ts : List Transcript) : Type 0 where
-  pub apart : AreApart ts
+  pub apart : AreOfOtherProcs ts
   pub taken : Each (λ (t : Transcript). takes_all no_puts (noted_in t) ≡ true) ts
   pub said : (n : ℕ) → n < length jobs.nodes → AreSaid (new_server jobs n) (said_for ts) (told_at js n)
   pub calls : Each (TellsOf jobs js) ts

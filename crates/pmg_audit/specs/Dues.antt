@@ -5,7 +5,7 @@ use Rattle.pmg_value.specs.declared.process.Proc.{Proc}
 use Rattle.pmg_value.specs.declared.refusal.Refusal.TheVariants as refusals
 use Rattle.pmg_scope.specs.Cached.{Cached, no_puts, put_cause, unsealed_of}
 use Rattle.pmg_scope.specs.declared.scope.Scope.{Scope}
-use Rattle.pmg_rules.specs.Acts.{Act, Reply}
+use Rattle.pmg_node_model.specs.Acts.{Act, Reply}
 use Rattle.pmg_journal.specs.Replays.{Happening, happening}
 use Rattle.pmg_journal.specs.Transcripts.{Calling, Noted, cached_by, noted_in}
 use Rattle.pmg_journal.specs.declared.transcript.Transcript.{Transcript}
@@ -23,8 +23,8 @@ pub record Due : Type 0 where
   pub act : Act
   pub reply : Reply
 
-abbrev pub due : List Put → Act → Reply → Due
-due puts act reply = record { puts = puts; act = act; reply = reply }
+abbrev pub made_due : List Put → Act → Reply → Due
+made_due puts act reply = record { puts = puts; act = act; reply = reply }
 
 -- the event, as a journal has it
 abbrev pub due_event : Due → Happening
@@ -32,10 +32,10 @@ due_event d = happening d.act d.reply
 
 -- the move as its client says it
 abbrev pub due_in : Move → Due
-due_in m = due m.puts m.act m.reply
+due_in m = made_due m.puts m.act m.reply
 
-abbrev pub put_of : Scope → List ℕ → List ℕ → Put
-put_of scope key value = record { scope = scope; key = key; value = value }
+abbrev pub due_put : Scope → List ℕ → List ℕ → Put
+due_put scope key value = record { scope = scope; key = key; value = value }
 
 -- the act of a call, where the process's cache is this; a put, and a get of a key of its own, are none
 abbrev pub act_by : Proc → Cached → Calling → Option Act
@@ -48,12 +48,12 @@ act_said p c n = if is_passed n.reply then None else act_by p c n.call
 
 -- what is put by then, and by no event told
 abbrev pub put_by_call : List Put → Calling → Reply → List Put
-put_by_call puts (Calling.put scope key value) Reply.done = puts ++ put_of scope key value ∷ []
+put_by_call puts (Calling.put scope key value) Reply.done = puts ++ due_put scope key value ∷ []
 put_by_call puts call reply = puts
 
 abbrev pub due_of : List Put → Reply → Option Act → List Due
 due_of puts reply None = []
-due_of puts reply (Some a) = due puts a reply ∷ []
+due_of puts reply (Some a) = made_due puts a reply ∷ []
 
 -- the puts that no event was told of, after the call
 abbrev pub puts_next : List Put → Noted → Option Act → List Put
@@ -67,8 +67,8 @@ dues p c puts [] = []
 dues p c puts (n ∷ ns) = due_of puts n.reply (act_said p c n) ++ dues p (cached_by c n.call n.reply) (puts_next puts n (act_said p c n)) ns
 
 -- the events of a client, by its transcript
-abbrev pub said_by : Transcript → List Due
-said_by t = dues t.proc no_puts [] (noted_in t)
+abbrev pub dues_of : Transcript → List Due
+dues_of t = dues t.proc no_puts [] (noted_in t)
 
 -- the puts that no event was told of, after the calls
 unfoldable pub puts_after : Proc → Cached → List Put → List Noted → List Put
@@ -80,11 +80,11 @@ abbrev pub last_puts : Transcript → List Put
 last_puts t = puts_after t.proc no_puts [] (noted_in t)
 
 -- the cache takes the put, where that is said to be done
-abbrev pub takes : Cached → Calling → Reply → Bool
-takes c (Calling.put scope key value) Reply.done = is_ok (first_of (put_cause c scope key value) (tt {0}))
-takes c call reply = true
+abbrev pub takes_put : Cached → Calling → Reply → Bool
+takes_put c (Calling.put scope key value) Reply.done = is_ok (first_of (put_cause c scope key value) (tt {0}))
+takes_put c call reply = true
 
 -- each put that is said to be done
 unfoldable pub takes_all : Cached → List Noted → Bool
 takes_all c [] = true
-takes_all c (n ∷ ns) = takes c n.call n.reply && takes_all (cached_by c n.call n.reply) ns
+takes_all c (n ∷ ns) = takes_put c n.call n.reply && takes_all (cached_by c n.call n.reply) ns

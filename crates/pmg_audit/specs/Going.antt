@@ -2,10 +2,10 @@
 use Rattle.std.specs.Prelude.{◌≡◌, ℕ, suc, ◌+◌, ◌<◌, List, [], ◌∷◌, ◌++◌, length, Option, Some, None, slice_get, slice_index, take, drop}
 use Rattle.std.specs.List.{flat_map}
 use Rattle.pmg_value.specs.Lists.{In, Each}
-use Rattle.pmg_rules.specs.declared.sent.Sent.{Sent}
-use Rattle.pmg_runs.specs.Worlds.{Event, Happened}
+use Rattle.pmg_node_model.specs.declared.sent.Sent.{Sent}
+use Rattle.pmg_group_model.specs.Worlds.{Event, Happened}
 use Rattle.pmg_audit.specs.Moves.{Move}
-use Rattle.pmg_audit.specs.Orders.{AreTold, IsEventOf, MayGo, Tells, moves_at, rests}
+use Rattle.pmg_audit.specs.Orders.{AreTold, IsEventOf, MayGo, TellsMoves, moves_at, rests}
 
 -- the move may come
 abbrev pub MayGoNext : ℕ → Option Move → List Sent → Type 0
@@ -32,10 +32,10 @@ frames_of ms = flat_map (λ (m : Move). m.frames) ms
 
 -- So many moves of each node are done, and these frames were sent and these events told by then. What is told of an order of the others
 -- is told of all of them, after these.
-pub record IsGoing (all : List (List Move)) (done : List ℕ) (frames : List Sent) (told : List Happened) : Type 0 where
+pub record IsOrderGoing (all : List (List Move)) (done : List ℕ) (frames : List Sent) (told : List Happened) : Type 0 where
   pub count : length done ≡ length all
   pub covered : (n : ℕ) → Each (λ s. In s frames) (frames_of (take (slice_index done n) (moves_at all n)))
-  pub sound : (order : List ℕ) (others : List Happened) (final : List Sent) → Tells (rests all done) frames order others final → AreTold all (told ++ others) final
+  pub sound : (order : List ℕ) (others : List Happened) (final : List Sent) → TellsMoves (rests all done) frames order others final → AreTold all (told ++ others) final
 
 -- how many moves these are, with the frames that they sent
 abbrev pub weight : List Move → ℕ

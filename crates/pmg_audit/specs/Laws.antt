@@ -3,9 +3,9 @@ use Rattle.std.specs.Prelude.{List, map}
 use Rattle.pmg_value.specs.Lists.{Each}
 use Rattle.pmg_jobinfo.specs.Jobs.{Jobs, AreJobs}
 use Rattle.pmg_node.specs.Servers.{Server}
-use Rattle.pmg_rules.specs.declared.sent.Sent.{Sent}
+use Rattle.pmg_node_model.specs.declared.sent.Sent.{Sent}
 use Rattle.pmg_world.specs.Telling.{happened_of}
-use Rattle.pmg_world.specs.declared.event.Told.{Told}
+use Rattle.pmg_world.specs.declared.event.LoggedEvent.{LoggedEvent}
 use Rattle.pmg_journal.specs.declared.journal.Journal.{Journal}
 use Rattle.pmg_journal.specs.declared.transcript.Transcript.{Transcript}
 use Rattle.pmg_audit.specs.Moves.{Move}
@@ -17,5 +17,5 @@ use Rattle.pmg_audit.specs.Runs.{AreEnds, AreJournals, AreMoves, ArePut, IsOneRu
 abbrev pub MovesAreOneRun : Type 0
 MovesAreOneRun =
     (jobs : Jobs) → AreJobs jobs → (js : List Journal) (ts : List Transcript) → AreJournals jobs js → (all : List (List Move)) → AreMoves jobs js all → ArePut jobs all
-    → Each (TellsOf jobs js) ts → (nodes : List Server) (frames : List Sent) (told : List Told) → AreTold all (map happened_of told) frames → AreEnds jobs all nodes
+    → Each (TellsOf jobs js) ts → (nodes : List Server) (frames : List Sent) (told : List LoggedEvent) → AreTold all (map happened_of told) frames → AreEnds jobs all nodes
     → IsOneRun js ts (record { jobs = jobs; nodes = nodes; sent = frames; told = told })

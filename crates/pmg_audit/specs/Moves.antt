@@ -6,10 +6,10 @@ use Rattle.pmg_scope.specs.Cached.{Cached, put_cause, unsealed_of, with_put}
 use Rattle.pmg_scope.specs.declared.scope.Scope.{Scope}
 use Rattle.pmg_jobinfo.specs.Jobs.{home_of}
 use Rattle.pmg_fence.specs.Entering.{same_proc}
-use Rattle.pmg_rules.specs.Acts.{Act, Reply, Request, free_cause}
-use Rattle.pmg_rules.specs.declared.sent.Sent.{Sent}
+use Rattle.pmg_node_model.specs.Acts.{Act, Reply, Request, free_cause}
+use Rattle.pmg_node_model.specs.declared.sent.Sent.{Sent}
 use Rattle.pmg_node.specs.Servers.{Server, after, reply_to, sent_by}
-use Rattle.pmg_runs.specs.Worlds.{is_own}
+use Rattle.pmg_group_model.specs.Worlds.{is_own}
 use Rattle.pmg_journal.specs.Replays.{Happening, happening}
 use Rattle.pmg_journal.specs.Transcripts.{commit_by}
 
@@ -110,6 +110,6 @@ Replays s [] = Unit {0}
 Replays s (m ∷ ms) = (reply_to s m.act ≡ m.reply) × (m.frames ≡ sent_by s m.act) × PutsAt s (caller_of m.act) m.puts × Replays (after s m.act) ms
 
 -- the server after them
-abbrev pub end_of : Server → List Move → Server
-end_of s [] = s
-end_of s (m ∷ ms) = end_of (after s m.act) ms
+abbrev pub server_after : Server → List Move → Server
+server_after s [] = s
+server_after s (m ∷ ms) = server_after (after s m.act) ms

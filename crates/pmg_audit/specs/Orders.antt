@@ -2,10 +2,10 @@
 use Rattle.std.specs.Prelude.{◌≡◌, ℕ, ◌==◌, List, [], ◌∷◌, ◌++◌, map, Option, Some, None, slice_get, slice_index, drop, if◌then◌else◌}
 use Rattle.pmg_value.specs.Lists.{In}
 use Rattle.pmg_value.specs.declared.process.Proc.{Proc}
-use Rattle.pmg_rules.specs.Acts.{Act, Reply}
-use Rattle.pmg_rules.specs.Sending.{sent}
-use Rattle.pmg_rules.specs.declared.sent.Sent.{Sent}
-use Rattle.pmg_runs.specs.Worlds.{Event, Happened, numbered}
+use Rattle.pmg_node_model.specs.Acts.{Act, Reply}
+use Rattle.pmg_node_model.specs.Sending.{sent}
+use Rattle.pmg_node_model.specs.declared.sent.Sent.{Sent}
+use Rattle.pmg_group_model.specs.Worlds.{Event, Happened, numbered}
 use Rattle.pmg_audit.specs.Moves.{Move, Put, caller_of}
 
 -- a frame is delivered after it was sent to the node
@@ -37,8 +37,8 @@ rests all done n = drop (slice_index done n) (moves_at all n)
 
 -- ---- what is told
 
-abbrev pub happened : Event → Reply → Happened
-happened event reply = record { event = event; reply = reply }
+abbrev pub event_happened : Event → Reply → Happened
+event_happened event reply = record { event = event; reply = reply }
 
 -- the act of the node, as an event of the world, where these frames were sent before
 abbrev pub IsEventOf : List Sent → ℕ → Act → Event → Type 0
@@ -47,22 +47,22 @@ IsEventOf frames n (Act.request r) e = e ≡ Event.request n r
 IsEventOf frames n (Act.deliver frame) e = (i : ℕ) × (e ≡ Event.deliver i) × (numbered frames i ≡ Some (sent n frame))
 
 abbrev pub put_told : Proc → Put → Happened
-put_told p x = happened (Event.put p x.scope x.key x.value) Reply.done
+put_told p x = event_happened (Event.put p x.scope x.key x.value) Reply.done
 
 abbrev pub puts_told : Option Proc → List Put → List Happened
 puts_told None puts = []
 puts_told (Some p) puts = map (put_told p) puts
 
 -- The moves that are left, in this order of their nodes, are told so, each after the puts before it; and these frames were sent then.
-unfoldable pub Tells : (ℕ → List Move) → List Sent → List ℕ → List Happened → List Sent → Type 0
-Tells js frames [] xs all = ((n : ℕ) → js n ≡ []) × (xs ≡ []) × (all ≡ frames)
-Tells js frames (n ∷ order) xs all =
+unfoldable pub TellsMoves : (ℕ → List Move) → List Sent → List ℕ → List Happened → List Sent → Type 0
+TellsMoves js frames [] xs all = ((n : ℕ) → js n ≡ []) × (xs ≡ []) × (all ≡ frames)
+TellsMoves js frames (n ∷ order) xs all =
     (m : Move) × (rest : List Move) × (e : Event) × (others : List Happened) × (js n ≡ m ∷ rest) × IsEventOf frames n m.act e
-    × (xs ≡ puts_told (caller_of m.act) m.puts ++ happened e m.reply ∷ others) × Tells (put_rest js n rest) (frames ++ m.frames) order others all
+    × (xs ≡ puts_told (caller_of m.act) m.puts ++ event_happened e m.reply ∷ others) × TellsMoves (put_rest js n rest) (frames ++ m.frames) order others all
 
 -- all moves are told so in some order, in which these frames are sent
 unfoldable pub AreTold : List (List Move) → List Happened → List Sent → Type 0
-AreTold all told frames = (order : List ℕ) × Tells (moves_at all) [] order told frames
+AreTold all told frames = (order : List ℕ) × TellsMoves (moves_at all) [] order told frames
 
 -- no order puts each delivered frame after its sending
 abbrev pub NoOrder : List (List Move) → Type 0

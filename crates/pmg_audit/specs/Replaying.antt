@@ -6,17 +6,17 @@ use Rattle.pmg_value.specs.declared.process.Proc.{Proc}
 use Rattle.pmg_value.specs.declared.refusal.Refusal.{Refusal}
 use Rattle.pmg_value.specs.declared.refusal.Refusal.TheVariants as refusals
 use Rattle.pmg_jobinfo.specs.Jobs.{Jobs, home_of}
-use Rattle.pmg_rules.specs.declared.sent.Sent.{Sent}
+use Rattle.pmg_node_model.specs.declared.sent.Sent.{Sent}
 use Rattle.pmg_node.specs.Opening.{new_server}
 use Rattle.pmg_node.specs.Servers.{Server, after, reply_to, sent_by}
 use Rattle.pmg_journal.specs.Replays.{Happening, IsReplay}
 use Rattle.pmg_journal.specs.declared.journal.Journal.{Journal}
 use Rattle.pmg_journal.specs.declared.transcript.Transcript.{Transcript}
 use Rattle.pmg_audit.specs.Agreeing.{AreAgreed, AreSaid, IsSaidBy, MayPut}
-use Rattle.pmg_audit.specs.Codes.{all_of, lane_of, put_in, rest_of}
-use Rattle.pmg_audit.specs.Dues.{Due, due, due_in}
+use Rattle.pmg_audit.specs.Codes.{all_of, lane_of, audited_put, rest_of}
+use Rattle.pmg_audit.specs.Dues.{Due, made_due, due_in}
 use Rattle.pmg_audit.specs.Faults.{AreStale}
-use Rattle.pmg_audit.specs.Moves.{Move, Put, PutsAt, Replays, caller_of, end_of, event_in, is_by}
+use Rattle.pmg_audit.specs.Moves.{Move, Put, PutsAt, Replays, caller_of, server_after, event_in, is_by}
 use Rattle.pmg_audit.specs.Orders.{moves_at}
 use Rattle.pmg_audit.specs.Runs.{AreEnds, AreMoves, ArePut, told_at}
 use Rattle.pmg_audit.specs.Taking.{SomeLeft, lasts_of}
@@ -43,7 +43,7 @@ move_by s puts e = record { puts = puts; act = e.act; reply = e.reply; frames = 
 -- these are the puts before the event, as its caller says, and what is said of it is told
 pub record TakesPuts (s : Server) (old : List Saying) (e : Happening) (puts : List Put) (new : List Saying) : Type 0 where
   pub at : PutsAt s (caller_of e.act) puts
-  pub rests : (p : Proc) → rest_of old p ≡ (if is_by p e.act then due puts e.act e.reply ∷ rest_of new p else rest_of new p)
+  pub rests : (p : Proc) → rest_of old p ≡ (if is_by p e.act then made_due puts e.act e.reply ∷ rest_of new p else rest_of new p)
   pub lasts : lasts_of new ≡ lasts_of old
 
 -- what the event adds to the replay
@@ -55,7 +55,7 @@ pub record IsAdded (r : Replay) (puts : List Put) (e : Happening) (r2 : Replay) 
 
 -- these events are replayed, from the server on, and what is said of them is told
 pub record IsReplayed (s : Server) (old : List Saying) (es : List Happening) (r : Replay) (new : List Saying) : Type 0 where
-  pub node : r.node ≡ end_of s (lane_of r.lane)
+  pub node : r.node ≡ server_after s (lane_of r.lane)
   pub events : map event_in (lane_of r.lane) ≡ es
   pub fresh : r.is_stale ≡ false → Replays s (lane_of r.lane)
   pub stale : r.is_stale ≡ true → IsReplay s es → ⊥
@@ -68,7 +68,7 @@ pub record IsReplayed (s : Server) (old : List Saying) (es : List Happening) (r 
 pub record AreReplayed (jobs : Jobs) (js : List Journal) (old : List Saying) (count : ℕ) (r : AllReplayed) (new : List Saying) : Type 0 where
   pub nodes : length r.nodes.items ≡ count
   pub lanes : length r.lanes.items ≡ count
-  pub ends : (n : ℕ) (d : Server) → n < count → slice_index_or r.nodes.items n d ≡ end_of (new_server jobs n) (moves_at (all_of r.lanes.items) n)
+  pub ends : (n : ℕ) (d : Server) → n < count → slice_index_or r.nodes.items n d ≡ server_after (new_server jobs n) (moves_at (all_of r.lanes.items) n)
   pub events : (n : ℕ) → n < count → map event_in (moves_at (all_of r.lanes.items) n) ≡ told_at js n
   pub fresh : r.is_stale ≡ false → (n : ℕ) → n < count → Replays (new_server jobs n) (moves_at (all_of r.lanes.items) n)
   pub stale : r.is_stale ≡ true → AreStale jobs js
@@ -121,7 +121,7 @@ SomeUnsaid jobs js ss = AreUnsaid jobs js (rest_of ss)
 
 -- the process may put at its home, of these nodes, what it put after its last event
 abbrev pub MayPutAt : Jobs → List Server → Saying → Type 0
-MayPutAt jobs nodes s = (d : Server) → MayPut (slice_index_or nodes (home_of jobs s.proc) d) s.proc (map put_in s.last_puts.items)
+MayPutAt jobs nodes s = (d : Server) → MayPut (slice_index_or nodes (home_of jobs s.proc) d) s.proc (map audited_put s.last_puts.items)
 
 -- so may each
 abbrev pub AllMayPut : Jobs → List Server → List Saying → Type 0
@@ -149,7 +149,7 @@ pub record IsBarred (jobs : Jobs) (js : List Journal) (first : List Saying) : Ty
   pub barred : AllMayPut jobs r.nodes.items ss → ⊥
 
 -- nothing is left that is said, once all that the journals tell is replayed, and what was put last may be
-pub record IsDone (jobs : Jobs) (js : List Journal) (first : List Saying) : Type 0 where
+pub record IsReplayDone (jobs : Jobs) (js : List Journal) (first : List Saying) : Type 0 where
   pub r : AllReplayed
   pub ss : List Saying
   pub done : AreReplayed jobs js first (length jobs.nodes) r ss
@@ -160,7 +160,7 @@ pub record IsDone (jobs : Jobs) (js : List Journal) (first : List Saying) : Type
 abbrev pub EndsFor : Jobs → List Journal → List Saying → Refusal → Type 0
 EndsFor jobs js first refusals.NoMemory = Unit {0}
 EndsFor jobs js first refusals.Collision = SomeUnsaid jobs js first ⊎ (IsLeft jobs js first ⊎ IsBarred jobs js first)
-EndsFor jobs js first refusals.Stale = IsDone jobs js first × AreStale jobs js
+EndsFor jobs js first refusals.Stale = IsReplayDone jobs js first × AreStale jobs js
 EndsFor jobs js first e = ⊥
 
 -- they are a whole

@@ -7,21 +7,21 @@ use Rattle.pmg_value.specs.declared.process.Proc.{Proc}
 use Rattle.pmg_scope.specs.Cached.{no_puts, unsealed_of}
 use Rattle.pmg_jobinfo.specs.Jobs.{Jobs, home_of}
 use Rattle.pmg_fence.specs.Rules.{Scripts}
-use Rattle.pmg_rules.specs.Acts.{Act, Reply}
-use Rattle.pmg_rules.specs.Fitting.{is_refusal, unless_refused}
-use Rattle.pmg_rules.specs.declared.sent.Sent.{Sent}
+use Rattle.pmg_node_model.specs.Acts.{Act, Reply}
+use Rattle.pmg_node_model.specs.Fitting.{is_refusal, unless_refused}
+use Rattle.pmg_node_model.specs.declared.sent.Sent.{Sent}
 use Rattle.pmg_node.specs.Opening.{new_server}
 use Rattle.pmg_node.specs.Servers.{Server}
-use Rattle.pmg_runs.specs.Worlds.{Event, Happened, cache_of, numbered, said_in}
-use Rattle.pmg_world.specs.Accounts.{Account, IsKept, IsRun}
+use Rattle.pmg_group_model.specs.Worlds.{Event, Happened, cache_of, numbered, said_in}
+use Rattle.pmg_world.specs.Accounts.{Account, IsAccountLawful, IsRun}
 use Rattle.pmg_world.specs.Telling.{happened_of}
-use Rattle.pmg_world.specs.declared.event.Told.{Told}
-use Rattle.pmg_journal.specs.Journals.{told_in}
+use Rattle.pmg_world.specs.declared.event.LoggedEvent.{LoggedEvent}
+use Rattle.pmg_journal.specs.Journals.{happened_in}
 use Rattle.pmg_journal.specs.Replays.{Happening, happening}
 use Rattle.pmg_journal.specs.declared.journal.Journal.{Journal}
 use Rattle.pmg_journal.specs.declared.transcript.Transcript.{Transcript}
-use Rattle.pmg_audit.specs.Dues.{due_event, said_by}
-use Rattle.pmg_audit.specs.Moves.{Move, PutsFit, Replays, end_of, event_in, is_by}
+use Rattle.pmg_audit.specs.Dues.{due_event, dues_of}
+use Rattle.pmg_audit.specs.Moves.{Move, PutsFit, Replays, server_after, event_in, is_by}
 use Rattle.pmg_audit.specs.Orders.{moves_at}
 
 -- ---- what a run tells of its nodes
@@ -48,7 +48,7 @@ events_at jobs scripts frames n (x ∷ xs) =
 -- what the journal of the node tells
 abbrev pub told_at : List Journal → ℕ → List Happening
 told_at [] n = []
-told_at (j ∷ js) n = if j.node == n then told_in j else told_at js n
+told_at (j ∷ js) n = if j.node == n then happened_in j else told_at js n
 
 -- one of the journals is the node's
 abbrev pub HasJournal : List Journal → ℕ → Type 0
@@ -68,7 +68,7 @@ made_by jobs js p = filter (λ e. is_by p e.act) (told_at js (home_of jobs p))
 
 -- the transcript's events are those that its process made at its home
 abbrev pub TellsOf : Jobs → List Journal → Transcript → Type 0
-TellsOf jobs js t = map due_event (said_by t) ≡ made_by jobs js t.proc
+TellsOf jobs js t = map due_event (dues_of t) ≡ made_by jobs js t.proc
 
 -- ---- moves
 
@@ -85,11 +85,11 @@ ArePut jobs all = (p : Proc) → PutsFit p no_puts (moves_at all (home_of jobs p
 -- these are the nodes after all of them
 pub record AreEnds (jobs : Jobs) (all : List (List Move)) (nodes : List Server) : Type 0 where
   pub count : length nodes ≡ length jobs.nodes
-  pub each : (n : ℕ) (d : Server) → n < length nodes → slice_index_or nodes n d ≡ end_of (new_server jobs n) (moves_at all n)
+  pub each : (n : ℕ) (d : Server) → n < length nodes → slice_index_or nodes n d ≡ server_after (new_server jobs n) (moves_at all n)
 
 -- ---- one run
 
-abbrev pub account_by : Jobs → List Server → List Sent → List Told → Account
+abbrev pub account_by : Jobs → List Server → List Sent → List LoggedEvent → Account
 account_by jobs nodes frames told = record { jobs = jobs; nodes = nodes; sent = frames; told = told }
 
 -- The account is a run of the model, of which the laws of every run hold. What it tells of each node is the node's journal, each event
@@ -97,7 +97,7 @@ account_by jobs nodes frames told = record { jobs = jobs; nodes = nodes; sent = 
 -- transcript.
 pub record IsOneRun (js : List Journal) (ts : List Transcript) (a : Account) : Type 0 where
   pub run : IsRun a
-  pub lawful : IsKept a
+  pub lawful : IsAccountLawful a
   pub journals : AreJournals a.jobs js
   pub events : (n : ℕ) → n < length a.jobs.nodes → events_at a.jobs (λ _. []) a.sent n (map happened_of a.told) ≡ told_at js n
   pub calls : Each (TellsOf a.jobs js) ts

@@ -9,7 +9,7 @@ use Rattle.pmg_value.specs.declared.process.Proc.{Proc}
 use Rattle.pmg_value.specs.declared.refusal.Refusal.{Refusal}
 use Rattle.pmg_value.specs.declared.refusal.Refusal.TheVariants as refusals
 use Rattle.pmg_get.specs.contracts.view.ModePartialEq.TheImpl as mode_tests
-use Rattle.pmg_rules.specs.Acts.{Reply, Request}
+use Rattle.pmg_node_model.specs.Acts.{Reply, Request}
 
 -- the flags are one
 abbrev pub is_same_flag : Bool → Bool → Bool

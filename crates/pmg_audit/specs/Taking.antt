@@ -7,16 +7,16 @@ use Rattle.pmg_value.specs.Process.{proc_cmp}
 use Rattle.pmg_value.specs.declared.process.Proc.{Proc}
 use Rattle.pmg_fence.specs.Entering.{same_proc}
 use Rattle.pmg_journal.specs.declared.transcript.Transcript.{Transcript}
-use Rattle.pmg_audit.specs.Codes.{put_in, rest_of, said_in}
-use Rattle.pmg_audit.specs.Dues.{Due, last_puts, said_by}
+use Rattle.pmg_audit.specs.Codes.{audited_put, rest_of, audited_due}
+use Rattle.pmg_audit.specs.Dues.{Due, last_puts, dues_of}
 use Rattle.pmg_audit.specs.Moves.{Put}
 use Rattle.pmg_audit.specs.declared.moves.Saying.{Saying}
 
 -- the saying is what the transcript says
 pub record IsSayingOf (s : Saying) (t : Transcript) : Type 0 where
   pub proc : s.proc ≡ t.proc
-  pub dues : map said_in s.dues.items ≡ said_by t
-  pub last : map put_in s.last_puts.items ≡ last_puts t
+  pub dues : map audited_due s.dues.items ≡ dues_of t
+  pub last : map audited_put s.last_puts.items ≡ last_puts t
 
 -- each says what a transcript says
 unfoldable pub AreSayings : List Saying → List Transcript → Type 0
@@ -25,12 +25,12 @@ AreSayings (s ∷ ss) (t ∷ ts) = IsSayingOf s t × AreSayings ss ts
 AreSayings _ _ = ⊥
 
 -- of which processes they are
-abbrev pub procs_of : List Saying → List Proc
-procs_of ss = map (λ (s : Saying). s.proc) ss
+abbrev pub sayers : List Saying → List Proc
+sayers ss = map (λ (s : Saying). s.proc) ss
 
 -- its process, and what that put after its last event
 abbrev pub last_of : Saying → Proc × List Put
-last_of s = (s.proc, map put_in s.last_puts.items)
+last_of s = (s.proc, map audited_put s.last_puts.items)
 
 -- so for each saying
 abbrev pub lasts_of : List Saying → List (Proc × List Put)
@@ -48,11 +48,11 @@ StandsAt (q ∷ ps) p (suc k) = (same_proc p q ≡ false) × StandsAt ps p k
 
 -- none is of the process
 abbrev pub NoneOf : List Saying → Proc → Type 0
-NoneOf ss p = IsAbsent (procs_of ss) p
+NoneOf ss p = IsAbsent (sayers ss) p
 
 -- the first of the process stands there
 abbrev pub IsPlace : List Saying → Proc → ℕ → Type 0
-IsPlace ss p k = StandsAt (procs_of ss) p k
+IsPlace ss p k = StandsAt (sayers ss) p k
 
 -- the place that is kept of the process
 abbrev pub place_at : List (Proc × ℕ) → Proc → Option ℕ
@@ -64,7 +64,7 @@ pub record ArePlaces (ps : List Proc) (rows : List (Proc × ℕ)) : Type 0 where
   pub none : (p : Proc) → place_at rows p ≡ None → IsAbsent ps p
 
 -- the next event that the process says is this one, and is told
-pub record Takes (old : List Saying) (p : Proc) (d : Due) (new : List Saying) : Type 0 where
+pub record TakesSaying (old : List Saying) (p : Proc) (d : Due) (new : List Saying) : Type 0 where
   pub here : rest_of old p ≡ d ∷ rest_of new p
   pub others : (q : Proc) → same_proc q p ≡ false → rest_of new q ≡ rest_of old q
   pub lasts : lasts_of new ≡ lasts_of old

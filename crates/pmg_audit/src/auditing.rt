@@ -6,7 +6,7 @@ ghost use Rattle.pmg_journal.specs.declared.journal.Journal.{Journal as JournalO
 ghost use Rattle.pmg_audit.specs.Faults.{IsFault, IsReplayFault};
 ghost use Rattle.pmg_audit.specs.Replaying.{AreWhole, EndsFor, EndsWell};
 ghost use Rattle.pmg_audit.specs.Runs.{AreJournals, HasJournal, IsOneRun, account_by};
-ghost use Rattle.pmg_world.specs.Accounts.{IsKept, IsRun};
+ghost use Rattle.pmg_world.specs.Accounts.{IsAccountLawful, IsRun};
 
 use crate::ordering::{Order, make_order};
 use crate::replaying::{AllReplayed, replay_all};
@@ -135,7 +135,7 @@ fn replays_of(
 /// The run of these replays in that order.
 fn run_with(registry: Registry, all: AllReplayed, order: Order) -> Run
     requires run { IsRun (account_by registry all.nodes.items order.sent.items order.told.items) }
-    requires lawful { IsKept (account_by registry all.nodes.items order.sent.items order.told.items) }
+    requires lawful { IsAccountLawful (account_by registry all.nodes.items order.sent.items order.told.items) }
     ensures { result ≡ account_by registry all.nodes.items order.sent.items order.told.items }
 {
     let (sent, told) = order.into_parts();

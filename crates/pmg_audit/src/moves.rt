@@ -2,7 +2,7 @@
 ghost use Rattle.std.specs.Prelude.{◌≡◌};
 
 use pmg_node::{Act, Reply};
-use pmg_rules::Sent;
+use pmg_node_model::Sent;
 use pmg_scope::Scope;
 use pmg_value::{Key, Proc, Refusal, Value};
 use std::collections::VecDeque;

@@ -5,22 +5,22 @@ ghost use Rattle.pmg_value.specs.Lists.{In};
 ghost use Rattle.pmg_value.specs.declared.refusal.Refusal.TheVariants as refusals;
 ghost use Rattle.pmg_node.specs.Acting.{act_of, reply_as};
 ghost use Rattle.pmg_node.specs.Servers.{reply_in};
-ghost use Rattle.pmg_rules.specs.declared.sent.Sent.{Sent as SentFrame};
+ghost use Rattle.pmg_node_model.specs.declared.sent.Sent.{Sent as SentFrame};
 ghost use Rattle.pmg_world.specs.Telling.{event_of, happened_of};
-ghost use Rattle.pmg_audit.specs.Codes.{all_of, put_in};
+ghost use Rattle.pmg_audit.specs.Codes.{all_of, audited_put};
 ghost use Rattle.pmg_audit.specs.Moves.{caller_of};
-ghost use Rattle.pmg_audit.specs.Orders.{AreTold, IsEventOf, MayGo, NoOrder, happened, put_told, puts_told, rests};
+ghost use Rattle.pmg_audit.specs.Orders.{AreTold, IsEventOf, MayGo, NoOrder, event_happened, put_told, puts_told, rests};
 ghost use Rattle.pmg_audit.specs.Going.{IsNext, IsReady, SomeOpen};
 ghost use Rattle.pmg_audit.specs.Sends.{AreNumbered};
-ghost use Rattle.pmg_audit.specs.Telling.{GoesOn, IsMaking};
+ghost use Rattle.pmg_audit.specs.Telling.{OrderGoesOn, IsMaking};
 
 use crate::moves::{Lane, Move, Put};
 use crate::sends::Sends;
 use pmg_journal::copy_of_answer;
 use pmg_node::{Act, Reply, Request};
-use pmg_rules::Sent;
+use pmg_node_model::Sent;
 use pmg_value::{Proc, Refusal};
-use pmg_world::{Event, Told};
+use pmg_world::{Event, LoggedEvent};
 use std::alloc::{AllocError, Global};
 use std::collections::VecDeque;
 
@@ -29,7 +29,7 @@ pub(crate) struct Order {
     /// The frames, each with the node that it is sent to.
     pub(crate) sent: Vec<Sent>,
     /// The events, each with its answer.
-    pub(crate) told: Vec<Told>,
+    pub(crate) told: Vec<LoggedEvent>,
 }
 
 impl Drop for Order {
@@ -40,7 +40,7 @@ impl Drop for Order {
 
 impl Order {
     /// The frames and the events.
-    pub(crate) fn into_parts(self) -> (Vec<Sent>, Vec<Told>)
+    pub(crate) fn into_parts(self) -> (Vec<Sent>, Vec<LoggedEvent>)
         ensures sent { result.0 ≡ self.sent }
         ensures told { result.1 ≡ self.told }
     {
@@ -54,7 +54,7 @@ struct Making {
     /// How many events of each node are told.
     done: Vec<usize>,
     /// What is told of them.
-    told: Vec<Told>,
+    told: Vec<LoggedEvent>,
     /// What they sent.
     sends: Sends,
     /// The nodes to be looked at: no other has an event that may come next.
@@ -134,14 +134,14 @@ pub(crate) fn caller_of(act: &Act) -> Option<&Proc>
 }
 
 /// The puts of the process are told, each done.
-fn tell_puts(told: &mut Vec<Told>, proc: &Proc, puts: &[Put]) -> Result<(), AllocError>
+fn tell_puts(told: &mut Vec<LoggedEvent>, proc: &Proc, puts: &[Put]) -> Result<(), AllocError>
     ensures { OnOk result (map happened_of told.new.items
-        ≡ map happened_of told.old.items ++ map (put_told proc.now) (map put_in puts.now)) }
+        ≡ map happened_of told.old.items ++ map (put_told proc.now) (map audited_put puts.now)) }
 {
     for put in puts {
         let key = put.key.copy()?;
         let event = Event::Put(proc.copy()?, put.scope, key, put.value.copy()?);
-        told.push(Told {
+        told.push(LoggedEvent {
             event,
             answer: Ok(Reply::Done),
         })?;
@@ -197,8 +197,8 @@ impl Making {
         requires { AreNumbered self.old.sends }
         ensures told { OnOk result (map happened_of self.new.told.items
             ≡ map happened_of self.old.told.items
-            ++ (puts_told (caller_of (act_of next.now.act)) (map put_in next.now.puts.items)
-            ++ happened (event_of event) (reply_in reply_as next.now.answer) ∷ [])) }
+            ++ (puts_told (caller_of (act_of next.now.act)) (map audited_put next.now.puts.items)
+            ++ event_happened (event_of event) (reply_in reply_as next.now.answer) ∷ [])) }
         ensures done { self.new.done ≡ self.old.done }
         ensures sent { OnOk result (self.new.sends.frames.items
             ≡ self.old.sends.frames.items ++ next.now.frames.items) }
@@ -210,7 +210,7 @@ impl Making {
             tell_puts(&mut self.told, proc, &next.puts)?;
         }
         let answer = copy_of_answer(&next.answer)?;
-        self.told.push(Told { event, answer })?;
+        self.told.push(LoggedEvent { event, answer })?;
         self.send_all(&next.frames)
     }
 
@@ -219,7 +219,7 @@ impl Making {
         requires making { IsMaking (all_of lanes.now) self.old }
         requires awake { In node self.old.awake.items }
         requires next { IsNext (all_of lanes.now) self.old.done.items self.old.sends.frames.items node (event_of event) }
-        ensures { OnOk result (GoesOn (all_of lanes.now) self.old self.new) }
+        ensures { OnOk result (OrderGoesOn (all_of lanes.now) self.old self.new) }
     {
         let place = self.done[node];
         self.tell(&lanes[node].moves[place], event)?;
@@ -231,7 +231,7 @@ impl Making {
     fn look(&mut self, lanes: &[Lane], node: usize) -> Result<(), AllocError>
         requires making { IsMaking (all_of lanes.now) self.old }
         requires first { slice_get self.old.awake.items 0 ≡ Some node }
-        ensures { OnOk result (GoesOn (all_of lanes.now) self.old self.new) }
+        ensures { OnOk result (OrderGoesOn (all_of lanes.now) self.old self.new) }
     {
         match next_at(lanes, &self.done, &self.sends, node)? {
             Some(event) => self.go_on(lanes, node, event)?,

@@ -6,7 +6,7 @@ ghost use Rattle.pmg_node.specs.Opening.{new_server};
 ghost use Rattle.pmg_node.specs.Servers.{after, reply_in, reply_to, sent_by};
 ghost use Rattle.pmg_journal.specs.Journals.{happening_of};
 ghost use Rattle.pmg_audit.specs.Agreeing.{IsSaidBy, MayPut};
-ghost use Rattle.pmg_audit.specs.Codes.{lane_of, move_in, put_in, rest_of, said_in};
+ghost use Rattle.pmg_audit.specs.Codes.{lane_of, move_in, audited_put, rest_of, audited_due};
 ghost use Rattle.pmg_audit.specs.Dues.{due_event};
 ghost use Rattle.pmg_audit.specs.Moves.{caller_of};
 ghost use Rattle.pmg_audit.specs.Replaying.{AddsNode, AllMayPut, AllUnsaid, AreReplayed, Continues, HaveHappened, IsAdded, IsUnsaid, RefusesFor, SomeUnsaid, TakesPuts, sent_more, unsent_move};
@@ -19,7 +19,7 @@ use crate::sayings::Sayings;
 use pmg_jobinfo::Registry;
 use pmg_journal::{Event, Journal, copy_of_act, copy_of_answer};
 use pmg_node::{Act, Node, Reply};
-use pmg_rules::Sent;
+use pmg_node_model::Sent;
 use pmg_value::{NodeId, Proc, Refusal};
 use std::alloc::{AllocError, Global};
 use std::collections::VecDeque;
@@ -43,14 +43,14 @@ impl Drop for Replay {
 
 /// Whether the event that is said is this one.
 fn is_said(due: &Due, event: &Event) -> bool
-    ensures { IsTrue result ↔ (due_event (said_in due.now) ≡ happening_of event.now) }
+    ensures { IsTrue result ↔ (due_event (audited_due due.now) ≡ happening_of event.now) }
 {
     is_same_act(&due.act, &event.act) && is_same_answer(&due.answer, &event.answer)
 }
 
 /// Whether the process may have put that: it put nothing, or it is in no call, and has not ended.
 fn may_put(node: &Node, proc: &Proc, puts: &[Put]) -> bool
-    ensures { IsTrue result ↔ MayPut node.now proc.now (map put_in puts.now) }
+    ensures { IsTrue result ↔ MayPut node.now proc.now (map audited_put puts.now) }
 {
     puts.is_empty() || node.check_free(proc).is_ok()
 }
@@ -58,7 +58,7 @@ fn may_put(node: &Node, proc: &Proc, puts: &[Put]) -> bool
 /// The puts of the process before the event, if it says that it made the event, and is at home at the node.
 fn puts_of(sayings: &mut Sayings, node: &Node, proc: &Proc, event: &Event) -> Option<Vec<Put>>
     requires { caller_of (act_of event.now.act) ≡ Some proc.now }
-    ensures some { IfSome result (λ puts. TakesPuts node.now sayings.old (happening_of event.now) (map put_in puts.items) sayings.new) }
+    ensures some { IfSome result (λ puts. TakesPuts node.now sayings.old (happening_of event.now) (map audited_put puts.items) sayings.new) }
     ensures none { IsNone result → IsSaidBy node.now (rest_of sayings.old) (caller_of (act_of event.now.act)) (happening_of event.now) → ⊥ }
 {
     if !node.registry().is_home(node.id(), proc) {
@@ -78,7 +78,7 @@ fn puts_of(sayings: &mut Sayings, node: &Node, proc: &Proc, event: &Event) -> Op
 
 /// The puts before the event: those of its caller.
 fn puts_before(alloc: Global, sayings: &mut Sayings, node: &Node, event: &Event) -> Option<Vec<Put>>
-    ensures some { IfSome result (λ puts. TakesPuts node.now sayings.old (happening_of event.now) (map put_in puts.items) sayings.new) }
+    ensures some { IfSome result (λ puts. TakesPuts node.now sayings.old (happening_of event.now) (map audited_put puts.items) sayings.new) }
     ensures none { IsNone result → IsSaidBy node.now (rest_of sayings.old) (caller_of (act_of event.now.act)) (happening_of event.now) → ⊥ }
 {
     match caller_of(&event.act) {
@@ -106,7 +106,7 @@ fn answer_of(
 
 /// The event after these puts, before it is replayed.
 fn move_of(alloc: Global, puts: Vec<Put>, event: &Event) -> Result<Move, AllocError>
-    ensures { IfOk result (λ m. move_in m ≡ unsent_move (map put_in puts.items) (happening_of event.now)) }
+    ensures { IfOk result (λ m. move_in m ≡ unsent_move (map audited_put puts.items) (happening_of event.now)) }
 {
     let act = copy_of_act(&event.act)?;
     let answer = copy_of_answer(&event.answer)?;
@@ -131,7 +131,7 @@ fn happens_so(node: &mut Node, next: &mut Move) -> Result<bool, AllocError>
 impl Replay {
     /// The event happens again at the node, after these puts.
     fn happen(&mut self, alloc: Global, puts: Vec<Put>, event: &Event) -> Result<(), AllocError>
-        ensures { OnOk result (IsAdded self.old (map put_in puts.items) (happening_of event.now) self.new) }
+        ensures { OnOk result (IsAdded self.old (map audited_put puts.items) (happening_of event.now) self.new) }
     {
         let mut next = move_of(alloc, puts, event)?;
         if !happens_so(&mut self.node, &mut next)? {

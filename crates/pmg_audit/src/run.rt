@@ -2,15 +2,15 @@
 ghost use Rattle.std.specs.Prelude.{◌≡◌, slice_get};
 ghost use Rattle.std.specs.Option.{option_map};
 ghost use Rattle.pmg_store.specs.Outcomes.{Dumps};
-ghost use Rattle.pmg_world.specs.Accounts.{IsKept, IsRun};
+ghost use Rattle.pmg_world.specs.Accounts.{IsAccountLawful, IsRun};
 ghost use Rattle.pmg_audit.specs.RunDumps.{dump_due};
 
 use pmg_jobinfo::Registry;
 use pmg_node::Node;
-use pmg_rules::Sent;
+use pmg_node_model::Sent;
 use pmg_store::Failure;
 use pmg_value::{NodeId, Refusal, WatchedWriter};
-use pmg_world::Told;
+use pmg_world::LoggedEvent;
 use std::io::Write;
 use std::marker::Model;
 
@@ -20,7 +20,7 @@ pub struct Run {
     pub(crate) registry: Registry,
     pub(crate) nodes: Vec<Node>,
     pub(crate) sent: Vec<Sent>,
-    pub(crate) told: Vec<Told>,
+    pub(crate) told: Vec<LoggedEvent>,
 }
 
 impl Drop for Run {
@@ -35,9 +35,9 @@ impl Drop for Run {
 }
 
 impl Model for Run {
-    ghost use Rattle.pmg_rules.specs.contracts.sent.Sent.{the_row as sent_row};
-    ghost use Rattle.pmg_world.specs.Accounts.{Account, IsKept, IsRun, coded_account};
-    ghost use Rattle.pmg_world.specs.contracts.event.Told.{the_row as told_row};
+    ghost use Rattle.pmg_node_model.specs.contracts.sent.Sent.{the_row as sent_row};
+    ghost use Rattle.pmg_world.specs.Accounts.{Account, IsAccountLawful, IsRun, coded_account};
+    ghost use Rattle.pmg_world.specs.contracts.event.LoggedEvent.{the_row as told_row};
     ghost use Rattle.pmg_audit.specs.Runs.{account_by};
 
     ghost Value = { Account };
@@ -47,7 +47,7 @@ impl Model for Run {
     ghost view = { λ a. account_by a.registry a.nodes.items a.sent.items a.told.items };
 
     ghost invariant = { λ a. IsRun (account_by a.registry a.nodes.items a.sent.items a.told.items)
-        × IsKept (account_by a.registry a.nodes.items a.sent.items a.told.items) };
+        × IsAccountLawful (account_by a.registry a.nodes.items a.sent.items a.told.items) };
 }
 
 impl Run {
@@ -59,10 +59,10 @@ impl Run {
     }
 
     /// All that happened, each event with its answer, in one order. It is a run of the model, and the laws of every run hold of it.
-    pub fn events(&self) -> &[Told]
+    pub fn events(&self) -> &[LoggedEvent]
         ensures told { result.now ≡ self.now.told }
         ensures run { IsRun self.now }
-        ensures lawful { IsKept self.now }
+        ensures lawful { IsAccountLawful self.now }
     {
         &self.told
     }

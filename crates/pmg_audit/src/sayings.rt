@@ -5,17 +5,17 @@ ghost use Rattle.pmg_value.specs.Spelling.{spelling};
 ghost use Rattle.pmg_value.specs.declared.refusal.Refusal.TheVariants as refusals;
 ghost use Rattle.pmg_value.specs.declared.process.Proc.{Proc as ProcOf};
 ghost use Rattle.pmg_scope.specs.Cached.{no_puts};
-ghost use Rattle.pmg_rules.specs.Acts.{Act as ModelAct, Reply as ModelReply};
+ghost use Rattle.pmg_node_model.specs.Acts.{Act as ModelAct, Reply as ModelReply};
 ghost use Rattle.pmg_node.specs.Acting.{act_of, reply_as, request_of};
 ghost use Rattle.pmg_node.specs.Servers.{reply_in};
 ghost use Rattle.pmg_journal.specs.Transcripts.{Calling, calling_of, noted, noted_in, noted_of};
 ghost use Rattle.pmg_journal.specs.declared.transcript.Transcript.{Transcript as TranscriptOf};
-ghost use Rattle.pmg_audit.specs.Agreeing.{AreApart};
-ghost use Rattle.pmg_audit.specs.Codes.{put_in, rest_of, said_in};
-ghost use Rattle.pmg_audit.specs.Dues.{due, dues, is_passed, puts_after, takes, takes_all};
+ghost use Rattle.pmg_audit.specs.Agreeing.{AreOfOtherProcs};
+ghost use Rattle.pmg_audit.specs.Codes.{audited_put, rest_of, audited_due};
+ghost use Rattle.pmg_audit.specs.Dues.{made_due, dues, is_passed, puts_after, takes_put, takes_all};
 ghost use Rattle.pmg_audit.specs.Moves.{is_own_ask};
-ghost use Rattle.pmg_audit.specs.Reading.{Reads};
-ghost use Rattle.pmg_audit.specs.Taking.{ArePlaces, AreSayings, NoneOf, IsSayingOf, SomeLeft, Takes, procs_of};
+ghost use Rattle.pmg_audit.specs.Reading.{ReadsCall};
+ghost use Rattle.pmg_audit.specs.Taking.{ArePlaces, AreSayings, NoneOf, IsSayingOf, SomeLeft, TakesSaying, sayers};
 ghost use Rattle.pmg_audit.specs.declared.moves.Saying.{Saying as SayingOf};
 
 use crate::moves::{Due, Put, Saying};
@@ -71,9 +71,9 @@ fn is_own_ask(request: &Request) -> bool
 impl Reading {
     /// A put that is done, if the cache takes it.
     fn put(&mut self, scope: Scope, key: &Key, value: &Value) -> Result<bool, AllocError>
-        ensures takes { IfOk result (λ t. t ≡ takes self.old.cache (Calling.put scope key.now (spelling value.now)) ModelReply.done) }
+        ensures takes { IfOk result (λ t. t ≡ takes_put self.old.cache (Calling.put scope key.now (spelling value.now)) ModelReply.done) }
         ensures reads { IfOk result (λ t. t ≡ true
-            → (p : ProcOf) → Reads p self.old (noted (Calling.put scope key.now (spelling value.now)) ModelReply.done) self.new) }
+            → (p : ProcOf) → ReadsCall p self.old (noted (Calling.put scope key.now (spelling value.now)) ModelReply.done) self.new) }
     {
         self.puts.push(Put {
             scope,
@@ -91,8 +91,8 @@ impl Reading {
     fn tell(&mut self, act: Act, answer: &Result<Reply, Refusal>) -> Result<(), AllocError>
         ensures cache { self.new.cache ≡ self.old.cache }
         ensures puts { OnOk result (self.new.puts.items ≡ []) }
-        ensures dues { OnOk result (map said_in self.new.dues.items
-            ≡ map said_in self.old.dues.items ++ due (map put_in self.old.puts.items) (act_of act) (reply_in reply_as answer.now) ∷ []) }
+        ensures dues { OnOk result (map audited_due self.new.dues.items
+            ≡ map audited_due self.old.dues.items ++ made_due (map audited_put self.old.puts.items) (act_of act) (reply_in reply_as answer.now) ∷ []) }
     {
         let answer = copy_of_answer(answer)?;
         self.dues.reserve(1)?;
@@ -103,7 +103,7 @@ impl Reading {
 
     /// A commit is an event, and seals what the cache has.
     fn commit(&mut self, proc: &Proc, answer: &Result<Reply, Refusal>) -> Result<(), AllocError>
-        ensures { OnOk result (Reads proc.now self.old (noted Calling.commit (reply_in reply_as answer.now)) self.new) }
+        ensures { OnOk result (ReadsCall proc.now self.old (noted Calling.commit (reply_in reply_as answer.now)) self.new) }
     {
         if is_passed(answer) {
             return Ok(());
@@ -123,7 +123,7 @@ impl Reading {
         answer: &Result<Reply, Refusal>,
     ) -> Result<(), AllocError>
         ensures { OnOk result ((p : ProcOf)
-            → Reads p self.old (noted (Calling.request (request_of request.now)) (reply_in reply_as answer.now)) self.new) }
+            → ReadsCall p self.old (noted (Calling.request (request_of request.now)) (reply_in reply_as answer.now)) self.new) }
     {
         if is_passed(answer) || is_own_ask(request) {
             return Ok(());
@@ -133,8 +133,8 @@ impl Reading {
 
     /// The next call of the process; whether its client's cache takes what it is said to have put.
     fn read(&mut self, proc: &Proc, called: &Called) -> Result<bool, AllocError>
-        ensures takes { IfOk result (λ t. t ≡ takes self.old.cache (calling_of called.now.call) (reply_in reply_as called.now.answer)) }
-        ensures reads { IfOk result (λ t. t ≡ true → Reads proc.now self.old (noted_of called.now) self.new) }
+        ensures takes { IfOk result (λ t. t ≡ takes_put self.old.cache (calling_of called.now.call) (reply_in reply_as called.now.answer)) }
+        ensures reads { IfOk result (λ t. t ≡ true → ReadsCall proc.now self.old (noted_of called.now) self.new) }
     {
         match &called.call {
             Call::Put(scope, key, value) => match &called.answer {
@@ -160,10 +160,10 @@ impl Reading {
     /// All calls of the process; whether its client's cache takes what it is said to have put.
     fn read_all(&mut self, proc: &Proc, calls: &[Called]) -> Result<bool, AllocError>
         ensures taken { IfOk result (λ t. t ≡ takes_all self.old.cache (map noted_of calls.now)) }
-        ensures said { IfOk result (λ t. t ≡ true → map said_in self.new.dues.items
-            ≡ map said_in self.old.dues.items ++ dues proc.now self.old.cache (map put_in self.old.puts.items) (map noted_of calls.now)) }
-        ensures left { IfOk result (λ t. t ≡ true → map put_in self.new.puts.items
-            ≡ puts_after proc.now self.old.cache (map put_in self.old.puts.items) (map noted_of calls.now)) }
+        ensures said { IfOk result (λ t. t ≡ true → map audited_due self.new.dues.items
+            ≡ map audited_due self.old.dues.items ++ dues proc.now self.old.cache (map audited_put self.old.puts.items) (map noted_of calls.now)) }
+        ensures left { IfOk result (λ t. t ≡ true → map audited_put self.new.puts.items
+            ≡ puts_after proc.now self.old.cache (map audited_put self.old.puts.items) (map noted_of calls.now)) }
     {
         for called in calls {
             if !self.read(proc, called)? {
@@ -230,7 +230,7 @@ impl Drop for Sayings {
 impl Model for Sayings {
     ghost use Rattle.std.specs.Prelude.{List};
     ghost use Rattle.std.specs.Coded.{coded_list};
-    ghost use Rattle.pmg_audit.specs.Taking.{ArePlaces, procs_of};
+    ghost use Rattle.pmg_audit.specs.Taking.{ArePlaces, sayers};
     ghost use Rattle.pmg_audit.specs.contracts.moves.Saying.{the_row as saying_row};
     ghost use Rattle.pmg_audit.specs.declared.moves.Saying.{Saying};
 
@@ -240,7 +240,7 @@ impl Model for Sayings {
 
     ghost view = { λ a. a.items.items };
 
-    ghost invariant = { λ a. ArePlaces (procs_of a.items.items) a.places.entries };
+    ghost invariant = { λ a. ArePlaces (sayers a.items.items) a.places.entries };
 }
 
 /// The saying after the others, and its place.
@@ -249,10 +249,10 @@ fn add(
     places: &mut BTreeMap<Proc, usize>,
     saying: Saying,
 ) -> Result<(), AllocError>
-    requires places { ArePlaces (procs_of items.old.items) places.old.entries }
+    requires places { ArePlaces (sayers items.old.items) places.old.entries }
     requires none { NoneOf items.old.items saying.proc }
     ensures items { OnOk result (items.new.items ≡ items.old.items ++ saying ∷ []) }
-    ensures places { OnOk result (ArePlaces (procs_of items.new.items) places.new.entries) }
+    ensures places { OnOk result (ArePlaces (sayers items.new.items) places.new.entries) }
 {
     places.insert(saying.proc.copy()?, items.len())?;
     items.push(saying)?;
@@ -262,10 +262,10 @@ fn add(
 /// What each transcript says. Refused as Collision where two are of one process, or one is of no client.
 pub(crate) fn sayings_of(alloc: Global, transcripts: &[Transcript]) -> Result<Sayings, Refusal>
     ensures said { IfOk result (λ sayings. AreSayings sayings transcripts.now) }
-    ensures apart { IfOk result (λ sayings. AreApart transcripts.now) }
+    ensures apart { IfOk result (λ sayings. AreOfOtherProcs transcripts.now) }
     ensures taken { IfOk result (λ sayings. Each (λ (t : TranscriptOf). takes_all no_puts (noted_in t) ≡ true) transcripts.now) }
     ensures refused { IfErr result (λ e. e ≢ refusals.NoMemory → (e ≡ refusals.Collision)
-        × (AreApart transcripts.now → Each (λ (t : TranscriptOf). takes_all no_puts (noted_in t) ≡ true) transcripts.now → ⊥)) }
+        × (AreOfOtherProcs transcripts.now → Each (λ (t : TranscriptOf). takes_all no_puts (noted_in t) ≡ true) transcripts.now → ⊥)) }
 {
     let mut items = Vec::new(alloc);
     let mut places = BTreeMap::new(alloc);
@@ -284,7 +284,7 @@ pub(crate) fn sayings_of(alloc: Global, transcripts: &[Transcript]) -> Result<Sa
 impl Sayings {
     /// The next event that the process says it made.
     pub(crate) fn take_due(&mut self, proc: &Proc) -> Option<Due>
-        ensures some { IfSome result (λ d. Takes self.old proc.now (said_in d) self.new) }
+        ensures some { IfSome result (λ d. TakesSaying self.old proc.now (audited_due d) self.new) }
         ensures none { IsNone result → rest_of self.old proc.now ≡ [] }
     {
         match self.places.get(proc).copied() {

@@ -3,12 +3,13 @@ ghost use Rattle.std.specs.Prelude.{◌≡◌, ◌≤◌, ◌++◌, ◌∷◌, [
 ghost use Rattle.pmg_value.specs.Lists.{In};
 ghost use Rattle.pmg_frame.specs.Grammar.{IsFrame};
 ghost use Rattle.pmg_frame.specs.Versions.{body_spelling, frame_spelling};
-ghost use Rattle.pmg_rules.specs.Sending.{sent as sent_to};
-ghost use Rattle.pmg_runs.specs.Worlds.{numbered};
+ghost use Rattle.pmg_node_model.specs.Sending.{sent as sent_to};
+ghost use Rattle.pmg_group_model.specs.Worlds.{numbered};
 ghost use Rattle.pmg_audit.specs.Sends.{AreNumbered};
+ghost use Rattle.pmg_frame.specs.declared.frame.TheConstants.{MAX_BODY_SIZE};
 
 use pmg_frame::Frame;
-use pmg_rules::Sent;
+use pmg_node_model::Sent;
 use std::alloc::{AllocError, Global};
 use std::collections::BTreeMap;
 
@@ -34,7 +35,7 @@ fn key_of(alloc: Global, node: u64, frame: &Frame) -> Result<(u64, Vec<u8>), All
     ensures node { IfOk result (λ key. key.0 ≡ node) }
     ensures bytes { IfOk result (λ key. key.1.items ≡ frame_spelling 2 frame.now) }
     ensures valid { OnOk result (IsFrame frame.now) }
-    ensures small { OnOk result (length (body_spelling 2 frame.now) ≤ 16777216) }
+    ensures small { OnOk result (length (body_spelling 2 frame.now) ≤ MAX_BODY_SIZE) }
 {
     let encoded = frame.encode(alloc)?;
     let mut bytes = Vec::new(alloc);

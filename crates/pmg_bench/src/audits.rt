@@ -3,7 +3,7 @@ use pmg_get::Mode;
 use pmg_jobinfo::Registry;
 use pmg_journal::{Call, Called, Event, Journal, Transcript, copy_of_answer};
 use pmg_node::{Act, Node, Reply, Request};
-use pmg_rules::Sent;
+use pmg_node_model::Sent;
 use pmg_scope::{Batch, Scope};
 use pmg_value::{Key, NodeId, Nspace, Proc, Rank, Refusal, Value};
 use std::alloc::Global;

@@ -1,7 +1,7 @@
 use pmg_frame::{FenceName, Frame, Header, Local, Signature, State, Stream};
 use pmg_jobinfo::Registry;
 use pmg_node::{Act, Node};
-use pmg_rules::Sent;
+use pmg_node_model::Sent;
 use pmg_value::{NodeId, Nspace, Proc, Rank, Refusal};
 use std::alloc::Global;
 use std::collections::VecDeque;

@@ -1,4 +1,4 @@
-use pmg_job::Job;
+use pmg_jobfile::Job;
 use pmg_launch::{Program, run};
 use pmg_value::Refusal;
 use std::alloc::Global;

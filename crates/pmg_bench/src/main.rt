@@ -49,7 +49,7 @@ fn main(rt: HostRuntime) -> io::Result<()> {
     for line in rt.lines(alloc) {
         let line = line?;
         let (work, number) = work_of(line.as_str());
-        let mut ended = done(&rt, alloc, work, number);
+        let mut ended = times_done(&rt, alloc, work, number);
         for _ in 0..jobs_in(work, number) {
             let mut programs: Vec<Box<dyn Program>> = Vec::new(alloc);
             for _ in 0..jobs::CLIENTS {
@@ -113,12 +113,12 @@ fn jobs_in(work: Work, text: &str) -> u64 {
 }
 
 /// How often it was done: as often as the text says, or not at all where it is no number. Of jobs none is run here.
-fn done<R: Wait>(rt: &R, alloc: Global, work: Work, text: &str) -> Result<u64, Refusal> {
+fn times_done<R: Wait>(rt: &R, alloc: Global, work: Work, text: &str) -> Result<u64, Refusal> {
     let Ok(count) = text.parse::<u64>() else {
         return Err(Refusal::BadParam);
     };
     match work {
-        Work::Fences => released(alloc, count),
+        Work::Fences => fences_released(alloc, count),
         Work::Reads => reads::read_published(rt, alloc, count),
         Work::LockedReads => reads::read_locked(rt, alloc, count),
         Work::ReadsOfClient => calls::read_now(rt, alloc, count),
@@ -129,7 +129,7 @@ fn done<R: Wait>(rt: &R, alloc: Global, work: Work, text: &str) -> Result<u64, R
 }
 
 /// How many fences were released: all of them, or none.
-fn released(alloc: Global, count: u64) -> Result<u64, Refusal> {
+fn fences_released(alloc: Global, count: u64) -> Result<u64, Refusal> {
     if fences::run(alloc, count)? {
         Ok(count)
     } else {

@@ -10,7 +10,7 @@ use Rattle.hex.specs.declared.error.FromHexError.{FromHexError}
 use Rattle.hex.proofs.HexLemmas.{decode_of-even, decode_of-ok, decode_of-digits, decode_pairs-ok}
 use Rattle.pmg_value.specs.declared.refusal.Cause.TheVariants as causes
 use Rattle.pmg_wire.specs.Reading.{fault}
-use Rattle.pmg_commands.specs.Text.{is_blank, is_stray, digits_of, paired, unless_stray, decoded, Spells}
+use Rattle.pmg_commands.specs.Text.{is_white, is_stray, digits_of, paired, unless_stray, decoded, Spells}
 
 -- one pair, and then the others
 first_pair : (high low : Option ℕ) (c d i : ℕ) (rest : Result (List ℕ) FromHexError) (others bytes : List ℕ) →
@@ -66,12 +66,12 @@ hex_from_pairs i (high ∷ low ∷ rest) bytes is =
 -- and then there is no stray byte
 none_stray : (text : List ℕ) → AllHex (digits_of text) → position_or_len is_stray text ≡ length text
 none_stray [] all = refl
-none_stray (x ∷ xs) all = go (λ rest. none_stray xs rest) (is_blank x) refl all
+none_stray (x ∷ xs) all = go (λ rest. none_stray xs rest) (is_white x) refl all
   where
     one_more : position_or_len is_stray xs ≡ length xs → 1 + position_or_len is_stray xs ≡ suc (length xs)
     one_more e = ap (λ n. 1 + n) e ∙ omega arith
 
-    go : (AllHex (digits_of xs) → position_or_len is_stray xs ≡ length xs) → (b : Bool) → is_blank x ≡ b → AllHex (cond (not b) (x ∷ digits_of xs) (digits_of xs))
+    go : (AllHex (digits_of xs) → position_or_len is_stray xs ≡ length xs) → (b : Bool) → is_white x ≡ b → AllHex (cond (not b) (x ∷ digits_of xs) (digits_of xs))
         → cond (not (not b && not (is_hex_digit x))) (1 + position_or_len is_stray xs) 0 ≡ suc (length xs)
     go rest true is all = one_more (rest all)
     go rest false is all = ap (λ h. cond (not (not h)) (1 + position_or_len is_stray xs) 0) all.0 ∙ one_more (rest all.1)
@@ -82,12 +82,12 @@ no_stray text all = rw (none_stray text all, le-ltb (length text) (length text) 
 -- without a stray byte all that is not blank is a digit
 all_hex : (text : List ℕ) → length text ≤ position_or_len is_stray text → AllHex (digits_of text)
 all_hex [] all = tt
-all_hex (x ∷ xs) all = go (λ rest. all_hex xs rest) (is_blank x) refl (is_hex_digit x) refl all
+all_hex (x ∷ xs) all = go (λ rest. all_hex xs rest) (is_white x) refl (is_hex_digit x) refl all
   where
     one_less : suc (length xs) ≤ 1 + position_or_len is_stray xs → length xs ≤ position_or_len is_stray xs
     one_less h = omega (arith, h)
 
-    go : (length xs ≤ position_or_len is_stray xs → AllHex (digits_of xs)) → (b : Bool) → is_blank x ≡ b → (h : Bool) → is_hex_digit x ≡ h
+    go : (length xs ≤ position_or_len is_stray xs → AllHex (digits_of xs)) → (b : Bool) → is_white x ≡ b → (h : Bool) → is_hex_digit x ≡ h
         → suc (length xs) ≤ cond (not (not b && not h)) (1 + position_or_len is_stray xs) 0 → AllHex (cond (not b) (x ∷ digits_of xs) (digits_of xs))
     go rest true blank h digit all = rest (one_less all)
     go rest false blank true digit all = (digit, rest (one_less all))
@@ -122,8 +122,8 @@ clean_text text bytes even is =
     rw even (ap (λ place. unless_stray place (digits_of text)) found ∙ ap Ok pairs)
 
 -- ---- runs of digits
-not_blank : (x : ℕ) → is_hex_digit x ≡ true → is_blank x ≡ false
-not_blank x h = false_from_ne_true (is_blank x) (λ b. elim (or_cases _ _ b) [
+not_blank : (x : ℕ) → is_hex_digit x ≡ true → is_white x ≡ false
+not_blank x h = false_from_ne_true (is_white x) (λ b. elim (or_cases _ _ b) [
   | inr e ↦ none 10 e refl
   | inl b ↦ elim (or_cases _ _ b) [
     | inr e ↦ none 13 e refl
@@ -180,11 +180,11 @@ spells_run text size bytes more is rest i =
     ∙ pairs_more 0 i run (digits_of (drop size text)) bytes more pairs rest
 
 -- a blank at the front
-pub spells_blank : (blank : ℕ) (rest more : List ℕ) → is_blank blank ≡ true → Spells rest more → Spells (blank ∷ rest) more
+pub spells_blank : (blank : ℕ) (rest more : List ℕ) → is_white blank ≡ true → Spells rest more → Spells (blank ∷ rest) more
 spells_blank blank rest more b spells i = ap (λ t. decode_pairs i (cond (not t) (blank ∷ digits_of rest) (digits_of rest))) b ∙ spells i
 
 -- a run, a blank, and what is after it
-pub spells_line : (text : List ℕ) (size : ℕ) (d : ℕ) (bytes more : List ℕ) → size < length text → is_blank (get_or text size d) ≡ true → decode_of (take size text) ≡ Ok bytes
+pub spells_line : (text : List ℕ) (size : ℕ) (d : ℕ) (bytes more : List ℕ) → size < length text → is_white (get_or text size d) ≡ true → decode_of (take size text) ≡ Ok bytes
     → Spells (drop (size + 1) text) more → Spells text (bytes ++ more)
 spells_line text size d bytes more within b is rest =
     let next : size + 1 ≡ suc size = omega arith in

@@ -12,6 +12,7 @@ use Rattle.pmg_store.specs.Input.{input_of}
 use Rattle.pmg_store.specs.Merged.{merge_of, too_many}
 use Rattle.pmg_commands.specs.Output.{Output, output_of}
 use Rattle.pmg_commands.specs.Text.{decoded}
+use Rattle.pmg_store.specs.declared.merge.TheConstants.{MAX_STREAMS}
 
 -- a line `--`, with what ends it: LF, CR and LF, a CR at the end of the input, or nothing there
 abbrev pub is_separator : List ℕ → Bool
@@ -63,7 +64,7 @@ unless_fault (Err f) next = Err (Refused (BadFrame f))
 
 -- the dump of the streams whose texts these are: of more than 64 none is decoded, and all are decoded before any is read
 unfoldable pub spans_merge : List ℕ → List Span → Result (List ℕ) Failure
-spans_merge text spans = if nat_lt 64 (length spans) then Err too_many else unless_fault (decoded_all text spans) merge_of
+spans_merge text spans = if nat_lt MAX_STREAMS (length spans) then Err too_many else unless_fault (decoded_all text spans) merge_of
 
 -- the dump of the streams whose texts an input holds
 unfoldable pub merge_text : List ℕ → Result (List ℕ) Failure

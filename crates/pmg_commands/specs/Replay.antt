@@ -3,15 +3,15 @@ use Rattle.std.specs.Prelude.{◌≡◌, ◌⊎◌, ℕ, List, Option, Result, O
 use Rattle.pmg_store.specs.declared.failure.Failure.{Failure}
 use Rattle.pmg_store.specs.declared.failure.Failure.TheVariants as failures
 use Rattle.pmg_script.specs.Replays.{Replayed}
-use Rattle.pmg_world.specs.Stages.{PlaysLine, Stops, is_over}
+use Rattle.pmg_world.specs.Stages.{PlaysLine, StopsLine, is_over}
 use Rattle.pmg_world.specs.declared.phase.Phase.TheVariants as phases
 use Rattle.pmg_script.specs.declared.playing.Ended.{Ended}
 use Rattle.pmg_script.specs.declared.playing.Ended.TheVariants as ends
 use Rattle.pmg_commands.specs.Output.{Output, Prints, status_alone, failure_output}
 
 -- The first lines of the text were done, from no group at all to what they made of one, and their replies were written; and it ended there.
-abbrev pub IsReplayed : List ℕ → Option (List ℕ) → Option (List ℕ) → Option (List ℕ) → Result Ended Failure → Type 0
-IsReplayed text left old new ended = Replayed PlaysLine Stops is_over phases.Fresh text left old new ended
+abbrev pub IsScriptReplayed : List ℕ → Option (List ℕ) → Option (List ℕ) → Option (List ℕ) → Result Ended Failure → Type 0
+IsScriptReplayed text left old new ended = Replayed PlaysLine StopsLine is_over phases.Fresh text left old new ended
 
 -- What is left to print once a script has ended, and the status: nothing at its end; nothing where its nodes were refused, since the
 -- reply says so; else the line of what failed.
@@ -27,7 +27,7 @@ pub record PrintsReplies {D E : Type 0} (text : List ℕ) (left old new : Option
     (status : ℕ) : Type 0 where
   pub ended : Result Ended Failure
   pub told : Option (List ℕ)
-  pub replayed : IsReplayed text left old told ended
+  pub replayed : IsScriptReplayed text left old told ended
   pub read_fault : IfErr ended (λ e. e ≡ failures.Read → IsSome read)
   pub failed : IsSome read → IsSome before ⊎ (ended ≡ Err failures.Read)
   pub write_fault : IfErr ended (λ e. e ≡ failures.Write → IsSome write)

@@ -8,16 +8,16 @@ use Rattle.pmg_value.specs.declared.refusal.Fault.{Fault}
 use Rattle.pmg_wire.specs.Reading.{fault}
 
 -- a blank, a tab, CR or LF
-abbrev pub is_blank : ℕ → Bool
-is_blank byte = byte == 32 || byte == 9 || byte == 13 || byte == 10
+abbrev pub is_white : ℕ → Bool
+is_white byte = byte == 32 || byte == 9 || byte == 13 || byte == 10
 
 -- a byte that hexadecimal text does not have
 abbrev pub is_stray : ℕ → Bool
-is_stray byte = not (is_blank byte) && not (is_hex_digit byte)
+is_stray byte = not (is_white byte) && not (is_hex_digit byte)
 
 -- the digits of a text, where it has no stray byte
 abbrev pub digits_of : List ℕ → List ℕ
-digits_of text = filter (λ byte. not (is_blank byte)) text
+digits_of text = filter (λ byte. not (is_white byte)) text
 
 -- the value of a digit, in either case
 abbrev pub digit_value : ℕ → ℕ

@@ -3,7 +3,7 @@ ghost use Rattle.std.specs.Prelude.{◌≡◌, ◌≤◌, ◌++◌, ℕ, List, l
 ghost use Rattle.std.specs.List.{position};
 ghost use Rattle.pmg_wire.specs.Reading.{FailsReading};
 ghost use Rattle.hex.specs.Hex.{decode_of};
-ghost use Rattle.pmg_commands.specs.Text.{is_blank, is_stray, digits_of, decoded, Spells};
+ghost use Rattle.pmg_commands.specs.Text.{is_white, is_stray, digits_of, decoded, Spells};
 
 use hex::FromHexError;
 use pmg_value::{Cause, Fault, Refusal};
@@ -146,7 +146,7 @@ fn first_stray(text: &[u8]) -> Option<usize>
 }
 
 fn is_blank(byte: u8) -> bool
-    ensures { result ≡ is_blank byte }
+    ensures { result ≡ is_white byte }
 {
     matches!(byte, b' ' | b'\t' | b'\r' | b'\n')
 }

@@ -15,7 +15,7 @@ use Rattle.pmg_scope.specs.Cached.{Table, Unsealed}
 use Rattle.pmg_scope.specs.Scripts.{Call, Script, count_commits, later_of, put_of, last_put}
 use Rattle.pmg_scope.specs.Sealing.{part, next_part}
 use Rattle.pmg_scope.proofs.SealingLaws.{none_earlier, later_assoc}
-use Rattle.pmg_commit.specs.SealerRules.{AnyBatchFits, puts_of}
+use Rattle.pmg_commit.specs.SealerRules.{AnyBatchFits, batch_puts}
 use Rattle.pmg_commit.proofs.SealerLaws.{not_again, others_sorted}
 
 abbrev Rows : Type 0
@@ -87,7 +87,7 @@ table_put r k scope m seen = row_put r k scope (finite.entries m) seen (finite.e
 
 -- what is put last of the two tables, after a script without unsealed puts
 last_of_both : (b : Unsealed) (s : Script) (r : Reach) (k : List ℕ) → last_put r k (next_part s) ≡ None
-    → last_put r k (next_part (s ++ puts_of b)) ≡ later_of (last_put r k (put_all scopes.Remote (finite.entries b.far))) (last_put r k (put_all scopes.Local (finite.entries b.near)))
+    → last_put r k (next_part (s ++ batch_puts b)) ≡ later_of (last_put r k (put_all scopes.Remote (finite.entries b.far))) (last_put r k (put_all scopes.Local (finite.entries b.near)))
 last_of_both b s r k none =
     let near = put_all scopes.Local (finite.entries b.near) in
     let far = put_all scopes.Remote (finite.entries b.far) in

@@ -17,7 +17,7 @@ use Rattle.pmg_scope.specs.Cached.{row_size}
 use Rattle.pmg_scope.specs.Rows.{IsRising, counted_by, table_of}
 use Rattle.pmg_value.proofs.RowLemmas.{shown, entries_of_nothing}
 use Rattle.pmg_scope.proofs.SumLemmas.{sum_put}
-use Rattle.pmg_commit.specs.Growth.{counted_at, new_keys, replaced_size, puts_size}
+use Rattle.pmg_commit.specs.Growth.{sealed_counted_at, new_keys, replaced_size, puts_size}
 use Rattle.pmg_commit.specs.Sealed.{Stamp, Stamps, stamp_all, stamped, stamps_size, are_within}
 use Rattle.pmg_commit.proofs.StampLemmas.{stamped-rising}
 
@@ -101,7 +101,7 @@ size_stamped n m (e ∷ puts) rising =
     let others = size_stamped n (finite.insert m e.0 s) puts rising.1 in
     let same = sum_alike e.0 (finite.get (finite.insert m e.0 s)) (finite.get m) (counted_by (λ (s : Stamp). length s.bytes)) (λ q less. get_above m e.0 q s less) puts rising.0 in
     let put = sum_put (λ (s : Stamp). length s.bytes) m e.0 s in
-    let replaced = sum_by-cons (λ (e : List ℕ × Value). counted_at m e.0) e puts in
+    let replaced = sum_by-cons (λ (e : List ℕ × Value). sealed_counted_at m e.0) e puts in
     let sizes = sum_by-cons (λ (e : List ℕ × Value). row_size (e.0, spelling e.1)) e puts in
     omega (arith, others, same, put, replaced, sizes)
 
@@ -130,7 +130,7 @@ unfolding stamped
 stamped_one n k bytes m =
     ap (stamp_all n m) (finite.entries-insert nat_list_cmp_total finite.empty k bytes ∙ ap (put (slice_cmp nat_cmp) k bytes) (entries_of_nothing (slice_cmp nat_cmp)))
 
-pub one_replaced : (m : Stamps) (k : List ℕ) → counted_at m k ≤ stamps_size m + (10 + length k)
+pub one_replaced : (m : Stamps) (k : List ℕ) → sealed_counted_at m k ≤ stamps_size m + (10 + length k)
 one_replaced m k = let sum = sum_put (λ (s : Stamp). length s.bytes) m k (record { number = 0; bytes = [] }) in omega (arith, sum)
 
 -- all that is replaced was counted
@@ -143,10 +143,10 @@ one_more false n = omega arith
 
 pub within_one : (n : ℕ) (m : Stamps) (k bytes : List ℕ)
     → are_within (stamped n (finite.insert finite.empty k bytes) m)
-    ≡ (nat_le (finite.len m + cond (finite.contains_key m k) 0 1) 65535 && nat_le (stamps_size m + (10 + length k + length bytes) - counted_at m k) 16000000)
+    ≡ (nat_le (finite.len m + cond (finite.contains_key m k) 0 1) 65535 && nat_le (stamps_size m + (10 + length k + length bytes) - sealed_counted_at m k) 16000000)
 within_one n m k bytes =
     let s : Stamp = record { number = n; bytes = bytes } in
     let sum = sum_put (λ (s : Stamp). length s.bytes) m k s in
-    let size : stamps_size (finite.insert m k s) ≡ stamps_size m + (10 + length k + length bytes) - counted_at m k = omega (arith, sum) in
+    let size : stamps_size (finite.insert m k s) ≡ stamps_size m + (10 + length k + length bytes) - sealed_counted_at m k = omega (arith, sum) in
     let len = finite.len-insert nat_list_cmp_total m k s ∙ one_more (finite.contains_key m k) (finite.len m) in
     ap are_within (stamped_one n k bytes m) ∙ (λ i. nat_le (len i) 65535 && nat_le (size i) 16000000)

@@ -27,7 +27,7 @@ use Rattle.pmg_scope.proofs.SealingLaws.{none_earlier, sealed_once, sealed_among
 use Rattle.pmg_scope.proofs.CacheLaws.{commit_seals_next}
 use Rattle.pmg_commit.specs.Entries.{Entry}
 use Rattle.pmg_commit.specs.Sealed.{Stamp, Stamps, Sealed, stamp_all, stamped, sealed_with, ended_with, end_of, can_seal, term_table, stamped_entry, newer_than, stamps_for, is_other}
-use Rattle.pmg_commit.specs.SealerRules.{FitsBatch, FitsStamps, FitsSealer, BatchFits, NewSealerFits, SealFits, EndFits, PutSealsNothing, EnterSealsNothing, PiecesAreHonest, SealerIsOne}
+use Rattle.pmg_commit.specs.SealerRules.{FitsBatch, FitsStamps, FitsSealer, BatchFits, NewSealerFits, SealFits, SealerEndFits, PutSealsNothing, EnterSealsNothing, PiecesAreHonest, SealerIsOne}
 use Rattle.pmg_commit.proofs.HonestLaws.{not_none, some_is, sealed_still_last, sealed_before_last}
 
 -- ---- rows in the order of their keys have a key once
@@ -289,7 +289,7 @@ seal_fits z b s e batch fits =
       far = stamps_fit s (Call.commit ∷ []) reach.Far z.level b.far z.far fits.level one_more (λ k. batch.far k ∙ ap (last_put reach.Far k) (sym calls)) fits.far;
     }
 
-pub end_fits : EndFits
+pub end_fits : SealerEndFits
 end_fits z s e fits = record {
   ended = sym (has_end_now s);
   level = ap suc fits.level ∙ sym (end_commits s e);

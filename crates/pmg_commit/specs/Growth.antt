@@ -9,8 +9,8 @@ use Rattle.pmg_scope.specs.Rows.{counted_by}
 use Rattle.pmg_commit.specs.Sealed.{Stamps}
 
 -- what was sealed last under the key counts for, 0 where nothing was
-abbrev pub counted_at : Stamps → List ℕ → ℕ
-counted_at m key = counted_by (λ s. length s.bytes) key (finite.get m key)
+abbrev pub sealed_counted_at : Stamps → List ℕ → ℕ
+sealed_counted_at m key = counted_by (λ s. length s.bytes) key (finite.get m key)
 
 -- how many of the puts have a key under which nothing was sealed
 abbrev pub new_keys : Stamps → List (List ℕ × Value) → ℕ
@@ -18,7 +18,7 @@ new_keys m puts = count_by (λ e. not (finite.contains_key m e.0)) puts
 
 -- what was sealed last under the keys of the puts counts for, which they replace
 abbrev pub replaced_size : Stamps → List (List ℕ × Value) → ℕ
-replaced_size m puts = sum_by (λ e. counted_at m e.0) puts
+replaced_size m puts = sum_by (λ e. sealed_counted_at m e.0) puts
 
 -- what the puts count for
 abbrev pub puts_size : List (List ℕ × Value) → ℕ

@@ -11,6 +11,7 @@ use Rattle.pmg_scope.specs.Cached.{row_size}
 use Rattle.pmg_commit.specs.declared.piece.PieceEntry.{PieceEntry}
 use Rattle.pmg_commit.specs.Entries.{Entry}
 use Rattle.pmg_commit.specs.Knowledge.{Contribution}
+use Rattle.pmg_commit.specs.declared.piece.TheConstants.{MAX_COMMIT, MAX_ENTRIES, MAX_PIECE_SIZE}
 
 -- a piece's entry, with its value's canonical bytes
 abbrev pub entry_of : PieceEntry → Entry
@@ -31,7 +32,7 @@ body_size proc entries = length proc.nspace + 25 + sum_by entry_size entries
 
 -- no more entries and bytes than a frame can hold
 abbrev pub is_small : Proc → List Entry → Bool
-is_small proc entries = nat_le (length entries) 65536 && nat_le (body_size proc entries) 16777216
+is_small proc entries = nat_le (length entries) MAX_ENTRIES && nat_le (body_size proc entries) MAX_PIECE_SIZE
 
 -- the entry is of one of the commits from+1 to to
 abbrev pub is_numbered : ℕ → ℕ → Entry → Bool
@@ -46,7 +47,7 @@ is_key_rising e f = is_lt (slice_cmp nat_cmp e.key f.key)
 unfoldable pub is_piece : Contribution → Bool
 is_piece c =
     (is_client c.proc || is_host c.proc)
-    && (nat_lt c.from c.to && nat_le c.to 4294967295)
+    && (nat_lt c.from c.to && nat_le c.to MAX_COMMIT)
     && is_small c.proc c.entries
     && is_chain is_key_rising c.entries
     && list_all (is_numbered c.from c.to) c.entries

@@ -1,5 +1,5 @@
 -- What a process's commits sealed.
-use Rattle.std.specs.Prelude.{ℕ, suc, Bool, true, false, ◌&&◌, ◌||◌, not, nat_lt, nat_le, List, [], ◌∷◌, map, Result, Ok, Err, if◌then◌else◌, refl}
+use Rattle.std.specs.Prelude.{ℕ, suc, ◌-◌, Bool, true, false, ◌&&◌, ◌||◌, not, nat_lt, nat_le, List, [], ◌∷◌, map, Result, Ok, Err, if◌then◌else◌, refl}
 use Rattle.std.specs.Coded.{Coded, code_by, coded×, coded_list, coded_ℕ, coded_bool}
 use Rattle.std.specs.FinMap as finite
 use Rattle.std.specs.List.{filter, sum_by}
@@ -14,6 +14,8 @@ use Rattle.pmg_scope.specs.declared.scope.Reach.{Reach}
 use Rattle.pmg_scope.specs.declared.scope.Reach.TheVariants as reach
 use Rattle.pmg_commit.specs.Entries.{Entry}
 use Rattle.pmg_commit.specs.Knowledge.{Contribution}
+use Rattle.pmg_scope.specs.declared.sizes.TheConstants.{MAX_CACHE_SIZE, MAX_KEYS}
+use Rattle.pmg_commit.specs.declared.piece.TheConstants.{MAX_COMMIT}
 
 -- The put that was sealed last under a key: the number of its commit, and the value's canonical bytes.
 pub record Stamp : Type 0 where
@@ -95,12 +97,12 @@ stamps_size m = sum_by stamp_size (finite.entries m)
 
 -- stamps within the limits, which are those of a cache: at most 65,535 keys, which count for at most 16,000,000 bytes
 abbrev pub are_within : Stamps → Bool
-are_within m = nat_le (finite.len m) 65535 && nat_le (stamps_size m) 16000000
+are_within m = nat_le (finite.len m) MAX_KEYS && nat_le (stamps_size m) MAX_CACHE_SIZE
 
 -- The next commit can seal the batch: the process has not ended; the number is not 4,294,967,295, which is kept for the end; and
 -- for each reach the stamps stay within the limits.
 abbrev pub can_seal : Sealed → Unsealed → Bool
-can_seal z b = not z.ended && nat_lt z.level 4294967294 && are_within (sealed_with z b).near && are_within (sealed_with z b).far
+can_seal z b = not z.ended && nat_lt z.level (MAX_COMMIT - 1) && are_within (sealed_with z b).near && are_within (sealed_with z b).far
 
 -- what a commit gives, by which it can be taken back: the sealer as it was
 abbrev pub commit_answer : Sealed → Unsealed → Result Sealed Refusal

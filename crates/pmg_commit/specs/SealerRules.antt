@@ -34,8 +34,8 @@ abbrev pub BatchFits : Type 0
 BatchFits = (c : Cached) (s : Script) → FitsCache c s → FitsBatch (unsealed_of c) s
 
 -- the puts of a batch: for each key one that the other processes on the node see, and one that those on other nodes see
-abbrev pub puts_of : Unsealed → Script
-puts_of b = map (λ e. Call.put scopes.Local e.0 e.1) (finite.entries b.near) ++ map (λ e. Call.put scopes.Remote e.0 e.1) (finite.entries b.far)
+abbrev pub batch_puts : Unsealed → Script
+batch_puts b = map (λ e. Call.put scopes.Local e.0 e.1) (finite.entries b.near) ++ map (λ e. Call.put scopes.Remote e.0 e.1) (finite.entries b.far)
 
 -- a script without a put that no commit sealed
 abbrev pub IsAllSealed : Script → Type 0
@@ -43,7 +43,7 @@ IsAllSealed s = (r : Reach) (key : List ℕ) → last_put r key (next_part s) �
 
 -- any batch fits a script that puts what it has, and nothing else since the last commit
 abbrev pub AnyBatchFits : Type 0
-AnyBatchFits = (b : Unsealed) (s : Script) → IsAllSealed s → FitsBatch b (s ++ puts_of b)
+AnyBatchFits = (b : Unsealed) (s : Script) → IsAllSealed s → FitsBatch b (s ++ batch_puts b)
 
 -- a sealer without commits fits a script without calls
 abbrev pub NewSealerFits : Type 0
@@ -54,8 +54,8 @@ abbrev pub SealFits : Type 0
 SealFits = (z : Sealed) (b : Unsealed) (s : Script) → has_end s ≡ false → FitsBatch b s → FitsSealer z s → FitsSealer (sealed_with z b) (s ++ Call.commit ∷ [])
 
 -- an end seals itself, and what was put since the last commit is lost
-abbrev pub EndFits : Type 0
-EndFits = (z : Sealed) (s : Script) → has_end s ≡ false → FitsSealer z s → FitsSealer (ended_with z) (s ++ Call.terminate ∷ [])
+abbrev pub SealerEndFits : Type 0
+SealerEndFits = (z : Sealed) (s : Script) → has_end s ≡ false → FitsSealer z s → FitsSealer (ended_with z) (s ++ Call.terminate ∷ [])
 
 -- a put seals nothing
 abbrev pub PutSealsNothing : Type 0

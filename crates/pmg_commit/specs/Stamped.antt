@@ -1,5 +1,5 @@
 -- Stamps as they are kept.
-use Rattle.std.specs.Prelude.{◌≡◌, ℕ, ◌≤◌, Bool, false, ◌&&◌, ◌||◌, nat_lt, nat_le, Result, Ok, Err, IsTrue, if◌then◌else◌}
+use Rattle.std.specs.Prelude.{◌≡◌, ℕ, ◌+◌, ◌-◌, ◌≤◌, Bool, false, ◌&&◌, ◌||◌, nat_lt, nat_le, Result, Ok, Err, IsTrue, if◌then◌else◌}
 use Rattle.std.specs.FinMap as finite
 use Rattle.std.specs.List.{list_all}
 use Rattle.pmg_value.specs.Process.{is_client, is_host}
@@ -10,6 +10,8 @@ use Rattle.pmg_value.specs.declared.refusal.Refusal.TheVariants as refusals
 use Rattle.pmg_commit.specs.Knowledge.{Contribution}
 use Rattle.pmg_commit.specs.declared.last_puts.SealedPut.{SealedPut}
 use Rattle.pmg_commit.specs.Sealed.{Stamp, Stamps, Sealed, are_within, stamps_size, newer_than}
+use Rattle.pmg_commit.specs.declared.piece.TheConstants.{MAX_COMMIT, MAX_ENTRIES}
+use Rattle.pmg_scope.specs.declared.sizes.TheConstants.{MAX_CACHE_SIZE}
 
 -- a put that was sealed, with its value's canonical bytes
 abbrev pub stamp_of : SealedPut → Stamp
@@ -21,14 +23,14 @@ are_of n m = list_all (λ e. nat_lt 0 e.1.number && nat_le e.1.number n) (finite
 
 -- stamps that a piece can hold: those within the limits, and what an end adds
 abbrev pub are_small : Stamps → Bool
-are_small m = nat_le (finite.len m) 65536 && nat_le (stamps_size m) 16000021
+are_small m = nat_le (finite.len m) MAX_ENTRIES && nat_le (stamps_size m) (MAX_CACHE_SIZE + 21)
 
 -- What a sealer keeps: its process is one that commits; its level ends at the greatest commit, which is kept for the end;
 -- until then the stamps are within the limits; and each stamp is of one of the commits that were made.
 pub record IsSealer (z : Sealed) : Type 0 where
   pub commits : IsTrue (is_client z.proc || is_host z.proc)
-  pub last : z.level ≤ 4294967295
-  pub free : z.ended ≡ false → z.level ≤ 4294967294
+  pub last : z.level ≤ MAX_COMMIT
+  pub free : z.ended ≡ false → z.level ≤ MAX_COMMIT - 1
   pub within : z.ended ≡ false → IsTrue (are_within z.near && are_within z.far)
   pub small : IsTrue (are_small z.near && are_small z.far)
   pub numbered : IsTrue (are_of z.level z.near && are_of z.level z.far)
@@ -36,7 +38,7 @@ pub record IsSealer (z : Sealed) : Type 0 where
 -- pieces of the process's commits up to the level can be made from the stamps
 pub record CanBeSent (proc : Proc) (level : ℕ) (m : Stamps) : Type 0 where
   pub commits : IsTrue (is_client proc || is_host proc)
-  pub last : level ≤ 4294967295
+  pub last : level ≤ MAX_COMMIT
   pub small : IsTrue (are_small m)
   pub numbered : IsTrue (are_of level m)
 

@@ -3,8 +3,8 @@ use Rattle.std.specs.Prelude.{◌≡◌, ℕ, List, [], ◌∷◌, Option, Some,
 use Rattle.std.specs.Option.{option_map}
 use Rattle.pmg_value.specs.Rows.{put_back}
 use Rattle.pmg_commit.specs.declared.last_puts.SealedPut.{SealedPut}
-use Rattle.pmg_commit.specs.declared.stamps.StampsBefore.{StampsBefore}
-use Rattle.pmg_commit.specs.declared.sealer.SealerBefore.{SealerBefore}
+use Rattle.pmg_commit.specs.declared.stamps.StampsUndo.{StampsUndo}
+use Rattle.pmg_commit.specs.declared.sealer.SealerUndo.{SealerUndo}
 use Rattle.pmg_commit.specs.Sealed.{Stamps, Sealed, stamps_size}
 use Rattle.pmg_commit.specs.Stamped.{stamp_of, IsSealer}
 
@@ -14,15 +14,15 @@ all_back m [] = m
 all_back m (before ∷ others) = put_back (all_back m others) before.0 (option_map stamp_of before.1)
 
 -- the stamps as they were
-abbrev pub stamps_back : Stamps → StampsBefore → Stamps
+abbrev pub stamps_back : Stamps → StampsUndo → Stamps
 stamps_back m before = all_back m before.puts.items
 
 -- what they counted for before is what they count for once the commit is taken back
-abbrev pub FitsBack : Stamps → StampsBefore → Type 0
+abbrev pub FitsBack : Stamps → StampsUndo → Type 0
 FitsBack m before = before.size ≡ stamps_size (stamps_back m before)
 
 -- the sealer as it was
-abbrev pub sealer_back : Sealed → SealerBefore → Sealed
+abbrev pub sealer_back : Sealed → SealerUndo → Sealed
 sealer_back z before = record {
   proc = z.proc;
   level = before.level;
@@ -32,12 +32,12 @@ sealer_back z before = record {
 }
 
 -- the sealer as it was before an end, where there was one
-abbrev pub end_back : Sealed → Option SealerBefore → Sealed
+abbrev pub end_back : Sealed → Option SealerUndo → Sealed
 end_back z None = z
 end_back z (Some before) = sealer_back z before
 
 -- A commit that can be taken back: what it replaced are parts of a sealer.
-pub record CanTakeBack (z : Sealed) (before : SealerBefore) : Type 0 where
+pub record CanRollBack (z : Sealed) (before : SealerUndo) : Type 0 where
   pub near : FitsBack z.near before.near
   pub far : FitsBack z.far before.far
   pub sealer : IsSealer (sealer_back z before)

@@ -185,7 +185,7 @@ impl LastPuts {
     }
 
     /// Puts back what was under the keys, the change that was noted last first. It takes no memory.
-    pub fn take_back(&mut self, before: Vec<(Key, Option<SealedPut>)>)
+    pub fn rollback(&mut self, before: Vec<(Key, Option<SealedPut>)>)
         ensures { self.new ≡ all_back self.old before.items }
     {
         let mut before = before;

@@ -23,7 +23,7 @@ ghost use Rattle.pmg_commit.specs.SealerRules.{
   AnyBatchFits,
   NewSealerFits,
   SealFits,
-  EndFits,
+  SealerEndFits,
   PutSealsNothing,
   EnterSealsNothing,
   PiecesAreHonest,
@@ -76,7 +76,7 @@ pub fn sealer_rules()
     ensures any_batch_fits { AnyBatchFits }
     ensures new_fits { NewSealerFits }
     ensures seal_fits { SealFits }
-    ensures end_fits { EndFits }
+    ensures end_fits { SealerEndFits }
     ensures put_seals_nothing { PutSealsNothing }
     ensures enter_seals_nothing { EnterSealsNothing }
     ensures pieces_are_honest { PiecesAreHonest }

@@ -12,4 +12,4 @@ pub use last_puts::SealedPut;
 pub use laws::{data_rules, honest_rules, knowledge_rules, sealer_rules};
 pub use piece::{MAX_COMMIT, MAX_ENTRIES, MAX_PIECE_SIZE, Piece, PieceEntry, entries_size};
 pub use reading::best_of;
-pub use sealer::{Sealer, SealerBefore};
+pub use sealer::{Sealer, SealerUndo};

@@ -6,6 +6,7 @@ ghost use Rattle.pmg_value.specs.Process.{is_client, is_host};
 ghost use Rattle.pmg_value.specs.declared.refusal.Refusal.TheVariants as refusals;
 ghost use Rattle.pmg_commit.specs.Entries.{is_readable, is_later};
 ghost use Rattle.pmg_commit.specs.Pieces.{body_size, entry_of, contribution, entry_size, is_numbered, is_key_rising, is_small, is_piece};
+ghost use Rattle.pmg_scope.specs.declared.sizes.TheConstants.{MAX_ENTRY_SIZE};
 
 use pmg_scope::row_size;
 use pmg_value::{Copied, Key, Proc, Refusal, Value, copy_all};
@@ -80,7 +81,7 @@ impl PieceEntry {
     /// The bytes that the entry takes in a frame.
     pub fn size(&self) -> usize
         ensures value { result ≡ entry_size (entry_of self.now) }
-        ensures bound { result ≤ 1049097 }
+        ensures bound { result ≤ MAX_ENTRY_SIZE }
     {
         row_size(&self.key, &self.value)
     }
@@ -144,7 +145,7 @@ fn are_numbered(from: u64, to: u64, entries: &[PieceEntry]) -> bool
 
 /// The bytes that the entries take in a frame.
 pub fn entries_size(entries: &[PieceEntry]) -> usize
-    requires { length entries.now ≤ 65536 }
+    requires { length entries.now ≤ MAX_ENTRIES }
     ensures value { result ≡ sum_by entry_size (map entry_of entries.now) }
     ensures bound { result < 2 ^ 40 }
 {
@@ -224,7 +225,7 @@ impl Piece {
     pub fn to(&self) -> u64
         ensures value { result ≡ self.now.to }
         ensures order { self.now.from < result }
-        ensures bound { result ≤ 4294967295 }
+        ensures bound { result ≤ MAX_COMMIT }
     {
         self.to
     }
@@ -232,7 +233,7 @@ impl Piece {
     /// The number of the entries.
     pub fn count(&self) -> usize
         ensures value { result ≡ length self.now.entries }
-        ensures bound { result ≤ 65536 }
+        ensures bound { result ≤ MAX_ENTRIES }
     {
         self.entries.len()
     }
@@ -247,7 +248,7 @@ impl Piece {
     /// The bytes that the contribution takes in a frame's body.
     pub fn size(&self) -> usize
         ensures value { result ≡ body_size self.now.proc self.now.entries }
-        ensures bound { result ≤ 16777216 }
+        ensures bound { result ≤ MAX_PIECE_SIZE }
         ensures piece { IsTrue (is_piece self.now) }
     {
         self.proc.nspace.as_bytes().len() + 25 + entries_size(&self.entries)
@@ -264,7 +265,7 @@ impl Piece {
     pub fn into_parts(self) -> (Proc, u64, u64, Vec<PieceEntry>)
         ensures value { contribution result.0 result.1 result.2 result.3.items ≡ self }
         ensures order { result.1 < result.2 }
-        ensures bound { result.2 ≤ 4294967295 }
+        ensures bound { result.2 ≤ MAX_COMMIT }
     {
         let Piece {
             proc,

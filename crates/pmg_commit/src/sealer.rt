@@ -1,4 +1,4 @@
-ghost use Rattle.std.specs.Prelude.{◌≡◌, ◌≤◌, ℕ, List, [], ◌∷◌, ◌++◌, ◌&&◌, not, nat_lt, length, true, IfOk, IfSome, OnOk, OnErr, IsTrue};
+ghost use Rattle.std.specs.Prelude.{◌≡◌, ◌-◌, ◌≤◌, ℕ, List, [], ◌∷◌, ◌++◌, ◌&&◌, not, nat_lt, length, true, IfOk, IfSome, OnOk, OnErr, IsTrue};
 ghost use Rattle.pmg_value.specs.Answers.{Gives};
 ghost use Rattle.pmg_value.specs.Process.{can_commit};
 ghost use Rattle.std.specs.FinMap as finite;
@@ -21,11 +21,13 @@ ghost use Rattle.pmg_commit.specs.Sealed.{
 };
 ghost use Rattle.pmg_commit.specs.SealerRules.{FitsBatch, FitsSealer};
 ghost use Rattle.pmg_commit.specs.Stamped.{CanBeSent, IsSealer, newer_answer, stamp_of};
-ghost use Rattle.pmg_commit.specs.TakenBack.{sealer_back, end_back, CanTakeBack};
+ghost use Rattle.pmg_commit.specs.TakenBack.{sealer_back, end_back, CanRollBack};
+ghost use Rattle.pmg_scope.specs.declared.sizes.TheConstants.{MAX_KEYS};
+ghost use Rattle.pmg_value.specs.declared.value.TheConstants.{MAX_VALUE_SIZE};
 
 use crate::last_puts::SealedPut;
 use crate::piece::{MAX_COMMIT, Piece};
-use crate::stamps::{Stamps, StampsBefore};
+use crate::stamps::{Stamps, StampsUndo};
 use pmg_scope::{Batch, Reach};
 use pmg_value::{Key, Proc, Refusal, Value};
 use std::alloc::{AllocError, Global};
@@ -70,11 +72,11 @@ impl Model for Sealer {
 
 /// What a sealer was before a commit, by which it can be taken back.
 #[derive(Drop)]
-pub struct SealerBefore {
+pub struct SealerUndo {
     level: u64,
     ended: bool,
-    near: StampsBefore,
-    far: StampsBefore,
+    near: StampsUndo,
+    far: StampsUndo,
 }
 
 impl Sealer {
@@ -107,7 +109,7 @@ impl Sealer {
     /// The number of the commits.
     pub fn level(&self) -> u64
         ensures value { result ≡ self.now.level }
-        ensures bound { result ≤ 4294967295 }
+        ensures bound { result ≤ MAX_COMMIT }
         ensures sealer { IsSealer self.now }
     {
         self.level
@@ -125,9 +127,9 @@ impl Sealer {
     /// 4294967295, which is kept for the end, or after the end; where for one reach there would be more than 65535 keys,
     /// or more than 16000000 bytes of keys and values, ten more counted for each; and as NoMemory. A refused commit changes
     /// nothing. It takes time in proportion to the batch, times the logarithm of what was sealed.
-    pub fn commit(&mut self, batch: &Batch) -> Result<SealerBefore, Refusal>
+    pub fn commit(&mut self, batch: &Batch) -> Result<SealerUndo, Refusal>
         ensures before { Gives (λ b. sealer_back self.new b) result (commit_answer self.old batch.now) }
-        ensures fits { IfOk result (λ b. CanTakeBack self.new b) }
+        ensures fits { IfOk result (λ b. CanRollBack self.new b) }
         ensures ok { OnOk result (self.new ≡ sealed_with self.old batch.now) }
         ensures err { OnErr result (self.new ≡ self.old) }
     {
@@ -143,14 +145,14 @@ impl Sealer {
     }
 
     /// Takes a commit, or an end, back, by what there was before. It takes no memory.
-    pub fn take_back(&mut self, before: SealerBefore)
-        requires { CanTakeBack self.old before }
+    pub fn rollback(&mut self, before: SealerUndo)
+        requires { CanRollBack self.old before }
         ensures { self.new ≡ sealer_back self.old before }
     {
         self.level = before.level;
         self.ended = before.ended;
-        self.near.take_back(before.near);
-        self.far.take_back(before.far);
+        self.near.rollback(before.near);
+        self.far.rollback(before.far);
     }
 
     /// Makes the next commit, and gives its number. Refused as `commit` is; a refused commit changes nothing.
@@ -171,12 +173,12 @@ impl Sealer {
         ended: bool,
         near: &[(Key, Value)],
         far: &[(Key, Value)],
-    ) -> Result<SealerBefore, AllocError>
+    ) -> Result<SealerUndo, AllocError>
         requires rising { IsRising near.now × IsRising far.now }
-        requires few { (length near.now ≤ 65535) × (length far.now ≤ 65535) }
+        requires few { (length near.now ≤ MAX_KEYS) × (length far.now ≤ MAX_KEYS) }
         requires sealer { IsSealer (stamped_with self.old ended (table_of near.now) (table_of far.now)) }
         ensures before { IfOk result (λ b. sealer_back self.new b ≡ self.old) }
-        ensures fits { IfOk result (λ b. CanTakeBack self.new b) }
+        ensures fits { IfOk result (λ b. CanRollBack self.new b) }
         ensures ok { OnOk result (self.new ≡ stamped_with self.old ended (table_of near.now) (table_of far.now)) }
         ensures err { OnErr result (self.new ≡ self.old) }
     {
@@ -184,11 +186,11 @@ impl Sealer {
         let near = self.near.stamp(self.alloc, level, near)?;
         match self.far.stamp(self.alloc, level, far) {
             Err(AllocError) => {
-                self.near.take_back(near);
+                self.near.rollback(near);
                 Err(AllocError)
             }
             Ok(far) => {
-                let before = SealerBefore {
+                let before = SealerUndo {
                     level: self.level,
                     ended: self.ended,
                     near,
@@ -203,7 +205,7 @@ impl Sealer {
 
     /// Whether the process can make a commit more: it has not ended, and there is a number left beside that of its end.
     fn goes_on(&self) -> bool
-        ensures value { result ≡ (not self.now.ended && nat_lt self.now.level 4294967294) }
+        ensures value { result ≡ (not self.now.ended && nat_lt self.now.level (MAX_COMMIT - 1)) }
         ensures within { IsTrue result → IsTrue (are_within self.now.near && are_within self.now.far) }
     {
         !self.ended && self.level < MAX_COMMIT - 1
@@ -212,7 +214,7 @@ impl Sealer {
     /// Whether the next commit can seal one put with PMIX_GLOBAL, of a value of that many canonical bytes under the key.
     /// It takes no memory.
     pub fn can_seal_put(&self, key: &Key, size: usize) -> bool
-        requires { size ≤ 1048576 }
+        requires { size ≤ MAX_VALUE_SIZE }
         ensures { (bytes : List ℕ) → length bytes ≡ size
             → result ≡ can_seal self.now (global_put key.now bytes) }
     {
@@ -222,9 +224,9 @@ impl Sealer {
     /// Makes the last commit of the process, by which others learn that it has ended: it seals the key `pmix.term`, true,
     /// for all of them; and tells what there was before, by which it can be taken back. A sealer that has ended stays as
     /// it is, and tells nothing. Where an allocation fails nothing changes.
-    pub fn end(&mut self) -> Result<Option<SealerBefore>, AllocError>
+    pub fn end(&mut self) -> Result<Option<SealerUndo>, AllocError>
         ensures before { IfOk result (λ b. end_back self.new b ≡ self.old) }
-        ensures fits { IfOk result (λ b. IfSome b (CanTakeBack self.new)) }
+        ensures fits { IfOk result (λ b. IfSome b (CanRollBack self.new)) }
         ensures ok { OnOk result (self.new ≡ end_of self.old) }
         ensures err { OnErr result (self.new ≡ self.old) }
     {

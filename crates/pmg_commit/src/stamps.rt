@@ -4,10 +4,12 @@ ghost use Rattle.std.specs.FinMap as finite;
 ghost use Rattle.std.specs.Option.{option_map};
 ghost use Rattle.pmg_scope.specs.Rows.{IsRising, table_of};
 ghost use Rattle.pmg_commit.specs.Pieces.{entry_of};
-ghost use Rattle.pmg_commit.specs.Growth.{counted_at, new_keys, replaced_size, puts_size};
+ghost use Rattle.pmg_commit.specs.Growth.{sealed_counted_at, new_keys, replaced_size, puts_size};
 ghost use Rattle.pmg_commit.specs.Sealed.{stamped, stamps_size, are_within, newer_than};
 ghost use Rattle.pmg_commit.specs.Stamped.{stamp_of};
 ghost use Rattle.pmg_commit.specs.TakenBack.{stamps_back, FitsBack};
+ghost use Rattle.pmg_value.specs.declared.value.TheConstants.{MAX_VALUE_SIZE};
+ghost use Rattle.pmg_scope.specs.declared.sizes.TheConstants.{MAX_ENTRY_SIZE};
 
 use crate::last_puts::{LastPuts, SealedPut};
 use crate::piece::PieceEntry;
@@ -38,7 +40,7 @@ impl Model for Stamps {
 
 /// What stamps were before a commit, by which it can be taken back.
 #[derive(Drop)]
-pub struct StampsBefore {
+pub struct StampsUndo {
     size: usize,
     puts: Vec<(Key, Option<SealedPut>)>,
 }
@@ -92,10 +94,10 @@ impl Stamps {
         alloc: Global,
         number: u64,
         puts: &[(Key, Value)],
-    ) -> Result<StampsBefore, AllocError>
+    ) -> Result<StampsUndo, AllocError>
         requires rising { IsRising puts.now }
-        requires keys { length puts.now ≤ 65535 }
-        requires small { stamps_size self.old ≤ 16000021 }
+        requires keys { length puts.now ≤ MAX_KEYS }
+        requires small { stamps_size self.old ≤ MAX_CACHE_SIZE + 21 }
         ensures ok { OnOk result (self.new ≡ stamped number (table_of puts.now) self.old) }
         ensures before { IfOk result (λ b. stamps_back self.new b ≡ self.old) }
         ensures fits { IfOk result (λ b. FitsBack self.new b) }
@@ -104,10 +106,10 @@ impl Stamps {
         let size = self.size + puts_size(puts) - self.replaced_size(puts);
         let mut before = Vec::new(alloc);
         if let Err(AllocError) = self.puts.stamp_all(number, puts, &mut before) {
-            self.puts.take_back(before);
+            self.puts.rollback(before);
             return Err(AllocError);
         }
-        let before = StampsBefore {
+        let before = StampsUndo {
             size: self.size,
             puts: before,
         };
@@ -116,12 +118,12 @@ impl Stamps {
     }
 
     /// Takes a commit back, by what there was before. It takes no memory.
-    pub fn take_back(&mut self, before: StampsBefore)
+    pub fn rollback(&mut self, before: StampsUndo)
         requires { FitsBack self.old before }
         ensures { self.new ≡ stamps_back self.old before }
     {
         self.size = before.size;
-        self.puts.take_back(before.puts);
+        self.puts.rollback(before.puts);
     }
 
     /// Whether something was sealed under the key.
@@ -133,8 +135,8 @@ impl Stamps {
 
     /// What was sealed last under the key counts for, 0 where nothing was.
     fn counted_at(&self, key: &Key) -> usize
-        ensures value { result ≡ counted_at self.now key.now }
-        ensures bound { result ≤ 1049097 }
+        ensures value { result ≡ sealed_counted_at self.now key.now }
+        ensures bound { result ≤ MAX_ENTRY_SIZE }
     {
         match self.puts.get(key) {
             Some(put) => row_size(key, put.value()),
@@ -158,7 +160,7 @@ impl Stamps {
 
     /// What was sealed last under the keys of the puts counts for.
     fn replaced_size(&self, puts: &[(Key, Value)]) -> usize
-        requires { length puts.now ≤ 65535 }
+        requires { length puts.now ≤ MAX_KEYS }
         ensures { result ≡ replaced_size self.now puts.now }
     {
         let mut size = 0;
@@ -172,11 +174,11 @@ impl Stamps {
     /// others.
     fn has_room(&self, keys: usize, added: usize, replaced: usize) -> bool
         requires within { IsTrue (are_within self.now) }
-        requires keys { keys ≤ 65535 }
-        requires added { added ≤ 1049097 * 65535 }
+        requires keys { keys ≤ MAX_KEYS }
+        requires added { added ≤ MAX_ENTRY_SIZE * MAX_KEYS }
         requires replaced { replaced ≤ stamps_size self.now + added }
-        ensures { result ≡ (nat_le (finite.len self.now + keys) 65535
-            && nat_le (stamps_size self.now + added - replaced) 16000000) }
+        ensures { result ≡ (nat_le (finite.len self.now + keys) MAX_KEYS
+            && nat_le (stamps_size self.now + added - replaced) MAX_CACHE_SIZE) }
     {
         self.puts.len() + keys <= MAX_KEYS && self.size + added - replaced <= MAX_CACHE_SIZE
     }
@@ -187,7 +189,7 @@ impl Stamps {
         requires rising { IsRising puts.now }
         requires within { IsTrue (are_within self.now) }
         ensures value { (n : ℕ) → result ≡ are_within (stamped n (table_of puts.now) self.now) }
-        ensures few { IsTrue result → length puts.now ≤ 65535 }
+        ensures few { IsTrue result → length puts.now ≤ MAX_KEYS }
     {
         if puts.len() > MAX_KEYS {
             return false;
@@ -203,7 +205,7 @@ impl Stamps {
     /// canonical bytes under the key, and nothing else. It takes no memory.
     pub fn can_take_one(&self, key: &Key, size: usize) -> bool
         requires within { IsTrue (are_within self.now) }
-        requires small { size ≤ 1048576 }
+        requires small { size ≤ MAX_VALUE_SIZE }
         ensures { (n : ℕ) (bytes : List ℕ) → length bytes ≡ size
             → result ≡ are_within (stamped n (finite.insert finite.empty key.now bytes) self.now) }
     {
@@ -214,9 +216,9 @@ impl Stamps {
 
 /// What the puts count for.
 fn puts_size(puts: &[(Key, Value)]) -> usize
-    requires { length puts.now ≤ 65535 }
+    requires { length puts.now ≤ MAX_KEYS }
     ensures value { result ≡ puts_size puts.now }
-    ensures bound { result ≤ 1049097 * 65535 }
+    ensures bound { result ≤ MAX_ENTRY_SIZE * MAX_KEYS }
 {
     let mut size = 0;
     for (key, value) in puts {

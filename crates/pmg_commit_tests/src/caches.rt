@@ -77,7 +77,7 @@ fn own(rt: &impl Abort, alloc: Global, cache: &Cache, letter: u8) -> u8 {
 }
 
 // What the cache has, as the steps write it.
-fn shown(rt: &impl Abort, alloc: Global, cache: &Cache) -> Vec<u8> {
+fn text_of(rt: &impl Abort, alloc: Global, cache: &Cache) -> Vec<u8> {
     let mut text = Vec::new(alloc);
     for letter in b'w'..=b'z' {
         text.push(own(rt, alloc, cache, letter)).expect(rt, MEMORY);
@@ -87,7 +87,7 @@ fn shown(rt: &impl Abort, alloc: Global, cache: &Cache) -> Vec<u8> {
 }
 
 // What a copy of the cache has once the step is taken.
-fn stepped(
+fn text_after(
     rt: &impl Abort,
     alloc: Global,
     cache: &mut Cache,
@@ -99,7 +99,7 @@ fn stepped(
         put(rt, cache, alloc, step)?;
     }
     let copy = cache.copy().expect(rt, MEMORY);
-    Ok(shown(rt, alloc, &copy))
+    Ok(text_of(rt, alloc, &copy))
 }
 
 // Requires that a new cache has after each step what the step's line says.
@@ -107,7 +107,7 @@ fn assert_steps(rt: &impl Abort, alloc: Global, lines: &str) {
     let mut cache = Cache::new(alloc);
     for line in lines.lines() {
         let (step, want) = cut(rt, line, ' ');
-        assert_told(rt, stepped(rt, alloc, &mut cache, step), want);
+        assert_told(rt, text_after(rt, alloc, &mut cache, step), want);
     }
 }
 
@@ -184,7 +184,7 @@ fn put_string(
 }
 
 // A cache in which 271,195 bytes are left of those for the processes of its node.
-fn filled(rt: &impl Abort, alloc: Global) -> Cache {
+fn full_cache(rt: &impl Abort, alloc: Global) -> Cache {
     let mut cache = Cache::new(alloc);
     for letter in b'a'..b'p' {
         let longest = string_of(rt, alloc, LONGEST);
@@ -204,7 +204,7 @@ fn assert_put(rt: &impl Abort, alloc: Global, cache: &mut Cache, line: &str) {
 
 #[test]
 fn a_cache_has_16000000_bytes_for_each_reach(rt: HostRuntime) {
-    let mut cache = filled(&rt, rt.alloc());
+    let mut cache = full_cache(&rt, rt.alloc());
     for line in STRINGS.lines() {
         assert_put(&rt, rt.alloc(), &mut cache, line);
     }

@@ -95,7 +95,7 @@ fn two_entries(rt: &impl Abort, alloc: Global) -> Vec<PieceEntry> {
 }
 
 // A copy of a contribution with these entries.
-fn copied(rt: &impl Abort, alloc: Global) -> Piece {
+fn copy_of_piece(rt: &impl Abort, alloc: Global) -> Piece {
     let entries = two_entries(rt, alloc);
     let proc = process_of(rt, alloc, "j/4095");
     let piece = Piece::new(proc, 1, 3, entries).expect(rt, MEMORY);
@@ -110,7 +110,7 @@ fn is_of(rt: &impl Abort, alloc: Global, piece: &Piece, who: &str) -> bool {
 #[test]
 fn a_piece_is_copied(rt: HostRuntime) {
     let alloc = rt.alloc();
-    let piece = copied(&rt, alloc);
+    let piece = copy_of_piece(&rt, alloc);
     assert!(rt; is_of(&rt, alloc, &piece, "j/4095"));
     assert!(rt; (piece.from(), piece.to()) == (1, 3));
     assert!(rt; piece.entry(1).map(PieceEntry::size) == Some(18));
@@ -119,7 +119,7 @@ fn a_piece_is_copied(rt: HostRuntime) {
 }
 
 // Entries of the key a, and one of b.
-fn mixed(rt: &impl Abort, alloc: Global) -> Vec<PieceEntry> {
+fn mixed_entries(rt: &impl Abort, alloc: Global) -> Vec<PieceEntry> {
     let mut entries = Vec::with_capacity(alloc, 6).expect(rt, MEMORY);
     for (number, digit) in [(2, b'7'), (3, b'5'), (3, b'6'), (3, b'4'), (4, b'9')] {
         let more = entry(rt, alloc, b"a", number, digit);
@@ -139,7 +139,7 @@ fn best(rt: &impl Abort, alloc: Global, entries: &[PieceEntry], level: u64) -> O
 
 #[test]
 fn best_is_the_latest_that_can_be_read(rt: HostRuntime) {
-    let entries = mixed(&rt, rt.alloc());
+    let entries = mixed_entries(&rt, rt.alloc());
     assert!(rt; best(&rt, rt.alloc(), &entries, 1) == None);
     for (level, digit) in [(2, b'7'), (3, b'6'), (4, b'9'), (9, b'9')] {
         assert!(rt; best(&rt, rt.alloc(), &entries, level) == Some(digit));

@@ -64,7 +64,7 @@ fn sealer_of(rt: &impl Abort, alloc: Global) -> Sealer {
 }
 
 // The sealer of j/0 once these steps are taken.
-fn played(rt: &impl Abort, alloc: Global, steps: &str) -> Sealer {
+fn sealer_after(rt: &impl Abort, alloc: Global, steps: &str) -> Sealer {
     let mut cache = Cache::new(alloc);
     let mut sealer = sealer_of(rt, alloc);
     take_all(rt, alloc, &mut cache, &mut sealer, steps).expect(rt, MEMORY);
@@ -93,7 +93,7 @@ fn push_far(rt: &impl Abort, text: &mut Vec<u8>, sealer: &Sealer) {
 }
 
 // The level, what was sealed near, as a contribution tells it, and what was sealed far.
-fn shown(rt: &impl Abort, alloc: Global, sealer: &Sealer) -> Vec<u8> {
+fn text_of(rt: &impl Abort, alloc: Global, sealer: &Sealer) -> Vec<u8> {
     let mut text = Vec::new(alloc);
     push_number(&mut text, sealer.level()).expect(rt, MEMORY);
     text.push(b' ').expect(rt, MEMORY);
@@ -114,7 +114,7 @@ fn shown_after(
 ) -> Result<Vec<u8>, Refusal> {
     take_all(rt, alloc, cache, sealer, steps)?;
     let copy = sealer.copy().expect(rt, MEMORY);
-    Ok(shown(rt, alloc, &copy))
+    Ok(text_of(rt, alloc, &copy))
 }
 
 #[test]
@@ -132,7 +132,7 @@ fn commits_seal_what_was_put(rt: HostRuntime) {
 #[test]
 fn a_piece_is_of_commits_for_others(rt: HostRuntime) {
     let alloc = rt.alloc();
-    let sealer = played(&rt, alloc, "ga1,gb2,c,ga3,c,c");
+    let sealer = sealer_after(&rt, alloc, "ga1,gb2,c,ga3,c,c");
     let cases = [
         (0, Reach::Far, "a23b12"),
         (1, Reach::Far, "a23"),
@@ -148,14 +148,14 @@ fn a_piece_is_of_commits_for_others(rt: HostRuntime) {
 fn try_commit(rt: &impl Abort, sealer: &mut Sealer, batch: &Batch) -> u64 {
     let before = sealer.commit(batch).expect(rt, MEMORY);
     let level = sealer.level();
-    sealer.take_back(before);
+    sealer.rollback(before);
     level
 }
 
 // An end that is taken back at once.
 fn try_end(rt: &impl Abort, sealer: &mut Sealer) {
     if let Some(before) = sealer.end().expect(rt, MEMORY) {
-        sealer.take_back(before);
+        sealer.rollback(before);
     }
 }
 
@@ -171,10 +171,10 @@ fn batch_of(rt: &impl Abort, alloc: Global, steps: &str) -> Batch {
 #[test]
 fn a_commit_and_an_end_are_taken_back(rt: HostRuntime) {
     let alloc = rt.alloc();
-    let mut sealer = played(&rt, alloc, "ga5,c");
+    let mut sealer = sealer_after(&rt, alloc, "ga5,c");
     let level = try_commit(&rt, &mut sealer, &batch_of(&rt, alloc, "ga6,rb6"));
     assert!(rt; level == 2);
-    assert_told(&rt, Ok(shown(&rt, alloc, &sealer)), "1 a15/a15");
+    assert_told(&rt, Ok(text_of(&rt, alloc, &sealer)), "1 a15/a15");
     try_end(&rt, &mut sealer);
-    assert_told(&rt, Ok(shown(&rt, alloc, &sealer)), "1 a15/a15");
+    assert_told(&rt, Ok(text_of(&rt, alloc, &sealer)), "1 a15/a15");
 }

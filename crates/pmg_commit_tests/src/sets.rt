@@ -18,7 +18,7 @@ fn push_set(rt: &impl Abort, alloc: Global, text: &mut Vec<u8>, sets: &Sets, nam
 }
 
 // The number of the changes, and of each set its name and its members.
-fn shown(rt: &impl Abort, alloc: Global, sets: &Sets) -> Vec<u8> {
+fn text_of(rt: &impl Abort, alloc: Global, sets: &Sets) -> Vec<u8> {
     let mut text = Vec::new(alloc);
     push_number(&mut text, sets.level()).expect(rt, MEMORY);
     for name in &sets.names().expect(rt, MEMORY) {
@@ -39,10 +39,10 @@ fn try_changes(rt: &impl Abort, alloc: Global, sets: &mut Sets) -> (u64, u64) {
         .put_set(&slow, list_of(rt, alloc, "j/3"))
         .expect(rt, MEMORY);
     let defined = sets.level();
-    sets.take_back(before);
+    sets.rollback(before);
     let before = sets.remove_set(&key_of(rt, alloc, b'a')).expect(rt, MEMORY);
     let deleted = sets.level();
-    sets.take_back(before);
+    sets.rollback(before);
     (defined, deleted)
 }
 
@@ -65,9 +65,9 @@ fn assert_changed(rt: &impl Abort, alloc: Global, sets: &mut Sets) {
     assert!(rt; delete(rt, alloc, sets, b'b') == 3);
     assert!(rt; try_changes(rt, alloc, sets) == (4, 4));
     let want = "3 a=array:proc[6a/1,6a/2]";
-    assert_told(rt, Ok(shown(rt, alloc, sets)), want);
+    assert_told(rt, Ok(text_of(rt, alloc, sets)), want);
     let copy = sets.copy().expect(rt, MEMORY);
-    assert_told(rt, Ok(shown(rt, alloc, &copy)), want);
+    assert_told(rt, Ok(text_of(rt, alloc, &copy)), want);
     assert!(rt; cause_of(rt, sets.piece_from(3)) == Some(Refusal::BadParam));
 }
 

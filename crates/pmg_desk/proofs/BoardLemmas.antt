@@ -7,8 +7,8 @@ use Rattle.pmg_commit.specs.Data.{Data, join_data, of_contribution}
 use Rattle.pmg_commit.specs.Knowledge.{Contribution}
 use Rattle.pmg_store.specs.Pieces.{data_of}
 use Rattle.pmg_store.proofs.Converging.{joined_to_nothing, nothing_joined}
-use Rattle.pmg_rules.specs.Acts.{Act}
-use Rattle.pmg_rules.specs.Holdings.{joined}
+use Rattle.pmg_node_model.specs.Acts.{Act}
+use Rattle.pmg_node_model.specs.Holdings.{joined}
 use Rattle.pmg_publish.proofs.Steps.{far-more, near-more}
 use Rattle.pmg_publish.specs.Publications.{far_of, near_of}
 use Rattle.pmg_publish.specs.declared.counting.Publication.{Publication}

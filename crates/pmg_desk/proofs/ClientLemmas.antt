@@ -4,25 +4,25 @@ use Rattle.std.proofs.Common.{◌≡◌, ◌⊎◌, inl, inr, ℕ, List, [], ◌
 use Rattle.pmg_value.specs.declared.refusal.Refusal.{Refusal}
 use Rattle.pmg_value.specs.declared.refusal.Refusal.TheVariants as refusals
 use Rattle.pmg_jobinfo.specs.Jobs.{Jobs}
-use Rattle.pmg_rules.specs.Acts.{Act, Reply}
+use Rattle.pmg_node_model.specs.Acts.{Act, Reply}
 use Rattle.pmg_node.specs.Servers.{reply_in}
 use Rattle.pmg_node.specs.declared.act.Act.{Act as GivenAct}
 use Rattle.pmg_node.specs.declared.act.Reply.{Reply as GivenReply}
 use Rattle.pmg_publish.specs.declared.counting.Publication.{Publication}
-use Rattle.pmg_desk.specs.Answered.{SameAnswer}
+use Rattle.pmg_desk.specs.Answered.{SameReplies}
 use Rattle.pmg_journal.specs.Journals.{IsEvent, happened}
 use Rattle.pmg_desk.specs.Kinds.{IsReplyTo}
 use Rattle.pmg_journal.specs.Replays.{happening}
 use Rattle.pmg_journal.specs.Transcripts.{Calling, Noted, NotesCall, noted}
 use Rattle.pmg_desk.specs.Telling.{IsToldOf}
-use Rattle.pmg_journal.specs.declared.notes.Twice.{Twice}
+use Rattle.pmg_journal.specs.declared.notes.AnswerCopies.{AnswerCopies}
 
 -- a call that an allocation failed, or at a closed desk, is no event
 no_event : (e : Refusal) → (e ≡ refusals.NoMemory) ⊎ (e ≡ refusals.Closed) → IsEvent {X = GivenReply} (Err e) → ⊥
 no_event e (inl is) event = subst (λ (x : Refusal). IsEvent {X = GivenReply} (Err x)) is event
 no_event e (inr is) event = subst (λ (x : Refusal). IsEvent {X = GivenReply} (Err x)) is event
 
-pub told_by : (jobs : Jobs) (id : ℕ) (a : GivenAct) (answer : Result Twice Refusal) (result : Result GivenReply Refusal) (known : List Publication)
+pub told_by : (jobs : Jobs) (id : ℕ) (a : GivenAct) (answer : Result AnswerCopies Refusal) (result : Result GivenReply Refusal) (known : List Publication)
     → IfOk answer (λ t. IsToldOf jobs id (happened a t.told) known) → IfErr answer (λ e. (e ≡ refusals.NoMemory) ⊎ (e ≡ refusals.Closed))
     → IfOk answer (λ t. result ≡ t.told) → IfErr answer (λ e. result ≡ Err e) → IsEvent result → IsToldOf jobs id (happened a result) known
 told_by jobs id a (Ok t) result known told err is refused event = subst (λ (r : Result GivenReply Refusal). IsToldOf jobs id (happened a r) known) (sym is) told
@@ -30,7 +30,7 @@ told_by jobs id a (Err e) result known told err is refused event = absurd (no_ev
 
 -- the same answer in another form
 module _ {X Y : Type 0} (view : X → Reply) (other : Y → Reply) where
-  pub same_reply : (r : Result X Refusal) (q : Result Y Refusal) → SameAnswer view other r q → reply_in view r ≡ reply_in other q
+  pub same_reply : (r : Result X Refusal) (q : Result Y Refusal) → SameReplies view other r q → reply_in view r ≡ reply_in other q
   same_reply (Ok x) (Ok y) same = same
   same_reply (Err e) (Err f) same = ap Reply.refused same
   same_reply (Ok x) (Err f) same = absurd same
@@ -41,7 +41,7 @@ module _ {X Y : Type 0} (view : X → Reply) (other : Y → Reply) where
   event_left refusals.Closed event = event
   event_left e event = tt
 
-  pub same_event : (r : Result X Refusal) (q : Result Y Refusal) → SameAnswer view other r q → IsEvent r → IsEvent q
+  pub same_event : (r : Result X Refusal) (q : Result Y Refusal) → SameReplies view other r q → IsEvent r → IsEvent q
   same_event (Ok x) (Ok y) same event = tt
   same_event (Err e) (Err f) same event = event_left f (subst (λ (z : Refusal). IsEvent {X = X} (Err z)) same event)
   same_event (Ok x) (Err f) same event = absurd same
@@ -51,17 +51,17 @@ module _ {X Y : Type 0} (view : X → Reply) (other : Y → Reply) where
   noted_left old more call refusals.NoMemory is = is
   noted_left old more call e is = is
 
-  pub same_noted : (old more : List Noted) (call : Calling) (r : Result X Refusal) (q : Result Y Refusal) → SameAnswer view other r q → NotesCall old more call other q → NotesCall old more call view r
+  pub same_noted : (old more : List Noted) (call : Calling) (r : Result X Refusal) (q : Result Y Refusal) → SameReplies view other r q → NotesCall old more call other q → NotesCall old more call view r
   same_noted old more call (Ok x) (Ok y) same is = subst (λ (z : Reply). more ≡ old ++ noted call z ∷ []) (sym same) is
   same_noted old more call (Err e) (Err f) same is = subst (λ (z : Refusal). NotesCall old more call view (Err z)) (sym same) (noted_left old more call f is)
   same_noted old more call (Ok x) (Err f) same is = absurd same
   same_noted old more call (Err e) (Ok y) same is = absurd same
 
   -- so who was told of the one was told of the other
-  pub same_told : (jobs : Jobs) (id : ℕ) (a : Act) (known : List Publication) (r : Result X Refusal) (q : Result Y Refusal) → SameAnswer view other r q
+  pub same_told : (jobs : Jobs) (id : ℕ) (a : Act) (known : List Publication) (r : Result X Refusal) (q : Result Y Refusal) → SameReplies view other r q
       → (IsEvent q → IsToldOf jobs id (happening a (reply_in other q)) known) → IsEvent r → IsToldOf jobs id (happening a (reply_in view r)) known
   same_told jobs id a known r q same told event =
       subst (λ (z : Reply). IsToldOf jobs id (happening a z) known) (sym (same_reply r q same)) (told (same_event r q same event))
 
-  pub same_given : (a : Act) (r : Result X Refusal) (q : Result Y Refusal) → SameAnswer view other r q → (IsEvent q → IsReplyTo a (reply_in other q)) → IsEvent r → IsReplyTo a (reply_in view r)
+  pub same_given : (a : Act) (r : Result X Refusal) (q : Result Y Refusal) → SameReplies view other r q → (IsEvent q → IsReplyTo a (reply_in other q)) → IsEvent r → IsReplyTo a (reply_in view r)
   same_given a r q same told event = subst (IsReplyTo a) (sym (same_reply r q same)) (told (same_event r q same event))

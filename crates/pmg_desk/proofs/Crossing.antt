@@ -19,13 +19,13 @@ use Rattle.pmg_frame.specs.contracts.asks.CommitAsk as CommitAsk
 use Rattle.pmg_frame.specs.contracts.refreshes.RefreshAsk as RefreshAsk
 use Rattle.pmg_frame.specs.contracts.refreshes.RefreshReply as RefreshReply
 use Rattle.pmg_frame.specs.contracts.frame.Frame as Frame
-use Rattle.pmg_rules.specs.contracts.sent.Sent as Sent
+use Rattle.pmg_node_model.specs.contracts.sent.Sent as Sent
 use Rattle.pmg_commit.specs.contracts.last_puts.SealedPut as SealedPut
 use Rattle.pmg_commit.specs.contracts.sealer.Sealer as Sealer
 use Rattle.pmg_fence.specs.contracts.table.Table as Table
-use Rattle.pmg_holding.specs.contracts.own.Own as Own
-use Rattle.pmg_holding.specs.contracts.call.Call as Standing
-use Rattle.pmg_holding.specs.contracts.calls.Calls as Calls
+use Rattle.pmg_node_parts.specs.contracts.own.LocalCommits as LocalCommits
+use Rattle.pmg_node_parts.specs.contracts.call.Call as CallState
+use Rattle.pmg_node_parts.specs.contracts.calls.Calls as Calls
 use Rattle.pmg_dmodex.specs.contracts.marks.Marks as Marks
 use Rattle.pmg_dmodex.specs.contracts.pending.Pending as Pending
 use Rattle.pmg_node.specs.contracts.node.Node as Node
@@ -34,16 +34,16 @@ use Rattle.pmg_node.specs.contracts.act.Request as Request
 use Rattle.pmg_node.specs.contracts.act.Reply as Reply
 use Rattle.pmg_scope.specs.contracts.batch.Batch as Batch
 use Rattle.pmg_scope.specs.contracts.cache.Cache as Cache
-use Rattle.pmg_publish.specs.contracts.viewer.Told as Told
-use Rattle.pmg_alone.proofs.Alone.TheSendSync as Lonely
+use Rattle.pmg_publish.specs.contracts.viewer.Version as Version
+use Rattle.pmg_exclusive.proofs.Exclusive.TheSendSync as Lonely
 use Rattle.counted_slot.proofs.Counted.TheSendSync as Counted
 use Rattle.pmg_journal.specs.contracts.journal.Event as Event
 use Rattle.pmg_journal.specs.contracts.journal.Journal as Journal
 use Rattle.pmg_desk.specs.contracts.state.State as State
-use Rattle.pmg_desk.specs.contracts.lock.Gate as Gate
+use Rattle.pmg_desk.specs.contracts.lock.LockState as LockState
 use Rattle.pmg_desk.specs.contracts.lock.Desk as Desk
 use Rattle.pmg_journal.specs.contracts.transcript.Transcript as Transcript
-use Rattle.pmg_journal.specs.contracts.notes.Notes as Notes
+use Rattle.pmg_journal.specs.contracts.notes.ClientLog as ClientLog
 use Rattle.pmg_desk.specs.contracts.client.Client as Client
 
 text_send : IsSend Text.the_row
@@ -109,10 +109,10 @@ sealer_send = search (put_send, proc_part, key_send, maps, owners, sendable) dep
 table_send : IsSend Table.the_row
 table_send = search (registry_send, signature_send, signature_sync, header_send, proc_send, maps, owners, sendable) depth 80 fits 40000
 
-own_part : IsSend (Own.the_field).row
+own_part : IsSend (LocalCommits.the_field).row
 own_part = search (sealer_send, proc_send, maps, owners, sendable) depth 60 fits 20000
 
-standing_send : IsSend Standing.the_row
+standing_send : IsSend CallState.the_row
 standing_send = search (fence_name_send, proc_part, proc_send, key_send, value_part, owners, sendable) depth 40 fits 20000
 
 calls_send : IsSend Calls.the_row
@@ -154,10 +154,10 @@ journal_part = search (registry_send, event_send, owners, sendable) depth 40 fit
 state_send : IsSend State.the_row
 state_send = search (node_send, journal_part, sent_send, publisher_send, viewer_send, owners, sendable) depth 60 fits 40000
 
-told_sync : IsSync Told.the_row
+told_sync : IsSync Version.the_row
 told_sync = search (history_sync, sendable) depth 40
 
-gate_send : IsSend Gate.the_row
+gate_send : IsSend LockState.the_row
 gate_send = search (proc_send, maps, owners, sendable) depth 60 fits 20000
 
 pub desk_sync : IsSync Desk.the_row
@@ -169,7 +169,7 @@ transcript_send = search (values, proc_part, key_send, value_part, request_part,
 cache_send : IsSend Cache.the_row
 cache_send = search (values, key_send, value_send, maps, owners, sendable) depth 60 fits 20000
 
-notes_send : IsSend Notes.the_row
+notes_send : IsSend ClientLog.the_row
 notes_send = search (transcript_send, cache_send, sendable) depth 40
 
 pub client_send : (l : NamedLft) → IsSend (Client.the_row l)

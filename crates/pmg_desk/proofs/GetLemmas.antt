@@ -4,8 +4,8 @@ use Rattle.pmg_value.specs.declared.process.Proc.{Proc}
 use Rattle.pmg_value.specs.declared.refusal.Refusal.{Refusal}
 use Rattle.pmg_value.specs.declared.value.Value.{Value}
 use Rattle.pmg_get.specs.declared.view.Mode.{Mode}
-use Rattle.pmg_rules.specs.Acts.{Act, Reply, Request}
-use Rattle.pmg_rules.specs.Holdings.{Get}
+use Rattle.pmg_node_model.specs.Acts.{Act, Reply, Request}
+use Rattle.pmg_node_model.specs.Holdings.{Get}
 use Rattle.pmg_desk.specs.Clients.{Client, Tells, proc_of}
 use Rattle.pmg_desk.specs.Reading.{IsGot, got_as, got_in}
 

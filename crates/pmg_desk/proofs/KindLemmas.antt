@@ -9,8 +9,8 @@ use Rattle.pmg_jobinfo.specs.Jobs.{Jobs}
 use Rattle.pmg_frame.specs.declared.frame.Frame.{Frame}
 use Rattle.pmg_get.specs.Gets.{Outcome}
 use Rattle.pmg_get.specs.declared.view.Mode.{Mode}
-use Rattle.pmg_rules.specs.Acts.{Act, Reply, Request, acts, asks, cause, does, done_as, is_taken, leaves, receives, serves, takes}
-use Rattle.pmg_rules.specs.Holdings.{Get, Holding, Standing, answer_in, call_of}
+use Rattle.pmg_node_model.specs.Acts.{Act, Reply, Request, acts, asks, cause, does, done_as, is_taken, leaves, receives, serves, takes}
+use Rattle.pmg_node_model.specs.Holdings.{Get, NodeState, CallState, answer_in, call_of}
 use Rattle.pmg_node.specs.Acting.{act_of, reply_as}
 use Rattle.pmg_node.specs.Kinds.{IsDefined}
 use Rattle.pmg_node.specs.Opening.{new_server}
@@ -30,30 +30,30 @@ use Rattle.pmg_journal.proofs.ReplayLemmas.{last_is}
 refused_kind : (a : Act) (e : Refusal) → IsKind a (Reply.refused e)
 refused_kind a e = tt
 
-module _ (jobs : Jobs) (id : ℕ) (h : Holding) where
-  leaves_kind : (p : Proc) (c : Option Standing) → IsKind (Act.request (Request.leave p)) (leaves h p c).reply
+module _ (jobs : Jobs) (id : ℕ) (h : NodeState) where
+  leaves_kind : (p : Proc) (c : Option CallState) → IsKind (Act.request (Request.leave p)) (leaves h p c).reply
   leaves_kind p None = tt
-  leaves_kind p (Some (Standing.in_fence f)) = tt
-  leaves_kind p (Some (Standing.released f gone)) = tt
-  leaves_kind p (Some (Standing.parked get)) = tt
-  leaves_kind p (Some (Standing.answered get outcome)) = tt
-  leaves_kind p (Some (Standing.refreshing get number)) = tt
-  leaves_kind p (Some (Standing.refreshed get outcome)) = tt
+  leaves_kind p (Some (CallState.in_fence f)) = tt
+  leaves_kind p (Some (CallState.released f gone)) = tt
+  leaves_kind p (Some (CallState.parked get)) = tt
+  leaves_kind p (Some (CallState.answered get outcome)) = tt
+  leaves_kind p (Some (CallState.refreshing get number)) = tt
+  leaves_kind p (Some (CallState.refreshed get outcome)) = tt
 
-  takes_kind : (p : Proc) (c : Option Standing) → IsKind (Act.request (Request.take p)) (takes h p c).reply
+  takes_kind : (p : Proc) (c : Option CallState) → IsKind (Act.request (Request.take p)) (takes h p c).reply
   takes_kind p None = tt
-  takes_kind p (Some (Standing.in_fence f)) = tt
-  takes_kind p (Some (Standing.released f gone)) = tt
-  takes_kind p (Some (Standing.parked get)) = tt
-  takes_kind p (Some (Standing.answered get (Outcome.found value))) = tt
-  takes_kind p (Some (Standing.answered get Outcome.absent)) = tt
-  takes_kind p (Some (Standing.answered get Outcome.outside)) = tt
-  takes_kind p (Some (Standing.answered get Outcome.parks)) = tt
-  takes_kind p (Some (Standing.refreshing get number)) = tt
-  takes_kind p (Some (Standing.refreshed get (Outcome.found value))) = tt
-  takes_kind p (Some (Standing.refreshed get Outcome.absent)) = tt
-  takes_kind p (Some (Standing.refreshed get Outcome.outside)) = tt
-  takes_kind p (Some (Standing.refreshed get Outcome.parks)) = tt
+  takes_kind p (Some (CallState.in_fence f)) = tt
+  takes_kind p (Some (CallState.released f gone)) = tt
+  takes_kind p (Some (CallState.parked get)) = tt
+  takes_kind p (Some (CallState.answered get (Outcome.found value))) = tt
+  takes_kind p (Some (CallState.answered get Outcome.absent)) = tt
+  takes_kind p (Some (CallState.answered get Outcome.outside)) = tt
+  takes_kind p (Some (CallState.answered get Outcome.parks)) = tt
+  takes_kind p (Some (CallState.refreshing get number)) = tt
+  takes_kind p (Some (CallState.refreshed get (Outcome.found value))) = tt
+  takes_kind p (Some (CallState.refreshed get Outcome.absent)) = tt
+  takes_kind p (Some (CallState.refreshed get Outcome.outside)) = tt
+  takes_kind p (Some (CallState.refreshed get Outcome.parks)) = tt
 
   asks_kind : (p : Proc) (get : Get) (mode : Mode) (o : Outcome) → IsKind (Act.request (Request.ask p get mode)) (asks h p get mode o).reply
   asks_kind p get mode (Outcome.found value) = tt

@@ -9,9 +9,9 @@ use Rattle.pmg_jobinfo.specs.Jobs.{Jobs}
 use Rattle.pmg_frame.specs.declared.frame.Frame.{Frame}
 use Rattle.pmg_get.specs.Gets.{Outcome}
 use Rattle.pmg_get.specs.declared.view.Mode.{Mode}
-use Rattle.pmg_rules.specs.Acts.{Act, Done, Reply, Request, acts, asks, cause, does, done_as, is_taken, leaves, over, receives, request_cause, serves, takes}
-use Rattle.pmg_rules.specs.Holdings.{Get, Holding, Standing, answer_in, call_of}
-use Rattle.pmg_rules.specs.Sending.{is_quiet}
+use Rattle.pmg_node_model.specs.Acts.{Act, Done, Reply, Request, acts, asks, cause, does, done_as, is_taken, leaves, over, receives, request_cause, serves, takes}
+use Rattle.pmg_node_model.specs.Holdings.{Get, NodeState, CallState, answer_in, call_of}
+use Rattle.pmg_node_model.specs.Sending.{is_quiet}
 use Rattle.pmg_node.specs.Acting.{acted_reply}
 use Rattle.pmg_node.specs.Joining.{act_joins, joins, no_joins}
 use Rattle.pmg_node.specs.Servers.{IsAnswered, RepliesAct, Server, reply_in, reply_to}
@@ -24,7 +24,7 @@ abbrev IsOpen : Reply → Type 0
 IsOpen (Reply.refused refusals.Closed) = ⊥
 IsOpen _ = Unit {0}
 
-module _ (jobs : Jobs) (id : ℕ) (h : Holding) where
+module _ (jobs : Jobs) (id : ℕ) (h : NodeState) where
   no_cause_in : (r : Request) → request_cause jobs id h r refusals.Closed ≡ false
   unfolding request_cause
   no_cause_in (Request.enter p list collect) = refl
@@ -42,29 +42,29 @@ module _ (jobs : Jobs) (id : ℕ) (h : Holding) where
   no_cause (Act.commit p b) = refl
   no_cause (Act.deliver frame) = refl
 
-  leaves_open : (p : Proc) (c : Option Standing) → IsOpen (leaves h p c).reply
+  leaves_open : (p : Proc) (c : Option CallState) → IsOpen (leaves h p c).reply
   leaves_open p None = tt
-  leaves_open p (Some (Standing.in_fence f)) = tt
-  leaves_open p (Some (Standing.released f gone)) = tt
-  leaves_open p (Some (Standing.parked get)) = tt
-  leaves_open p (Some (Standing.answered get outcome)) = tt
-  leaves_open p (Some (Standing.refreshing get number)) = tt
-  leaves_open p (Some (Standing.refreshed get outcome)) = tt
+  leaves_open p (Some (CallState.in_fence f)) = tt
+  leaves_open p (Some (CallState.released f gone)) = tt
+  leaves_open p (Some (CallState.parked get)) = tt
+  leaves_open p (Some (CallState.answered get outcome)) = tt
+  leaves_open p (Some (CallState.refreshing get number)) = tt
+  leaves_open p (Some (CallState.refreshed get outcome)) = tt
 
-  takes_open : (p : Proc) (c : Option Standing) → IsOpen (takes h p c).reply
+  takes_open : (p : Proc) (c : Option CallState) → IsOpen (takes h p c).reply
   takes_open p None = tt
-  takes_open p (Some (Standing.in_fence f)) = tt
-  takes_open p (Some (Standing.released f gone)) = tt
-  takes_open p (Some (Standing.parked get)) = tt
-  takes_open p (Some (Standing.answered get (Outcome.found value))) = tt
-  takes_open p (Some (Standing.answered get Outcome.absent)) = tt
-  takes_open p (Some (Standing.answered get Outcome.outside)) = tt
-  takes_open p (Some (Standing.answered get Outcome.parks)) = tt
-  takes_open p (Some (Standing.refreshing get number)) = tt
-  takes_open p (Some (Standing.refreshed get (Outcome.found value))) = tt
-  takes_open p (Some (Standing.refreshed get Outcome.absent)) = tt
-  takes_open p (Some (Standing.refreshed get Outcome.outside)) = tt
-  takes_open p (Some (Standing.refreshed get Outcome.parks)) = tt
+  takes_open p (Some (CallState.in_fence f)) = tt
+  takes_open p (Some (CallState.released f gone)) = tt
+  takes_open p (Some (CallState.parked get)) = tt
+  takes_open p (Some (CallState.answered get (Outcome.found value))) = tt
+  takes_open p (Some (CallState.answered get Outcome.absent)) = tt
+  takes_open p (Some (CallState.answered get Outcome.outside)) = tt
+  takes_open p (Some (CallState.answered get Outcome.parks)) = tt
+  takes_open p (Some (CallState.refreshing get number)) = tt
+  takes_open p (Some (CallState.refreshed get (Outcome.found value))) = tt
+  takes_open p (Some (CallState.refreshed get Outcome.absent)) = tt
+  takes_open p (Some (CallState.refreshed get Outcome.outside)) = tt
+  takes_open p (Some (CallState.refreshed get Outcome.parks)) = tt
 
   asks_open : (p : Proc) (get : Get) (mode : Mode) (o : Outcome) → IsOpen (asks h p get mode o).reply
   asks_open p get mode (Outcome.found value) = tt

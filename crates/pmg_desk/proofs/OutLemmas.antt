@@ -7,17 +7,17 @@ use Rattle.pmg_value.specs.declared.process.Proc.{Proc}
 use Rattle.pmg_value.specs.declared.refusal.Refusal.{Refusal}
 use Rattle.pmg_store.specs.Dump.{dump}
 use Rattle.pmg_jobinfo.specs.Jobs.{Jobs}
-use Rattle.pmg_rules.specs.Acts.{caller_cause}
-use Rattle.pmg_rules.specs.Kept.{IsOwn}
-use Rattle.pmg_rules.specs.declared.sent.Sent.{Sent}
-use Rattle.pmg_rules.proofs.CauseFacts.{NoCause, by_causes}
-use Rattle.pmg_rules.proofs.KeptBasics.{caller_is}
+use Rattle.pmg_node_model.specs.Acts.{caller_cause}
+use Rattle.pmg_node_model.specs.Kept.{IsOwn}
+use Rattle.pmg_node_model.specs.declared.sent.Sent.{Sent}
+use Rattle.pmg_node_model.proofs.CauseFacts.{NoCause, by_causes}
+use Rattle.pmg_node_model.proofs.KeptBasics.{caller_is}
 use Rattle.pmg_node.specs.Opening.{new_server}
 use Rattle.pmg_node.specs.Servers.{Server}
 use Rattle.pmg_desk.specs.declared.state.Parts.{Parts}
-use Rattle.pmg_journal.specs.Journals.{start_of, told_in}
+use Rattle.pmg_journal.specs.Journals.{start_of, happened_in}
 use Rattle.pmg_journal.specs.Replays.{Happening, sent_over}
-use Rattle.pmg_desk.specs.States.{IsKept, IsLive}
+use Rattle.pmg_desk.specs.States.{IsStateKept, IsLive}
 use Rattle.pmg_desk.specs.Telling.{WasFarDump, WasSent}
 use Rattle.pmg_desk.proofs.ReadyLemmas.{id_same, jobs_same}
 
@@ -46,22 +46,22 @@ module _ (jobs : Jobs) (id : ℕ) (es : List Happening) (taken : ℕ) (out : Lis
   rest_live None there live = absurd cc
   rest_live (Some s) there live = live.outbox_is
 
-module _ (p : Parts) (kept : IsKept p) where
+module _ (p : Parts) (kept : IsStateKept p) where
   -- a caller of whom nothing is amiss is a process of the group, at home at the node
   pub own_by : (q : Proc) → option_map (judged q) p.node ≡ Some (Ok tt) → IsOwn p.journal.registry p.journal.node q
-  own_by q is = own_live p.journal.registry p.journal.node (told_in p.journal) p.taken p.outbox.items q p.node kept.live is
+  own_by q is = own_live p.journal.registry p.journal.node (happened_in p.journal) p.taken p.outbox.items q p.node kept.live is
 
   -- the frames of the outbox are the rest of those that were sent
   pub sent_rest : is_none p.node ≡ false → WasSent p.journal.registry p.journal.node p.outbox.items
   sent_rest there = record {
-    es = told_in p.journal;
+    es = happened_in p.journal;
     replay = kept.journal;
     taken = p.taken;
-    are_the_rest = rest_live p.journal.registry p.journal.node (told_in p.journal) p.taken p.outbox.items p.node there kept.live;
+    are_the_rest = rest_live p.journal.registry p.journal.node (happened_in p.journal) p.taken p.outbox.items p.node there kept.live;
   }
 
   -- the dump of the node's far store
   pub far_dump_of : (s : Server) → p.node ≡ Some s → (text : List ℕ) → text ≡ dump s.holding.far → WasFarDump p.journal.registry p.journal.node text
   far_dump_of s here text is =
-      let live = subst (λ (n : Option Server). IfSome n (IsLive (start_of p.journal) (told_in p.journal) p.taken p.outbox.items)) here kept.live in
-      record { es = told_in p.journal; replay = kept.journal; is_dump = is ∙ ap (λ (x : Server). dump x.holding.far) live.node_is }
+      let live = subst (λ (n : Option Server). IfSome n (IsLive (start_of p.journal) (happened_in p.journal) p.taken p.outbox.items)) here kept.live in
+      record { es = happened_in p.journal; replay = kept.journal; is_dump = is ∙ ap (λ (x : Server). dump x.holding.far) live.node_is }

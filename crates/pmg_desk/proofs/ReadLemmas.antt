@@ -14,13 +14,13 @@ use Rattle.pmg_get.specs.declared.view.Mode.TheVariants as modes
 use Rattle.pmg_jobinfo.specs.Jobs.{Jobs, is_node, is_registered}
 use Rattle.pmg_jobinfo.specs.Reserved.{is_general}
 use Rattle.pmg_publish.specs.Publications.{far_of, near_of}
-use Rattle.pmg_rules.proofs.CauseFacts.{NoCause, by_causes}
-use Rattle.pmg_rules.proofs.KeptSettled.{resolve_parks}
-use Rattle.pmg_rules.specs.Acts.{Reply, is_misnamed, reply_of, target_cause}
-use Rattle.pmg_rules.specs.Holdings.{Get, Holding, new_holding, plain_seen, seen_of}
+use Rattle.pmg_node_model.proofs.CauseFacts.{NoCause, by_causes}
+use Rattle.pmg_node_model.proofs.KeptSettled.{resolve_parks}
+use Rattle.pmg_node_model.specs.Acts.{Reply, is_misnamed, reply_of, target_cause}
+use Rattle.pmg_node_model.specs.Holdings.{Get, NodeState, new_holding, plain_seen, seen_of}
 use Rattle.pmg_node.proofs.AskLemmas.{reserved_found, reserved_named, reserved_refuses, told_first}
 use Rattle.pmg_desk.specs.Clients.{Client, proc_of, puts_of}
-use Rattle.pmg_desk.specs.Reading.{IsDue, IsReadNow, Reads, is_own, now_cause, reserved_seen}
+use Rattle.pmg_desk.specs.Reading.{IsDueOrClosed, IsReadNow, ReadsNow, is_own_key, now_cause, reserved_seen}
 
 -- a get that waits for nobody does not park
 pub now_tells : (seen : Seen) → resolve seen modes.Now ≡ Outcome.parks → ⊥
@@ -43,20 +43,20 @@ plain_by jobs id nears fars get is = ap (λ (b : Bool). cond b (reserved_seen jo
 -- what the registry answers is due
 pub reserved_due : (jobs : Jobs) (id : ℕ) (get : Get) → is_node jobs id ≡ true → is_reserved get.key ≡ true → is_registered jobs get.target.nspace ≡ true
     → (not (is_general get.target) && is_misnamed jobs get.target) ≡ false → (r : Result Value Refusal) → Gives Some r (told_first jobs id get)
-    → IsDue r (reply_of (resolve (reserved_seen jobs id get) modes.Now))
-reserved_due jobs id get node key known named r gives = subst (λ (s : Seen). IsDue r (reply_of (resolve s modes.Now))) (reserved_by jobs id _ _ get key) (due r gives)
+    → IsDueOrClosed r (reply_of (resolve (reserved_seen jobs id get) modes.Now))
+reserved_due jobs id get node key known named r gives = subst (λ (s : Seen). IsDueOrClosed r (reply_of (resolve s modes.Now))) (reserved_by jobs id _ _ get key) (due r gives)
   where
-    nothing : Holding
+    nothing : NodeState
     nothing = new_holding jobs id
 
     due : (r : Result Value Refusal) → Gives Some r (told_first jobs id get)
-        → IsDue r (reply_of (resolve (seen_of jobs id (read_at nothing.near get.target) (read_at nothing.far get.target) get) modes.Now))
+        → IsDueOrClosed r (reply_of (resolve (seen_of jobs id (read_at nothing.near get.target) (read_at nothing.far get.target) get) modes.Now))
     due (Ok v) is = reserved_found jobs id get nothing modes.Now key node known named v is
     due (Err refusals.NoMemory) is = tt
     due (Err refusals.Closed) is = tt
     due (Err e) is = reserved_refuses jobs id get nothing modes.Now key node known named e is
 
-module _ (c : Client) (get : Get) (free : ◌≡◌ {A = Result (Unit {0}) Refusal} (Ok tt) (first_of (now_cause c get) tt)) (other : is_own (proc_of c) get ≡ false) where
+module _ (c : Client) (get : Get) (free : ◌≡◌ {A = Result (Unit {0}) Refusal} (Ok tt) (first_of (now_cause c get) tt)) (other : is_own_key (proc_of c) get ≡ false) where
   none : NoCause (now_cause c get)
   none = elim (by_causes (now_cause c get) (tt {0})) [
     | inl found ↦ absurd (not_both found.0 (sym found.2 ∙ sym free))
@@ -66,7 +66,7 @@ module _ (c : Client) (get : Get) (free : ◌≡◌ {A = Result (Unit {0}) Refus
       not_both : (e : Refusal) → ◌≡◌ {A = Result (Unit {0}) Refusal} (Err e) (Ok tt) → ⊥
       not_both e is = cc
 
-  target_free : (e : Refusal) → (not (is_own (proc_of c) get) && target_cause c.jobs (proc_of c) get e) ≡ false → target_cause c.jobs (proc_of c) get e ≡ false
+  target_free : (e : Refusal) → (not (is_own_key (proc_of c) get) && target_cause c.jobs (proc_of c) get e) ≡ false → target_cause c.jobs (proc_of c) get e ≡ false
   target_free e is = ap (λ (b : Bool). not b && target_cause c.jobs (proc_of c) get e) (sym other) ∙ is
 
   -- the target may be named
@@ -78,34 +78,34 @@ module _ (c : Client) (get : Get) (free : ◌≡◌ {A = Result (Unit {0}) Refus
 
 -- a read is refused where it has a cause
 pub read_refused : (c d : Client) (get : Get) (e : Refusal) → ◌≡◌ {A = Result (Unit {0}) Refusal} (Err e) (first_of (now_cause c get) tt) → IsReadNow c d get (Err e)
-read_refused c d get e is = subst (Reads c d get (Err e)) is refl
+read_refused c d get e is = subst (ReadsNow c d get (Err e)) is refl
 
 module _ (c d : Client) (get : Get) (result : Result Value Refusal) (free : ◌≡◌ {A = Result (Unit {0}) Refusal} (Ok tt) (first_of (now_cause c get) tt)) where
   abbrev there : Seen
   there = seen_of c.jobs c.node (read_at (near_of d.viewer.log) get.target) (read_at (far_of d.viewer.log) get.target) get
 
-  read_at_all : (own : Bool) → is_own (proc_of c) get ≡ own
-      → IsDue result (reply_of (resolve (cond own (Seen.own (finite.get (puts_of c).own get.key)) there) modes.Now)) → IsReadNow c d get result
+  read_at_all : (own : Bool) → is_own_key (proc_of c) get ≡ own
+      → IsDueOrClosed result (reply_of (resolve (cond own (Seen.own (finite.get (puts_of c).own get.key)) there) modes.Now)) → IsReadNow c d get result
   read_at_all own is due =
-      subst (Reads c d get result) free
-      (subst (λ (b : Bool). IsDue result (reply_of (resolve (cond b (Seen.own (finite.get (puts_of c).own get.key)) there) modes.Now))) (sym is) due)
+      subst (ReadsNow c d get result) free
+      (subst (λ (b : Bool). IsDueOrClosed result (reply_of (resolve (cond b (Seen.own (finite.get (puts_of c).own get.key)) there) modes.Now))) (sym is) due)
 
   -- else it is told what it put
-  pub read_own : is_own (proc_of c) get ≡ true → IsDue result (reply_of (resolve (Seen.own (finite.get (puts_of c).own get.key)) modes.Now)) → IsReadNow c d get result
+  pub read_own : is_own_key (proc_of c) get ≡ true → IsDueOrClosed result (reply_of (resolve (Seen.own (finite.get (puts_of c).own get.key)) modes.Now)) → IsReadNow c d get result
   read_own = read_at_all true
 
   -- or what the group tells
-  pub read_reserved : is_own (proc_of c) get ≡ false → is_reserved get.key ≡ true → IsDue result (reply_of (resolve (reserved_seen c.jobs c.node get) modes.Now))
+  pub read_reserved : is_own_key (proc_of c) get ≡ false → is_reserved get.key ≡ true → IsDueOrClosed result (reply_of (resolve (reserved_seen c.jobs c.node get) modes.Now))
       → IsReadNow c d get result
-  read_reserved other key due = read_at_all false other (subst (λ (s : Seen). IsDue result (reply_of (resolve s modes.Now))) (sym (reserved_by c.jobs c.node _ _ get key)) due)
+  read_reserved other key due = read_at_all false other (subst (λ (s : Seen). IsDueOrClosed result (reply_of (resolve s modes.Now))) (sym (reserved_by c.jobs c.node _ _ get key)) due)
 
   -- or what the stores tell
-  pub read_plain : is_own (proc_of c) get ≡ false → is_reserved get.key ≡ false
-      → IsDue result (reply_of (resolve (plain_seen c.jobs c.node (read_at (near_of d.viewer.log) get.target) (read_at (far_of d.viewer.log) get.target) get) modes.Now))
+  pub read_plain : is_own_key (proc_of c) get ≡ false → is_reserved get.key ≡ false
+      → IsDueOrClosed result (reply_of (resolve (plain_seen c.jobs c.node (read_at (near_of d.viewer.log) get.target) (read_at (far_of d.viewer.log) get.target) get) modes.Now))
       → IsReadNow c d get result
-  read_plain other key due = read_at_all false other (subst (λ (s : Seen). IsDue result (reply_of (resolve s modes.Now))) (sym (plain_by c.jobs c.node _ _ get key)) due)
+  read_plain other key due = read_at_all false other (subst (λ (s : Seen). IsDueOrClosed result (reply_of (resolve s modes.Now))) (sym (plain_by c.jobs c.node _ _ get key)) due)
 
 -- where the viewer is closed, or an allocation failed, no answer is due
-pub none_due : (e : Refusal) → (e ≡ refusals.Closed) ⊎ (e ≡ refusals.NoMemory) → (due : Reply) → IsDue (Err e) due
-none_due e (inl is) due = subst (λ (x : Refusal). IsDue (Err x) due) (sym is) tt
-none_due e (inr is) due = subst (λ (x : Refusal). IsDue (Err x) due) (sym is) tt
+pub none_due : (e : Refusal) → (e ≡ refusals.Closed) ⊎ (e ≡ refusals.NoMemory) → (due : Reply) → IsDueOrClosed (Err e) due
+none_due e (inl is) due = subst (λ (x : Refusal). IsDueOrClosed (Err x) due) (sym is) tt
+none_due e (inr is) due = subst (λ (x : Refusal). IsDueOrClosed (Err x) due) (sym is) tt

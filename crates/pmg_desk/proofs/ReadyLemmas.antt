@@ -14,9 +14,9 @@ use Rattle.pmg_commit.specs.Data.{Data, level_at}
 use Rattle.pmg_fence.proofs.FitLemmas.{ready_stays}
 use Rattle.pmg_fence.proofs.OldLemmas.{ready_young}
 use Rattle.pmg_fence.specs.Tables.{gone_by}
-use Rattle.pmg_rules.proofs.AfterActs.{freed_by_ready}
-use Rattle.pmg_rules.specs.Acts.{Act, Reply, Request, cause, does, leaves, serves}
-use Rattle.pmg_rules.specs.Holdings.{Standing, Holding, call_of, is_ready_at}
+use Rattle.pmg_node_model.proofs.AfterActs.{freed_by_ready}
+use Rattle.pmg_node_model.specs.Acts.{Act, Reply, Request, cause, does, leaves, serves}
+use Rattle.pmg_node_model.specs.Holdings.{CallState, NodeState, call_of, is_ready_at}
 use Rattle.pmg_node.specs.Opening.{new_server}
 use Rattle.pmg_node.specs.Replies.{release_reply}
 use Rattle.pmg_node.specs.Servers.{Server, after, reply_in, reply_to}
@@ -28,7 +28,7 @@ use Rattle.pmg_desk.specs.Clients.{Client, KnowsReady, Tells, proc_of}
 use Rattle.pmg_journal.specs.Journals.{IsEvent}
 use Rattle.pmg_journal.specs.Replays.{Happening, IsReplay, after_all, happening}
 use Rattle.pmg_desk.specs.Publishing.{published_by, published_over}
-use Rattle.pmg_desk.specs.Telling.{IsToldOf, WasReady}
+use Rattle.pmg_desk.specs.Telling.{IsToldOf, WasReadyAt}
 use Rattle.pmg_desk.proofs.OpenLemmas.{over_first}
 use Rattle.pmg_desk.proofs.BoardLemmas.{publishes_what_is_held}
 use Rattle.pmg_journal.proofs.ReplayLemmas.{last_is}
@@ -37,7 +37,7 @@ use Rattle.pmg_publish.proofs.Prefixes.{prefix_trans}
 
 module _ (p : Proc) (f : FenceName) (gone : List Proc) where
   abbrev IsReleased : Server → Type 0
-  IsReleased s = call_of s.holding p ≡ Some (Standing.released f gone)
+  IsReleased s = call_of s.holding p ≡ Some (CallState.released f gone)
 
   abbrev IsReadyThen : Server → Type 0
   IsReadyThen s = (is_ready_at s.jobs s.id s.holding f ≡ true) × (gone ≡ gone_by s.jobs s.id s.holding.table f)
@@ -57,16 +57,16 @@ module _ (p : Proc) (f : FenceName) (gone : List Proc) where
       later (inl old) = first (freed_by_ready s.jobs s.id s.holding e.act p f gone old)
       later (inr (one, two, is, ready)) = inr (e ∷ one, two, ap (λ (xs : List Happening). e ∷ xs) is, ready)
 
-released_call : (h : Holding) (p : Proc) (n : ℕ) (gone : List Proc) (c : Option Standing) → (leaves h p c).reply ≡ Reply.released n gone
-    → (f : FenceName) × (c ≡ Some (Standing.released f gone)) × (f.instance ≡ n)
+released_call : (h : NodeState) (p : Proc) (n : ℕ) (gone : List Proc) (c : Option CallState) → (leaves h p c).reply ≡ Reply.released n gone
+    → (f : FenceName) × (c ≡ Some (CallState.released f gone)) × (f.instance ≡ n)
 released_call h p n gone None is = cc
-released_call h p n gone (Some (Standing.in_fence f)) is = cc
-released_call h p n gone (Some (Standing.parked get)) is = cc
-released_call h p n gone (Some (Standing.answered get outcome)) is = cc
-released_call h p n gone (Some (Standing.refreshing get number)) is = cc
-released_call h p n gone (Some (Standing.refreshed get outcome)) is = cc
-released_call h p n gone (Some (Standing.released f left)) is =
-    (f, ap (λ (r : Reply). Some (Standing.released f (gone_in r))) is, ap instance_in is)
+released_call h p n gone (Some (CallState.in_fence f)) is = cc
+released_call h p n gone (Some (CallState.parked get)) is = cc
+released_call h p n gone (Some (CallState.answered get outcome)) is = cc
+released_call h p n gone (Some (CallState.refreshing get number)) is = cc
+released_call h p n gone (Some (CallState.refreshed get outcome)) is = cc
+released_call h p n gone (Some (CallState.released f left)) is =
+    (f, ap (λ (r : Reply). Some (CallState.released f (gone_in r))) is, ap instance_in is)
   where
     gone_in : Reply → List Proc
     gone_in (Reply.released m xs) = xs
@@ -78,10 +78,10 @@ released_call h p n gone (Some (Standing.released f left)) is =
 
 -- who is told so was released
 released_by : (s : Server) (p : Proc) (n : ℕ) (gone : List Proc) → reply_to s (Act.request (Request.leave p)) ≡ Reply.released n gone
-    → (f : FenceName) × (call_of s.holding p ≡ Some (Standing.released f gone)) × (f.instance ≡ n)
+    → (f : FenceName) × (call_of s.holding p ≡ Some (CallState.released f gone)) × (f.instance ≡ n)
 unfolding does serves
 released_by s p n gone =
-    over_first s.jobs s.id s.holding (λ (r : Reply). r ≡ Reply.released n gone → (f : FenceName) × (call_of s.holding p ≡ Some (Standing.released f gone)) × (f.instance ≡ n))
+    over_first s.jobs s.id s.holding (λ (r : Reply). r ≡ Reply.released n gone → (f : FenceName) × (call_of s.holding p ≡ Some (CallState.released f gone)) × (f.instance ≡ n))
     (does s.jobs s.id s.holding (Act.request (Request.leave p))) check_order (cause s.jobs s.id s.holding (Act.request (Request.leave p))) (λ e due is. cc)
     (released_call s.holding p n gone (call_of s.holding p))
 
@@ -107,7 +107,7 @@ replay_first s (e ∷ one) two replay = (replay.0, replay_first (after s e.act) 
 
 -- so the client's viewer knows of a time when its fence was ready
 pub ready_told : (jobs : Jobs) (id : ℕ) (p : Proc) (n : ℕ) (gone : List Proc) (known : List Publication)
-    → IsToldOf jobs id (happening (Act.request (Request.leave p)) (Reply.released n gone)) known → WasReady jobs id p n gone known
+    → IsToldOf jobs id (happening (Act.request (Request.leave p)) (Reply.released n gone)) known → WasReadyAt jobs id p n gone known
 ready_told jobs id p n gone known told = at_first (released_by (after_all start es) p n gone (last_is start es leave (Reply.released n gone) replay))
   where
     start : Server
@@ -128,7 +128,7 @@ ready_told jobs id p n gone known told = at_first (released_by (after_all start 
     nobody : (f : FenceName) → IsReleased p f gone start → ⊥
     nobody f is = by_none (sym (finite.get-empty proc_cmp p) ∙ is)
       where
-        by_none : None ≡ Some (Standing.released f gone) → ⊥
+        by_none : None ≡ Some (CallState.released f gone) → ⊥
         by_none same = cc
 
     -- what was published until it left is known
@@ -144,7 +144,7 @@ ready_told jobs id p n gone known told = at_first (released_by (after_all start 
         (subst (λ (ps : List Publication). level_at (far_of (published_over start one)) q ≤ level_at (far_of ps) q) first.1 (far_longer (published_over start one) first.0 q))
 
     made : (f : FenceName) → IsReleased p f gone (after_all start es) → f.instance ≡ n → (one two : List Happening) → es ≡ one ++ two → IsReadyThen p f gone (after_all start one)
-        → WasReady jobs id p n gone known
+        → WasReadyAt jobs id p n gone known
     made f released same one two is ready =
         let then : is_ready_at jobs id (after_all start one).holding f ≡ true =
         (λ i. is_ready_at (sym (jobs_same start one) i) (sym (id_same start one) i) (after_all start one).holding f) ∙ ready.0 in
@@ -163,10 +163,10 @@ ready_told jobs id p n gone known told = at_first (released_by (after_all start 
               (ready_young jobs id table f (level_at (after_all start one).holding.far) then) (more_known one two is) then;
         }
 
-    at_first : (f : FenceName) × (call_of (after_all start es).holding p ≡ Some (Standing.released f gone)) × (f.instance ≡ n) → WasReady jobs id p n gone known
+    at_first : (f : FenceName) × (call_of (after_all start es).holding p ≡ Some (CallState.released f gone)) × (f.instance ≡ n) → WasReadyAt jobs id p n gone known
     at_first (f, is, same) = by_way (since p f gone start es is)
       where
-        by_way : IsReleased p f gone start ⊎ ((one : List Happening) × (two : List Happening) × (es ≡ one ++ two) × IsReadyThen p f gone (after_all start one)) → WasReady jobs id p n gone known
+        by_way : IsReleased p f gone start ⊎ ((one : List Happening) × (two : List Happening) × (es ≡ one ++ two) × IsReadyThen p f gone (after_all start one)) → WasReadyAt jobs id p n gone known
         by_way (inl old) = absurd (nobody f old)
         by_way (inr (one, two, way, ready)) = made f is same one two way ready
 
@@ -176,4 +176,4 @@ ready_known d p (Err e) same told = tt
 ready_known d p (Ok releases.Idle) same told = tt
 ready_known d p (Ok releases.Waiting) same told = tt
 ready_known d p (Ok (releases.Released instance gone)) same told =
-    subst (λ (q : Proc). WasReady d.jobs d.node q instance gone.items d.viewer.log) (sym same) (ready_told d.jobs d.node p instance gone.items d.viewer.log (told tt))
+    subst (λ (q : Proc). WasReadyAt d.jobs d.node q instance gone.items d.viewer.log) (sym same) (ready_told d.jobs d.node p instance gone.items d.viewer.log (told tt))

@@ -3,8 +3,8 @@ use Rattle.std.proofs.Common.{◌≡◌, ℕ, ◌+◌, ◌-◌, ◌≤◌, List,
 use Rattle.std.proofs.lemmas.List.{append-nil, append_assoc, drop-append-le, drop_all, length-append, length-drop}
 use mathlib.Core.List.{IsPrefix}
 use Rattle.pmg_jobinfo.specs.Jobs.{Jobs}
-use Rattle.pmg_rules.specs.Acts.{Act, Reply}
-use Rattle.pmg_rules.specs.declared.sent.Sent.{Sent}
+use Rattle.pmg_node_model.specs.Acts.{Act, Reply}
+use Rattle.pmg_node_model.specs.declared.sent.Sent.{Sent}
 use Rattle.pmg_node.specs.Opening.{new_server}
 use Rattle.pmg_node.specs.Servers.{Server, after, reply_to, sent_by}
 use Rattle.pmg_publish.specs.declared.counting.Publication.{Publication}

@@ -29,12 +29,12 @@ use Rattle.pmg_pset.specs.Sets.{host}
 use Rattle.pmg_store.specs.Pieces.{data_of}
 use Rattle.pmg_store.proofs.Converging.{same_in_any_grouping}
 use Rattle.pmg_store.proofs.HonestDataLaws.{levels_rise}
-use Rattle.pmg_rules.specs.Acts.{Act, Done, Reply, Request, acts, asks, cause, does, done_as, free_cause, holds_unless, is_taken, leaves, over, receives, seal_cause, serves, takes}
-use Rattle.pmg_rules.specs.Holdings.{Get, Holding, Standing, answer_in, call_of, joined, new_holding, sealer_in, sealer_of, sealing}
-use Rattle.pmg_rules.specs.Kept.{Holds, IsServer}
-use Rattle.pmg_rules.proofs.CauseFacts.{by_causes, free_is, neither_cause}
-use Rattle.pmg_rules.proofs.KeptActs.{new_is_server, server_stays}
-use Rattle.pmg_rules.proofs.Sealing.{level_raised, sealer_here, sealer_there}
+use Rattle.pmg_node_model.specs.Acts.{Act, Done, Reply, Request, acts, asks, cause, does, done_as, free_cause, holds_unless, is_taken, leaves, over, receives, seal_cause, serves, takes}
+use Rattle.pmg_node_model.specs.Holdings.{Get, NodeState, CallState, answer_in, call_of, joined, new_holding, sealer_in, sealer_of, sealing}
+use Rattle.pmg_node_model.specs.Kept.{Holds, IsServer}
+use Rattle.pmg_node_model.proofs.CauseFacts.{by_causes, free_is, neither_cause}
+use Rattle.pmg_node_model.proofs.KeptActs.{new_is_server, server_stays}
+use Rattle.pmg_node_model.proofs.Sealing.{level_raised, sealer_here, sealer_there}
 use Rattle.pmg_node.specs.Opening.{new_server}
 use Rattle.pmg_node.specs.Servers.{Server, after, reply_in}
 use Rattle.pmg_publish.specs.Publications.{far_of}
@@ -48,16 +48,16 @@ use Rattle.pmg_desk.proofs.BoardLemmas.{publishes_what_is_held}
 no_more : (a b c : ℕ) → a ≤ b → b ≤ c → a ≤ c
 no_more a b c one two = omega (arith, one, two)
 
-host_sets : (h : Holding) → sealer_of h host ≡ h.sets
+host_sets : (h : NodeState) → sealer_of h host ≡ h.sets
 unfolding sealer_in
 host_sets h = refl
 
 module _ (jobs : Jobs) (id : ℕ) where
   -- what each process at home at the node sealed is in its far store
-  abbrev IsIn : Holding → Type 0
+  abbrev IsIn : NodeState → Type 0
   IsIn h = (q : Proc) → home_of jobs q ≡ id → (sealer_of h q).level ≤ level_at h.far q
 
-  module _ (h : Holding) (held : IsIn h) where
+  module _ (h : NodeState) (held : IsIn h) where
     sealing_in : (p : Proc) (z : Sealed) → z.proc ≡ p → IsIn (sealing h p z)
     sealing_in p z same q home = by_same (same_proc q p) refl
       where
@@ -73,23 +73,23 @@ module _ (jobs : Jobs) (id : ℕ) where
         by_same false apart =
             subst (λ (x : Sealed). x.level ≤ level_at (absorbed h.far piece) q) (sym (sealer_there h p z q apart)) (no_more _ _ _ (held q home) (levels_rise h.far (of_contribution piece) q))
 
-    leaves_in : (p : Proc) (c : Option Standing) → IsIn (leaves h p c).left
+    leaves_in : (p : Proc) (c : Option CallState) → IsIn (leaves h p c).left
     leaves_in p None = held
-    leaves_in p (Some (Standing.in_fence f)) = held
-    leaves_in p (Some (Standing.released f gone)) = held
-    leaves_in p (Some (Standing.parked get)) = held
-    leaves_in p (Some (Standing.answered get outcome)) = held
-    leaves_in p (Some (Standing.refreshing get number)) = held
-    leaves_in p (Some (Standing.refreshed get outcome)) = held
+    leaves_in p (Some (CallState.in_fence f)) = held
+    leaves_in p (Some (CallState.released f gone)) = held
+    leaves_in p (Some (CallState.parked get)) = held
+    leaves_in p (Some (CallState.answered get outcome)) = held
+    leaves_in p (Some (CallState.refreshing get number)) = held
+    leaves_in p (Some (CallState.refreshed get outcome)) = held
 
-    takes_in : (p : Proc) (c : Option Standing) → IsIn (takes h p c).left
+    takes_in : (p : Proc) (c : Option CallState) → IsIn (takes h p c).left
     takes_in p None = held
-    takes_in p (Some (Standing.in_fence f)) = held
-    takes_in p (Some (Standing.released f gone)) = held
-    takes_in p (Some (Standing.parked get)) = held
-    takes_in p (Some (Standing.answered get outcome)) = held
-    takes_in p (Some (Standing.refreshing get number)) = held
-    takes_in p (Some (Standing.refreshed get outcome)) = held
+    takes_in p (Some (CallState.in_fence f)) = held
+    takes_in p (Some (CallState.released f gone)) = held
+    takes_in p (Some (CallState.parked get)) = held
+    takes_in p (Some (CallState.answered get outcome)) = held
+    takes_in p (Some (CallState.refreshing get number)) = held
+    takes_in p (Some (CallState.refreshed get outcome)) = held
 
     asks_in : (p : Proc) (get : Get) (mode : Mode) (o : Outcome) → IsIn (asks h p get mode o).left
     asks_in p get mode (Outcome.found value) = held
@@ -148,7 +148,7 @@ module _ (jobs : Jobs) (id : ℕ) where
       ]
 
   -- who is told a commit's number is at home, and sealed up to it
-  committed_by : (h : Holding) (p : Proc) (b : Unsealed) (n : ℕ) → (acts jobs id h (Act.commit p b)).reply ≡ Reply.committed n
+  committed_by : (h : NodeState) (p : Proc) (b : Unsealed) (n : ℕ) → (acts jobs id h (Act.commit p b)).reply ≡ Reply.committed n
       → (home_of jobs p ≡ id) × ((sealer_of (acts jobs id h (Act.commit p b)).left p).level ≡ n)
   unfolding cause does
   committed_by h p b n is = elim (by_causes (cause jobs id h (Act.commit p b)) (does jobs id h (Act.commit p b))) [

@@ -12,11 +12,11 @@ use Rattle.pmg_jobinfo.specs.Jobs.{Jobs}
 use Rattle.pmg_get.specs.Gets.{Outcome}
 use Rattle.pmg_get.specs.declared.view.Mode.{Mode}
 use Rattle.pmg_get.specs.declared.view.Mode.TheVariants as modes
-use Rattle.pmg_rules.proofs.AfterActs.{after_act}
-use Rattle.pmg_rules.proofs.CallFacts.{call-settled}
-use Rattle.pmg_rules.proofs.Moving.{Moves, StaysOrMoves, does_call}
-use Rattle.pmg_rules.specs.Acts.{Act, Request, cause, does, serves, takes, waits_as}
-use Rattle.pmg_rules.specs.Holdings.{Get, Holding, Standing, answer_in, call_of, released_by, settle, settled_by}
+use Rattle.pmg_node_model.proofs.AfterActs.{after_act}
+use Rattle.pmg_node_model.proofs.CallFacts.{call-settled}
+use Rattle.pmg_node_model.proofs.Moving.{Moves, StaysOrMoves, does_call}
+use Rattle.pmg_node_model.specs.Acts.{Act, Request, cause, does, serves, takes, waits_as}
+use Rattle.pmg_node_model.specs.Holdings.{Get, NodeState, CallState, answer_in, call_of, released_by, settle, settled_by}
 use Rattle.pmg_node.specs.Acting.{reply_as}
 use Rattle.pmg_node.specs.Kinds.{IsTaking}
 use Rattle.pmg_node.specs.Opening.{new_server}
@@ -33,12 +33,12 @@ use Rattle.pmg_desk.proofs.ReadLemmas.{now_tells}
 use Rattle.pmg_journal.proofs.ReplayLemmas.{last_is}
 
 -- whatever is answered has an outcome that is told
-abbrev HasOutcome : Option Standing → Type 0
-HasOutcome (Some (Standing.answered get Outcome.parks)) = ⊥
-HasOutcome (Some (Standing.refreshed get Outcome.parks)) = ⊥
+abbrev HasOutcome : Option CallState → Type 0
+HasOutcome (Some (CallState.answered get Outcome.parks)) = ⊥
+HasOutcome (Some (CallState.refreshed get Outcome.parks)) = ⊥
 HasOutcome c = Unit {0}
 
-abbrev HaveOutcomes : Holding → Type 0
+abbrev HaveOutcomes : NodeState → Type 0
 HaveOutcomes h = (p : Proc) → HasOutcome (call_of h p)
 
 released_has : (b : Bool) (f : FenceName) (gone : List Proc) → HasOutcome (Some (released_by b f gone))
@@ -51,7 +51,7 @@ settled_has get (Outcome.found value) = tt
 settled_has get Outcome.absent = tt
 settled_has get Outcome.outside = tt
 
-anew_has : (get : Get) (o : Outcome) → (o ≡ Outcome.parks → ⊥) → HasOutcome (Some (Standing.refreshed get o))
+anew_has : (get : Get) (o : Outcome) → (o ≡ Outcome.parks → ⊥) → HasOutcome (Some (CallState.refreshed get o))
 anew_has get (Outcome.found value) tells = tt
 anew_has get Outcome.absent tells = tt
 anew_has get Outcome.outside tells = tt
@@ -62,17 +62,17 @@ waits_has n get modes.Wait = tt
 waits_has n get modes.Now = tt
 waits_has n get modes.Refresh = tt
 
-module _ (jobs : Jobs) (id : ℕ) (h : Holding) where
-  settle_has : (c : Option Standing) → HasOutcome c → HasOutcome (option_map (settle jobs id h) c)
+module _ (jobs : Jobs) (id : ℕ) (h : NodeState) where
+  settle_has : (c : Option CallState) → HasOutcome c → HasOutcome (option_map (settle jobs id h) c)
   settle_has None has = tt
-  settle_has (Some (Standing.in_fence f)) has = released_has _ f _
-  settle_has (Some (Standing.released f gone)) has = tt
-  settle_has (Some (Standing.parked get)) has = settled_has get (answer_in jobs id h get modes.Wait)
-  settle_has (Some (Standing.answered get outcome)) has = has
-  settle_has (Some (Standing.refreshing get number)) has = tt
-  settle_has (Some (Standing.refreshed get outcome)) has = has
+  settle_has (Some (CallState.in_fence f)) has = released_has _ f _
+  settle_has (Some (CallState.released f gone)) has = tt
+  settle_has (Some (CallState.parked get)) has = settled_has get (answer_in jobs id h get modes.Wait)
+  settle_has (Some (CallState.answered get outcome)) has = has
+  settle_has (Some (CallState.refreshing get number)) has = tt
+  settle_has (Some (CallState.refreshed get outcome)) has = has
 
-  moved_has : (p : Proc) (a : Act) (c : Option Standing) → HasOutcome (call_of h p) → StaysOrMoves jobs id h p a c → HasOutcome c
+  moved_has : (p : Proc) (a : Act) (c : Option CallState) → HasOutcome (call_of h p) → StaysOrMoves jobs id h p a c → HasOutcome c
   moved_has p a c has (inl same) = subst HasOutcome (sym same) has
   moved_has p a c has (inr (Moves.entering list collect is was now)) = subst HasOutcome (sym now) tt
   moved_has p a c has (inr (Moves.parking get mode is was answer now)) = subst HasOutcome (sym now) (waits_has h.requests get mode)
@@ -96,20 +96,20 @@ outcomes_after s (e ∷ es) have = outcomes_after (after s e.act) es (outcomes_s
 nobody_asked : (jobs : Jobs) (id : ℕ) → HaveOutcomes (new_server jobs id).holding
 nobody_asked jobs id p = subst HasOutcome (sym (finite.get-empty proc_cmp p)) tt
 
-takes_told : (h : Holding) (p : Proc) (c : Option Standing) → HasOutcome c → OrRefused IsTaking (takes h p c).reply
+takes_told : (h : NodeState) (p : Proc) (c : Option CallState) → HasOutcome c → OrRefused IsTaking (takes h p c).reply
 takes_told h p None has = tt
-takes_told h p (Some (Standing.in_fence f)) has = tt
-takes_told h p (Some (Standing.released f gone)) has = tt
-takes_told h p (Some (Standing.parked get)) has = tt
-takes_told h p (Some (Standing.answered get (Outcome.found value))) has = tt
-takes_told h p (Some (Standing.answered get Outcome.absent)) has = tt
-takes_told h p (Some (Standing.answered get Outcome.outside)) has = tt
-takes_told h p (Some (Standing.answered get Outcome.parks)) has = absurd has
-takes_told h p (Some (Standing.refreshing get number)) has = tt
-takes_told h p (Some (Standing.refreshed get (Outcome.found value))) has = tt
-takes_told h p (Some (Standing.refreshed get Outcome.absent)) has = tt
-takes_told h p (Some (Standing.refreshed get Outcome.outside)) has = tt
-takes_told h p (Some (Standing.refreshed get Outcome.parks)) has = absurd has
+takes_told h p (Some (CallState.in_fence f)) has = tt
+takes_told h p (Some (CallState.released f gone)) has = tt
+takes_told h p (Some (CallState.parked get)) has = tt
+takes_told h p (Some (CallState.answered get (Outcome.found value))) has = tt
+takes_told h p (Some (CallState.answered get Outcome.absent)) has = tt
+takes_told h p (Some (CallState.answered get Outcome.outside)) has = tt
+takes_told h p (Some (CallState.answered get Outcome.parks)) has = absurd has
+takes_told h p (Some (CallState.refreshing get number)) has = tt
+takes_told h p (Some (CallState.refreshed get (Outcome.found value))) has = tt
+takes_told h p (Some (CallState.refreshed get Outcome.absent)) has = tt
+takes_told h p (Some (CallState.refreshed get Outcome.outside)) has = tt
+takes_told h p (Some (CallState.refreshed get Outcome.parks)) has = absurd has
 
 taking_told : (s : Server) (p : Proc) → HaveOutcomes s.holding → OrRefused IsTaking (reply_to s (Act.request (Request.take p)))
 unfolding does serves

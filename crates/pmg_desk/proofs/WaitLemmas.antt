@@ -9,9 +9,9 @@ use Rattle.pmg_value.specs.declared.refusal.Refusal.{Refusal}
 use Rattle.pmg_value.specs.declared.refusal.Refusal.TheVariants as refusals
 use Rattle.pmg_jobinfo.specs.Jobs.{Jobs, home_of, is_member, is_registered}
 use Rattle.pmg_get.specs.Gets.{Outcome}
-use Rattle.pmg_rules.specs.Acts.{Act, Done, Reply, Request, Status, caller_cause, cause, does, is_misnamed, leaves, over, request_cause, serves, status_by, status_of, takes}
-use Rattle.pmg_rules.specs.Holdings.{Holding, Standing, call_of}
-use Rattle.pmg_rules.proofs.CauseFacts.{NoCause, by_causes, caller_is, neither}
+use Rattle.pmg_node_model.specs.Acts.{Act, Done, Reply, Request, Status, caller_cause, cause, does, is_misnamed, leaves, over, request_cause, serves, status_by, status_of, takes}
+use Rattle.pmg_node_model.specs.Holdings.{NodeState, CallState, call_of}
+use Rattle.pmg_node_model.proofs.CauseFacts.{NoCause, by_causes, caller_is, neither}
 use Rattle.pmg_node.specs.Acting.{reply_as}
 use Rattle.pmg_node.specs.Replies.{release_reply, status_in, taking_reply}
 use Rattle.pmg_node.specs.Servers.{Server, reply_to}
@@ -22,10 +22,10 @@ use Rattle.pmg_node.specs.declared.status.Status.{Status as ToldStatus}
 use Rattle.pmg_node.specs.declared.status.Status.TheVariants as statuses
 use Rattle.pmg_node.specs.declared.taking.Taking.{Taking}
 use Rattle.pmg_node.specs.declared.taking.Taking.TheVariants as takings
-use Rattle.pmg_desk.specs.Answered.{SameAnswer}
+use Rattle.pmg_desk.specs.Answered.{SameReplies}
 use Rattle.pmg_desk.specs.Awaiting.{IsThere, RepliesPast, RepliesThere, StandsPast}
-use Rattle.pmg_desk.specs.declared.lock.Awaited.{Awaited}
-use Rattle.pmg_desk.specs.declared.lock.Awaited.TheVariants as awaiteds
+use Rattle.pmg_desk.specs.declared.lock.WaitFor.{WaitFor}
+use Rattle.pmg_desk.specs.declared.lock.WaitFor.TheVariants as awaiteds
 
 -- ---- how a caller stands
 
@@ -39,7 +39,7 @@ named_is_member true false e is = cc
 named_is_member false member e is = cc
 
 -- of whom nothing is amiss stands as its call does
-caller_status : (jobs : Jobs) (id : ℕ) (h : Holding) (p : Proc) → NoCause (caller_cause jobs id h p) → status_of jobs id h p ≡ status_by (call_of h p)
+caller_status : (jobs : Jobs) (id : ℕ) (h : NodeState) (p : Proc) → NoCause (caller_cause jobs id h p) → status_of jobs id h p ≡ status_by (call_of h p)
 unfolding status_of
 caller_status jobs id h p none =
     let named = (neither (is_reserved p.nspace) (is_misnamed jobs p) none.1.0).1 in
@@ -53,30 +53,30 @@ caller_status jobs id h p none =
 not_refused : (e : Refusal) → Reply.refused e ≡ Reply.waiting → ⊥
 not_refused e same = cc
 
-module _ (h : Holding) (p : Proc) where
-  in_fence_by : (c : Option Standing) → (leaves h p c).reply ≡ Reply.waiting → status_by c ≡ Status.in_fence
+module _ (h : NodeState) (p : Proc) where
+  in_fence_by : (c : Option CallState) → (leaves h p c).reply ≡ Reply.waiting → status_by c ≡ Status.in_fence
   in_fence_by None is = cc
-  in_fence_by (Some (Standing.in_fence f)) is = refl
-  in_fence_by (Some (Standing.released f gone)) is = cc
-  in_fence_by (Some (Standing.parked get)) is = cc
-  in_fence_by (Some (Standing.answered get outcome)) is = cc
-  in_fence_by (Some (Standing.refreshing get number)) is = cc
-  in_fence_by (Some (Standing.refreshed get outcome)) is = cc
+  in_fence_by (Some (CallState.in_fence f)) is = refl
+  in_fence_by (Some (CallState.released f gone)) is = cc
+  in_fence_by (Some (CallState.parked get)) is = cc
+  in_fence_by (Some (CallState.answered get outcome)) is = cc
+  in_fence_by (Some (CallState.refreshing get number)) is = cc
+  in_fence_by (Some (CallState.refreshed get outcome)) is = cc
 
-  parked_by : (c : Option Standing) → (takes h p c).reply ≡ Reply.waiting → status_by c ≡ Status.parked
+  parked_by : (c : Option CallState) → (takes h p c).reply ≡ Reply.waiting → status_by c ≡ Status.parked
   parked_by None is = cc
-  parked_by (Some (Standing.in_fence f)) is = cc
-  parked_by (Some (Standing.released f gone)) is = cc
-  parked_by (Some (Standing.parked get)) is = refl
-  parked_by (Some (Standing.answered get (Outcome.found value))) is = cc
-  parked_by (Some (Standing.answered get Outcome.absent)) is = cc
-  parked_by (Some (Standing.answered get Outcome.outside)) is = cc
-  parked_by (Some (Standing.answered get Outcome.parks)) is = cc
-  parked_by (Some (Standing.refreshing get number)) is = refl
-  parked_by (Some (Standing.refreshed get (Outcome.found value))) is = cc
-  parked_by (Some (Standing.refreshed get Outcome.absent)) is = cc
-  parked_by (Some (Standing.refreshed get Outcome.outside)) is = cc
-  parked_by (Some (Standing.refreshed get Outcome.parks)) is = cc
+  parked_by (Some (CallState.in_fence f)) is = cc
+  parked_by (Some (CallState.released f gone)) is = cc
+  parked_by (Some (CallState.parked get)) is = refl
+  parked_by (Some (CallState.answered get (Outcome.found value))) is = cc
+  parked_by (Some (CallState.answered get Outcome.absent)) is = cc
+  parked_by (Some (CallState.answered get Outcome.outside)) is = cc
+  parked_by (Some (CallState.answered get Outcome.parks)) is = cc
+  parked_by (Some (CallState.refreshing get number)) is = refl
+  parked_by (Some (CallState.refreshed get (Outcome.found value))) is = cc
+  parked_by (Some (CallState.refreshed get Outcome.absent)) is = cc
+  parked_by (Some (CallState.refreshed get Outcome.outside)) is = cc
+  parked_by (Some (CallState.refreshed get Outcome.parks)) is = cc
 
 module _ (s : Server) (p : Proc) where
   leave_past : StandsPast s p Status.in_fence → reply_to s (Act.request (Request.leave p)) ≡ Reply.waiting → ⊥
@@ -98,7 +98,7 @@ module _ (s : Server) (p : Proc) where
   ]
 
 -- so who leaves a fence once it stands otherwise is not told to wait
-pub leave_waited : (p q : Proc) → q ≡ p → (r : Result Release Refusal) (answer : Result GivenReply Refusal) → SameAnswer release_reply reply_as r answer
+pub leave_waited : (p q : Proc) → q ≡ p → (r : Result Release Refusal) (answer : Result GivenReply Refusal) → SameReplies release_reply reply_as r answer
     → IfOk answer (λ x. RepliesPast p Status.in_fence (Act.request (Request.leave q)) (reply_as x)) → IfOk r (λ x. x ≡ releases.Waiting → ⊥)
 leave_waited p q same (Ok x) (Ok y) told past =
     λ is.
@@ -108,7 +108,7 @@ leave_waited p q same (Ok x) (Err e) told past = absurd told
 leave_waited p q same (Err e) answer told past = tt
 
 -- and who takes an answer
-pub take_waited : (p q : Proc) → q ≡ p → (r : Result Taking Refusal) (answer : Result GivenReply Refusal) → SameAnswer taking_reply reply_as r answer
+pub take_waited : (p q : Proc) → q ≡ p → (r : Result Taking Refusal) (answer : Result GivenReply Refusal) → SameReplies taking_reply reply_as r answer
     → IfOk answer (λ x. RepliesPast p Status.parked (Act.request (Request.take q)) (reply_as x)) → IfOk r (λ x. x ≡ takings.Waiting → ⊥)
 take_waited p q same (Ok x) (Ok y) told past =
     λ is.
@@ -141,19 +141,19 @@ code_in statuses.Ended = refl
 pub same_code : (s t : ToldStatus) → status_in s ≡ status_in t → s ≡ t
 same_code s t is = sym (code_in s) ∙ ap code_of is ∙ code_in t
 
-pub nothing_there : (a : Awaited) (held : Option Server) → a ≡ awaiteds.Nothing → IsThere a held
+pub nothing_there : (a : WaitFor) (held : Option Server) → a ≡ awaiteds.Nothing → IsThere a held
 unfolding IsThere
-nothing_there a held is = subst (λ (x : Awaited). IsThere x held) (sym is) tt
+nothing_there a held is = subst (λ (x : WaitFor). IsThere x held) (sym is) tt
 
-pub frames_there : (a : Awaited) (held : Option Server) → a ≡ awaiteds.Frames → IsThere a held
+pub frames_there : (a : WaitFor) (held : Option Server) → a ≡ awaiteds.Frames → IsThere a held
 unfolding IsThere
-frames_there a held is = subst (λ (x : Awaited). IsThere x held) (sym is) tt
+frames_there a held is = subst (λ (x : WaitFor). IsThere x held) (sym is) tt
 
 -- the process stands so, or the desk has no node
-pub past_there : (a : Awaited) (held : Option Server) (p : Bor Proc) (status : ToldStatus) → a ≡ awaiteds.Past p status → (found : Option ToldStatus)
+pub past_there : (a : WaitFor) (held : Option Server) (p : Bor Proc) (status : ToldStatus) → a ≡ awaiteds.Past p status → (found : Option ToldStatus)
     → option_map status_in found ≡ option_map (λ (s : Server). status_of s.jobs s.id s.holding p.now) held → ((x : ToldStatus) → found ≡ Some x → x ≡ status → ⊥) → IsThere a held
 unfolding IsThere
-past_there a held p status is found stands other = subst (λ (x : Awaited). IsThere x held) (sym is) (by_node held found stands other)
+past_there a held p status is found stands other = subst (λ (x : WaitFor). IsThere x held) (sym is) (by_node held found stands other)
   where
     by_node : (o : Option Server) (x : Option ToldStatus) → option_map status_in x ≡ option_map (λ (s : Server). status_of s.jobs s.id s.holding p.now) o
         → ((y : ToldStatus) → x ≡ Some y → y ≡ status → ⊥) → IsThere (awaiteds.Past p status) o
@@ -168,7 +168,7 @@ unfolding RepliesThere
 past_replies p past status is act r replies = subst (λ (o : Option ToldStatus). IfSome o (λ s. RepliesPast p.now (status_in s) act r)) (sym is) replies
 
 -- where that is there, the reply is one that is given then
-pub replies_there : {X : Type 0} (a : Awaited) (held : Option Server) (act : Act) (view : X → Reply) (answer : Result X Refusal) → IsThere a held
+pub replies_there : {X : Type 0} (a : WaitFor) (held : Option Server) (act : Act) (view : X → Reply) (answer : Result X Refusal) → IsThere a held
     → IfOk answer (λ x. IfSome held (λ s. reply_to s act ≡ view x)) → (held ≡ None → answer ≡ Err refusals.Closed) → IfOk answer (λ x. RepliesThere a act (view x))
 unfolding IsThere RepliesThere
 replies_there awaiteds.Nothing held act view (Ok x) there step shut = tt

@@ -1,18 +1,18 @@
 -- What a call that waits is answered.
 use Rattle.std.specs.Prelude.{◌≡◌, Option, Some}
 use Rattle.pmg_value.specs.declared.process.Proc.{Proc}
-use Rattle.pmg_rules.specs.Acts.{Act, Reply, Status, status_of}
+use Rattle.pmg_node_model.specs.Acts.{Act, Reply, Status, status_of}
 use Rattle.pmg_node.specs.Replies.{status_in}
 use Rattle.pmg_node.specs.Servers.{Server, reply_to}
-use Rattle.pmg_desk.specs.declared.lock.Awaited.{Awaited}
-use Rattle.pmg_desk.specs.declared.lock.Awaited.TheVariants as awaiteds
+use Rattle.pmg_desk.specs.declared.lock.WaitFor.{WaitFor}
+use Rattle.pmg_desk.specs.declared.lock.WaitFor.TheVariants as awaiteds
 
 -- the process does not stand so at the server
 abbrev pub StandsPast : Server → Proc → Status → Type 0
 StandsPast s p status = status_of s.jobs s.id s.holding p ≡ status → ⊥
 
 -- What is waited for is there; of a desk without a node nothing is said.
-unfoldable pub IsThere : Awaited → Option Server → Type 0
+unfoldable pub IsThere : WaitFor → Option Server → Type 0
 IsThere (awaiteds.Past p status) (Some s) = StandsPast s p.now (status_in status)
 IsThere awaited held = Unit {0}
 
@@ -23,6 +23,6 @@ pub record RepliesPast (p : Proc) (status : Status) (a : Act) (r : Reply) : Type
   pub is : reply_to server a ≡ r
 
 -- so it is, where that is waited for
-unfoldable pub RepliesThere : Awaited → Act → Reply → Type 0
+unfoldable pub RepliesThere : WaitFor → Act → Reply → Type 0
 RepliesThere (awaiteds.Past p status) a r = RepliesPast p.now (status_in status) a r
 RepliesThere awaited a r = Unit {0}

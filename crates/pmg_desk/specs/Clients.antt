@@ -7,12 +7,12 @@ use Rattle.pmg_value.specs.declared.refusal.Refusal.{Refusal}
 use Rattle.pmg_scope.specs.Cached.{Cached, Unsealed, no_puts, unsealed_of}
 use Rattle.pmg_jobinfo.specs.Jobs.{Jobs, coded_jobs}
 use Rattle.pmg_publish.specs.Publications.{Publications}
-use Rattle.pmg_rules.specs.Acts.{Act, Reply, Request}
+use Rattle.pmg_node_model.specs.Acts.{Act, Reply, Request}
 use Rattle.pmg_node.specs.Replies.{release_reply}
 use Rattle.pmg_node.specs.declared.leaving.Release.{Release}
 use Rattle.pmg_node.specs.declared.leaving.Release.TheVariants as releases
 use Rattle.pmg_journal.specs.Replays.{happening}
-use Rattle.pmg_desk.specs.Telling.{IsToldOf, WasReady}
+use Rattle.pmg_desk.specs.Telling.{IsToldOf, WasReadyAt}
 use Rattle.pmg_journal.specs.Transcripts.{Calling, Noted, NotesCall, cached_after, noted_in, waits_after}
 use Rattle.pmg_journal.specs.declared.transcript.Transcript.{Transcript}
 
@@ -53,8 +53,8 @@ pub record IsLater (c d : Client) : Type 0 where
   pub seen : IsPrefix c.viewer.log d.viewer.log
 
 -- the client's transcript has the call with its reply at its end
-abbrev pub Notes : Client → Client → Calling → {X : Type 0} → (X → Reply) → Result X Refusal → Type 0
-Notes c d call view answer = NotesCall (noted_in c.transcript) (noted_in d.transcript) call view answer
+abbrev pub ClientNotes : Client → Client → Calling → {X : Type 0} → (X → Reply) → Result X Refusal → Type 0
+ClientNotes c d call view answer = NotesCall (noted_in c.transcript) (noted_in d.transcript) call view answer
 
 -- after the entry of a fence, which was answered so: its leave is noted where it was entered, else nothing more
 abbrev pub NotesLeave : List Noted → List Noted → Calling → Result ℕ Refusal → Result Release Refusal → Type 0
@@ -74,6 +74,6 @@ Tells d act reply = IsToldOf d.jobs d.node (happening act reply) d.viewer.log
 
 -- who is released knows of a time when its own fence was ready
 abbrev pub KnowsReady : Client → Release → Type 0
-KnowsReady d (releases.Released instance gone) = WasReady d.jobs d.node (proc_of d) instance gone.items d.viewer.log
+KnowsReady d (releases.Released instance gone) = WasReadyAt d.jobs d.node (proc_of d) instance gone.items d.viewer.log
 KnowsReady d releases.Idle = Unit {0}
 KnowsReady d releases.Waiting = Unit {0}

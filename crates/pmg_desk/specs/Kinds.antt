@@ -1,6 +1,6 @@
 -- Which replies an act may be given.
 use Rattle.std.specs.Prelude.{◌≡◌}
-use Rattle.pmg_rules.specs.Acts.{Act, Reply, Request}
+use Rattle.pmg_node_model.specs.Acts.{Act, Reply, Request}
 use Rattle.pmg_node.specs.Kinds.{IsAsked, IsCommitted, IsDefined, IsDelivery, IsDone, IsEnded, IsEntered, IsRelease}
 use Rattle.pmg_node.specs.Servers.{Server, reply_to}
 

@@ -2,7 +2,7 @@
 use Rattle.std.specs.Prelude.{List, [], ◌∷◌, ◌++◌, Option, None}
 use Rattle.std.specs.Option.{option_to_list}
 use Rattle.pmg_commit.specs.Knowledge.{Contribution}
-use Rattle.pmg_rules.specs.Acts.{Act}
+use Rattle.pmg_node_model.specs.Acts.{Act}
 use Rattle.pmg_node.specs.Joining.{Joins, joins}
 use Rattle.pmg_node.specs.Servers.{Server, after}
 use Rattle.pmg_publish.specs.Publications.{publication}

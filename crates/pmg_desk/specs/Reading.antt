@@ -17,8 +17,8 @@ use Rattle.pmg_get.specs.Gets.{Seen, resolve}
 use Rattle.pmg_get.specs.declared.view.Mode.{Mode}
 use Rattle.pmg_get.specs.declared.view.Mode.TheVariants as modes
 use Rattle.pmg_publish.specs.Publications.{near_of, far_of}
-use Rattle.pmg_rules.specs.Acts.{Act, Reply, Request, reply_of, target_cause}
-use Rattle.pmg_rules.specs.Holdings.{Get, seen_of}
+use Rattle.pmg_node_model.specs.Acts.{Act, Reply, Request, reply_of, target_cause}
+use Rattle.pmg_node_model.specs.Holdings.{Get, seen_of}
 use Rattle.pmg_node.specs.Replies.{asked_reply, taking_reply}
 use Rattle.pmg_node.specs.Servers.{reply_in}
 use Rattle.pmg_node.specs.declared.parking.Asked.{Asked}
@@ -28,13 +28,13 @@ use Rattle.pmg_desk.specs.Clients.{Client, Tells, is_waiting, proc_of, puts_of}
 use Rattle.pmg_journal.specs.Transcripts.{Calling, Noted, NotesCall, noted_in}
 
 -- the key is one of the process's own, and none of the standard's
-abbrev pub is_own : Proc → Get → Bool
-is_own p get = same_proc p get.target && not (is_reserved get.key)
+abbrev pub is_own_key : Proc → Get → Bool
+is_own_key p get = same_proc p get.target && not (is_reserved get.key)
 
 -- whose key is read, where it is none of its own; and no call of it waits
 abbrev pub now_cause : Client → Get → Refusal → Bool
 now_cause c get refusals.Busy = is_waiting c
-now_cause c get e = not (is_own (proc_of c) get) && target_cause c.jobs (proc_of c) get e
+now_cause c get e = not (is_own_key (proc_of c) get) && target_cause c.jobs (proc_of c) get e
 
 -- what there is to be seen of a reserved key: what the group tells
 abbrev pub reserved_seen : Jobs → ℕ → Get → Seen
@@ -43,23 +43,23 @@ reserved_seen jobs id get = Seen.reserved (option_map spelling (reserved_value j
 -- what there is to be seen of the key: what it put itself, or what these stores and the group tell
 abbrev pub seen_by : Client → Data → Data → Get → Seen
 seen_by c near far get =
-    if is_own (proc_of c) get then Seen.own (finite.get (puts_of c).own get.key) else seen_of c.jobs c.node (read_at near get.target) (read_at far get.target) get
+    if is_own_key (proc_of c) get then Seen.own (finite.get (puts_of c).own get.key) else seen_of c.jobs c.node (read_at near get.target) (read_at far get.target) get
 
 -- the answer is the one that is due; the viewer may be closed, and an allocation may fail
-abbrev pub IsDue : Result Value Refusal → Reply → Type 0
-IsDue (Ok value) due = due ≡ Reply.found (spelling value)
-IsDue (Err refusals.NoMemory) due = Unit {0}
-IsDue (Err refusals.Closed) due = Unit {0}
-IsDue (Err e) due = due ≡ Reply.refused e
+abbrev pub IsDueOrClosed : Result Value Refusal → Reply → Type 0
+IsDueOrClosed (Ok value) due = due ≡ Reply.found (spelling value)
+IsDueOrClosed (Err refusals.NoMemory) due = Unit {0}
+IsDueOrClosed (Err refusals.Closed) due = Unit {0}
+IsDueOrClosed (Err e) due = due ≡ Reply.refused e
 
-abbrev pub Reads : Client → Client → Get → Result Value Refusal → Result Unit Refusal → Type 0
-Reads c d get result (Err e) = result ≡ Err e
-Reads c d get result (Ok _) = IsDue result (reply_of (resolve (seen_by c (near_of d.viewer.log) (far_of d.viewer.log) get) modes.Now))
+abbrev pub ReadsNow : Client → Client → Get → Result Value Refusal → Result Unit Refusal → Type 0
+ReadsNow c d get result (Err e) = result ≡ Err e
+ReadsNow c d get result (Ok _) = IsDueOrClosed result (reply_of (resolve (seen_by c (near_of d.viewer.log) (far_of d.viewer.log) get) modes.Now))
 
 -- What is read: a refusal where there is a cause, else what a get that waits for nobody is answered in the board that the list of
 -- publications makes which the viewer knows afterwards.
 abbrev pub IsReadNow : Client → Client → Get → Result Value Refusal → Type 0
-IsReadNow c d get result = Reads c d get result (first_of (now_cause c get) tt)
+IsReadNow c d get result = ReadsNow c d get result (first_of (now_cause c get) tt)
 
 -- ---- gets that may wait
 
@@ -81,8 +81,8 @@ IsGot c get mode result =
     × ((Tells c (Act.request (Request.ask (proc_of c) get mode)) r) ⊎ (Tells c (Act.request (Request.take (proc_of c))) r))
 
 -- the call that asks for the key
-abbrev pub asking : Client → Get → Mode → Calling
-asking c get mode = Calling.request (Request.ask (proc_of c) get mode)
+abbrev pub asking_call : Client → Get → Mode → Calling
+asking_call c get mode = Calling.request (Request.ask (proc_of c) get mode)
 
 -- after the question of a get, which was answered so: its taking is noted where it parked, else nothing more
 abbrev pub NotesTaking : List Noted → List Noted → Calling → Result Asked Refusal → Result Value Refusal → Type 0
@@ -94,11 +94,11 @@ NotesTaking old new take (Err e) result = (result ≡ Err e) × (new ≡ old)
 -- A get stands in the transcript as its question and its taking.
 abbrev pub NotesGet : Client → Client → Get → Mode → Result Value Refusal → Type 0
 NotesGet c d get mode result =
-    (mid : List Noted) × (asked : Result Asked Refusal) × NotesCall (noted_in c.transcript) mid (asking c get mode) asked_reply asked
+    (mid : List Noted) × (asked : Result Asked Refusal) × NotesCall (noted_in c.transcript) mid (asking_call c get mode) asked_reply asked
     × NotesTaking mid (noted_in d.transcript) (Calling.request (Request.take (proc_of c))) asked result
 
 -- A get of a key of its own: refused where a call of it waits, else what it put last; as one question in the transcript.
 pub record IsOwnGet (c d : Client) (get : Get) (mode : Mode) (result : Result Value Refusal) : Type 0 where
-  pub busy : is_waiting c ≡ true → IsDue result (Reply.refused refusals.Busy)
-  pub answer : is_waiting c ≡ false → IsDue result (reply_of (resolve (Seen.own (finite.get (puts_of c).own get.key)) mode))
-  pub noted : NotesCall (noted_in c.transcript) (noted_in d.transcript) (asking c get mode) (λ (v : Value). Reply.found (spelling v)) result
+  pub busy : is_waiting c ≡ true → IsDueOrClosed result (Reply.refused refusals.Busy)
+  pub answer : is_waiting c ≡ false → IsDueOrClosed result (reply_of (resolve (Seen.own (finite.get (puts_of c).own get.key)) mode))
+  pub noted : NotesCall (noted_in c.transcript) (noted_in d.transcript) (asking_call c get mode) (λ (v : Value). Reply.found (spelling v)) result

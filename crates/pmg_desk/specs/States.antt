@@ -1,7 +1,7 @@
 -- What lies under the lock of a desk.
 use Rattle.std.specs.Prelude.{◌≡◌, ℕ, ◌≤◌, true, List, [], ◌∷◌, ◌++◌, length, drop, All, Option, Some, None, IfSome, IsSome, Result}
 use Rattle.pmg_value.specs.declared.refusal.Refusal.{Refusal}
-use Rattle.pmg_rules.specs.declared.sent.Sent.{Sent}
+use Rattle.pmg_node_model.specs.declared.sent.Sent.{Sent}
 use Rattle.pmg_node.specs.Acting.{act_of, reply_as}
 use Rattle.pmg_node.specs.Servers.{Server, after, reply_in, reply_to, sent_by}
 use Rattle.pmg_node.specs.declared.act.Act.{Act}
@@ -9,7 +9,7 @@ use Rattle.pmg_node.specs.declared.act.Reply.{Reply}
 use Rattle.pmg_publish.specs.Publications.{Publications}
 use Rattle.pmg_publish.specs.declared.counting.Publication.{Publication}
 use Rattle.pmg_desk.specs.declared.state.Parts.{Parts}
-use Rattle.pmg_journal.specs.Journals.{IsJournal, happened, start_of, told_in}
+use Rattle.pmg_journal.specs.Journals.{IsJournal, happened, start_of, happened_in}
 use Rattle.pmg_journal.specs.Replays.{Happening, after_all, sent_over}
 use Rattle.pmg_desk.specs.Publishing.{published_by, published_over}
 
@@ -21,10 +21,10 @@ pub record IsLive (start : Server) (es : List Happening) (taken : ℕ) (outbox :
 
 -- What is kept: the journal is a replay, what is published is what it published, and while there is a node it is the replay's, and the
 -- publisher is open.
-pub record IsKept (p : Parts) : Type 0 where
+pub record IsStateKept (p : Parts) : Type 0 where
   pub journal : IsJournal p.journal
-  pub published : p.publisher.log ≡ published_over (start_of p.journal) (told_in p.journal)
-  pub live : IfSome p.node (IsLive (start_of p.journal) (told_in p.journal) p.taken p.outbox.items)
+  pub published : p.publisher.log ≡ published_over (start_of p.journal) (happened_in p.journal)
+  pub live : IfSome p.node (IsLive (start_of p.journal) (happened_in p.journal) p.taken p.outbox.items)
   pub open_then : IsSome p.node → p.publisher.is_open ≡ true
   pub viewers : All (λ (v : Publications). v.book ≡ p.publisher.book) p.viewers.items
 
@@ -36,7 +36,7 @@ pub record IsAt (p q : Parts) : Type 0 where
   pub taken : q.taken ≡ p.taken
 
 -- nothing happened
-pub record IsSame (p q : Parts) : Type 0 where
+pub record NothingHappened (p q : Parts) : Type 0 where
   pub node : q.node ≡ p.node
   pub outbox : q.outbox.items ≡ p.outbox.items
   pub publisher : q.publisher ≡ p.publisher
@@ -54,7 +54,7 @@ pub record MovesOn (s : Server) (a : Act) (answer : Result Reply Refusal) (es : 
   pub outbox : out' ≡ out ++ sent_by s (act_of a)
   pub published : log' ≡ log ++ published_by s (act_of a)
 
-abbrev pub GoesOn : Option Server → Act → Result Reply Refusal → List Happening → List Sent → List Publication → Option Server → List Happening → List Sent
+abbrev pub StateGoesOn : Option Server → Act → Result Reply Refusal → List Happening → List Sent → List Publication → Option Server → List Happening → List Sent
     → List Publication → Type 0
-GoesOn None a answer es out log left es' out' log' = ⊥
-GoesOn (Some s) a answer es out log left es' out' log' = MovesOn s a answer es out log left es' out' log'
+StateGoesOn None a answer es out log left es' out' log' = ⊥
+StateGoesOn (Some s) a answer es out log left es' out' log' = MovesOn s a answer es out log left es' out' log'

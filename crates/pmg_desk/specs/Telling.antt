@@ -6,8 +6,8 @@ use Rattle.pmg_value.specs.declared.process.Proc.{Proc}
 use Rattle.pmg_jobinfo.specs.Jobs.{Jobs}
 use Rattle.pmg_commit.specs.Data.{level_at}
 use Rattle.pmg_fence.specs.Tables.{gone_by, is_ready}
-use Rattle.pmg_rules.specs.Holdings.{Standing, call_of, is_ready_at}
-use Rattle.pmg_rules.specs.declared.sent.Sent.{Sent}
+use Rattle.pmg_node_model.specs.Holdings.{CallState, call_of, is_ready_at}
+use Rattle.pmg_node_model.specs.declared.sent.Sent.{Sent}
 use Rattle.pmg_node.specs.Opening.{new_server}
 use Rattle.pmg_publish.specs.Publications.{far_of}
 use Rattle.pmg_publish.specs.declared.counting.Publication.{Publication}
@@ -24,12 +24,12 @@ pub record IsToldOf (jobs : Jobs) (id : ℕ) (e : Happening) (known : List Publi
 -- The process was released from its fence, of that instance, at the end of some journal of the node, which is a replay. At some time
 -- of the journal the fence was ready there, with those that were gone by then. All is known that was published until the end, and so
 -- the fence is ready at the levels that are known.
-pub record WasReady (jobs : Jobs) (id : ℕ) (p : Proc) (instance : ℕ) (gone : List Proc) (known : List Publication) : Type 0 where
+pub record WasReadyAt (jobs : Jobs) (id : ℕ) (p : Proc) (instance : ℕ) (gone : List Proc) (known : List Publication) : Type 0 where
   pub es : List Happening
   pub later : List Happening
   pub fence : FenceName
   pub replay : IsReplay (new_server jobs id) (es ++ later)
-  pub released : call_of (after_all (new_server jobs id) (es ++ later)).holding p ≡ Some (Standing.released fence gone)
+  pub released : call_of (after_all (new_server jobs id) (es ++ later)).holding p ≡ Some (CallState.released fence gone)
   pub of_instance : fence.instance ≡ instance
   pub ready : is_ready_at jobs id (after_all (new_server jobs id) es).holding fence ≡ true
   pub gone_then : gone ≡ gone_by jobs id (after_all (new_server jobs id) es).holding.table fence

@@ -5,20 +5,20 @@ ghost use Rattle.pmg_value.specs.Spelling.{spelling};
 ghost use Rattle.pmg_commit.specs.Data.{level_at};
 ghost use Rattle.pmg_jobinfo.specs.Jobs.{is_node};
 ghost use Rattle.pmg_publish.specs.Publications.{far_of};
-ghost use Rattle.pmg_holding.specs.Calls.{get_of};
-ghost use Rattle.pmg_rules.specs.Acts.{Act as ModelAct, Reply as ModelReply, Request as ModelRequest};
+ghost use Rattle.pmg_node_parts.specs.Calls.{get_of};
+ghost use Rattle.pmg_node_model.specs.Acts.{Act as ModelAct, Reply as ModelReply, Request as ModelRequest};
 ghost use Rattle.pmg_node.specs.Acting.{act_of, reply_as, request_of};
 ghost use Rattle.pmg_node.specs.Replies.{asked_reply, release_reply, status_in, taking_reply};
 ghost use Rattle.pmg_node.specs.Servers.{reply_in};
 ghost use Rattle.pmg_desk.specs.Awaiting.{RepliesPast, RepliesThere};
-ghost use Rattle.pmg_desk.specs.Clients.{IsLater, KnowsReady, Notes as NotesOf, NotesFence, Tells, batch_of, is_waiting, proc_of, puts_of};
+ghost use Rattle.pmg_desk.specs.Clients.{IsLater, KnowsReady, ClientNotes, NotesFence, Tells, batch_of, is_waiting, proc_of, puts_of};
 ghost use Rattle.pmg_journal.specs.Journals.{IsEvent};
 ghost use Rattle.pmg_journal.specs.Transcripts.{Answers, Calling, NotesCall, calling_of, is_put, noted, noted_in, put_cause_of};
 
-use crate::lock::{Awaited, Desk};
+use crate::lock::{Desk, WaitFor};
 use crate::replies::{asked_by, committed_by, ended_by, entered_by, release_by, taking_by};
 use pmg_get::Mode;
-use pmg_journal::{Call, Notes, Transcript};
+use pmg_journal::{Call, ClientLog, Transcript};
 use pmg_node::{Act, Asked, Release, Reply, Request, Status, Taking};
 use pmg_publish::Viewer;
 use pmg_scope::Scope;
@@ -31,7 +31,7 @@ use std::sync::Wait;
 pub struct Client<'d> {
     pub(crate) desk: &'d Desk,
     pub(crate) viewer: Viewer,
-    pub(crate) notes: Notes,
+    pub(crate) notes: ClientLog,
 }
 
 impl Drop for Client<'_> {
@@ -86,12 +86,12 @@ pub(crate) fn copies_of(alloc: Global, procs: &[Proc]) -> Result<Vec<Proc>, Allo
 }
 
 /// What the process waits for, where it waits until it stands otherwise.
-fn awaited_by(proc: &Proc, past: Option<Status>) -> Awaited<'_>
+fn awaited_by(proc: &Proc, past: Option<Status>) -> WaitFor<'_>
     ensures { (act : ModelAct) (reply : ModelReply) → RepliesThere result act reply → IfSome past (λ status. RepliesPast proc.now (status_in status) act reply) }
 {
     match past {
-        Some(status) => Awaited::Past(proc, status),
-        None => Awaited::Nothing,
+        Some(status) => WaitFor::Past(proc, status),
+        None => WaitFor::Nothing,
     }
 }
 
@@ -107,7 +107,7 @@ impl<'d> Client<'d> {
         Client {
             desk,
             viewer,
-            notes: Notes::new(desk.place.registry.allocator(), transcript),
+            notes: ClientLog::new(desk.place.registry.allocator(), transcript),
         }
     }
 
@@ -137,7 +137,7 @@ impl<'d> Client<'d> {
     /// put, and as NoMemory.
     pub fn put(&mut self, scope: Scope, key: Key, value: Value) -> Result<(), Refusal>
         ensures answer { Answers result (first_of (put_cause_of (is_waiting self.old) (puts_of self.old) scope key (spelling value)) tt) }
-        ensures noted { NotesOf self.old self.new (Calling.put scope key (spelling value)) (λ _. ModelReply.done) result }
+        ensures noted { ClientNotes self.old self.new (Calling.put scope key (spelling value)) (λ _. ModelReply.done) result }
         ensures viewer { self.new.viewer ≡ self.old.viewer }
         ensures later { IsLater self.old self.new }
     {
@@ -155,7 +155,7 @@ impl<'d> Client<'d> {
         requires { is_put (calling_of call) ≡ false }
         ensures told { IsEvent result → Tells self.new (act_of act.now) (reply_in reply_as result) }
         ensures past { IfOk result (λ r. IfSome past (λ status. RepliesPast (proc_of self.old) (status_in status) (act_of act.now) (reply_as r))) }
-        ensures noted { NotesOf self.old self.new (calling_of call) reply_as result }
+        ensures noted { ClientNotes self.old self.new (calling_of call) reply_as result }
         ensures later { IsLater self.old self.new }
     {
         self.notes.reserve()?;
@@ -174,7 +174,7 @@ impl<'d> Client<'d> {
     ) -> Result<Reply, Refusal>
         ensures told { IsEvent result → Tells self.new (ModelAct.request (request_of request)) (reply_in reply_as result) }
         ensures past { IfOk result (λ r. IfSome past (λ status. RepliesPast (proc_of self.old) (status_in status) (ModelAct.request (request_of request)) (reply_as r))) }
-        ensures noted { NotesOf self.old self.new (Calling.request (request_of request)) reply_as result }
+        ensures noted { ClientNotes self.old self.new (Calling.request (request_of request)) reply_as result }
         ensures later { IsLater self.old self.new }
     {
         let call = Call::Request(request.copy()?);
@@ -186,7 +186,7 @@ impl<'d> Client<'d> {
     pub fn commit<R: Wait>(&mut self, rt: &R) -> Result<u64, Refusal>
         ensures told { IsEvent result → Tells self.new (ModelAct.commit (proc_of self.old) (batch_of self.old)) (reply_in ModelReply.committed result) }
         ensures seen { IfOk result (λ n. n ≤ level_at (far_of self.new.viewer.log) (proc_of self.old)) }
-        ensures noted { NotesOf self.old self.new Calling.commit ModelReply.committed result }
+        ensures noted { ClientNotes self.old self.new Calling.commit ModelReply.committed result }
         ensures later { IsLater self.old self.new }
     {
         let act = Act::Commit(self.proc().copy()?, self.notes.unsealed()?);
@@ -198,7 +198,7 @@ impl<'d> Client<'d> {
     pub fn enter<R: Wait>(&mut self, rt: &R, list: &[Proc], collect: bool) -> Result<u64, Refusal>
         ensures told { IsEvent result → Tells self.new (ModelAct.request (ModelRequest.enter (proc_of self.old) list.now collect))
             (reply_in ModelReply.entered result) }
-        ensures noted { NotesOf self.old self.new (Calling.request (ModelRequest.enter (proc_of self.old) list.now collect)) ModelReply.entered result }
+        ensures noted { ClientNotes self.old self.new (Calling.request (ModelRequest.enter (proc_of self.old) list.now collect)) ModelReply.entered result }
         ensures later { IsLater self.old self.new }
     {
         let alloc = self.desk.place.registry.allocator();
@@ -212,7 +212,7 @@ impl<'d> Client<'d> {
         ensures told { IsEvent result → Tells self.new (ModelAct.request (ModelRequest.leave (proc_of self.old))) (reply_in release_reply result) }
         ensures waited { IfOk result (λ r. r ≢ Release.Waiting) }
         ensures ready { IfOk result (KnowsReady self.new) }
-        ensures noted { NotesOf self.old self.new (Calling.request (ModelRequest.leave (proc_of self.old))) release_reply result }
+        ensures noted { ClientNotes self.old self.new (Calling.request (ModelRequest.leave (proc_of self.old))) release_reply result }
         ensures later { IsLater self.old self.new }
     {
         let request = Request::Leave(self.proc().copy()?);
@@ -247,7 +247,7 @@ impl<'d> Client<'d> {
     ) -> Result<Asked, Refusal>
         ensures told { IsEvent result → Tells self.new (ModelAct.request (ModelRequest.ask (proc_of self.old) (get_of target.now key.now) mode))
             (reply_in asked_reply result) }
-        ensures noted { NotesOf self.old self.new (Calling.request (ModelRequest.ask (proc_of self.old) (get_of target.now key.now) mode)) asked_reply result }
+        ensures noted { ClientNotes self.old self.new (Calling.request (ModelRequest.ask (proc_of self.old) (get_of target.now key.now) mode)) asked_reply result }
         ensures later { IsLater self.old self.new }
     {
         let request = Request::Ask(self.proc().copy()?, target.copy()?, key.copy()?, mode);
@@ -258,7 +258,7 @@ impl<'d> Client<'d> {
     pub fn take<R: Wait>(&mut self, rt: &R) -> Result<Taking, Refusal>
         ensures told { IsEvent result → Tells self.new (ModelAct.request (ModelRequest.take (proc_of self.old))) (reply_in taking_reply result) }
         ensures waited { IfOk result (λ r. r ≢ Taking.Waiting) }
-        ensures noted { NotesOf self.old self.new (Calling.request (ModelRequest.take (proc_of self.old))) taking_reply result }
+        ensures noted { ClientNotes self.old self.new (Calling.request (ModelRequest.take (proc_of self.old))) taking_reply result }
         ensures later { IsLater self.old self.new }
     {
         let request = Request::Take(self.proc().copy()?);
@@ -282,7 +282,7 @@ impl<'d> Client<'d> {
         ensures proc { IfOk result (λ t. t.proc ≡ proc_of self.entry) }
         ensures noted { IfOk result (λ t. (n : ℕ)
             × (noted_in t ≡ noted_in self.entry.transcript ++ noted (Calling.request (ModelRequest.terminate (proc_of self.entry))) (ModelReply.ended n) ∷ [])) }
-        ensures refused { IfErr result (λ u. NotesOf self.entry u.client (Calling.request (ModelRequest.terminate (proc_of self.entry))) ModelReply.ended (Err u.refusal)) }
+        ensures refused { IfErr result (λ u. ClientNotes self.entry u.client (Calling.request (ModelRequest.terminate (proc_of self.entry))) ModelReply.ended (Err u.refusal)) }
         ensures client { IfErr result (λ u. IsLater self.entry u.client) }
     {
         let answer = self.end(rt);
@@ -298,7 +298,7 @@ impl<'d> Client<'d> {
     /// It ends: the number of its last commit, which is its end.
     fn end<R: Wait>(&mut self, rt: &R) -> Result<u64, Refusal>
         ensures told { IsEvent result → Tells self.new (ModelAct.request (ModelRequest.terminate (proc_of self.old))) (reply_in ModelReply.ended result) }
-        ensures noted { NotesOf self.old self.new (Calling.request (ModelRequest.terminate (proc_of self.old))) ModelReply.ended result }
+        ensures noted { ClientNotes self.old self.new (Calling.request (ModelRequest.terminate (proc_of self.old))) ModelReply.ended result }
         ensures later { IsLater self.old self.new }
     {
         let request = Request::Terminate(self.proc().copy()?);

@@ -2,8 +2,8 @@
 ghost use Rattle.std.specs.Prelude.{◌≡◌, ◌⊎◌, [], IfErr, IfOk};
 ghost use mathlib.Core.List.{IsPrefix};
 ghost use Rattle.pmg_value.specs.declared.refusal.Refusal.TheVariants as refusals;
-ghost use Rattle.pmg_rules.specs.Acts.{Act as ModelAct, Reply as ModelReply, Request as ModelRequest};
-ghost use Rattle.pmg_rules.specs.Kept.{IsOwn};
+ghost use Rattle.pmg_node_model.specs.Acts.{Act as ModelAct, Reply as ModelReply, Request as ModelRequest};
+ghost use Rattle.pmg_node_model.specs.Kept.{IsOwn};
 ghost use Rattle.pmg_node.specs.Acting.{act_of, reply_as, request_of};
 ghost use Rattle.pmg_node.specs.Replies.{delivery_reply};
 ghost use Rattle.pmg_node.specs.Servers.{reply_in};
@@ -14,13 +14,13 @@ ghost use Rattle.pmg_desk.specs.Kinds.{IsChange, IsReplyTo};
 ghost use Rattle.pmg_desk.specs.Telling.{IsToldOf, WasFarDump, WasSent};
 
 use crate::client::{Client, copies_of};
-use crate::lock::{Awaited, Desk};
+use crate::lock::{Desk, WaitFor};
 use crate::replies::{defined_by, delivery_by, nudged_by};
 use pmg_frame::Frame;
-use pmg_journal::{Journal, Transcript, Twice};
+use pmg_journal::{AnswerCopies, Journal, Transcript};
 use pmg_node::{Act, Delivery, Reply, Request};
+use pmg_node_model::Sent;
 use pmg_publish::Viewer;
-use pmg_rules::Sent;
 use pmg_value::{Key, Proc, Refusal};
 use std::collections::VecDeque;
 use std::sync::Wait;
@@ -41,7 +41,7 @@ impl Desk {
             calls,
         };
         let asked = proc.copy()?;
-        let Some(mut held) = self.hold(rt, &Awaited::Nothing) else {
+        let Some(mut held) = self.hold(rt, &WaitFor::Nothing) else {
             return Err(Refusal::Closed);
         };
         let given = held.give_viewer(asked);
@@ -56,7 +56,7 @@ impl Desk {
     fn act<R: Wait>(&self, rt: &R, act: &Act) -> Result<Reply, Refusal>
         ensures { IsEvent result → IsReplyTo (act_of act.now) (reply_in reply_as result) }
     {
-        let Some(mut held) = self.hold(rt, &Awaited::Nothing) else {
+        let Some(mut held) = self.hold(rt, &WaitFor::Nothing) else {
             return Err(Refusal::Closed);
         };
         let answer = held.state.act(rt, act);
@@ -70,10 +70,10 @@ impl Desk {
     pub(crate) fn act_for<R: Wait>(
         &self,
         rt: &R,
-        awaited: &Awaited<'_>,
+        awaited: &WaitFor<'_>,
         act: &Act,
         viewer: &mut Viewer,
-    ) -> Result<Twice, Refusal>
+    ) -> Result<AnswerCopies, Refusal>
         requires { viewer.old.book ≡ self.now.place.told.book }
         ensures told { IfOk result (λ t. IsToldOf self.now.place.registry self.now.place.node (happened act.now t.told) viewer.new.log) }
         ensures there { IfOk result (λ t. RepliesThere awaited.now (act_of act.now) (reply_in reply_as t.told)) }
@@ -135,7 +135,7 @@ impl Desk {
     pub fn take_frames<R: Wait>(&self, rt: &R) -> Result<VecDeque<Sent>, Refusal>
         ensures { IfOk result (λ frames. WasSent self.now.place.registry self.now.place.node frames.items) }
     {
-        let Some(mut held) = self.hold(rt, &Awaited::Frames) else {
+        let Some(mut held) = self.hold(rt, &WaitFor::Frames) else {
             return Err(Refusal::Closed);
         };
         let frames = held.state.take_frames();
@@ -147,7 +147,7 @@ impl Desk {
     pub fn far_dump<R: Wait>(&self, rt: &R) -> Result<Vec<u8>, Refusal>
         ensures { IfOk result (λ text. WasFarDump self.now.place.registry self.now.place.node text.items) }
     {
-        let Some(held) = self.hold(rt, &Awaited::Nothing) else {
+        let Some(held) = self.hold(rt, &WaitFor::Nothing) else {
             return Err(Refusal::Closed);
         };
         let dump = held.state.far_dump();
@@ -160,7 +160,7 @@ impl Desk {
 
     /// Whether the desk is closed: its node was given up, and every call that needs it is refused as Closed.
     pub fn is_closed<R: Wait>(&self, rt: &R) -> bool {
-        let Some(held) = self.hold(rt, &Awaited::Nothing) else {
+        let Some(held) = self.hold(rt, &WaitFor::Nothing) else {
             return true;
         };
         let closed = held.state.is_closed();
@@ -170,7 +170,7 @@ impl Desk {
 
     /// Closes the desk.
     pub fn close<R: Wait>(&self, rt: &R) {
-        if let Some(mut held) = self.hold(rt, &Awaited::Nothing) {
+        if let Some(mut held) = self.hold(rt, &WaitFor::Nothing) {
             held.state.close();
             held.wake();
             held.put_back(rt);

@@ -3,14 +3,14 @@ ghost use Rattle.std.specs.Prelude.{◌≡◌, IfSome, IfOk, true};
 ghost use Rattle.pmg_desk.specs.Awaiting.{IsThere};
 ghost use Rattle.pmg_desk.specs.Places.{LiesAt};
 ghost use Rattle.pmg_jobinfo.specs.Jobs.{is_node};
-ghost use Rattle.pmg_rules.specs.Kept.{IsOwn};
+ghost use Rattle.pmg_node_model.specs.Kept.{IsOwn};
 
 use crate::state::State;
 use counted_slot::{Counted, Fits};
-use pmg_alone::Alone;
+use pmg_exclusive::Exclusive;
 use pmg_jobinfo::Registry;
 use pmg_node::Status;
-use pmg_publish::{Told, Viewer};
+use pmg_publish::{Version, Viewer};
 use pmg_value::{NodeId, Proc, Refusal};
 use std::collections::BTreeMap;
 use std::sync::{Condvar, Mutex, MutexGuard, Wait};
@@ -20,7 +20,7 @@ use std::sync::{Condvar, Mutex, MutexGuard, Wait};
 pub struct Place {
     pub(crate) node: NodeId,
     pub(crate) registry: Registry,
-    pub(crate) told: Told,
+    pub(crate) told: Version,
 }
 
 /// A state lies at the place of its desk, whatever happens.
@@ -32,7 +32,7 @@ impl Fits for State {
 
 /// What only who has the lock may look at.
 #[derive(Drop)]
-struct Gate {
+struct LockState {
     /// How often there were frames after something happened; it starts again past its end.
     sent: u64,
     /// How often a client that waits could go on after something happened; it starts again past its end.
@@ -45,16 +45,16 @@ struct Gate {
 /// by `into_journal`.
 pub struct Desk {
     pub(crate) place: Place,
-    gate: Mutex<Gate>,
+    gate: Mutex<LockState>,
     sent: Condvar,
     settled: Condvar,
-    room: Counted<Option<Alone<State>>>,
+    room: Counted<Option<Exclusive<State>>>,
     ghost same: { room ≡ place },
 }
 
 /// What who takes the lock waits for.
 #[derive(Drop)]
-pub(crate) enum Awaited<'a> {
+pub(crate) enum WaitFor<'a> {
     /// For nothing but the lock.
     Nothing,
     /// Until there are frames to be taken.
@@ -63,15 +63,15 @@ pub(crate) enum Awaited<'a> {
     Past(&'a Proc, Status),
 }
 
-impl Awaited<'_> {
+impl WaitFor<'_> {
     /// Whether it is there. Who waits at a closed desk waits no longer.
     fn is_there(&self, state: &State) -> bool
         ensures { result ≡ true → IsThere self.now state.now.node }
     {
         match self {
-            Awaited::Nothing => true,
-            Awaited::Frames => state.has_frames() || state.is_closed(),
-            Awaited::Past(proc, status) => match state.status(proc) {
+            WaitFor::Nothing => true,
+            WaitFor::Frames => state.has_frames() || state.is_closed(),
+            WaitFor::Past(proc, status) => match state.status(proc) {
                 Some(found) => found != *status,
                 None => true,
             },
@@ -83,7 +83,7 @@ impl Awaited<'_> {
 fn can_go_on(clients: &BTreeMap<Proc, Option<Status>>, state: &State) -> bool {
     for (proc, past) in clients.iter() {
         if let Some(status) = past {
-            if Awaited::Past(proc, *status).is_there(state) {
+            if WaitFor::Past(proc, *status).is_there(state) {
                 return true;
             }
         }
@@ -91,7 +91,7 @@ fn can_go_on(clients: &BTreeMap<Proc, Option<Status>>, state: &State) -> bool {
     false
 }
 
-impl Gate {
+impl LockState {
     /// The process waits until it does not stand so any more; or, with none, it waits no longer.
     fn note_past(&mut self, proc: &Proc, past: Option<Status>) {
         if let Some(noted) = self.clients.get_mut(proc) {
@@ -101,9 +101,9 @@ impl Gate {
 }
 
 /// The lock, with what lies under it. It is not dropped: end it by `put_back`.
-pub(crate) struct Held<'d> {
+pub(crate) struct DeskGuard<'d> {
     desk: &'d Desk,
-    gate: MutexGuard<'d, Gate>,
+    gate: MutexGuard<'d, LockState>,
     pub(crate) state: State,
 }
 
@@ -123,8 +123,8 @@ impl Desk {
             registry: copy,
             told: state.tell(),
         };
-        let room = Counted::new(Some(Alone::new(state)), &place);
-        let gate = Gate {
+        let room = Counted::new(Some(Exclusive::new(state)), &place);
+        let gate = LockState {
             sent: 0,
             settled: 0,
             clients: BTreeMap::new(alloc),
@@ -163,14 +163,14 @@ impl Desk {
             state.into_journal(rt);
             return;
         }
-        if let Some(other) = claim.put(Some(Alone::new(state)), 0) {
+        if let Some(other) = claim.put(Some(Exclusive::new(state)), 0) {
             other.into_inner().into_journal(rt);
         }
     }
 
     /// Takes the lock, once that is there which is waited for. None where no state lies in the room, which is so only once the desk
     /// has ended.
-    pub(crate) fn hold<R: Wait>(&self, rt: &R, awaited: &Awaited<'_>) -> Option<Held<'_>>
+    pub(crate) fn hold<R: Wait>(&self, rt: &R, awaited: &WaitFor<'_>) -> Option<DeskGuard<'_>>
         ensures there { IfSome result (λ h. IsThere awaited.now h.state.node) }
         ensures state { IfSome result (λ h. LiesAt self.now.place h.state) }
         ensures desk { IfSome result (λ h. h.desk.now ≡ self.now) }
@@ -179,7 +179,7 @@ impl Desk {
         for _ in rt.forever() {
             let state = self.take_out()?;
             if awaited.is_there(&state) {
-                return Some(Held {
+                return Some(DeskGuard {
                     desk: self,
                     gate,
                     state,
@@ -195,16 +195,16 @@ impl Desk {
     fn sleep<'d, R: Wait>(
         &'d self,
         rt: &R,
-        mut gate: MutexGuard<'d, Gate>,
-        awaited: &Awaited<'_>,
-    ) -> MutexGuard<'d, Gate> {
+        mut gate: MutexGuard<'d, LockState>,
+        awaited: &WaitFor<'_>,
+    ) -> MutexGuard<'d, LockState> {
         match awaited {
-            Awaited::Nothing => gate,
-            Awaited::Frames => {
+            WaitFor::Nothing => gate,
+            WaitFor::Frames => {
                 let sent = gate.sent;
                 self.sent.wait_while(rt, gate, |gate| gate.sent == sent)
             }
-            Awaited::Past(proc, status) => {
+            WaitFor::Past(proc, status) => {
                 gate.note_past(proc, Some(*status));
                 let settled = gate.settled;
                 let mut gate = self
@@ -235,7 +235,7 @@ impl Desk {
     }
 }
 
-impl Held<'_> {
+impl DeskGuard<'_> {
     /// A viewer for the client of the process, which has none yet.
     pub(crate) fn give_viewer(&mut self, proc: Proc) -> Result<Viewer, Refusal>
         ensures book { IfOk result (λ v. v.book ≡ self.old.state.publisher.book) }
@@ -263,7 +263,7 @@ impl Held<'_> {
         ensures state { self.new.state ≡ self.old.state }
         ensures desk { self.new.desk.now ≡ self.old.desk.now }
     {
-        if Awaited::Frames.is_there(&self.state) {
+        if WaitFor::Frames.is_there(&self.state) {
             self.gate.sent = self.gate.sent.wrapping_add(1);
             self.desk.sent.notify_all();
         }
@@ -277,7 +277,7 @@ impl Held<'_> {
     pub(crate) fn put_back<R: Wait>(self, rt: &R)
         requires { LiesAt self.desk.now.place self.state }
     {
-        let Held { desk, gate, state } = self;
+        let DeskGuard { desk, gate, state } = self;
         desk.put_in(rt, state);
         drop(gate);
     }

@@ -9,18 +9,18 @@ ghost use Rattle.pmg_commit.specs.Data.{Data, level_at, read_at};
 ghost use Rattle.pmg_jobinfo.specs.Jobs.{is_node, is_registered};
 ghost use Rattle.pmg_jobinfo.specs.Reserved.{is_general};
 ghost use Rattle.pmg_publish.specs.Sights.{IsSight};
-ghost use Rattle.pmg_rules.specs.Holdings.{plain_seen};
+ghost use Rattle.pmg_node_model.specs.Holdings.{plain_seen};
 ghost use Rattle.pmg_publish.specs.Publications.{near_of, far_of};
-ghost use Rattle.pmg_holding.specs.Calls.{get_of};
+ghost use Rattle.pmg_node_parts.specs.Calls.{get_of};
 ghost use Rattle.pmg_get.specs.Gets.{Outcome, Seen, resolve};
 ghost use Rattle.pmg_get.specs.Views.{outcome_of, seen_in};
 ghost use Rattle.pmg_get.specs.declared.view.Mode.{Mode as GetMode};
 ghost use Rattle.pmg_get.specs.declared.view.Mode.TheVariants as modes;
-ghost use Rattle.pmg_rules.specs.Acts.{Reply as ModelReply, is_misnamed, reply_of};
+ghost use Rattle.pmg_node_model.specs.Acts.{Reply as ModelReply, is_misnamed, reply_of};
 ghost use Rattle.pmg_node.specs.Replies.{taking_reply};
 ghost use Rattle.pmg_desk.specs.Clients.{IsLater, is_waiting, proc_of, puts_of};
 ghost use Rattle.pmg_journal.specs.Journals.{IsEvent};
-ghost use Rattle.pmg_desk.specs.Reading.{IsDue, IsGot, IsOwnGet, IsReadNow, NotesGet, got_as, got_in, is_own, now_cause, reserved_seen};
+ghost use Rattle.pmg_desk.specs.Reading.{IsDueOrClosed, IsGot, IsOwnGet, IsReadNow, NotesGet, got_as, got_in, is_own_key, now_cause, reserved_seen};
 
 use crate::client::Client;
 use crate::lock::Place;
@@ -28,14 +28,14 @@ use pmg_get::{Answer, Mode, View, resolve};
 use pmg_jobinfo::Registry;
 use pmg_journal::Call;
 use pmg_node::{Asked, Request, Taking, is_bad_target, is_registered};
-use pmg_publish::Sight;
+use pmg_publish::Snapshot;
 use pmg_value::{Key, NodeId, Proc, Refusal, Value};
 use std::sync::Wait;
 
 /// What a read that waits for nobody is answered.
 fn answer_now(answer: Answer<'_>) -> Result<Value, Refusal>
     requires { outcome_of answer ≡ Outcome.parks → ⊥ }
-    ensures { IsDue result (reply_of (outcome_of answer.entry)) }
+    ensures { IsDueOrClosed result (reply_of (outcome_of answer.entry)) }
 {
     match answer {
         Answer::Found(value) => Ok(value.copy()?),
@@ -60,7 +60,7 @@ fn view_of<'a>(
     id: NodeId,
     target: &Proc,
     key: &Key,
-    sight: &'a Sight,
+    sight: &'a Snapshot,
 ) -> View<'a>
     ensures { (near far : Data) → IsSight near far target.now key.now sight.now
         → seen_in result ≡ plain_seen registry.now id (read_at near target.now) (read_at far target.now) (get_of target.now key.now) }
@@ -84,10 +84,10 @@ fn plain_now(
     id: NodeId,
     target: &Proc,
     key: &Key,
-    sight: &Sight,
+    sight: &Snapshot,
 ) -> Result<Value, Refusal>
     ensures { (near far : Data) → IsSight near far target.now key.now sight.now
-        → IsDue result (reply_of (resolve (plain_seen registry.now id (read_at near target.now) (read_at far target.now) (get_of target.now key.now)) modes.Now)) }
+        → IsDueOrClosed result (reply_of (resolve (plain_seen registry.now id (read_at near target.now) (read_at far target.now) (get_of target.now key.now)) modes.Now)) }
 {
     answer_now(resolve(view_of(registry, id, target, key, sight), Mode::Now))
 }
@@ -98,7 +98,7 @@ fn reserved_now(registry: &Registry, id: NodeId, target: &Proc, key: &Key) -> Re
     requires key { is_reserved key.now ≡ true }
     requires known { is_registered registry.now target.now.nspace ≡ true }
     requires named { (not (is_general target.now) && is_misnamed registry.now target.now) ≡ false }
-    ensures { IsDue result (reply_of (resolve (reserved_seen registry.now id (get_of target.now key.now)) modes.Now)) }
+    ensures { IsDueOrClosed result (reply_of (resolve (reserved_seen registry.now id (get_of target.now key.now)) modes.Now)) }
 {
     registry.reserved(id, target, key)
 }
@@ -106,14 +106,14 @@ fn reserved_now(registry: &Registry, id: NodeId, target: &Proc, key: &Key) -> Re
 impl Client<'_> {
     /// Whether the key is one of its own, that is none of the standard's.
     fn is_own(&self, target: &Proc, key: &Key) -> bool
-        ensures { result ≡ is_own (proc_of self.now) (get_of target.now key.now) }
+        ensures { result ≡ is_own_key (proc_of self.now) (get_of target.now key.now) }
     {
         self.proc().cmp(target).is_eq() && !key.is_reserved()
     }
 
     /// What it put under the key last, sealed or not.
     fn own(&self, key: &Key) -> Result<Value, Refusal>
-        ensures { (mode : GetMode) → IsDue result (reply_of (resolve (Seen.own (finite.get (puts_of self.now).own key.now)) mode)) }
+        ensures { (mode : GetMode) → IsDueOrClosed result (reply_of (resolve (Seen.own (finite.get (puts_of self.now).own key.now)) mode)) }
     {
         match self.notes.own(key) {
             Some(value) => Ok(value.copy()?),
@@ -142,9 +142,9 @@ impl Client<'_> {
 
     /// What it put under the key last, unless a call of it waits.
     fn free_own(&self, key: &Key) -> Result<Value, Refusal>
-        ensures busy { is_waiting self.now ≡ true → IsDue result (ModelReply.refused refusals.Busy) }
+        ensures busy { is_waiting self.now ≡ true → IsDueOrClosed result (ModelReply.refused refusals.Busy) }
         ensures answer { (mode : GetMode) → is_waiting self.now ≡ false
-            → IsDue result (reply_of (resolve (Seen.own (finite.get (puts_of self.now).own key.now)) mode)) }
+            → IsDueOrClosed result (reply_of (resolve (Seen.own (finite.get (puts_of self.now).own key.now)) mode)) }
     {
         if self.in_call() {
             return Err(Refusal::Busy);
@@ -173,9 +173,9 @@ impl Client<'_> {
         mode: Mode,
     ) -> Result<Value, Refusal>
         ensures later { IsLater self.old self.new }
-        ensures own { is_own (proc_of self.old) (get_of target.now key.now) ≡ true → IsOwnGet self.old self.new (get_of target.now key.now) mode result }
-        ensures told { is_own (proc_of self.old) (get_of target.now key.now) ≡ false → IsEvent result → IsGot self.new (get_of target.now key.now) mode result }
-        ensures noted { is_own (proc_of self.old) (get_of target.now key.now) ≡ false → NotesGet self.old self.new (get_of target.now key.now) mode result }
+        ensures own { is_own_key (proc_of self.old) (get_of target.now key.now) ≡ true → IsOwnGet self.old self.new (get_of target.now key.now) mode result }
+        ensures told { is_own_key (proc_of self.old) (get_of target.now key.now) ≡ false → IsEvent result → IsGot self.new (get_of target.now key.now) mode result }
+        ensures noted { is_own_key (proc_of self.old) (get_of target.now key.now) ≡ false → NotesGet self.old self.new (get_of target.now key.now) mode result }
     {
         if self.is_own(target, key) {
             return self.get_own(key, mode);
@@ -189,9 +189,9 @@ impl Client<'_> {
     /// It gets the target's key (PMIx Standard 5.0, PMIx_Get), and waits until there is something to answer.
     pub fn get<R: Wait>(&mut self, rt: &R, target: &Proc, key: &Key) -> Result<Value, Refusal>
         ensures later { IsLater self.old self.new }
-        ensures own { is_own (proc_of self.old) (get_of target.now key.now) ≡ true → IsOwnGet self.old self.new (get_of target.now key.now) modes.Wait result }
-        ensures told { is_own (proc_of self.old) (get_of target.now key.now) ≡ false → IsEvent result → IsGot self.new (get_of target.now key.now) modes.Wait result }
-        ensures noted { is_own (proc_of self.old) (get_of target.now key.now) ≡ false → NotesGet self.old self.new (get_of target.now key.now) modes.Wait result }
+        ensures own { is_own_key (proc_of self.old) (get_of target.now key.now) ≡ true → IsOwnGet self.old self.new (get_of target.now key.now) modes.Wait result }
+        ensures told { is_own_key (proc_of self.old) (get_of target.now key.now) ≡ false → IsEvent result → IsGot self.new (get_of target.now key.now) modes.Wait result }
+        ensures noted { is_own_key (proc_of self.old) (get_of target.now key.now) ≡ false → NotesGet self.old self.new (get_of target.now key.now) modes.Wait result }
     {
         self.get_as(rt, target, key, Mode::Wait)
     }
@@ -207,9 +207,9 @@ impl Client<'_> {
         key: &Key,
     ) -> Result<Value, Refusal>
         ensures later { IsLater self.old self.new }
-        ensures own { is_own (proc_of self.old) (get_of target.now key.now) ≡ true → IsOwnGet self.old self.new (get_of target.now key.now) modes.Refresh result }
-        ensures told { is_own (proc_of self.old) (get_of target.now key.now) ≡ false → IsEvent result → IsGot self.new (get_of target.now key.now) modes.Refresh result }
-        ensures noted { is_own (proc_of self.old) (get_of target.now key.now) ≡ false → NotesGet self.old self.new (get_of target.now key.now) modes.Refresh result }
+        ensures own { is_own_key (proc_of self.old) (get_of target.now key.now) ≡ true → IsOwnGet self.old self.new (get_of target.now key.now) modes.Refresh result }
+        ensures told { is_own_key (proc_of self.old) (get_of target.now key.now) ≡ false → IsEvent result → IsGot self.new (get_of target.now key.now) modes.Refresh result }
+        ensures noted { is_own_key (proc_of self.old) (get_of target.now key.now) ≡ false → NotesGet self.old self.new (get_of target.now key.now) modes.Refresh result }
     {
         self.get_as(rt, target, key, Mode::Refresh)
     }

@@ -6,23 +6,23 @@ ghost use Rattle.pmg_value.specs.declared.refusal.Refusal.TheVariants as refusal
 ghost use Rattle.pmg_jobinfo.specs.Jobs.{is_node};
 ghost use Rattle.pmg_store.specs.Dump.{dump};
 ghost use Rattle.pmg_value.specs.CheckOrder.{first_of};
-ghost use Rattle.pmg_rules.specs.Acts.{caller_cause, status_of};
-ghost use Rattle.pmg_rules.specs.Kept.{IsOwn};
+ghost use Rattle.pmg_node_model.specs.Acts.{caller_cause, status_of};
+ghost use Rattle.pmg_node_model.specs.Kept.{IsOwn};
 ghost use Rattle.pmg_node.specs.Acting.{act_of, joins_in, reply_as};
 ghost use Rattle.pmg_node.specs.Joining.{joins};
 ghost use Rattle.pmg_node.specs.Opening.{new_server};
 ghost use Rattle.pmg_node.specs.Replies.{status_in};
 ghost use Rattle.pmg_node.specs.Servers.{after, reply_in, reply_to, sent_by};
-ghost use Rattle.pmg_journal.specs.Journals.{IsEvent, IsJournal, happened, is_memory, start_of, told_in};
+ghost use Rattle.pmg_journal.specs.Journals.{IsEvent, IsJournal, happened, is_memory, start_of, happened_in};
 ghost use Rattle.pmg_desk.specs.Publishing.{published_of, published_over};
-ghost use Rattle.pmg_desk.specs.States.{GoesOn, IsAt, IsSame, Steps};
+ghost use Rattle.pmg_desk.specs.States.{StateGoesOn, IsAt, NothingHappened, Steps};
 ghost use Rattle.pmg_desk.specs.Telling.{IsToldOf, WasFarDump, WasSent};
 
 use pmg_jobinfo::Registry;
-use pmg_journal::{Journal, Twice, copy_of_answer};
+use pmg_journal::{AnswerCopies, Journal, copy_of_answer};
 use pmg_node::{Act, Joined, Node, Reply, Status};
-use pmg_publish::{MAX_VIEWERS, Publisher, Told, Viewer, publisher};
-use pmg_rules::Sent;
+use pmg_node_model::Sent;
+use pmg_publish::{MAX_VIEWERS, Publisher, Version, Viewer, publisher};
 use pmg_store::Store;
 use pmg_value::{NodeId, Proc, Refusal, WatchedWriter};
 use std::alloc::{AllocError, Global};
@@ -53,7 +53,7 @@ pub struct State {
 }
 
 impl Model for State {
-    ghost use Rattle.pmg_desk.specs.States.{IsKept};
+    ghost use Rattle.pmg_desk.specs.States.{IsStateKept};
     ghost use Rattle.pmg_desk.specs.declared.state.Parts.{Parts};
     ghost use Rattle.pmg_desk.specs.contracts.state.Parts.{the_row as parts_row};
 
@@ -63,7 +63,7 @@ impl Model for State {
 
     ghost view = { λ s. s.parts };
 
-    ghost invariant = { λ s. IsKept s.parts };
+    ghost invariant = { λ s. IsStateKept s.parts };
 }
 
 /// What a node answers to an act, and what it joined.
@@ -134,7 +134,7 @@ fn publish_done<R: Wait>(
     publisher: &mut Publisher,
     rt: &R,
     done: Done,
-) -> Option<(Result<Reply, Refusal>, Twice)>
+) -> Option<(Result<Reply, Refusal>, AnswerCopies)>
     ensures noted { IfSome result (λ r. reply_in reply_as r.0 ≡ reply_in reply_as done.told) }
     ensures told { IfSome result (λ r. r.1.told ≡ done.told) }
     ensures kept { IfSome result (λ r. reply_in reply_as r.1.kept ≡ reply_in reply_as done.told) }
@@ -148,7 +148,7 @@ fn publish_done<R: Wait>(
         return None;
     };
     match publish(publisher, rt, &joined) {
-        Ok(()) => Some((noted, Twice { told, kept })),
+        Ok(()) => Some((noted, AnswerCopies { told, kept })),
         Err(_) => None,
     }
 }
@@ -162,13 +162,13 @@ fn happen_in<R: Wait>(
     publisher: &mut Publisher,
     rt: &R,
     act: &Act,
-) -> Result<Twice, Refusal>
-    ensures ok { IfOk result (λ t. GoesOn node.old act.now t.told (told_in journal.old) outbox.old.items publisher.old.log
-        node.new (told_in journal.new) outbox.new.items publisher.new.log) }
+) -> Result<AnswerCopies, Refusal>
+    ensures ok { IfOk result (λ t. StateGoesOn node.old act.now t.told (happened_in journal.old) outbox.old.items publisher.old.log
+        node.new (happened_in journal.new) outbox.new.items publisher.new.log) }
     ensures open { publisher.old.is_open ≡ true → OnOk result (publisher.new.is_open ≡ true) }
     ensures kind { IfOk result (λ t. IsEvent t.told) }
     ensures copy { IfOk result (λ t. reply_in reply_as t.kept ≡ reply_in reply_as t.told) }
-    ensures events { OnErr result (told_in journal.new ≡ told_in journal.old) }
+    ensures events { OnErr result (happened_in journal.new ≡ happened_in journal.old) }
     ensures log { OnErr result (publisher.new.log ≡ publisher.old.log) }
     ensures memory { result ≡ Err refusals.NoMemory → (node.new ≡ None) ⊎ ((node.new ≡ node.old) × (outbox.new.items ≡ outbox.old.items) × (publisher.new ≡ publisher.old)) }
     ensures shut { node.old ≡ None → result ≡ Err refusals.Closed }
@@ -192,7 +192,7 @@ fn happen_in<R: Wait>(
 }
 
 /// All frames of the outbox, which has none then.
-fn emptied(outbox: &mut VecDeque<Sent>, alloc: Global) -> VecDeque<Sent>
+fn take_all_frames(outbox: &mut VecDeque<Sent>, alloc: Global) -> VecDeque<Sent>
     ensures frames { result.items ≡ outbox.old.items }
     ensures rest { outbox.new.items ≡ [] }
 {
@@ -245,16 +245,16 @@ impl State {
 
     /// Does the act, writes it into the journal with its answer, and publishes what it joined. Closed where the node was given
     /// up. NoMemory before the act changes nothing; after it the node is given up, and journal and published store stand.
-    fn happen<R: Wait>(&mut self, rt: &R, act: &Act) -> Result<Twice, Refusal>
-        ensures event { IfOk result (λ t. told_in self.new.journal ≡ told_in self.old.journal ++ happened act.now t.told ∷ []) }
+    fn happen<R: Wait>(&mut self, rt: &R, act: &Act) -> Result<AnswerCopies, Refusal>
+        ensures event { IfOk result (λ t. happened_in self.new.journal ≡ happened_in self.old.journal ++ happened act.now t.told ∷ []) }
         ensures step { IfOk result (λ t. IfSome self.old.node (λ s. Steps s act.now t.told self.new.node)) }
         ensures kind { IfOk result (λ t. IsEvent t.told) }
         ensures copy { IfOk result (λ t. reply_in reply_as t.kept ≡ reply_in reply_as t.told) }
         ensures err { IfErr result (λ e. (e ≡ refusals.NoMemory) ⊎ (e ≡ refusals.Closed)) }
-        ensures none { OnErr result (told_in self.new.journal ≡ told_in self.old.journal) }
-        ensures memory { result ≡ Err refusals.NoMemory → (self.new.node ≡ None) ⊎ IsSame self.old self.new }
+        ensures none { OnErr result (happened_in self.new.journal ≡ happened_in self.old.journal) }
+        ensures memory { result ≡ Err refusals.NoMemory → (self.new.node ≡ None) ⊎ NothingHappened self.old self.new }
         ensures shut { self.old.node ≡ None → result ≡ Err refusals.Closed }
-        ensures closed { result ≡ Err refusals.Closed → (self.old.node ≡ None) × IsSame self.old self.new }
+        ensures closed { result ≡ Err refusals.Closed → (self.old.node ≡ None) × NothingHappened self.old self.new }
         ensures place { IsAt self.old self.new }
     {
         let Parts {
@@ -271,13 +271,13 @@ impl State {
     /// Does the act, writes it into the journal with its answer, and publishes what it joined. Closed where the node was given
     /// up. NoMemory before the act changes nothing; after it the node is given up, and journal and published store stand.
     pub fn act<R: Wait>(&mut self, rt: &R, act: &Act) -> Result<Reply, Refusal>
-        ensures event { IsEvent result → told_in self.new.journal ≡ told_in self.old.journal ++ happened act.now result ∷ [] }
+        ensures event { IsEvent result → happened_in self.new.journal ≡ happened_in self.old.journal ++ happened act.now result ∷ [] }
         ensures step { IsEvent result → IfSome self.old.node (λ s. Steps s act.now result self.new.node) }
-        ensures none { result ≡ Err refusals.NoMemory → told_in self.new.journal ≡ told_in self.old.journal }
-        ensures kept { result ≡ Err refusals.Closed → told_in self.new.journal ≡ told_in self.old.journal }
-        ensures memory { result ≡ Err refusals.NoMemory → (self.new.node ≡ None) ⊎ IsSame self.old self.new }
+        ensures none { result ≡ Err refusals.NoMemory → happened_in self.new.journal ≡ happened_in self.old.journal }
+        ensures kept { result ≡ Err refusals.Closed → happened_in self.new.journal ≡ happened_in self.old.journal }
+        ensures memory { result ≡ Err refusals.NoMemory → (self.new.node ≡ None) ⊎ NothingHappened self.old self.new }
         ensures shut { self.old.node ≡ None → result ≡ Err refusals.Closed }
-        ensures closed { result ≡ Err refusals.Closed → (self.old.node ≡ None) × IsSame self.old self.new }
+        ensures closed { result ≡ Err refusals.Closed → (self.old.node ≡ None) × NothingHappened self.old self.new }
         ensures place { IsAt self.old self.new }
     {
         match self.happen(rt, act) {
@@ -292,7 +292,7 @@ impl State {
         rt: &R,
         act: &Act,
         viewer: &mut Viewer,
-    ) -> Result<Twice, Refusal>
+    ) -> Result<AnswerCopies, Refusal>
         requires { viewer.old.book ≡ self.old.publisher.book }
         ensures told { IfOk result (λ t. IsToldOf self.old.journal.registry self.old.journal.node (happened act.now t.told) viewer.new.log) }
         ensures step { IfOk result (λ t. IfSome self.old.node (λ s. reply_to s (act_of act.now) ≡ reply_in reply_as t.told)) }
@@ -310,10 +310,10 @@ impl State {
     }
 
     /// What was published so far.
-    pub fn tell(&self) -> Told
+    pub fn tell(&self) -> Version
         ensures told { result ≡ record { book = self.now.publisher.book; log = self.now.publisher.log } }
         ensures journal { IsJournal self.now.journal }
-        ensures published { result.log ≡ published_over (start_of self.now.journal) (told_in self.now.journal) }
+        ensures published { result.log ≡ published_over (start_of self.now.journal) (happened_in self.now.journal) }
     {
         self.parts.publisher.tell()
     }
@@ -389,7 +389,7 @@ impl State {
             return Err(Refusal::TooMany);
         };
         parts.taken = taken;
-        Ok(emptied(&mut parts.outbox, parts.journal.registry.allocator()))
+        Ok(take_all_frames(&mut parts.outbox, parts.journal.registry.allocator()))
     }
 
     /// Gives up the node. Journal and published store stand.

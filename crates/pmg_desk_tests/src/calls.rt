@@ -70,7 +70,11 @@ fn two_clients_of_a_node_meet(rt: HostRuntime) -> Result<(), Refusal> {
 
 // Why these have no client: a process that has one, one of another node, one that is not there, one of another namespace, and one that
 // ended; between the last two, why it did not end.
-fn refused<R: Wait>(rt: &R, alloc: Global, desk: &Desk) -> Result<[Option<Refusal>; 6], Refusal> {
+fn refusals_of<R: Wait>(
+    rt: &R,
+    alloc: Global,
+    desk: &Desk,
+) -> Result<[Option<Refusal>; 6], Refusal> {
     let first = process(alloc, 0)?;
     let client = desk.client(rt, &first)?;
     let again = desk.client(rt, &first).err();
@@ -90,7 +94,7 @@ fn refused<R: Wait>(rt: &R, alloc: Global, desk: &Desk) -> Result<[Option<Refusa
 fn a_process_has_one_client(rt: HostRuntime) -> Result<(), Refusal> {
     let alloc = rt.alloc();
     let desk = desk(&rt, alloc, 0)?;
-    let answers = refused(&rt, alloc, &desk);
+    let answers = refusals_of(&rt, alloc, &desk);
     desk.into_journal(&rt);
     let answers = answers?;
     check_memory(&answers)?;

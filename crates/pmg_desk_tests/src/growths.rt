@@ -69,7 +69,7 @@ fn exchange<R: Wait>(
 
 // What the exchange at the desk ends with, the commits that the other client reads then, and what it is answered who is no process of
 // the node.
-fn exchanged<R: Wait>(
+fn end_of_exchange<R: Wait>(
     rt: &R,
     alloc: Global,
     desk: &Desk,
@@ -92,7 +92,7 @@ fn a_call_whose_allocation_fails_leaves_nothing(rt: HostRuntime) -> Result<(), R
         has_failed: false,
         committed: 0,
     };
-    let told = exchanged(&rt, alloc, &desk, &mut seen);
+    let told = end_of_exchange(&rt, alloc, &desk, &mut seen);
     desk.into_journal(&rt);
     let (ended, level, late) = told?;
     assert!(rt; level == seen.committed);

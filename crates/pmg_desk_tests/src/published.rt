@@ -1,5 +1,6 @@
 //! Published stores: that calls succeed where there is memory, what viewers read with answers found by hand, that a viewer
 //! meets no Closed while its publisher is open, and what stands after an allocation failed.
+ghost use Rattle.pmg_publish.specs.declared.opening.TheConstants.{MAX_VIEWERS};
 ghost use Rattle.std.specs.Prelude.{◌≡◌, ◌≤◌, IfOk};
 
 use pmg_commit::{Piece, PieceEntry};
@@ -48,7 +49,7 @@ fn piece(alloc: Global, from: u32, value: u32) -> Result<Piece, Refusal> {
 }
 
 // A publisher and its only viewer.
-fn opened<R: Wait>(rt: &R, alloc: Global) -> Result<(Publisher, Viewer), Refusal>
+fn open_with_viewer<R: Wait>(rt: &R, alloc: Global) -> Result<(Publisher, Viewer), Refusal>
     ensures { IfOk result (λ r. r.1.book ≡ r.0.book) }
 {
     let (publisher, mut viewers) = again!(publisher(rt, alloc, 1))?;
@@ -103,7 +104,7 @@ fn read_both<R: Wait>(
 #[test]
 fn both_stores_are_read(rt: HostRuntime) -> Result<(), Refusal> {
     let alloc = rt.alloc();
-    let (mut publisher, mut viewer) = opened(&rt, alloc)?;
+    let (mut publisher, mut viewer) = open_with_viewer(&rt, alloc)?;
     let read = read_both(&rt, alloc, &mut publisher, &mut viewer);
     publisher.close(&rt);
     let [first, second] = read?;
@@ -114,7 +115,7 @@ fn both_stores_are_read(rt: HostRuntime) -> Result<(), Refusal> {
 
 // How many of so many viewers there are, and how many of them read what is published, each twice.
 fn count_readers<R: Wait>(rt: &R, alloc: Global, count: usize) -> Result<(usize, usize), Refusal>
-    requires { count ≤ 65536 }
+    requires { count ≤ MAX_VIEWERS }
 {
     let proc = proc(alloc)?;
     let pieces = [piece(alloc, 0, 1)?];
@@ -170,7 +171,7 @@ fn read_all(alloc: Global, mut viewer: Viewer) -> Result<u32, Refusal> {
 #[test]
 fn reads_never_fall_back(rt: HostRuntime) -> Result<(), Refusal> {
     let alloc = rt.alloc();
-    let (mut publisher, viewer) = opened(&rt, alloc)?;
+    let (mut publisher, viewer) = open_with_viewer(&rt, alloc)?;
     let (published, reads) = join(
         &rt,
         || publish_all(&rt, alloc, &mut publisher),
@@ -207,7 +208,7 @@ fn publish_some<R: Wait>(
 fn what_was_published_stands(rt: HostRuntime) -> Result<(), Refusal> {
     let alloc = rt.alloc();
     let proc = proc(alloc)?;
-    let (mut publisher, mut viewer) = opened(&rt, alloc)?;
+    let (mut publisher, mut viewer) = open_with_viewer(&rt, alloc)?;
     let published = publish_some(&rt, alloc, &mut publisher, &mut viewer);
     let level = viewer.level(&proc);
     publisher.close(&rt);

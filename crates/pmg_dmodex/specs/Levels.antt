@@ -27,8 +27,8 @@ abbrev pub levels_of : Levels → Proc → NodeLevels
 levels_of levels p = unwrap_or (finite.get levels p) finite.empty
 
 -- the level of the process at the node
-abbrev pub level_at : Levels → Proc → ℕ → Option ℕ
-level_at levels p node = finite.get (levels_of levels p) node
+abbrev pub node_level : Levels → Proc → ℕ → Option ℕ
+node_level levels p node = finite.get (levels_of levels p) node
 
 -- the levels, with this one of the process at the node
 abbrev pub with_level : Levels → Proc → ℕ → ℕ → Levels

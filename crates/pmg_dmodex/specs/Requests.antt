@@ -4,7 +4,7 @@ use Rattle.std.specs.FinMap as finite
 use Rattle.std.specs.Coded.{Coded, code_by, coded×, coded_ℕ}
 use Rattle.pmg_value.specs.declared.process.Proc.{Proc}
 use Rattle.pmg_value.specs.Process.{proc_cmp, coded_proc}
-use Rattle.pmg_dmodex.specs.Levels.{Levels, coded_levels, levels_of, level_at, with_level, below, without_below}
+use Rattle.pmg_dmodex.specs.Levels.{Levels, coded_levels, levels_of, node_level, with_level, below, without_below}
 use Rattle.pmg_dmodex.specs.Refreshes.{Refreshes, coded_refreshes, no_refreshes}
 
 -- The level that was named last when a process's home was asked for its commits; the nodes that wait for a process's
@@ -43,7 +43,7 @@ asking r p level = record { asked = finite.insert r.asked p (greatest (finite.ge
 
 -- the node waits for commits of the process past the level: the least counts
 abbrev pub holding : Requests → ℕ → Proc → ℕ → Requests
-holding r node p level = record { asked = r.asked; held = with_level r.held p node (least (level_at r.held p node) level); anew = r.anew }
+holding r node p level = record { asked = r.asked; held = with_level r.held p node (least (node_level r.held p node) level); anew = r.anew }
 
 -- the nodes that wait for a commit that the level has, with the levels that they know, by node
 abbrev pub due : Requests → Proc → ℕ → List (ℕ × ℕ)
@@ -55,8 +55,8 @@ is_below None n = false
 is_below (Some m) n = nat_lt m n
 
 -- the process has come to the level: what waited for that no longer does
-abbrev pub settled : Requests → Proc → ℕ → Requests
-settled r p level = record {
+abbrev pub requests_settled : Requests → Proc → ℕ → Requests
+requests_settled r p level = record {
   asked = if is_below (finite.get r.asked p) level then finite.remove r.asked p else r.asked;
   held = without_below r.held p level;
   anew = r.anew;

@@ -2,7 +2,7 @@
 ghost use Rattle.std.specs.Prelude.{◌≡◌, None, IfOk, OnOk, OnErr};
 ghost use Rattle.std.specs.FinMap as finite;
 ghost use Rattle.std.specs.Option.{option_map};
-ghost use Rattle.pmg_dmodex.specs.Levels.{below, level_at, levels_of, not_below, with_level, without_below};
+ghost use Rattle.pmg_dmodex.specs.Levels.{below, node_level, levels_of, not_below, with_level, without_below};
 
 use pmg_value::{Copied, NodeId, Proc, copy_rows};
 use std::alloc::{AllocError, Global};
@@ -123,7 +123,7 @@ impl Levels {
 
     /// The process's level at the node.
     pub fn get(&self, proc: &Proc, node: NodeId) -> Option<u64>
-        ensures { result ≡ level_at self.now proc.now node }
+        ensures { result ≡ node_level self.now proc.now node }
     {
         match self.of(proc) {
             Some(levels) => levels.get(node),
@@ -136,7 +136,7 @@ impl Levels {
     pub fn set(&mut self, proc: &Proc, node: NodeId, level: u64) -> Result<(), AllocError>
         ensures ok { OnOk result (self.new ≡ with_level self.old proc.now node level) }
         ensures err { OnErr result (self.new ≡ self.old) }
-        ensures absent { OnErr result (level_at self.old proc.now node ≡ None) }
+        ensures absent { OnErr result (node_level self.old proc.now node ≡ None) }
     {
         if let Some(levels) = self.rows.get_mut(proc) {
             return levels.set(node, level);

@@ -2,7 +2,7 @@
 ghost use Rattle.std.specs.Prelude.{◌≡◌, None, IfOk, OnOk, OnErr};
 ghost use Rattle.std.specs.FinMap as finite;
 ghost use Rattle.std.specs.Option.{unwrap_or};
-ghost use Rattle.pmg_dmodex.specs.Levels.{level_at, with_level};
+ghost use Rattle.pmg_dmodex.specs.Levels.{node_level, with_level};
 
 use crate::levels::Levels;
 use pmg_value::{NodeId, Proc};
@@ -38,14 +38,14 @@ impl Marks {
 
     /// The mark of the node for the process, 0 where none was set.
     pub fn from(&self, node: NodeId, proc: &Proc) -> u64
-        ensures { result ≡ unwrap_or (level_at self.now proc.now node) 0 }
+        ensures { result ≡ unwrap_or (node_level self.now proc.now node) 0 }
     {
         self.get(node, proc).unwrap_or(0)
     }
 
     /// The mark of the node for the process, if it was set.
     pub fn get(&self, node: NodeId, proc: &Proc) -> Option<u64>
-        ensures { result ≡ level_at self.now proc.now node }
+        ensures { result ≡ node_level self.now proc.now node }
     {
         self.levels.get(proc, node)
     }
@@ -55,7 +55,7 @@ impl Marks {
     pub fn set(&mut self, node: NodeId, proc: &Proc, level: u64) -> Result<(), AllocError>
         ensures ok { OnOk result (self.new ≡ with_level self.old proc.now node level) }
         ensures err { OnErr result (self.new ≡ self.old) }
-        ensures absent { OnErr result (level_at self.old proc.now node ≡ None) }
+        ensures absent { OnErr result (node_level self.old proc.now node ≡ None) }
     {
         self.levels.set(proc, node, level)
     }

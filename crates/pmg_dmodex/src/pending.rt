@@ -4,7 +4,7 @@ ghost use Rattle.std.specs.FinMap as finite;
 ghost use Rattle.std.specs.Option.{option_map};
 ghost use Rattle.pmg_value.specs.declared.refusal.Refusal.TheVariants as refusals;
 ghost use Rattle.pmg_dmodex.specs.Refreshes.{answered, asker_at, requested};
-ghost use Rattle.pmg_dmodex.specs.Requests.{asking, due, greatest, holding, is_below, least, no_requests, settled, with_anew};
+ghost use Rattle.pmg_dmodex.specs.Requests.{asking, due, greatest, holding, is_below, least, no_requests, requests_settled, with_anew};
 
 use crate::levels::Levels;
 use crate::refreshes::Refreshes;
@@ -163,7 +163,7 @@ impl Pending {
     /// The process has come to the level: the nodes that are due at it wait no longer, and what was asked for below
     /// it is answered.
     pub fn settle(&mut self, proc: &Proc, level: u64)
-        ensures { self.new ≡ settled self.old proc.now level }
+        ensures { self.new ≡ requests_settled self.old proc.now level }
     {
         self.held.drop_below(proc, level);
         if let Some(asked) = self.asked.get(proc) {

@@ -21,7 +21,7 @@ use Rattle.pmg_value.proofs.SetOrder.{in_order_rises}
 use Rattle.pmg_frame.specs.declared.local.Local.{Local}
 use Rattle.pmg_jobinfo.specs.Jobs.{home_of}
 use Rattle.pmg_fence.specs.declared.entry.Entry.{Entry}
-use Rattle.pmg_fence.specs.Entering.{same_proc, entry_by, lines, told, with_line, locals_of}
+use Rattle.pmg_fence.specs.Entering.{same_proc, entry_by, collected_locals, told_locals, with_line, locals_of}
 use Rattle.pmg_fence.specs.Tables.{Numbers, Fence, fence_at, entry_at}
 use Rattle.pmg_fence.specs.Codes.{Known}
 use Rattle.pmg_fence.specs.Changes.{present, newly}
@@ -61,9 +61,9 @@ some_first s p ps (Some e) None is rest ls h q i = absurd cc
 some_first s p ps (Some e) (Some xs) is rest ls h q (inl same) = ap is_some (ap s same ∙ is)
 some_first s p ps (Some e) (Some xs) is rest ls h q (inr i) = rest xs refl q i
 
-each_some : (s : Proc → Option Entry) (ps : List Proc) (ls : List Local) → lines s ps ≡ Some ls → (q : Proc) → In q ps → is_some (s q) ≡ true
+each_some : (s : Proc → Option Entry) (ps : List Proc) (ls : List Local) → collected_locals s ps ≡ Some ls → (q : Proc) → In q ps → is_some (s q) ≡ true
 each_some s [] ls h q i = absurd i
-each_some s (p ∷ ps) ls h q i = some_first s p ps (s p) (lines s ps) refl (each_some s ps) ls h q i
+each_some s (p ∷ ps) ls h q i = some_first s p ps (s p) (collected_locals s ps) refl (each_some s ps) ls h q i
 
 entered_or_gone : (o end : Option ℕ) → is_some (entry_by o end) ≡ (is_some o || is_some end)
 entered_or_gone (Some level) end = refl
@@ -87,7 +87,7 @@ one_more false n = omega arith
 len_more : (m : Numbers) (p : Proc) (n : ℕ) → finite.len (finite.insert m p n) ≤ finite.len m + 1
 len_more m p n = subst (λ k. k ≤ finite.len m + 1) (sym (finite.len-insert procs_total m p n)) (one_more (finite.contains_key m p) (finite.len m))
 
-lines_at_most : (fence : Fence) (ends : Numbers) (l : Option Local) (ps : List Proc) (ls : List Local) → IsStrictlySortedBy proc_cmp ps → lines (instead l (entry_with fence ends)) ps ≡ Some ls → length ps ≤ most_told fence ends
+lines_at_most : (fence : Fence) (ends : Numbers) (l : Option Local) (ps : List Proc) (ls : List Local) → IsStrictlySortedBy proc_cmp ps → collected_locals (instead l (entry_with fence ends)) ps ≡ Some ls → length ps ≤ most_told fence ends
 lines_at_most fence ends None ps ls rising h =
     let few = at_most fence.levels ends ps rising (λ q i. sym (entered_or_gone (finite.get fence.levels q) (finite.get ends q)) ∙ each_some (instead None (entry_with fence ends)) ps ls h q i) in
     omega (arith, few)
@@ -95,7 +95,7 @@ lines_at_most fence ends (Some l) ps ls rising h =
     let few = at_most (finite.insert fence.levels l.proc l.level) ends ps rising (λ q i. some_instead fence ends l q (each_some (instead (Some l) (entry_with fence ends)) ps ls h q i)) in
     omega (arith, few, len_more fence.levels l.proc l.level)
 
-told_at_most : (fence : Fence) (ends : Numbers) (l : Option Local) (ps : List Proc) (ls : List Local) → IsStrictlySortedBy proc_cmp ps → told (instead l (entry_with fence ends)) ps ≡ Some ls → length ps ≤ most_told fence ends
+told_at_most : (fence : Fence) (ends : Numbers) (l : Option Local) (ps : List Proc) (ls : List Local) → IsStrictlySortedBy proc_cmp ps → told_locals (instead l (entry_with fence ends)) ps ≡ Some ls → length ps ≤ most_told fence ends
 told_at_most fence ends l [] ls rising h = omega arith
 told_at_most fence ends l (p ∷ ps) ls rising h = lines_at_most fence ends l (p ∷ ps) ls rising h
 
@@ -112,9 +112,9 @@ newly_nothing node f (Some ls) = refl
 pub nothing_yet : (k : Known) (f : FenceName) (fence : Fence) (l : Option Local) (own : List Proc) → fence ≡ fence_at k.fences f → own ≡ own_of k f.signature
     → nat_le (length own) (most_told fence k.fences.ends) ≡ false → [] ≡ told_with k f l
 unfolding locals_of entry_at
-nothing_yet k f fence l own same is short = sym (by_now (told (instead l (entry_at k.fences f)) (own_of k f.signature)) refl)
+nothing_yet k f fence l own same is short = sym (by_now (told_locals (instead l (entry_at k.fences f)) (own_of k f.signature)) refl)
   where
-    by_now : (o : Option (List Local)) → told (instead l (entry_at k.fences f)) (own_of k f.signature) ≡ o → newly k.node f (present k.jobs k.node k.fences f) o ≡ []
+    by_now : (o : Option (List Local)) → told_locals (instead l (entry_at k.fences f)) (own_of k f.signature) ≡ o → newly k.node f (present k.jobs k.node k.fences f) o ≡ []
     by_now None e = newly_nothing k.node f (present k.jobs k.node k.fences f)
     by_now (Some ls) e =
         let few = told_at_most (fence_at k.fences f) k.fences.ends l (own_of k f.signature) ls (own_rises k f.signature) e in

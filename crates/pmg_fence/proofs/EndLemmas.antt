@@ -17,7 +17,7 @@ use Rattle.pmg_frame.specs.Fences.{Header}
 use Rattle.pmg_frame.specs.declared.local.Local.{Local}
 use Rattle.pmg_frame.specs.declared.local.State.TheVariants as states
 use Rattle.pmg_jobinfo.specs.Jobs.{Jobs}
-use Rattle.pmg_fence.specs.Entering.{same_proc, gone, entry_by, locals_of, told}
+use Rattle.pmg_fence.specs.Entering.{same_proc, gone, entry_by, locals_of, told_locals}
 use Rattle.pmg_fence.specs.Tables.{Numbers, Fence, Series, fence_of, series_at, has_name, fence_at, entry_at, own_header, names_of}
 use Rattle.pmg_fence.specs.Codes.{Known, AllSeries, Instances}
 use Rattle.pmg_fence.specs.Changes.{ended_by, changed, present, newly, news}
@@ -69,17 +69,17 @@ module _ (k : Known) (p : Proc) (level : ℕ) (f : FenceName) where
   unfolding entry_at
   ended_entry q = ap (λ (x : Fence). entry_by (finite.get x.levels q) (finite.get (finite.insert k.fences.ends p level) q)) ended_fence
 
-  told_entered : (n : ℕ) → finite.get (fence_at k.fences f).levels p ≡ Some n → told (entry_at (ended_by k.fences p level) f) (locals_of k.jobs f k.node) ≡ own_header k.jobs k.node k.fences f
+  told_entered : (n : ℕ) → finite.get (fence_at k.fences f).levels p ≡ Some n → told_locals (entry_at (ended_by k.fences p level) f) (locals_of k.jobs f k.node) ≡ own_header k.jobs k.node k.fences f
   unfolding own_header entry_at
   told_entered n there = told_alike _ _ (locals_of k.jobs f k.node) (λ q i. ended_entry q ∙ stays (fence_at k.fences f).levels k.fences.ends p level n there q)
 
-  told_left : finite.get (fence_at k.fences f).levels p ≡ None → told (entry_at (ended_by k.fences p level) f) (locals_of k.jobs f k.node) ≡ told (instead (Some (end_line p level)) (entry_at k.fences f)) (locals_of k.jobs f k.node)
+  told_left : finite.get (fence_at k.fences f).levels p ≡ None → told_locals (entry_at (ended_by k.fences p level) f) (locals_of k.jobs f k.node) ≡ told_locals (instead (Some (end_line p level)) (entry_at k.fences f)) (locals_of k.jobs f k.node)
   unfolding entry_at
   told_left none = told_alike _ _ (locals_of k.jobs f k.node) (λ q i. ended_entry q ∙ leaves (fence_at k.fences f).levels k.fences.ends p level none q)
 
   by_level : (o : Option ℕ) → finite.get (fence_at k.fences f).levels p ≡ o → (b : Bool) → has_name k.fences f ≡ b
-      → cond b (cond (is_some o) [] (newly k.node f (cond b (own_header k.jobs k.node k.fences f) None) (told (instead (Some (end_line p level)) (entry_at k.fences f)) (locals_of k.jobs f k.node)))) []
-      ≡ newly k.node f (cond b (own_header k.jobs k.node k.fences f) None) (cond b (told (entry_at (ended_by k.fences p level) f) (locals_of k.jobs f k.node)) None)
+      → cond b (cond (is_some o) [] (newly k.node f (cond b (own_header k.jobs k.node k.fences f) None) (told_locals (instead (Some (end_line p level)) (entry_at k.fences f)) (locals_of k.jobs f k.node)))) []
+      ≡ newly k.node f (cond b (own_header k.jobs k.node k.fences f) None) (cond b (told_locals (entry_at (ended_by k.fences p level) f) (locals_of k.jobs f k.node)) None)
   by_level o e false there = refl
   by_level (Some n) e true there = sym (ap (newly k.node f (own_header k.jobs k.node k.fences f)) (told_entered n e) ∙ newly_same k.node f (own_header k.jobs k.node k.fences f))
   by_level None e true there = sym (ap (newly k.node f (own_header k.jobs k.node k.fences f)) (told_left e))
@@ -89,7 +89,7 @@ module _ (k : Known) (p : Proc) (level : ℕ) (f : FenceName) where
   unfolding news present own_header
   ended_is =
       by_level (finite.get (fence_at k.fences f).levels p) refl (has_name k.fences f) refl
-      ∙ ap (λ b. newly k.node f (cond (has_name k.fences f) (told (entry_at k.fences f) (locals_of k.jobs f k.node)) None) (cond b (told (entry_at (ended_by k.fences p level) f) (locals_of k.jobs f k.node)) None)) (sym ended_name)
+      ∙ ap (λ b. newly k.node f (cond (has_name k.fences f) (told_locals (entry_at k.fences f) (locals_of k.jobs f k.node)) None) (cond b (told_locals (entry_at (ended_by k.fences p level) f) (locals_of k.jobs f k.node)) None)) (sym ended_name)
 
 -- ---- the call
 

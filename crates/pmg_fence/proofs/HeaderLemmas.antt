@@ -9,7 +9,7 @@ use Rattle.pmg_value.specs.declared.process.Proc.{Proc}
 use Rattle.pmg_value.proofs.ProcessOrder.{exact_procs}
 use Rattle.pmg_frame.specs.declared.local.Local.{Local}
 use Rattle.pmg_fence.specs.declared.entry.Entry.{Entry}
-use Rattle.pmg_fence.specs.Entering.{same_proc, local_of, with_line, lines, told}
+use Rattle.pmg_fence.specs.Entering.{same_proc, local_of, with_line, collected_locals, told_locals}
 use Rattle.pmg_fence.specs.Tables.{entry_in}
 use Rattle.pmg_fence.proofs.EntryLemmas.{proc_itself}
 
@@ -24,11 +24,11 @@ by_proc p q {P} one other = choose (same_proc p q) refl
 -- ---- lines
 
 -- the lines are those of each process
-pub lines_alike : (s t : Proc → Option Entry) (ps : List Proc) → ((q : Proc) → In q ps → s q ≡ t q) → lines s ps ≡ lines t ps
+pub lines_alike : (s t : Proc → Option Entry) (ps : List Proc) → ((q : Proc) → In q ps → s q ≡ t q) → collected_locals s ps ≡ collected_locals t ps
 lines_alike s t [] same = refl
 lines_alike s t (p ∷ ps) same = (λ i. with_line p (same p (inl refl) i) (lines_alike s t ps (λ q i. same q (inr i)) i))
 
-pub told_alike : (s t : Proc → Option Entry) (ps : List Proc) → ((q : Proc) → In q ps → s q ≡ t q) → told s ps ≡ told t ps
+pub told_alike : (s t : Proc → Option Entry) (ps : List Proc) → ((q : Proc) → In q ps → s q ≡ t q) → told_locals s ps ≡ told_locals t ps
 told_alike s t [] same = refl
 told_alike s t (p ∷ ps) same = lines_alike s t (p ∷ ps) same
 
@@ -41,12 +41,12 @@ lines_stay_by s t p (Some e) None y is same rest ls h = absurd cc
 lines_stay_by s t p (Some e) (Some xs) y is same rest ls h = (λ i. with_line p (same e is i) (rest xs refl i)) ∙ h
 
 pub lines_stay : (s t : Proc → Option Entry) (ps : List Proc) → ((q : Proc) (e : Entry) → s q ≡ Some e → t q ≡ Some e)
-    → (ls : List Local) → lines s ps ≡ Some ls → lines t ps ≡ Some ls
+    → (ls : List Local) → collected_locals s ps ≡ Some ls → collected_locals t ps ≡ Some ls
 lines_stay s t [] same ls h = h
-lines_stay s t (p ∷ ps) same ls h = lines_stay_by s t p (s p) (lines s ps) (lines t ps) refl (same p) (lines_stay s t ps same) ls h
+lines_stay s t (p ∷ ps) same ls h = lines_stay_by s t p (s p) (collected_locals s ps) (collected_locals t ps) refl (same p) (lines_stay s t ps same) ls h
 
 pub told_stays : (s t : Proc → Option Entry) (ps : List Proc) → ((q : Proc) (e : Entry) → s q ≡ Some e → t q ≡ Some e)
-    → (ls : List Local) → told s ps ≡ Some ls → told t ps ≡ Some ls
+    → (ls : List Local) → told_locals s ps ≡ Some ls → told_locals t ps ≡ Some ls
 told_stays s t [] same ls h = absurd cc
 told_stays s t (p ∷ ps) same ls h = lines_stay s t (p ∷ ps) same ls h
 
@@ -68,12 +68,12 @@ found_by s q p (Some e) (Some xs) is rest ls h =
     ] refl
 
 -- of each of the processes the lines say how it stands
-pub lines_say : (s : Proc → Option Entry) (ps : List Proc) (q : Proc) → In q ps → (ls : List Local) → lines s ps ≡ Some ls → entry_in q (Some ls) ≡ s q
+pub lines_say : (s : Proc → Option Entry) (ps : List Proc) (q : Proc) → In q ps → (ls : List Local) → collected_locals s ps ≡ Some ls → entry_in q (Some ls) ≡ s q
 lines_say s [] q i ls h = absurd i
-lines_say s (p ∷ ps) q (inl e) ls h = found_by s q p (s p) (lines s ps) refl (λ xs z apart. absurd (apart (ap (λ r. same_proc q r) (sym e) ∙ proc_itself q))) ls h
-lines_say s (p ∷ ps) q (inr i) ls h = found_by s q p (s p) (lines s ps) refl (λ xs z apart. lines_say s ps q i xs z) ls h
+lines_say s (p ∷ ps) q (inl e) ls h = found_by s q p (s p) (collected_locals s ps) refl (λ xs z apart. absurd (apart (ap (λ r. same_proc q r) (sym e) ∙ proc_itself q))) ls h
+lines_say s (p ∷ ps) q (inr i) ls h = found_by s q p (s p) (collected_locals s ps) refl (λ xs z apart. lines_say s ps q i xs z) ls h
 
-pub told_says : (s : Proc → Option Entry) (ps : List Proc) (q : Proc) → In q ps → (ls : List Local) → told s ps ≡ Some ls → entry_in q (Some ls) ≡ s q
+pub told_says : (s : Proc → Option Entry) (ps : List Proc) (q : Proc) → In q ps → (ls : List Local) → told_locals s ps ≡ Some ls → entry_in q (Some ls) ≡ s q
 told_says s [] q i ls h = absurd i
 told_says s (p ∷ ps) q i ls h = lines_say s (p ∷ ps) q i ls h
 

@@ -14,7 +14,7 @@ use Rattle.pmg_fence.specs.Codes.{Headers}
 use Rattle.pmg_fence.specs.Entering.{entry_by, locals_of}
 use Rattle.pmg_fence.specs.Tables.{Fence, Fences, series_at, is_old, fence_at, entry_at, own_header, header_at}
 use Rattle.pmg_fence.specs.declared.entry.Entry.{Entry}
-use Rattle.pmg_fence.specs.Changes.{placed, forgotten, with_fence, next_name, noted_entry, entered_by, ended_by, fence_entered, fence_told, first_of}
+use Rattle.pmg_fence.specs.Changes.{fence_placed, forgotten, with_fence, next_name, noted_entry, entered_by, ended_by, fence_entered, fence_told, first_locals}
 use Rattle.pmg_fence.specs.Rules.{FitsTable, Scripts, Grows, Keeps, with_call, LearnKeeps, HeaderKeeps, EnterKeeps, EndKeeps}
 use Rattle.pmg_fence.proofs.HeaderLemmas.{by_proc, told_alike, told_stays}
 use Rattle.pmg_fence.proofs.FitLemmas.{header_stays, own_header_is_true}
@@ -50,32 +50,32 @@ keeps_forgotten jobs node t new g f keeps young other ls is =
     let was : is_old new f ≡ false = sym (old-forgotten new g f) ∙ young in
     header-forgotten new g jobs node f was other ∙ keeps was other ls is
 
-keeps_with : (jobs : Jobs) (node : ℕ) (t : Fences) (g : FenceName) (fence : Fence) (f : FenceName) → Keeps jobs node t (placed t g fence (series_at t g.signature).counts) f → Keeps jobs node t (with_fence t g fence) f
+keeps_with : (jobs : Jobs) (node : ℕ) (t : Fences) (g : FenceName) (fence : Fence) (f : FenceName) → Keeps jobs node t (fence_placed t g fence (series_at t g.signature).counts) f → Keeps jobs node t (with_fence t g fence) f
 keeps_with jobs node t g fence f keeps = by_old (is_old t g)
   where
-    by_old : (b : Bool) → Keeps jobs node t (cond b t (forgotten (placed t g fence (series_at t g.signature).counts) g.signature)) f
+    by_old : (b : Bool) → Keeps jobs node t (cond b t (forgotten (fence_placed t g fence (series_at t g.signature).counts) g.signature)) f
     by_old true = λ young other ls is. is
-    by_old false = keeps_forgotten jobs node t (placed t g fence (series_at t g.signature).counts) g.signature f keeps
+    by_old false = keeps_forgotten jobs node t (fence_placed t g fence (series_at t g.signature).counts) g.signature f keeps
 
 pub learn_keeps : LearnKeeps
 learn_keeps jobs node t g f =
     let counts = (series_at t g.signature).counts in
-    let new = placed t g (fence_at t g) counts in
+    let new = fence_placed t g (fence_at t g) counts in
     keeps_with jobs node t g (fence_at t g) f (keeps_by jobs node t new f
     (λ young ls is. same_own jobs node t new f (λ q. levels_placed t g (fence_at t g) counts q f refl) (ends-placed t g (fence_at t g) counts) ∙ is)
     (λ young other ls is. ap (λ m. finite.get m other) (headers_placed t g (fence_at t g) counts f refl) ∙ is))
 
 still_first : (headers : Headers) (node : ℕ) (locals : List Local) (m : ℕ) (ls : List Local) (b : Bool) → eq_by_cmp nat_cmp m node ≡ b → finite.get headers m ≡ Some ls
-    → cond b (Some (first_of (finite.get headers node) locals)) (finite.get headers m) ≡ Some ls
+    → cond b (Some (first_locals (finite.get headers node) locals)) (finite.get headers m) ≡ Some ls
 still_first headers node locals m ls true e is =
-    ap (λ (o : Option (List Local)). Some (first_of o locals)) (ap (finite.get headers) (sym (nat_cmp-IsAntisymmetric m node ((Equal-is _).0 e))) ∙ is)
+    ap (λ (o : Option (List Local)). Some (first_locals o locals)) (ap (finite.get headers) (sym (nat_cmp-IsAntisymmetric m node ((Equal-is _).0 e))) ∙ is)
 still_first headers node locals m ls false e is = is
 
 told_still : (t : Fences) (h : Header) (f : FenceName) (other : ℕ) (ls : List Local) (b : Bool) → same_name f h.name ≡ b → finite.get (fence_at t f).headers other ≡ Some ls
     → finite.get (cond b (fence_told (fence_at t h.name) h.node h.locals) (fence_at t f)).headers other ≡ Some ls
 told_still t h f other ls true e is =
     let headers = (fence_at t h.name).headers in
-    finite.get-insert nat_cmp_total headers h.node (first_of (finite.get headers h.node) h.locals) other
+    finite.get-insert nat_cmp_total headers h.node (first_locals (finite.get headers h.node) h.locals) other
     ∙ still_first headers h.node h.locals other ls (eq_by_cmp nat_cmp other h.node) refl (ap (λ x. finite.get (fence_at t x).headers other) (sym (name_exact f h.name e)) ∙ is)
 told_still t h f other ls false e is = is
 
@@ -84,7 +84,7 @@ header_keeps jobs node t h f =
     let g = h.name in
     let fence = fence_told (fence_at t g) h.node h.locals in
     let counts = (series_at t g.signature).counts in
-    let new = placed t g fence counts in
+    let new = fence_placed t g fence counts in
     keeps_with jobs node t g fence f (keeps_by jobs node t new f
     (λ young ls is. same_own jobs node t new f (λ q. levels_placed t g fence counts q f refl) (ends-placed t g fence counts) ∙ is)
     (λ young other ls is. ap (λ (y : Fence). finite.get y.headers other) (fence-placed t g fence counts f) ∙ told_still t h f other ls (same_name f g) refl is))

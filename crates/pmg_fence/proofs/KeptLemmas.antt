@@ -22,11 +22,11 @@ use Rattle.pmg_frame.specs.declared.local.Local.{Local}
 use Rattle.pmg_jobinfo.specs.Jobs.{Jobs}
 use Rattle.pmg_fence.specs.declared.change.Change.{Change}
 use Rattle.pmg_fence.specs.declared.change.Change.TheVariants as changes
-use Rattle.pmg_fence.specs.Entering.{same_proc, same_signature, locals_of, told}
+use Rattle.pmg_fence.specs.Entering.{same_proc, same_signature, locals_of, told_locals}
 use Rattle.pmg_fence.specs.Tables.{Numbers, Fence, Series, Fences, no_fences, no_series, names_of, fence_of, series_at, has_name, is_old, fence_at, entry_at, own_header}
 use Rattle.pmg_fence.specs.Codes.{AllSeries, Known, Owns, Signatures}
 use Rattle.pmg_value.specs.Rows as rows
-use Rattle.pmg_fence.specs.Changes.{placed, with_counts, series_kept, forgotten, with_fences, changed, ended_by, present, newly}
+use Rattle.pmg_fence.specs.Changes.{fence_placed, with_counts, series_kept, forgotten, with_fences, changed, ended_by, present, newly}
 use Rattle.pmg_fence.specs.Kept.{known_of, own_of, instead, ended_told, series_in, series_told, HasSignaturesOf, fence_changed, counts_noted, newly_told, changed_with, IsKept, CanChange}
 use Rattle.pmg_fence.proofs.EndLemmas.{newly_same, names_in}
 use Rattle.pmg_fence.proofs.IndexLemmas.{brought_alike, keys_rise, each_row}
@@ -119,8 +119,8 @@ held_inserted t owns g x h own others there =
     held_by (same_signature h g) owns h g (finite.get t.series h) x refl own others (ap is_some (sym (finite.get-insert signature_total t.series g x h)) ∙ there)
 
 held_placed : (t : Fences) (owns : Owns) (f : FenceName) (fence : Fence) (counts : Numbers) (h : Signature) → is_some (finite.get owns f.signature) ≡ true
-    → (is_some (finite.get t.series h) ≡ true → is_some (finite.get owns h) ≡ true) → is_some (finite.get (placed t f fence counts).series h) ≡ true → is_some (finite.get owns h) ≡ true
-unfolding placed
+    → (is_some (finite.get t.series h) ≡ true → is_some (finite.get owns h) ≡ true) → is_some (finite.get (fence_placed t f fence counts).series h) ≡ true → is_some (finite.get owns h) ≡ true
+unfolding fence_placed
 held_placed t owns f fence counts h = held_inserted t owns f.signature (series_placed t f fence counts) h
 
 held_counts : (t : Fences) (owns : Owns) (g : Signature) (counts : Numbers) (h : Signature) → is_some (finite.get owns g) ≡ true
@@ -138,12 +138,12 @@ module _ (k : Known) (owns : Owns) (f : FenceName) (change : Change) (l : Option
   abbrev waiting_then : List Header
   waiting_then = k.waiting ++ newly_told k f l
 
-  level_kept : (x : FenceName) (p : Proc) (n : ℕ) → finite.get (fence_at (placed k.fences f fence_then counts_then) x).levels p ≡ Some n → is_level n ≡ true
+  level_kept : (x : FenceName) (p : Proc) (n : ℕ) → finite.get (fence_at (fence_placed k.fences f fence_then counts_then) x).levels p ≡ Some n → is_level n ≡ true
   level_kept x p n e =
       leveled_by (same_name x f) fence_then (fence_at k.fences x) p n (λ m. changed_level (fence_at k.fences f) change p m (can_level k.fences f change can) (kept.levels f p)) (kept.levels x p)
       (ap (λ (y : Fence). finite.get y.levels p) (sym (fence-placed k.fences f fence_then counts_then x)) ∙ e)
 
-  placed_kept : IsKept (record { jobs = k.jobs; node = k.node; fences = placed k.fences f fence_then counts_then; waiting = waiting_then }) owns
+  placed_kept : IsKept (record { jobs = k.jobs; node = k.node; fences = fence_placed k.fences f fence_then counts_then; waiting = waiting_then }) owns
   placed_kept = record {
     own = kept.own;
     held = λ h. held_placed k.fences owns f fence_then counts_then h own (kept.held h);
@@ -164,7 +164,7 @@ module _ (k : Known) (owns : Owns) (f : FenceName) (change : Change) (l : Option
   pub kept_changed : IsKept (changed_with k f change l) owns
   kept_changed = by_old (is_old k.fences f)
     where
-      by_old : (b : Bool) → IsKept (record { jobs = k.jobs; node = k.node; fences = cond b (with_counts k.fences f.signature counts_then) (placed k.fences f fence_then counts_then); waiting = waiting_then }) owns
+      by_old : (b : Bool) → IsKept (record { jobs = k.jobs; node = k.node; fences = cond b (with_counts k.fences f.signature counts_then) (fence_placed k.fences f fence_then counts_then); waiting = waiting_then }) owns
       by_old true = counted_kept
       by_old false = placed_kept
 
@@ -239,16 +239,16 @@ pub ended_other : (k : Known) (l : Local) (f : FenceName) → (In l.proc (own_of
 unfolding locals_of own_header present
 ended_other k l f other = by_name (has_name k.fences f) refl (is_some (finite.get (fence_at k.fences f).levels l.proc))
   where
-    same : told (instead (Some l) (entry_at k.fences f)) (own_of k f.signature) ≡ told (entry_at k.fences f) (own_of k f.signature)
+    same : told_locals (instead (Some l) (entry_at k.fences f)) (own_of k f.signature) ≡ told_locals (entry_at k.fences f) (own_of k f.signature)
     same = told_alike _ _ (own_of k f.signature) (λ q i. by_proc q l.proc
         (λ e. absurd (other (subst (λ r. In r (own_of k f.signature)) e i)))
         (λ e. ap (λ b. cond b (Some (record { state = l.state; level = l.level })) (entry_at k.fences f q)) e))
 
     by_name : (b : Bool) → has_name k.fences f ≡ b → (c : Bool)
-        → cond b (cond c [] (newly k.node f (cond b (told (entry_at k.fences f) (own_of k f.signature)) None) (told (instead (Some l) (entry_at k.fences f)) (own_of k f.signature)))) [] ≡ []
+        → cond b (cond c [] (newly k.node f (cond b (told_locals (entry_at k.fences f) (own_of k f.signature)) None) (told_locals (instead (Some l) (entry_at k.fences f)) (own_of k f.signature)))) [] ≡ []
     by_name false e c = refl
     by_name true e true = refl
-    by_name true e false = ap (newly k.node f (told (entry_at k.fences f) (own_of k f.signature))) same ∙ newly_same k.node f (told (entry_at k.fences f) (own_of k f.signature))
+    by_name true e false = ap (newly k.node f (told_locals (entry_at k.fences f) (own_of k f.signature))) same ∙ newly_same k.node f (told_locals (entry_at k.fences f) (own_of k f.signature))
 
 -- of those of others nothing
 others_told : (k : Known) (l : Local) (g : Signature) (ns : List ℕ) → (In l.proc (own_of k g) → ⊥) → flat_map (ended_told k l) (map (fence_of g) ns) ≡ []

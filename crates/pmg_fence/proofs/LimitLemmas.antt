@@ -22,7 +22,7 @@ use Rattle.pmg_value.proofs.SetOrder.{any_in_order}
 use Rattle.pmg_frame.specs.declared.local.Local.{Local}
 use Rattle.pmg_jobinfo.specs.Jobs.{home_of}
 use Rattle.pmg_fence.specs.declared.entry.Entry.{Entry}
-use Rattle.pmg_fence.specs.Entering.{same_proc, entry_by, local_of, with_line, lines, told}
+use Rattle.pmg_fence.specs.Entering.{same_proc, entry_by, local_of, with_line, collected_locals, told_locals}
 use Rattle.pmg_fence.specs.Tables.{fence_at, entry_at}
 use Rattle.pmg_fence.specs.Codes.{Known, Owns}
 use Rattle.pmg_fence.specs.Kept.{instead, own_of, IsKept, IsLine}
@@ -42,10 +42,10 @@ procs_by s p ps (Some e) (Some xs) rest (l ∷ ls) h =
     let tail : xs ≡ ls = cc in
     (λ i. (sym head i).proc ∷ map (λ (m : Local). m.proc) (sym tail i)) ∙ ap (λ qs. p ∷ qs) (rest xs refl)
 
-pub lines_procs : (s : Proc → Option Entry) (ps : List Proc) (ls : List Local) → lines s ps ≡ Some ls → map (λ (l : Local). l.proc) ls ≡ ps
+pub lines_procs : (s : Proc → Option Entry) (ps : List Proc) (ls : List Local) → collected_locals s ps ≡ Some ls → map (λ (l : Local). l.proc) ls ≡ ps
 lines_procs s [] [] h = refl
 lines_procs s [] (l ∷ ls) h = absurd cc
-lines_procs s (p ∷ ps) ls h = procs_by s p ps (s p) (lines s ps) (lines_procs s ps) ls h
+lines_procs s (p ∷ ps) ls h = procs_by s p ps (s p) (collected_locals s ps) (lines_procs s ps) ls h
 
 -- ---- each within the limits
 
@@ -59,11 +59,11 @@ listed_by f s p (Some e) (Some xs) is inside small rest ls h =
     ap (list_all (is_listed f)) (sym made) ∙ and_from _ _ (and_from _ _ inside (small p e is)) (rest xs refl)
 
 lines_listed : (f : FenceName) (s : Proc → Option Entry) (ps : List Proc) → ((q : Proc) → In q ps → set.contains f.signature.participants q ≡ true)
-    → ((q : Proc) (e : Entry) → s q ≡ Some e → is_level e.level ≡ true) → (ls : List Local) → lines s ps ≡ Some ls → list_all (is_listed f) ls ≡ true
+    → ((q : Proc) (e : Entry) → s q ≡ Some e → is_level e.level ≡ true) → (ls : List Local) → collected_locals s ps ≡ Some ls → list_all (is_listed f) ls ≡ true
 lines_listed f s [] inside small [] h = refl
 lines_listed f s [] inside small (l ∷ ls) h = absurd cc
 lines_listed f s (p ∷ ps) inside small ls h =
-    listed_by f s p (s p) (lines s ps) refl (inside p (inl refl)) small (lines_listed f s ps (λ q i. inside q (inr i)) small) ls h
+    listed_by f s p (s p) (collected_locals s ps) refl (inside p (inl refl)) small (lines_listed f s ps (λ q i. inside q (inr i)) small) ls h
 
 pub own_inside : (k : Known) (f : FenceName) (q : Proc) → In q (own_of k f.signature) → set.contains f.signature.participants q ≡ true
 own_inside k f q i =
@@ -82,13 +82,13 @@ unfolding IsStrictlySortedBy
 chain_by [] rises = refl
 chain_by (p ∷ ps) rises = leads_by p ps rises.0 rises.1
 
-lines_rise : (s : Proc → Option Entry) (ps : List Proc) (ls : List Local) → IsStrictlySortedBy proc_cmp ps → lines s ps ≡ Some ls → is_chain is_local_rising ls ≡ true
+lines_rise : (s : Proc → Option Entry) (ps : List Proc) (ls : List Local) → IsStrictlySortedBy proc_cmp ps → collected_locals s ps ≡ Some ls → is_chain is_local_rising ls ≡ true
 lines_rise s ps ls rises h =
     sym (is_chain-map (λ (a b : Proc). is_lt (proc_cmp a b)) (λ (l : Local). l.proc) ls) ∙ ap (is_chain (λ (a b : Proc). is_lt (proc_cmp a b))) (lines_procs s ps ls h) ∙ chain_by ps rises
 
 -- ---- the header
 
-fits_by : (k : Known) (f : FenceName) (s : Proc → Option Entry) (ps : List Proc) (ls : List Local) → ps ≡ own_of k f.signature → 0 < length ps → lines s ps ≡ Some ls
+fits_by : (k : Known) (f : FenceName) (s : Proc → Option Entry) (ps : List Proc) (ls : List Local) → ps ≡ own_of k f.signature → 0 < length ps → collected_locals s ps ≡ Some ls
     → ((q : Proc) (e : Entry) → s q ≡ Some e → is_level e.level ≡ true) → is_header (header k.node f ls) ≡ true
 unfolding is_header
 fits_by k f s ps ls own some h small =
@@ -98,7 +98,7 @@ fits_by k f s ps ls own some h small =
     (lines_rise s ps ls (subst (IsStrictlySortedBy proc_cmp) (sym own) (own_rises k f.signature)) h))
     (lines_listed f s ps (λ q i. own_inside k f q (subst (In q) own i)) small ls h)
 
-pub header_fits : (k : Known) (f : FenceName) (s : Proc → Option Entry) (ps : List Proc) (ls : List Local) → ps ≡ own_of k f.signature → told s ps ≡ Some ls
+pub header_fits : (k : Known) (f : FenceName) (s : Proc → Option Entry) (ps : List Proc) (ls : List Local) → ps ≡ own_of k f.signature → told_locals s ps ≡ Some ls
     → ((q : Proc) (e : Entry) → s q ≡ Some e → is_level e.level ≡ true) → IsTrue (is_header (header k.node f ls))
 header_fits k f s [] ls own h small = absurd cc
 header_fits k f s (p ∷ ps) ls own h small = fits_by k f s (p ∷ ps) ls own (omega arith) h small

@@ -9,7 +9,7 @@ use Rattle.pmg_fence.specs.Kept.{instead, entry_with, known_fence}
 use Rattle.pmg_value.specs.declared.process.Proc.{Proc}
 use Rattle.pmg_frame.specs.declared.local.Local.{Local}
 use Rattle.pmg_fence.specs.declared.entry.Entry.{Entry}
-use Rattle.pmg_fence.specs.Entering.{local_of, with_line, lines, told}
+use Rattle.pmg_fence.specs.Entering.{local_of, with_line, collected_locals, told_locals}
 
 pub drop-all : {A : Type 0} (i : ℕ) (xs : List A) → length xs ≤ i → drop i xs ≡ []
 drop-all zero [] h = refl
@@ -36,9 +36,9 @@ before_more ls p e None = refl
 before_more ls p e (Some others) = ap Some (sym (append_assoc ls (local_of p e ∷ []) others))
 
 module _ (s : Proc → Option Entry) (own : Proc → Bool) where
-  -- the lines that are left to make
+  -- the collected_locals that are left to make
   abbrev pub rest : List Proc → Option (List Local)
-  rest ps = lines s (filter own ps)
+  rest ps = collected_locals s (filter own ps)
 
   pub rest_at : (ps : List Proc) (i : ℕ) (p : Proc) → i < length ps → p ≡ get_or ps i p → (b : Bool) → own p ≡ b
       → rest (drop i ps) ≡ cond b (with_line p (s p) (rest (drop (i + 1) ps))) (rest (drop (i + 1) ps))
@@ -46,11 +46,11 @@ module _ (s : Proc → Option Entry) (own : Proc → Bool) where
       ap rest (drop-cons ps i p h ∙ ap (λ x. x ∷ drop (suc i) ps) (sym is) ∙ ap (λ k. p ∷ drop k ps) (sym (add-one i)))
       ∙ by_own b e
     where
-      by_own : (b : Bool) → own p ≡ b → lines s (cond (own p) (p ∷ filter own (drop (i + 1) ps)) (filter own (drop (i + 1) ps))) ≡ cond b (with_line p (s p) (rest (drop (i + 1) ps))) (rest (drop (i + 1) ps))
-      by_own true t = ap (λ c. lines s (cond c (p ∷ filter own (drop (i + 1) ps)) (filter own (drop (i + 1) ps)))) t
-      by_own false t = ap (λ c. lines s (cond c (p ∷ filter own (drop (i + 1) ps)) (filter own (drop (i + 1) ps)))) t
+      by_own : (b : Bool) → own p ≡ b → collected_locals s (cond (own p) (p ∷ filter own (drop (i + 1) ps)) (filter own (drop (i + 1) ps))) ≡ cond b (with_line p (s p) (rest (drop (i + 1) ps))) (rest (drop (i + 1) ps))
+      by_own true t = ap (λ c. collected_locals s (cond c (p ∷ filter own (drop (i + 1) ps)) (filter own (drop (i + 1) ps)))) t
+      by_own false t = ap (λ c. collected_locals s (cond c (p ∷ filter own (drop (i + 1) ps)) (filter own (drop (i + 1) ps)))) t
 
-told_none : (s : Proc → Option Entry) (ps : List Proc) → lines s ps ≡ None → told s ps ≡ None
+told_none : (s : Proc → Option Entry) (ps : List Proc) → collected_locals s ps ≡ None → told_locals s ps ≡ None
 told_none s [] h = refl
 told_none s (p ∷ ps) h = h
 
@@ -72,22 +72,22 @@ module _ (s : Proc → Option Entry) (own : Proc → Bool) (ps : List Proc) (i :
 -- ---- lines of a whole list
 
 module _ (s : Proc → Option Entry) where
-  line_at : (ps : List Proc) (i : ℕ) (p : Proc) → i < length ps → p ≡ get_or ps i p → lines s (drop i ps) ≡ with_line p (s p) (lines s (drop (i + 1) ps))
-  line_at ps i p h is = ap (lines s) (drop-cons ps i p h ∙ ap (λ x. x ∷ drop (suc i) ps) (sym is) ∙ ap (λ k. p ∷ drop k ps) (sym (add-one i)))
+  line_at : (ps : List Proc) (i : ℕ) (p : Proc) → i < length ps → p ≡ get_or ps i p → collected_locals s (drop i ps) ≡ with_line p (s p) (collected_locals s (drop (i + 1) ps))
+  line_at ps i p h is = ap (collected_locals s) (drop-cons ps i p h ∙ ap (λ x. x ∷ drop (suc i) ps) (sym is) ∙ ap (λ k. p ∷ drop k ps) (sym (add-one i)))
 
   module _ (ps : List Proc) (ls : List Local) (i : ℕ) (p : Proc) where
-    pub line_added : (new : List Local) (e : Entry) → lines s ps ≡ before ls (lines s (drop i ps)) → i < length ps → p ≡ get_or ps i p → s p ≡ Some e
-        → new ≡ ls ++ local_of p e ∷ [] → lines s ps ≡ before new (lines s (drop (i + 1) ps))
+    pub line_added : (new : List Local) (e : Entry) → collected_locals s ps ≡ before ls (collected_locals s (drop i ps)) → i < length ps → p ≡ get_or ps i p → s p ≡ Some e
+        → new ≡ ls ++ local_of p e ∷ [] → collected_locals s ps ≡ before new (collected_locals s (drop (i + 1) ps))
     line_added new e so_far h is there pushed =
-        so_far ∙ ap (before ls) (line_at ps i p h is ∙ ap (λ o. with_line p o (lines s (drop (i + 1) ps))) there)
-        ∙ before_more ls p e (lines s (drop (i + 1) ps))
-        ∙ ap (λ xs. before xs (lines s (drop (i + 1) ps))) (sym pushed)
+        so_far ∙ ap (before ls) (line_at ps i p h is ∙ ap (λ o. with_line p o (collected_locals s (drop (i + 1) ps))) there)
+        ∙ before_more ls p e (collected_locals s (drop (i + 1) ps))
+        ∙ ap (λ xs. before xs (collected_locals s (drop (i + 1) ps))) (sym pushed)
 
-    pub line_missing : lines s ps ≡ before ls (lines s (drop i ps)) → i < length ps → p ≡ get_or ps i p → s p ≡ None → None ≡ told s ps
+    pub line_missing : collected_locals s ps ≡ before ls (collected_locals s (drop i ps)) → i < length ps → p ≡ get_or ps i p → s p ≡ None → None ≡ told_locals s ps
     line_missing so_far h is none =
-        sym (told_none s ps (so_far ∙ ap (before ls) (line_at ps i p h is ∙ ap (λ o. with_line p o (lines s (drop (i + 1) ps))) none)))
+        sym (told_none s ps (so_far ∙ ap (before ls) (line_at ps i p h is ∙ ap (λ o. with_line p o (collected_locals s (drop (i + 1) ps))) none)))
 
   module _ (ps : List Proc) (i : ℕ) (p : Proc) where
-    pub told_missing : is_some (lines s ps) ≡ is_some (lines s (drop i ps)) → i < length ps → p ≡ get_or ps i p → s p ≡ None → false ≡ is_some (lines s ps)
+    pub told_missing : is_some (collected_locals s ps) ≡ is_some (collected_locals s (drop i ps)) → i < length ps → p ≡ get_or ps i p → s p ≡ None → false ≡ is_some (collected_locals s ps)
     told_missing so_far h is none =
-        sym (so_far ∙ ap is_some (line_at ps i p h is ∙ ap (λ o. with_line p o (lines s (drop (i + 1) ps))) none))
+        sym (so_far ∙ ap is_some (line_at ps i p h is ∙ ap (λ o. with_line p o (collected_locals s (drop (i + 1) ps))) none))

@@ -19,11 +19,11 @@ use Rattle.pmg_frame.specs.Fences.{header, participants_of}
 use Rattle.pmg_frame.specs.declared.local.Local.{Local}
 use Rattle.pmg_jobinfo.specs.Jobs.{Jobs, home_of}
 use Rattle.pmg_fence.specs.declared.entry.Entry.{Entry}
-use Rattle.pmg_fence.specs.Entering.{same_proc, local_of, with_line, lines, told, locals_of}
+use Rattle.pmg_fence.specs.Entering.{same_proc, local_of, with_line, collected_locals, told_locals, locals_of}
 use Rattle.pmg_fence.specs.Tables.{Fence, Series, Fences, no_series, fence_of, series_at, has_name, fence_at, entry_at, entry_in, own_header, header_at, told_of}
 use Rattle.pmg_fence.specs.Codes.{Known, Owns}
 use Rattle.pmg_fence.specs.Changes.{present}
-use Rattle.pmg_fence.specs.Kept.{instead, entry_with, known_fence, own_of, told_by, IsKept}
+use Rattle.pmg_fence.specs.Kept.{instead, entry_with, known_fence, own_of, standing_in, IsKept}
 use Rattle.pmg_fence.proofs.ReadLemmas.{told_is}
 use Rattle.pmg_fence.proofs.TellLemmas.{fence_known}
 
@@ -44,11 +44,11 @@ unfolding present
 nameless_header jobs node t f e = ap (λ b. option_map (header node f) (cond b (own_header jobs node t f) None)) (sym e)
 
 pub header_there : (k : Known) (f : FenceName) (g : Signature) (i : ℕ) → g ≡ f.signature → i ≡ f.instance → has_name k.fences f ≡ true
-    → option_map (header k.node (fence_of g i)) (told (instead None (entry_at k.fences (fence_of g i))) (own_of k g)) ≡ option_map (header k.node f) (present k.jobs k.node k.fences f)
+    → option_map (header k.node (fence_of g i)) (told_locals (instead None (entry_at k.fences (fence_of g i))) (own_of k g)) ≡ option_map (header k.node f) (present k.jobs k.node k.fences f)
 unfolding present own_header locals_of
 header_there k f g i same number there =
-    (λ j. option_map (header k.node (fence_of (same j) (number j))) (told (entry_at k.fences (fence_of (same j) (number j))) (own_of k (same j))))
-    ∙ ap (λ b. option_map (header k.node f) (cond b (told (entry_at k.fences f) (own_of k f.signature)) None)) (sym there)
+    (λ j. option_map (header k.node (fence_of (same j) (number j))) (told_locals (entry_at k.fences (fence_of (same j) (number j))) (own_of k (same j))))
+    ∙ ap (λ b. option_map (header k.node f) (cond b (told_locals (entry_at k.fences f) (own_of k f.signature)) None)) (sym there)
 
 held_by_name : (o : Option Series) (i : ℕ) → is_some (finite.get (unwrap_or o no_series).fences i) ≡ true → is_some o ≡ true
 held_by_name None i e = sym (ap is_some (finite.get-empty nat_cmp i)) ∙ e
@@ -65,12 +65,12 @@ listed_there k owns f g o kept there same found none =
 -- ---- whether a header is there
 
 module _ (s : Proc → Option Entry) (own : Proc → Bool) where
-  told_some : (ps : List Proc) → is_some (told s (filter own ps)) ≡ (list_any own ps && is_some (lines s (filter own ps)))
+  told_some : (ps : List Proc) → is_some (told_locals s (filter own ps)) ≡ (list_any own ps && is_some (collected_locals s (filter own ps)))
   told_some [] = refl
   told_some (p ∷ ps) = by_own (own p) (told_some ps)
     where
-      by_own : (b : Bool) → is_some (told s (filter own ps)) ≡ (list_any own ps && is_some (lines s (filter own ps)))
-          → is_some (told s (cond b (p ∷ filter own ps) (filter own ps))) ≡ ((b || list_any own ps) && is_some (lines s (cond b (p ∷ filter own ps) (filter own ps))))
+      by_own : (b : Bool) → is_some (told_locals s (filter own ps)) ≡ (list_any own ps && is_some (collected_locals s (filter own ps)))
+          → is_some (told_locals s (cond b (p ∷ filter own ps) (filter own ps))) ≡ ((b || list_any own ps) && is_some (collected_locals s (cond b (p ∷ filter own ps) (filter own ps))))
       by_own true others = refl
       by_own false others = others
 
@@ -81,16 +81,16 @@ module _ (k : Known) (f : FenceName) (known : Fence) (same : known ≡ fence_at 
       is ∙ ap (λ (x : Fence). is_some (finite.get x.headers n)) same
       ∙ ap (λ c. is_some (cond c (own_header k.jobs k.node k.fences f) (finite.get (fence_at k.fences f).headers n))) (sym other)
 
-  own_is_there : (any whole : Bool) → any ≡ list_any (λ p. home_of k.jobs p == k.node) (participants_of f) → whole ≡ is_some (lines (entry_with known k.fences.ends) (own_of k f.signature))
+  own_is_there : (any whole : Bool) → any ≡ list_any (λ p. home_of k.jobs p == k.node) (participants_of f) → whole ≡ is_some (collected_locals (entry_with known k.fences.ends) (own_of k f.signature))
       → (any && whole) ≡ is_some (own_header k.jobs k.node k.fences f)
   unfolding own_header locals_of entry_at
   own_is_there any whole some all =
       (λ i. some i && all i)
       ∙ sym (told_some (entry_with known k.fences.ends) (λ p. home_of k.jobs p == k.node) (participants_of f))
-      ∙ ap (λ (x : Fence). is_some (told (entry_with x k.fences.ends) (own_of k f.signature))) same
+      ∙ ap (λ (x : Fence). is_some (told_locals (entry_with x k.fences.ends) (own_of k f.signature))) same
 
   pub header_here : (n : ℕ) (any whole b : Bool) → (n == k.node) ≡ true → any ≡ list_any (λ p. home_of k.jobs p == k.node) (participants_of f)
-      → whole ≡ is_some (lines (entry_with known k.fences.ends) (own_of k f.signature)) → b ≡ (any && whole) → b ≡ is_some (header_at k.jobs k.node k.fences f n)
+      → whole ≡ is_some (collected_locals (entry_with known k.fences.ends) (own_of k f.signature)) → b ≡ (any && whole) → b ≡ is_some (header_at k.jobs k.node k.fences f n)
   unfolding header_at
   header_here n any whole b here some all is =
       is ∙ own_is_there any whole some all
@@ -114,13 +114,13 @@ both_false : (a b : Bool) → (a || b) ≡ false → (a ≡ false) × (b ≡ fal
 both_false true b e = absurd cc
 both_false false b e = (refl, e)
 
-none_lined : (s : Proc → Option Entry) (ps : List Proc) (q : Proc) → list_any (same_proc q) ps ≡ false → entry_in q (lines s ps) ≡ None
+none_lined : (s : Proc → Option Entry) (ps : List Proc) (q : Proc) → list_any (same_proc q) ps ≡ false → entry_in q (collected_locals s ps) ≡ None
 none_lined s [] q e = refl
 none_lined s (p ∷ ps) q e =
     let parts = both_false (same_proc q p) (list_any (same_proc q) ps) e in
-    none_found q p (s p) (lines s ps) parts.0 (none_lined s ps q parts.1)
+    none_found q p (s p) (collected_locals s ps) parts.0 (none_lined s ps q parts.1)
 
-none_told : (s : Proc → Option Entry) (ps : List Proc) (q : Proc) → list_any (same_proc q) ps ≡ false → entry_in q (told s ps) ≡ None
+none_told : (s : Proc → Option Entry) (ps : List Proc) (q : Proc) → list_any (same_proc q) ps ≡ false → entry_in q (told_locals s ps) ≡ None
 none_told s [] q e = refl
 none_told s (p ∷ ps) q e = none_lined s (p ∷ ps) q e
 
@@ -138,7 +138,7 @@ unfolding told_of header_at own_header locals_of
 unlisted k f q here out =
     sym (none_told (entry_at k.fences f) (own_of k f.signature) q
     (none_kept (λ p. home_of k.jobs p == k.node) (same_proc q) (participants_of f) (any_in_order procs_total f.signature.participants q ∙ out)))
-    ∙ ap (λ b. entry_in q (cond b (told (entry_at k.fences f) (own_of k f.signature)) (finite.get (fence_at k.fences f).headers (home_of k.jobs q)))) (sym here)
+    ∙ ap (λ b. entry_in q (cond b (told_locals (entry_at k.fences f) (own_of k f.signature)) (finite.get (fence_at k.fences f).headers (home_of k.jobs q)))) (sym here)
 
 participant_in : (f : FenceName) (q : Proc) → set.contains f.signature.participants q ≡ true → In q (participants_of f)
 participant_in f q e =
@@ -146,17 +146,17 @@ participant_in f q e =
     subst (λ p. In p (participants_of f)) (sym (exact_procs q found.0 ((Equal-is _).0 found.2))) found.1
 
 module _ (k : Known) (f : FenceName) (g : Signature) (n : ℕ) (o : Option Fence) (whole : Bool) (same : g ≡ f.signature) (number : n ≡ f.instance)
-    (found : o ≡ finite.get (series_at k.fences g).fences n) (all : whole ≡ is_some (lines (entry_with (known_fence o) k.fences.ends) (own_of k g))) where
+    (found : o ≡ finite.get (series_at k.fences g).fences n) (all : whole ≡ is_some (collected_locals (entry_with (known_fence o) k.fences.ends) (own_of k g))) where
   looked : known_fence o ≡ fence_at k.fences f
   looked = fence_known k.fences g n o found ∙ (λ i. fence_at k.fences (fence_of (same i) (number i)))
 
-  every : whole ≡ is_some (lines (entry_with (known_fence o) k.fences.ends) (own_of k f.signature))
-  every = all ∙ ap (λ h. is_some (lines (entry_with (known_fence o) k.fences.ends) (own_of k h))) same
+  every : whole ≡ is_some (collected_locals (entry_with (known_fence o) k.fences.ends) (own_of k f.signature))
+  every = all ∙ ap (λ h. is_some (collected_locals (entry_with (known_fence o) k.fences.ends) (own_of k h))) same
 
-  pub told_listed : (q : Proc) → set.contains g.participants q ≡ true → told_by k (known_fence o) whole q ≡ told_of k.jobs k.node k.fences f q
+  pub told_listed : (q : Proc) → set.contains g.participants q ≡ true → standing_in k (known_fence o) whole q ≡ told_of k.jobs k.node k.fences f q
   told_listed q e = told_is k f (known_fence o) whole looked every q (participant_in f q (ap (λ (h : Signature). set.contains h.participants q) (sym same) ∙ e))
 
-  pub told_elsewhere : (q : Proc) → (home_of k.jobs q == k.node) ≡ false → told_by k (known_fence o) whole q ≡ told_of k.jobs k.node k.fences f q
+  pub told_elsewhere : (q : Proc) → (home_of k.jobs q == k.node) ≡ false → standing_in k (known_fence o) whole q ≡ told_of k.jobs k.node k.fences f q
   unfolding told_of header_at
   told_elsewhere q other =
       ap (λ b. cond b (cond whole (entry_with (known_fence o) k.fences.ends q) None) (entry_in q (finite.get (known_fence o).headers (home_of k.jobs q)))) other

@@ -17,7 +17,7 @@ use Rattle.pmg_jobinfo.specs.Jobs.{Jobs, home_of}
 use Rattle.pmg_fence.specs.Codes.{Instances}
 use Rattle.pmg_fence.specs.Entering.{same_signature, entry_by, locals_of}
 use Rattle.pmg_fence.specs.Tables.{Numbers, Fence, Series, Fences, no_fence, no_series, series_at, has_name, is_old, fence_at, count_of, entry_at, entry_in, own_header, header_at, told_of, is_covered, is_ready, says_gone, gone_by}
-use Rattle.pmg_fence.specs.Changes.{placed, with_counts, series_kept, forgotten, with_fence, next_name, fence_entered, counts_entered, noted_entry, entered_by, present, newly, news}
+use Rattle.pmg_fence.specs.Changes.{fence_placed, with_counts, series_kept, forgotten, with_fence, next_name, fence_entered, counts_entered, noted_entry, entered_by, present, newly, news}
 use Rattle.pmg_fence.proofs.EntryLemmas.{signature_itself}
 use Rattle.pmg_fence.proofs.HeaderLemmas.{told_alike}
 use Rattle.pmg_fence.proofs.ReadLemmas.{all_alike, filter_alike}
@@ -312,7 +312,7 @@ no_news jobs node old t f e =
 
 module _ (t : Fences) (f : FenceName) (fence : Fence) where
   abbrev placing : Fences
-  placing = placed t f fence (series_at t f.signature).counts
+  placing = fence_placed t f fence (series_at t f.signature).counts
 
   other_name : (x : FenceName) → is_old t f ≡ true → is_old t x ≡ false → same_name x f ≡ false
   other_name x old young = apart_names t x f young old
@@ -375,21 +375,21 @@ module _ (t : Fences) (g : Signature) (p : Proc) (level : ℕ) where
   pub old-noted : (x : FenceName) → is_old (noted_entry t g p level) x ≡ false → is_old t x ≡ false
   old-noted x = by_old (is_old t next)
     where
-      by_old : (b : Bool) → is_old (cond b (with_counts t g (counts_entered t g p)) (placed t next its (counts_entered t g p))) x ≡ false → is_old t x ≡ false
+      by_old : (b : Bool) → is_old (cond b (with_counts t g (counts_entered t g p)) (fence_placed t next its (counts_entered t g p))) x ≡ false → is_old t x ≡ false
       by_old true e = sym (old-counts t g (counts_entered t g p) x) ∙ e
       by_old false e = old-placed t next its (counts_entered t g p) x e
 
   pub fence-noted : (x : FenceName) → is_old t x ≡ false → fence_at (noted_entry t g p level) x ≡ cond (same_name x next) its (fence_at t x)
   fence-noted x young = by_old (is_old t next) refl
     where
-      by_old : (b : Bool) → is_old t next ≡ b → fence_at (cond b (with_counts t g (counts_entered t g p)) (placed t next its (counts_entered t g p))) x ≡ cond (same_name x next) its (fence_at t x)
+      by_old : (b : Bool) → is_old t next ≡ b → fence_at (cond b (with_counts t g (counts_entered t g p)) (fence_placed t next its (counts_entered t g p))) x ≡ cond (same_name x next) its (fence_at t x)
       by_old true old = fence-counts t g (counts_entered t g p) x ∙ ap (λ c. cond c its (fence_at t x)) (sym (apart_names t x next young old))
       by_old false old = fence-placed t next its (counts_entered t g p) x
 
   pub name-noted : (x : FenceName) → is_old t x ≡ false → has_name (noted_entry t g p level) x ≡ cond (same_name x next) true (has_name t x)
   name-noted x young = by_old (is_old t next) refl
     where
-      by_old : (b : Bool) → is_old t next ≡ b → has_name (cond b (with_counts t g (counts_entered t g p)) (placed t next its (counts_entered t g p))) x ≡ cond (same_name x next) true (has_name t x)
+      by_old : (b : Bool) → is_old t next ≡ b → has_name (cond b (with_counts t g (counts_entered t g p)) (fence_placed t next its (counts_entered t g p))) x ≡ cond (same_name x next) true (has_name t x)
       by_old true old = name-counts t g (counts_entered t g p) x ∙ ap (λ c. cond c true (has_name t x)) (sym (apart_names t x next young old))
       by_old false old = name-placed t next its (counts_entered t g p) x
 
@@ -401,14 +401,14 @@ module _ (t : Fences) (g : Signature) (p : Proc) (level : ℕ) where
       by_name true e = ap (λ y. (fence_at t y).headers) (sym (name_exact x next e))
       by_name false e = refl
 
-      by_old : (b : Bool) → (fence_at (cond b (with_counts t g (counts_entered t g p)) (placed t next its (counts_entered t g p))) x).headers ≡ (fence_at t x).headers
+      by_old : (b : Bool) → (fence_at (cond b (with_counts t g (counts_entered t g p)) (fence_placed t next its (counts_entered t g p))) x).headers ≡ (fence_at t x).headers
       by_old true = ap (λ (y : Fence). y.headers) (fence-counts t g (counts_entered t g p) x)
       by_old false = ap (λ (y : Fence). y.headers) (fence-placed t next its (counts_entered t g p) x) ∙ by_name (same_name x next) refl
 
   pub ends-noted : (noted_entry t g p level).ends ≡ t.ends
   ends-noted = by_old (is_old t next)
     where
-      by_old : (b : Bool) → (cond b (with_counts t g (counts_entered t g p)) (placed t next its (counts_entered t g p))).ends ≡ t.ends
+      by_old : (b : Bool) → (cond b (with_counts t g (counts_entered t g p)) (fence_placed t next its (counts_entered t g p))).ends ≡ t.ends
       by_old true = ends-counts t g (counts_entered t g p)
       by_old false = ends-placed t next its (counts_entered t g p)
 
@@ -429,7 +429,7 @@ module _ (t : Fences) (g : Signature) (p : Proc) (level : ℕ) where
       or_else true c h = refl
       or_else false c h = h
 
-      by_old : (b : Bool) → has_name (cond b (with_counts t g (counts_entered t g p)) (placed t next its (counts_entered t g p))) x ≡ true → cond (same_name x next) true (has_name t x) ≡ true
+      by_old : (b : Bool) → has_name (cond b (with_counts t g (counts_entered t g p)) (fence_placed t next its (counts_entered t g p))) x ≡ true → cond (same_name x next) true (has_name t x) ≡ true
       by_old true h = or_else (same_name x next) (has_name t x) (sym (name-counts t g (counts_entered t g p) x) ∙ h)
       by_old false h = sym (name-placed t next its (counts_entered t g p) x) ∙ h
 

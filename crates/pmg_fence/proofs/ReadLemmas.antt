@@ -11,37 +11,37 @@ use Rattle.pmg_value.specs.InOrder.{in_order}
 use Rattle.pmg_frame.specs.declared.local.Local.{Local}
 use Rattle.pmg_jobinfo.specs.Jobs.{home_of}
 use Rattle.pmg_fence.specs.declared.entry.Entry.{Entry}
-use Rattle.pmg_fence.specs.Entering.{locals_of, lines, told}
+use Rattle.pmg_fence.specs.Entering.{locals_of, collected_locals, told_locals}
 use Rattle.pmg_fence.specs.Tables.{Fence, fence_of, series_at, is_old, fence_at, entry_at, entry_in, own_header, header_at, told_of, is_covered, is_ready, says_gone, gone_by}
 use Rattle.pmg_fence.specs.Codes.{Known}
-use Rattle.pmg_fence.specs.Kept.{entry_with, known_fence, own_of, told_by}
+use Rattle.pmg_fence.specs.Kept.{entry_with, known_fence, own_of, standing_in}
 use Rattle.pmg_fence.proofs.HeaderLemmas.{told_says, in_filter}
 use Rattle.pmg_fence.proofs.LineLemmas.{drop-all, append_empty}
 use Rattle.pmg_fence.proofs.TellLemmas.{fence_known}
 
 -- where there is somebody, what is told are the lines
-told_is_lines : (s : Proc → Option Entry) (ps : List Proc) (q : Proc) → In q ps → told s ps ≡ lines s ps
+told_is_lines : (s : Proc → Option Entry) (ps : List Proc) (q : Proc) → In q ps → told_locals s ps ≡ collected_locals s ps
 told_is_lines s [] q i = absurd i
 told_is_lines s (p ∷ ps) q i = refl
 
-read_own : (s : Proc → Option Entry) (ps : List Proc) (q : Proc) (whole : Bool) (o : Option (List Local)) → In q ps → told s ps ≡ o → whole ≡ is_some (lines s ps)
+read_own : (s : Proc → Option Entry) (ps : List Proc) (q : Proc) (whole : Bool) (o : Option (List Local)) → In q ps → told_locals s ps ≡ o → whole ≡ is_some (collected_locals s ps)
     → cond whole (s q) None ≡ entry_in q o
 read_own s ps q whole None i is all = ap (λ b. cond b (s q) None) (all ∙ ap is_some (sym (told_is_lines s ps q i) ∙ is))
 read_own s ps q whole (Some ls) i is all = ap (λ b. cond b (s q) None) (all ∙ ap is_some (sym (told_is_lines s ps q i) ∙ is)) ∙ sym (told_says s ps q i ls is)
 
 module _ (k : Known) (f : FenceName) (known : Fence) (whole : Bool) (same : known ≡ fence_at k.fences f)
-    (all : whole ≡ is_some (lines (entry_with known k.fences.ends) (own_of k f.signature))) where
+    (all : whole ≡ is_some (collected_locals (entry_with known k.fences.ends) (own_of k f.signature))) where
   read_by : (q : Proc) → In q (participants_of f) → (b : Bool) → (home_of k.jobs q == k.node) ≡ b
       → cond b (cond whole (entry_with known k.fences.ends q) None) (entry_in q (finite.get known.headers (home_of k.jobs q)))
       ≡ entry_in q (cond b (own_header k.jobs k.node k.fences f) (finite.get (fence_at k.fences f).headers (home_of k.jobs q)))
   unfolding own_header locals_of entry_at
   read_by q i true e =
-      read_own (entry_with known k.fences.ends) (own_of k f.signature) q whole (told (entry_with known k.fences.ends) (own_of k f.signature))
+      read_own (entry_with known k.fences.ends) (own_of k f.signature) q whole (told_locals (entry_with known k.fences.ends) (own_of k f.signature))
       (in_filter (λ p. home_of k.jobs p == k.node) (participants_of f) q i e) refl all
-      ∙ ap (λ (x : Fence). entry_in q (told (entry_with x k.fences.ends) (own_of k f.signature))) same
+      ∙ ap (λ (x : Fence). entry_in q (told_locals (entry_with x k.fences.ends) (own_of k f.signature))) same
   read_by q i false e = ap (λ (x : Fence). entry_in q (finite.get x.headers (home_of k.jobs q))) same
 
-  pub told_is : (q : Proc) → In q (participants_of f) → told_by k known whole q ≡ told_of k.jobs k.node k.fences f q
+  pub told_is : (q : Proc) → In q (participants_of f) → standing_in k known whole q ≡ told_of k.jobs k.node k.fences f q
   unfolding told_of header_at
   told_is q i = read_by q i (home_of k.jobs q == k.node) refl
 
@@ -55,28 +55,28 @@ all_alike p r (x ∷ xs) same = (λ i. same x (inl refl) i && all_alike p r xs (
 
 module _ (k : Known) (f : FenceName) (one two three : Signature) (n : ℕ) (o : Option Fence) (whole : Bool) (items : List Proc) (first : one ≡ f.signature) (number : n ≡ f.instance)
     (second : two ≡ f.signature) (third : three ≡ f.signature) (found : o ≡ finite.get (series_at k.fences one).fences n)
-    (all : whole ≡ is_some (lines (entry_with (known_fence o) k.fences.ends) (own_of k two))) (rows : items ≡ in_order three.participants) where
+    (all : whole ≡ is_some (collected_locals (entry_with (known_fence o) k.fences.ends) (own_of k two))) (rows : items ≡ in_order three.participants) where
   looked : known_fence o ≡ fence_at k.fences f
   looked = fence_known k.fences one n o found ∙ (λ i. fence_at k.fences (fence_of (first i) (number i)))
 
-  every : whole ≡ is_some (lines (entry_with (known_fence o) k.fences.ends) (own_of k f.signature))
-  every = all ∙ ap (λ g. is_some (lines (entry_with (known_fence o) k.fences.ends) (own_of k g))) second
+  every : whole ≡ is_some (collected_locals (entry_with (known_fence o) k.fences.ends) (own_of k f.signature))
+  every = all ∙ ap (λ g. is_some (collected_locals (entry_with (known_fence o) k.fences.ends) (own_of k g))) second
 
   listed_all : items ≡ participants_of f
   listed_all = rows ∙ ap (λ (g : Signature). in_order g.participants) third
 
   pub gone_done : (gone : List Proc) (i : ℕ)
-      → filter (λ q. says_gone (told_by k (known_fence o) whole q)) items ≡ gone ++ filter (λ q. says_gone (told_by k (known_fence o) whole q)) (drop i items) → length items ≤ i
+      → filter (λ q. says_gone (standing_in k (known_fence o) whole q)) items ≡ gone ++ filter (λ q. says_gone (standing_in k (known_fence o) whole q)) (drop i items) → length items ≤ i
       → gone ≡ gone_by k.jobs k.node k.fences f
   unfolding gone_by
   gone_done gone i so_far h =
-      sym (so_far ∙ ap (λ xs. gone ++ filter (λ q. says_gone (told_by k (known_fence o) whole q)) xs) (drop-all i items h) ∙ append_empty gone)
-      ∙ ap (filter (λ q. says_gone (told_by k (known_fence o) whole q))) listed_all
+      sym (so_far ∙ ap (λ xs. gone ++ filter (λ q. says_gone (standing_in k (known_fence o) whole q)) xs) (drop-all i items h) ∙ append_empty gone)
+      ∙ ap (filter (λ q. says_gone (standing_in k (known_fence o) whole q))) listed_all
       ∙ filter_alike _ _ (participants_of f) (λ q j. ap says_gone (told_is k f (known_fence o) whole looked every q j))
 
   -- what the levels that are known cover
   abbrev pub covered_by : (Proc → ℕ) → Proc → Bool
-  covered_by level q = is_covered f.signature.collect (level q) (told_by k (known_fence o) whole q)
+  covered_by level q = is_covered f.signature.collect (level q) (standing_in k (known_fence o) whole q)
 
   pub ready_done : (level : Proc → ℕ) → is_old k.fences f ≡ false → list_all (covered_by level) items ≡ is_ready k.jobs k.node k.fences f level
   unfolding is_ready

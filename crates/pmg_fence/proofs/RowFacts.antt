@@ -16,7 +16,7 @@ use Rattle.pmg_frame.specs.Fences.{Header}
 use Rattle.pmg_frame.specs.declared.local.Local.{Local}
 use Rattle.pmg_fence.specs.Codes.{Headers, Instances, AllSeries}
 use Rattle.pmg_fence.specs.Tables.{Fence, Series}
-use Rattle.pmg_fence.specs.Changes.{first_of}
+use Rattle.pmg_fence.specs.Changes.{first_locals}
 use Rattle.pmg_fence.proofs.Trees.{read, get_at}
 
 is_some_map : {A B : Type 0} (f : A → B) (o : Option A) → is_some (option_map f o) ≡ is_some o
@@ -38,21 +38,21 @@ pub not_there : (rows : List (ℕ × Header)) (m : Headers) (k : ℕ) (found : O
     → option_copied found ≡ at_key nat_cmp k rows → is_some found ≡ false → finite.get m k ≡ None
 not_there rows m k found same e is = none_of (finite.get m k) (is_there rows m k found false same e is)
 
-kept_by : (m : Headers) (k : ℕ) (ls : List Local) (o : Option (List Local)) → finite.get m k ≡ o → is_some o ≡ true → m ≡ finite.insert m k (first_of o ls)
+kept_by : (m : Headers) (k : ℕ) (ls : List Local) (o : Option (List Local)) → finite.get m k ≡ o → is_some o ≡ true → m ≡ finite.insert m k (first_locals o ls)
 kept_by m k ls (Some first) e h = sym (insert_same nat_cmp_total nat_cmp-IsAntisymmetric m k first e)
 kept_by m k ls None e h = absurd cc
 
 -- a header is there already
-pub first_stays : (m : Headers) (k node : ℕ) (ls : List Local) → k ≡ node → is_some (finite.get m k) ≡ true → m ≡ finite.insert m node (first_of (finite.get m node) ls)
-first_stays m k node ls same h = kept_by m k ls (finite.get m k) refl h ∙ ap (λ n. finite.insert m n (first_of (finite.get m n) ls)) same
+pub first_stays : (m : Headers) (k node : ℕ) (ls : List Local) → k ≡ node → is_some (finite.get m k) ≡ true → m ≡ finite.insert m node (first_locals (finite.get m node) ls)
+first_stays m k node ls same h = kept_by m k ls (finite.get m k) refl h ∙ ap (λ n. finite.insert m n (first_locals (finite.get m n) ls)) same
 
-new_by : (o : Option (List Local)) (ls : List Local) → is_some o ≡ false → ls ≡ first_of o ls
+new_by : (o : Option (List Local)) (ls : List Local) → is_some o ≡ false → ls ≡ first_locals o ls
 new_by None ls h = refl
 new_by (Some x) ls h = absurd cc
 
 -- and is new
-pub first_comes : (m n : Headers) (k node : ℕ) (ls : List Local) → k ≡ node → is_some (finite.get m k) ≡ false → n ≡ finite.insert m k ls → n ≡ finite.insert m node (first_of (finite.get m node) ls)
-first_comes m n k node ls same h e = e ∙ ap (finite.insert m k) (new_by (finite.get m k) ls h) ∙ ap (λ j. finite.insert m j (first_of (finite.get m j) ls)) same
+pub first_comes : (m n : Headers) (k node : ℕ) (ls : List Local) → k ≡ node → is_some (finite.get m k) ≡ false → n ≡ finite.insert m k ls → n ≡ finite.insert m node (first_locals (finite.get m node) ls)
+first_comes m n k node ls same h e = e ∙ ap (finite.insert m k) (new_by (finite.get m k) ls h) ∙ ap (λ j. finite.insert m j (first_locals (finite.get m j) ls)) same
 
 -- ---- fences of one signature
 

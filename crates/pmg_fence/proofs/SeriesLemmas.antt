@@ -8,9 +8,9 @@ use Rattle.std.specs.FinMap as finite
 use Rattle.pmg_fence.specs.Tables.{Numbers, Fence, Series, no_fence}
 use Rattle.pmg_fence.specs.Codes.{Instances}
 use Rattle.pmg_fence.specs.TakenBack.{number_back, instances_back, series_back}
-use Rattle.pmg_fence.specs.declared.fence.FenceBefore.TheVariants as fence_befores
-use Rattle.pmg_fence.specs.declared.numbers.NumberBefore.{NumberBefore}
-use Rattle.pmg_fence.specs.declared.series.SeriesBefore.{SeriesBefore}
+use Rattle.pmg_fence.specs.declared.fence.FenceUndo.TheVariants as fence_befores
+use Rattle.pmg_fence.specs.declared.numbers.NumberUndo.{NumberUndo}
+use Rattle.pmg_fence.specs.declared.series.SeriesUndo.{SeriesUndo}
 
 abbrev pub series_with : Numbers → Instances → ℕ → Series
 series_with counts fences top = record { counts = counts; fences = fences; top = top }
@@ -25,15 +25,15 @@ learned_back m k = by_there (finite.get m k) refl
     by_there None e = refl
 
 -- what a change of the counts alone is taken back by
-abbrev nothing_more : Option NumberBefore → ℕ → SeriesBefore
+abbrev nothing_more : Option NumberUndo → ℕ → SeriesUndo
 nothing_more count top = record { count = count; fence = Some fence_befores.Learned; top = top }
 
 -- a count, taken back
-pub counted_back : (old put : Numbers) (fences : Instances) (top k : ℕ) (s : Series) (count : NumberBefore) (before : SeriesBefore) → number_back put count ≡ old → before ≡ nothing_more (Some count) top
+pub counted_back : (old put : Numbers) (fences : Instances) (top k : ℕ) (s : Series) (count : NumberUndo) (before : SeriesUndo) → number_back put count ≡ old → before ≡ nothing_more (Some count) top
     → series_with old fences top ≡ s → series_back (series_with put fences top) k before ≡ s
 counted_back old put fences top k s count before back is view = ap (series_back (series_with put fences top) k) is ∙ (λ i. series_with (back i) (learned_back fences k i) top) ∙ view
 
 -- and no change at all
-pub same_back : (old : Numbers) (fences : Instances) (top k : ℕ) (s : Series) (before : SeriesBefore) → before ≡ nothing_more None top → series_with old fences top ≡ s → series_back s k before ≡ s
+pub same_back : (old : Numbers) (fences : Instances) (top k : ℕ) (s : Series) (before : SeriesUndo) → before ≡ nothing_more None top → series_with old fences top ≡ s → series_back s k before ≡ s
 same_back old fences top k s before is view =
     ap (series_back s k) is ∙ ap (λ x. series_back x k (nothing_more None top)) (sym view) ∙ (λ i. series_with old (learned_back fences k i) top) ∙ view

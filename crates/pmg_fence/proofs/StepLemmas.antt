@@ -20,7 +20,7 @@ use Rattle.pmg_jobinfo.specs.Jobs.{Jobs, home_of}
 use Rattle.pmg_fence.specs.Codes.{Headers}
 use Rattle.pmg_fence.specs.Entering.{same_proc, same_signature, enters, header_of, level_before, level_at_end}
 use Rattle.pmg_fence.specs.Tables.{Numbers, Fence, Series, Fences, no_fence, no_fences, no_series, series_at, has_name, is_old, fence_at, count_of}
-use Rattle.pmg_fence.specs.Changes.{placed, with_counts, forgotten, next_name, counts_entered, noted_entry, ended_by, fence_entered, fence_told, first_of}
+use Rattle.pmg_fence.specs.Changes.{fence_placed, with_counts, forgotten, next_name, counts_entered, noted_entry, ended_by, fence_entered, fence_told, first_locals}
 use Rattle.pmg_fence.specs.Rules.{FitsFences, FitsTable, Scripts, Grows, with_call, NewFits, PutFits, CommitFits, EnterFits, EndFits, OthersFit, LearnFits, HeaderFits}
 use Rattle.pmg_fence.proofs.EntryLemmas.{Idle, puts, commits_now, ends_now, proc_itself, has_end_next, enters_enter, enters_idle, level_idle, level_entered, level_other, no_end}
 use Rattle.pmg_fence.proofs.HeaderLemmas.{by_proc}
@@ -56,21 +56,21 @@ same_count true m n same = same refl
 same_count false m n same = refl
 
 pub levels_placed : (t : Fences) (f : FenceName) (fence : Fence) (counts : Numbers) (q : Proc) (x : FenceName)
-    → finite.get fence.levels q ≡ finite.get (fence_at t f).levels q → finite.get (fence_at (placed t f fence counts) x).levels q ≡ finite.get (fence_at t x).levels q
+    → finite.get fence.levels q ≡ finite.get (fence_at t f).levels q → finite.get (fence_at (fence_placed t f fence counts) x).levels q ≡ finite.get (fence_at t x).levels q
 levels_placed t f fence counts q x levels =
     ap (λ (y : Fence). finite.get y.levels q) (fence-placed t f fence counts x)
     ∙ same_level (same_name x f) fence (fence_at t x) q (λ e. levels ∙ ap (λ y. finite.get (fence_at t y).levels q) (sym (name_exact x f e)))
 
 pub count_same : (t : Fences) (f : FenceName) (fence : Fence) (counts : Numbers) (g : Signature) (q : Proc) → unwrap_or (finite.get counts q) 0 ≡ count_of t f.signature q
-    → count_of (placed t f fence counts) g q ≡ count_of t g q
+    → count_of (fence_placed t f fence counts) g q ≡ count_of t g q
 count_same t f fence counts g q count =
     count-placed t f fence counts g q
     ∙ same_count (same_signature g f.signature) (unwrap_or (finite.get counts q) 0) (count_of t g q) (λ e. count ∙ ap (λ h. count_of t h q) (sym (signature_exact g f.signature e)))
 
 pub placed_fits : (s : Script) (t : Fences) (f : FenceName) (fence : Fence) (counts : Numbers) (q : Proc)
     → finite.get fence.levels q ≡ finite.get (fence_at t f).levels q → unwrap_or (finite.get counts q) 0 ≡ count_of t f.signature q
-    → FitsFences s t q → FitsFences s (placed t f fence counts) q
-unfolding placed
+    → FitsFences s t q → FitsFences s (fence_placed t f fence counts) q
+unfolding fence_placed
 placed_fits s t f fence counts q levels count fits = record {
   counts = λ g. count_same t f fence counts g q count ∙ fits.counts g;
   levels = λ x young. levels_placed t f fence counts q x levels ∙ fits.levels x (old-placed t f fence counts x young);
@@ -81,7 +81,7 @@ same_headers : (b : Bool) (x y : Fence) → (b ≡ true → x.headers ≡ y.head
 same_headers true x y same = same refl
 same_headers false x y same = refl
 
-pub headers_placed : (t : Fences) (f : FenceName) (fence : Fence) (counts : Numbers) (x : FenceName) → fence.headers ≡ (fence_at t f).headers → (fence_at (placed t f fence counts) x).headers ≡ (fence_at t x).headers
+pub headers_placed : (t : Fences) (f : FenceName) (fence : Fence) (counts : Numbers) (x : FenceName) → fence.headers ≡ (fence_at t f).headers → (fence_at (fence_placed t f fence counts) x).headers ≡ (fence_at t x).headers
 headers_placed t f fence counts x same =
     ap (λ (y : Fence). y.headers) (fence-placed t f fence counts x)
     ∙ same_headers (same_name x f) fence (fence_at t x) (λ e. same ∙ ap (λ y. (fence_at t y).headers) (sym (name_exact x f e)))
@@ -123,15 +123,15 @@ counted_fits s t g counts q count fits = record {
 pub learn_fits : LearnFits
 learn_fits jobs node scripts t f fits = by_old (is_old t f)
   where
-    placing : FitsTable jobs node scripts (placed t f (fence_at t f) (series_at t f.signature).counts)
+    placing : FitsTable jobs node scripts (fence_placed t f (fence_at t f) (series_at t f.signature).counts)
     placing = record {
       own = λ q e. placed_fits (scripts q) t f (fence_at t f) (series_at t f.signature).counts q refl (count_is t f.signature q) (fits.own q e);
       headers = λ x other ls h. fits.headers x other ls (sym (ap (λ m. finite.get m other) (headers_placed t f (fence_at t f) (series_at t f.signature).counts x refl)) ∙ h);
     }
 
-    by_old : (b : Bool) → FitsTable jobs node scripts (cond b t (forgotten (placed t f (fence_at t f) (series_at t f.signature).counts) f.signature))
+    by_old : (b : Bool) → FitsTable jobs node scripts (cond b t (forgotten (fence_placed t f (fence_at t f) (series_at t f.signature).counts) f.signature))
     by_old true = fits
-    by_old false = table_forgotten jobs node scripts (placed t f (fence_at t f) (series_at t f.signature).counts) f.signature placing
+    by_old false = table_forgotten jobs node scripts (fence_placed t f (fence_at t f) (series_at t f.signature).counts) f.signature placing
 
 -- ---- an entry
 
@@ -169,8 +169,8 @@ module _ (s : Script) (t : Fences) (p : Proc) (g : Signature) (live : has_end s 
   ends_then = fits.ends ∙ no_end s live ∙ sym (no_end (s ++ Call.enter g ∷ []) (has_end_next s (Call.enter g ∷ []) live))
 
   -- the process enters a fence that is not old
-  placed_entry : FitsFences (s ++ Call.enter g ∷ []) (placed t (next_name t g p) (fence_entered (fence_at t (next_name t g p)) p (commits s)) (counts_entered t g p)) p
-  unfolding placed
+  placed_entry : FitsFences (s ++ Call.enter g ∷ []) (fence_placed t (next_name t g p) (fence_entered (fence_at t (next_name t g p)) p (commits s)) (counts_entered t g p)) p
+  unfolding fence_placed
   placed_entry =
       let f = next_name t g p in
       let fence = fence_entered (fence_at t f) p (commits s) in
@@ -203,13 +203,13 @@ module _ (jobs : Jobs) (node : ℕ) (scripts : Scripts) (t : Fences) (p : Proc) 
   grown_header : (x : FenceName) (other : ℕ) (ls : List Local) → header_of jobs scripts x other ≡ Some ls → header_of jobs grown x other ≡ Some ls
   grown_header x other ls = header_stays jobs scripts grown x other ls (call_grows scripts p (Call.enter g))
 
-  entry_placed : FitsTable jobs node grown (placed t (next_name t g p) (fence_entered (fence_at t (next_name t g p)) p (commits (scripts p))) (counts_entered t g p))
+  entry_placed : FitsTable jobs node grown (fence_placed t (next_name t g p) (fence_entered (fence_at t (next_name t g p)) p (commits (scripts p))) (counts_entered t g p))
   entry_placed =
       let f = next_name t g p in
       let level = commits (scripts p) in
       let fence = fence_entered (fence_at t f) p level in
       record {
-        own = λ q e. said_at scripts p (Call.enter g) (placed t f fence (counts_entered t g p)) q (placed_entry (scripts p) t p g live (fits.own p home)) (λ other.
+        own = λ q e. said_at scripts p (Call.enter g) (fence_placed t f fence (counts_entered t g p)) q (placed_entry (scripts p) t p g live (fits.own p home)) (λ other.
             placed_fits (scripts q) t f fence (counts_entered t g p) q (not_it p q (fence_at t f).levels level other) (other_count q other) (fits.own q e));
         headers = λ x other ls h. grown_header x other ls (fits.headers x other ls (sym (ap (λ m. finite.get m other) (headers_placed t f fence (counts_entered t g p) x refl)) ∙ h));
       }
@@ -225,7 +225,7 @@ module _ (jobs : Jobs) (node : ℕ) (scripts : Scripts) (t : Fences) (p : Proc) 
   entry_noted = by_old (is_old t (next_name t g p)) refl
     where
       by_old : (b : Bool) → is_old t (next_name t g p) ≡ b
-          → FitsTable jobs node grown (cond b (with_counts t g (counts_entered t g p)) (placed t (next_name t g p) (fence_entered (fence_at t (next_name t g p)) p (commits (scripts p))) (counts_entered t g p)))
+          → FitsTable jobs node grown (cond b (with_counts t g (counts_entered t g p)) (fence_placed t (next_name t g p) (fence_entered (fence_at t (next_name t g p)) p (commits (scripts p))) (counts_entered t g p)))
       by_old true e = entry_counted e
       by_old false e = entry_placed
 
@@ -320,16 +320,16 @@ new_fits jobs node = record {
 module _ (jobs : Jobs) (scripts : Scripts) (f : FenceName) (node : ℕ) (locals : List Local) (headers : Headers)
     (all : (m : ℕ) (ls : List Local) → finite.get headers m ≡ Some ls → header_of jobs scripts f m ≡ Some ls)
     (its : header_of jobs scripts f node ≡ Some locals) where
-  first_is : (o : Option (List Local)) (ls : List Local) → finite.get headers node ≡ o → Some (first_of o locals) ≡ Some ls → header_of jobs scripts f node ≡ Some ls
+  first_is : (o : Option (List Local)) (ls : List Local) → finite.get headers node ≡ o → Some (first_locals o locals) ≡ Some ls → header_of jobs scripts f node ≡ Some ls
   first_is None ls e is = its ∙ is
   first_is (Some first) ls e is = all node first e ∙ is
 
-  told_by_node : (m : ℕ) (ls : List Local) (b : Bool) → eq_by_cmp nat_cmp m node ≡ b → cond b (Some (first_of (finite.get headers node) locals)) (finite.get headers m) ≡ Some ls → header_of jobs scripts f m ≡ Some ls
+  told_by_node : (m : ℕ) (ls : List Local) (b : Bool) → eq_by_cmp nat_cmp m node ≡ b → cond b (Some (first_locals (finite.get headers node) locals)) (finite.get headers m) ≡ Some ls → header_of jobs scripts f m ≡ Some ls
   told_by_node m ls true e is = subst (λ k. header_of jobs scripts f k ≡ Some ls) (sym (nat_cmp-IsAntisymmetric m node ((Equal-is _).0 e))) (first_is (finite.get headers node) ls refl is)
   told_by_node m ls false e is = all m ls is
 
-  told_headers : (m : ℕ) (ls : List Local) → finite.get (finite.insert headers node (first_of (finite.get headers node) locals)) m ≡ Some ls → header_of jobs scripts f m ≡ Some ls
-  told_headers m ls found = told_by_node m ls (eq_by_cmp nat_cmp m node) refl (sym (finite.get-insert nat_cmp_total headers node (first_of (finite.get headers node) locals) m) ∙ found)
+  told_headers : (m : ℕ) (ls : List Local) → finite.get (finite.insert headers node (first_locals (finite.get headers node) locals)) m ≡ Some ls → header_of jobs scripts f m ≡ Some ls
+  told_headers m ls found = told_by_node m ls (eq_by_cmp nat_cmp m node) refl (sym (finite.get-insert nat_cmp_total headers node (first_locals (finite.get headers node) locals) m) ∙ found)
 
 told_by_name : (jobs : Jobs) (node : ℕ) (scripts : Scripts) (t : Fences) (h : Header) → header_of jobs scripts h.name h.node ≡ Some h.locals → FitsTable jobs node scripts t
     → (x : FenceName) (other : ℕ) (ls : List Local) (b : Bool) → same_name x h.name ≡ b
@@ -346,13 +346,13 @@ told_then t h = fence_told (fence_at t h.name) h.node h.locals
 pub header_fits : HeaderFits
 header_fits jobs node scripts t h its fits = by_old (is_old t h.name)
   where
-    placing : FitsTable jobs node scripts (placed t h.name (told_then t h) (series_at t h.name.signature).counts)
+    placing : FitsTable jobs node scripts (fence_placed t h.name (told_then t h) (series_at t h.name.signature).counts)
     placing = record {
       own = λ q e. placed_fits (scripts q) t h.name (told_then t h) (series_at t h.name.signature).counts q refl (count_is t h.name.signature q) (fits.own q e);
       headers = λ x other ls found. told_by_name jobs node scripts t h its fits x other ls (same_name x h.name) refl
           (sym (ap (λ (y : Fence). finite.get y.headers other) (fence-placed t h.name (told_then t h) (series_at t h.name.signature).counts x)) ∙ found);
     }
 
-    by_old : (b : Bool) → FitsTable jobs node scripts (cond b t (forgotten (placed t h.name (told_then t h) (series_at t h.name.signature).counts) h.name.signature))
+    by_old : (b : Bool) → FitsTable jobs node scripts (cond b t (forgotten (fence_placed t h.name (told_then t h) (series_at t h.name.signature).counts) h.name.signature))
     by_old true = fits
-    by_old false = table_forgotten jobs node scripts (placed t h.name (told_then t h) (series_at t h.name.signature).counts) h.name.signature placing
+    by_old false = table_forgotten jobs node scripts (fence_placed t h.name (told_then t h) (series_at t h.name.signature).counts) h.name.signature placing

@@ -13,7 +13,7 @@ use Rattle.pmg_frame.proofs.FenceOrderLemmas.{signatures_exact}
 use Rattle.pmg_fence.specs.Entering.{same_signature}
 use Rattle.pmg_fence.proofs.EntryLemmas.{signature_itself}
 use Rattle.pmg_fence.specs.Tables.{Numbers, Fence, Series, Fences, no_fence, no_series, series_at, has_name, is_old, fence_at, count_of}
-use Rattle.pmg_fence.specs.Changes.{greater_of, placed}
+use Rattle.pmg_fence.specs.Changes.{greater_of, fence_placed}
 
 -- the test of two instances
 abbrev pub same_instance : ℕ → ℕ → Bool
@@ -65,8 +65,8 @@ module _ (t : Fences) (f : FenceName) (fence : Fence) (counts : Numbers) where
     top = greater_of (series_at t f.signature).top f.instance;
   }
 
-  pub series-placed : (g : Signature) → series_at (placed t f fence counts) g ≡ cond (same_signature g f.signature) series_placed (series_at t g)
-  unfolding placed series_at
+  pub series-placed : (g : Signature) → series_at (fence_placed t f fence counts) g ≡ cond (same_signature g f.signature) series_placed (series_at t g)
+  unfolding fence_placed series_at
   series-placed g =
       ap (λ o. unwrap_or o no_series) (finite.get-insert signature_total t.series f.signature series_placed g)
       ∙ unwrap_cond (same_signature g f.signature) series_placed (finite.get t.series g) no_series
@@ -79,17 +79,17 @@ module _ (t : Fences) (f : FenceName) (fence : Fence) (counts : Numbers) where
       finite.get-insert nat_cmp_total (series_at t f.signature).fences f.instance fence x.instance
       ∙ ap (λ g. cond (same_instance x.instance f.instance) (Some fence) (finite.get (series_at t g).fences x.instance)) (sym (signature_exact x.signature f.signature e))
 
-  pub fences-placed : (x : FenceName) → finite.get (series_at (placed t f fence counts) x.signature).fences x.instance
+  pub fences-placed : (x : FenceName) → finite.get (series_at (fence_placed t f fence counts) x.signature).fences x.instance
       ≡ cond (same_name x f) (Some fence) (finite.get (series_at t x.signature).fences x.instance)
   fences-placed x = ap (λ (s : Series). finite.get s.fences x.instance) (series-placed x.signature) ∙ get_placed x (same_signature x.signature f.signature) refl
 
-  pub fence-placed : (x : FenceName) → fence_at (placed t f fence counts) x ≡ cond (same_name x f) fence (fence_at t x)
+  pub fence-placed : (x : FenceName) → fence_at (fence_placed t f fence counts) x ≡ cond (same_name x f) fence (fence_at t x)
   unfolding fence_at
   fence-placed x =
       ap (λ o. unwrap_or o no_fence) (fences-placed x)
       ∙ unwrap_cond (same_name x f) fence (finite.get (series_at t x.signature).fences x.instance) no_fence
 
-  pub name-placed : (x : FenceName) → has_name (placed t f fence counts) x ≡ cond (same_name x f) true (has_name t x)
+  pub name-placed : (x : FenceName) → has_name (fence_placed t f fence counts) x ≡ cond (same_name x f) true (has_name t x)
   unfolding has_name
   name-placed x = ap is_some (fences-placed x) ∙ is_some_cond (same_name x f) (finite.get (series_at t x.signature).fences x.instance)
     where
@@ -97,7 +97,7 @@ module _ (t : Fences) (f : FenceName) (fence : Fence) (counts : Numbers) where
       is_some_cond true o = refl
       is_some_cond false o = refl
 
-  pub count-placed : (g : Signature) (p : Proc) → count_of (placed t f fence counts) g p ≡ cond (same_signature g f.signature) (unwrap_or (finite.get counts p) 0) (count_of t g p)
+  pub count-placed : (g : Signature) (p : Proc) → count_of (fence_placed t f fence counts) g p ≡ cond (same_signature g f.signature) (unwrap_or (finite.get counts p) 0) (count_of t g p)
   unfolding count_of
   count-placed g p = ap (λ (s : Series). unwrap_or (finite.get s.counts p) 0) (series-placed g) ∙ by_test (same_signature g f.signature)
     where
@@ -105,7 +105,7 @@ module _ (t : Fences) (f : FenceName) (fence : Fence) (counts : Numbers) where
       by_test true = refl
       by_test false = refl
 
-  pub top-placed : (g : Signature) → (series_at (placed t f fence counts) g).top ≡ cond (same_signature g f.signature) (greater_of (series_at t f.signature).top f.instance) (series_at t g).top
+  pub top-placed : (g : Signature) → (series_at (fence_placed t f fence counts) g).top ≡ cond (same_signature g f.signature) (greater_of (series_at t f.signature).top f.instance) (series_at t g).top
   top-placed g = ap (λ (s : Series). s.top) (series-placed g) ∙ by_test (same_signature g f.signature)
     where
       by_test : (b : Bool) → (cond b series_placed (series_at t g)).top ≡ cond b (greater_of (series_at t f.signature).top f.instance) (series_at t g).top
@@ -113,7 +113,7 @@ module _ (t : Fences) (f : FenceName) (fence : Fence) (counts : Numbers) where
       by_test false = refl
 
   -- what is not old then was not old before
-  pub old-placed : (x : FenceName) → is_old (placed t f fence counts) x ≡ false → is_old t x ≡ false
+  pub old-placed : (x : FenceName) → is_old (fence_placed t f fence counts) x ≡ false → is_old t x ≡ false
   unfolding is_old
   old-placed x e = by_test (same_signature x.signature f.signature) refl (sym (ap (nat_lt (suc x.instance)) (top-placed x.signature)) ∙ e)
     where
@@ -125,13 +125,13 @@ module _ (t : Fences) (f : FenceName) (fence : Fence) (counts : Numbers) where
       by_test false same h = h
 
   -- the fence itself is not old then, where it was not
-  pub old_there : is_old t f ≡ false → is_old (placed t f fence counts) f ≡ false
+  pub old_there : is_old t f ≡ false → is_old (fence_placed t f fence counts) f ≡ false
   unfolding is_old
   old_there e =
       ap (nat_lt (suc f.instance)) (top-placed f.signature)
       ∙ ap (λ b. nat_lt (suc f.instance) (cond b (greater_of (series_at t f.signature).top f.instance) (series_at t f.signature).top)) (signature_itself f.signature)
       ∙ greater_reaches (series_at t f.signature).top f.instance e
 
-  pub ends-placed : (placed t f fence counts).ends ≡ t.ends
-  unfolding placed
+  pub ends-placed : (fence_placed t f fence counts).ends ≡ t.ends
+  unfolding fence_placed
   ends-placed = refl

@@ -8,10 +8,10 @@ use Rattle.pmg_frame.specs.Fences.{Header, header, is_header}
 use Rattle.pmg_frame.specs.declared.local.Local.{Local}
 use Rattle.pmg_jobinfo.specs.Jobs.{Jobs}
 use Rattle.pmg_fence.specs.declared.change.Change.{Change}
-use Rattle.pmg_fence.specs.Entering.{locals_of, told}
+use Rattle.pmg_fence.specs.Entering.{locals_of, told_locals}
 use Rattle.pmg_fence.specs.Tables.{Numbers, Fence, Fences, fence_of, series_at, has_name, is_old, fence_at, entry_at, own_header}
 use Rattle.pmg_fence.specs.Codes.{Known, AllSeries, Owns}
-use Rattle.pmg_fence.specs.Changes.{placed, with_counts, present, newly}
+use Rattle.pmg_fence.specs.Changes.{fence_placed, with_counts, present, newly}
 use Rattle.pmg_fence.specs.Kept.{counts_noted, fence_changed, instead, entry_with, known_fence, own_of, told_with, newly_told, changed_with, noted_by, known_of, series_in, series_counted, series_placed, series_changed, IsKept, IsLine}
 use Rattle.pmg_fence.proofs.LimitLemmas.{header_fits, told_level}
 
@@ -21,9 +21,9 @@ unfolding fence_at
 fence_known t g k o e = ap known_fence e
 
 pub told_known : (t : Fences) (f : FenceName) (known : Fence) (l : Option Local) (ps : List Proc) → known ≡ fence_at t f
-    → told (instead l (entry_with known t.ends)) ps ≡ told (instead l (entry_at t f)) ps
+    → told_locals (instead l (entry_with known t.ends)) ps ≡ told_locals (instead l (entry_at t f)) ps
 unfolding entry_at
-told_known t f known l ps e = ap (λ x. told (instead l (entry_with x t.ends)) ps) e
+told_known t f known l ps e = ap (λ x. told_locals (instead l (entry_with x t.ends)) ps) e
 
 -- ---- whether an own header is there
 
@@ -33,10 +33,10 @@ unfolding present has_name
 absent_there jobs node t g k e = ap (λ b. is_some (cond b (own_header jobs node t (fence_of g k)) None)) (ap is_some e)
 
 pub present_there : (k : Known) (g : Signature) (i : ℕ) (x : Fence) (b : Bool) (ls : Option (List Local)) → Some x ≡ finite.get (series_at k.fences g).fences i
-    → b ≡ is_some ls → ls ≡ told (instead None (entry_at k.fences (fence_of g i))) (own_of k g) → b ≡ is_some (present k.jobs k.node k.fences (fence_of g i))
+    → b ≡ is_some ls → ls ≡ told_locals (instead None (entry_at k.fences (fence_of g i))) (own_of k g) → b ≡ is_some (present k.jobs k.node k.fences (fence_of g i))
 unfolding present has_name own_header locals_of
 present_there k g i x b ls e is lines =
-    is ∙ ap is_some lines ∙ ap (λ c. is_some (cond c (told (entry_at k.fences (fence_of g i)) (own_of k g)) None)) (ap is_some e)
+    is ∙ ap is_some lines ∙ ap (λ c. is_some (cond c (told_locals (entry_at k.fences (fence_of g i)) (own_of k g)) None)) (ap is_some e)
 
 -- ---- what there is to tell anew
 
@@ -60,7 +60,7 @@ nothing_told k f l b is e = sym (newly_present k.node f (present k.jobs k.node k
 
 pub header_told : (k : Known) (g : Signature) (i : ℕ) (l : Option Local) (b : Bool) (o : Option Header) (hs : List Header)
     → b ≡ is_some (present k.jobs k.node k.fences (fence_of g i)) → b ≡ false
-    → o ≡ option_map (header k.node (fence_of g i)) (told (instead l (entry_at k.fences (fence_of g i))) (own_of k g)) → hs ≡ listed o → hs ≡ told_with k (fence_of g i) l
+    → o ≡ option_map (header k.node (fence_of g i)) (told_locals (instead l (entry_at k.fences (fence_of g i))) (own_of k g)) → hs ≡ listed o → hs ≡ told_with k (fence_of g i) l
 unfolding locals_of
 header_told k g i l b o hs is e made all = newly_absent k.node (fence_of g i) (present k.jobs k.node k.fences (fence_of g i)) _ o hs (sym is ∙ e) made all
 
@@ -71,11 +71,11 @@ abbrev inserted : Fences → FenceName → Change → Fences
 inserted t f change = record { series = finite.insert t.series f.signature (series_changed (series_in t.series f.signature) f.instance change); ends = t.ends }
 
 noted_is : (t : Fences) (f : FenceName) (change : Change) → inserted t f change ≡ noted_by t f change
-unfolding is_old placed with_counts series_at fence_at series_changed
+unfolding is_old fence_placed with_counts series_at fence_at series_changed
 noted_is t f change = by_old (is_old t f)
   where
     by_old : (b : Bool) → record { series = finite.insert t.series f.signature (cond b (series_counted (series_in t.series f.signature) (counts_noted t f change)) (series_placed (series_in t.series f.signature) f.instance change (counts_noted t f change))); ends = t.ends }
-        ≡ cond b (with_counts t f.signature (counts_noted t f change)) (placed t f (fence_changed (fence_at t f) change) (counts_noted t f change))
+        ≡ cond b (with_counts t f.signature (counts_noted t f change)) (fence_placed t f (fence_changed (fence_at t f) change) (counts_noted t f change))
     by_old true = refl
     by_old false = refl
 
@@ -101,18 +101,18 @@ header_is k g one i node name ls h now same here signature number made there =
 -- is one that a frame can hold
 pub header_framed : (k : Known) (owns : Owns) (g one : Signature) (i node : ℕ) (name : FenceName) (ls : List Local) (own : List Proc) (known : Fence) (l : Option Local) → IsKept k owns → IsLine l
     → one ≡ g → node ≡ k.node → name.signature ≡ one → name.instance ≡ i → own ≡ own_of k g → known ≡ fence_at k.fences (fence_of g i)
-    → Some ls ≡ told (instead l (entry_with known k.fences.ends)) own → IsTrue (is_header (header node name ls))
+    → Some ls ≡ told_locals (instead l (entry_with known k.fences.ends)) own → IsTrue (is_header (header node name ls))
 header_framed k owns g one i node name ls own known l kept small same here signature number is looked there =
     subst (λ h. IsTrue (is_header h)) (λ j. header (sym here j) (record { signature = sym (signature ∙ same) j; instance = sym number j }) ls)
     (header_fits k (fence_of g i) (instead l (entry_at k.fences (fence_of g i))) own ls is (sym (there ∙ told_known k.fences (fence_of g i) known l own looked)) (told_level k owns (fence_of g i) l kept small))
 
 -- whether the own header is there of a fence that was looked up
 pub present_is : (k : Known) (g : Signature) (i : ℕ) (o : Option (Bor Fence)) (own : List Proc) (b : Bool) → own ≡ own_of k g → option_map (λ f. f.now) o ≡ finite.get (series_at k.fences g).fences i
-    → b ≡ (is_some o && is_some (told (entry_with (known_fence (option_map (λ f. f.now) o)) k.fences.ends) own)) → b ≡ is_some (present k.jobs k.node k.fences (fence_of g i))
+    → b ≡ (is_some o && is_some (told_locals (entry_with (known_fence (option_map (λ f. f.now) o)) k.fences.ends) own)) → b ≡ is_some (present k.jobs k.node k.fences (fence_of g i))
 present_is k g i None own b is there e = e ∙ absent_there k.jobs k.node k.fences g i there
 present_is k g i (Some x) own b is there e =
-    present_there k g i x.now b (told (entry_with x.now k.fences.ends) own) there e
-    (ap (told (entry_with x.now k.fences.ends)) is ∙ told_known k.fences (fence_of g i) x.now None (own_of k g) (fence_known k.fences g i (Some x.now) there))
+    present_there k g i x.now b (told_locals (entry_with x.now k.fences.ends) own) there e
+    (ap (told_locals (entry_with x.now k.fences.ends)) is ∙ told_known k.fences (fence_of g i) x.now None (own_of k g) (fence_known k.fences g i (Some x.now) there))
 
 -- ---- an old fence, and one that is not
 

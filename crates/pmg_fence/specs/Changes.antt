@@ -12,14 +12,15 @@ use Rattle.pmg_frame.specs.declared.local.Local.{Local}
 use Rattle.pmg_jobinfo.specs.Jobs.{Jobs}
 use Rattle.pmg_fence.specs.Tables.{Numbers, Fence, Series, Fences, fence_of, series_at, has_name, is_old, fence_at, count_of, own_header, names_of}
 use Rattle.pmg_fence.specs.Codes.{Known}
+use Rattle.pmg_frame.specs.declared.fence_name.TheConstants.{MAX_INSTANCE}
 
 -- the greater of two instances
 abbrev pub greater_of : ℕ → ℕ → ℕ
 greater_of m n = if nat_lt m n then n else m
 
 -- Each change of a fence: this is known of it now, and these are the counts of its signature. Nothing is forgotten yet.
-unfoldable pub placed : Fences → FenceName → Fence → Numbers → Fences
-placed t f fence counts = record {
+unfoldable pub fence_placed : Fences → FenceName → Fence → Numbers → Fences
+fence_placed t f fence counts = record {
   series = finite.insert t.series f.signature (record {
     counts = counts;
     fences = finite.insert (series_at t f.signature).fences f.instance fence;
@@ -46,7 +47,7 @@ forgotten t g = record { series = rows.changed_at t.series g (series_kept (serie
 
 -- what is known of a fence changes, and what it made old is forgotten; of an old fence nothing changes
 abbrev pub with_fence : Fences → FenceName → Fence → Fences
-with_fence t f fence = if is_old t f then t else forgotten (placed t f fence (series_at t f.signature).counts) f.signature
+with_fence t f fence = if is_old t f then t else forgotten (fence_placed t f fence (series_at t f.signature).counts) f.signature
 
 -- a name is learned
 abbrev pub learned : Fences → FenceName → Fences
@@ -68,7 +69,7 @@ counts_entered t g p = finite.insert (series_at t g).counts p (suc (count_of t g
 abbrev pub noted_entry : Fences → Signature → Proc → ℕ → Fences
 noted_entry t g p level =
     if is_old t (next_name t g p) then with_counts t g (counts_entered t g p)
-    else placed t (next_name t g p) (fence_entered (fence_at t (next_name t g p)) p level) (counts_entered t g p)
+    else fence_placed t (next_name t g p) (fence_entered (fence_at t (next_name t g p)) p level) (counts_entered t g p)
 
 -- a process enters at its level
 abbrev pub entered_by : Fences → Signature → Proc → ℕ → Fences
@@ -78,13 +79,13 @@ entered_by t g p level = forgotten (noted_entry t g p level) g
 abbrev pub ended_by : Fences → Proc → ℕ → Fences
 ended_by t p level = record { series = t.series; ends = finite.insert t.ends p level }
 
-abbrev pub first_of : Option (List Local) → List Local → List Local
-first_of None locals = locals
-first_of (Some first) locals = first
+abbrev pub first_locals : Option (List Local) → List Local → List Local
+first_locals None locals = locals
+first_locals (Some first) locals = first
 
 -- what is known of the fence, once the node's header has come: the first of each node is kept
 abbrev pub fence_told : Fence → ℕ → List Local → Fence
-fence_told fence node locals = record { levels = fence.levels; headers = finite.insert fence.headers node (first_of (finite.get fence.headers node) locals) }
+fence_told fence node locals = record { levels = fence.levels; headers = finite.insert fence.headers node (first_locals (finite.get fence.headers node) locals) }
 
 -- a header comes, and with it the fence's name
 abbrev pub with_header : Fences → Header → Fences
@@ -110,8 +111,8 @@ abbrev pub with_fences : Known → Fences → Known
 with_fences k t = record { jobs = k.jobs; node = k.node; fences = t; waiting = k.waiting }
 
 -- what the table holds once one fence has changed: its own header waits where it has come to exist
-abbrev pub changed_at : Known → FenceName → Fences → Known
-changed_at k f t = record { jobs = k.jobs; node = k.node; fences = t; waiting = k.waiting ++ news k.jobs k.node k.fences t f }
+abbrev pub fence_changed_at : Known → FenceName → Fences → Known
+fence_changed_at k f t = record { jobs = k.jobs; node = k.node; fences = t; waiting = k.waiting ++ news k.jobs k.node k.fences t f }
 
 -- and once any of them may have changed: so does that of each
 abbrev pub changed : Known → Fences → Known
@@ -123,4 +124,4 @@ taken k rest = record { jobs = k.jobs; node = k.node; fences = k.fences; waiting
 
 -- The number of the process's next entry, which is the instance that it enters; past the last there is none.
 abbrev pub enter_answer : Fences → Signature → Proc → Result ℕ Refusal
-enter_answer t g p = if nat_le 4294967295 (count_of t g p) then Err refusals.TooMany else Ok (suc (count_of t g p))
+enter_answer t g p = if nat_le MAX_INSTANCE (count_of t g p) then Err refusals.TooMany else Ok (suc (count_of t g p))

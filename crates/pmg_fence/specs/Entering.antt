@@ -74,16 +74,16 @@ with_line p (Some e) None = None
 with_line p (Some e) (Some ls) = Some (local_of p e ∷ ls)
 
 -- what there is to tell of these processes, once there is something to tell of each
-abbrev pub lines : (Proc → Option Entry) → List Proc → Option (List Local)
-lines stands [] = Some []
-lines stands (p ∷ ps) = with_line p (stands p) (lines stands ps)
+abbrev pub collected_locals : (Proc → Option Entry) → List Proc → Option (List Local)
+collected_locals stands [] = Some []
+collected_locals stands (p ∷ ps) = with_line p (stands p) (collected_locals stands ps)
 
 -- the same where there are such processes: of no process nobody tells anything
-abbrev pub told : (Proc → Option Entry) → List Proc → Option (List Local)
-told stands [] = None
-told stands (p ∷ ps) = lines stands (p ∷ ps)
+abbrev pub told_locals : (Proc → Option Entry) → List Proc → Option (List Local)
+told_locals stands [] = None
+told_locals stands (p ∷ ps) = collected_locals stands (p ∷ ps)
 
 -- The node's header of the fence: how each of its participants stands to it, once each has entered or is gone. A node without
 -- participants has none.
 unfoldable pub header_of : Jobs → (Proc → Script) → FenceName → ℕ → Option (List Local)
-header_of jobs scripts f node = told (λ p. entry (scripts p) f) (locals_of jobs f node)
+header_of jobs scripts f node = told_locals (λ p. entry (scripts p) f) (locals_of jobs f node)

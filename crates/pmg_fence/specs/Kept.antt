@@ -13,10 +13,10 @@ use Rattle.pmg_frame.specs.declared.local.Local.{Local}
 use Rattle.pmg_fence.specs.declared.change.Change.{Change}
 use Rattle.pmg_fence.specs.declared.change.Change.TheVariants as changes
 use Rattle.pmg_fence.specs.declared.entry.Entry.{Entry}
-use Rattle.pmg_fence.specs.Entering.{same_proc, entered, entry_by, local_of, locals_of, told}
+use Rattle.pmg_fence.specs.Entering.{same_proc, entered, entry_by, local_of, locals_of, told_locals}
 use Rattle.pmg_fence.specs.Tables.{Numbers, Fence, Series, Fences, no_fence, no_series, series_at, fence_of, has_name, is_old, fence_at, count_of, entry_at, entry_in}
 use Rattle.pmg_fence.specs.Codes.{Instances, AllSeries, Known, Owns, Signatures, Index}
-use Rattle.pmg_fence.specs.Changes.{greater_of, placed, with_counts, forgotten, fence_entered, fence_told, present, newly}
+use Rattle.pmg_fence.specs.Changes.{greater_of, fence_placed, with_counts, forgotten, fence_entered, fence_told, present, newly}
 use Rattle.pmg_jobinfo.specs.Jobs.{Jobs, home_of}
 
 abbrev pub fence_changed : Fence → Change → Fence
@@ -60,17 +60,17 @@ counts_noted t f change = counts_changed (series_at t f.signature).counts f.inst
 -- the table once the fence has changed, before anything is forgotten: where the fence is old, the counts alone change
 abbrev pub noted_by : Fences → FenceName → Change → Fences
 noted_by t f change =
-    if is_old t f then with_counts t f.signature (counts_noted t f change) else placed t f (fence_changed (fence_at t f) change) (counts_noted t f change)
+    if is_old t f then with_counts t f.signature (counts_noted t f change) else fence_placed t f (fence_changed (fence_at t f) change) (counts_noted t f change)
 
 -- the table once the fence has changed, and what it made old is forgotten
 abbrev pub placed_by : Fences → FenceName → Change → Fences
 placed_by t f change = forgotten (noted_by t f change) f.signature
 
 -- what comes to be told of a process by the change
-abbrev pub line_of : Change → Option Local
-line_of changes.Learned = None
-line_of (changes.Entered p level) = Some (local_of p (entered level))
-line_of (changes.Told h) = None
+abbrev pub changed_local : Change → Option Local
+changed_local changes.Learned = None
+changed_local (changes.Entered p level) = Some (local_of p (entered level))
+changed_local (changes.Told h) = None
 
 -- how a process stands to a fence, where that of one process has come to be what is told of it
 abbrev pub instead : Option Local → (Proc → Option Entry) → Proc → Option Entry
@@ -95,7 +95,7 @@ own_of k g = own_by k.jobs k.node g
 
 -- the own header that comes to exist once the process stands to the fence so
 abbrev pub told_with : Known → FenceName → Option Local → List Header
-told_with k f l = newly k.node f (present k.jobs k.node k.fences f) (told (instead l (entry_at k.fences f)) (locals_of k.jobs f k.node))
+told_with k f l = newly k.node f (present k.jobs k.node k.fences f) (told_locals (instead l (entry_at k.fences f)) (locals_of k.jobs f k.node))
 
 -- the same where the fence is not old: of an old one no header is told
 abbrev pub newly_told : Known → FenceName → Option Local → List Header
@@ -110,8 +110,8 @@ known_of jobs node series ends waiting = record { jobs = jobs; node = node; fenc
 
 -- how a participant stands to a fence of which this is known: an own one where there is something to tell of all of them,
 -- another one as its home's header tells
-abbrev pub told_by : Known → Fence → Bool → Proc → Option Entry
-told_by k fence whole q =
+abbrev pub standing_in : Known → Fence → Bool → Proc → Option Entry
+standing_in k fence whole q =
     if home_of k.jobs q == k.node then (if whole then entry_with fence k.fences.ends q else None) else entry_in q (finite.get fence.headers (home_of k.jobs q))
 
 -- the own header that comes to exist once the process of the line has ended, where it had not entered the fence

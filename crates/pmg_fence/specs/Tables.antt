@@ -12,7 +12,7 @@ use Rattle.pmg_frame.specs.Fences.{participants_of, is_gone}
 use Rattle.pmg_frame.specs.declared.local.Local.{Local}
 use Rattle.pmg_jobinfo.specs.Jobs.{Jobs, home_of}
 use Rattle.pmg_fence.specs.declared.entry.Entry.{Entry}
-use Rattle.pmg_fence.specs.Entering.{entry_by, locals_of, told, same_proc}
+use Rattle.pmg_fence.specs.Entering.{entry_by, locals_of, told_locals, same_proc}
 
 -- a number for each of some processes
 abbrev pub Numbers : Type 0
@@ -75,7 +75,7 @@ entry_at t f p = entry_by (finite.get (fence_at t f).levels p) (finite.get t.end
 
 -- the node's own header, once it exists
 unfoldable pub own_header : Jobs → ℕ → Fences → FenceName → Option (List Local)
-own_header jobs node t f = told (entry_at t f) (locals_of jobs f node)
+own_header jobs node t f = told_locals (entry_at t f) (locals_of jobs f node)
 
 -- a node's header, where it is there
 unfoldable pub header_at : Jobs → ℕ → Fences → FenceName → ℕ → Option (List Local)

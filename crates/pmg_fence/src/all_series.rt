@@ -7,7 +7,7 @@ ghost use Rattle.pmg_fence.specs.Kept.{series_in, series_changed};
 ghost use Rattle.pmg_fence.specs.TakenBack.{all_series_back};
 
 use crate::change::Change;
-use crate::series::{Series, SeriesBefore};
+use crate::series::{Series, SeriesUndo};
 use pmg_frame::Signature;
 use pmg_value::copy_rows;
 use std::alloc::{AllocError, Global};
@@ -69,7 +69,7 @@ impl AllSeries {
         signature: &Signature,
         instance: u64,
         change: Change,
-    ) -> Result<Option<SeriesBefore>, AllocError>
+    ) -> Result<Option<SeriesUndo>, AllocError>
         ensures before { IfOk result (λ b. all_series_back self.new signature.now instance b ≡ self.old) }
         ensures ok { OnOk result (self.new ≡ finite.insert self.old signature.now (series_changed (series_in self.old signature.now) instance change)) }
         ensures err { OnErr result (self.new ≡ self.old) }
@@ -102,14 +102,14 @@ impl AllSeries {
     }
 
     /// Takes a change back. It takes no memory.
-    pub fn take_back(&mut self, signature: &Signature, instance: u64, before: &Option<SeriesBefore>)
+    pub fn rollback(&mut self, signature: &Signature, instance: u64, before: &Option<SeriesUndo>)
         ensures { self.new ≡ all_series_back self.old signature.now instance before.now }
     {
         match before {
             None => self.remove(signature),
             Some(before) => {
                 if let Some(series) = self.rows.get_mut(signature) {
-                    series.take_back(instance, before);
+                    series.rollback(instance, before);
                 }
             }
         }

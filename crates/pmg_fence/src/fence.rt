@@ -7,7 +7,7 @@ ghost use Rattle.std.specs.FinMap as finite;
 use crate::change::Change;
 use crate::entry::Entry;
 use crate::headers::Headers;
-use crate::numbers::{NumberBefore, Numbers};
+use crate::numbers::{NumberUndo, Numbers};
 use pmg_value::{Copied, Proc};
 use std::alloc::{AllocError, Global};
 use std::marker::Model;
@@ -40,21 +40,21 @@ impl Model for Fence {
 }
 
 /// What was known of a fence before a change, by which it can be taken back.
-pub enum FenceBefore {
+pub enum FenceUndo {
     /// The same.
     Learned,
     /// The level of a process that entered.
-    Entered(NumberBefore),
+    Entered(NumberUndo),
     /// No header of that node, if one has come.
     Told(Option<u64>),
 }
 
-impl Drop for FenceBefore {
+impl Drop for FenceUndo {
     fn drop(self) {
         match self {
-            FenceBefore::Learned => {}
-            FenceBefore::Entered(_) => {}
-            FenceBefore::Told(_) => {}
+            FenceUndo::Learned => {}
+            FenceUndo::Entered(_) => {}
+            FenceUndo::Told(_) => {}
         }
     }
 }
@@ -71,32 +71,32 @@ impl Fence {
     }
 
     /// Keeps what becomes known of the fence, and tells what there was before.
-    pub fn change(&mut self, change: Change) -> Result<FenceBefore, AllocError>
+    pub fn change(&mut self, change: Change) -> Result<FenceUndo, AllocError>
         ensures before { IfOk result (λ b. fence_back self.new b ≡ self.old) }
         ensures ok { OnOk result (self.new ≡ fence_changed self.old change) }
         ensures err { OnErr result (self.new ≡ self.old) }
     {
         match change {
-            Change::Learned => Ok(FenceBefore::Learned),
+            Change::Learned => Ok(FenceUndo::Learned),
             Change::Entered(proc, level) => {
                 let before = self.levels.put(proc, level)?;
-                Ok(FenceBefore::Entered(before))
+                Ok(FenceUndo::Entered(before))
             }
             Change::Told(header) => {
                 let before = self.headers.put(header)?;
-                Ok(FenceBefore::Told(before))
+                Ok(FenceUndo::Told(before))
             }
         }
     }
 
     /// Takes a change back. It takes no memory.
-    pub fn take_back(&mut self, before: &FenceBefore)
+    pub fn rollback(&mut self, before: &FenceUndo)
         ensures { self.new ≡ fence_back self.old before.now }
     {
         match before {
-            FenceBefore::Learned => (),
-            FenceBefore::Entered(before) => self.levels.take_back(before),
-            FenceBefore::Told(node) => self.headers.take_back(*node),
+            FenceUndo::Learned => (),
+            FenceUndo::Entered(before) => self.levels.rollback(before),
+            FenceUndo::Told(node) => self.headers.rollback(*node),
         }
     }
 
@@ -123,7 +123,7 @@ impl Fence {
     }
 
     /// How the process stands to the fence, as the header of the node tells.
-    pub fn told(&self, node: u32, proc: &Proc) -> Option<Entry>
+    pub fn told_entry(&self, node: u32, proc: &Proc) -> Option<Entry>
         ensures { result ≡ entry_in proc.now (finite.get self.now.headers node) }
     {
         self.headers.entry(node, proc)

@@ -1,6 +1,6 @@
 ghost use Rattle.std.specs.Prelude.{◌≡◌, Some, is_some, IsTrue, IfOk, OnOk, OnErr};
 ghost use Rattle.std.specs.FinMap as finite;
-ghost use Rattle.pmg_fence.specs.Changes.{first_of};
+ghost use Rattle.pmg_fence.specs.Changes.{first_locals};
 ghost use Rattle.pmg_fence.specs.TakenBack.{headers_back};
 ghost use Rattle.pmg_fence.specs.Tables.{entry_in};
 ghost use Rattle.pmg_value.specs.Lists.{is_chain};
@@ -46,7 +46,7 @@ impl Headers {
     /// Keeps the header, unless there is one of its node already; and tells its node where it is kept.
     pub fn put(&mut self, header: Header) -> Result<Option<u64>, AllocError>
         ensures before { IfOk result (λ node. headers_back self.new node ≡ self.old) }
-        ensures ok { OnOk result (self.new ≡ finite.insert self.old header.node (first_of (finite.get self.old header.node) header.locals)) }
+        ensures ok { OnOk result (self.new ≡ finite.insert self.old header.node (first_locals (finite.get self.old header.node) header.locals)) }
         ensures err { OnErr result (self.new ≡ self.old) }
     {
         let node = header.node().index() as u64;
@@ -65,7 +65,7 @@ impl Headers {
     }
 
     /// Takes the header of the node back that was kept, where one was. It takes no memory.
-    pub fn take_back(&mut self, node: Option<u64>)
+    pub fn rollback(&mut self, node: Option<u64>)
         ensures { self.new ≡ headers_back self.old node }
     {
         if let Some(node) = node {

@@ -17,4 +17,4 @@ mod table;
 pub use change::Change;
 pub use entry::Entry;
 pub use laws::{call_rules, entry_rules, header_rules, table_rules};
-pub use table::{Table, TableBefore};
+pub use table::{Table, TableUndo};

@@ -29,14 +29,14 @@ impl Model for Numbers {
 }
 
 /// What a process's number was before it was given one, by which that can be taken back.
-pub struct NumberBefore {
+pub struct NumberUndo {
     proc: Proc,
     number: Option<u64>,
 }
 
-impl Drop for NumberBefore {
+impl Drop for NumberUndo {
     fn drop(self) {
-        let NumberBefore { proc: _, number: _ } = self;
+        let NumberUndo { proc: _, number: _ } = self;
     }
 }
 
@@ -76,21 +76,21 @@ impl Numbers {
     }
 
     /// Gives the process a number, and tells what there was before.
-    pub fn put(&mut self, proc: Proc, number: u64) -> Result<NumberBefore, AllocError>
+    pub fn put(&mut self, proc: Proc, number: u64) -> Result<NumberUndo, AllocError>
         ensures before { IfOk result (λ b. number_back self.new b ≡ self.old) }
         ensures ok { OnOk result (self.new ≡ finite.insert self.old proc number) }
         ensures err { OnErr result (self.new ≡ self.old) }
     {
         let numbered = proc.copy()?;
         let before = self.insert(proc, number)?;
-        Ok(NumberBefore {
+        Ok(NumberUndo {
             proc: numbered,
             number: before,
         })
     }
 
     /// Takes a number that was given back. It takes no memory.
-    pub fn take_back(&mut self, before: &NumberBefore)
+    pub fn rollback(&mut self, before: &NumberUndo)
         ensures { self.new ≡ number_back self.old before.now }
     {
         put_back(&mut self.rows, &before.proc, before.number);

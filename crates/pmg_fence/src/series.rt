@@ -1,4 +1,4 @@
-ghost use Rattle.pmg_fence.specs.declared.fence.FenceBefore.TheVariants as fence_befores;
+ghost use Rattle.pmg_fence.specs.declared.fence.FenceUndo.TheVariants as fence_befores;
 ghost use Rattle.std.specs.Prelude.{◌≡◌, Some, suc, not, nat_lt, IfOk, OnOk, OnErr};
 ghost use Rattle.std.specs.FinMap as finite;
 ghost use Rattle.std.specs.Option.{option_map, unwrap_or};
@@ -10,8 +10,8 @@ ghost use Rattle.pmg_fence.specs.TakenBack.{instances_back, series_back};
 ghost use Rattle.pmg_fence.specs.declared.change.Change.TheVariants as changes;
 
 use crate::change::Change;
-use crate::fence::{Fence, FenceBefore};
-use crate::numbers::{NumberBefore, Numbers};
+use crate::fence::{Fence, FenceUndo};
+use crate::numbers::{NumberUndo, Numbers};
 use pmg_value::{Copied, Proc, copy_rows};
 use std::alloc::{AllocError, Global};
 use std::collections::BTreeMap;
@@ -72,11 +72,7 @@ impl Instances {
     }
 
     /// Keeps what becomes known of the instance, and tells what was known before, if anything was.
-    pub fn change(
-        &mut self,
-        instance: u64,
-        change: Change,
-    ) -> Result<Option<FenceBefore>, AllocError>
+    pub fn change(&mut self, instance: u64, change: Change) -> Result<Option<FenceUndo>, AllocError>
         ensures before { IfOk result (λ b. instances_back self.new instance b ≡ self.old) }
         ensures ok { OnOk result (self.new ≡ finite.insert self.old instance (fence_changed (fence_in self.old instance) change)) }
         ensures err { OnErr result (self.new ≡ self.old) }
@@ -106,14 +102,14 @@ impl Instances {
     }
 
     /// Takes a change back. It takes no memory.
-    pub fn take_back(&mut self, instance: u64, before: &Option<FenceBefore>)
+    pub fn rollback(&mut self, instance: u64, before: &Option<FenceUndo>)
         ensures { self.new ≡ instances_back self.old instance before.now }
     {
         match before {
             None => self.remove(instance),
             Some(before) => {
                 if let Some(fence) = self.rows.get_mut(&instance) {
-                    fence.take_back(before);
+                    fence.rollback(before);
                 }
             }
         }
@@ -166,15 +162,15 @@ impl Model for Series {
 
 /// What the fences of one signature were before a change, by which it can be taken back: how often the process that entered
 /// had entered, what was known of the instance, if anything was, and which instance was the greatest.
-pub struct SeriesBefore {
-    count: Option<NumberBefore>,
-    fence: Option<FenceBefore>,
+pub struct SeriesUndo {
+    count: Option<NumberUndo>,
+    fence: Option<FenceUndo>,
     top: u64,
 }
 
-impl Drop for SeriesBefore {
+impl Drop for SeriesUndo {
     fn drop(self) {
-        let SeriesBefore {
+        let SeriesUndo {
             count: _,
             fence: _,
             top: _,
@@ -183,12 +179,12 @@ impl Drop for SeriesBefore {
 }
 
 /// What the fences of one signature were before a change of the counts alone.
-fn nothing_before(count: Option<NumberBefore>, top: u64) -> SeriesBefore
+fn nothing_before(count: Option<NumberUndo>, top: u64) -> SeriesUndo
     ensures { result ≡ record { count = count; fence = Some fence_befores.Learned; top = top } }
 {
-    SeriesBefore {
+    SeriesUndo {
         count,
-        fence: Some(FenceBefore::Learned),
+        fence: Some(FenceUndo::Learned),
         top,
     }
 }
@@ -243,7 +239,7 @@ impl Series {
     /// Keeps what becomes known of the instance, and tells what there was before. An entry is the process's entry of that
     /// number. Of an old instance an entry is counted, and nothing else is kept.
     #[tactic(auto, unfolding(crate::specs::Kept::series_changed))]
-    pub fn change(&mut self, instance: u64, change: Change) -> Result<SeriesBefore, AllocError>
+    pub fn change(&mut self, instance: u64, change: Change) -> Result<SeriesUndo, AllocError>
         ensures before { IfOk result (λ b. series_back self.new instance b ≡ self.old) }
         ensures ok { OnOk result (self.new ≡ series_changed self.old instance change) }
         ensures err { OnErr result (self.new ≡ self.old) }
@@ -259,7 +255,7 @@ impl Series {
     }
 
     /// Counts the entry into an old instance, where the change is one, and tells what there was before.
-    fn count_old(&mut self, instance: u64, change: Change) -> Result<SeriesBefore, AllocError>
+    fn count_old(&mut self, instance: u64, change: Change) -> Result<SeriesUndo, AllocError>
         ensures before { IfOk result (λ b. series_back self.new instance b ≡ self.old) }
         ensures ok { OnOk result (self.new ≡ series_counted self.old (counts_changed self.old.counts instance change)) }
         ensures err { OnErr result (self.new ≡ self.old) }
@@ -275,7 +271,7 @@ impl Series {
     }
 
     /// Keeps what becomes known of the instance without an entry, and tells what was known before.
-    fn place(&mut self, instance: u64, change: Change) -> Result<SeriesBefore, AllocError>
+    fn place(&mut self, instance: u64, change: Change) -> Result<SeriesUndo, AllocError>
         ensures before { IfOk result (λ b. series_back self.new instance b ≡ self.old) }
         ensures ok { OnOk result (self.new ≡ series_placed self.old instance change self.old.counts) }
         ensures err { OnErr result (self.new ≡ self.old) }
@@ -283,7 +279,7 @@ impl Series {
         let fence = self.fences.change(instance, change)?;
         let top = self.top;
         self.top = greater_of(top, instance);
-        Ok(SeriesBefore {
+        Ok(SeriesUndo {
             count: None,
             fence,
             top,
@@ -291,7 +287,7 @@ impl Series {
     }
 
     /// Keeps the process's entry into the instance, which is its entry of that number, and tells what there was before.
-    fn enter(&mut self, instance: u64, proc: Proc, level: u64) -> Result<SeriesBefore, AllocError>
+    fn enter(&mut self, instance: u64, proc: Proc, level: u64) -> Result<SeriesUndo, AllocError>
         ensures before { IfOk result (λ b. series_back self.new instance b ≡ self.old) }
         ensures ok { OnOk result (self.new ≡ series_placed self.old instance (changes.Entered proc level) (finite.insert self.old.counts proc instance)) }
         ensures err { OnErr result (self.new ≡ self.old) }
@@ -300,13 +296,13 @@ impl Series {
         let before = self.counts.put(counted, instance)?;
         match self.fences.change(instance, Change::Entered(proc, level)) {
             Err(AllocError) => {
-                self.counts.take_back(&before);
+                self.counts.rollback(&before);
                 Err(AllocError)
             }
             Ok(fence) => {
                 let top = self.top;
                 self.top = greater_of(top, instance);
-                Ok(SeriesBefore {
+                Ok(SeriesUndo {
                     count: Some(before),
                     fence,
                     top,
@@ -316,13 +312,13 @@ impl Series {
     }
 
     /// Takes a change back. It takes no memory.
-    pub fn take_back(&mut self, instance: u64, before: &SeriesBefore)
+    pub fn rollback(&mut self, instance: u64, before: &SeriesUndo)
         ensures { self.new ≡ series_back self.old instance before.now }
     {
         if let Some(count) = &before.count {
-            self.counts.take_back(count);
+            self.counts.rollback(count);
         }
-        self.fences.take_back(instance, &before.fence);
+        self.fences.rollback(instance, &before.fence);
         self.top = before.top;
     }
 }

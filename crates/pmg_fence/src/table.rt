@@ -7,10 +7,11 @@ ghost use Rattle.std.specs.Option.{option_map, option_to_list};
 ghost use Rattle.pmg_value.specs.Answers.{Gives};
 ghost use Rattle.pmg_frame.specs.Fences.{header, is_instance};
 ghost use Rattle.pmg_jobinfo.specs.Jobs.{home_of};
-ghost use Rattle.pmg_fence.specs.Entering.{told, lines};
+ghost use Rattle.pmg_fence.specs.Entering.{told_locals, collected_locals};
 ghost use Rattle.pmg_fence.specs.Tables.{no_fences, series_at, count_of, is_old, entry_in, says_gone, gone_by, is_ready};
-ghost use Rattle.pmg_fence.specs.Changes.{learned, next_name, entered_by, with_header, with_fences, forgotten, changed_at, changed, ended_by, enter_answer, taken};
-ghost use Rattle.pmg_fence.specs.Kept.{entry_with, known_fence, own_of, told_by};
+ghost use Rattle.pmg_fence.specs.Changes.{learned, next_name, entered_by, with_header, with_fences, forgotten, fence_changed_at, changed, ended_by, enter_answer, taken};
+ghost use Rattle.pmg_fence.specs.Kept.{entry_with, known_fence, own_of, standing_in};
+ghost use Rattle.pmg_commit.specs.declared.piece.TheConstants.{MAX_COMMIT};
 
 mod changes;
 mod looks;
@@ -20,9 +21,9 @@ use crate::all_series::AllSeries;
 use crate::change::Change;
 use crate::entry::Entry;
 use crate::fence::Fence;
-use crate::numbers::{NumberBefore, Numbers};
+use crate::numbers::{NumberUndo, Numbers};
 use crate::owns::Owns;
-use crate::series::SeriesBefore;
+use crate::series::SeriesUndo;
 use pmg_frame::{FenceName, Header, Local, MAX_INSTANCE, Signature, State};
 use pmg_jobinfo::Registry;
 use pmg_value::{NodeId, Proc, Refusal};
@@ -111,7 +112,7 @@ fn told_in(fence: Option<&Fence>, home: u32, proc: &Proc) -> Option<Entry>
     ensures { result ≡ entry_in proc.now (finite.get (known_fence (option_map (λ f. f.now) fence.entry)).headers home) }
 {
     match fence {
-        Some(fence) => fence.told(home, proc),
+        Some(fence) => fence.told_entry(home, proc),
         None => None,
     }
 }
@@ -130,15 +131,15 @@ fn copy_headers(headers: &VecDeque<Header>) -> Result<VecDeque<Header>, AllocErr
 /// What a table was before a change, by which that can be taken back: how many headers waited, and what was known of the
 /// fence or of the process.
 #[derive(Drop)]
-pub struct TableBefore {
+pub struct TableUndo {
     waiting: usize,
     change: ChangeBefore,
 }
 
 /// What was known of a fence, of whose signature there may have been none, or of a process's end.
 enum ChangeBefore {
-    Fence(FenceName, Option<SeriesBefore>),
-    End(NumberBefore),
+    Fence(FenceName, Option<SeriesUndo>),
+    End(NumberUndo),
 }
 
 impl Drop for ChangeBefore {
@@ -266,9 +267,9 @@ impl Table {
     /// instance, is given. Where this completes the node's header, that waits to be taken. Into an old fence the entry alone is
     /// counted. Refused as TooMany past 4294967295 entries, and as NoMemory.
     pub fn enter(&mut self, signature: &Signature, proc: &Proc, level: u64) -> Result<u64, Refusal>
-        requires { level ≤ 4294967295 }
+        requires { level ≤ MAX_COMMIT }
         ensures answer { Gives (λ n. n) result (enter_answer self.old.fences signature.now proc.now) }
-        ensures ok { OnOk result (self.new ≡ changed_at self.old (next_name self.old.fences signature.now proc.now)
+        ensures ok { OnOk result (self.new ≡ fence_changed_at self.old (next_name self.old.fences signature.now proc.now)
             (entered_by self.old.fences signature.now proc.now level)) }
         ensures err { OnErr result (self.new ≡ self.old) }
     {
@@ -290,7 +291,7 @@ impl Table {
     /// Keeps the fence's name. Where each own participant ended already, the node's header waits to be taken. Of an old fence
     /// nothing is kept.
     pub fn learn(&mut self, name: &FenceName) -> Result<(), AllocError>
-        ensures ok { OnOk result (self.new ≡ changed_at self.old name.now (learned self.old.fences name.now)) }
+        ensures ok { OnOk result (self.new ≡ fence_changed_at self.old name.now (learned self.old.fences name.now)) }
         ensures err { OnErr result (self.new ≡ self.old) }
     {
         if self.is_old(name) {
@@ -304,7 +305,7 @@ impl Table {
     /// Keeps the header and the fence's name. The first header of a node counts: a later one changes nothing. Of an old fence
     /// nothing is kept.
     pub fn put_header(&mut self, header: Header) -> Result<(), AllocError>
-        ensures ok { OnOk result (self.new ≡ changed_at self.old header.name (with_header self.old.fences header)) }
+        ensures ok { OnOk result (self.new ≡ fence_changed_at self.old header.name (with_header self.old.fences header)) }
         ensures err { OnErr result (self.new ≡ self.old) }
     {
         if self.is_old(header.name()) {
@@ -341,7 +342,7 @@ impl Table {
 
     /// Whether there is something to tell of each own participant.
     fn is_whole(&self, signature: &Signature, fence: Option<&Fence>) -> bool
-        ensures { result ≡ is_some (lines (entry_with (known_fence (option_map (λ f. f.now) fence.entry)) self.now.fences.ends)
+        ensures { result ≡ is_some (collected_locals (entry_with (known_fence (option_map (λ f. f.now) fence.entry)) self.now.fences.ends)
             (own_of self.now signature.now)) }
     {
         for proc in signature.participants() {
@@ -357,8 +358,8 @@ impl Table {
 
     /// How the participant stands to the fence, as the header of its home tells, where that is there; whether the own one is
     /// there is known.
-    fn told(&self, fence: Option<&Fence>, whole: bool, proc: &Proc) -> Option<Entry>
-        ensures { result ≡ told_by self.now (known_fence (option_map (λ f. f.now) fence.entry)) whole proc.now }
+    fn standing_in(&self, fence: Option<&Fence>, whole: bool, proc: &Proc) -> Option<Entry>
+        ensures { result ≡ standing_in self.now (known_fence (option_map (λ f. f.now) fence.entry)) whole proc.now }
     {
         let home = home_of(&self.registry, proc);
         if home != self.node.index() {
@@ -372,9 +373,9 @@ impl Table {
 
     /// Whether the header of its home calls the participant gone.
     fn is_told_gone(&self, fence: Option<&Fence>, whole: bool, proc: &Proc) -> bool
-        ensures { result ≡ says_gone (told_by self.now (known_fence (option_map (λ f. f.now) fence.entry)) whole proc.now) }
+        ensures { result ≡ says_gone (standing_in self.now (known_fence (option_map (λ f. f.now) fence.entry)) whole proc.now) }
     {
-        match self.told(fence, whole, proc) {
+        match self.standing_in(fence, whole, proc) {
             Some(entry) => entry.is_gone(),
             None => false,
         }
@@ -409,7 +410,7 @@ impl Table {
         let fence = self.fence(name.signature(), name.instance());
         let whole = self.is_whole(name.signature(), fence);
         for proc in name.signature().participants() {
-            let Some(entry) = self.told(fence, whole, proc) else {
+            let Some(entry) = self.standing_in(fence, whole, proc) else {
                 return false;
             };
             if !name.signature().collect() {
@@ -425,7 +426,7 @@ impl Table {
     /// The process ends, after so many commits, its end among them. It counts as gone in each fence that it has not entered,
     /// those that are learned later among them. The node's headers that this completes wait to be taken.
     pub fn gone(&mut self, proc: &Proc, level: u64) -> Result<(), AllocError>
-        requires { level ≤ 4294967295 }
+        requires { level ≤ MAX_COMMIT }
         ensures ok { OnOk result (self.new ≡ changed self.old (ended_by self.old.fences proc.now level)) }
         ensures err { OnErr result (self.new ≡ self.old) }
     {

@@ -55,7 +55,7 @@ impl Meeting {
     }
 
     // The ranks of the participants that are gone, as the digits of a number; 0 where there is none.
-    fn gone(self, rt: &impl Abort, table: &Table, instance: u64) -> u32 {
+    fn gone_ranks(self, rt: &impl Abort, table: &Table, instance: u64) -> u32 {
         let name = self.name(rt, instance);
         let gone = table.release(&name).expect(rt, MEMORY);
         let mut ranks = 0_u32;
@@ -137,8 +137,8 @@ fn waits_twice(rt: &impl Abort, group: &mut Group, meeting: Meeting) -> ([bool; 
     hand_over(rt, &mut group.one, &mut group.zero);
     let back = meeting.is_ready(rt, &group.zero, 1, 1);
     let gone = [
-        meeting.gone(rt, &group.zero, 1),
-        meeting.gone(rt, &group.one, 1),
+        meeting.gone_ranks(rt, &group.zero, 1),
+        meeting.gone_ranks(rt, &group.one, 1),
     ];
     ([before, handed, below, known, back], gone)
 }
@@ -233,8 +233,8 @@ fn ends_elsewhere(rt: &impl Abort, group: &mut Group, meeting: Meeting) -> ([boo
     let below = meeting.is_ready(rt, &group.zero, 1, 1);
     let ready = meeting.is_ready(rt, &group.zero, 1, 2) && meeting.is_ready(rt, &group.one, 1, 2);
     let gone = [
-        meeting.gone(rt, &group.zero, 1),
-        meeting.gone(rt, &group.one, 1),
+        meeting.gone_ranks(rt, &group.zero, 1),
+        meeting.gone_ranks(rt, &group.one, 1),
     ];
     ([early, waits, told, below, ready], gone)
 }
@@ -261,7 +261,7 @@ fn meets_itself(rt: &impl Abort, table: &mut Table, meeting: Meeting) -> (u64, b
     (
         entry,
         meeting.is_ready(rt, table, 1, 0),
-        meeting.gone(rt, table, 1),
+        meeting.gone_ranks(rt, table, 1),
     )
 }
 
@@ -291,7 +291,7 @@ fn ends_before(rt: &impl Abort, group: &mut Group, meeting: Meeting) -> (u32, bo
     meeting.enter(rt, &mut group.one, 1, 0);
     hand_over(rt, &mut group.one, &mut group.zero);
     (
-        meeting.gone(rt, &group.zero, 1),
+        meeting.gone_ranks(rt, &group.zero, 1),
         meeting.is_ready(rt, &group.zero, 1, 2),
     )
 }
@@ -304,7 +304,7 @@ fn ends_after(rt: &impl Abort, group: &mut Group, meeting: Meeting) -> (u32, boo
     meeting.enter(rt, &mut group.one, 1, 0);
     hand_over(rt, &mut group.one, &mut group.zero);
     (
-        meeting.gone(rt, &group.zero, 1),
+        meeting.gone_ranks(rt, &group.zero, 1),
         meeting.is_ready(rt, &group.zero, 1, 1),
     )
 }
@@ -350,7 +350,7 @@ fn goes_on(rt: &impl Abort, table: &mut Table, meeting: Meeting) -> (bool, u64, 
     let own = table.take_header().is_some();
     let entry = meeting.enter(rt, table, 1, 0);
     let ready = meeting.is_ready(rt, table, 1, 2);
-    (own, entry, ready, meeting.gone(rt, table, 1))
+    (own, entry, ready, meeting.gone_ranks(rt, table, 1))
 }
 
 fn copies(rt: &impl Abort, group: &mut Group, meeting: Meeting) -> bool {

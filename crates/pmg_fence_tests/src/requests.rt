@@ -14,7 +14,7 @@ fn ask(rt: &impl Abort, alloc: Global, pending: &mut Pending, rank: u32, level: 
         .expect(rt, MEMORY);
 }
 
-fn asked(rt: &impl Abort, alloc: Global, pending: &Pending, rank: u32) -> Option<u64> {
+fn asked_level(rt: &impl Abort, alloc: Global, pending: &Pending, rank: u32) -> Option<u64> {
     pending.asked(&process(rt, alloc, rank))
 }
 
@@ -58,8 +58,8 @@ fn the_greatest_ask_counts(rt: HostRuntime) {
     let mut pending = Pending::new(alloc);
     ask(&rt, alloc, &mut pending, 0, 3);
     ask(&rt, alloc, &mut pending, 0, 2);
-    assert!(rt; asked(&rt, alloc, &pending, 0) == Some(3));
-    assert!(rt; asked(&rt, alloc, &pending, 1) == None);
+    assert!(rt; asked_level(&rt, alloc, &pending, 0) == Some(3));
+    assert!(rt; asked_level(&rt, alloc, &pending, 1) == None);
 }
 
 #[test]
@@ -68,9 +68,9 @@ fn an_answered_ask_is_gone(rt: HostRuntime) {
     let mut pending = Pending::new(alloc);
     ask(&rt, alloc, &mut pending, 0, 3);
     settle(&rt, alloc, &mut pending, 0, 3);
-    assert!(rt; asked(&rt, alloc, &pending, 0) == Some(3));
+    assert!(rt; asked_level(&rt, alloc, &pending, 0) == Some(3));
     settle(&rt, alloc, &mut pending, 0, 4);
-    assert!(rt; asked(&rt, alloc, &pending, 0) == None);
+    assert!(rt; asked_level(&rt, alloc, &pending, 0) == None);
 }
 
 #[test]
@@ -98,7 +98,7 @@ fn nodes_are_due_in_order_and_settled(rt: HostRuntime) {
 }
 
 // What a copy holds after the ask and the hold of process 0, where both are settled then.
-fn copied(rt: &impl Abort, alloc: Global) -> Pending {
+fn copy_of_pending(rt: &impl Abort, alloc: Global) -> Pending {
     let mut pending = Pending::new(alloc);
     hold(rt, alloc, &mut pending, 1, 0, 0);
     ask(rt, alloc, &mut pending, 0, 7);
@@ -109,9 +109,9 @@ fn copied(rt: &impl Abort, alloc: Global) -> Pending {
 
 #[test]
 fn a_copy_waits_by_itself(rt: HostRuntime) {
-    let copy = copied(&rt, rt.alloc());
+    let copy = copy_of_pending(&rt, rt.alloc());
     assert!(rt; are_due(&rt, rt.alloc(), &copy, 0, 1, &[(1, 0)]));
-    assert!(rt; asked(&rt, rt.alloc(), &copy, 0) == Some(7));
+    assert!(rt; asked_level(&rt, rt.alloc(), &copy, 0) == Some(7));
 }
 
 // The calls of `Marks`, of a node and of the process of that rank.

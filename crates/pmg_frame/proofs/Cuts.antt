@@ -12,7 +12,7 @@ use Rattle.pmg_frame.specs.Grammar.{IsSpelt, SpellsFrame}
 use Rattle.pmg_frame.specs.Reading.{read_frame_body, read_head, behind_head, read_frame}
 use Rattle.pmg_frame.specs.Versions.{frame_spelling, Spelt, spelt_text}
 use Rattle.pmg_frame.specs.declared.reading.Head.{Head}
-use Rattle.pmg_frame.specs.Streams.{Runs, StopsAt, more_at, left_after, Feeds, Says, SameFeed, Said, said_behind, said_at, said_from, said_by}
+use Rattle.pmg_frame.specs.Streams.{FramesFollow, StopsAt, more_at, left_after, Feeds, Says, SameFeed, StreamSaid, said_behind, said_at, said_from, stream_said}
 use Rattle.pmg_frame.proofs.FrameLaws.{frame_found, frame_only, chosen, some_is}
 
 front_more : (n : ℕ) (at : Place) (b : List ℕ) → n ≤ length at.rest → front n (more_at at b) ≡ front n at
@@ -95,14 +95,14 @@ stable_fault at b f e =
 
 -- ---- runs
 
-runs_more : (at : Place) (fs : List Frame) (end : Place) (b : List ℕ) → Runs at fs end → Runs (more_at at b) fs (more_at end b)
-unfolding Runs
+runs_more : (at : Place) (fs : List Frame) (end : Place) (b : List ℕ) → FramesFollow at fs end → FramesFollow (more_at at b) fs (more_at end b)
+unfolding FramesFollow
 runs_more at [] end b r = ap (λ (x : Place). more_at x b) r
 runs_more at (f ∷ fs) end b r = (more_at r.0 b, stable_frame at b f r.0 r.1, runs_more r.0 fs end b r.2)
 
-runs_then : (at : Place) (fs : List Frame) (mid : Place) (gs : List Frame) (end : Place) → Runs at fs mid → Runs mid gs end → Runs at (fs ++ gs) end
-unfolding Runs
-runs_then at [] mid gs end r s = subst (λ (x : Place). Runs x gs end) r s
+runs_then : (at : Place) (fs : List Frame) (mid : Place) (gs : List Frame) (end : Place) → FramesFollow at fs mid → FramesFollow mid gs end → FramesFollow at (fs ++ gs) end
+unfolding FramesFollow
+runs_then at [] mid gs end r s = subst (λ (x : Place). FramesFollow x gs end) r s
 runs_then at (f ∷ fs) mid gs end r s = (r.0, r.1, runs_then r.0 fs mid gs end r.2 s)
 
 more_twice : (at : Place) (a b : List ℕ) → more_at (more_at at a) b ≡ more_at at (a ++ b)
@@ -114,14 +114,14 @@ some_place x y e = cc
 pub joins : (at mid : Place) (a b : List ℕ) (fs gs : List Frame) (fault : Option Fault) (new : Option Place) → Feeds at a fs None (Some mid) → Feeds mid b gs fault new → Feeds at (a ++ b) (fs ++ gs) fault new
 joins at mid a b fs gs fault new p q =
     let same : p.end ≡ mid = sym (some_place mid p.end p.left) in
-    let first : Runs (more_at at (a ++ b)) fs (more_at mid b) =
-    subst (λ (x : Place). Runs x fs (more_at mid b)) (more_twice at a b) (subst (λ (x : Place). Runs (more_at (more_at at a) b) fs (more_at x b)) same (runs_more (more_at at a) fs p.end b p.runs)) in
+    let first : FramesFollow (more_at at (a ++ b)) fs (more_at mid b) =
+    subst (λ (x : Place). FramesFollow x fs (more_at mid b)) (more_twice at a b) (subst (λ (x : Place). FramesFollow (more_at (more_at at a) b) fs (more_at x b)) same (runs_more (more_at at a) fs p.end b p.runs)) in
     record { end = q.end; runs = runs_then (more_at at (a ++ b)) fs (more_at mid b) gs q.end first q.runs; stops = q.stops; left = q.left }
 
 pub stays_closed : (at : Place) (a b : List ℕ) (fs : List Frame) (f : Fault) → Feeds at a fs (Some f) None → Feeds at (a ++ b) fs (Some f) None
 stays_closed at a b fs f p = record {
   end = more_at p.end b;
-  runs = subst (λ (x : Place). Runs x fs (more_at p.end b)) (more_twice at a b) (runs_more (more_at at a) fs p.end b p.runs);
+  runs = subst (λ (x : Place). FramesFollow x fs (more_at p.end b)) (more_twice at a b) (runs_more (more_at at a) fs p.end b p.runs);
   stops = stable_fault p.end b f p.stops;
   left = refl;
 }
@@ -136,14 +136,14 @@ stops_no_frame : (end : Place) (fault : Option Fault) (frame : Frame) (mid : Pla
 stops_no_frame end None frame mid s e = let bad = sym s ∙ e in cc
 stops_no_frame end (Some f) frame mid s e = let bad = sym s ∙ e in cc
 
-one_run : (at : Place) (fs gs : List Frame) (x y : Place) (f g : Option Fault) → Runs at fs x → StopsAt x f → Runs at gs y → StopsAt y g → SameRun fs gs x y
-unfolding Runs
+one_run : (at : Place) (fs gs : List Frame) (x y : Place) (f g : Option Fault) → FramesFollow at fs x → StopsAt x f → FramesFollow at gs y → StopsAt y g → SameRun fs gs x y
+unfolding FramesFollow
 one_run at [] [] x y f g r s t u = (refl, r ∙ sym t)
 one_run at [] (frame ∷ gs) x y f g r s t u = absurd (stops_no_frame at f frame t.0 (subst (λ (z : Place). StopsAt z f) r s) t.1)
 one_run at (frame ∷ fs) [] x y f g r s t u = absurd (stops_no_frame at g frame r.0 (subst (λ (z : Place). StopsAt z g) t u) r.1)
 one_run at (frame ∷ fs) (other ∷ gs) x y f g r s t u =
     let same : (frame, r.0) ≡ (other, t.0) = some_is _ _ (sym r.1 ∙ t.1) in
-    let rest = one_run r.0 fs gs x y f g r.2 s (subst (λ (z : Frame × Place). Runs z.1 gs y) (sym same) t.2) u in
+    let rest = one_run r.0 fs gs x y f g r.2 s (subst (λ (z : Frame × Place). FramesFollow z.1 gs y) (sym same) t.2) u in
     (λ i. (same i).0 ∷ rest.0 i, rest.1)
 
 one_fault : (x : Place) (f g : Option Fault) → StopsAt x f → StopsAt x g → f ≡ g
@@ -168,8 +168,8 @@ record AreSpelt (at : Place) (fs : List Frame) (end : Place) : Type 0 where
   takes : Takes at (flat_map spelt_text spelt) end
   are : Each IsSpelt spelt
 
-runs_spelled : (at : Place) (fs : List Frame) (end : Place) → IsBytes at.rest → Runs at fs end → AreSpelt at fs end
-unfolding Runs
+runs_spelled : (at : Place) (fs : List Frame) (end : Place) → IsBytes at.rest → FramesFollow at fs end → AreSpelt at fs end
+unfolding FramesFollow
 runs_spelled at [] end fits r = record { spelt = []; are_those = refl; takes = record { parts = ap (λ (x : Place). x.rest) (sym r); place = ap (λ (x : Place). x.offset) r ∙ omega arith }; are = tt }
 runs_spelled at (f ∷ fs) end fits r =
     let found = frame_found at f r.0 fits r.1 in
@@ -188,8 +188,8 @@ is_spelled at bytes fs fault new fits fed =
     let s = runs_spelled (more_at at bytes) fs fed.end fits fed.runs in
     record { spelt = s.spelt; are_those = s.are_those; takes = s.takes; are = s.are; stops = fed.stops }
 
-spelled_runs : (at : Place) (spelt : List Spelt) (end : Place) → Takes at (flat_map spelt_text spelt) end → Each IsSpelt spelt → Runs at (map (λ s. s.frame) spelt) end
-unfolding Runs
+spelled_runs : (at : Place) (spelt : List Spelt) (end : Place) → Takes at (flat_map spelt_text spelt) end → Each IsSpelt spelt → FramesFollow at (map (λ s. s.frame) spelt) end
+unfolding FramesFollow
 spelled_runs at [] end t are =
     let offset : end.offset ≡ at.offset = omega (arith, t.place) in
     λ i. record { offset = offset i; rest = sym t.parts i }
@@ -204,19 +204,19 @@ spelled_runs at (s ∷ ss) end t are =
 
 pub is_found : (at end : Place) (bytes : List ℕ) (fs : List Frame) (fault : Option Fault) → Says (more_at at bytes) fs fault end → Feeds at bytes fs fault (left_after fault end)
 is_found at end bytes fs fault s =
-    record { end = end; runs = subst (λ (gs : List Frame). Runs (more_at at bytes) gs end) s.are_those (spelled_runs (more_at at bytes) s.spelt end s.takes s.are); stops = s.stops; left = refl }
+    record { end = end; runs = subst (λ (gs : List Frame). FramesFollow (more_at at bytes) gs end) s.are_those (spelled_runs (more_at at bytes) s.spelt end s.takes s.are); stops = s.stops; left = refl }
 
 -- ---- one frame more
 
-runs_one : (at : Place) (frame : Frame) (end : Place) → read_frame at ≡ Ok (Some (frame, end)) → Runs at (frame ∷ []) end
-unfolding Runs
+runs_one : (at : Place) (frame : Frame) (end : Place) → read_frame at ≡ Ok (Some (frame, end)) → FramesFollow at (frame ∷ []) end
+unfolding FramesFollow
 runs_one at frame end e = (end, e, refl)
 
-pub runs_push : (at : Place) (fs : List Frame) (mid : Place) (frame : Frame) (end : Place) → Runs at fs mid → read_frame mid ≡ Ok (Some (frame, end)) → Runs at (fs ++ frame ∷ []) end
+pub runs_push : (at : Place) (fs : List Frame) (mid : Place) (frame : Frame) (end : Place) → FramesFollow at fs mid → read_frame mid ≡ Ok (Some (frame, end)) → FramesFollow at (fs ++ frame ∷ []) end
 runs_push at fs mid frame end r e = runs_then at fs mid (frame ∷ []) end r (runs_one mid frame end e)
 
-pub runs_none : (at : Place) → Runs at [] at
-unfolding Runs
+pub runs_none : (at : Place) → FramesFollow at [] at
+unfolding FramesFollow
 runs_none at = refl
 
 -- a frame takes some bytes
@@ -236,7 +236,7 @@ pub record IsEnd (offset : ℕ) (held : List ℕ) (end : Place) : Type 0 where
   pub fewer : length end.rest ≤ length held
   pub is : end ≡ record { offset = offset + (length held - length end.rest); rest = drop (length held - length end.rest) held }
 
-pub runs_end : (offset : ℕ) (held : List ℕ) (fs : List Frame) (end : Place) → IsBytes held → Runs (record { offset = offset; rest = held }) fs end → IsEnd offset held end
+pub runs_end : (offset : ℕ) (held : List ℕ) (fs : List Frame) (end : Place) → IsBytes held → FramesFollow (record { offset = offset; rest = held }) fs end → IsEnd offset held end
 runs_end offset held fs end fits r =
     let spelt = runs_spelled (record { offset = offset; rest = held }) fs end fits r in
     let text = flat_map spelt_text spelt.spelt in
@@ -250,8 +250,8 @@ runs_end offset held fs end fits r =
 -- ---- what a whole stream says
 
 -- the frames that follow one another, and why they stop, are what is read
-pub said_is : (n : ℕ) (at : Place) (fs : List Frame) (end : Place) (fault : Option Fault) → length at.rest < n → Runs at fs end → StopsAt end fault → said_from n at ≡ record { frames = fs; fault = fault; end = end }
-unfolding said_from Runs
+pub said_is : (n : ℕ) (at : Place) (fs : List Frame) (end : Place) (fault : Option Fault) → length at.rest < n → FramesFollow at fs end → StopsAt end fault → said_from n at ≡ record { frames = fs; fault = fault; end = end }
+unfolding said_from FramesFollow
 said_is zero at fs end fault short r s = absurd (omega arith)
 said_is (suc n) at [] end None short r s = rw (ap read_frame (sym r) ∙ s) (ap (λ (x : Place). record { frames = []; fault = None; end = x }) (sym r))
 said_is (suc n) at [] end (Some f) short r s = rw (ap read_frame (sym r) ∙ s) (ap (λ (x : Place). record { frames = []; fault = Some f; end = x }) (sym r))
@@ -260,11 +260,11 @@ said_is (suc n) at (f ∷ fs) end fault short r s =
     rw r.1 (ap (said_behind f) (said_is n r.0 fs end fault (omega (arith, fewer)) r.2 s))
 
 -- and what is read follows one another so
-pub record IsRun (at : Place) (said : Said) : Type 0 where
-  pub runs : Runs at said.frames said.end
+pub record IsRun (at : Place) (said : StreamSaid) : Type 0 where
+  pub runs : FramesFollow at said.frames said.end
   pub stops : StopsAt said.end said.fault
 
-run_at : (at : Place) (behind : Place → Said) → ((mid : Place) → length mid.rest < length at.rest → IsRun mid (behind mid)) → (next : Result (Option (Frame × Place)) Fault) → read_frame at ≡ next → IsRun at (said_at at behind next)
+run_at : (at : Place) (behind : Place → StreamSaid) → ((mid : Place) → length mid.rest < length at.rest → IsRun mid (behind mid)) → (next : Result (Option (Frame × Place)) Fault) → read_frame at ≡ next → IsRun at (said_at at behind next)
 run_at at behind runs (Err f) e = record { runs = runs_none at; stops = e }
 run_at at behind runs (Ok None) e = record { runs = runs_none at; stops = e }
 run_at at behind runs (Ok (Some next)) e =
@@ -279,9 +279,9 @@ unfolding said_from
 said_runs zero at short = absurd (omega arith)
 said_runs (suc n) at short = run_at at (said_from n) (λ mid fewer. said_runs n mid (omega arith)) (read_frame at) refl
 
-pub is_said : (bytes : List ℕ) → IsBytes bytes → Says (record { offset = 0; rest = bytes }) (said_by bytes).frames (said_by bytes).fault (said_by bytes).end
+pub is_said : (bytes : List ℕ) → IsBytes bytes → Says (record { offset = 0; rest = bytes }) (stream_said bytes).frames (stream_said bytes).fault (stream_said bytes).end
 is_said bytes fits =
     let at : Place = record { offset = 0; rest = bytes } in
     let run = said_runs (suc (length bytes)) at (omega arith) in
-    let spelled = runs_spelled at (said_by bytes).frames (said_by bytes).end fits run.runs in
+    let spelled = runs_spelled at (stream_said bytes).frames (stream_said bytes).end fits run.runs in
     record { spelt = spelled.spelt; are_those = spelled.are_those; takes = spelled.takes; are = spelled.are; stops = run.stops }

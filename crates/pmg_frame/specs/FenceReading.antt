@@ -14,6 +14,8 @@ use Rattle.pmg_wire.specs.Many.{many}
 use Rattle.pmg_wire.specs.Reading.{Place, Read, fault, ◌>>=◌, check, number_at}
 use Rattle.pmg_frame.specs.Fences.{participants_of, NameFields, fence_name, is_instance, is_level, state_of, Header, FenceAsk, CommitAsk}
 use Rattle.pmg_frame.specs.declared.local.Local.{Local}
+use Rattle.pmg_frame.specs.declared.signature.TheConstants.{MAX_PARTICIPANTS}
+use Rattle.pmg_value.specs.declared.process.TheConstants.{MAX_NODE}
 
 -- the process is greater than the one before, where there is one
 abbrev pub is_greater : Option Proc → Proc → Bool
@@ -34,7 +36,7 @@ read_name_fields at = do
   number ← number_at w64 collect.1
   _ ← check (is_instance number.0) (fault collect.1.offset causes.Number)
   count ← number_at w32 number.1
-  _ ← check (nat_lt 0 count.0 && nat_le count.0 4096) (fault number.1.offset causes.Count)
+  _ ← check (nat_lt 0 count.0 && nat_le count.0 MAX_PARTICIPANTS) (fault number.1.offset causes.Count)
   ps ← many read_participant count.0 None count.1
   Ok (record { collect = collect.0; number = number.0; list = ps.0 }, ps.1)
 
@@ -46,7 +48,7 @@ read_name at = read_name_fields at >>= λ fields. Ok (fence_name fields.0, field
 unfoldable pub read_node : Place → Read ℕ
 read_node at = do
   node ← number_at w32 at
-  _ ← check (nat_le node.0 63) (fault at.offset causes.Node)
+  _ ← check (nat_le node.0 MAX_NODE) (fault at.offset causes.Node)
   Ok node
 
 -- a level

@@ -16,6 +16,9 @@ use Rattle.pmg_value.specs.declared.refusal.Refusal.TheVariants as refusals
 use Rattle.pmg_frame.specs.declared.local.Local.{Local}
 use Rattle.pmg_frame.specs.declared.local.State.{State}
 use Rattle.pmg_frame.specs.declared.local.State.TheVariants as states
+use Rattle.pmg_frame.specs.declared.signature.TheConstants.{MAX_PARTICIPANTS}
+use Rattle.pmg_commit.specs.declared.piece.TheConstants.{MAX_COMMIT}
+use Rattle.pmg_frame.specs.declared.fence_name.TheConstants.{MAX_INSTANCE}
 
 -- the participants of a fence, in their order
 abbrev pub participants_of : FenceName → List Proc
@@ -26,7 +29,7 @@ pub record AreParticipants (ps : List Proc) : Type 0 where
   pub rising : IsStrictlySortedBy proc_cmp ps
   pub clients : IsTrue (list_all is_client ps)
   pub some : 1 ≤ length ps
-  pub few : length ps ≤ 4096
+  pub few : length ps ≤ MAX_PARTICIPANTS
 
 -- signatures and names as tuples
 abbrev pub coded_signature : Coded Signature
@@ -58,16 +61,16 @@ unfoldable pub asked_signature : List Proc → Bool → Result Signature Refusal
 asked_signature ps collect =
     if length ps == 0 then Err refusals.BadParam
     else if not (list_all is_client ps) then Err refusals.BadParam
-    else if nat_le (set.len (signature ps collect).participants) 4096 then Ok (signature ps collect)
+    else if nat_le (set.len (signature ps collect).participants) MAX_PARTICIPANTS then Ok (signature ps collect)
     else Err refusals.TooMany
 
 -- the instances of a signature are counted from 1
 abbrev pub is_instance : ℕ → Bool
-is_instance k = nat_lt 0 k && nat_le k 4294967295
+is_instance k = nat_lt 0 k && nat_le k MAX_INSTANCE
 
 -- the numbers that a level can be
 abbrev pub is_level : ℕ → Bool
-is_level n = nat_le n 4294967295
+is_level n = nat_le n MAX_COMMIT
 
 -- A fence header: of each of its own participants a node tells whether it has entered or is gone, and the level
 -- then (PMIx Standard 5.0, PMIx_Fence).

@@ -26,6 +26,10 @@ use Rattle.pmg_frame.specs.Reading.{read_frame}
 use Rattle.pmg_frame.specs.Refreshing.{RefreshAsk, RefreshReply, is_request, is_refresh_reply}
 use Rattle.pmg_frame.specs.Spelling.{piece_body, refresh_reply_body}
 use Rattle.pmg_frame.specs.Versions.{is_version, body_spelling, frame_spelling, Spelt, spelt_text}
+use Rattle.pmg_frame.specs.declared.signature.TheConstants.{MAX_PARTICIPANTS}
+use Rattle.pmg_value.specs.declared.process.TheConstants.{MAX_NODE}
+use Rattle.pmg_frame.specs.declared.frame.TheConstants.{MAX_BODY_SIZE}
+use Rattle.pmg_commit.specs.declared.piece.TheConstants.{MAX_COMMIT, MAX_ENTRIES}
 
 -- An entry of a piece of the commits from+1 to to: of a greater key than the entry before, of one of these
 -- commits, and with the canonical bytes of a value.
@@ -43,8 +47,8 @@ pub record IsPiece (c : Contribution) : Type 0 where
   pub name : IsTrue (is_nspace c.proc.nspace)
   pub admitted : IsTrue (is_admitted admits.ClientsAndHost c.proc)
   pub range : c.from < c.to
-  pub last : c.to ≤ 4294967295
-  pub count : length c.entries ≤ 65536
+  pub last : c.to ≤ MAX_COMMIT
+  pub count : length c.entries ≤ MAX_ENTRIES
   pub entries : Chain (Follows c.from c.to) None c.entries
 
 -- a process that a group may register
@@ -56,7 +60,7 @@ pub record IsClient (p : Proc) : Type 0 where
 pub record IsName (name : FenceName) : Type 0 where
   pub number : IsTrue (is_instance name.instance)
   pub some : 1 ≤ length (participants_of name)
-  pub few : length (participants_of name) ≤ 4096
+  pub few : length (participants_of name) ≤ MAX_PARTICIPANTS
   pub clients : Each IsClient (participants_of name)
 
 -- What a header tells of a participant of that fence: it is greater than the one before, and its level is one.
@@ -68,7 +72,7 @@ pub record FollowsLocal (name : FenceName) (before : Option Local) (l : Local) :
 
 -- what a header says keeps its rules
 pub record IsHeader (h : Header) : Type 0 where
-  pub node : h.node ≤ 63
+  pub node : h.node ≤ MAX_NODE
   pub name : IsName h.name
   pub some : 1 ≤ length h.locals
   pub few : length h.locals ≤ length (participants_of h.name)
@@ -76,12 +80,12 @@ pub record IsHeader (h : Header) : Type 0 where
 
 -- what a fence ask says keeps its rules
 pub record IsFenceAsk (a : FenceAsk) : Type 0 where
-  pub node : a.node ≤ 63
+  pub node : a.node ≤ MAX_NODE
   pub name : IsName a.name
 
 -- what an ask for commits says keeps its rules
 pub record IsCommitAsk (a : CommitAsk) : Type 0 where
-  pub node : a.node ≤ 63
+  pub node : a.node ≤ MAX_NODE
   pub name : IsTrue (is_nspace a.proc.nspace)
   pub admitted : IsTrue (is_admitted admits.ClientsAndHost a.proc)
   pub level : IsTrue (is_level a.level)
@@ -96,12 +100,12 @@ pub record IsTold (none : Bool) (c : Contribution) : Type 0 where
   pub name : IsTrue (is_nspace c.proc.nspace)
   pub admitted : IsTrue (is_admitted admits.ClientsAndHost c.proc)
   pub range : IsTrue (is_range none c.from c.to)
-  pub count : length c.entries ≤ 65536
+  pub count : length c.entries ≤ MAX_ENTRIES
   pub entries : Chain (Follows c.from c.to) None c.entries
 
 -- what a refresh reply says keeps its rules
 pub record IsRefreshReply (r : RefreshReply) : Type 0 where
-  pub node : r.node ≤ 63
+  pub node : r.node ≤ MAX_NODE
   pub request : IsTrue (is_request r.request)
   pub told : IsTold true r.told
 
@@ -119,26 +123,26 @@ IsFrame (frames.RefreshReply r) = IsRefreshReply r
 pub record SpellsFrame (v : ℕ) (at : Place) (frame : Frame) (after : Place) : Type 0 where
   pub version : IsTrue (is_version v)
   pub takes : Takes at (frame_spelling v frame) after
-  pub small : length (body_spelling v frame) ≤ 16777216
+  pub small : length (body_spelling v frame) ≤ MAX_BODY_SIZE
   pub is : IsFrame frame
 
 -- a frame in one of the versions, whose body is not too long
 pub record IsSpelt (s : Spelt) : Type 0 where
   pub version : IsTrue (is_version s.version)
-  pub small : length (body_spelling s.version s.frame) ≤ 16777216
+  pub small : length (body_spelling s.version s.frame) ≤ MAX_BODY_SIZE
   pub is : IsFrame s.frame
 
 -- what is read as a frame is spelled so, in one of the versions
-abbrev pub IsFound : Type 0
-IsFound = (at : Place) (frame : Frame) (after : Place) → IsBytes at.rest → read_frame at ≡ Ok (Some (frame, after)) → (v : ℕ) × SpellsFrame v at frame after
+abbrev pub IsFoundFrame : Type 0
+IsFoundFrame = (at : Place) (frame : Frame) (after : Place) → IsBytes at.rest → read_frame at ≡ Ok (Some (frame, after)) → (v : ℕ) × SpellsFrame v at frame after
 
 -- what is spelled as a frame, in either version, is read
-abbrev pub IsOnly : Type 0
-IsOnly = (v : ℕ) (at : Place) (frame : Frame) (after : Place) → SpellsFrame v at frame after → read_frame at ≡ Ok (Some (frame, after))
+abbrev pub IsOnlyFrame : Type 0
+IsOnlyFrame = (v : ℕ) (at : Place) (frame : Frame) (after : Place) → SpellsFrame v at frame after → read_frame at ≡ Ok (Some (frame, after))
 
 -- no frame's spelling begins another's, whatever their versions
-abbrev pub IsOneSpelling : Type 0
-IsOneSpelling = (s t : Spelt) (x y : List ℕ) → IsSpelt s → IsSpelt t → spelt_text s ++ x ≡ spelt_text t ++ y → (s.version ≡ t.version) × (s.frame ≡ t.frame) × (x ≡ y)
+abbrev pub IsOneFrameSpelling : Type 0
+IsOneFrameSpelling = (s t : Spelt) (x y : List ℕ) → IsSpelt s → IsSpelt t → spelt_text s ++ x ≡ spelt_text t ++ y → (s.version ≡ t.version) × (s.frame ≡ t.frame) × (x ≡ y)
 
 -- an entry's key is a key, and its bytes are a value's
 pub record IsEntry (e : Entry) : Type 0 where
@@ -155,16 +159,16 @@ AreEntries (e ∷ es) = IsEntry e × AreEntries es
 -- Of contributions with names, keys and values, the pieces are those that a frame can say.
 abbrev pub ArePieces : Type 0
 ArePieces = (c : Contribution) → IsTrue (is_nspace c.proc.nspace) → AreEntries c.entries
-    → IsTrue (is_piece c) ↔ (IsPiece c × (length (piece_body c) ≤ 16777216))
+    → IsTrue (is_piece c) ↔ (IsPiece c × (length (piece_body c) ≤ MAX_BODY_SIZE))
 
 -- Of headers of a node for a fence, those that `Header::new` makes are those that a frame can say.
 abbrev pub AreHeaders : Type 0
-AreHeaders = (h : Header) → h.node ≤ 63 → IsName h.name → IsTrue (is_header h) ↔ IsHeader h
+AreHeaders = (h : Header) → h.node ≤ MAX_NODE → IsName h.name → IsTrue (is_header h) ↔ IsHeader h
 
 -- Of replies to a node with names, keys and values, those that `RefreshReply::new` makes are those that a frame can say.
 abbrev pub AreReplies : Type 0
-AreReplies = (r : RefreshReply) → r.node ≤ 63 → IsTrue (is_nspace r.told.proc.nspace) → AreEntries r.told.entries
-    → IsTrue (is_refresh_reply r) ↔ (IsRefreshReply r × (length (refresh_reply_body r) ≤ 16777216))
+AreReplies = (r : RefreshReply) → r.node ≤ MAX_NODE → IsTrue (is_nspace r.told.proc.nspace) → AreEntries r.told.entries
+    → IsTrue (is_refresh_reply r) ↔ (IsRefreshReply r × (length (refresh_reply_body r) ≤ MAX_BODY_SIZE))
 
 -- the frame has entries, which may be too many for a body
 abbrev pub has_entries : Frame → Bool
@@ -178,4 +182,4 @@ has_entries (frames.RefreshReply r) = true
 
 -- each header, and each ask, fits into a frame of either version
 abbrev pub AreFitting : Type 0
-AreFitting = (v : ℕ) (frame : Frame) → IsFrame frame → has_entries frame ≡ false → length (body_spelling v frame) ≤ 16777216
+AreFitting = (v : ℕ) (frame : Frame) → IsFrame frame → has_entries frame ≡ false → length (body_spelling v frame) ≤ MAX_BODY_SIZE

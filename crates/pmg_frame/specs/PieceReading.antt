@@ -11,6 +11,7 @@ use Rattle.pmg_wire.specs.Many.{many}
 use Rattle.pmg_wire.specs.Reading.{Place, Read, fault, ◌>>=◌, check, number_at}
 use Rattle.pmg_commit.specs.Entries.{Entry}
 use Rattle.pmg_commit.specs.Knowledge.{Contribution}
+use Rattle.pmg_commit.specs.declared.piece.TheConstants.{MAX_COMMIT, MAX_ENTRIES}
 
 -- the key of an entry is greater than that of the entry before, where there is one
 abbrev pub is_after : Option Entry → List ℕ → Bool
@@ -29,7 +30,7 @@ read_entry from to before at = do
 
 -- the commits from+1 to to, of which there is one at least, unless there may be none
 abbrev pub is_range : Bool → ℕ → ℕ → Bool
-is_range none from to = (nat_lt from to || (none && from == to)) && nat_le to 4294967295
+is_range none from to = (nat_lt from to || (none && from == to)) && nat_le to MAX_COMMIT
 
 -- a range of commits
 unfoldable pub read_range : Bool → Place → Read (ℕ × ℕ)
@@ -45,7 +46,7 @@ read_told none at = do
   proc ← read_proc admits.ClientsAndHost at
   range ← read_range none proc.1
   count ← number_at w32 range.1
-  _ ← check (nat_le count.0 65536) (fault range.1.offset causes.Count)
+  _ ← check (nat_le count.0 MAX_ENTRIES) (fault range.1.offset causes.Count)
   entries ← many (read_entry range.0.0 range.0.1) count.0 None count.1
   Ok (record { proc = proc.0; from = range.0.0; to = range.0.1; entries = entries.0 }, entries.1)
 

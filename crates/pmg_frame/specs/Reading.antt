@@ -13,6 +13,7 @@ use Rattle.pmg_frame.specs.Versions.{is_version}
 use Rattle.pmg_frame.specs.declared.frame.Frame.{Frame}
 use Rattle.pmg_frame.specs.declared.frame.Frame.TheVariants as frames
 use Rattle.pmg_frame.specs.declared.reading.Head.{Head}
+use Rattle.pmg_frame.specs.declared.frame.TheConstants.{MAX_BODY_SIZE}
 
 -- the fields of a body of that version and kind
 unfoldable pub read_fields : ℕ → ℕ → Place → Read Frame
@@ -39,7 +40,7 @@ read_head at = do
   kind ← byte_at version.1
   _ ← check (nat_lt 0 kind.0 && nat_lt kind.0 7) (fault version.1.offset causes.Kind)
   len ← number_at w32 kind.1
-  _ ← check (nat_le len.0 16777216) (fault kind.1.offset causes.Length)
+  _ ← check (nat_le len.0 MAX_BODY_SIZE) (fault kind.1.offset causes.Length)
   Ok (record { version = version.0; kind = kind.0; len = len.0 }, len.1)
 
 -- after a head: the whole frame, or nothing while its body is not all there

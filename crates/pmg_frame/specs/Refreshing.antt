@@ -5,6 +5,7 @@ use Rattle.pmg_value.specs.declared.process.Proc.{Proc}
 use Rattle.pmg_commit.specs.Knowledge.{Contribution}
 use Rattle.pmg_commit.specs.Pieces.{body_size, is_piece}
 use Rattle.pmg_frame.specs.Fences.{CommitAsk, is_ask, is_level}
+use Rattle.pmg_frame.specs.declared.frame.TheConstants.{MAX_BODY_SIZE}
 
 -- A node asks for what a process sealed after the commits that it knows, under a number of its own
 -- (PMIx Standard 5.0, PMIX_GET_REFRESH_CACHE).
@@ -43,7 +44,7 @@ is_no_commit c = (is_client c.proc || is_host c.proc) && (c.from == c.to && (is_
 -- a reply that a frame can hold: of a piece, or of no commit, in a body that is not too long
 unfoldable pub is_refresh_reply : RefreshReply → Bool
 is_refresh_reply r =
-    is_request r.request && (is_piece r.told || is_no_commit r.told) && nat_le (13 + body_size r.told.proc r.told.entries) 16777216
+    is_request r.request && (is_piece r.told || is_no_commit r.told) && nat_le (13 + body_size r.told.proc r.told.entries) MAX_BODY_SIZE
 
 -- what the reply adds to what is known
 abbrev pub told_by : RefreshReply → Option Contribution

@@ -14,6 +14,8 @@ use Rattle.pmg_frame.specs.FenceReading.{is_greater, read_node, read_level}
 use Rattle.pmg_frame.specs.Fences.{NameFields, fence_name, is_instance, state_of, Header, FenceAsk}
 use Rattle.pmg_frame.specs.Runs.{Ranked, proc_ranks, local_ranks, RankRun, next_rank, line, items_of}
 use Rattle.pmg_frame.specs.declared.local.Local.{Local}
+use Rattle.pmg_frame.specs.declared.signature.TheConstants.{MAX_PARTICIPANTS}
+use Rattle.pmg_value.specs.declared.process.TheConstants.{MAX_RANK}
 
 -- a step of reading, so many times: each is given what the steps before it have made
 unfoldable pub repeated : {S : Type 0} → (S → Place → Read S) → ℕ → S → Place → Read S
@@ -36,7 +38,7 @@ ranks_to last p = suc last - p.rank
 
 -- the last rank of a run that begins with the process
 abbrev pub is_last : Proc → ℕ → Bool
-is_last p last = nat_le p.rank last && nat_le last 4095
+is_last p last = nat_le p.rank last && nat_le last MAX_RANK
 
 -- a run of participants, after a process or none, where so many were before it
 unfoldable pub read_part : Option Proc → ℕ → Place → Read (RankRun Proc)
@@ -45,7 +47,7 @@ read_part before count at = do
   _ ← check (is_greater before p.0 && is_new proc_ranks before p.0) (fault at.offset causes.Order)
   last ← number_at w32 p.1
   _ ← check (is_last p.0 last.0) (fault p.1.offset causes.Rank)
-  _ ← check (nat_le (count + ranks_to last.0 p.0) 4096) (fault p.1.offset causes.Count)
+  _ ← check (nat_le (count + ranks_to last.0 p.0) MAX_PARTICIPANTS) (fault p.1.offset causes.Count)
   Ok (record { first = p.0; last = last.0 }, last.1)
 
 -- the run's processes behind those before it
@@ -54,7 +56,7 @@ read_run before at = read_part (last_or None before) (length before) at >>= λ r
 
 -- there is a run, and there are no more of them than participants
 abbrev pub is_run_count : ℕ → Bool
-is_run_count n = nat_lt 0 n && nat_le n 4096
+is_run_count n = nat_lt 0 n && nat_le n MAX_PARTICIPANTS
 
 -- the participants, as runs
 unfoldable pub read_runs : Place → Read (List Proc)

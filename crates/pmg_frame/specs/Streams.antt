@@ -13,9 +13,9 @@ use Rattle.pmg_frame.specs.Reading.{read_frame}
 use Rattle.pmg_frame.specs.Versions.{Spelt, spelt_text}
 
 -- from a place on, these whole frames follow one another, up to a later place
-unfoldable pub Runs : Place → List Frame → Place → Type 0
-Runs at [] end = end ≡ at
-Runs at (frame ∷ others) end = (mid : Place) × (read_frame at ≡ Ok (Some (frame, mid))) × Runs mid others end
+unfoldable pub FramesFollow : Place → List Frame → Place → Type 0
+FramesFollow at [] end = end ≡ at
+FramesFollow at (frame ∷ others) end = (mid : Place) × (read_frame at ≡ Ok (Some (frame, mid))) × FramesFollow mid others end
 
 -- at that place no whole frame follows: with no fault yet, or with this one
 abbrev pub StopsAt : Place → Option Fault → Type 0
@@ -35,7 +35,7 @@ left_after (Some f) end = None
 -- whole frame yet.
 pub record Feeds (at : Place) (bytes : List ℕ) (frames : List Frame) (fault : Option Fault) (new : Option Place) : Type 0 where
   pub end : Place
-  pub runs : Runs (more_at at bytes) frames end
+  pub runs : FramesFollow (more_at at bytes) frames end
   pub stops : StopsAt end fault
   pub left : new ≡ left_after fault end
 
@@ -68,37 +68,37 @@ pub record Says (at : Place) (frames : List Frame) (fault : Option Fault) (end :
   pub stops : StopsAt end fault
 
 -- what is read from a place on: the whole frames, the fault after them if there is one, and where they end
-pub record Said : Type 0 where
+pub record StreamSaid : Type 0 where
   pub frames : List Frame
   pub fault : Option Fault
   pub end : Place
 
 -- a frame, and then what was read
-abbrev pub said_behind : Frame → Said → Said
+abbrev pub said_behind : Frame → StreamSaid → StreamSaid
 said_behind frame said = record { frames = frame ∷ said.frames; fault = said.fault; end = said.end }
 
 -- what is read at a place, where `after` says what is read after a frame
-abbrev pub said_at : Place → (Place → Said) → Result (Option (Frame × Place)) Fault → Said
+abbrev pub said_at : Place → (Place → StreamSaid) → Result (Option (Frame × Place)) Fault → StreamSaid
 said_at at behind (Err f) = record { frames = []; fault = Some f; end = at }
 said_at at behind (Ok None) = record { frames = []; fault = None; end = at }
 said_at at behind (Ok (Some next)) = said_behind next.0 (behind next.1)
 
 -- What is read from a place on, at most so many frames.
-unfoldable pub said_from : ℕ → Place → Said
+unfoldable pub said_from : ℕ → Place → StreamSaid
 said_from zero at = record { frames = []; fault = None; end = at }
 said_from (suc n) at = said_at at (said_from n) (read_frame at)
 
 -- What the bytes of a whole stream say. There are no more frames than bytes.
-abbrev pub said_by : List ℕ → Said
-said_by bytes = said_from (suc (length bytes)) (record { offset = 0; rest = bytes })
+abbrev pub stream_said : List ℕ → StreamSaid
+stream_said bytes = said_from (suc (length bytes)) (record { offset = 0; rest = bytes })
 
 -- what is read of a whole stream is what its bytes say
 abbrev pub IsSaid : Type 0
-IsSaid = (bytes : List ℕ) → IsBytes bytes → Says (record { offset = 0; rest = bytes }) (said_by bytes).frames (said_by bytes).fault (said_by bytes).end
+IsSaid = (bytes : List ℕ) → IsBytes bytes → Says (record { offset = 0; rest = bytes }) (stream_said bytes).frames (stream_said bytes).fault (stream_said bytes).end
 
 -- two feeds in a row are one feed of both
-abbrev pub Joins : Type 0
-Joins = (at mid : Place) (a b : List ℕ) (fs gs : List Frame) (fault : Option Fault) (new : Option Place)
+abbrev pub FeedsJoin : Type 0
+FeedsJoin = (at mid : Place) (a b : List ℕ) (fs gs : List Frame) (fault : Option Fault) (new : Option Place)
     → Feeds at a fs None (Some mid) → Feeds mid b gs fault new → Feeds at (a ++ b) (fs ++ gs) fault new
 
 -- after a fault more bytes change nothing

@@ -139,7 +139,7 @@ impl CommitAsk {
     /// The number of the last commit before those that are asked for.
     pub fn level(&self) -> u64
         ensures value { result ≡ self.now.level }
-        ensures bound { result ≤ 4294967295 }
+        ensures bound { result ≤ MAX_COMMIT }
     {
         self.level
     }

@@ -16,12 +16,12 @@ use crate::writing::{
     encode_refresh_reply,
 };
 use bytes::BytesMut;
-use pmg_commit::Piece;
+use pmg_commit::{MAX_PIECE_SIZE, Piece};
 use pmg_value::Refusal;
 use std::alloc::{AllocError, Global};
 
-/// The greatest size of a frame's body, in bytes.
-pub const MAX_BODY_SIZE: u32 = 16_777_216;
+/// The greatest size of a frame's body, in bytes: that of a piece's.
+pub const MAX_BODY_SIZE: u32 = MAX_PIECE_SIZE as u32;
 
 /// The size of a frame's head, in bytes: the version, the kind, and four bytes of length.
 pub const HEAD_SIZE: usize = 6;
@@ -57,7 +57,7 @@ fn encode_in(frame: &Frame, alloc: Global, version: u8) -> Result<BytesMut, Allo
     requires { IsTrue (is_version version) }
     ensures bytes { IfOk result (λ out. out.items ≡ frame_spelling version frame.now) }
     ensures valid { OnOk result (IsFrame frame.now) }
-    ensures small { OnOk result (length (body_spelling version frame.now) ≤ 16777216) }
+    ensures small { OnOk result (length (body_spelling version frame.now) ≤ MAX_BODY_SIZE) }
     ensures read_back { IfOk result (λ out. ReadsBack frame.now out.items) }
 {
     match frame {
@@ -77,7 +77,7 @@ impl Frame {
     pub fn encode(&self, alloc: Global) -> Result<BytesMut, AllocError>
         ensures bytes { IfOk result (λ out. out.items ≡ frame_spelling 2 self.now) }
         ensures valid { OnOk result (IsFrame self.now) }
-        ensures small { OnOk result (length (body_spelling 2 self.now) ≤ 16777216) }
+        ensures small { OnOk result (length (body_spelling 2 self.now) ≤ MAX_BODY_SIZE) }
         ensures read_back { IfOk result (λ out. ReadsBack self.now out.items) }
     {
         encode_in(self, alloc, 2)
@@ -88,7 +88,7 @@ impl Frame {
     pub fn encode_as(&self, alloc: Global, version: u8) -> Result<BytesMut, Refusal>
         ensures bytes { IfOk result (λ out. out.items ≡ frame_spelling version self.now) }
         ensures valid { OnOk result (IsFrame self.now) }
-        ensures small { OnOk result (length (body_spelling version self.now) ≤ 16777216) }
+        ensures small { OnOk result (length (body_spelling version self.now) ≤ MAX_BODY_SIZE) }
         ensures read_back { IfOk result (λ out. ReadsBack self.now out.items) }
         ensures refused { (result ≡ Err refusals.BadParam) ↔ (is_version version ≡ false) }
         ensures no_other { IfErr result (λ e. (e ≡ refusals.BadParam) ⊎ (e ≡ refusals.NoMemory)) }

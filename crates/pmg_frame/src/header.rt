@@ -3,6 +3,7 @@ ghost use Rattle.std.specs.List.{list_all};
 ghost use Rattle.pmg_value.specs.Lists.{is_chain};
 ghost use Rattle.pmg_value.specs.declared.refusal.Refusal.TheVariants as refusals;
 ghost use Rattle.pmg_frame.specs.Fences.{header, is_local_rising, is_listed, is_header};
+ghost use Rattle.pmg_frame.specs.declared.signature.TheConstants.{MAX_PARTICIPANTS};
 
 use crate::fence_name::FenceName;
 use crate::local::Local;
@@ -129,7 +130,7 @@ impl Header {
     pub fn locals(&self) -> &[Local]
         ensures value { result.now ≡ self.now.locals }
         ensures header { IsTrue (is_header self.now) }
-        ensures few { length result.now ≤ 4096 }
+        ensures few { length result.now ≤ MAX_PARTICIPANTS }
     {
         // No effect at run time: the proof reads here how many participants there are.
         let _participants = self.name.signature().participants();

@@ -82,7 +82,7 @@ fn get_local_part(
 ) -> Result<(Local, u32), Refusal>
     ensures read { Reads (λ t. run t.0 t.1) result at.new (read_local_part name.now (option_copied before.entry) at.old) }
     ensures some { IfOk result (λ t. t.0.proc.rank ≤ t.1) }
-    ensures last { IfOk result (λ t. t.1 ≤ 4095) }
+    ensures last { IfOk result (λ t. t.1 ≤ MAX_RANK) }
 {
     let start = at.offset();
     let proc = get_proc(alloc, Admits::Clients, at)?;
@@ -121,7 +121,7 @@ fn at_rank(local: &Local, rank: u32) -> Result<Local, AllocError>
 // What is told of a run behind what was told before it.
 fn with_run(locals: Vec<Local>, first: &Local, last: u32) -> Result<Vec<Local>, AllocError>
     requires some { first.now.proc.rank ≤ last }
-    requires last { last ≤ 4095 }
+    requires last { last ≤ MAX_RANK }
     ensures { IfOk result (λ ls. ls.items ≡ locals.items ++ items_of local_ranks (run first.now last)) }
 {
     let mut locals = locals;

@@ -6,6 +6,7 @@ ghost use Rattle.pmg_frame.specs.Grammar.{IsHeader};
 ghost use Rattle.pmg_frame.specs.Runs.{local_ranks, run, runs_of, IsFirstRun};
 ghost use Rattle.pmg_frame.specs.RunSpelling.{local_run_spelling, local_runs_spelling, short_header};
 ghost use Rattle.pmg_frame.specs.Versions.{head_spelling};
+ghost use Rattle.pmg_frame.specs.declared.signature.TheConstants.{MAX_PARTICIPANTS};
 
 use crate::frame::HEAD_SIZE;
 use crate::header::Header;
@@ -42,7 +43,7 @@ fn run_size(first: &Local) -> usize
 
 /// The bytes that what is told of these participants takes in a frame, as runs.
 pub fn local_runs_size(locals: &[Local]) -> usize
-    requires { length locals.now ≤ 4096 }
+    requires { length locals.now ≤ MAX_PARTICIPANTS }
     ensures value { result ≡ length (local_runs_spelling locals.now) }
     ensures bound { result ≤ 1118212 }
 {
@@ -92,7 +93,7 @@ fn put_each_run(out: &mut BytesMut, locals: &[Local]) -> Result<(), AllocError>
 
 /// What is told of these participants, as runs.
 fn put_local_runs(out: &mut BytesMut, locals: &[Local]) -> Result<(), AllocError>
-    requires { length locals.now ≤ 4096 }
+    requires { length locals.now ≤ MAX_PARTICIPANTS }
     ensures { OnOk result (out.new.items ≡ out.old.items ++ local_runs_spelling locals.now) }
 {
     let count = count_runs(locals) as u32;

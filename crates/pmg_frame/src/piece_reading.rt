@@ -4,6 +4,7 @@ ghost use Rattle.pmg_wire.specs.Many.{many};
 ghost use Rattle.pmg_wire.specs.Reading.{Reads};
 ghost use Rattle.pmg_commit.specs.Pieces.{entry_of, contribution};
 ghost use Rattle.pmg_frame.specs.PieceReading.{is_after, read_entry, is_range, read_range, read_told, read_piece};
+ghost use Rattle.pmg_frame.specs.declared.frame.TheConstants.{MAX_BODY_SIZE};
 
 use pmg_commit::{MAX_COMMIT, MAX_ENTRIES, Piece, PieceEntry};
 use pmg_value::{Cause, Key, Proc, Refusal};
@@ -104,7 +105,7 @@ pub fn get_told(
 
 /// The body of a piece, in bytes that are not more than a body may have.
 pub fn get_piece(alloc: Global, at: &mut Cursor<'_>) -> Result<Piece, Refusal>
-    requires { length at.old.rest ≤ 16777216 }
+    requires { length at.old.rest ≤ MAX_BODY_SIZE }
     ensures { Reads (λ p. p) result at.new (read_piece at.old) }
 {
     // No effect at run time: the proof reads here that what is left are bytes.

@@ -52,7 +52,7 @@ fn get_fence_ask_as(alloc: Global, version: u8, at: &mut Cursor<'_>) -> Result<F
 // The fields of a body of that version and kind.
 #[tactic(auto, unfolding(crate::specs::Reading::read_fields))]
 fn get_fields(alloc: Global, version: u8, kind: u8, at: &mut Cursor<'_>) -> Result<Frame, Refusal>
-    requires { length at.old.rest ≤ 16777216 }
+    requires { length at.old.rest ≤ MAX_BODY_SIZE }
     ensures { Reads (λ f. f) result at.new (read_fields version kind at.old) }
 {
     match kind {
@@ -67,7 +67,7 @@ fn get_fields(alloc: Global, version: u8, kind: u8, at: &mut Cursor<'_>) -> Resu
 
 #[tactic(auto, unfolding(crate::specs::Reading::read_frame_body))]
 fn get_body(alloc: Global, version: u8, kind: u8, at: &mut Cursor<'_>) -> Result<Frame, Refusal>
-    requires { length at.old.rest ≤ 16777216 }
+    requires { length at.old.rest ≤ MAX_BODY_SIZE }
     ensures { ReadsAll (λ f. f) result (read_frame_body version kind at.old) }
 {
     let frame = get_fields(alloc, version, kind, at)?;
@@ -80,7 +80,7 @@ fn get_body(alloc: Global, version: u8, kind: u8, at: &mut Cursor<'_>) -> Result
 #[tactic(auto, unfolding(crate::specs::Reading::read_head))]
 fn get_head(at: &mut Cursor<'_>) -> Result<Head, Refusal>
     ensures read { Reads (λ h. h) result at.new (read_head at.old) }
-    ensures small { IfOk result (λ h. h.len ≤ 16777216) }
+    ensures small { IfOk result (λ h. h.len ≤ MAX_BODY_SIZE) }
 {
     let version_at = at.offset();
     let version = at.get_u8()?;

@@ -3,6 +3,8 @@ ghost use Rattle.std.specs.Prelude.{◌≡◌, ◌+◌, ◌≤◌, length, IsTru
 ghost use Rattle.pmg_wire.specs.Reading.{Reads};
 ghost use Rattle.pmg_frame.specs.Refreshing.{is_request};
 ghost use Rattle.pmg_frame.specs.RefreshReading.{read_request, read_asker, read_refresh_ask, read_refresh_reply, read_refresh};
+ghost use Rattle.pmg_value.specs.declared.process.TheConstants.{MAX_NODE};
+ghost use Rattle.pmg_frame.specs.declared.frame.TheConstants.{MAX_BODY_SIZE};
 
 use crate::asks::CommitAsk;
 use crate::fence_reading::{get_level, get_node};
@@ -61,9 +63,9 @@ fn get_refresh_reply(
     request: u64,
     at: &mut Cursor<'_>,
 ) -> Result<RefreshReply, Refusal>
-    requires bound { node ≤ 63 }
+    requires bound { node ≤ MAX_NODE }
     requires number { IsTrue (is_request request) }
-    requires small { length at.old.rest + 13 ≤ 16777216 }
+    requires small { length at.old.rest + 13 ≤ MAX_BODY_SIZE }
     ensures { Reads (λ r. r) result at.new (read_refresh_reply node request at.old) }
 {
     // No effect at run time: the proof reads here that what is left are bytes.
@@ -75,7 +77,7 @@ fn get_refresh_reply(
 /// The body of a refresh ask or of a reply, in bytes that are not more than a body may have.
 #[tactic(auto, unfolding(crate::specs::RefreshReading::read_refresh))]
 pub fn get_refresh(alloc: Global, at: &mut Cursor<'_>) -> Result<Frame, Refusal>
-    requires { length at.old.rest ≤ 16777216 }
+    requires { length at.old.rest ≤ MAX_BODY_SIZE }
     ensures { Reads (λ f. f) result at.new (read_refresh at.old) }
 {
     // No effect at run time: the proof reads here that what is left are bytes.

@@ -3,9 +3,11 @@ ghost use Rattle.std.specs.Prelude.{◌≡◌, ◌+◌, ◌≤◌, ◌&&◌, nat
 ghost use Rattle.pmg_value.specs.declared.refusal.Refusal.TheVariants as refusals;
 ghost use Rattle.pmg_commit.specs.Pieces.{entry_of, contribution, body_size};
 ghost use Rattle.pmg_frame.specs.Refreshing.{refresh_ask, refresh_reply, is_request, no_commits, is_refresh_reply, told_by};
+ghost use Rattle.pmg_commit.specs.declared.piece.TheConstants.{MAX_ENTRIES};
 
 use crate::asks::{CommitAsk, can_be_asked};
-use pmg_commit::{MAX_PIECE_SIZE, Piece, PieceEntry, entries_size};
+use crate::frame::MAX_BODY_SIZE;
+use pmg_commit::{Piece, PieceEntry, entries_size};
 use pmg_value::{NodeId, Proc, Refusal, copy_all};
 use std::alloc::{AllocError, Global};
 use std::marker::Model;
@@ -120,9 +122,9 @@ impl Model for RefreshReply {
 
 /// Whether the request has a number, and what is told a size, that a frame can hold.
 fn is_small(request: u64, size: usize) -> bool
-    ensures { result ≡ (is_request request && nat_le (13 + size) 16777216) }
+    ensures { result ≡ (is_request request && nat_le (13 + size) MAX_BODY_SIZE) }
 {
-    0 < request && size <= MAX_PIECE_SIZE - ASKER_SIZE
+    0 < request && size <= MAX_BODY_SIZE as usize - ASKER_SIZE
 }
 
 /// Whether a frame can tell the piece.
@@ -232,7 +234,7 @@ impl RefreshReply {
     pub fn entries(&self) -> &[PieceEntry]
         ensures value { map entry_of result.now ≡ self.now.told.entries }
         ensures reply { IsTrue (is_refresh_reply self.now) }
-        ensures few { length result.now ≤ 65536 }
+        ensures few { length result.now ≤ MAX_ENTRIES }
     {
         &self.entries
     }
@@ -240,7 +242,7 @@ impl RefreshReply {
     /// The bytes that it takes in a frame's body.
     pub fn size(&self) -> usize
         ensures value { result ≡ 13 + body_size self.now.told.proc self.now.told.entries }
-        ensures bound { result ≤ 16777216 }
+        ensures bound { result ≤ MAX_BODY_SIZE }
     {
         ASKER_SIZE + self.proc.nspace.as_bytes().len() + 25 + entries_size(self.entries())
     }

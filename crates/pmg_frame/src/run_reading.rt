@@ -35,11 +35,11 @@ fn get_part(
     count: usize,
     at: &mut Cursor<'_>,
 ) -> Result<(Proc, u32), Refusal>
-    requires { count ≤ 4096 }
+    requires { count ≤ MAX_PARTICIPANTS }
     ensures read { Reads (λ t. run t.0 t.1) result at.new (read_part (option_copied before.entry) count at.old) }
     ensures some { IfOk result (λ t. t.0.rank ≤ t.1) }
-    ensures last { IfOk result (λ t. t.1 ≤ 4095) }
-    ensures few { IfOk result (λ t. count + ranks_to t.1 t.0 ≤ 4096) }
+    ensures last { IfOk result (λ t. t.1 ≤ MAX_RANK) }
+    ensures few { IfOk result (λ t. count + ranks_to t.1 t.0 ≤ MAX_PARTICIPANTS) }
 {
     let start = at.offset();
     let first = get_proc(alloc, Admits::Clients, at)?;
@@ -61,7 +61,7 @@ fn get_part(
 // The processes with those of a run behind them.
 fn with_run(procs: Vec<Proc>, first: Proc, last: u32) -> Result<Vec<Proc>, AllocError>
     requires some { first.rank ≤ last }
-    requires last { last ≤ 4095 }
+    requires last { last ≤ MAX_RANK }
     ensures { IfOk result (λ ps. ps.items ≡ procs.items ++ items_of proc_ranks (run first last)) }
 {
     let mut procs = procs;
@@ -73,9 +73,9 @@ fn with_run(procs: Vec<Proc>, first: Proc, last: u32) -> Result<Vec<Proc>, Alloc
 
 #[tactic(auto, unfolding(crate::specs::RunReading::read_run))]
 fn get_run(alloc: Global, before: Vec<Proc>, at: &mut Cursor<'_>) -> Result<Vec<Proc>, Refusal>
-    requires { length before.items ≤ 4096 }
+    requires { length before.items ≤ MAX_PARTICIPANTS }
     ensures read { Reads (λ ps. ps.items) result at.new (read_run before.items at.old) }
-    ensures few { IfOk result (λ ps. length ps.items ≤ 4096) }
+    ensures few { IfOk result (λ ps. length ps.items ≤ MAX_PARTICIPANTS) }
 {
     let (first, last) = get_part(alloc, before.last(), before.len(), at)?;
     Ok(with_run(before, first, last)?)

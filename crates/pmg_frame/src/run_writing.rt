@@ -9,6 +9,7 @@ ghost use Rattle.pmg_frame.specs.Runs.{proc_ranks, run, runs_of, IsFirstRun};
 ghost use Rattle.pmg_frame.specs.Grammar.{IsName, IsFenceAsk};
 ghost use Rattle.pmg_frame.specs.RunSpelling.{run_spelling, short_name, short_fence_ask};
 ghost use Rattle.pmg_frame.specs.Versions.{head_spelling};
+ghost use Rattle.pmg_frame.specs.declared.signature.TheConstants.{MAX_PARTICIPANTS};
 
 use crate::asks::FenceAsk;
 use crate::fence_name::FenceName;
@@ -41,11 +42,11 @@ fn goes_to(first: &Proc, procs: &[Proc], distance: usize) -> bool
 
 // How far the first run goes at least, and how far behind that it has ended.
 fn far_ends(first: &Proc, procs: &[Proc]) -> (usize, usize)
-    requires few { length procs.now ≤ 4096 }
+    requires few { length procs.now ≤ MAX_PARTICIPANTS }
     requires first { slice_get procs.now 0 ≡ Some first.now }
     ensures goes { slice_get procs.now result.0 ≡ Some (proc_ranks.at first.now (first.now.rank + result.0)) }
     ensures ends { slice_get procs.now (result.0 + result.1) ≡ Some (proc_ranks.at first.now (first.now.rank + (result.0 + result.1))) → ⊥ }
-    ensures step { (1 ≤ result.1) × (result.1 ≤ 4096) }
+    ensures step { (1 ≤ result.1) × (result.1 ≤ MAX_PARTICIPANTS) }
 {
     let mut known = 0;
     let mut step = 1;
@@ -59,7 +60,7 @@ fn far_ends(first: &Proc, procs: &[Proc]) -> (usize, usize)
 // How many of the processes are their first run. It looks at few of them, as they rise.
 fn first_run(procs: &[Proc]) -> usize
     requires some { 1 ≤ length procs.now }
-    requires few { length procs.now ≤ 4096 }
+    requires few { length procs.now ≤ MAX_PARTICIPANTS }
     requires rising { IsStrictlySortedBy proc_cmp procs.now }
     ensures some { 1 ≤ result }
     ensures within { result ≤ length procs.now }
@@ -88,7 +89,7 @@ fn put_run(out: &mut BytesMut, first: &Proc, last: u32) -> Result<(), AllocError
 }
 
 fn put_runs(out: &mut BytesMut, procs: &[Proc]) -> Result<(), AllocError>
-    requires few { length procs.now ≤ 4096 }
+    requires few { length procs.now ≤ MAX_PARTICIPANTS }
     requires rising { IsStrictlySortedBy proc_cmp procs.now }
     ensures bytes { OnOk result (out.new.items ≡ out.old.items ++ flat_map run_spelling (runs_of proc_ranks procs.now)) }
     ensures names { OnOk result (IsTrue (list_all (λ r. is_nspace r.first.nspace) (runs_of proc_ranks procs.now))) }
@@ -104,11 +105,11 @@ fn put_runs(out: &mut BytesMut, procs: &[Proc]) -> Result<(), AllocError>
 
 /// How many runs there are of these processes, and the bytes that they take in a frame.
 fn runs_size(procs: &[Proc]) -> (usize, usize)
-    requires few { length procs.now ≤ 4096 }
+    requires few { length procs.now ≤ MAX_PARTICIPANTS }
     requires rising { IsStrictlySortedBy proc_cmp procs.now }
     ensures count { result.0 ≡ length (runs_of proc_ranks procs.now) }
     ensures size { result.1 ≡ length (flat_map run_spelling (runs_of proc_ranks procs.now)) }
-    ensures few { result.0 ≤ 4096 }
+    ensures few { result.0 ≤ MAX_PARTICIPANTS }
     ensures bound { result.1 ≤ 1081344 }
 {
     let mut count = 0;

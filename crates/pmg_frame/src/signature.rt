@@ -98,7 +98,7 @@ impl Signature {
         ensures value { result.now ≡ in_order self.now.participants }
         ensures clients { IsTrue (list_all is_client result.now) }
         ensures some { 1 ≤ length result.now }
-        ensures few { length result.now ≤ 4096 }
+        ensures few { length result.now ≤ MAX_PARTICIPANTS }
     {
         &self.participants
     }

@@ -1,6 +1,6 @@
-ghost use Rattle.std.specs.Prelude.{◌≡◌, ◌↔◌, ◌+◌, ◌<◌, ◌≤◌, ◌^◌, [], None, Some, Err, length, drop, IfOk, IfErr, OnErr};
+ghost use Rattle.std.specs.Prelude.{◌≡◌, ◌↔◌, ◌+◌, ◌<◌, ◌≤◌, ◌^◌, [], None, Some, Err, not, is_some, length, drop, IfOk, IfErr, OnErr};
 ghost use Rattle.pmg_value.specs.declared.refusal.Refusal.TheVariants as refusals;
-ghost use Rattle.pmg_frame.specs.Streams.{Runs, StopsAt, FeedsOpen, IsPastEnd, IsFeedRefusal, finished};
+ghost use Rattle.pmg_frame.specs.Streams.{FramesFollow, StopsAt, FeedsOpen, IsPastEnd, IsFeedRefusal, finished};
 
 use crate::frame::Frame;
 use crate::reading::get_frame;
@@ -23,6 +23,16 @@ impl Drop for Fed {
             frames: _,
             fault: _,
         } = self;
+    }
+}
+
+impl Fed {
+    /// The frames, and the fault after them.
+    pub fn into_parts(self) -> (Vec<Frame>, Option<Fault>)
+        ensures { result ≡ (self.frames, self.fault) }
+    {
+        let Fed { frames, fault } = self;
+        (frames, fault)
     }
 }
 
@@ -49,7 +59,7 @@ impl Model for Stream {
 
 // The whole frames from a place on, and why they stop.
 fn get_frames(alloc: Global, at: &mut Cursor<'_>) -> Result<Fed, Refusal>
-    ensures runs { IfOk result (λ fed. Runs at.old fed.frames.items at.new) }
+    ensures runs { IfOk result (λ fed. FramesFollow at.old fed.frames.items at.new) }
     ensures stops { IfOk result (λ fed. StopsAt at.new fed.fault) }
     ensures err { IfErr result (λ e. e ≡ refusals.NoMemory) }
 {
@@ -77,7 +87,7 @@ fn get_frames(alloc: Global, at: &mut Cursor<'_>) -> Result<Fed, Refusal>
 // The whole frames in the bytes from that offset on, why they stop, and how many bytes they take.
 fn frames_in(alloc: Global, offset: u64, held: &[u8]) -> Result<(Fed, usize), Refusal>
     requires { offset + length held.now < 2 ^ 64 }
-    ensures runs { IfOk result (λ found. Runs (record { offset = offset; rest = held.now }) found.0.frames.items
+    ensures runs { IfOk result (λ found. FramesFollow (record { offset = offset; rest = held.now }) found.0.frames.items
         (record { offset = offset + found.1; rest = drop found.1 held.now })) }
     ensures stops { IfOk result (λ found. StopsAt (record { offset = offset + found.1; rest = drop found.1 held.now }) found.0.fault) }
     ensures used { IfOk result (λ found. found.1 ≤ length held.now) }
@@ -100,6 +110,13 @@ impl Stream {
             offset: 0,
             is_closed: false,
         }
+    }
+
+    /// Whether it is closed, as it is after a fault.
+    pub fn is_closed(&self) -> bool
+        ensures { result ≡ not (is_some self.now) }
+    {
+        self.is_closed
     }
 
     /// Takes the next bytes of the stream, and gives the frames that are whole now, and the fault after

@@ -11,6 +11,10 @@ ghost use Rattle.pmg_frame.specs.Grammar.{IsEntry, AreEntries, IsName, IsHeader,
 ghost use Rattle.pmg_frame.specs.Refreshing.{is_request};
 ghost use Rattle.pmg_frame.specs.Spelling.{entry_spelling, piece_body, flag_spelling, procs_spelling, name_spelling, local_spelling, header_body, fence_ask_body, commit_ask_body, asker_spelling, refresh_ask_body, refresh_reply_body};
 ghost use Rattle.pmg_frame.specs.Versions.{head_spelling, frame_spelling};
+ghost use Rattle.pmg_frame.specs.declared.signature.TheConstants.{MAX_PARTICIPANTS};
+ghost use Rattle.pmg_value.specs.declared.process.TheConstants.{MAX_NODE};
+ghost use Rattle.pmg_frame.specs.declared.frame.TheConstants.{MAX_BODY_SIZE};
+ghost use Rattle.pmg_commit.specs.declared.piece.TheConstants.{MAX_ENTRIES};
 
 use crate::asks::{CommitAsk, FenceAsk};
 use crate::fence_name::FenceName;
@@ -36,7 +40,7 @@ pub fn put_head(out: &mut BytesMut, version: u8, kind: u8, len: u32) -> Result<(
 pub fn encode_piece(alloc: Global, version: u8, piece: &Piece) -> Result<BytesMut, AllocError>
     ensures bytes { IfOk result (λ out. out.items ≡ frame_spelling version (frames.Piece piece.now)) }
     ensures valid { OnOk result (IsFrame (frames.Piece piece.now)) }
-    ensures small { OnOk result (length (piece_body piece.now) ≤ 16777216) }
+    ensures small { OnOk result (length (piece_body piece.now) ≤ MAX_BODY_SIZE) }
 {
     let size = piece.size();
     let mut out = BytesMut::with_capacity(alloc, HEAD_SIZE + size)?;
@@ -58,7 +62,7 @@ fn put_told(
     to: u64,
     entries: &[PieceEntry],
 ) -> Result<(), AllocError>
-    requires { length entries.now ≤ 65536 }
+    requires { length entries.now ≤ MAX_ENTRIES }
     ensures bytes { OnOk result (out.new.items ≡ out.old.items ++ piece_body (contribution proc.now from to entries.now)) }
     ensures name { OnOk result (IsTrue (is_nspace proc.now.nspace)) }
     ensures entries { OnOk result (AreEntries (map entry_of entries.now)) }
@@ -99,7 +103,7 @@ pub fn proc_size(proc: &Proc) -> usize
 
 /// The bytes that these processes take in a frame.
 fn procs_size(procs: &[Proc]) -> usize
-    requires { length procs.now ≤ 4096 }
+    requires { length procs.now ≤ MAX_PARTICIPANTS }
     ensures value { result ≡ length (flat_map proc_spelling procs.now) }
     ensures bound { result ≤ 1064960 }
 {
@@ -112,7 +116,7 @@ fn procs_size(procs: &[Proc]) -> usize
 
 /// The bytes that these take in a frame.
 fn locals_size(locals: &[Local]) -> usize
-    requires { length locals.now ≤ 4096 }
+    requires { length locals.now ≤ MAX_PARTICIPANTS }
     ensures value { result ≡ length (flat_map local_spelling locals.now) }
     ensures bound { result ≤ 1101824 }
 {
@@ -140,7 +144,7 @@ pub fn put_flag(out: &mut BytesMut, flag: bool) -> Result<(), AllocError>
 
 pub fn put_node(out: &mut BytesMut, node: NodeId) -> Result<(), AllocError>
     ensures bytes { OnOk result (out.new.items ≡ out.old.items ++ to_be_bytes w32 node) }
-    ensures bound { node ≤ 63 }
+    ensures bound { node ≤ MAX_NODE }
 {
     out.extend_from_slice(&node.index().to_be_bytes())
 }
@@ -282,7 +286,7 @@ pub fn encode_commit_ask(
 
 fn put_asker(out: &mut BytesMut, node: NodeId, request: u64, role: bool) -> Result<(), AllocError>
     ensures bytes { OnOk result (out.new.items ≡ out.old.items ++ asker_spelling node request role) }
-    ensures bound { node ≤ 63 }
+    ensures bound { node ≤ MAX_NODE }
 {
     put_node(out, node)?;
     out.extend_from_slice(&request.to_be_bytes())?;
@@ -329,7 +333,7 @@ pub fn encode_refresh_reply(
 ) -> Result<BytesMut, AllocError>
     ensures bytes { IfOk result (λ out. out.items ≡ frame_spelling version (frames.RefreshReply reply.now)) }
     ensures valid { OnOk result (IsFrame (frames.RefreshReply reply.now)) }
-    ensures small { OnOk result (length (refresh_reply_body reply.now) ≤ 16777216) }
+    ensures small { OnOk result (length (refresh_reply_body reply.now) ≤ MAX_BODY_SIZE) }
 {
     let size = reply.size();
     let mut out = BytesMut::with_capacity(alloc, HEAD_SIZE + size)?;

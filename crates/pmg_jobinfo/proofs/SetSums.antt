@@ -10,7 +10,7 @@ use Rattle.std.specs.Ordering.{is_lt, is_eq, eq_by_cmp}
 use Rattle.std.specs.declared.cmp.Ordering.{Ordering}
 use Rattle.std.specs.declared.cmp.Ordering.TheVariants.{Less, Equal, Greater}
 use Rattle.std.proofs.lemmas.List.Sums.{sum_by-cons}
-use Rattle.pmg_value.specs.InOrder.{marked, in_order}
+use Rattle.pmg_value.specs.InOrder.{as_entries, in_order}
 use Rattle.pmg_value.proofs.SetOrder.{any_in_order, in_order-from_list}
 
 t_first : (a b : Bool) → T (a && b) → T a
@@ -101,7 +101,7 @@ module _ {K : Type 0} {R : K → K → Ordering} (o : IsTotalOrder R) (exact : s
 
   -- a set, as a map that has nothing at each item
   abbrev marks_of : set.FinSet R → finite.FinMap R (Unit {0})
-  marks_of s = finite.from_entries {R = R} (marked (set.items s))
+  marks_of s = finite.from_entries {R = R} (as_entries (set.items s))
 
   has_mark : (s : set.FinSet R) (q : K) → is_some (finite.get (marks_of s) q) ≡ set.contains s q
   has_mark s q = finite.contains_key-keys (marks_of s) q ∙ any_in_order o s q

@@ -1,20 +1,20 @@
 -- The processes that a list of processes stands for.
-use Rattle.std.specs.Prelude.{ℕ, Bool, ◌==◌, ◌+◌, List, [], ◌∷◌, map, length, if◌then◌else◌}
+use Rattle.std.specs.Prelude.{ℕ, Bool, ◌+◌, List, [], ◌∷◌, map, length, if◌then◌else◌}
 use Rattle.std.specs.List.{flat_map, range_with_len, sum_by}
 use Rattle.std.specs.FinSet as set
 use Rattle.std.specs.Ordering.{is_lt}
 use Rattle.pmg_value.specs.declared.process.Proc.{Proc}
 use Rattle.pmg_value.specs.InOrder.{in_order}
-use Rattle.pmg_value.specs.Process.{proc_cmp}
+use Rattle.pmg_value.specs.Process.{proc_cmp, is_undef, is_wildcard}
 use Rattle.pmg_jobinfo.specs.Jobs.{Jobs, size_of}
 
 -- no rank is named (PMIX_RANK_UNDEF)
 abbrev pub is_undefined : Proc → Bool
-is_undefined p = p.rank == 4294967295
+is_undefined p = is_undef p.rank
 
 -- all processes of the namespace are meant (PMIX_RANK_WILDCARD)
 abbrev pub is_all : Proc → Bool
-is_all p = p.rank == 4294967294
+is_all p = is_wildcard p.rank
 
 -- the one process comes before the other: by namespace, then by rank
 abbrev pub is_before : Proc → Proc → Bool

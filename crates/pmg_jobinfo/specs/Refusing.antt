@@ -13,6 +13,7 @@ use Rattle.pmg_value.specs.Process.{is_host}
 use Rattle.pmg_jobinfo.specs.Jobs.{Jobs, is_node, is_registered, is_member}
 use Rattle.pmg_jobinfo.specs.Expansion.{is_all, is_undefined}
 use Rattle.pmg_jobinfo.specs.Reserved.{is_general, reserved_value}
+use Rattle.pmg_jobinfo.specs.declared.registry.TheConstants.{MAX_NODES, MAX_RANKS, MAX_SPACES}
 
 -- there are as many different names as names: no two are equal
 abbrev pub are_distinct : List (List ℕ) → Bool
@@ -25,14 +26,14 @@ are_names names = list_all is_nspace names && are_distinct names
 -- a new registry: some node has to be there, and at most 64
 abbrev pub new_cause : List (List ℕ) → Refusal → Bool
 new_cause names refusals.BadParam = (length names == 0) || not (are_names names)
-new_cause names refusals.TooMany = nat_lt 64 (length names)
+new_cause names refusals.TooMany = nat_lt MAX_NODES (length names)
 new_cause names _ = false
 
 -- a registration: no name that begins with `pmix`, some rank, each at home at a node; at most 4096 ranks, and 16 namespaces
 abbrev pub register_cause : Jobs → List ℕ → List ℕ → Refusal → Bool
 register_cause jobs name homes refusals.BadParam = is_reserved name || ((length homes == 0) || not (list_all (is_node jobs) homes))
 register_cause jobs name homes refusals.Exists = is_registered jobs name
-register_cause jobs name homes refusals.TooMany = nat_lt 4096 (length homes) || nat_le 16 (map.len jobs.spaces)
+register_cause jobs name homes refusals.TooMany = nat_lt MAX_RANKS (length homes) || nat_le MAX_SPACES (map.len jobs.spaces)
 register_cause jobs name homes _ = false
 
 -- a size

@@ -12,6 +12,7 @@ ghost use Rattle.pmg_value.specs.declared.process.Proc.{Proc};
 ghost use Rattle.pmg_jobinfo.specs.Expansion.{is_before, members, meant, expansion};
 ghost use Rattle.pmg_jobinfo.specs.Jobs.{size_of, is_registered};
 ghost use Rattle.pmg_jobinfo.specs.Refusing.{is_bad, expand_cause};
+ghost use Rattle.pmg_jobinfo.specs.declared.registry.TheConstants.{MAX_RANKS};
 
 use crate::registry::Registry;
 use pmg_value::{Nspace, Proc, Rank, Refusal};
@@ -101,7 +102,7 @@ impl Registry {
     /// How many processes the namespace has, 0 where it is not registered.
     pub(crate) fn count(&self, nspace: &Nspace) -> u32
         ensures value { result ≡ size_of self.now nspace.now }
-        ensures bound { result ≤ 4096 }
+        ensures bound { result ≤ MAX_RANKS }
     {
         match self.homes(nspace) {
             Some(homes) => homes.len() as u32,

@@ -8,6 +8,7 @@ ghost use Rattle.std.proofs.lemmas.Cmp.{eq_by_cmp_equiv};
 ghost use Rattle.pmg_jobinfo.specs.Expansion.{ranks};
 ghost use Rattle.pmg_jobinfo.specs.Procs.{procs_of};
 ghost use Rattle.pmg_jobinfo.specs.Reserved.{count_at, count_hosts, ranks_at, peers_text};
+ghost use Rattle.pmg_jobinfo.specs.declared.registry.TheConstants.{MAX_NODES, MAX_RANKS};
 
 use pmg_value::{Copied, NodeId, Nspace, Proc, Rank, Text, push_number};
 use std::alloc::{AllocError, Global};
@@ -27,14 +28,15 @@ impl Model for Homes {
     ghost view = { λ a. a.nodes.items };
 
     ghost use Rattle.std.specs.Prelude.{◌≤◌, length};
+    ghost use Rattle.pmg_jobinfo.specs.declared.registry.TheConstants.{MAX_RANKS};
 
-    ghost invariant = { λ a. length a.nodes.items ≤ 4096 };
+    ghost invariant = { λ a. length a.nodes.items ≤ MAX_RANKS };
 }
 
 impl Homes {
     /// These homes, at most 4,096.
     pub fn new(alloc: Global, homes: &[NodeId]) -> Result<Homes, AllocError>
-        requires { length homes.now ≤ 4096 }
+        requires { length homes.now ≤ MAX_RANKS }
         ensures { IfOk result (λ h. h ≡ homes.now) }
     {
         let mut nodes = Vec::with_capacity(alloc, homes.len())?;
@@ -45,7 +47,7 @@ impl Homes {
     /// The homes.
     pub fn as_slice(&self) -> &[NodeId]
         ensures value { result.now ≡ self.now }
-        ensures few { length result.now ≤ 4096 }
+        ensures few { length result.now ≤ MAX_RANKS }
     {
         self.nodes.as_slice()
     }
@@ -101,7 +103,7 @@ fn is_host(homes: &[NodeId], node: usize) -> bool
 /// How many of so many nodes are the home of a rank.
 #[tactic(auto, using(crate::proofs::HomeLemmas::node_counted, crate::proofs::HomeLemmas::node_passed))]
 pub fn count_hosts(homes: &[NodeId], nodes: usize) -> usize
-    requires { nodes ≤ 64 }
+    requires { nodes ≤ MAX_NODES }
     ensures value { result ≡ count_hosts nodes homes.now }
     ensures bound { result ≤ nodes }
 {
@@ -117,7 +119,7 @@ pub fn count_hosts(homes: &[NodeId], nodes: usize) -> usize
 /// The ranks at home at the node, rising.
 #[tactic(auto, using(crate::proofs::HomeLemmas::rank_taken, crate::proofs::HomeLemmas::rank_left))]
 pub fn ranks_at(alloc: Global, homes: &[NodeId], node: NodeId) -> Result<Vec<u32>, AllocError>
-    requires { length homes.now ≤ 4096 }
+    requires { length homes.now ≤ MAX_RANKS }
     ensures { IfOk result (λ ranks. ranks.items ≡ ranks_at node homes.now) }
 {
     let mut ranks = Vec::new(alloc);
@@ -158,7 +160,7 @@ fn push_next(text: &mut Vec<u8>, number: u32) -> Result<(), AllocError>
 }
 
 /// The ranks in decimal, with commas between them.
-fn joined(alloc: Global, ranks: &[u32]) -> Result<Vec<u8>, AllocError>
+fn join_ranks(alloc: Global, ranks: &[u32]) -> Result<Vec<u8>, AllocError>
     ensures { IfOk result (λ text. text.items ≡ join_by decimal (codes ",") ranks.now) }
 {
     let mut text = Vec::new(alloc);
@@ -174,10 +176,10 @@ fn joined(alloc: Global, ranks: &[u32]) -> Result<Vec<u8>, AllocError>
 
 /// The ranks at home at the node, rising, in decimal, with commas between them.
 pub fn peers_at(alloc: Global, homes: &[NodeId], node: NodeId) -> Result<Text, AllocError>
-    requires { length homes.now ≤ 4096 }
+    requires { length homes.now ≤ MAX_RANKS }
     ensures { IfOk result (λ text. text ≡ peers_text node homes.now) }
 {
     let ranks = ranks_at(alloc, homes, node)?;
-    let text = joined(alloc, &ranks)?;
+    let text = join_ranks(alloc, &ranks)?;
     Text::from_text(alloc, &text)
 }

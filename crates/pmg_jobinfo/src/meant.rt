@@ -6,6 +6,7 @@ ghost use Rattle.std.specs.Ordering.{eq_by_cmp};
 ghost use Rattle.pmg_value.specs.Process.{proc_cmp};
 ghost use Rattle.pmg_jobinfo.specs.Expansion.{ranks, meant, expansion, expansion_size};
 ghost use Rattle.pmg_jobinfo.specs.Jobs.{size_of};
+ghost use Rattle.pmg_jobinfo.specs.declared.registry.TheConstants.{MAX_RANKS};
 
 use crate::registry::Registry;
 use pmg_value::{Nspace, Proc, Rank};
@@ -66,7 +67,7 @@ impl Registry {
     /// How many of those for whom the process stands are not among those for whom the list stands.
     fn count_new(&self, proc: &Proc, list: &[Proc]) -> usize
         ensures value { result ≡ count_by (λ q. not (set.contains (expansion self.now list.now) q)) (meant self.now proc.now) }
-        ensures bound { result ≤ 4096 }
+        ensures bound { result ≤ MAX_RANKS }
     {
         if proc.rank.is_wildcard() {
             return self.count_new_ranks(&proc.nspace, list);
@@ -80,7 +81,7 @@ impl Registry {
     /// How many processes of the namespace are not among those for whom the list stands.
     fn count_new_ranks(&self, nspace: &Nspace, list: &[Proc]) -> usize
         ensures value { result ≡ count_by (λ rank. not (set.contains (expansion self.now list.now) (record { nspace = nspace.now; rank = rank }))) (ranks (size_of self.now nspace.now)) }
-        ensures bound { result ≤ 4096 }
+        ensures bound { result ≤ MAX_RANKS }
     {
         let mut count = 0;
         for rank in 0..self.count(nspace) {
@@ -94,9 +95,9 @@ impl Registry {
     /// How many bytes the processes for whom the list stands have in an array, each once: one of length, the namespace,
     /// and four of rank. They may be 4,096 at most. It takes no memory, and as much time as their count.
     pub fn size_meant(&self, list: &[Proc]) -> usize
-        requires { set.len (expansion self.now list.now) ≤ 4096 }
+        requires { set.len (expansion self.now list.now) ≤ MAX_RANKS }
         ensures value { result ≡ expansion_size self.now list.now }
-        ensures bound { result ≤ 260 * 4096 }
+        ensures bound { result ≤ 260 * MAX_RANKS }
     {
         let mut size = 0;
         for (i, proc) in list.iter().enumerate() {

@@ -7,6 +7,7 @@ ghost use Rattle.pmg_value.specs.declared.value.Value.TheVariants as values;
 ghost use Rattle.pmg_jobinfo.specs.Jobs.{homes_of};
 ghost use Rattle.pmg_jobinfo.specs.Refusing.{reserved_cause};
 ghost use Rattle.pmg_jobinfo.specs.Reserved.{key_name, key_of, count_at, is_general, value_of_key, reserved_value};
+ghost use Rattle.pmg_jobinfo.specs.declared.registry.TheConstants.{MAX_RANKS};
 
 use crate::homes::{count_at, count_hosts, peers_at};
 use crate::registry::Registry;
@@ -127,7 +128,7 @@ impl Registry {
         homes: &[NodeId],
     ) -> Result<Value, Refusal>
         requires homes { homes.now ≡ homes_of self.now proc.now.nspace }
-        requires few { length homes.now ≤ 4096 }
+        requires few { length homes.now ≤ MAX_RANKS }
         requires node { node < length self.now.nodes }
         requires member { is_general proc.now ≡ false → proc.now.rank < length homes.now }
         ensures { let value = value_of_key key self.now node proc.now in Gives Some result (if is_none value then Err refusals.NotFound else Ok value) }
@@ -159,7 +160,7 @@ fn rank_of(proc: &Proc) -> Result<Value, Refusal>
 
 /// How many of the lower ranks are at home at the node. Refused as NotFound where no particular rank is named.
 fn local_rank(proc: &Proc, node: NodeId, homes: &[NodeId]) -> Result<Value, Refusal>
-    requires few { length homes.now ≤ 4096 }
+    requires few { length homes.now ≤ MAX_RANKS }
     requires member { is_general proc.now ≡ false → proc.now.rank < length homes.now }
     ensures { result ≡ (if is_general proc.now then Err refusals.NotFound else Ok (values.U16 (count_at node (take proc.now.rank homes.now)))) }
 {

@@ -20,8 +20,8 @@ abbrev pub meant_by : {K J M : Type 0} → (K → K → Ordering) → (J → M) 
 meant_by R meaning entries key = option_map meaning (lookup (is_at (R key)) entries)
 
 -- what a map has at a key, by its meaning
-abbrev pub meant : {K J M : Type 0} → (K → K → Ordering) → (J → M) → BTreeMap K J → K → Option M
-meant R meaning table key = meant_by R meaning table.entries key
+abbrev pub meant_at : {K J M : Type 0} → (K → K → Ordering) → (J → M) → BTreeMap K J → K → Option M
+meant_at R meaning table key = meant_by R meaning table.entries key
 
 -- two maps joined: at each key the values of both, joined
 abbrev pub join_at_keys : {K M : Type 0} → (M → M → M) → (K → Option M) → (K → Option M) → K → Option M

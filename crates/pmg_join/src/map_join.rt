@@ -1,6 +1,6 @@
 ghost use Rattle.std.specs.Prelude.{◌≡◌, None, OnOk, OnErr, IfOk, IfErr};
 ghost use Rattle.std.specs.Option.{option_map};
-ghost use Rattle.pmg_join.specs.Maps.{meant, join_at_keys, joined_under};
+ghost use Rattle.pmg_join.specs.Maps.{meant_at, join_at_keys, joined_under};
 
 use crate::element::Element;
 use crate::join::Join;
@@ -17,7 +17,7 @@ pub struct MapJoin<K: Element, J: Join> {
 impl<K: Element, J: Join> MapJoin<K, J> {
     /// A map with no keys. It keeps the allocator.
     pub fn new(alloc: Global) -> MapJoin<K, J>
-        ensures { (key : K) → meant K.cmp J.meaning result.table key ≡ None }
+        ensures { (key : K) → meant_at K.cmp J.meaning result.table key ≡ None }
     {
         MapJoin {
             alloc,
@@ -27,7 +27,7 @@ impl<K: Element, J: Join> MapJoin<K, J> {
 
     /// What is under the key.
     pub fn get(&self, key: &K) -> Option<&J>
-        ensures { option_map (λ part. J.meaning part.now) result ≡ meant K.cmp J.meaning self.now.table key.now }
+        ensures { option_map (λ part. J.meaning part.now) result ≡ meant_at K.cmp J.meaning self.now.table key.now }
     {
         self.table.get(key)
     }
@@ -35,9 +35,9 @@ impl<K: Element, J: Join> MapJoin<K, J> {
     /// Joins the part into what is under the key, or puts it there. Where an allocation fails, the map keeps its
     /// meaning, and both are handed back.
     pub fn put(&mut self, key: K, part: J) -> Result<(), AllocFailed<(K, J)>>
-        ensures ok { OnOk result ((q : K) → meant K.cmp J.meaning self.new.table q
-            ≡ joined_under K.cmp J.joined (meant K.cmp J.meaning self.old.table) key (J.meaning part) q) }
-        ensures err { OnErr result ((q : K) → meant K.cmp J.meaning self.new.table q ≡ meant K.cmp J.meaning self.old.table q) }
+        ensures ok { OnOk result ((q : K) → meant_at K.cmp J.meaning self.new.table q
+            ≡ joined_under K.cmp J.joined (meant_at K.cmp J.meaning self.old.table) key (J.meaning part) q) }
+        ensures err { OnErr result ((q : K) → meant_at K.cmp J.meaning self.new.table q ≡ meant_at K.cmp J.meaning self.old.table q) }
         ensures key_handed_back { IfErr result (λ e. e.value.0 ≡ key) }
         ensures part_handed_back { IfErr result (λ e. J.meaning e.value.1 ≡ J.meaning part) }
     {
@@ -59,8 +59,8 @@ fn join_copies<K: Element, J: Join>(
     map: &mut MapJoin<K, J>,
     other: &MapJoin<K, J>,
 ) -> Result<(), AllocError>
-    ensures { OnOk result (meant K.cmp J.meaning map.new.table
-        ≡ join_at_keys J.joined (meant K.cmp J.meaning map.old.table) (meant K.cmp J.meaning other.now.table)) }
+    ensures { OnOk result (meant_at K.cmp J.meaning map.new.table
+        ≡ join_at_keys J.joined (meant_at K.cmp J.meaning map.old.table) (meant_at K.cmp J.meaning other.now.table)) }
 {
     for (key, part) in other.table.iter() {
         if let Err(_) = map.put(key.copy()?, part.copy()?) {
@@ -72,11 +72,11 @@ fn join_copies<K: Element, J: Join>(
 
 impl<K: Element, J: Join> Join for MapJoin<K, J> {
     ghost use Rattle.std.specs.Prelude.{Option};
-    ghost use Rattle.pmg_join.specs.Maps.{meant, join_at_keys, WithinAtKeys, functions_joined, functions_ordered};
+    ghost use Rattle.pmg_join.specs.Maps.{meant_at, join_at_keys, WithinAtKeys, functions_joined, functions_ordered};
 
     ghost Meaning = { K → Option J.Meaning };
 
-    ghost meaning = { λ m. meant K.cmp J.meaning m.table };
+    ghost meaning = { λ m. meant_at K.cmp J.meaning m.table };
 
     ghost joined = { join_at_keys J.joined };
 

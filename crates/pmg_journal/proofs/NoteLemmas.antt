@@ -6,7 +6,7 @@ use Rattle.pmg_value.specs.declared.refusal.Refusal.{Refusal}
 use Rattle.pmg_value.specs.declared.refusal.Refusal.TheVariants as refusals
 use Rattle.pmg_scope.specs.Cached.{Cached, no_puts, with_put}
 use Rattle.pmg_scope.specs.declared.scope.Scope.{Scope}
-use Rattle.pmg_rules.specs.Acts.{Reply}
+use Rattle.pmg_node_model.specs.Acts.{Reply}
 use Rattle.pmg_journal.specs.Transcripts.{Calling, Noted, NotesCall, cached_after, cached_by, noted, noted_of, waits_after, waits_by}
 use Rattle.pmg_journal.specs.declared.transcript.Called.{Called}
 

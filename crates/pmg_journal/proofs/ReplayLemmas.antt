@@ -1,8 +1,8 @@
 -- A replay with one event more.
 use Rattle.std.proofs.Common.{◌≡◌, List, [], ◌∷◌, ◌++◌, refl, sym, ap, ◌∙◌}
 use Rattle.std.proofs.lemmas.List.{append-nil, append_assoc}
-use Rattle.pmg_rules.specs.Acts.{Act, Reply}
-use Rattle.pmg_rules.specs.declared.sent.Sent.{Sent}
+use Rattle.pmg_node_model.specs.Acts.{Act, Reply}
+use Rattle.pmg_node_model.specs.declared.sent.Sent.{Sent}
 use Rattle.pmg_node.specs.Servers.{Server, after, reply_to, sent_by}
 use Rattle.pmg_journal.specs.Replays.{Happening, IsReplay, after_all, happening, sent_over}
 

@@ -19,8 +19,8 @@ abbrev pub happening_of : Event → Happening
 happening_of e = happened e.act e.answer
 
 -- what the journal tells
-abbrev pub told_in : Journal → List Happening
-told_in j = map happening_of j.events.items
+abbrev pub happened_in : Journal → List Happening
+happened_in j = map happening_of j.events.items
 
 -- the node of the journal, before all that it tells
 abbrev pub start_of : Journal → Server
@@ -28,7 +28,7 @@ start_of j = new_server j.registry j.node
 
 -- what the journal tells is a replay
 abbrev pub IsJournal : Journal → Type 0
-IsJournal j = IsReplay (start_of j) (told_in j)
+IsJournal j = IsReplay (start_of j) (happened_in j)
 
 -- an allocation failed
 abbrev pub is_memory : Refusal → Bool

@@ -5,7 +5,7 @@ use Rattle.pmg_value.specs.declared.refusal.Refusal.{Refusal}
 use Rattle.pmg_value.specs.declared.refusal.Refusal.TheVariants as refusals
 use Rattle.pmg_scope.specs.Cached.{Cached, after_commit, put_cause, with_put}
 use Rattle.pmg_scope.specs.declared.scope.Scope.{Scope}
-use Rattle.pmg_rules.specs.Acts.{Reply, Request}
+use Rattle.pmg_node_model.specs.Acts.{Reply, Request}
 use Rattle.pmg_node.specs.Acting.{reply_as, request_of}
 use Rattle.pmg_node.specs.Servers.{reply_in}
 use Rattle.pmg_journal.specs.declared.transcript.Call.{Call}

@@ -2,7 +2,7 @@
 ghost use Rattle.std.specs.Prelude.{◌≡◌, ◌<◌, ◌∷◌, ◌++◌, [], IfOk, OnOk, vec_capacity, vec_len};
 ghost use Rattle.pmg_node.specs.Acting.{act_of, reply_as};
 ghost use Rattle.pmg_node.specs.Servers.{reply_in};
-ghost use Rattle.pmg_journal.specs.Journals.{happened, told_in};
+ghost use Rattle.pmg_journal.specs.Journals.{happened, happened_in};
 
 use pmg_jobinfo::Registry;
 use pmg_node::{Act, Reply};
@@ -93,7 +93,7 @@ impl Journal {
         requires place { vec_len self.old.events < vec_capacity self.old.events }
         ensures node { self.new.node ≡ self.old.node }
         ensures registry { self.new.registry ≡ self.old.registry }
-        ensures events { told_in self.new ≡ told_in self.old ++ happened act answer ∷ [] }
+        ensures events { happened_in self.new ≡ happened_in self.old ++ happened act answer ∷ [] }
     {
         self.events.push_reserved(Event { act, answer });
     }

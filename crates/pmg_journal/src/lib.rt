@@ -6,5 +6,5 @@ mod notes;
 mod transcript;
 
 pub use journal::{Event, Journal, copy_of_act, copy_of_answer};
-pub use notes::{Notes, Twice};
+pub use notes::{AnswerCopies, ClientLog};
 pub use transcript::{Call, Called, Transcript};

@@ -8,7 +8,7 @@ ghost use Rattle.pmg_value.specs.Names.{is_reserved};
 ghost use Rattle.pmg_scope.specs.Cached.{no_puts, unsealed_of, with_put};
 ghost use Rattle.pmg_scope.specs.Scopes.{reaches};
 ghost use Rattle.pmg_scope.specs.declared.scope.Reach.TheVariants as reach;
-ghost use Rattle.pmg_rules.specs.Acts.{Reply as ModelReply};
+ghost use Rattle.pmg_node_model.specs.Acts.{Reply as ModelReply};
 ghost use Rattle.pmg_node.specs.Acting.{reply_as};
 ghost use Rattle.pmg_node.specs.Servers.{reply_in};
 ghost use Rattle.pmg_journal.specs.Journals.{IsEvent};
@@ -23,7 +23,7 @@ use std::marker::Model;
 
 /// The answer to an act, for who asked and for its transcript.
 #[derive(Drop)]
-pub struct Twice {
+pub struct AnswerCopies {
     /// For who asked.
     pub told: Result<Reply, Refusal>,
     /// For its transcript.
@@ -31,15 +31,15 @@ pub struct Twice {
 }
 
 /// A client's transcript, with what follows from it: what the client put, and whether a call of it waits.
-pub struct Notes {
+pub struct ClientLog {
     transcript: Transcript,
     cache: Cache,
     in_call: bool,
 }
 
-impl Drop for Notes {
+impl Drop for ClientLog {
     fn drop(self) {
-        let Notes {
+        let ClientLog {
             transcript: _,
             cache: _,
             in_call: _,
@@ -47,7 +47,7 @@ impl Drop for Notes {
     }
 }
 
-impl Model for Notes {
+impl Model for ClientLog {
     ghost use Rattle.std.specs.Prelude.{◌≡◌, false};
     ghost use Rattle.pmg_scope.specs.Cached.{no_puts};
     ghost use Rattle.pmg_journal.specs.Transcripts.{cached_after, noted_in, waits_after};
@@ -133,13 +133,13 @@ fn note_put(transcript: &mut Transcript, call: Call, answer: &Result<(), Refusal
     transcript.calls.push_reserved(Called { call, answer });
 }
 
-impl Notes {
+impl ClientLog {
     /// The transcript, in which nothing is called yet.
-    pub fn new(alloc: Global, transcript: Transcript) -> Notes
+    pub fn new(alloc: Global, transcript: Transcript) -> ClientLog
         requires { transcript.calls.items ≡ [] }
         ensures { result ≡ transcript }
     {
-        Notes {
+        ClientLog {
             transcript,
             cache: Cache::new(alloc),
             in_call: false,
@@ -178,7 +178,7 @@ impl Notes {
     pub fn into_transcript(self) -> Transcript
         ensures { result ≡ self }
     {
-        let Notes {
+        let ClientLog {
             transcript,
             cache: _,
             in_call: _,
@@ -209,7 +209,11 @@ impl Notes {
     }
 
     /// A call other than a put has ended, for which there is a place: its answer. One that an allocation failed is not noted.
-    pub fn end(&mut self, call: Call, answer: Result<Twice, Refusal>) -> Result<Reply, Refusal>
+    pub fn end(
+        &mut self,
+        call: Call,
+        answer: Result<AnswerCopies, Refusal>,
+    ) -> Result<Reply, Refusal>
         requires place { vec_len self.old.calls < vec_capacity self.old.calls }
         requires kind { is_put (calling_of call) ≡ false }
         requires event { IfOk answer (λ t. IsEvent t.told) }

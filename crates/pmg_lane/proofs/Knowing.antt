@@ -17,7 +17,7 @@ use Rattle.pmg_commit.specs.Levels.{level}
 use Rattle.pmg_commit.specs.Knowledge.{core}
 use Rattle.pmg_commit.specs.CoreLaws.{Has, same_knowledge, core_keeps, kept_in_core, numbers-core}
 use Rattle.pmg_lane.specs.Places.{placed}
-use Rattle.pmg_lane.specs.Entries.{late_cmp, read_at, late_at, read_entry, late_entry, Holds, ReadsWithin, LatePast, late_list, entries_list}
+use Rattle.pmg_lane.specs.Entries.{late_cmp, read_under, late_at, entry_under, late_entry, HasEntry, ReadsWithin, LatePast, late_list, entries_list}
 use Rattle.pmg_lane.specs.Lanes.{known_by, level_of}
 use Rattle.pmg_lane.specs.declared.entries.Entries.{Entries}
 use Rattle.pmg_lane.specs.declared.track.Track.{Track}
@@ -48,36 +48,36 @@ has_place : {X V : Type 0} (f : V → X) (o : Option (Option V)) (x : X) → opt
 has_place f None x h = absurd (let bad = h in cc)
 has_place f (Some p) x h = refl
 
-pub list_read : (a : Entries) (key : List ℕ) (e : Entry) → In e (option_to_list (read_at a key)) → Holds a e
-list_read a key e i = let is = of_option e (read_at a key) i in inl (ap (read_at a) (sym (key_read a key e is)) ∙ is)
+pub list_read : (a : Entries) (key : List ℕ) (e : Entry) → In e (option_to_list (read_under a key)) → HasEntry a e
+list_read a key e i = let is = of_option e (read_under a key) i in inl (ap (read_under a) (sym (key_read a key e is)) ∙ is)
 
-pub read_listed : (a : Entries) (key : List ℕ) (e : Entry) → read_at a key ≡ Some e → In e (option_to_list (read_at a key))
-read_listed a key e is = in_option e (read_at a key) is
+pub read_listed : (a : Entries) (key : List ℕ) (e : Entry) → read_under a key ≡ Some e → In e (option_to_list (read_under a key))
+read_listed a key e is = in_option e (read_under a key) is
 
-pub list_late : (a : Entries) (e : Entry) → In e (late_list a) → Holds a e
+pub list_late : (a : Entries) (e : Entry) → In e (late_list a) → HasEntry a e
 list_late a e i = let at = in_options (late_at a) (keys a.late) e i in inr (ap (late_at a) (sym (key_late a at.0 e at.1)) ∙ at.1)
 
 pub late_listed : (a : Entries) (e : Entry) → late_at a (e.number, e.key) ≡ Some e → In e (late_list a)
 late_listed a e h =
     options_in (late_at a) (keys a.late) e (e.number, e.key) (key_there exact_late a.late.entries (e.number, e.key) (has_place (late_entry (e.number, e.key)) (get late_cmp a.late (e.number, e.key)) e h)) h
 
-pub in_entries : (a : Entries) (e : Entry) → In e (entries_list a) → Holds a e
-in_entries a e i = elim (in_parts (flat_map (λ key. option_to_list (read_at a key)) (keys a.reads)) _ e i) [
-  | inl r ↦ let at = in_options (read_at a) (keys a.reads) e r in inl (ap (read_at a) (sym (key_read a at.0 e at.1)) ∙ at.1)
+pub in_entries : (a : Entries) (e : Entry) → In e (entries_list a) → HasEntry a e
+in_entries a e i = elim (in_parts (flat_map (λ key. option_to_list (read_under a key)) (keys a.reads)) _ e i) [
+  | inl r ↦ let at = in_options (read_under a) (keys a.reads) e r in inl (ap (read_under a) (sym (key_read a at.0 e at.1)) ∙ at.1)
   | inr l ↦ list_late a e l
 ]
 
-pub entries_in : (a : Entries) (e : Entry) → Holds a e → In e (entries_list a)
+pub entries_in : (a : Entries) (e : Entry) → HasEntry a e → In e (entries_list a)
 entries_in a e (inl h) =
-    in_append_left (flat_map (λ key. option_to_list (read_at a key)) (keys a.reads)) _ e
-    (options_in (read_at a) (keys a.reads) e e.key (key_there exact_bytes a.reads.entries e.key (has_place (read_entry e.key) (get (slice_cmp nat_cmp) a.reads e.key) e h)) h)
-entries_in a e (inr h) = in_append_right (flat_map (λ key. option_to_list (read_at a key)) (keys a.reads)) _ e (late_listed a e h)
+    in_append_left (flat_map (λ key. option_to_list (read_under a key)) (keys a.reads)) _ e
+    (options_in (read_under a) (keys a.reads) e e.key (key_there exact_bytes a.reads.entries e.key (has_place (entry_under e.key) (get (slice_cmp nat_cmp) a.reads e.key) e h)) h)
+entries_in a e (inr h) = in_append_right (flat_map (λ key. option_to_list (read_under a key)) (keys a.reads)) _ e (late_listed a e h)
 
-pub has_holds : (t : Track) (e : Entry) → Has (known_by t) e → Holds t.entries e
+pub has_holds : (t : Track) (e : Entry) → Has (known_by t) e → HasEntry t.entries e
 unfolding known_by
 has_holds t e h = in_entries t.entries e (in_from_list entries_total exact_entries (entries_list t.entries) e h)
 
-pub holds_has : (t : Track) (e : Entry) → Holds t.entries e → Has (known_by t) e
+pub holds_has : (t : Track) (e : Entry) → HasEntry t.entries e → Has (known_by t) e
 unfolding known_by
 holds_has t e h = from_list_in entries_total exact_entries (entries_list t.entries) e (entries_in t.entries e h)
 
@@ -88,9 +88,9 @@ level_known t = refl
 -- ---- the core
 -- no entry of those that are read up to the level and late past it is superseded
 pub none_superseded :
-    (a : Entries) (level : ℕ) → ReadsWithin level a → LatePast level a → (e f : Entry) → Holds a e → Holds a f → Superseded level e f → ⊥
+    (a : Entries) (level : ℕ) → ReadsWithin level a → LatePast level a → (e f : Entry) → HasEntry a e → HasEntry a f → Superseded level e f → ⊥
 none_superseded a level within past e f (inl r) (inl s) sup =
-    superseded_itself level e (subst (Superseded level e) (some_is (sym s ∙ ap (read_at a) (sym sup.0.0) ∙ r)) sup)
+    superseded_itself level e (subst (Superseded level e) (some_is (sym s ∙ ap (read_under a) (sym sup.0.0) ∙ r)) sup)
 none_superseded a level within past e f (inl r) (inr s) sup =
     let up : e.number ≤ level = subst (λ o. IfSome o (λ e. e.number ≤ level)) r (within e.key) in
     let over : level < f.number = subst (λ o. IfSome o (λ _. level < f.number)) s (past (f.number, f.key)) in

@@ -12,7 +12,7 @@ use Rattle.std.proofs.lemmas.Map.Lookups.{CmpEqualImpliesEq, exact_bytes}
 use Rattle.pmg_value.specs.declared.value.Value.{Value}
 use Rattle.pmg_commit.specs.Entries.{Entry}
 use Rattle.pmg_lane.specs.Places.{placed, there_at}
-use Rattle.pmg_lane.specs.Entries.{late_cmp, read_entry, late_entry, Holds, HasPlaces, PlacesStay, ReadsWithin, LateFrom, Settles, NoneLeft}
+use Rattle.pmg_lane.specs.Entries.{late_cmp, entry_under, late_entry, HasEntry, HasPlaces, PlacesStay, ReadsWithin, LateFrom, Settles, NoneLeft}
 use Rattle.pmg_lane.specs.declared.entries.Entries.{Entries}
 use Rattle.pmg_lane.specs.declared.entries.Stamp.{Stamp}
 use Rattle.pmg_lane.proofs.Settling.{exact_late, settles_next, late_trans, some_is, not_some}
@@ -56,21 +56,21 @@ module _ {K V : Type 0} {R : K → K → Ordering} (exact : CmpEqualImpliesEq R)
 pub read_taken :
     (reads : BTreeMap (List ℕ) (Option Stamp)) (a : Entries) (key : List ℕ) (place : Option Stamp) → get (slice_cmp nat_cmp) a.reads key ≡ Some place
     → ((q : List ℕ) → get (slice_cmp nat_cmp) reads q ≡ cond (is_at (slice_cmp nat_cmp key) q) None (get (slice_cmp nat_cmp) a.reads q)) → (e : Entry)
-    → Holds a e ↔ ((option_map (read_entry key) place ≡ Some e) ⊎ Holds (record { reads = reads; late = a.late }) e)
+    → HasEntry a e ↔ ((option_map (entry_under key) place ≡ Some e) ⊎ HasEntry (record { reads = reads; late = a.late }) e)
 read_taken reads a key place there taken e =
-    let parts = taken_parts exact_bytes read_entry (λ e. e.key) (λ _ _. refl) a.reads reads key place there taken e in (
+    let parts = taken_parts exact_bytes entry_under (λ e. e.key) (λ _ _. refl) a.reads reads key place there taken e in (
       λ h. elim h [ inl read ↦ elim (parts.0 read) [ inl here ↦ inl here | inr left ↦ inr (inl left) ] | inr late ↦ inr (inr late) ],
       λ h. elim h [ inl here ↦ inl (parts.1 (inl here)) | inr (inl left) ↦ inl (parts.1 (inr left)) | inr (inr late) ↦ inr late ],
     )
 
 -- a late place was taken out, and its value has a stamp
 pub late_taken :
-    (a b : Entries) (place : ℕ × List ℕ) (value : Option Value) (stamp : Option Stamp) → option_map (read_entry place.1) stamp ≡ option_map (late_entry place) value
+    (a b : Entries) (place : ℕ × List ℕ) (value : Option Value) (stamp : Option Stamp) → option_map (entry_under place.1) stamp ≡ option_map (late_entry place) value
     → get late_cmp a.late place ≡ Some value → ((q : ℕ × List ℕ) → get late_cmp b.late q ≡ cond (is_at (late_cmp place) q) None (get late_cmp a.late q))
-    → b.reads.entries ≡ a.reads.entries → (e : Entry) → Holds a e ↔ ((option_map (read_entry place.1) stamp ≡ Some e) ⊎ Holds b e)
+    → b.reads.entries ≡ a.reads.entries → (e : Entry) → HasEntry a e ↔ ((option_map (entry_under place.1) stamp ≡ Some e) ⊎ HasEntry b e)
 late_taken a b place value stamp stamped there taken same e =
     let parts = taken_parts exact_late late_entry (λ e. (e.number, e.key)) (λ _ _. refl) a.late b.late place value there taken e in
-    let reads = ap (λ es. option_map (read_entry e.key) (placed (lookup (is_at (slice_cmp nat_cmp e.key)) es))) same in (
+    let reads = ap (λ es. option_map (entry_under e.key) (placed (lookup (is_at (slice_cmp nat_cmp e.key)) es))) same in (
       λ h. elim h [ inl read ↦ inr (inl (reads ∙ read)) | inr late ↦ elim (parts.0 late) [ inl here ↦ inl (stamped ∙ here) | inr left ↦ inr (inr left) ] ],
       λ h. elim h [ inl here ↦ inr (parts.1 (inl (sym stamped ∙ here))) | inr (inl read) ↦ inl (sym reads ∙ read) | inr (inr left) ↦ inr (parts.1 (inr left)) ],
     )
@@ -92,16 +92,16 @@ places_itself a = (λ key h. h, λ place h. h)
 -- ---- one after the other
 -- b is a with the other entries put, but those that are left, for which there are places
 pub record Moves (level : ℕ) (a other b left : Entries) : Type 0 where
-  pub settles : Settles level a (Holds other) b (Holds left)
+  pub settles : Settles level a (HasEntry other) b (HasEntry left)
   pub within : ReadsWithin level b
   pub late : LateFrom level a b
-  pub places : (e : Entry) → Holds left e → HasPlaces b level e.number e.key
-  pub was : (e : Entry) → Holds left e → Holds other e
+  pub places : (e : Entry) → HasEntry left e → HasPlaces b level e.number e.key
+  pub was : (e : Entry) → HasEntry left e → HasEntry other e
 
 module _ {level : ℕ} {a other b left : Entries} (moves : Moves level a other b left) (rest : Entries) (key : List ℕ) (place : Option Stamp)
-    (taken : (e : Entry) → Holds left e ↔ ((option_map (read_entry key) place ≡ Some e) ⊎ Holds rest e)) where
+    (taken : (e : Entry) → HasEntry left e ↔ ((option_map (entry_under key) place ≡ Some e) ⊎ HasEntry rest e)) where
   -- what is left now was left before
-  rest_was : (e : Entry) → Holds rest e → Holds left e
+  rest_was : (e : Entry) → HasEntry rest e → HasEntry left e
   rest_was e h = (taken e).1 (inr h)
 
   -- the place that was taken out is empty
@@ -111,7 +111,7 @@ module _ {level : ℕ} {a other b left : Entries} (moves : Moves level a other b
       fewer = moves.settles.fewer;
       enough = λ e h. elim (moves.settles.enough e h) [
         | inl i ↦ inl i
-        | inr l ↦ elim ((taken e).0 l) [ inl here ↦ absurd (not_some (sym (ap (option_map (read_entry key)) none) ∙ here)) | inr r ↦ inr r ]
+        | inr l ↦ elim ((taken e).0 l) [ inl here ↦ absurd (not_some (sym (ap (option_map (entry_under key)) none) ∙ here)) | inr r ↦ inr r ]
       ];
     };
     within = moves.within;
@@ -121,16 +121,16 @@ module _ {level : ℕ} {a other b left : Entries} (moves : Moves level a other b
   }
 
   -- the entry in the place was one of those that were left
-  pub stamp_was : (s : Stamp) → place ≡ Some s → Holds left (read_entry key s)
-  stamp_was s is = (taken (read_entry key s)).1 (inl (ap (option_map (read_entry key)) is))
+  pub stamp_was : (s : Stamp) → place ≡ Some s → HasEntry left (entry_under key s)
+  stamp_was s is = (taken (entry_under key s)).1 (inl (ap (option_map (entry_under key)) is))
 
   -- the entry in the place is put
   pub moves_some :
-      (s : Stamp) (c : Entries) → place ≡ Some s → Settles level b (λ e. e ≡ read_entry key s) c NoneLeft → ReadsWithin level c → LateFrom level b c → PlacesStay b c
+      (s : Stamp) (c : Entries) → place ≡ Some s → Settles level b (λ e. e ≡ entry_under key s) c NoneLeft → ReadsWithin level c → LateFrom level b c → PlacesStay b c
       → Moves level a other c rest
   moves_some s c is settles within late stay = record {
-    settles = settles_next level a b c (read_entry key s) (Holds other) (Holds left) (Holds rest) moves.settles settles (moves.was (read_entry key s) (stamp_was s is))
-        (λ e h. elim ((taken e).0 h) [ inl here ↦ inl (some_is (sym here ∙ ap (option_map (read_entry key)) is)) | inr r ↦ inr r ]);
+    settles = settles_next level a b c (entry_under key s) (HasEntry other) (HasEntry left) (HasEntry rest) moves.settles settles (moves.was (entry_under key s) (stamp_was s is))
+        (λ e h. elim ((taken e).0 h) [ inl here ↦ inl (some_is (sym here ∙ ap (option_map (entry_under key)) is)) | inr r ↦ inr r ]);
     within = within;
     late = late_trans level a b c moves.late late;
     places = λ e h. has_stays b c level e.number e.key stay (moves.places e (rest_was e h));

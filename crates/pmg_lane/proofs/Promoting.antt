@@ -15,7 +15,7 @@ use Rattle.pmg_value.specs.Lists.{In}
 use Rattle.pmg_value.specs.declared.value.Value.{Value}
 use Rattle.pmg_commit.specs.Entries.{Entry}
 use Rattle.pmg_lane.specs.Places.{placed, there_at, HasPlace}
-use Rattle.pmg_lane.specs.Entries.{late_cmp, late_entry, read_at, late_at, Holds, HasPlaces, ReadsWithin, IsRoomyTo, Settles, NoneLeft}
+use Rattle.pmg_lane.specs.Entries.{late_cmp, late_entry, read_under, late_at, HasEntry, HasPlaces, ReadsWithin, IsRoomyTo, Settles, NoneLeft}
 use Rattle.pmg_lane.specs.declared.entries.Entries.{Entries}
 use Rattle.pmg_lane.proofs.Settling.{exact_late, some_is, accounts_more}
 
@@ -55,8 +55,8 @@ module _ (a b : Entries) (level : ℕ) (place : ℕ × List ℕ) (reached : plac
   none_there : {X : Type 0} (o : Option X) → o ≡ None → IsSome o → ⊥
   none_there o is h = false≢true (subst IsSome is h)
 
-  same_read : (key : List ℕ) → read_at b key ≡ read_at a key
-  same_read key = ap (λ t. read_at (record { reads = t; late = a.late }) key) reads
+  same_read : (key : List ℕ) → read_under b key ≡ read_under a key
+  same_read key = ap (λ t. read_under (record { reads = t; late = a.late }) key) reads
 
   late_was : (q : ℕ × List ℕ) (e : Entry) → late_at b q ≡ Some e → late_at a q ≡ Some e
   late_was q e h = elim (others q) [
@@ -88,7 +88,7 @@ module _ (a b : Entries) (level : ℕ) (place : ℕ × List ℕ) (reached : plac
     ],
   )
 
-  few : (e : Entry) → Holds b e → Holds a e
+  few : (e : Entry) → HasEntry b e → HasEntry a e
   few e (inl h) = inl (sym (same_read e.key) ∙ h)
   few e (inr h) = inr (late_was (e.number, e.key) e h)
 
@@ -113,7 +113,7 @@ module _ (a b : Entries) (level : ℕ) (place : ℕ × List ℕ) (reached : plac
   popped_some v c there s = record {
     fewer = λ e h. elim (s.fewer e h) [
       | inl i ↦ inl (few e i)
-      | inr is ↦ inl (subst (Holds a) (sym is) (inr (ap (option_map (late_entry place)) there)))
+      | inr is ↦ inl (subst (HasEntry a) (sym is) (inr (ap (option_map (late_entry place)) there)))
     ];
     enough = λ e h. elim h [
       | inr n ↦ absurd n

@@ -24,7 +24,7 @@ use Rattle.pmg_commit.specs.CoreLaws.{Has, has_union, union_has_left, union_has_
 use Rattle.pmg_commit.proofs.Rules.{numbers_are_between}
 use Rattle.pmg_commit.proofs.ReadLaws.{IsBest, best_of_all, best_read, read_best}
 use Rattle.pmg_lane.specs.Places.{there_at}
-use Rattle.pmg_lane.specs.Entries.{late_cmp, late_entry, read_at, late_at, late_list}
+use Rattle.pmg_lane.specs.Entries.{late_cmp, late_entry, read_under, late_at, late_list}
 use Rattle.pmg_lane.specs.Lanes.{known_by, level_of, told, IsTrack, level_joined}
 use Rattle.pmg_lane.specs.declared.entries.Entries.{Entries}
 use Rattle.pmg_lane.specs.declared.track.Track.{Track}
@@ -142,10 +142,10 @@ level_within t from to n is bound reached = elim (cases_lt 0 n) [
 ]
 
 -- ---- what is read once more commits are taken too
-best_now : (t : Track) (key : List ℕ) (n : ℕ) → IsTrack t → level_of t ≤ n → IsBest n key (option_to_list (read_at t.entries key)) (read_at t.entries key)
-best_now t key n is up = go (read_at t.entries key) refl
+best_now : (t : Track) (key : List ℕ) (n : ℕ) → IsTrack t → level_of t ≤ n → IsBest n key (option_to_list (read_under t.entries key)) (read_under t.entries key)
+best_now t key n is up = go (read_under t.entries key) refl
   where
-    go : (o : Option Entry) → read_at t.entries key ≡ o → IsBest n key (option_to_list o) o
+    go : (o : Option Entry) → read_under t.entries key ≡ o → IsBest n key (option_to_list o) o
     go None at = λ f i r. absurd i
     go (Some e) at =
         let low : e.number ≤ level_of t = subst (λ o. IfSome o (λ e. e.number ≤ level_of t)) at (is.within key) in (
@@ -156,29 +156,29 @@ best_now t key n is up = go (read_at t.entries key) refl
 
 -- the entries that may be read under the key
 abbrev candidates : Entries → List ℕ → List Entry → List Entry
-candidates a key es = (option_to_list (read_at a key) ++ late_list a) ++ es
+candidates a key es = (option_to_list (read_under a key) ++ late_list a) ++ es
 
 module _ (t : Track) (from to : ℕ) (key : List ℕ) (es : List Entry) where
   there : (n : ℕ) (e : Entry) → Has (union (known_by t) (told from to es)) e → Readable n key e → In e (candidates t.entries key es)
   there n e h r = elim (has_union (known_by t) (told from to es) e h) [
-    | inr more ↦ in_append_right (option_to_list (read_at t.entries key) ++ late_list t.entries) es e (has_told from to es e more)
-    | inl old ↦ in_append_left (option_to_list (read_at t.entries key) ++ late_list t.entries) es e (elim (has_holds t e old) [
-      | inl at ↦ in_append_left (option_to_list (read_at t.entries key)) (late_list t.entries) e (read_listed t.entries key e (ap (read_at t.entries) r.0 ∙ at))
-      | inr at ↦ in_append_right (option_to_list (read_at t.entries key)) (late_list t.entries) e (late_listed t.entries e at)
+    | inr more ↦ in_append_right (option_to_list (read_under t.entries key) ++ late_list t.entries) es e (has_told from to es e more)
+    | inl old ↦ in_append_left (option_to_list (read_under t.entries key) ++ late_list t.entries) es e (elim (has_holds t e old) [
+      | inl at ↦ in_append_left (option_to_list (read_under t.entries key)) (late_list t.entries) e (read_listed t.entries key e (ap (read_under t.entries) r.0 ∙ at))
+      | inr at ↦ in_append_right (option_to_list (read_under t.entries key)) (late_list t.entries) e (late_listed t.entries e at)
     ])
   ]
 
   back : (e : Entry) → In e (candidates t.entries key es) → Has (union (known_by t) (told from to es)) e
-  back e i = elim (in_parts (option_to_list (read_at t.entries key) ++ late_list t.entries) es e i) [
+  back e i = elim (in_parts (option_to_list (read_under t.entries key) ++ late_list t.entries) es e i) [
     | inr more ↦ union_has_right (known_by t) (told from to es) e (told_has from to es e more)
-    | inl old ↦ union_has_left (known_by t) (told from to es) e (holds_has t e (elim (in_parts (option_to_list (read_at t.entries key)) (late_list t.entries) e old) [
+    | inl old ↦ union_has_left (known_by t) (told from to es) e (holds_has t e (elim (in_parts (option_to_list (read_under t.entries key)) (late_list t.entries) e old) [
       | inl at ↦ list_read t.entries key e at
       | inr at ↦ list_late t.entries e at
     ]))
   ]
 
   pub read_more : (n : ℕ) (o : Option Entry) → IsTrack t → n ≡ level (set.union (known_by t).numbers (numbers_between from to))
-      → o ≡ fold (best_of_two n key) (fold (best_of_two n key) (read_at t.entries key) (late_list t.entries)) es
+      → o ≡ fold (best_of_two n key) (fold (best_of_two n key) (read_under t.entries key) (late_list t.entries)) es
       → option_map (λ e. e.bytes) o ≡ read (union (known_by t) (told from to es)) key
   read_more n o is at best =
       let k = union (known_by t) (told from to es) in

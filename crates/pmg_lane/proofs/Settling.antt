@@ -17,7 +17,7 @@ use Rattle.pmg_value.specs.declared.value.Value.{Value}
 use Rattle.pmg_commit.specs.Entries.{Entry, is_later}
 use Rattle.pmg_commit.specs.EntryOrder.{Below, Later, is_later-Decides, below_cases, superseded_trans}
 use Rattle.pmg_lane.specs.Places.{placed, there_at, HasPlace}
-use Rattle.pmg_lane.specs.Entries.{late_cmp, read_entry, late_entry, read_at, late_at, Holds, ReadsWithin, Accounts, Settles, NoneLeft, beats, exceeds, LateFrom, HoldAlike, IsRoomyTo}
+use Rattle.pmg_lane.specs.Entries.{late_cmp, entry_under, late_entry, read_under, late_at, HasEntry, ReadsWithin, Accounts, Settles, NoneLeft, beats, exceeds, LateFrom, HoldAlike, IsRoomyTo}
 use Rattle.pmg_lane.specs.declared.entries.Entries.{Entries}
 use Rattle.pmg_lane.specs.declared.entries.Stamp.{Stamp}
 
@@ -81,43 +81,43 @@ module _ {K V : Type 0} {R : K → K → Ordering} (o : IsTotalOrder R) (exact :
 module _ (a b : Entries) (level : ℕ) (key : List ℕ) (s : Stamp)
     (put : (q : List ℕ) → there_at (slice_cmp nat_cmp) b.reads q ≡ cond (is_at (slice_cmp nat_cmp key) q) (Some s) (there_at (slice_cmp nat_cmp) a.reads q))
     (late : b.late ≡ a.late) (reached : s.number ≤ level) where
-  stamp_here : read_at b key ≡ Some (read_entry key s)
-  stamp_here = put_here nat_list_cmp_total exact_bytes read_entry (there_at (slice_cmp nat_cmp) a.reads) (there_at (slice_cmp nat_cmp) b.reads) key s put
+  stamp_here : read_under b key ≡ Some (entry_under key s)
+  stamp_here = put_here nat_list_cmp_total exact_bytes entry_under (there_at (slice_cmp nat_cmp) a.reads) (there_at (slice_cmp nat_cmp) b.reads) key s put
 
-  stamp_there : (q : List ℕ) (e : Entry) → read_at b q ≡ Some e → (e ≡ read_entry key s) ⊎ (read_at a q ≡ Some e)
-  stamp_there = put_there nat_list_cmp_total exact_bytes read_entry (there_at (slice_cmp nat_cmp) a.reads) (there_at (slice_cmp nat_cmp) b.reads) key s put
+  stamp_there : (q : List ℕ) (e : Entry) → read_under b q ≡ Some e → (e ≡ entry_under key s) ⊎ (read_under a q ≡ Some e)
+  stamp_there = put_there nat_list_cmp_total exact_bytes entry_under (there_at (slice_cmp nat_cmp) a.reads) (there_at (slice_cmp nat_cmp) b.reads) key s put
 
-  stamp_stays : (q : List ℕ) (e : Entry) → read_at a q ≡ Some e → (read_at b q ≡ Some e) ⊎ (key ≡ q)
-  stamp_stays = put_stays nat_list_cmp_total exact_bytes read_entry (there_at (slice_cmp nat_cmp) a.reads) (there_at (slice_cmp nat_cmp) b.reads) key s put
+  stamp_stays : (q : List ℕ) (e : Entry) → read_under a q ≡ Some e → (read_under b q ≡ Some e) ⊎ (key ≡ q)
+  stamp_stays = put_stays nat_list_cmp_total exact_bytes entry_under (there_at (slice_cmp nat_cmp) a.reads) (there_at (slice_cmp nat_cmp) b.reads) key s put
 
   same_late : (e : Entry) → late_at b (e.number, e.key) ≡ late_at a (e.number, e.key)
   same_late e = ap (λ t. option_map (late_entry (e.number, e.key)) (there_at late_cmp t (e.number, e.key))) late
 
-  pub read_settles : beats (read_at a key) (read_entry key s) ≡ true → Settles level a (λ e. e ≡ read_entry key s) b NoneLeft
+  pub read_settles : beats (read_under a key) (entry_under key s) ≡ true → Settles level a (λ e. e ≡ entry_under key s) b NoneLeft
   read_settles newer = record { fewer = few; enough = enough }
     where
-      few : (e : Entry) → Holds b e → Holds a e ⊎ (e ≡ read_entry key s)
+      few : (e : Entry) → HasEntry b e → HasEntry a e ⊎ (e ≡ entry_under key s)
       few e (inl h) = elim (stamp_there e.key e h) [ inl is ↦ inr is | inr was ↦ inl (inl was) ]
       few e (inr h) = inl (inr (sym (same_late e) ∙ h))
 
-      here : Holds b (read_entry key s)
+      here : HasEntry b (entry_under key s)
       here = inl stamp_here
 
-      enough : (e : Entry) → Holds a e ⊎ (e ≡ read_entry key s) → Accounts level b e ⊎ NoneLeft e
-      enough e (inr is) = inl (inl (subst (Holds b) (sym is) here))
+      enough : (e : Entry) → HasEntry a e ⊎ (e ≡ entry_under key s) → Accounts level b e ⊎ NoneLeft e
+      enough e (inr is) = inl (inl (subst (HasEntry b) (sym is) here))
       enough e (inl (inr h)) = inl (inl (inr (same_late e ∙ h)))
       enough e (inl (inl h)) = elim (stamp_stays e.key e h) [
         | inl is ↦ inl (inl (inl is))
         | inr same ↦
-            let at : read_at a key ≡ Some e = ap (read_at a) same ∙ h in
-            let later = (is_later-Decides e (read_entry key s)).0 (ap (λ o. beats o (read_entry key s)) (sym at) ∙ newer) in
-            inl (inr (read_entry key s, here, ((sym same, later), inl reached)))
+            let at : read_under a key ≡ Some e = ap (read_under a) same ∙ h in
+            let later = (is_later-Decides e (entry_under key s)).0 (ap (λ o. beats o (entry_under key s)) (sym at) ∙ newer) in
+            inl (inr (entry_under key s, here, ((sym same, later), inl reached)))
       ]
 
   pub read_within : ReadsWithin level a → ReadsWithin level b
-  read_within within q = go (read_at b q) refl
+  read_within within q = go (read_under b q) refl
     where
-      go : (o : Option Entry) → read_at b q ≡ o → IfSome (read_at b q) (λ e. e.number ≤ level)
+      go : (o : Option Entry) → read_under b q ≡ o → IfSome (read_under b q) (λ e. e.number ≤ level)
       go None is = subst (λ o. IfSome o (λ e. e.number ≤ level)) (sym is) tt
       go (Some e) is = subst (λ o. IfSome o (λ e. e.number ≤ level)) (sym is) (elim (stamp_there q e is) [
         | inl new ↦ omega (arith, ap (λ f. f.number) new, reached)
@@ -125,10 +125,10 @@ module _ (a b : Entries) (level : ℕ) (key : List ℕ) (s : Stamp)
       ])
 
 -- what is read has its key
-pub key_read : (a : Entries) (key : List ℕ) (e : Entry) → read_at a key ≡ Some e → key ≡ e.key
+pub key_read : (a : Entries) (key : List ℕ) (e : Entry) → read_under a key ≡ Some e → key ≡ e.key
 key_read a key e h = go (there_at (slice_cmp nat_cmp) a.reads key) h
   where
-    go : (o : Option Stamp) → option_map (read_entry key) o ≡ Some e → key ≡ e.key
+    go : (o : Option Stamp) → option_map (entry_under key) o ≡ Some e → key ≡ e.key
     go None h = absurd (not_some h)
     go (Some s) h = ap (λ f. f.key) (some_is h)
 
@@ -140,23 +140,23 @@ key_late a place e h = go (there_at late_cmp a.late place) h
     go (Some v) h = let e = some_is h in λ i. ((e i).number, (e i).key)
 
 pub read_kept :
-    (a : Entries) (level : ℕ) (key : List ℕ) (s : Stamp) → ReadsWithin level a → beats (read_at a key) (read_entry key s) ≡ false
-    → Settles level a (λ e. e ≡ read_entry key s) a NoneLeft
+    (a : Entries) (level : ℕ) (key : List ℕ) (s : Stamp) → ReadsWithin level a → beats (read_under a key) (entry_under key s) ≡ false
+    → Settles level a (λ e. e ≡ entry_under key s) a NoneLeft
 read_kept a level key s within older = record { fewer = λ e h. inl h; enough = enough }
   where
-    accounts : (o : Option Entry) → read_at a key ≡ o → beats o (read_entry key s) ≡ false → Accounts level a (read_entry key s)
+    accounts : (o : Option Entry) → read_under a key ≡ o → beats o (entry_under key s) ≡ false → Accounts level a (entry_under key s)
     accounts None at h = absurd (false≢true (sym h))
     accounts (Some there) at h =
         let same = key_read a key there at in
-        let here : Holds a there = inl (ap (read_at a) (sym same) ∙ at) in
-        elim (not_later there (read_entry key s) (sym same) h) [
-          | inl e ↦ inl (subst (Holds a) (sym e) here)
+        let here : HasEntry a there = inl (ap (read_under a) (sym same) ∙ at) in
+        elim (not_later there (entry_under key s) (sym same) h) [
+          | inl e ↦ inl (subst (HasEntry a) (sym e) here)
           | inr l ↦ inr (there, here, ((same, l), inl (subst (λ o. IfSome o (λ e. e.number ≤ level)) at (within key))))
         ]
 
-    enough : (e : Entry) → Holds a e ⊎ (e ≡ read_entry key s) → Accounts level a e ⊎ NoneLeft e
+    enough : (e : Entry) → HasEntry a e ⊎ (e ≡ entry_under key s) → Accounts level a e ⊎ NoneLeft e
     enough e (inl h) = inl (inl h)
-    enough e (inr is) = inl (subst (Accounts level a) (sym is) (accounts (read_at a key) refl older))
+    enough e (inr is) = inl (subst (Accounts level a) (sym is) (accounts (read_under a key) refl older))
 
 -- ---- a late entry
 module _ (a b : Entries) (level : ℕ) (place : ℕ × List ℕ) (v : Value)
@@ -171,17 +171,17 @@ module _ (a b : Entries) (level : ℕ) (place : ℕ × List ℕ) (v : Value)
   value_stays : (q : ℕ × List ℕ) (e : Entry) → late_at a q ≡ Some e → (late_at b q ≡ Some e) ⊎ (place ≡ q)
   value_stays = put_stays late_total exact_late late_entry (there_at late_cmp a.late) (there_at late_cmp b.late) place v put
 
-  same_read : (e : Entry) → read_at b e.key ≡ read_at a e.key
-  same_read e = ap (λ t. option_map (read_entry e.key) (there_at (slice_cmp nat_cmp) t e.key)) reads
+  same_read : (e : Entry) → read_under b e.key ≡ read_under a e.key
+  same_read e = ap (λ t. option_map (entry_under e.key) (there_at (slice_cmp nat_cmp) t e.key)) reads
 
   pub late_settles : exceeds (option_map spelling (there_at late_cmp a.late place)) (spelling v) ≡ true → Settles level a (λ e. e ≡ late_entry place v) b NoneLeft
   late_settles greater = record { fewer = few; enough = enough }
     where
-      few : (e : Entry) → Holds b e → Holds a e ⊎ (e ≡ late_entry place v)
+      few : (e : Entry) → HasEntry b e → HasEntry a e ⊎ (e ≡ late_entry place v)
       few e (inl h) = inl (inl (sym (same_read e) ∙ h))
       few e (inr h) = elim (value_there (e.number, e.key) e h) [ inl is ↦ inr is | inr was ↦ inl (inr was) ]
 
-      here : Holds b (late_entry place v)
+      here : HasEntry b (late_entry place v)
       here = inr value_here
 
       below : (o : Option Value) (e : Entry) → option_map (late_entry place) o ≡ Some e → exceeds (option_map spelling o) (spelling v) ≡ true → Later e (late_entry place v)
@@ -196,8 +196,8 @@ module _ (a b : Entries) (level : ℕ) (place : ℕ × List ℕ) (v : Value)
               is_less Ordering.Equal h = absurd (false≢true h)
               is_less Ordering.Greater h = absurd (false≢true h)
 
-      enough : (e : Entry) → Holds a e ⊎ (e ≡ late_entry place v) → Accounts level b e ⊎ NoneLeft e
-      enough e (inr is) = inl (inl (subst (Holds b) (sym is) here))
+      enough : (e : Entry) → HasEntry a e ⊎ (e ≡ late_entry place v) → Accounts level b e ⊎ NoneLeft e
+      enough e (inr is) = inl (inl (subst (HasEntry b) (sym is) here))
       enough e (inl (inl h)) = inl (inl (inl (same_read e ∙ h)))
       enough e (inl (inr h)) = elim (value_stays (e.number, e.key) e h) [
         | inl is ↦ inl (inl (inr is))
@@ -222,14 +222,14 @@ late_kept a level place v less = record { fewer = λ e h. inl h; enough = enough
     accounts : (o : Option Value) → there_at late_cmp a.late place ≡ o → exceeds (option_map spelling o) (spelling v) ≡ false → Accounts level a (late_entry place v)
     accounts None at h = absurd (false≢true (sym h))
     accounts (Some w) at h =
-        let here : Holds a (late_entry place w) = inr (ap (option_map (late_entry place)) at) in
+        let here : HasEntry a (late_entry place w) = inr (ap (option_map (late_entry place)) at) in
         elim (below_cases (spelling w) (spelling v)) [
           | inl b ↦ absurd (false≢true (sym h ∙ ap is_lt b))
-          | inr (inl s) ↦ inl (subst (λ bytes. Holds a (record { key = place.1; number = place.0; bytes = bytes })) s here)
+          | inr (inl s) ↦ inl (subst (λ bytes. HasEntry a (record { key = place.1; number = place.0; bytes = bytes })) s here)
           | inr (inr b) ↦ inr (late_entry place w, here, ((refl, inr (refl, b)), inr refl))
         ]
 
-    enough : (e : Entry) → Holds a e ⊎ (e ≡ late_entry place v) → Accounts level a e ⊎ NoneLeft e
+    enough : (e : Entry) → HasEntry a e ⊎ (e ≡ late_entry place v) → Accounts level a e ⊎ NoneLeft e
     enough e (inl h) = inl (inl h)
     enough e (inr is) = inl (subst (Accounts level a) (sym is) (accounts (there_at late_cmp a.late place) refl less))
 
@@ -294,7 +294,7 @@ settles_alike level a b More alike s = record {
   ];
 }
   where
-    there : (e : Entry) → Holds a e → Holds b e
+    there : (e : Entry) → HasEntry a e → HasEntry b e
     there e (inl r) = inl (alike.0 e.key ∙ r)
     there e (inr l) = inr (alike.1 (e.number, e.key) ∙ l)
 
@@ -306,10 +306,10 @@ late_alike level a b alike place = inl (alike.1 place)
 
 -- ---- room
 pub alike_reads : (a b : Entries) → ((q : List ℕ) → there_at (slice_cmp nat_cmp) b.reads q ≡ there_at (slice_cmp nat_cmp) a.reads q) → b.late ≡ a.late → HoldAlike a b
-alike_reads a b reads late = (λ q. ap (option_map (read_entry q)) (reads q), λ p. ap (λ t. option_map (late_entry p) (there_at late_cmp t p)) late)
+alike_reads a b reads late = (λ q. ap (option_map (entry_under q)) (reads q), λ p. ap (λ t. option_map (late_entry p) (there_at late_cmp t p)) late)
 
 pub alike_late : (a b : Entries) → b.reads ≡ a.reads → ((q : ℕ × List ℕ) → there_at late_cmp b.late q ≡ there_at late_cmp a.late q) → HoldAlike a b
-alike_late a b reads late = (λ q. ap (λ t. option_map (read_entry q) (there_at (slice_cmp nat_cmp) t q)) reads, λ p. ap (option_map (late_entry p)) (late p))
+alike_late a b reads late = (λ q. ap (λ t. option_map (entry_under q) (there_at (slice_cmp nat_cmp) t q)) reads, λ p. ap (option_map (late_entry p)) (late p))
 
 pub alike_trans : (a b c : Entries) → HoldAlike a b → HoldAlike b c → HoldAlike a c
 alike_trans a b c s t = (λ q. t.0 q ∙ s.0 q, λ p. t.1 p ∙ s.1 p)

@@ -21,7 +21,7 @@ use Rattle.pmg_commit.specs.Knowledge.{Knowledge, nothing, union, core, read, nu
 use Rattle.pmg_commit.specs.CoreLaws.{Has, same_kept, same_knowledge, has_union, union_has_left, union_has_right}
 use Rattle.pmg_commit.proofs.Rules.{numbers_are_between}
 use Rattle.pmg_commit.proofs.ReadLaws.{read_latest, read_none}
-use Rattle.pmg_lane.specs.Entries.{read_at, late_at, Holds, HoldAlike, ReadsWithin, LatePast, LateFrom, Accounts, Settles, NoneLeft}
+use Rattle.pmg_lane.specs.Entries.{read_under, late_at, HasEntry, HoldAlike, ReadsWithin, LatePast, LateFrom, Accounts, Settles, NoneLeft}
 use Rattle.pmg_lane.specs.Lanes.{known_by, level_of, told, IsTrack, level_with, level_joined}
 use Rattle.pmg_lane.specs.declared.entries.Entries.{Entries}
 use Rattle.pmg_lane.specs.declared.track.Track.{Track}
@@ -49,7 +49,7 @@ level_bound ends most bound = elim (cases_lt 0 (level (set_of ends))) [
 
 -- ---- the same knowledge
 pub within_up : (m n : ℕ) (a : Entries) → m ≤ n → ReadsWithin m a → ReadsWithin n a
-within_up m n a le within key = go (read_at a key) (within key)
+within_up m n a le within key = go (read_under a key) (within key)
   where
     go : (o : Option Entry) → IfSome o (λ e. e.number ≤ m) → IfSome o (λ e. e.number ≤ n)
     go None h = tt
@@ -78,11 +78,11 @@ module _ (t u : Track) (kept : LieIn t.taken.ends u.taken.ends) (no_more : (n : 
       same_knowledge (known_by u) (known_by t) (numbers_is u ∙ same_set ∙ sym (numbers_is t))
       (same_members entries_total exact_entries (known_by u).entries (known_by t).entries (λ e h. holds_has t e (back e (has_holds u e h))) (λ e h. holds_has u e (there e (has_holds t e h))))
     where
-      back : (e : Entry) → Holds u.entries e → Holds t.entries e
+      back : (e : Entry) → HasEntry u.entries e → HasEntry t.entries e
       back e (inl h) = inl (sym (alike.0 e.key) ∙ h)
       back e (inr h) = inr (sym (alike.1 (e.number, e.key)) ∙ h)
 
-      there : (e : Entry) → Holds t.entries e → Holds u.entries e
+      there : (e : Entry) → HasEntry t.entries e → HasEntry u.entries e
       there e (inl h) = inl (alike.0 e.key ∙ h)
       there e (inr h) = inr (alike.1 (e.number, e.key) ∙ h)
 
@@ -96,13 +96,13 @@ module _ (t u : Track) (kept : LieIn t.taken.ends u.taken.ends) (no_more : (n : 
   roomy_track apart is =
       let same : level_of t ≡ level (set_of u.taken.ends) = level_is_of t ∙ ap level (sym same_set) in
       make_track u apart
-      (λ key. subst (λ o. IfSome o (λ e. e.number ≤ level (set_of u.taken.ends))) (sym (alike.0 key)) (subst (λ n. IfSome (read_at t.entries key) (λ e. e.number ≤ n)) same (is.within key)))
+      (λ key. subst (λ o. IfSome o (λ e. e.number ≤ level (set_of u.taken.ends))) (sym (alike.0 key)) (subst (λ n. IfSome (read_under t.entries key) (λ e. e.number ≤ n)) same (is.within key)))
       (λ place. subst (λ o. IfSome o (λ _. level (set_of u.taken.ends) < place.0)) (sym (alike.1 place)) (subst (λ n. IfSome (late_at t.entries place) (λ _. n < place.0)) same (is.past place)))
       (λ n h. is.bound n (no_more n h))
 
 -- ---- nothing
 pub none_known :
-    (t : Track) → ((n : ℕ) → Covers t.taken.ends n → ⊥) → ((key : List ℕ) → read_at t.entries key ≡ None) → ((place : ℕ × List ℕ) → late_at t.entries place ≡ None)
+    (t : Track) → ((n : ℕ) → Covers t.taken.ends n → ⊥) → ((key : List ℕ) → read_under t.entries key ≡ None) → ((place : ℕ × List ℕ) → late_at t.entries place ≡ None)
     → known_by t ≡ nothing
 none_known t none reads late =
     same_knowledge (known_by t) nothing (numbers_is t ∙ no_cover t.taken.ends none)
@@ -110,12 +110,12 @@ none_known t none reads late =
     (λ e h. absurd (gone e (has_holds t e h)))
     (λ e h. absurd (false≢true (sym (set.contains-empty _ e) ∙ h))))
   where
-    gone : (e : Entry) → Holds t.entries e → ⊥
+    gone : (e : Entry) → HasEntry t.entries e → ⊥
     gone e (inl h) = absurd (let bad : None ≡ Some e = sym (reads e.key) ∙ h in cc)
     gone e (inr h) = absurd (let bad : None ≡ Some e = sym (late (e.number, e.key)) ∙ h in cc)
 
 pub none_track :
-    (t : Track) → AreApart t.taken.ends → ((n : ℕ) → Covers t.taken.ends n → ⊥) → ((key : List ℕ) → read_at t.entries key ≡ None) → ((place : ℕ × List ℕ) → late_at t.entries place ≡ None)
+    (t : Track) → AreApart t.taken.ends → ((n : ℕ) → Covers t.taken.ends n → ⊥) → ((key : List ℕ) → read_under t.entries key ≡ None) → ((place : ℕ × List ℕ) → late_at t.entries place ≡ None)
     → IsTrack t
 none_track t apart none reads late =
     make_track t apart
@@ -218,10 +218,10 @@ module _ (t o u : Track) (middle : Entries)
     (kept : LieIn t.taken.ends u.taken.ends) (added : (n : ℕ) → Covers o.taken.ends n → Covers u.taken.ends n)
     (no_more : (n : ℕ) → Covers u.taken.ends n → Covers t.taken.ends n ⊎ Covers o.taken.ends n)
     (promoted : Settles (level (set_of u.taken.ends)) t.entries NoneLeft middle NoneLeft)
-    (put : Settles (level (set_of u.taken.ends)) middle (Holds o.entries) u.entries NoneLeft) where
+    (put : Settles (level (set_of u.taken.ends)) middle (HasEntry o.entries) u.entries NoneLeft) where
   pub joined_core : core (known_by u) ≡ core (union (known_by t) (known_by o))
   joined_core =
-      more_core t u middle (known_by o) (Holds o.entries)
+      more_core t u middle (known_by o) (HasEntry o.entries)
       (numbers_is u ∙ joined_set t o u.taken.ends kept added no_more)
       (holds_has o) (has_holds o) promoted put
 
@@ -236,30 +236,30 @@ past_from level a b past from place = elim (from place) [
     any (Some e) over = over
 
 -- ---- what is read
-pub read_known : (t : Track) → IsTrack t → (key : List ℕ) → read (known_by t) key ≡ option_map (λ e. e.bytes) (read_at t.entries key)
-read_known t is key = go (read_at t.entries key) refl
+pub read_known : (t : Track) → IsTrack t → (key : List ℕ) → read (known_by t) key ≡ option_map (λ e. e.bytes) (read_under t.entries key)
+read_known t is key = go (read_under t.entries key) refl
   where
     level_here : level (known_by t).numbers ≡ level_of t
     level_here = level_known t
 
-    up : (e : Entry) → read_at t.entries key ≡ Some e → e.number ≤ level (known_by t).numbers
+    up : (e : Entry) → read_under t.entries key ≡ Some e → e.number ≤ level (known_by t).numbers
     up e at = subst (λ n. e.number ≤ n) (sym level_here) (subst (λ o. IfSome o (λ e. e.number ≤ level_of t)) at (is.within key))
 
     -- what can be read under the key is what is there
-    readable : (f : Entry) → Has (known_by t) f → Readable (level (known_by t).numbers) key f → read_at t.entries key ≡ Some f
+    readable : (f : Entry) → Has (known_by t) f → Readable (level (known_by t).numbers) key f → read_under t.entries key ≡ Some f
     readable f h r = elim (has_holds t f h) [
-      | inl at ↦ ap (read_at t.entries) r.0 ∙ at
+      | inl at ↦ ap (read_under t.entries) r.0 ∙ at
       | inr late ↦
           let over : level_of t < f.number = subst (λ o. IfSome o (λ _. level_of t < f.number)) late (is.past (f.number, f.key)) in
           absurd (omega (arith, r.1, level_here, over))
     ]
 
-    go : (o : Option Entry) → read_at t.entries key ≡ o → read (known_by t) key ≡ option_map (λ e. e.bytes) (read_at t.entries key)
+    go : (o : Option Entry) → read_under t.entries key ≡ o → read (known_by t) key ≡ option_map (λ e. e.bytes) (read_under t.entries key)
     go None at = read_none (known_by t) key (λ f h r. let bad : None ≡ Some f = sym at ∙ readable f h r in absurd cc) ∙ sym (ap (option_map (λ e. e.bytes)) at)
     go (Some e) at =
         let same = key_read t.entries key e at in
         read_latest (known_by t) key e (record {
-          has = holds_has t e (inl (ap (read_at t.entries) (sym same) ∙ at));
+          has = holds_has t e (inl (ap (read_under t.entries) (sym same) ∙ at));
           readable = (same, up e at);
           last = λ f h r l. later_itself e (subst (Later e) (some_is (sym (readable f h r) ∙ at)) l);
         })

@@ -19,16 +19,16 @@ abbrev pub late_cmp : ℕ × List ℕ → ℕ × List ℕ → Ordering
 late_cmp x y = ordering_then (nat_cmp x.0 y.0) (slice_cmp nat_cmp x.1 y.1)
 
 -- the entry of a stamp that is read under the key
-abbrev pub read_entry : List ℕ → Stamp → Entry
-read_entry key s = record { key = key; number = s.number; bytes = spelling s.value }
+abbrev pub entry_under : List ℕ → Stamp → Entry
+entry_under key s = record { key = key; number = s.number; bytes = spelling s.value }
 
 -- the late entry of that number and key, with the value
 abbrev pub late_entry : ℕ × List ℕ → Value → Entry
 late_entry place value = record { key = place.1; number = place.0; bytes = spelling value }
 
 -- the entry that is read under the key
-abbrev pub read_at : Entries → List ℕ → Option Entry
-read_at a key = option_map (read_entry key) (there_at (slice_cmp nat_cmp) a.reads key)
+abbrev pub read_under : Entries → List ℕ → Option Entry
+read_under a key = option_map (entry_under key) (there_at (slice_cmp nat_cmp) a.reads key)
 
 -- the late entry of that number and key
 abbrev pub late_at : Entries → ℕ × List ℕ → Option Entry
@@ -36,15 +36,15 @@ late_at a place = option_map (late_entry place) (there_at late_cmp a.late place)
 
 -- e is what is read under its key
 abbrev pub IsReadIn : BTreeMap (List ℕ) (Option Stamp) → Entry → Type 0
-IsReadIn reads e = option_map (read_entry e.key) (there_at (slice_cmp nat_cmp) reads e.key) ≡ Some e
+IsReadIn reads e = option_map (entry_under e.key) (there_at (slice_cmp nat_cmp) reads e.key) ≡ Some e
 
 -- e is the late entry of its number and key
 abbrev pub IsLateIn : BTreeMap (ℕ × List ℕ) (Option Value) → Entry → Type 0
 IsLateIn late e = option_map (late_entry (e.number, e.key)) (there_at late_cmp late (e.number, e.key)) ≡ Some e
 
 -- e is one of the entries
-abbrev pub Holds : Entries → Entry → Type 0
-Holds a e = IsReadIn a.reads e ⊎ IsLateIn a.late e
+abbrev pub HasEntry : Entries → Entry → Type 0
+HasEntry a e = IsReadIn a.reads e ⊎ IsLateIn a.late e
 
 -- how many places there are
 abbrev pub place_count : Entries → ℕ
@@ -52,7 +52,7 @@ place_count a = btree_map_len a.reads + btree_map_len a.late
 
 -- one has the entries of the other
 abbrev pub HoldAlike : Entries → Entries → Type 0
-HoldAlike a b = ((key : List ℕ) → read_at b key ≡ read_at a key) × ((place : ℕ × List ℕ) → late_at b place ≡ late_at a place)
+HoldAlike a b = ((key : List ℕ) → read_under b key ≡ read_under a key) × ((place : ℕ × List ℕ) → late_at b place ≡ late_at a place)
 
 -- there are places for what the other has places for
 abbrev pub PlacesStay : Entries → Entries → Type 0
@@ -68,7 +68,7 @@ HasPlaces a level number key =
 
 -- what is read has no number past the level
 abbrev pub ReadsWithin : ℕ → Entries → Type 0
-ReadsWithin level a = (key : List ℕ) → IfSome (read_at a key) (λ e. e.number ≤ level)
+ReadsWithin level a = (key : List ℕ) → IfSome (read_under a key) (λ e. e.number ≤ level)
 
 -- each late entry up to the level has a place where it will be read
 abbrev pub IsRoomyTo : ℕ → Entries → Type 0
@@ -80,13 +80,13 @@ LatePast level a = (place : ℕ × List ℕ) → IfSome (late_at a place) (λ _.
 
 -- e is one of the entries, or one of them supersedes it at the level
 abbrev pub Accounts : ℕ → Entries → Entry → Type 0
-Accounts level a e = Holds a e ⊎ ((f : Entry) × Holds a f × Superseded level e f)
+Accounts level a e = HasEntry a e ⊎ ((f : Entry) × HasEntry a f × Superseded level e f)
 
 -- The entries with more of them, of which some are left: none is invented, and what is missing is superseded at the
 -- level, or left.
 pub record Settles (level : ℕ) (a : Entries) (More : Entry → Type 0) (b : Entries) (Left : Entry → Type 0) : Type 0 where
-  pub fewer : (e : Entry) → Holds b e → Holds a e ⊎ More e
-  pub enough : (e : Entry) → Holds a e ⊎ More e → Accounts level b e ⊎ Left e
+  pub fewer : (e : Entry) → HasEntry b e → HasEntry a e ⊎ More e
+  pub enough : (e : Entry) → HasEntry a e ⊎ More e → Accounts level b e ⊎ Left e
 
 -- nothing is left
 abbrev pub NoneLeft : Entry → Type 0
@@ -112,4 +112,4 @@ late_list a = flat_map (λ place. option_to_list (late_at a place)) (keys a.late
 
 -- all the entries in a list
 abbrev pub entries_list : Entries → List Entry
-entries_list a = flat_map (λ key. option_to_list (read_at a key)) (keys a.reads) ++ late_list a
+entries_list a = flat_map (λ key. option_to_list (read_under a key)) (keys a.reads) ++ late_list a

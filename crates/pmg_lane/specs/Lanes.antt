@@ -7,8 +7,9 @@ use Rattle.pmg_commit.specs.Entries.{Entry}
 use Rattle.pmg_commit.specs.Levels.{level}
 use Rattle.pmg_commit.specs.Knowledge.{Knowledge, core, numbers_between}
 use Rattle.pmg_commit.specs.declared.piece.PieceEntry.{PieceEntry}
-use Rattle.pmg_lane.specs.Entries.{Holds, entries_list, ReadsWithin, LatePast, IsRoomyTo, HasPlaces}
+use Rattle.pmg_lane.specs.Entries.{HasEntry, entries_list, ReadsWithin, LatePast, IsRoomyTo, HasPlaces}
 use Rattle.pmg_lane.specs.declared.track.Track.{Track}
+use Rattle.pmg_commit.specs.declared.piece.TheConstants.{MAX_COMMIT}
 
 -- what a track knows of its process
 unfoldable pub known_by : Track → Knowledge
@@ -28,7 +29,7 @@ pub record IsTrack (t : Track) : Type 0 where
   pub apart : AreApart t.taken.ends
   pub within : ReadsWithin (level_of t) t.entries
   pub past : LatePast (level_of t) t.entries
-  pub bound : (n : ℕ) → Covers t.taken.ends n → n ≤ 4294967295
+  pub bound : (n : ℕ) → Covers t.taken.ends n → n ≤ MAX_COMMIT
   pub is_core : core (known_by t) ≡ known_by t
 
 -- the level once the commits from+1 to to are taken too
@@ -51,4 +52,4 @@ pub record HasRoom (t : Track) (from : ℕ) (to : ℕ) (entries : List PieceEntr
 pub record HaveRooms (t : Track) (other : Track) : Type 0 where
   pub ranges : HaveRoom other.taken.ends t.taken.ends
   pub promoted : IsRoomyTo (level_joined t other) t.entries
-  pub places : (e : Entry) → Holds other.entries e → HasPlaces t.entries (level_joined t other) e.number e.key
+  pub places : (e : Entry) → HasEntry other.entries e → HasPlaces t.entries (level_joined t other) e.number e.key

@@ -2,7 +2,7 @@
 ghost use Rattle.std.specs.Prelude.{◌≡◌, ◌⊎◌, ◌↔◌, ◌<◌, ◌≤◌, ℕ, List, map, cond, OnOk, IfOk, IfSome, IfNone, Some, None};
 ghost use Rattle.pmg_value.specs.Spelling.{spelling};
 ghost use Rattle.pmg_commit.specs.Entries.{Entry, best_of_two};
-ghost use Rattle.pmg_lane.specs.Entries.{read_at, late_at, late_list, late_cmp, read_entry, late_entry, beats, exceeds, IsReadIn, IsLateIn, Holds, HoldAlike, PlacesStay, HasPlaces, ReadsWithin, IsRoomyTo, LateFrom, LatePast, Settles, NoneLeft, place_count};
+ghost use Rattle.pmg_lane.specs.Entries.{read_under, late_at, late_list, late_cmp, entry_under, late_entry, beats, exceeds, IsReadIn, IsLateIn, HasEntry, HoldAlike, PlacesStay, HasPlaces, ReadsWithin, IsRoomyTo, LateFrom, LatePast, Settles, NoneLeft, place_count};
 ghost use Rattle.pmg_lane.specs.Places.{there_at, HasPlace};
 ghost use Rattle.pmg_lane.specs.Readings.{seen_entry};
 ghost use Rattle.std.specs.Option.{option_map};
@@ -52,7 +52,7 @@ impl Copied for Stamp {
 impl Entries {
     /// No entries. They keep the allocator.
     pub fn new(alloc: Global) -> Entries
-        ensures none { (key : List ℕ) → read_at result key ≡ None }
+        ensures none { (key : List ℕ) → read_under result key ≡ None }
         ensures none_late { (place : ℕ × List ℕ) → late_at result place ≡ None }
     {
         Entries {
@@ -63,7 +63,7 @@ impl Entries {
 
     /// The value of the entry that is read under the key.
     pub fn read(&self, key: &Key) -> Option<&Value>
-        ensures { option_map (λ v. spelling v.now) result ≡ option_map (λ e. e.bytes) (read_at self.now key.now) }
+        ensures { option_map (λ v. spelling v.now) result ≡ option_map (λ e. e.bytes) (read_under self.now key.now) }
     {
         match self.reads.get(key) {
             Some(Some(there)) => Some(&there.value),
@@ -73,7 +73,7 @@ impl Entries {
 
     /// What is read under the key, with its number.
     fn reading(&self, key: &Key) -> Option<Reading<'_>>
-        ensures { option_map (seen_entry key.now) result ≡ read_at self.now key.now }
+        ensures { option_map (seen_entry key.now) result ≡ read_under self.now key.now }
     {
         match self.reads.get(key) {
             Some(Some(there)) => Some(Reading {
@@ -89,7 +89,7 @@ impl Entries {
     /// number of those late entries.
     pub fn reading_at(&self, level: u64, key: &Key) -> Option<Reading<'_>>
         ensures { option_map (seen_entry key.now) result
-            ≡ fold (best_of_two level key.now) (read_at self.now key.now) (late_list self.now) }
+            ≡ fold (best_of_two level key.now) (read_under self.now key.now) (late_list self.now) }
     {
         let mut best = self.reading(key);
         for (place, there) in self.late.iter() {
@@ -154,7 +154,7 @@ impl Entries {
         requires place { HasPlace (slice_cmp nat_cmp) self.old.reads key }
         requires reached { number ≤ level }
         requires within { ReadsWithin level self.old }
-        ensures settles { let entry = read_entry key (record { number = number; value = value }) in
+        ensures settles { let entry = entry_under key (record { number = number; value = value }) in
             Settles level self.old (λ e. e ≡ entry) self.new NoneLeft }
         ensures within { ReadsWithin level self.new }
         ensures late { self.new.late ≡ self.old.late }
@@ -306,7 +306,7 @@ impl Entries {
     /// Makes places for the other entries.
     pub fn make_places_of(&mut self, level: u64, other: &Entries) -> Result<(), AllocError>
         ensures same { HoldAlike self.old self.new }
-        ensures places { OnOk result ((e : Entry) → Holds other.now e → HasPlaces self.new level e.number e.key) }
+        ensures places { OnOk result ((e : Entry) → HasEntry other.now e → HasPlaces self.new level e.number e.key) }
         ensures stay { PlacesStay self.old self.new }
     {
         self.make_read_places(level, &other.reads)?;
@@ -316,10 +316,10 @@ impl Entries {
 
     /// Takes a place out, with its key and the entry in it, if there is one.
     fn pop(&mut self) -> Option<(Key, Option<Stamp>)>
-        ensures taken { IfSome result (λ p. (e : Entry) → Holds self.old e
-            ↔ ((option_map (read_entry p.0) p.1 ≡ Some e) ⊎ Holds self.new e)) }
+        ensures taken { IfSome result (λ p. (e : Entry) → HasEntry self.old e
+            ↔ ((option_map (entry_under p.0) p.1 ≡ Some e) ⊎ HasEntry self.new e)) }
         ensures fewer { IfSome result (λ _. place_count self.new < place_count self.old) }
-        ensures none { IfNone result ((e : Entry) → Holds self.old e → ⊥) }
+        ensures none { IfNone result ((e : Entry) → HasEntry self.old e → ⊥) }
     {
         if let Some(read) = pop_place(&mut self.reads) {
             return Some(read);
@@ -332,9 +332,9 @@ impl Entries {
 
     /// Puts the other entries where they belong at that level, but those that are superseded.
     pub fn put_others(&mut self, level: u64, mut other: Entries)
-        requires places { (e : Entry) → Holds other e → HasPlaces self.old level e.number e.key }
+        requires places { (e : Entry) → HasEntry other e → HasPlaces self.old level e.number e.key }
         requires within { ReadsWithin level self.old }
-        ensures settles { Settles level self.old (Holds other) self.new NoneLeft }
+        ensures settles { Settles level self.old (HasEntry other) self.new NoneLeft }
         ensures within { ReadsWithin level self.new }
         ensures late { LateFrom level self.old self.new }
     {
@@ -385,7 +385,7 @@ fn make_reached_places(
 
 /// The stamp of that number and the value, if there is one.
 fn stamp_of(number: u64, there: Option<Value>) -> Option<Stamp>
-    ensures { (key : List ℕ) → option_map (read_entry key) result ≡ option_map (late_entry (number, key)) there }
+    ensures { (key : List ℕ) → option_map (entry_under key) result ≡ option_map (late_entry (number, key)) there }
 {
     match there {
         Some(value) => Some(Stamp { number, value }),
@@ -395,7 +395,7 @@ fn stamp_of(number: u64, there: Option<Value>) -> Option<Stamp>
 
 /// Whether an entry of that number and value is later than the one in the place, if there is one.
 fn is_newer(place: &Option<Stamp>, number: u64, value: &Value) -> bool
-    ensures { (key : List ℕ) → result ≡ beats (option_map (read_entry key) place.now)
+    ensures { (key : List ℕ) → result ≡ beats (option_map (entry_under key) place.now)
         (record { key = key; number = number; bytes = spelling value.now }) }
 {
     match place {

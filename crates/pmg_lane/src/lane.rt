@@ -5,6 +5,7 @@ ghost use Rattle.pmg_value.specs.Spelling.{spelling};
 ghost use Rattle.pmg_commit.specs.Levels.{level};
 ghost use Rattle.pmg_commit.specs.Knowledge.{nothing, knowledge_of, read};
 ghost use Rattle.pmg_commit.specs.Cores.{core_of, join_cores};
+ghost use Rattle.pmg_commit.specs.declared.piece.TheConstants.{MAX_COMMIT};
 
 use crate::track::Track;
 use pmg_commit::{Piece, PieceEntry};
@@ -74,7 +75,7 @@ impl Lane {
     /// The greatest n such that the commits 1 to n were all taken, 0 if the first was not.
     pub fn level(&self) -> u64
         ensures value { result ≡ level self.now.knowledge.numbers }
-        ensures bound { result ≤ 4294967295 }
+        ensures bound { result ≤ MAX_COMMIT }
     {
         self.track.level()
     }
@@ -97,7 +98,7 @@ impl Lane {
     /// The level once the piece, which is one of the process, is taken too.
     pub fn level_with(&self, piece: &Piece) -> u64
         ensures value { result ≡ level (join_cores self.now (core_of (knowledge_of piece.now))).knowledge.numbers }
-        ensures bound { result ≤ 4294967295 }
+        ensures bound { result ≤ MAX_COMMIT }
     {
         self.track.level_with(piece.from(), piece.to())
     }

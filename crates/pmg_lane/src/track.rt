@@ -7,6 +7,7 @@ ghost use Rattle.pmg_commit.specs.Pieces.{entry_of};
 ghost use Rattle.pmg_commit.specs.Levels.{level};
 ghost use Rattle.pmg_commit.specs.Knowledge.{nothing, union, core, read, numbers_between};
 ghost use Rattle.pmg_lane.specs.Lanes.{known_by, level_of, told, IsTrack, HasRoom, HaveRooms};
+ghost use Rattle.pmg_commit.specs.declared.piece.TheConstants.{MAX_COMMIT};
 
 use crate::entries::{Entries, Stamp};
 use crate::readings::best_with;
@@ -48,7 +49,7 @@ impl Track {
     pub fn level(&self) -> u64
         requires { IsTrack self.now }
         ensures value { result ≡ level_of self.now }
-        ensures bound { result ≤ 4294967295 }
+        ensures bound { result ≤ MAX_COMMIT }
     {
         self.taken.level()
     }
@@ -72,9 +73,9 @@ impl Track {
     /// The level once the commits from+1 to to are taken too.
     pub fn level_with(&self, from: u64, to: u64) -> u64
         requires kept { IsTrack self.now }
-        requires bound { to ≤ 4294967295 }
+        requires bound { to ≤ MAX_COMMIT }
         ensures value { result ≡ level (set.union (known_by self.now).numbers (numbers_between from to)) }
-        ensures bound { result ≤ 4294967295 }
+        ensures bound { result ≤ MAX_COMMIT }
     {
         self.taken.level_with(from, to)
     }
@@ -90,7 +91,7 @@ impl Track {
         key: &Key,
     ) -> Option<&'a Value>
         requires kept { IsTrack self.now }
-        requires bound { to ≤ 4294967295 }
+        requires bound { to ≤ MAX_COMMIT }
         ensures { option_map (λ v. spelling v.now) result
             ≡ read (union (known_by self.now) (told from to (map entry_of entries.now))) key.now }
     {
@@ -125,7 +126,7 @@ impl Track {
     pub fn take(&mut self, from: u64, to: u64, entries: Vec<PieceEntry>)
         requires kept { IsTrack self.old }
         requires some { from < to }
-        requires bound { to ≤ 4294967295 }
+        requires bound { to ≤ MAX_COMMIT }
         requires room { HasRoom self.old from to entries.items }
         ensures kept { IsTrack self.new }
         ensures taken { core (known_by self.new)
@@ -141,7 +142,7 @@ impl Track {
     pub fn absorb(&mut self, from: u64, to: u64, entries: Vec<PieceEntry>) -> Result<(), AllocError>
         requires kept { IsTrack self.old }
         requires some { from < to }
-        requires bound { to ≤ 4294967295 }
+        requires bound { to ≤ MAX_COMMIT }
         ensures kept { IsTrack self.new }
         ensures taken { OnOk result (core (known_by self.new)
             ≡ core (union (known_by self.old) (told from to (map entry_of entries.items)))) }

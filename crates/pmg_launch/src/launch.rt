@@ -8,7 +8,7 @@ use crate::program::{Ended, Outcome, Program, Report, Reported};
 use crate::shortage::Shortage;
 use pmg_audit::audit;
 use pmg_desk::{Client, Desk, Unended};
-use pmg_job::Job;
+use pmg_jobfile::Job;
 use pmg_jobinfo::Registry;
 use pmg_journal::Transcript;
 use pmg_value::{Proc, Refusal};

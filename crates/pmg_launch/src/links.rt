@@ -5,7 +5,7 @@ use crate::shortage::Shortage;
 use crossbeam_channel::{Receiver, Sender, unbounded};
 use pmg_desk::Desk;
 use pmg_frame::Frame;
-use pmg_rules::Sent;
+use pmg_node_model::Sent;
 use pmg_value::Refusal;
 use std::alloc::{AllocError, Global};
 use std::collections::VecDeque;

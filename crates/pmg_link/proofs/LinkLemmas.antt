@@ -3,8 +3,8 @@ use Rattle.std.specs.Prelude.{if◌then◌else◌}
 use Rattle.std.proofs.Common.{◌≡◌, Err, sym, ap}
 use Rattle.pmg_value.specs.declared.refusal.Refusal.{Refusal}
 use Rattle.pmg_value.specs.declared.refusal.Refusal.TheVariants as refusals
-use Rattle.pmg_rules.specs.Acts.{Act, Reply, acts}
-use Rattle.pmg_rules.specs.Sending.{is_quiet}
+use Rattle.pmg_node_model.specs.Acts.{Act, Reply, acts}
+use Rattle.pmg_node_model.specs.Sending.{is_quiet}
 use Rattle.pmg_node.specs.Joining.{act_joins, joins, no_joins}
 use Rattle.pmg_node.specs.Servers.{IsAnswered, RefusesAct, Server, reply_to}
 

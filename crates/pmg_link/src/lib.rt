@@ -1,6 +1,8 @@
-//! One server with the frames of it that wait, for those who carry its frames themselves.
+//! One server with the frames that come to it and the frames of it that wait, for those who carry frames themselves.
 #![tactic(auto)]
 
+mod inbox;
 mod link;
 
+pub use inbox::Inbox;
 pub use link::Link;

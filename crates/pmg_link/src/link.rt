@@ -1,15 +1,19 @@
 //! A node with the frames of it that wait.
-ghost use Rattle.std.specs.Prelude.{◌≡◌, ◌++◌, [], length, Err, IsNone, slice_get};
+ghost use Rattle.std.specs.Prelude.{◌≡◌, ◌++◌, [], length, Err, IfOk, OnOk, OnErr, IsNone, slice_get};
 ghost use Rattle.std.specs.Option.{option_copied, option_to_list};
 ghost use Rattle.pmg_value.specs.declared.refusal.Refusal.TheVariants as refusals;
 ghost use Rattle.pmg_node.specs.Acting.{act_of, joins_in, reply_as};
 ghost use Rattle.pmg_node.specs.Joining.{joins, no_joins};
-ghost use Rattle.pmg_node.specs.Servers.{after, sent_by, IsAnswered, RepliesAct};
-ghost use Rattle.pmg_link.specs.Links.{new_link};
+ghost use Rattle.pmg_node.specs.Servers.{after, reply_to, sent_by, IsAnswered, RepliesAct};
+ghost use Rattle.pmg_node_model.specs.Acts.{Act as ModelAct};
+ghost use Rattle.pmg_link.specs.Links.{new_link, DeliversNext};
 
+use crate::inbox::Inbox;
+use pmg_frame::Frame;
 use pmg_node::{Act, Joined, Node, Reply};
-use pmg_rules::Sent;
+use pmg_node_model::Sent;
 use pmg_value::Refusal;
+use std::alloc::AllocError;
 use std::collections::VecDeque;
 use std::marker::Model;
 
@@ -33,7 +37,7 @@ impl Drop for Link {
 
 impl Model for Link {
     ghost use Rattle.pmg_commit.specs.contracts.piece.Piece.{the_row as piece_row};
-    ghost use Rattle.pmg_rules.specs.contracts.sent.Sent.{the_row as sent_row};
+    ghost use Rattle.pmg_node_model.specs.contracts.sent.Sent.{the_row as sent_row};
     ghost use Rattle.pmg_node.specs.Acting.{joins_in};
     ghost use Rattle.pmg_link.specs.Links.{Linked, coded_linked};
 
@@ -89,6 +93,36 @@ impl Link {
                 Err(refusal)
             }
         }
+    }
+
+    /// A frame of another node is taken or ignored, and the frames that the node sends then are put after those that wait. Where an
+    /// allocation fails all is as it was.
+    pub fn deliver(&mut self, frame: &Frame) -> Result<Reply, AllocError>
+        ensures reply { IfOk result (λ reply. reply_to self.old.node (ModelAct.deliver frame.now) ≡ reply_as reply) }
+        ensures done { OnOk result (self.new.node ≡ after self.old.node (ModelAct.deliver frame.now)) }
+        ensures sent { OnOk result (self.new.waiting ≡ self.old.waiting ++ sent_by self.old.node (ModelAct.deliver frame.now)) }
+        ensures joined { OnOk result (self.new.joined
+            ≡ joins self.old.node.jobs self.old.node.id self.old.node.holding (ModelAct.deliver frame.now)) }
+        ensures err { OnErr result (self.new ≡ self.old) }
+    {
+        let acted = self.node.deliver_joined(frame, &mut self.waiting)?;
+        self.joined = acted.joined;
+        Ok(acted.reply)
+    }
+
+    /// Delivers the frame that came first of those that wait in the inbox; none where no frame waits there. Where an allocation
+    /// fails all is as it was, and the frame waits on.
+    pub fn deliver_next(&mut self, inbox: &mut Inbox) -> Result<Option<Reply>, AllocError>
+        ensures delivers { IfOk result (λ reply. DeliversNext inbox.old inbox.new self.old self.new reply) }
+        ensures err { OnErr result (self.new ≡ self.old) }
+        ensures kept { OnErr result (inbox.new ≡ inbox.old) }
+    {
+        let Some(frame) = inbox.frames.front() else {
+            return Ok(None);
+        };
+        let reply = self.deliver(frame)?;
+        let _ = inbox.frames.pop_front();
+        Ok(Some(reply))
     }
 
     /// Takes the frame that was sent first of those that wait, with the node that it is for; none where no frame waits. It takes no

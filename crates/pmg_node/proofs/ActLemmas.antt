@@ -2,12 +2,12 @@
 use Rattle.std.proofs.Common.{◌≡◌, false, List, [], Ok, Err, ap, ◌∙◌}
 use Rattle.pmg_value.specs.CheckOrder.{first_of}
 use Rattle.pmg_value.specs.declared.refusal.Refusal.{Refusal}
-use Rattle.pmg_rules.specs.Acts.{Act, Reply, Done, done_as, cause, does, acts}
-use Rattle.pmg_rules.specs.Choosing.{Out, due_by, marked_by_act, sends, chosen}
-use Rattle.pmg_rules.specs.Holdings.{Holding, sealer_of, settled}
-use Rattle.pmg_rules.specs.Sending.{is_quiet}
+use Rattle.pmg_node_model.specs.Acts.{Act, Reply, Done, done_as, cause, does, acts}
+use Rattle.pmg_node_model.specs.Choosing.{Out, due_by, marked_by_act, sends, chosen}
+use Rattle.pmg_node_model.specs.Holdings.{NodeState, sealer_of, settled}
+use Rattle.pmg_node_model.specs.Sending.{is_quiet}
 use Rattle.pmg_node.specs.Servers.{Server, reply_to, sent_by, after}
-use Rattle.pmg_rules.specs.declared.due.Due.{Due}
+use Rattle.pmg_node_model.specs.declared.due.ToSend.{ToSend}
 use Rattle.pmg_node.proofs.SilentLemmas.{act_free, act_refused, refused_silent, sent_as, after_is, sent_none}
 
 -- an act that is refused changes nothing
@@ -27,9 +27,9 @@ module _
     (a : Act)
     (free : first_of (cause s.jobs s.id s.holding a) (tt {0}) ≡ Ok tt)
     (loud : is_quiet (does s.jobs s.id s.holding a).reply ≡ false)
-    (left : Holding)
+    (left : NodeState)
     (leaves : settled s.jobs s.id (does s.jobs s.id s.holding a).left ≡ left)
-    (dues : List Due)
+    (dues : List ToSend)
     (owes : due_by s.jobs s.id s.holding a left ≡ dues) where
   is_done : acts s.jobs s.id s.holding a ≡ done_as (does s.jobs s.id s.holding a).reply left
   is_done = act_free s.jobs s.id s.holding a free ∙ ap (done_as (does s.jobs s.id s.holding a).reply) leaves

@@ -22,19 +22,19 @@ use Rattle.pmg_jobinfo.specs.Jobs.{Jobs, is_node, is_registered, is_member, home
 use Rattle.pmg_jobinfo.specs.Refusing.{reserved_cause}
 use Rattle.pmg_jobinfo.specs.Reserved.{is_general, reserved_value}
 use Rattle.pmg_dmodex.specs.Levels.{Levels}
-use Rattle.pmg_rules.specs.Acts.{Act, Request, Reply, Done, also, caller_cause, busy_cause, free_cause, target_cause, number_cause, is_misnamed, cause, request_cause, reply_of, done_as, waits_as, parks, asks, serves, does, acts}
-use Rattle.pmg_rules.specs.Choosing.{Out, asking_for, due_by, due_by_request, marked_by_act, sends, chosen}
-use Rattle.pmg_rules.specs.Holdings.{Get, Standing, Holding, sealer_of, call_of, answer_in, seen_of, settled}
-use Rattle.pmg_rules.specs.Kept.{IsSettled}
-use Rattle.pmg_rules.specs.Sending.{is_quiet}
+use Rattle.pmg_node_model.specs.Acts.{Act, Request, Reply, Done, also, caller_cause, busy_cause, free_cause, target_cause, number_cause, is_misnamed, cause, request_cause, reply_of, done_as, waits_as, parks, asks, serves, does, acts}
+use Rattle.pmg_node_model.specs.Choosing.{Out, asking_for, due_by, due_by_request, marked_by_act, sends, chosen}
+use Rattle.pmg_node_model.specs.Holdings.{Get, CallState, NodeState, sealer_of, call_of, answer_in, seen_of, settled}
+use Rattle.pmg_node_model.specs.Kept.{IsSettled}
+use Rattle.pmg_node_model.specs.Sending.{is_quiet}
 use Rattle.pmg_node.specs.Servers.{Server, Refuses, reply_to, sent_by, after}
-use Rattle.pmg_rules.specs.declared.due.Due.{Due}
+use Rattle.pmg_node_model.specs.declared.due.ToSend.{ToSend}
 use Rattle.pmg_node.proofs.ActLemmas.{accepted_after, accepted_sent}
 use Rattle.pmg_node.proofs.CommitLemmas.{then_full}
-use Rattle.pmg_rules.proofs.CallFacts.{call-called}
-use Rattle.pmg_rules.proofs.CauseFacts.{NoCause, by_causes, neither, neither_cause, free_is}
-use Rattle.pmg_rules.proofs.KeptBasics.{put_cases}
-use Rattle.pmg_rules.proofs.KeptSettled.{settled_same, resolve_parks, parks_waiting, parks_anew, parked_settled}
+use Rattle.pmg_node_model.proofs.CallFacts.{call-called}
+use Rattle.pmg_node_model.proofs.CauseFacts.{NoCause, by_causes, neither, neither_cause, free_is}
+use Rattle.pmg_node_model.proofs.KeptBasics.{put_cases}
+use Rattle.pmg_node_model.proofs.KeptSettled.{settled_same, resolve_parks, parks_waiting, parks_anew, parked_settled}
 use Rattle.pmg_node.proofs.RefusalLemmas.{fails_as}
 use Rattle.pmg_node.proofs.SilentLemmas.{act_free, none_due, after_is, sent_none}
 
@@ -44,14 +44,14 @@ abbrev pub ask_of : Proc → Get → Mode → Act
 ask_of p get mode = Act.request (Request.ask p get mode)
 
 -- what is judged of an act: who asks for whose key
-abbrev pub named : Jobs → ℕ → Holding → Proc → Get → Result (Unit {0}) Refusal
+abbrev pub named : Jobs → ℕ → NodeState → Proc → Get → Result (Unit {0}) Refusal
 named jobs id h p get = first_of (also (free_cause jobs id h p) (target_cause jobs p get)) tt
 
 -- and whether there is a number for its request
-abbrev pub ask_causes : Jobs → ℕ → Holding → Proc → Get → Mode → Refusal → Bool
+abbrev pub ask_causes : Jobs → ℕ → NodeState → Proc → Get → Mode → Refusal → Bool
 ask_causes jobs id h p get mode = also (free_cause jobs id h p) (also (target_cause jobs p get) (number_cause jobs id h get mode))
 
-abbrev pub judged : Jobs → ℕ → Holding → Proc → Get → Mode → Result (Unit {0}) Refusal
+abbrev pub judged : Jobs → ℕ → NodeState → Proc → Get → Mode → Result (Unit {0}) Refusal
 judged jobs id h p get mode = first_of (ask_causes jobs id h p get mode) tt
 
 -- the first refusal, by the causes of the caller, and whether the target is bad, or of no namespace that is registered
@@ -96,7 +96,7 @@ numbered_first false false false true e false false t = refl
 numbered_first false false false false true false false t = refl
 numbered_first false false false false false false false t = refl
 
-module _ (jobs : Jobs) (id : ℕ) (h : Holding) (p : Proc) (get : Get) where
+module _ (jobs : Jobs) (id : ℕ) (h : NodeState) (p : Proc) (get : Get) where
   abbrev caller_has : Refusal → Bool
   caller_has e = caller_cause jobs id h p e
 
@@ -135,7 +135,7 @@ full_not (Ok u) true is = absurd cc
 full_not (Ok u) false is = refl
 
 -- where a get that asks anew waits, there is a number for its request
-pub number_left : (jobs : Jobs) (id : ℕ) (h : Holding) (p : Proc) (get : Get) → judged jobs id h p get modes.Refresh ≡ Ok tt → answer_in jobs id h get modes.Refresh ≡ Outcome.parks
+pub number_left : (jobs : Jobs) (id : ℕ) (h : NodeState) (p : Proc) (get : Get) → judged jobs id h p get modes.Refresh ≡ Ok tt → answer_in jobs id h get modes.Refresh ≡ Outcome.parks
     → h.requests < 18446744073709551615
 number_left jobs id h p get free waits =
     let anew = parks_anew jobs id h get waits in
@@ -143,12 +143,12 @@ number_left jobs id h p get free waits =
     leb-false 18446744073709551615 h.requests ((λ i. (not (sym anew.0 i) && not (sym anew.1 i)) && nat_le 18446744073709551615 h.requests) ∙ none)
 
 -- what is judged of an act that is not refused: the target may be named, and the caller is in no call
-pub record IsAsked (jobs : Jobs) (h : Holding) (p : Proc) (get : Get) : Type 0 where
+pub record IsAsked (jobs : Jobs) (h : NodeState) (p : Proc) (get : Get) : Type 0 where
   pub named : target_cause jobs p get refusals.BadParam ≡ false
   pub known : is_registered jobs get.target.nspace ≡ true
   pub idle : call_of h p ≡ None
 
-none_asked : (jobs : Jobs) (id : ℕ) (h : Holding) (p : Proc) (get : Get) (mode : Mode) → NoCause (ask_causes jobs id h p get mode) → IsAsked jobs h p get
+none_asked : (jobs : Jobs) (id : ℕ) (h : NodeState) (p : Proc) (get : Get) (mode : Mode) → NoCause (ask_causes jobs id h p get mode) → IsAsked jobs h p get
 none_asked jobs id h p get mode none =
     let each = neither_cause (free_cause jobs id h p) (also (target_cause jobs p get) (number_cause jobs id h get mode)) none in
     let its = neither_cause (target_cause jobs p get) (number_cause jobs id h get mode) each.1 in
@@ -158,7 +158,7 @@ none_asked jobs id h p get mode none =
       idle = (free_is jobs id h p each.0).1;
     }
 
-pub ask_free : (jobs : Jobs) (id : ℕ) (h : Holding) (p : Proc) (get : Get) (mode : Mode) → judged jobs id h p get mode ≡ Ok tt → IsAsked jobs h p get
+pub ask_free : (jobs : Jobs) (id : ℕ) (h : NodeState) (p : Proc) (get : Get) (mode : Mode) → judged jobs id h p get mode ≡ Ok tt → IsAsked jobs h p get
 ask_free jobs id h p get mode free = elim (by_causes (ask_causes jobs id h p get mode) (tt {0})) [
   | inl found ↦ absurd (not_both found.0 (sym found.2 ∙ free))
   | inr none ↦ none_asked jobs id h p get mode none.1
@@ -209,7 +209,7 @@ module _ (jobs : Jobs) (id : ℕ) (get : Get) where
       let bad = not_refused (is_node jobs id) (is_general get.target) (is_registered jobs get.target.nspace) (is_member jobs get.target) node named in
       λ i. cond (bad i) (Err refusals.BadParam) (cond (not (known i)) (Err refusals.UnknownNamespace) (value_first told_value))
 
-  reserved_answer : (h : Holding) (mode : Mode) → is_reserved get.key ≡ true → answer_in jobs id h get mode ≡ told_outcome told_value
+  reserved_answer : (h : NodeState) (mode : Mode) → is_reserved get.key ≡ true → answer_in jobs id h get mode ≡ told_outcome told_value
   unfolding seen_of resolve
   reserved_answer h mode is =
       let near = read_at h.near get.target in
@@ -233,7 +233,7 @@ module _ (jobs : Jobs) (id : ℕ) (get : Get) where
   refuses_value (Some v) e (inr is) = absurd cc
 
   module _
-      (h : Holding)
+      (h : NodeState)
       (mode : Mode)
       (reserved : is_reserved get.key ≡ true)
       (node : is_node jobs id ≡ true)
@@ -252,7 +252,7 @@ module _ (jobs : Jobs) (id : ℕ) (get : Get) where
 -- ---- the get
 
 -- a get that looks only at what its node holds waits for nothing
-pub now_told : (jobs : Jobs) (id : ℕ) (h : Holding) (get : Get) → answer_in jobs id h get modes.Now ≡ Outcome.parks → ⊥
+pub now_told : (jobs : Jobs) (id : ℕ) (h : NodeState) (get : Get) → answer_in jobs id h get modes.Now ≡ Outcome.parks → ⊥
 now_told jobs id h get waits = elim (resolve_parks (seen_of jobs id (read_at h.near get.target) (read_at h.far get.target) get) modes.Now waits) [
   | inl is ↦ other_mode is
   | inr is ↦ other_mode_too is
@@ -265,13 +265,13 @@ now_told jobs id h get waits = elim (resolve_parks (seen_of jobs id (read_at h.n
     other_mode_too is = cc
 
 -- whoever waits so has nothing to be settled
-pub waiting_settled : (jobs : Jobs) (id : ℕ) (h : Holding) → IsSettled jobs id h → (p : Proc) (get : Get) (mode : Mode) → answer_in jobs id h get mode ≡ Outcome.parks
+pub waiting_settled : (jobs : Jobs) (id : ℕ) (h : NodeState) → IsSettled jobs id h → (p : Proc) (get : Get) (mode : Mode) → answer_in jobs id h get mode ≡ Outcome.parks
     → IsSettled jobs id (parks h p get mode)
 waiting_settled jobs id h is p get modes.Wait waits = parked_settled jobs id h is p get waits
 waiting_settled jobs id h is p get modes.Now waits = parked_settled jobs id h is p get (parks_waiting jobs id h get modes.Now waits (λ other. cc))
 waiting_settled jobs id h is p get modes.Refresh waits = record {
-  fences = λ q f e. put_cases h.calls p q (Standing.refreshing get (suc h.requests)) (Standing.in_fence f) e (λ same it. absurd cc) (is.fences q f);
-  gets = λ q other e. put_cases h.calls p q (Standing.refreshing get (suc h.requests)) (Standing.parked other) e (λ same it. absurd cc) (is.gets q other);
+  fences = λ q f e. put_cases h.calls p q (CallState.refreshing get (suc h.requests)) (CallState.in_fence f) e (λ same it. absurd cc) (is.fences q f);
+  gets = λ q other e. put_cases h.calls p q (CallState.refreshing get (suc h.requests)) (CallState.parked other) e (λ same it. absurd cc) (is.gets q other);
 }
 
 -- what the get is answered at the node
@@ -351,10 +351,10 @@ module _ (s : Server) (p : Proc) (get : Get) (mode : Mode) where
 
     module _ (waits : answer_at s get mode ≡ Outcome.parks) where
       -- what is held then, and what is due
-      abbrev held_then : Holding
+      abbrev held_then : NodeState
       held_then = parks s.holding p get mode
 
-      abbrev home_asked : List Due
+      abbrev home_asked : List ToSend
       home_asked = asking_for s.jobs s.id s.holding (Some (waits_as s.holding.requests get mode))
 
       park_loud : is_quiet (does s.jobs s.id s.holding (ask_of p get mode)).reply ≡ false
@@ -393,6 +393,6 @@ module _ (s : Server) (p : Proc) (get : Get) (mode : Mode) where
           → new ≡ parked_at marks p get mode old → new ≡ after s (ask_of p get mode)
       park_moved old new marks same out is = is ∙ (λ i. parked_at (out i) p get mode (same i)) ∙ sym parks_after
 
-pub park_sends : (s old : Server) (get : Get) (mode : Mode) (dues : List Due) → old ≡ s → dues ≡ asking_for s.jobs s.id s.holding (Some (waits_as s.holding.requests get mode))
+pub park_sends : (s old : Server) (get : Get) (mode : Mode) (dues : List ToSend) → old ≡ s → dues ≡ asking_for s.jobs s.id s.holding (Some (waits_as s.holding.requests get mode))
     → sends (sealer_of old.holding) old.marks dues ≡ park_out get mode s
 park_sends s old get mode dues same due = λ i. sends (sealer_of (same i).holding) (same i).marks (due i)

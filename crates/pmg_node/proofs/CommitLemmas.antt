@@ -17,16 +17,16 @@ use Rattle.pmg_scope.specs.Cached.{Unsealed}
 use Rattle.pmg_commit.specs.Sealed.{Sealed, fresh, sealed_with, can_seal, commit_answer}
 use Rattle.pmg_pset.proofs.SetLemmas.{refused_alike}
 use Rattle.pmg_jobinfo.specs.Jobs.{Jobs}
-use Rattle.pmg_rules.specs.Acts.{Act, Reply, Done, cause, does, caller_cause, busy_cause, free_cause}
-use Rattle.pmg_rules.specs.Choosing.{due_by, marked_by_act, settling}
-use Rattle.pmg_rules.specs.Holdings.{Holding, sealer_in, sealer_of, sealers_with, sets_with, call_of}
-use Rattle.pmg_rules.specs.Kept.{IsOwn}
-use Rattle.pmg_holding.specs.Owns.{Own, sealed_of, with_sealed}
-use Rattle.pmg_holding.specs.Sealers.{sealed_by}
+use Rattle.pmg_node_model.specs.Acts.{Act, Reply, Done, cause, does, caller_cause, busy_cause, free_cause}
+use Rattle.pmg_node_model.specs.Choosing.{due_by, marked_by_act, settling}
+use Rattle.pmg_node_model.specs.Holdings.{NodeState, sealer_in, sealer_of, sealers_with, sets_with, call_of}
+use Rattle.pmg_node_model.specs.Kept.{IsOwn}
+use Rattle.pmg_node_parts.specs.Owns.{LocalCommits, sealed_of, with_sealed}
+use Rattle.pmg_node_parts.specs.Sealers.{sealed_by}
 use Rattle.pmg_node.specs.Servers.{Server, IsNode, IsAccepted, reply_to}
-use Rattle.pmg_rules.proofs.CauseFacts.{NoCause, by_causes, neither_cause}
-use Rattle.pmg_rules.proofs.KeptBasics.{act_free, caller_is}
-use Rattle.pmg_holding.proofs.MarkLemmas.{inserted_again}
+use Rattle.pmg_node_model.proofs.CauseFacts.{NoCause, by_causes, neither_cause}
+use Rattle.pmg_node_model.proofs.KeptBasics.{act_free, caller_is}
+use Rattle.pmg_node_parts.proofs.MarkLemmas.{inserted_again}
 use Rattle.pmg_node.proofs.FailLemmas.{fails_due}
 use Rattle.pmg_node.proofs.SealedActs.{Seals}
 
@@ -46,7 +46,7 @@ not_host : (p : Proc) (b : Bool) → is_host p ≡ b → is_reserved p.nspace �
 not_host p true e named = absurd (false≢true (sym named ∙ host_is_reserved p e))
 not_host p false e named = e
 
-module _ (jobs : Jobs) (id : ℕ) (h : Holding) (p : Proc) (free : first_of (free_cause jobs id h p) (tt {0}) ≡ Ok tt) where
+module _ (jobs : Jobs) (id : ℕ) (h : NodeState) (p : Proc) (free : first_of (free_cause jobs id h p) (tt {0}) ≡ Ok tt) where
   caller : NoCause (caller_cause jobs id h p)
   caller = (neither_cause (caller_cause jobs id h p) (busy_cause h p) (none_found (free_cause jobs id h p) free)).0
 
@@ -85,7 +85,7 @@ over_limit : (z : Sealed) (e : Refusal) (can : Bool) → Fails e (cond can (Ok z
 over_limit z e true fails = refused_alike (λ _. false) z (tt {0}) e fails
 over_limit z e false fails = refused_alike full z (tt {0}) e fails
 
-module _ (jobs : Jobs) (id : ℕ) (h : Holding) (p : Proc) (b : Unsealed) where
+module _ (jobs : Jobs) (id : ℕ) (h : NodeState) (p : Proc) (b : Unsealed) where
   pub commit_first : first_of (cause jobs id h (Act.commit p b)) (tt {0}) ≡ then_full (first_of (free_cause jobs id h p) tt) (is_err (commit_answer (sealer_of h p) b))
   unfolding cause
   commit_first =
@@ -125,7 +125,7 @@ commit_seals s p b node free w fits = record {
 
 -- ---- what own processes sealed then
 
-module _ (h : Holding) (p : Proc) (client : is_host p ≡ false) where
+module _ (h : NodeState) (p : Proc) (client : is_host p ≡ false) where
   pub client_sealed : sealed_by h.sealers p ≡ sealer_of h p
   unfolding sealer_in
   client_sealed = sym (ap (λ (c : Bool). cond c h.sets (unwrap_or (finite.get h.sealers p) (fresh p))) client)
@@ -141,11 +141,11 @@ answer_same z w true is = cc
 answer_same z w false is = absurd cc
 
 -- the own process's next commit, and what it sealed before
-module _ (own : Own) (p : Proc) (client : is_host p ≡ false) (own_after : Own) (z : Sealed) (sealed : own_after ≡ with_sealed own p z) where
+module _ (own : LocalCommits) (p : Proc) (client : is_host p ≡ false) (own_after : LocalCommits) (z : Sealed) (sealed : own_after ≡ with_sealed own p z) where
   now_is : sealed_of own_after p ≡ z
   unfolding sealer_in
   now_is =
-      ap (λ (o : Own). sealed_of o p) sealed
+      ap (λ (o : LocalCommits). sealed_of o p) sealed
       ∙ ap (λ (c : Bool). cond c own.sets (unwrap_or (finite.get (finite.insert own.sealers p z) p) (fresh p))) client
       ∙ ap (λ (o : Option Sealed). unwrap_or o (fresh p)) (get_put procs_total exact_procs own.sealers p z)
 
@@ -155,17 +155,17 @@ module _ (own : Own) (p : Proc) (client : is_host p ≡ false) (own_after : Own)
       omega (arith, level, last)
 
   pub still_own : is_some (finite.get own_after.sealers p) ≡ true
-  still_own = ap (λ (o : Own). is_some (finite.get o.sealers p)) sealed ∙ ap is_some (get_put procs_total exact_procs own.sealers p z)
+  still_own = ap (λ (o : LocalCommits). is_some (finite.get o.sealers p)) sealed ∙ ap is_some (get_put procs_total exact_procs own.sealers p z)
 
   there_is : (o : Option Sealed) (d w : Sealed) → is_some o ≡ true → w ≡ unwrap_or o d → o ≡ Some w
   there_is None d w there is = absurd (false≢true there)
   there_is (Some x) d w there is = ap Some (sym is)
 
   -- a commit that is taken back leaves all as it was
-  pub own_back : (back : Own) (b : Unsealed) (w : Sealed) → is_some (finite.get own.sealers p) ≡ true → back ≡ with_sealed own_after p w → commit_answer (sealed_of own p) b ≡ Ok w → back ≡ own
+  pub own_back : (back : LocalCommits) (b : Unsealed) (w : Sealed) → is_some (finite.get own.sealers p) ≡ true → back ≡ with_sealed own_after p w → commit_answer (sealed_of own p) b ≡ Ok w → back ≡ own
   unfolding sealer_in
   own_back back b w there is fits =
       let was : w ≡ sealed_of own p = sym (answer_same (sealed_of own p) w (can_seal (sealed_of own p) b) fits) in
       let found = there_is (finite.get own.sealers p) (fresh p) w there (was ∙ ap (λ (c : Bool). cond c own.sets (unwrap_or (finite.get own.sealers p) (fresh p))) client) in
-      is ∙ ap (λ (o : Own). with_sealed o p w) sealed
+      is ∙ ap (λ (o : LocalCommits). with_sealed o p w) sealed
       ∙ (λ i. record { sealers = inserted_again procs_total exact_procs own.sealers p w z found i; sets = own.sets })

@@ -25,17 +25,17 @@ use Rattle.pmg_jobinfo.proofs.ListedLemmas.{own_are_listed, listed_is_client, al
 use Rattle.pmg_jobinfo.proofs.RuleLemmas.{is_same, same_itself, each_is_meant, each_is_member}
 use Rattle.pmg_pset.specs.Members.{each_once, proc_bytes}
 use Rattle.pmg_pset.specs.Refusing.{are_too_many, is_too_much, are_unfit, define_cause, room_cause}
-use Rattle.pmg_pset.specs.Sets.{host, is_live, changed}
+use Rattle.pmg_pset.specs.Sets.{host, is_live, set_changed}
 use Rattle.pmg_pset.proofs.SetLemmas.{refused_alike, made_alike}
-use Rattle.pmg_rules.specs.Acts.{Act, Request, Reply, Done, members_of, no_cause, cause, request_cause, does, serves}
-use Rattle.pmg_rules.specs.Choosing.{due_by, due_by_request, marked_by_act}
-use Rattle.pmg_rules.specs.Holdings.{Holding, sealer_in}
-use Rattle.pmg_holding.specs.Owns.{Own, with_sets}
+use Rattle.pmg_node_model.specs.Acts.{Act, Request, Reply, Done, members_of, no_cause, cause, request_cause, does, serves}
+use Rattle.pmg_node_model.specs.Choosing.{due_by, due_by_request, marked_by_act}
+use Rattle.pmg_node_model.specs.Holdings.{NodeState, sealer_in}
+use Rattle.pmg_node_parts.specs.Owns.{LocalCommits, with_sets}
 use Rattle.pmg_node.specs.Servers.{Server, IsNode, IsAccepted, reply_to}
-use Rattle.pmg_holding.specs.Telling.{spread_by}
-use Rattle.pmg_rules.proofs.CauseFacts.{neither}
+use Rattle.pmg_node_parts.specs.Telling.{spread_by}
+use Rattle.pmg_node_model.proofs.CauseFacts.{neither}
 use Rattle.pmg_node.proofs.EntryLemmas.{any_or, alone_once}
-use Rattle.pmg_rules.proofs.KeptBasics.{act_free}
+use Rattle.pmg_node_model.proofs.KeptBasics.{act_free}
 use Rattle.pmg_node.proofs.SealedActs.{Seals}
 
 -- ---- the members
@@ -76,7 +76,7 @@ turned false true l = refl
 turned false false true = refl
 turned false false false = refl
 
-module _ (jobs : Jobs) (id : ℕ) (h : Holding) (name : List ℕ) (list : List Proc) where
+module _ (jobs : Jobs) (id : ℕ) (h : NodeState) (name : List ℕ) (list : List Proc) where
   abbrev pub defines : Act
   defines = Act.request (Request.define name list)
 
@@ -113,7 +113,7 @@ is_foreign (suc n) other = grind (arith, nat_tests)
 -- ---- a definition that is not refused
 
 -- what is not amiss with it
-record IsFit (jobs : Jobs) (h : Holding) (name : List ℕ) (list : List Proc) : Type 0 where
+record IsFit (jobs : Jobs) (h : NodeState) (name : List ℕ) (list : List Proc) : Type 0 where
   named : is_reserved name ≡ false
   some : (length list == 0) ≡ false
   good : list_any (λ q. is_reserved q.nspace || is_bad jobs q) list ≡ false
@@ -132,7 +132,7 @@ chain_free false true foreign room is = absurd cc
 chain_free false false true room is = absurd cc
 chain_free false false false room is = (refl, refl, is)
 
-fit_is : (jobs : Jobs) (id : ℕ) (h : Holding) (name : List ℕ) (list : List Proc) → first_of (cause jobs id h (Act.request (Request.define name list))) (tt {0}) ≡ Ok tt → IsFit jobs h name list
+fit_is : (jobs : Jobs) (id : ℕ) (h : NodeState) (name : List ℕ) (list : List Proc) → first_of (cause jobs id h (Act.request (Request.define name list))) (tt {0}) ≡ Ok tt → IsFit jobs h name list
 fit_is jobs id h name list free =
     let parts = chain_free (is_bad_by jobs name list) (is_unknown_by jobs list) (not (id == 0)) (first_of (room_cause h.sets name (members_of jobs list)) tt)
     (sym (define_first jobs id h name list) ∙ free) in
@@ -189,7 +189,7 @@ module _ (jobs : Jobs) (are_jobs : AreJobs jobs) where
         (each_is_member jobs list (no_cause_of jobs list (none_bad jobs list good) known) q (sym (there_is jobs list items are q) ∙ list_any_in (is_same q) items q i (same_itself q)))) in
         λ i. not_empty items one.0 (there_is jobs list items are one.0 ∙ one.1) i || not (clients i)
 
-    pub define_fits : (id : ℕ) (h : Holding) (name : List ℕ) → first_of (cause jobs id h (Act.request (Request.define name list))) (tt {0}) ≡ Ok tt
+    pub define_fits : (id : ℕ) (h : NodeState) (name : List ℕ) → first_of (cause jobs id h (Act.request (Request.define name list))) (tt {0}) ≡ Ok tt
         → first_of (define_cause h.sets name items) h.sets ≡ Ok h.sets
     define_fits id h name free =
         let fit = fit_is jobs id h name list free in
@@ -198,7 +198,7 @@ module _ (jobs : Jobs) (are_jobs : AreJobs jobs) where
         λ i. cond (fit.named i || unfit i) (Err refusals.BadParam) (cond (fit.new i) (Err refusals.Exists) (cond (full i) (Err refusals.TooMany) (Ok h.sets)))
 
 -- what is told of a definition that was judged can be but that an allocation failed
-pub define_over : (jobs : Jobs) (id : ℕ) (h : Holding) (name : List ℕ) (list items : List Proc) (e : Refusal) → first_of (cause jobs id h (Act.request (Request.define name list))) (tt {0}) ≡ Ok tt
+pub define_over : (jobs : Jobs) (id : ℕ) (h : NodeState) (name : List ℕ) (list items : List Proc) (e : Refusal) → first_of (cause jobs id h (Act.request (Request.define name list))) (tt {0}) ≡ Ok tt
     → first_of (define_cause h.sets name items) h.sets ≡ Ok h.sets → Fails e (first_of (define_cause h.sets name items) h.sets)
     → Fails e (first_of (cause jobs id h (Act.request (Request.define name list))) (tt {0}))
 define_over jobs id h name list items e free fits fails =
@@ -211,7 +211,7 @@ define_accepted s name list free = subst IsAccepted (sym (ap (λ (d : Done). d.r
 
 -- what a definition seals
 abbrev pub defined_in : Server → List ℕ → List Proc → Sealed
-defined_in s name list = changed s.holding.sets name (proc_bytes (each_once (members_of s.jobs list)))
+defined_in s name list = set_changed s.holding.sets name (proc_bytes (each_once (members_of s.jobs list)))
 
 pub define_seals : (s : Server) (name : List ℕ) (list : List Proc) → IsNode s → first_of (cause s.jobs s.id s.holding (Act.request (Request.define name list))) (tt {0}) ≡ Ok tt
     → Seals s (Act.request (Request.define name list)) host (defined_in s name list) (Reply.defined (defined_in s name list).level) (λ sealer. spread_by s.jobs s.id sealer host)
@@ -246,6 +246,6 @@ define_ready s now name list items jobs view node same judged listed =
     }
 
 -- a change of the sets that is taken back leaves what own processes sealed as it was
-pub own_back : (own changes back : Own) (cause : Refusal → Bool) (z w : Sealed) → changes ≡ with_sets own z → back ≡ with_sets changes w → first_of cause own.sets ≡ Ok w → back ≡ own
+pub own_back : (own changes back : LocalCommits) (cause : Refusal → Bool) (z w : Sealed) → changes ≡ with_sets own z → back ≡ with_sets changes w → first_of cause own.sets ≡ Ok w → back ≡ own
 own_back own changes back cause z w made undone was =
     undone ∙ (λ i. record { sealers = (made i).sealers; sets = sym (made_alike cause own.sets w (tt {0}) was).0 i })

@@ -17,40 +17,40 @@ use Rattle.pmg_scope.specs.declared.scope.Reach.TheVariants as reach
 use Rattle.pmg_commit.specs.Data.{Data, absorbed}
 use Rattle.pmg_commit.specs.Sealed.{Sealed, fresh, end_of, ended_with, piece_at}
 use Rattle.pmg_commit.specs.TakenBack.{end_back}
-use Rattle.pmg_commit.specs.declared.sealer.SealerBefore.{SealerBefore}
+use Rattle.pmg_commit.specs.declared.sealer.SealerUndo.{SealerUndo}
 use Rattle.pmg_fence.specs.Changes.{ended_by, news}
 use Rattle.pmg_fence.specs.Entering.{same_proc}
 use Rattle.pmg_fence.specs.Tables.{Fences, names_of}
 use Rattle.pmg_jobinfo.specs.Jobs.{Jobs}
 use Rattle.pmg_dmodex.specs.Levels.{Levels, without_below}
-use Rattle.pmg_rules.specs.Acts.{Act, Request, Reply, Done, is_misnamed, caller_cause, request_cause, cause, serves, does}
-use Rattle.pmg_holding.specs.Answering.{AreAnswers}
-use Rattle.pmg_holding.specs.Calls.{all_instead}
-use Rattle.pmg_rules.specs.Choosing.{Out, announcing, due_by, due_by_request, marked_by_act, sends}
-use Rattle.pmg_holding.specs.Codes.{Calls}
+use Rattle.pmg_node_model.specs.Acts.{Act, Request, Reply, Done, is_misnamed, caller_cause, request_cause, cause, serves, does}
+use Rattle.pmg_node_parts.specs.Answering.{AreAnswers}
+use Rattle.pmg_node_parts.specs.Calls.{all_instead}
+use Rattle.pmg_node_model.specs.Choosing.{Out, announcing, due_by, due_by_request, marked_by_act, sends}
+use Rattle.pmg_node_parts.specs.Codes.{Calls}
 use Rattle.pmg_node.specs.Endings.{own_ended, own_back}
-use Rattle.pmg_rules.specs.Holdings.{Standing, Holding, sealer_in, sealer_of, with_table, with_calls, uncalled, sealing, mapped, settled}
-use Rattle.pmg_rules.specs.Kept.{IsOwn, IsServer, is_about, settle_where}
-use Rattle.pmg_holding.specs.Owns.{Own, sealed_of, with_sealed}
-use Rattle.pmg_rules.specs.Sending.{is_quiet}
-use Rattle.pmg_holding.specs.Sealers.{AllSealed, sealed_by}
+use Rattle.pmg_node_model.specs.Holdings.{CallState, NodeState, sealer_in, sealer_of, with_table, with_calls, uncalled, sealing, mapped, settled}
+use Rattle.pmg_node_model.specs.Kept.{IsOwn, IsServer, is_about, settle_where}
+use Rattle.pmg_node_parts.specs.Owns.{LocalCommits, sealed_of, with_sealed}
+use Rattle.pmg_node_model.specs.Sending.{is_quiet}
+use Rattle.pmg_node_parts.specs.Sealers.{AllSealed, sealed_by}
 use Rattle.pmg_node.specs.Servers.{Server, IsAccepted, Refuses, reply_to, sent_by, after}
-use Rattle.pmg_holding.specs.Telling.{announcing_by, settling_by}
-use Rattle.pmg_holding.specs.declared.call.Settled.{Settled}
-use Rattle.pmg_rules.specs.declared.due.Due.{Due}
+use Rattle.pmg_node_parts.specs.Telling.{announcing_by, settling_by}
+use Rattle.pmg_node_parts.specs.declared.call.Completion.{Completion}
+use Rattle.pmg_node_model.specs.declared.due.ToSend.{ToSend}
 use Rattle.pmg_node.proofs.ActLemmas.{refused_reply, accepted_reply, accepted_after, accepted_sent}
-use Rattle.pmg_holding.proofs.CallLemmas.{get-mapped}
-use Rattle.pmg_rules.proofs.CauseFacts.{neither, by_causes}
+use Rattle.pmg_node_parts.proofs.CallLemmas.{get-mapped}
+use Rattle.pmg_node_model.proofs.CauseFacts.{neither, by_causes}
 use Rattle.pmg_node.proofs.HeaderNews.{news_alike}
-use Rattle.pmg_rules.proofs.KeptAgain.{settled_on, end_differs}
-use Rattle.pmg_rules.proofs.KeptBasics.{caller_is, host_is}
+use Rattle.pmg_node_model.proofs.KeptAgain.{settled_on, end_differs}
+use Rattle.pmg_node_model.proofs.KeptBasics.{caller_is, host_is}
 use Rattle.pmg_node.proofs.RefusalLemmas.{refuses_first}
-use Rattle.pmg_holding.proofs.SealerLemmas.{sealed-insert}
+use Rattle.pmg_node_parts.proofs.SealerLemmas.{sealed-insert}
 use Rattle.pmg_node.proofs.SilentLemmas.{act_free}
 
 -- ---- what one process sealed, and back
 
-module _ (own : Own) (p : Proc) (client : is_host p ≡ false) where
+module _ (own : LocalCommits) (p : Proc) (client : is_host p ≡ false) where
   -- no sets
   pub client_sealed : sealed_of own p ≡ sealed_by own.sealers p
   unfolding sealer_in
@@ -62,7 +62,7 @@ module _ (own : Own) (p : Proc) (client : is_host p ≡ false) where
   sealed_put z = ap (λ (b : Bool). cond b own.sets (sealed_by (finite.insert own.sealers p z) p)) client ∙ sealed-insert own.sealers p z
 
 -- so many commits it made then
-pub own_ended_level : (own : Own) (p : Proc) → is_host p ≡ false → (sealed_of (own_ended own p) p).level ≡ (ended_with (sealed_of own p)).level
+pub own_ended_level : (own : LocalCommits) (p : Proc) → is_host p ≡ false → (sealed_of (own_ended own p) p).level ≡ (ended_with (sealed_of own p)).level
 own_ended_level own p client = ap (λ (z : Sealed). z.level) (sealed_put own p client (ended_with (sealed_of own p)))
 
 -- a process that has not ended
@@ -96,7 +96,7 @@ put_back all p x there = finite.same_map procs_total exact_procs (finite.insert 
     by_test q true is None found some = absurd cc
     by_test q false is o found some = refl
 
-module _ (own : Own) (p : Proc) (client : is_host p ≡ false) (there : is_some (finite.get own.sealers p) ≡ true) where
+module _ (own : LocalCommits) (p : Proc) (client : is_host p ≡ false) (there : is_some (finite.get own.sealers p) ≡ true) where
   -- an end that was none is taken back
   pub own_same : own ≡ own_back own p None
   own_same = λ i. record { sealers = (sym (put_same own.sealers p there) ∙ ap (finite.insert own.sealers p) (sym (client_sealed own p client))) i; sets = own.sets }
@@ -109,10 +109,10 @@ module _ (own : Own) (p : Proc) (client : is_host p ≡ false) (there : is_some 
       λ i. record { sealers = (is ∙ ap (finite.insert own.sealers p) z) i; sets = own.sets }
 
   -- its end is taken back
-  pub own_returns : (sealers : AllSealed) (x : Sealed) (before : Option SealerBefore) → sealers ≡ finite.insert own.sealers p x → end_back (sealed_by sealers p) before ≡ sealed_by own.sealers p
+  pub own_returns : (sealers : AllSealed) (x : Sealed) (before : Option SealerUndo) → sealers ≡ finite.insert own.sealers p x → end_back (sealed_by sealers p) before ≡ sealed_by own.sealers p
       → own_back (record { sealers = sealers; sets = own.sets }) p before ≡ own
   own_returns sealers x before is back =
-      let new : Own = record { sealers = sealers; sets = own.sets } in
+      let new : LocalCommits = record { sealers = sealers; sets = own.sets } in
       let z : end_back (sealed_of new p) before ≡ sealed_by own.sealers p = ap (λ (y : Sealed). end_back y before) (client_sealed new p client) ∙ back in
       λ i. record { sealers = ((λ j. finite.insert (is j) p (z j)) ∙ put_back own.sealers p x there) i; sets = own.sets }
 
@@ -130,22 +130,22 @@ announced jobs id old new (f ∷ fs) =
 -- ---- calls
 
 -- who is in no call any more is in none once others are answered
-pub mapped_remove : (f : Standing → Standing) (m : Calls) (p : Proc) → mapped f (finite.remove m p) ≡ finite.remove (mapped f m) p
+pub mapped_remove : (f : CallState → CallState) (m : Calls) (p : Proc) → mapped f (finite.remove m p) ≡ finite.remove (mapped f m) p
 mapped_remove f m p = finite.same_map procs_total exact_procs (mapped f (finite.remove m p)) (finite.remove (mapped f m) p) (λ q.
     get-mapped f (finite.remove m p) q
     ∙ ap (option_map f) (finite.get-remove procs_total m p q)
     ∙ by_test (same_proc q p) (finite.get m q)
-    ∙ ap (λ (o : Option Standing). cond (same_proc q p) None o) (sym (get-mapped f m q))
+    ∙ ap (λ (o : Option CallState). cond (same_proc q p) None o) (sym (get-mapped f m q))
     ∙ sym (finite.get-remove procs_total (mapped f m) p q))
   where
-    by_test : (b : Bool) (o : Option Standing) → option_map f (cond b None o) ≡ cond b None (option_map f o)
+    by_test : (b : Bool) (o : Option CallState) → option_map f (cond b None o) ≡ cond b None (option_map f o)
     by_test true o = refl
     by_test false o = refl
 
 -- ---- the act
 
 -- what own processes of a node sealed
-abbrev pub own_in : Holding → Own
+abbrev pub own_in : NodeState → LocalCommits
 own_in h = record { sealers = h.sealers; sets = h.sets }
 
 -- the node, once the process has ended, with these calls and marks
@@ -176,12 +176,12 @@ no_reserved p named = by_test (is_host p) refl
     by_test true e = sym (ap (λ (q : Proc). is_reserved q.nspace) (host_is p e)) ∙ named
 
 -- a caller of whom nothing is amiss is an own process that has not ended
-pub record MayEnd (jobs : Jobs) (id : ℕ) (h : Holding) (p : Proc) : Type 0 where
+pub record MayEnd (jobs : Jobs) (id : ℕ) (h : NodeState) (p : Proc) : Type 0 where
   pub own : IsOwn jobs id p
   pub client : is_host p ≡ false
   pub live : (sealer_of h p).ended ≡ false
 
-pub may_end : (jobs : Jobs) (id : ℕ) (h : Holding) (p : Proc) → first_of (caller_cause jobs id h p) (tt {0}) ≡ Ok tt → MayEnd jobs id h p
+pub may_end : (jobs : Jobs) (id : ℕ) (h : NodeState) (p : Proc) → first_of (caller_cause jobs id h p) (tt {0}) ≡ Ok tt → MayEnd jobs id h p
 may_end jobs id h p free =
     elim (by_causes (caller_cause jobs id h p) (tt {0})) as (λ _. MayEnd jobs id h p) [
       | inl found ↦ absurd (let no : Err found.0 ≡ Ok (tt {0}) = sym found.2 ∙ free in cc)
@@ -192,7 +192,7 @@ may_end jobs id h p free =
       }
     ]
 
-pub end_refused : (jobs : Jobs) (id : ℕ) (h : Holding) (p : Proc) (e : Refusal) → first_of (caller_cause jobs id h p) (tt {0}) ≡ Err e → first_of (cause jobs id h (Act.request (Request.terminate p))) (tt {0}) ≡ Err e
+pub end_refused : (jobs : Jobs) (id : ℕ) (h : NodeState) (p : Proc) (e : Refusal) → first_of (caller_cause jobs id h p) (tt {0}) ≡ Err e → first_of (cause jobs id h (Act.request (Request.terminate p))) (tt {0}) ≡ Err e
 unfolding cause request_cause
 end_refused jobs id h p e is = is
 
@@ -218,14 +218,14 @@ module _ (s : Server) (p : Proc) (free : first_of (caller_cause s.jobs s.id s.ho
   abbrev z : Sealed
   z = ended_with (sealer_of s.holding p)
 
-  abbrev own : Own
+  abbrev own : LocalCommits
   own = own_ended (own_in s.holding) p
 
-  abbrev grown : Holding
+  abbrev grown : NodeState
   grown = uncalled (with_table (sealing s.holding p z) (ended_by s.holding.table p z.level)) p
 
   -- what is due to nodes of fences of which the own header comes to exist
-  abbrev pub end_news : List Due
+  abbrev pub end_news : List ToSend
   end_news = flat_map (announcing s.jobs s.id) (flat_map (news s.jobs s.id s.holding.table (ended_by s.holding.table p z.level)) (names_of s.holding.table))
 
   is_free : first_of (cause s.jobs s.id s.holding a) (tt {0}) ≡ Ok tt
@@ -233,10 +233,10 @@ module _ (s : Server) (p : Proc) (free : first_of (caller_cause s.jobs s.id s.ho
   is_free = free
 
   module _
-      (answers : List (Proc × Settled))
+      (answers : List (Proc × Completion))
       (are : AreAnswers s.jobs s.id (is_about p) (ended_by s.holding.table p z.level) (absorbed s.holding.near (piece_at z (sealer_of s.holding p).level reach.Near))
       (absorbed s.holding.far (piece_at z (sealer_of s.holding p).level reach.Far)) s.holding.calls answers) where
-    abbrev left : Holding
+    abbrev left : NodeState
     left = (with_end p z (all_instead s.holding.calls answers) s.marks s).holding
 
     leaves : settled s.jobs s.id (does s.jobs s.id s.holding a).left ≡ left
@@ -284,11 +284,11 @@ module _
     (free : first_of (caller_cause s.jobs s.id s.holding p) (tt {0}) ≡ Ok tt)
     (kept : IsServer s.jobs s.id s.holding)
     (jobs : Jobs)
-    (own : Own)
+    (own : LocalCommits)
     (table : Fences)
     (from : ℕ)
-    (answers : List (Proc × Settled))
-    (dues : List Due)
+    (answers : List (Proc × Completion))
+    (dues : List ToSend)
     (same_jobs : jobs ≡ s.jobs)
     (same_own : own ≡ own_ended (own_in s.holding) p)
     (same_table : table ≡ ended_by s.holding.table p (ended_with (sealer_of s.holding p)).level)
@@ -302,7 +302,7 @@ module _
   client = (may_end s.jobs s.id s.holding p free).client
 
   pub sealed_is : sealed_of own p ≡ ended_with (sealer_of s.holding p)
-  sealed_is = ap (λ (o : Own). sealed_of o p) same_own ∙ sealed_put (own_in s.holding) p client (ended_with (sealer_of s.holding p))
+  sealed_is = ap (λ (o : LocalCommits). sealed_of o p) same_own ∙ sealed_put (own_in s.holding) p client (ended_with (sealer_of s.holding p))
 
   pub piece_is : (r : Reach) → piece_at (sealed_of own p) from r ≡ piece_at (ended_with (sealer_of s.holding p)) (sealer_of s.holding p).level r
   piece_is r = λ i. piece_at (sealed_is i) (same_from i) r

@@ -30,19 +30,19 @@ use Rattle.pmg_fence.specs.Kept.{placed_by}
 use Rattle.pmg_fence.specs.Tables.{count_of}
 use Rattle.pmg_fence.specs.declared.change.Change.TheVariants as changes
 use Rattle.pmg_store.specs.declared.board.Board.{Board}
-use Rattle.pmg_rules.specs.Acts.{Act, Request, Reply, Done, also, free_cause, list_cause, is_misnamed, list_of, signature_of, signature_cause, cause, request_cause, serves, does}
-use Rattle.pmg_rules.specs.Choosing.{announcing, due_by, due_by_request, marked_by_act, sends}
-use Rattle.pmg_holding.specs.Codes.{Calls}
+use Rattle.pmg_node_model.specs.Acts.{Act, Request, Reply, Done, also, free_cause, list_cause, is_misnamed, list_of, signature_of, signature_cause, cause, request_cause, serves, does}
+use Rattle.pmg_node_model.specs.Choosing.{announcing, due_by, due_by_request, marked_by_act, sends}
+use Rattle.pmg_node_parts.specs.Codes.{Calls}
 use Rattle.pmg_node.specs.Content.{server_of, IsContent}
 use Rattle.pmg_node.specs.Entries.{part_cause, entry_cause, entered_name}
 use Rattle.pmg_node.specs.Fencing.{fence_after, fence_dues, AreSettledIn}
-use Rattle.pmg_rules.specs.Holdings.{Standing, Holding, sealer_of, call_of}
-use Rattle.pmg_holding.specs.Owns.{Own, sealed_of}
+use Rattle.pmg_node_model.specs.Holdings.{CallState, NodeState, sealer_of, call_of}
+use Rattle.pmg_node_parts.specs.Owns.{LocalCommits, sealed_of}
 use Rattle.pmg_node.specs.Servers.{Server, reply_to, IsAccepted, RefusesAct}
 use Rattle.pmg_node.proofs.ActLemmas.{refused_reply}
-use Rattle.pmg_rules.proofs.CauseFacts.{by_causes, neither_cause, free_is}
+use Rattle.pmg_node_model.proofs.CauseFacts.{by_causes, neither_cause, free_is}
 use Rattle.pmg_node.proofs.FenceLemmas.{ChangesFence, Steps, fence_steps}
-use Rattle.pmg_rules.proofs.KeptAgain.{enter_differs}
+use Rattle.pmg_node_model.proofs.KeptAgain.{enter_differs}
 use Rattle.pmg_node.proofs.SilentLemmas.{act_free}
 
 -- ---- the signature that is asked for
@@ -173,7 +173,7 @@ entry_chain a b c d e f =
     cond a (Err refusals.BadParam)
     (cond b (Err refusals.UnknownNamespace) (cond c (Err refusals.NotMine) (cond d (Err refusals.Terminated) (cond e (Err refusals.Busy) (cond f (Err refusals.NotAParticipant) (Ok tt))))))
 
-module _ (jobs : Jobs) (id : ℕ) (h : Holding) (p : Proc) where
+module _ (jobs : Jobs) (id : ℕ) (h : NodeState) (p : Proc) where
   bad_is : (list : List Proc) → entry_cause jobs id h p list refusals.BadParam ≡ is_bad_by jobs p list
   bad_is [] = bad_whole (is_reserved p.nspace) (is_misnamed jobs p) (is_registered jobs p.nspace)
   bad_is (q ∷ qs) =
@@ -273,7 +273,7 @@ module _
     (table : Known)
     (id : ℕ)
     (board : Board)
-    (own : Own)
+    (own : LocalCommits)
     (calls : Calls)
     (held : Requests)
     (marks : Levels)
@@ -391,7 +391,7 @@ module _ (s : Server) (p : Proc) (list : List Proc) (collect : Bool) where
       (entry_by s.jobs s.id s.holding p list collect false is found.0, found.1)
 
   entry_act : first_of (cause s.jobs s.id s.holding enters) (tt {0}) ≡ Ok tt
-      → ChangesFence s enters its_name (changes.Entered p (sealer_of s.holding p).level) (Reply.entered its_name.instance) (finite.insert s.holding.calls p (Standing.in_fence its_name))
+      → ChangesFence s enters its_name (changes.Entered p (sealer_of s.holding p).level) (Reply.entered its_name.instance) (finite.insert s.holding.calls p (CallState.in_fence its_name))
   unfolding does serves due_by due_by_request marked_by_act
   entry_act free = record {
     free = free;
@@ -406,7 +406,7 @@ module _ (s : Server) (p : Proc) (list : List Proc) (collect : Bool) where
       (table : Known)
       (id : ℕ)
       (board : Board)
-      (own : Own)
+      (own : LocalCommits)
       (calls : Calls)
       (held : Requests)
       (marks : Levels)
@@ -418,15 +418,15 @@ module _ (s : Server) (p : Proc) (list : List Proc) (collect : Bool) where
       (ended : Calls)
       (table_then : Known)
       (marks_then : Levels) where
-    pub entry_steps : AreSettledIn name table.jobs id (placed_by table.fences name (changes.Entered p (sealed_of own p).level)) board.near board.far (finite.insert calls p (Standing.in_fence name)) ended
+    pub entry_steps : AreSettledIn name table.jobs id (placed_by table.fences name (changes.Entered p (sealed_of own p).level)) board.near board.far (finite.insert calls p (CallState.in_fence name)) ended
         → table_then ≡ fence_after table name (changes.Entered p (sealed_of own p).level)
         → marks_then ≡ (sends (sealed_of own) marks (fence_dues table name (changes.Entered p (sealed_of own p).level))).marks
         → Steps s enters (Reply.entered its_name.instance) table_then id held.anew (server_of table_then id board own ended held marks_then)
         (sends (sealed_of own) marks (fence_dues table name (changes.Entered p (sealed_of own p).level))).frames
     entry_steps are table_is marks_are =
         fence_steps table id board own calls held marks s view kept enters its_name (changes.Entered p (sealer_of s.holding p).level) (Reply.entered its_name.instance)
-        (λ (m : Calls). finite.insert m p (Standing.in_fence its_name)) (entry_act free) name named (changes.Entered p (sealed_of own p).level)
+        (λ (m : Calls). finite.insert m p (CallState.in_fence its_name)) (entry_act free) name named (changes.Entered p (sealed_of own p).level)
         (ap (λ (x : Server). changes.Entered p (sealer_of x.holding p).level) view) ended
         (subst
-        (λ f. AreSettledIn name table.jobs id (placed_by table.fences name (changes.Entered p (sealed_of own p).level)) board.near board.far (finite.insert calls p (Standing.in_fence f)) ended)
+        (λ f. AreSettledIn name table.jobs id (placed_by table.fences name (changes.Entered p (sealed_of own p).level)) board.near board.far (finite.insert calls p (CallState.in_fence f)) ended)
         named are) table_then table_is marks_then marks_are

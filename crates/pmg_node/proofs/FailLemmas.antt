@@ -6,9 +6,9 @@ use Rattle.pmg_value.specs.Answers.{IsAnswer, Fails}
 use Rattle.pmg_value.specs.CheckOrder.{check_order, first_in, first_of}
 use Rattle.pmg_value.specs.declared.refusal.Refusal.{Refusal}
 use Rattle.pmg_value.specs.declared.refusal.Refusal.TheVariants as refusals
-use Rattle.pmg_rules.specs.Acts.{Act, Reply, cause}
+use Rattle.pmg_node_model.specs.Acts.{Act, Reply, cause}
 use Rattle.pmg_node.specs.Servers.{Server, reply_to, sent_by, after, IsAccepted, Refuses, Replies, IsAnswered}
-use Rattle.pmg_rules.specs.declared.sent.Sent.{Sent}
+use Rattle.pmg_node_model.specs.declared.sent.Sent.{Sent}
 use Rattle.pmg_node.proofs.ActLemmas.{refused_reply, refused_after, refused_sent}
 
 -- a refusal but NoMemory comes where it is due

@@ -17,45 +17,45 @@ use Rattle.pmg_fence.specs.Changes.{learned, present, news, taken}
 use Rattle.pmg_fence.specs.Codes.{Known}
 use Rattle.pmg_fence.specs.Kept.{placed_by}
 use Rattle.pmg_fence.specs.Tables.{Fences, is_old}
-use Rattle.pmg_fence.specs.TakenBack.{table_back, CanTakeBack}
+use Rattle.pmg_fence.specs.TakenBack.{table_back, CanRollTableBack}
 use Rattle.pmg_fence.specs.declared.change.Change.{Change}
 use Rattle.pmg_fence.specs.declared.change.Change.TheVariants as changes
-use Rattle.pmg_fence.specs.declared.table.TableBefore.{TableBefore}
+use Rattle.pmg_fence.specs.declared.table.TableUndo.{TableUndo}
 use Rattle.pmg_fence.proofs.KeptLemmas.{kept_waiting}
 use Rattle.pmg_store.specs.declared.board.Board.{Board}
-use Rattle.pmg_rules.specs.Acts.{Act, Reply, Done, done_as, cause, is_peer, is_concerned, is_complete, is_taken, receives, does}
-use Rattle.pmg_rules.specs.Choosing.{announcing, telling_of, due_by, due_by_frame, marked_by_act, sends}
-use Rattle.pmg_holding.specs.Codes.{Calls}
+use Rattle.pmg_node_model.specs.Acts.{Act, Reply, Done, done_as, cause, is_peer, is_concerned, is_complete, is_taken, receives, does}
+use Rattle.pmg_node_model.specs.Choosing.{announcing, telling_of, due_by, due_by_frame, marked_by_act, sends}
+use Rattle.pmg_node_parts.specs.Codes.{Calls}
 use Rattle.pmg_node.specs.Content.{server_of, IsContent}
 use Rattle.pmg_node.specs.Fencing.{fence_after, fence_dues, AreSettledIn}
-use Rattle.pmg_rules.specs.Holdings.{Holding, mapped, with_table, with_calls, settled}
-use Rattle.pmg_rules.specs.Kept.{is_in, settle_where, DiffersIn}
-use Rattle.pmg_holding.specs.Owns.{Own, sealed_of}
-use Rattle.pmg_rules.specs.Sending.{is_quiet, own_header_of}
+use Rattle.pmg_node_model.specs.Holdings.{NodeState, mapped, with_table, with_calls, settled}
+use Rattle.pmg_node_model.specs.Kept.{is_in, settle_where, DiffersIn}
+use Rattle.pmg_node_parts.specs.Owns.{LocalCommits, sealed_of}
+use Rattle.pmg_node_model.specs.Sending.{is_quiet, own_header_of}
 use Rattle.pmg_node.specs.Servers.{Server, reply_to, sent_by, after, IsNode}
-use Rattle.pmg_holding.specs.Telling.{telling_by, announcing_by}
-use Rattle.pmg_rules.specs.declared.due.Due.{Due}
-use Rattle.pmg_rules.specs.declared.sent.Sent.{Sent}
+use Rattle.pmg_node_parts.specs.Telling.{telling_by, announcing_by}
+use Rattle.pmg_node_model.specs.declared.due.ToSend.{ToSend}
+use Rattle.pmg_node_model.specs.declared.sent.Sent.{Sent}
 use Rattle.pmg_node.proofs.ActLemmas.{accepted_reply, accepted_after, accepted_sent}
 use Rattle.pmg_node.proofs.FrameLemmas.{deliver_free}
-use Rattle.pmg_rules.proofs.ChoosingNews.{present_named}
+use Rattle.pmg_node_model.proofs.ChoosingNews.{present_named}
 use Rattle.pmg_node.proofs.HeaderNews.{present_lists, telling_alike, news_alike}
-use Rattle.pmg_rules.proofs.KeptAgain.{settled_names, change_differs, learned_changed, header_changed}
-use Rattle.pmg_rules.proofs.LearnedAgain.{learned_again}
-use Rattle.pmg_rules.proofs.KeptSettled.{settled_same}
+use Rattle.pmg_node_model.proofs.KeptAgain.{settled_names, change_differs, learned_changed, header_changed}
+use Rattle.pmg_node_model.proofs.LearnedAgain.{learned_again}
+use Rattle.pmg_node_model.proofs.KeptSettled.{settled_same}
 use Rattle.pmg_node.proofs.NodeKept.{node_stays}
 use Rattle.pmg_node.proofs.OpenLemmas.{still_open}
 
 -- ---- a change that is taken back
 
 -- though its headers were taken
-pub can_take_back : (k : Known) (b : TableBefore) → CanTakeBack k b → CanTakeBack (taken k []) b
+pub can_take_back : (k : Known) (b : TableUndo) → CanRollTableBack k b → CanRollTableBack (taken k []) b
 can_take_back k b can owns kept = kept_waiting (table_back k b) owns (take b.waiting []) (can owns (kept_waiting (taken k []) owns k.waiting kept))
 
 -- ---- a change that stays
 
 -- with one fence changed, and with these calls
-abbrev pub with_change : Holding → FenceName → Change → Calls → Holding
+abbrev pub with_change : NodeState → FenceName → Change → Calls → NodeState
 with_change h f change calls = with_calls (with_table h (placed_by h.table f change)) calls
 
 -- The act is accepted and changes the fence, and no call of another one; what is due are the own headers that come to exist.
@@ -64,7 +64,7 @@ pub record ChangesFence (s : Server) (a : Act) (f : FenceName) (change : Change)
   pub done : does s.jobs s.id s.holding a ≡ done_as reply (with_change s.holding f change calls)
   pub loud : is_quiet reply ≡ false
   pub differs : DiffersIn s.jobs s.id f s.holding (with_change s.holding f change calls)
-  pub owes : (left : Holding) → left.table ≡ placed_by s.holding.table f change
+  pub owes : (left : NodeState) → left.table ≡ placed_by s.holding.table f change
       → due_by s.jobs s.id s.holding a left ≡ flat_map (announcing s.jobs s.id) (news s.jobs s.id s.holding.table (placed_by s.holding.table f change) f)
   pub asked : (marks : Levels) → marked_by_act marks a ≡ marks
 
@@ -81,7 +81,7 @@ module _
     (table : Known)
     (id : ℕ)
     (board : Board)
-    (own : Own)
+    (own : LocalCommits)
     (calls : Calls)
     (held : Requests)
     (marks : Levels)
@@ -110,7 +110,7 @@ module _
   its_act : ChangesFence begins a f change reply (begin calls)
   its_act = subst (λ (x : Server). ChangesFence x a f change reply (begin x.holding.calls)) (sym view) act
 
-  abbrev left : Holding
+  abbrev left : NodeState
   left = with_change begins.holding f change ended
 
   loud : is_quiet (does begins.jobs begins.id begins.holding a).reply ≡ false
@@ -123,7 +123,7 @@ module _
       ∙ settled_names begins.jobs begins.id f begins.holding g kept.node.server.settled its_act.differs
       ∙ ap (with_calls g) (sym (are g (λ i. placed_by table.fences (sym named i) (sym same i)) refl refl ∙ (λ i. mapped (settle_where table.jobs id g (is_in (named i))) (begin calls))))
 
-  abbrev dues : List Due
+  abbrev dues : List ToSend
   dues = fence_dues table f change
 
   owes : due_by begins.jobs begins.id begins.holding a left ≡ dues
@@ -169,7 +169,7 @@ ask_young : (jobs : Jobs) (id : ℕ) (t : Fences) (ask : FenceAsk) → is_taken 
 unfolding is_taken
 ask_young jobs id t ask e = not_last (is_peer jobs id ask.node && is_concerned jobs id ask.name) (is_old t ask.name) e
 
-does_taken : (jobs : Jobs) (id : ℕ) (h : Holding) (frame : Frame) → is_taken jobs id h.table frame ≡ true → does jobs id h (Act.deliver frame) ≡ done_as Reply.taken (receives jobs id h frame)
+does_taken : (jobs : Jobs) (id : ℕ) (h : NodeState) (frame : Frame) → is_taken jobs id h.table frame ≡ true → does jobs id h (Act.deliver frame) ≡ done_as Reply.taken (receives jobs id h frame)
 unfolding does
 does_taken jobs id h frame e = ap (λ (b : Bool). cond b (done_as Reply.taken (receives jobs id h frame)) (done_as Reply.ignored h)) e
 
@@ -213,7 +213,7 @@ module _
     (table : Known)
     (id : ℕ)
     (board : Board)
-    (own : Own)
+    (own : LocalCommits)
     (calls : Calls)
     (held : Requests)
     (marks : Levels)
@@ -258,7 +258,7 @@ module _
     (table : Known)
     (id : ℕ)
     (board : Board)
-    (own : Own)
+    (own : LocalCommits)
     (calls : Calls)
     (held : Requests)
     (marks : Levels)

@@ -10,12 +10,12 @@ use Rattle.pmg_frame.specs.declared.frame.Frame.TheVariants as frames
 use Rattle.pmg_jobinfo.specs.Jobs.{Jobs, home_of}
 use Rattle.pmg_fence.specs.Tables.{Fences}
 use Rattle.pmg_dmodex.specs.Levels.{Levels}
-use Rattle.pmg_rules.specs.Acts.{Act, Done, Reply, done_as, holds_unless, cause, is_known, is_peer, is_taken, receives, does, acts}
-use Rattle.pmg_rules.specs.Choosing.{Out, asked_marks, answering, replying, due_by, due_by_frame, marked_by_act, sends, chosen}
-use Rattle.pmg_rules.specs.Holdings.{Holding, sealer_of, holding_ask, settled}
-use Rattle.pmg_rules.specs.Kept.{IsSettled}
+use Rattle.pmg_node_model.specs.Acts.{Act, Done, Reply, done_as, holds_unless, cause, is_known, is_peer, is_taken, receives, does, acts}
+use Rattle.pmg_node_model.specs.Choosing.{Out, asked_marks, answering, replying, due_by, due_by_frame, marked_by_act, sends, chosen}
+use Rattle.pmg_node_model.specs.Holdings.{NodeState, sealer_of, holding_ask, settled}
+use Rattle.pmg_node_model.specs.Kept.{IsSettled}
 use Rattle.pmg_node.specs.Servers.{Server, IsNode, after, reply_to, sent_by}
-use Rattle.pmg_rules.proofs.KeptSettled.{settled_same}
+use Rattle.pmg_node_model.proofs.KeptSettled.{settled_same}
 use Rattle.pmg_node.proofs.SilentLemmas.{act_free, sent_as, quiet_silent, after_is, sent_none}
 
 pub below_is : (m n : ℕ) → m < n → nat_lt m n ≡ true
@@ -54,7 +54,7 @@ range_out a s = sends (sealer_of s.holding) (asked_marks s.marks (Some a)) (answ
 abbrev pub refresh_out : RefreshAsk → Server → Out
 refresh_out a s = sends (sealer_of s.holding) (asked_marks s.marks (Some a.ask)) (replying s.holding a)
 
-module _ (jobs : Jobs) (id : ℕ) (h : Holding) where
+module _ (jobs : Jobs) (id : ℕ) (h : NodeState) where
   pub deliver_free : (frame : Frame) → first_of (cause jobs id h (Act.deliver frame)) (tt {0}) ≡ Ok tt
   unfolding cause
   deliver_free frame = refl

@@ -8,23 +8,23 @@ use Rattle.pmg_scope.specs.declared.scope.Reach.TheVariants as reach
 use Rattle.pmg_commit.specs.Data.{absorbed}
 use Rattle.pmg_commit.specs.Sealed.{Sealed, sealed_with, ended_with, piece_at}
 use Rattle.pmg_pset.specs.Changes.{definition, deletion}
-use Rattle.pmg_pset.specs.Sets.{host, changed}
+use Rattle.pmg_pset.specs.Sets.{host, set_changed}
 use Rattle.pmg_frame.specs.declared.frame.Frame.{Frame}
 use Rattle.pmg_frame.specs.declared.frame.Frame.TheVariants as frames
 use Rattle.pmg_jobinfo.specs.Jobs.{Jobs}
 use Rattle.pmg_get.specs.Gets.{Outcome}
-use Rattle.pmg_rules.specs.Acts.{Request, Act, Reply, Done, done_as, cause, is_taken, members_of, holds_unless, leaves, takes, asks, serves, receives, does, over, acts}
-use Rattle.pmg_rules.specs.Holdings.{Standing, Get, Holding, joined, sealer_of, call_of, sealing, answer_in, settled}
+use Rattle.pmg_node_model.specs.Acts.{Request, Act, Reply, Done, done_as, cause, is_taken, members_of, holds_unless, leaves, takes, asks, serves, receives, does, over, acts}
+use Rattle.pmg_node_model.specs.Holdings.{CallState, Get, NodeState, joined, sealer_of, call_of, sealing, answer_in, settled}
 use Rattle.pmg_node.specs.Acting.{delivery_joins}
 use Rattle.pmg_node.specs.Joining.{Joins, no_joins, frame_joins, act_joins, joins}
 use Rattle.pmg_node.specs.Replies.{delivery_reply}
 use Rattle.pmg_node.specs.declared.asked.Delivery.{Delivery}
 use Rattle.pmg_node.specs.declared.asked.Delivery.TheVariants as deliveries
-use Rattle.pmg_rules.specs.Sending.{is_quiet}
-use Rattle.pmg_rules.proofs.KeptChanges.{sealer_there}
+use Rattle.pmg_node_model.specs.Sending.{is_quiet}
+use Rattle.pmg_node_model.proofs.KeptChanges.{sealer_there}
 use Rattle.pmg_node.proofs.SilentLemmas.{then_answer, acts_by}
 
-module _ (jobs : Jobs) (id : ℕ) (h : Holding) where
+module _ (jobs : Jobs) (id : ℕ) (h : NodeState) where
   -- what the act joins is all that came to the stores
   abbrev IsAll : Act → Done → Type 0
   IsAll a d =
@@ -47,24 +47,24 @@ module _ (jobs : Jobs) (id : ℕ) (h : Holding) where
   sealed_joins p z l =
       (ap (λ (y : Sealed). absorbed h.near (piece_at y l reach.Near)) (sym (sealer_there h p z)), ap (λ (y : Sealed). absorbed h.far (piece_at y l reach.Far)) (sym (sealer_there h p z)))
 
-  leave_joins : (p : Proc) (c : Option Standing) → IsAll (Act.request (Request.leave p)) (done_as (leaves h p c).reply (settled jobs id (leaves h p c).left))
-  leave_joins p (Some (Standing.in_fence f)) = (refl, refl)
-  leave_joins p (Some (Standing.released f gone)) = (refl, refl)
-  leave_joins p (Some (Standing.parked get)) = (refl, refl)
-  leave_joins p (Some (Standing.answered get outcome)) = (refl, refl)
-  leave_joins p (Some (Standing.refreshing get number)) = (refl, refl)
-  leave_joins p (Some (Standing.refreshed get outcome)) = (refl, refl)
+  leave_joins : (p : Proc) (c : Option CallState) → IsAll (Act.request (Request.leave p)) (done_as (leaves h p c).reply (settled jobs id (leaves h p c).left))
+  leave_joins p (Some (CallState.in_fence f)) = (refl, refl)
+  leave_joins p (Some (CallState.released f gone)) = (refl, refl)
+  leave_joins p (Some (CallState.parked get)) = (refl, refl)
+  leave_joins p (Some (CallState.answered get outcome)) = (refl, refl)
+  leave_joins p (Some (CallState.refreshing get number)) = (refl, refl)
+  leave_joins p (Some (CallState.refreshed get outcome)) = (refl, refl)
   leave_joins p None = (refl, refl)
 
-  take_joins : (p : Proc) (c : Option Standing) → IsAll (Act.request (Request.take p)) (done_as (takes h p c).reply (settled jobs id (takes h p c).left))
-  take_joins p (Some (Standing.in_fence f)) = (refl, refl)
-  take_joins p (Some (Standing.released f gone)) = (refl, refl)
-  take_joins p (Some (Standing.parked get)) = (refl, refl)
-  take_joins p (Some (Standing.answered get outcome)) =
-      same_stores (Act.request (Request.take p)) (done_as (takes h p (Some (Standing.answered get outcome))).reply (settled jobs id (takes h p (Some (Standing.answered get outcome))).left)) refl refl refl
-  take_joins p (Some (Standing.refreshing get number)) = (refl, refl)
-  take_joins p (Some (Standing.refreshed get outcome)) =
-      same_stores (Act.request (Request.take p)) (done_as (takes h p (Some (Standing.refreshed get outcome))).reply (settled jobs id (takes h p (Some (Standing.refreshed get outcome))).left)) refl refl refl
+  take_joins : (p : Proc) (c : Option CallState) → IsAll (Act.request (Request.take p)) (done_as (takes h p c).reply (settled jobs id (takes h p c).left))
+  take_joins p (Some (CallState.in_fence f)) = (refl, refl)
+  take_joins p (Some (CallState.released f gone)) = (refl, refl)
+  take_joins p (Some (CallState.parked get)) = (refl, refl)
+  take_joins p (Some (CallState.answered get outcome)) =
+      same_stores (Act.request (Request.take p)) (done_as (takes h p (Some (CallState.answered get outcome))).reply (settled jobs id (takes h p (Some (CallState.answered get outcome))).left)) refl refl refl
+  take_joins p (Some (CallState.refreshing get number)) = (refl, refl)
+  take_joins p (Some (CallState.refreshed get outcome)) =
+      same_stores (Act.request (Request.take p)) (done_as (takes h p (Some (CallState.refreshed get outcome))).reply (settled jobs id (takes h p (Some (CallState.refreshed get outcome))).left)) refl refl refl
   take_joins p None = (refl, refl)
 
   ask_joins : (p : Proc) (get : Get) (mode : _) (o : Outcome) → IsAll (Act.request (Request.ask p get mode)) (done_as (asks h p get mode o).reply (settled jobs id (asks h p get mode o).left))
@@ -80,8 +80,8 @@ module _ (jobs : Jobs) (id : ℕ) (h : Holding) where
   request_all (Request.ask p get mode) = ask_joins p get mode (answer_in jobs id h get mode)
   request_all (Request.take p) = take_joins p (call_of h p)
   request_all (Request.terminate p) = sealed_joins p (ended_with (sealer_of h p)) (sealer_of h p).level
-  request_all (Request.define name list) = let c = definition name (members_of jobs list) in sealed_joins host (changed h.sets c.name c.bytes) (sealer_of h host).level
-  request_all (Request.delete name) = let c = deletion name in sealed_joins host (changed h.sets c.name c.bytes) (sealer_of h host).level
+  request_all (Request.define name list) = let c = definition name (members_of jobs list) in sealed_joins host (set_changed h.sets c.name c.bytes) (sealer_of h host).level
+  request_all (Request.delete name) = let c = deletion name in sealed_joins host (set_changed h.sets c.name c.bytes) (sealer_of h host).level
   request_all Request.nudge = (refl, refl)
 
   held_joins : (a : _) (b : Bool) → IsAll (Act.deliver (frames.DirectAsk a)) (done_as Reply.taken (settled jobs id (holds_unless b h a.node a.proc a.level)))

@@ -5,8 +5,8 @@ use Rattle.pmg_value.specs.declared.process.Proc.{Proc}
 use Rattle.pmg_value.specs.declared.refusal.Refusal.{Refusal}
 use Rattle.pmg_value.specs.declared.refusal.Refusal.TheVariants as refusals
 use Rattle.pmg_jobinfo.specs.Jobs.{Jobs}
-use Rattle.pmg_rules.specs.Acts.{caller_cause, free_cause}
-use Rattle.pmg_rules.specs.Holdings.{Holding, call_of}
+use Rattle.pmg_node_model.specs.Acts.{caller_cause, free_cause}
+use Rattle.pmg_node_model.specs.Holdings.{NodeState, call_of}
 
 -- whoever may call is refused where it is in a call
 abbrev pub then_busy : Result (Unit {0}) Refusal → Bool → Result (Unit {0}) Refusal
@@ -22,7 +22,7 @@ judged false false true d e = refl
 judged false false false true e = refl
 judged false false false false e = refl
 
-pub free_first : (jobs : Jobs) (id : ℕ) (h : Holding) (p : Proc)
+pub free_first : (jobs : Jobs) (id : ℕ) (h : NodeState) (p : Proc)
     → first_of (free_cause jobs id h p) (tt {0}) ≡ then_busy (first_of (caller_cause jobs id h p) tt) (is_some (call_of h p))
 free_first jobs id h p =
     judged (caller_cause jobs id h p refusals.BadParam) (caller_cause jobs id h p refusals.UnknownNamespace) (caller_cause jobs id h p refusals.NotMine)

@@ -7,48 +7,48 @@ use Rattle.pmg_value.specs.declared.process.Proc.{Proc}
 use Rattle.pmg_value.proofs.ProcessOrder.{procs_total}
 use Rattle.pmg_commit.specs.Sealed.{Sealed, sealed_with, ended_with}
 use Rattle.pmg_pset.specs.Changes.{definition, deletion}
-use Rattle.pmg_pset.specs.Sets.{host, changed}
+use Rattle.pmg_pset.specs.Sets.{host, set_changed}
 use Rattle.pmg_frame.specs.declared.frame.Frame.{Frame}
 use Rattle.pmg_frame.specs.declared.frame.Frame.TheVariants as frames
 use Rattle.pmg_jobinfo.specs.Jobs.{Jobs}
 use Rattle.pmg_get.specs.Gets.{Outcome}
 use Rattle.pmg_get.specs.declared.view.Mode.{Mode}
 use Rattle.std.specs.Prelude.{nat_lt, if◌then◌else◌}
-use Rattle.pmg_rules.specs.Acts.{Act, Request, Reply, done_as, members_of, is_taken, holds_unless, receives, leaves, takes, asks, serves, does, acts}
-use Rattle.pmg_rules.specs.Holdings.{Get, Standing, Holding, sealing, sealer_of, call_of, answer_in}
+use Rattle.pmg_node_model.specs.Acts.{Act, Request, Reply, done_as, members_of, is_taken, holds_unless, receives, leaves, takes, asks, serves, does, acts}
+use Rattle.pmg_node_model.specs.Holdings.{Get, CallState, NodeState, sealing, sealer_of, call_of, answer_in}
 use Rattle.pmg_node.specs.Servers.{Server, after, HasSealers, IsNode}
-use Rattle.pmg_rules.proofs.KeptActs.{server_stays}
-use Rattle.pmg_rules.proofs.KeptBasics.{act_cases}
+use Rattle.pmg_node_model.proofs.KeptActs.{server_stays}
+use Rattle.pmg_node_model.proofs.KeptBasics.{act_cases}
 
-still_there : (h : Holding) (by : Proc) (z : Sealed) (p : Proc) (b : Bool) → is_some (finite.get h.sealers p) ≡ true → is_some (finite.get (cond b h.sealers (finite.insert h.sealers by z)) p) ≡ true
+still_there : (h : NodeState) (by : Proc) (z : Sealed) (p : Proc) (b : Bool) → is_some (finite.get h.sealers p) ≡ true → is_some (finite.get (cond b h.sealers (finite.insert h.sealers by z)) p) ≡ true
 still_there h by z p true there = there
 still_there h by z p false there =
     ap is_some (finite.get-insert procs_total h.sealers by z p)
     ∙ elim (eq_by_cmp proc_cmp p by) as (λ b. is_some (cond b (Some z) (finite.get h.sealers p)) ≡ true) [ true ↦ refl | false ↦ there ]
 
-module _ (jobs : Jobs) (id : ℕ) (h : Holding) (has : HasSealers jobs id h) where
-  abbrev pub Has : Holding → Type 0
+module _ (jobs : Jobs) (id : ℕ) (h : NodeState) (has : HasSealers jobs id h) where
+  abbrev pub Has : NodeState → Type 0
   Has g = HasSealers jobs id g
 
   sealing_has : (by : Proc) (z : Sealed) → Has (sealing h by z)
   sealing_has by z p own = still_there h by z p (is_host by) (has p own)
 
-  leave_has : (p : Proc) (c : Option Standing) → Has (leaves h p c).left
-  leave_has p (Some (Standing.in_fence f)) = has
-  leave_has p (Some (Standing.released f gone)) = has
-  leave_has p (Some (Standing.parked get)) = has
-  leave_has p (Some (Standing.answered get outcome)) = has
-  leave_has p (Some (Standing.refreshing get number)) = has
-  leave_has p (Some (Standing.refreshed get outcome)) = has
+  leave_has : (p : Proc) (c : Option CallState) → Has (leaves h p c).left
+  leave_has p (Some (CallState.in_fence f)) = has
+  leave_has p (Some (CallState.released f gone)) = has
+  leave_has p (Some (CallState.parked get)) = has
+  leave_has p (Some (CallState.answered get outcome)) = has
+  leave_has p (Some (CallState.refreshing get number)) = has
+  leave_has p (Some (CallState.refreshed get outcome)) = has
   leave_has p None = has
 
-  take_has : (p : Proc) (c : Option Standing) → Has (takes h p c).left
-  take_has p (Some (Standing.in_fence f)) = has
-  take_has p (Some (Standing.released f gone)) = has
-  take_has p (Some (Standing.parked get)) = has
-  take_has p (Some (Standing.answered get outcome)) = has
-  take_has p (Some (Standing.refreshing get number)) = has
-  take_has p (Some (Standing.refreshed get outcome)) = has
+  take_has : (p : Proc) (c : Option CallState) → Has (takes h p c).left
+  take_has p (Some (CallState.in_fence f)) = has
+  take_has p (Some (CallState.released f gone)) = has
+  take_has p (Some (CallState.parked get)) = has
+  take_has p (Some (CallState.answered get outcome)) = has
+  take_has p (Some (CallState.refreshing get number)) = has
+  take_has p (Some (CallState.refreshed get outcome)) = has
   take_has p None = has
 
   ask_has : (p : Proc) (get : Get) (mode : Mode) (o : Outcome) → Has (asks h p get mode o).left
@@ -64,8 +64,8 @@ module _ (jobs : Jobs) (id : ℕ) (h : Holding) (has : HasSealers jobs id h) whe
   serve_has (Request.ask p get mode) = ask_has p get mode (answer_in jobs id h get mode)
   serve_has (Request.take p) = take_has p (call_of h p)
   serve_has (Request.terminate p) = sealing_has p (ended_with (sealer_of h p))
-  serve_has (Request.define name list) = sealing_has host (changed h.sets name (definition name (members_of jobs list)).bytes)
-  serve_has (Request.delete name) = sealing_has host (changed h.sets name (deletion name).bytes)
+  serve_has (Request.define name list) = sealing_has host (set_changed h.sets name (definition name (members_of jobs list)).bytes)
+  serve_has (Request.delete name) = sealing_has host (set_changed h.sets name (deletion name).bytes)
   serve_has Request.nudge = has
 
   hold_has : (b : Bool) (node : ℕ) (p : Proc) (level : ℕ) → Has (holds_unless b h node p level)

@@ -12,72 +12,72 @@ use Rattle.pmg_get.specs.declared.view.Mode.TheVariants as modes
 use Rattle.pmg_jobinfo.specs.Jobs.{Jobs}
 use Rattle.pmg_fence.specs.Changes.{next_name}
 use Rattle.pmg_dmodex.specs.Refreshes.{Refreshes, asker_at}
-use Rattle.pmg_rules.specs.Acts.{Act, Request, Reply, done_as, waits_as, leaves, takes, asks, signature_of, serves, does, is_taken, holds_unless, receives, acts}
-use Rattle.pmg_rules.specs.Holdings.{Get, Standing, Holding, sealer_of, call_of, with_far, joined, uncalled, answer_in, settled}
-use Rattle.pmg_rules.proofs.KeptBasics.{act_cases, put_cases, removed_some}
-use Rattle.pmg_rules.proofs.KeptChanges.{settled_some, settle_refreshing, replied_some, reply_refreshing}
+use Rattle.pmg_node_model.specs.Acts.{Act, Request, Reply, done_as, waits_as, leaves, takes, asks, signature_of, serves, does, is_taken, holds_unless, receives, acts}
+use Rattle.pmg_node_model.specs.Holdings.{Get, CallState, NodeState, sealer_of, call_of, with_far, joined, uncalled, answer_in, settled}
+use Rattle.pmg_node_model.proofs.KeptBasics.{act_cases, put_cases, removed_some}
+use Rattle.pmg_node_model.proofs.KeptChanges.{settled_some, settle_refreshing, replied_some, reply_refreshing}
 use Rattle.pmg_node.specs.Content.{AreOpen}
 use Rattle.pmg_node.specs.Servers.{Server, IsNode, after}
 use Rattle.pmg_node.proofs.NodeKept.{node_stays}
 
-module _ (jobs : Jobs) (id : ℕ) (h : Holding) where
+module _ (jobs : Jobs) (id : ℕ) (h : NodeState) where
   -- each get that waits for a reply there did so before, or its request is the next one
-  abbrev AreOld : Holding → Type 0
-  AreOld g = (p : Proc) (get : Get) (number : ℕ) → call_of g p ≡ Some (Standing.refreshing get number)
-      → (call_of h p ≡ Some (Standing.refreshing get number)) ⊎ (number ≡ suc h.requests)
+  abbrev AreOld : NodeState → Type 0
+  AreOld g = (p : Proc) (get : Get) (number : ℕ) → call_of g p ≡ Some (CallState.refreshing get number)
+      → (call_of h p ≡ Some (CallState.refreshing get number)) ⊎ (number ≡ suc h.requests)
 
-  settled_old : (g : Holding) → AreOld g → AreOld (settled jobs id g)
+  settled_old : (g : NodeState) → AreOld g → AreOld (settled jobs id g)
   settled_old g old p get number e =
-      let was = settled_some jobs id g p (Standing.refreshing get number) e in old p get number (was.1 ∙ ap Some (settle_refreshing jobs id g was.0 get number was.2))
+      let was = settled_some jobs id g p (CallState.refreshing get number) e in old p get number (was.1 ∙ ap Some (settle_refreshing jobs id g was.0 get number was.2))
 
   same_old : AreOld h
   same_old p get number e = inl e
 
   uncalled_old : (by : Proc) → AreOld (uncalled h by)
-  uncalled_old by p get number e = inl (removed_some h.calls by p (Standing.refreshing get number) e)
+  uncalled_old by p get number e = inl (removed_some h.calls by p (CallState.refreshing get number) e)
 
-  leaves_old : (by : Proc) (c : Option Standing) → AreOld (leaves h by c).left
-  leaves_old by (Some (Standing.in_fence f)) = same_old
-  leaves_old by (Some (Standing.released f gone)) = uncalled_old by
-  leaves_old by (Some (Standing.parked get)) = same_old
-  leaves_old by (Some (Standing.answered get outcome)) = same_old
-  leaves_old by (Some (Standing.refreshing get number)) = same_old
-  leaves_old by (Some (Standing.refreshed get outcome)) = same_old
+  leaves_old : (by : Proc) (c : Option CallState) → AreOld (leaves h by c).left
+  leaves_old by (Some (CallState.in_fence f)) = same_old
+  leaves_old by (Some (CallState.released f gone)) = uncalled_old by
+  leaves_old by (Some (CallState.parked get)) = same_old
+  leaves_old by (Some (CallState.answered get outcome)) = same_old
+  leaves_old by (Some (CallState.refreshing get number)) = same_old
+  leaves_old by (Some (CallState.refreshed get outcome)) = same_old
   leaves_old by None = same_old
 
-  takes_old : (by : Proc) (c : Option Standing) → AreOld (takes h by c).left
-  takes_old by (Some (Standing.in_fence f)) = same_old
-  takes_old by (Some (Standing.released f gone)) = same_old
-  takes_old by (Some (Standing.parked get)) = same_old
-  takes_old by (Some (Standing.answered get outcome)) = uncalled_old by
-  takes_old by (Some (Standing.refreshing get number)) = same_old
-  takes_old by (Some (Standing.refreshed get outcome)) = uncalled_old by
+  takes_old : (by : Proc) (c : Option CallState) → AreOld (takes h by c).left
+  takes_old by (Some (CallState.in_fence f)) = same_old
+  takes_old by (Some (CallState.released f gone)) = same_old
+  takes_old by (Some (CallState.parked get)) = same_old
+  takes_old by (Some (CallState.answered get outcome)) = uncalled_old by
+  takes_old by (Some (CallState.refreshing get number)) = same_old
+  takes_old by (Some (CallState.refreshed get outcome)) = uncalled_old by
   takes_old by None = same_old
 
-  waits_next : (n : ℕ) (get other : Get) (number : ℕ) (mode : Mode) → waits_as n get mode ≡ Standing.refreshing other number → number ≡ suc n
+  waits_next : (n : ℕ) (get other : Get) (number : ℕ) (mode : Mode) → waits_as n get mode ≡ CallState.refreshing other number → number ≡ suc n
   waits_next n get other number modes.Wait is = absurd cc
   waits_next n get other number modes.Now is = absurd cc
   waits_next n get other number modes.Refresh is = cc
 
   asks_old : (by : Proc) (get : Get) (mode : Mode) (o : Outcome) → AreOld (asks h by get mode o).left
   asks_old by get mode Outcome.parks = λ p other number e.
-      put_cases h.calls by p (waits_as h.requests get mode) (Standing.refreshing other number) e (λ same is. inr (waits_next h.requests get other number mode is)) (λ is. inl is)
+      put_cases h.calls by p (waits_as h.requests get mode) (CallState.refreshing other number) e (λ same is. inr (waits_next h.requests get other number mode is)) (λ is. inl is)
   asks_old by get mode (Outcome.found value) = same_old
   asks_old by get mode Outcome.absent = same_old
   asks_old by get mode Outcome.outside = same_old
 
-  apart : {A : Type 0} (f : FenceName) (get : Get) (number : ℕ) → Standing.in_fence f ≡ Standing.refreshing get number → A
+  apart : {A : Type 0} (f : FenceName) (get : Get) (number : ℕ) → CallState.in_fence f ≡ CallState.refreshing get number → A
   apart f get number is = absurd cc
 
   serves_old : (r : Request) → AreOld (serves jobs id h r).left
   unfolding serves
   serves_old (Request.enter by list collect) = λ p get number e.
       let f = next_name h.table (signature_of jobs by list collect) by in
-      put_cases h.calls by p (Standing.in_fence f) (Standing.refreshing get number) e (λ same is. apart f get number is) (λ is. inl is)
+      put_cases h.calls by p (CallState.in_fence f) (CallState.refreshing get number) e (λ same is. apart f get number is) (λ is. inl is)
   serves_old (Request.leave by) = leaves_old by (call_of h by)
   serves_old (Request.ask by get mode) = asks_old by get mode (answer_in jobs id h get mode)
   serves_old (Request.take by) = takes_old by (call_of h by)
-  serves_old (Request.terminate by) = λ p get number e. inl (removed_some h.calls by p (Standing.refreshing get number) e)
+  serves_old (Request.terminate by) = λ p get number e. inl (removed_some h.calls by p (CallState.refreshing get number) e)
   serves_old (Request.define name list) = λ p get number e. inl e
   serves_old (Request.delete name) = λ p get number e. inl e
   serves_old Request.nudge = same_old
@@ -96,7 +96,7 @@ module _ (jobs : Jobs) (id : ℕ) (h : Holding) where
   receives_old (frames.RefreshAsk a) = λ p get number e. inl e
   receives_old (frames.RefreshReply r) = λ p get number e.
       let g = with_far h (joined h.far (told_by r)) in
-      let was = replied_some jobs id g r.request r.told.proc p (Standing.refreshing get number) e in
+      let was = replied_some jobs id g r.request r.told.proc p (CallState.refreshing get number) e in
       inl (was.1 ∙ ap Some (reply_refreshing jobs id g r.request r.told.proc was.0 get number was.2))
 
   delivers_old : (frame : Frame) (b : Bool) → AreOld (if b then done_as Reply.taken (receives jobs id h frame) else done_as Reply.ignored h).left

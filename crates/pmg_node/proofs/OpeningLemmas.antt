@@ -13,12 +13,12 @@ use Rattle.pmg_jobinfo.specs.Jobs.{Jobs, AreJobs, is_node}
 use Rattle.pmg_jobinfo.specs.Procs.{procs_at}
 use Rattle.pmg_jobinfo.proofs.ListedLemmas.{own_are_listed}
 use Rattle.pmg_dmodex.specs.Refreshes.{Refreshes}
-use Rattle.pmg_holding.specs.Codes.{Calls}
-use Rattle.pmg_rules.specs.Holdings.{Standing, new_holding}
+use Rattle.pmg_node_parts.specs.Codes.{Calls}
+use Rattle.pmg_node_model.specs.Holdings.{CallState, new_holding}
 use Rattle.pmg_node.specs.Content.{AreOpen}
 use Rattle.pmg_node.specs.Opening.{new_server}
 use Rattle.pmg_node.specs.Servers.{HasSealers, IsNode}
-use Rattle.pmg_rules.proofs.KeptActs.{new_is_server}
+use Rattle.pmg_node_model.proofs.KeptActs.{new_is_server}
 
 -- each of them has its place
 fresh_at : (ps : List Proc) (p : Proc) → In p ps → is_some (at_key proc_cmp p (map (λ p. (p, fresh p)) ps)) ≡ true
@@ -41,7 +41,7 @@ new_is_node jobs id are is = record { jobs = are; node = is; server = new_is_ser
 
 -- nobody waits for a reply
 pub none_open : (calls : Calls) (anew : Refreshes) → calls ≡ finite.empty → AreOpen calls anew
-none_open calls anew is p get number e = absurd (not_some (Standing.refreshing get number) (sym (finite.get-empty proc_cmp p) ∙ ap (λ (m : Calls). finite.get m p) (sym is) ∙ e))
+none_open calls anew is p get number e = absurd (not_some (CallState.refreshing get number) (sym (finite.get-empty proc_cmp p) ∙ ap (λ (m : Calls). finite.get m p) (sym is) ∙ e))
   where
-    not_some : (s : Standing) → ◌≡◌ {A = Option Standing} None (Some s) → ⊥
+    not_some : (s : CallState) → ◌≡◌ {A = Option CallState} None (Some s) → ⊥
     not_some s it = cc

@@ -6,19 +6,19 @@ use Rattle.pmg_commit.specs.Knowledge.{Contribution}
 use Rattle.pmg_frame.specs.declared.frame.Frame.TheVariants as frames
 use Rattle.pmg_jobinfo.specs.Jobs.{Jobs}
 use Rattle.pmg_dmodex.specs.Levels.{Levels}
-use Rattle.pmg_rules.specs.Acts.{Act, Reply, Done, done_as, is_taken, receives, acts}
-use Rattle.pmg_holding.specs.Answering.{AreAnswers, AreAskedAgain}
-use Rattle.pmg_holding.specs.Calls.{all_instead}
-use Rattle.pmg_rules.specs.Choosing.{Out, asking_again, due_by, due_by_frame, marked_by_act, sends, chosen}
-use Rattle.pmg_holding.specs.Codes.{Calls}
-use Rattle.pmg_rules.specs.Holdings.{Standing, Holding, sealer_of, with_far, with_calls, mapped, settle, settled}
-use Rattle.pmg_rules.specs.Kept.{IsSettled, is_about, settle_where}
-use Rattle.pmg_rules.specs.Sending.{is_quiet}
+use Rattle.pmg_node_model.specs.Acts.{Act, Reply, Done, done_as, is_taken, receives, acts}
+use Rattle.pmg_node_parts.specs.Answering.{AreAnswers, AreAskedAgain}
+use Rattle.pmg_node_parts.specs.Calls.{all_instead}
+use Rattle.pmg_node_model.specs.Choosing.{Out, asking_again, due_by, due_by_frame, marked_by_act, sends, chosen}
+use Rattle.pmg_node_parts.specs.Codes.{Calls}
+use Rattle.pmg_node_model.specs.Holdings.{CallState, NodeState, sealer_of, with_far, with_calls, mapped, settle, settled}
+use Rattle.pmg_node_model.specs.Kept.{IsSettled, is_about, settle_where}
+use Rattle.pmg_node_model.specs.Sending.{is_quiet}
 use Rattle.pmg_node.specs.Servers.{Server, reply_to, sent_by, after}
-use Rattle.pmg_holding.specs.declared.call.Settled.{Settled}
-use Rattle.pmg_rules.specs.declared.due.Due.{Due}
+use Rattle.pmg_node_parts.specs.declared.call.Completion.{Completion}
+use Rattle.pmg_node_model.specs.declared.due.ToSend.{ToSend}
 use Rattle.pmg_node.proofs.FrameLemmas.{deliver_by}
-use Rattle.pmg_rules.proofs.KeptAgain.{settled_on, piece_differs}
+use Rattle.pmg_node_model.proofs.KeptAgain.{settled_on, piece_differs}
 use Rattle.pmg_node.proofs.SilentLemmas.{sent_as}
 
 -- the node, once the piece is joined, with these calls and marks
@@ -26,15 +26,15 @@ abbrev pub with_piece : Contribution → Calls → Levels → Server → Server
 with_piece c calls marks s = record { jobs = s.jobs; id = s.id; holding = with_calls (with_far s.holding (absorbed s.holding.far c)) calls; marks = marks }
 
 -- to settle looks at no calls
-settle_calls : (jobs : Jobs) (id : ℕ) (h : Holding) (calls : Calls) (x : Standing) → settle jobs id (with_calls h calls) x ≡ settle jobs id h x
-settle_calls jobs id h calls (Standing.in_fence f) = refl
-settle_calls jobs id h calls (Standing.released f gone) = refl
-settle_calls jobs id h calls (Standing.parked get) = refl
-settle_calls jobs id h calls (Standing.answered get outcome) = refl
-settle_calls jobs id h calls (Standing.refreshing get number) = refl
-settle_calls jobs id h calls (Standing.refreshed get outcome) = refl
+settle_calls : (jobs : Jobs) (id : ℕ) (h : NodeState) (calls : Calls) (x : CallState) → settle jobs id (with_calls h calls) x ≡ settle jobs id h x
+settle_calls jobs id h calls (CallState.in_fence f) = refl
+settle_calls jobs id h calls (CallState.released f gone) = refl
+settle_calls jobs id h calls (CallState.parked get) = refl
+settle_calls jobs id h calls (CallState.answered get outcome) = refl
+settle_calls jobs id h calls (CallState.refreshing get number) = refl
+settle_calls jobs id h calls (CallState.refreshed get outcome) = refl
 
-pub mapped_calls : (jobs : Jobs) (id : ℕ) (h : Holding) (calls : Calls) (looks : Standing → Bool) (m : Calls)
+pub mapped_calls : (jobs : Jobs) (id : ℕ) (h : NodeState) (calls : Calls) (looks : CallState → Bool) (m : Calls)
     → mapped (settle_where jobs id h looks) m ≡ mapped (settle_where jobs id (with_calls h calls) looks) m
 mapped_calls jobs id h calls looks m = λ i. mapped (λ x. cond (looks x) (sym (settle_calls jobs id h calls x) i) x) m
 
@@ -42,7 +42,7 @@ module _ (s : Server) (c : Contribution) (taken : is_taken s.jobs s.id s.holding
   abbrev a : Act
   a = Act.deliver (frames.Piece c)
 
-  abbrev grown : Holding
+  abbrev grown : NodeState
   grown = with_far s.holding (absorbed s.holding.far c)
 
   is_done : acts s.jobs s.id s.holding a ≡ done_as Reply.taken (settled s.jobs s.id grown)
@@ -53,36 +53,36 @@ module _ (s : Server) (c : Contribution) (taken : is_taken s.jobs s.id s.holding
   piece_reply = ap (λ (d : Done). d.reply) is_done
 
   left_is : (after s a).holding ≡ with_calls grown (after s a).holding.calls
-  left_is = let e : (after s a).holding ≡ settled s.jobs s.id grown = ap (λ (d : Done). d.left) is_done in e ∙ ap (λ (h : Holding). with_calls grown h.calls) (sym e)
+  left_is = let e : (after s a).holding ≡ settled s.jobs s.id grown = ap (λ (d : Done). d.left) is_done in e ∙ ap (λ (h : NodeState). with_calls grown h.calls) (sym e)
 
   -- what it sends, by what is due then
-  piece_out : (dues : List Due) → dues ≡ due_by s.jobs s.id s.holding a (after s a).holding → chosen s.jobs s.id s.holding s.marks a ≡ sends (sealer_of s.holding) s.marks dues
+  piece_out : (dues : List ToSend) → dues ≡ due_by s.jobs s.id s.holding a (after s a).holding → chosen s.jobs s.id s.holding s.marks a ≡ sends (sealer_of s.holding) s.marks dues
   unfolding marked_by_act
   piece_out dues due =
       sent_as s.jobs s.id s.holding a s.marks (acts s.jobs s.id s.holding a) refl (ap (λ (d : Done). is_quiet d.reply) is_done)
       ∙ (λ i. sends (sealer_of (left_is i)) s.marks (sym due i))
 
-  pub piece_sent : (dues : List Due) → dues ≡ due_by s.jobs s.id s.holding a (after s a).holding → sent_by s a ≡ (sends (sealer_of s.holding) s.marks dues).frames
+  pub piece_sent : (dues : List ToSend) → dues ≡ due_by s.jobs s.id s.holding a (after s a).holding → sent_by s a ≡ (sends (sealer_of s.holding) s.marks dues).frames
   piece_sent dues due = ap (λ (o : Out). o.frames) (piece_out dues due)
 
-  pub piece_after : (dues : List Due) → dues ≡ due_by s.jobs s.id s.holding a (after s a).holding
+  pub piece_after : (dues : List ToSend) → dues ≡ due_by s.jobs s.id s.holding a (after s a).holding
       → after s a ≡ with_piece c (after s a).holding.calls (sends (sealer_of s.holding) s.marks dues).marks s
   piece_after dues due = λ i. record { jobs = s.jobs; id = s.id; holding = left_is i; marks = (piece_out dues due i).marks }
 
   module _ (kept : IsSettled s.jobs s.id s.holding) where
     calls_are : (after s a).holding.calls ≡ mapped (settle_where s.jobs s.id grown (is_about c.proc)) s.holding.calls
-    calls_are = ap (λ (d : Done). d.left.calls) is_done ∙ ap (λ (h : Holding). h.calls) (settled_on s.jobs s.id c.proc s.holding grown kept (piece_differs s.jobs s.id s.holding c))
+    calls_are = ap (λ (d : Done). d.left.calls) is_done ∙ ap (λ (h : NodeState). h.calls) (settled_on s.jobs s.id c.proc s.holding grown kept (piece_differs s.jobs s.id s.holding c))
 
     looks_alike : (q : Proc) → q ≡ c.proc → mapped (settle_where s.jobs s.id grown (is_about q)) s.holding.calls ≡ (after s a).holding.calls
     looks_alike q same = ap (λ (p : Proc). mapped (settle_where s.jobs s.id grown (is_about p)) s.holding.calls) same ∙ sym calls_are
 
     -- what is answered
-    pub piece_answers : (q : Proc) → q ≡ c.proc → (answers : List (Proc × Settled))
+    pub piece_answers : (q : Proc) → q ≡ c.proc → (answers : List (Proc × Completion))
         → AreAnswers s.jobs s.id (is_about q) s.holding.table s.holding.near (absorbed s.holding.far c) s.holding.calls answers → all_instead s.holding.calls answers ≡ (after s a).holding.calls
     piece_answers q same answers are = are grown refl refl refl ∙ looks_alike q same
 
     -- what is due, where more commits come to be known
-    pub piece_asks : (q : Proc) → q ≡ c.proc → (dues : List Due) → AreAskedAgain s.jobs s.id q s.holding.table s.holding.near (absorbed s.holding.far c) s.holding.calls dues
+    pub piece_asks : (q : Proc) → q ≡ c.proc → (dues : List ToSend) → AreAskedAgain s.jobs s.id q s.holding.table s.holding.near (absorbed s.holding.far c) s.holding.calls dues
         → nat_lt (level_at s.holding.far c.proc) (level_at (absorbed s.holding.far c) c.proc) ≡ true → dues ≡ due_by s.jobs s.id s.holding a (after s a).holding
     unfolding due_by due_by_frame
     piece_asks q same dues are more =
@@ -90,7 +90,7 @@ module _ (s : Server) (c : Contribution) (taken : is_taken s.jobs s.id s.holding
         are left refl refl refl (sym (looks_alike q same) ∙ mapped_calls s.jobs s.id grown (after s a).holding.calls (is_about q) s.holding.calls)
         ∙ ap (asking_again s.jobs s.id left) same
         ∙ ap (λ (b : Bool). cond b (asking_again s.jobs s.id left c.proc) []) (sym more)
-        ∙ ap (λ (h : Holding). due_by s.jobs s.id s.holding a h) (sym left_is)
+        ∙ ap (λ (h : NodeState). due_by s.jobs s.id s.holding a h) (sym left_is)
 
   -- and where none do
   pub piece_quiet : nat_lt (level_at s.holding.far c.proc) (level_at (absorbed s.holding.far c) c.proc) ≡ false → [] ≡ due_by s.jobs s.id s.holding a (after s a).holding
@@ -98,10 +98,10 @@ module _ (s : Server) (c : Contribution) (taken : is_taken s.jobs s.id s.holding
   piece_quiet none =
       let left = with_calls grown (after s a).holding.calls in
       ap (λ (b : Bool). cond b (asking_again s.jobs s.id left c.proc) []) (sym none)
-      ∙ ap (λ (h : Holding). due_by s.jobs s.id s.holding a h) (sym left_is)
+      ∙ ap (λ (h : NodeState). due_by s.jobs s.id s.holding a h) (sym left_is)
 
 -- the node once the piece is taken, where its parts are so
-pub piece_moved : (s t : Server) (c : Contribution) → t ≡ s → is_taken s.jobs s.id s.holding.table (frames.Piece c) ≡ true → (near far : Data) (calls : Calls) (marks : Levels) (answers : List (Proc × Settled)) (dues : List Due)
+pub piece_moved : (s t : Server) (c : Contribution) → t ≡ s → is_taken s.jobs s.id s.holding.table (frames.Piece c) ≡ true → (near far : Data) (calls : Calls) (marks : Levels) (answers : List (Proc × Completion)) (dues : List ToSend)
     → near ≡ t.holding.near → far ≡ absorbed t.holding.far c → calls ≡ all_instead t.holding.calls answers → marks ≡ (sends (sealer_of t.holding) t.marks dues).marks
     → all_instead s.holding.calls answers ≡ (after s (Act.deliver (frames.Piece c))).holding.calls → dues ≡ due_by s.jobs s.id s.holding (Act.deliver (frames.Piece c)) (after s (Act.deliver (frames.Piece c))).holding
     → record {

@@ -5,7 +5,7 @@ use Rattle.pmg_value.specs.CheckOrder.{check_order, first_in, first_of}
 use Rattle.pmg_value.specs.Lists.{Each}
 use Rattle.pmg_value.specs.declared.refusal.Refusal.{Refusal}
 use Rattle.pmg_value.specs.declared.refusal.Refusal.TheVariants as refusals
-use Rattle.pmg_rules.specs.Acts.{Reply}
+use Rattle.pmg_node_model.specs.Acts.{Reply}
 use Rattle.pmg_node.specs.Servers.{Refuses, IsAnswered}
 
 -- a refusal is that of memory, where an answer is due, or the one that is due

@@ -14,16 +14,16 @@ use Rattle.pmg_frame.specs.declared.frame.Frame.{Frame}
 use Rattle.pmg_jobinfo.specs.Jobs.{Jobs}
 use Rattle.pmg_get.specs.Gets.{Outcome}
 use Rattle.pmg_node.specs.Acting.{acted_reply, commit_joins, joins_in, joins_none, SameAnswer}
-use Rattle.pmg_rules.specs.Acts.{Act, Request, Reply, Done, done_as, reply_of, cause, request_cause, is_taken, receives, serves, does, ends_as, leaves, takes, over, acts}
-use Rattle.pmg_rules.specs.Holdings.{Standing, Holding, sealer_in, sealer_of, call_of}
+use Rattle.pmg_node_model.specs.Acts.{Act, Request, Reply, Done, done_as, reply_of, cause, request_cause, is_taken, receives, serves, does, ends_as, leaves, takes, over, acts}
+use Rattle.pmg_node_model.specs.Holdings.{CallState, NodeState, sealer_in, sealer_of, call_of}
 use Rattle.pmg_node.specs.Servers.{Server, reply_to, after, reply_in, Refuses, Replies, RefusesAct, RepliesAct, IsAnswered, IsAccepted}
 use Rattle.pmg_node.specs.Joining.{Joins, no_joins, seal_joins, act_joins, joins}
-use Rattle.pmg_rules.specs.Sending.{is_quiet}
+use Rattle.pmg_node_model.specs.Sending.{is_quiet}
 use Rattle.pmg_node.specs.declared.act.Acted.{Acted}
 use Rattle.pmg_node.specs.declared.committing.Committed.{Committed}
 use Rattle.pmg_node.specs.Replies.{ended_reply}
 use Rattle.pmg_node.proofs.JoiningLemmas.{joins_loud}
-use Rattle.pmg_rules.proofs.KeptChanges.{sealer_there}
+use Rattle.pmg_node_model.proofs.KeptChanges.{sealer_there}
 use Rattle.pmg_node.proofs.SilentLemmas.{then_answer, acts_by}
 
 module _ (s : Server) (a : Act) where
@@ -115,7 +115,7 @@ refused_apart : (e f : Refusal) → Reply.refused e ≡ Reply.refused f → e �
 refused_apart e f is = cc
 
 -- a reply that is refused as NoMemory, where what is done replies nothing like it
-module _ (jobs : Jobs) (id : ℕ) (h : Holding) where
+module _ (jobs : Jobs) (id : ℕ) (h : NodeState) where
   over_short : (d : Done) → (d.reply ≡ Reply.refused refusals.NoMemory → ⊥) → (r : Result (Unit {0}) Refusal) → (r ≡ Err refusals.NoMemory → ⊥)
       → (over jobs id h (then_answer r d)).reply ≡ Reply.refused refusals.NoMemory → ⊥
   over_short d never (Ok u) other is = never is
@@ -125,13 +125,13 @@ module _ (jobs : Jobs) (id : ℕ) (h : Holding) where
   acts_short a never is =
       over_short (does jobs id h a) never (first_of (cause jobs id h a) tt) (never_short (cause jobs id h a)) (ap (λ (d : Done). d.reply) (sym (acts_by jobs id h a)) ∙ is)
 
-  leaves_short : (p : Proc) (c : Option Standing) → (leaves h p c).reply ≡ Reply.refused refusals.NoMemory → ⊥
-  leaves_short p (Some (Standing.in_fence f)) is = cc
-  leaves_short p (Some (Standing.released f gone)) is = cc
-  leaves_short p (Some (Standing.parked get)) is = cc
-  leaves_short p (Some (Standing.answered get outcome)) is = cc
-  leaves_short p (Some (Standing.refreshing get number)) is = cc
-  leaves_short p (Some (Standing.refreshed get outcome)) is = cc
+  leaves_short : (p : Proc) (c : Option CallState) → (leaves h p c).reply ≡ Reply.refused refusals.NoMemory → ⊥
+  leaves_short p (Some (CallState.in_fence f)) is = cc
+  leaves_short p (Some (CallState.released f gone)) is = cc
+  leaves_short p (Some (CallState.parked get)) is = cc
+  leaves_short p (Some (CallState.answered get outcome)) is = cc
+  leaves_short p (Some (CallState.refreshing get number)) is = cc
+  leaves_short p (Some (CallState.refreshed get outcome)) is = cc
   leaves_short p None is = cc
 
   outcome_short : (o : Outcome) → reply_of o ≡ Reply.refused refusals.NoMemory → ⊥
@@ -140,13 +140,13 @@ module _ (jobs : Jobs) (id : ℕ) (h : Holding) where
   outcome_short Outcome.outside is = cc
   outcome_short Outcome.parks is = cc
 
-  takes_short : (p : Proc) (c : Option Standing) → (takes h p c).reply ≡ Reply.refused refusals.NoMemory → ⊥
-  takes_short p (Some (Standing.in_fence f)) is = cc
-  takes_short p (Some (Standing.released f gone)) is = cc
-  takes_short p (Some (Standing.parked get)) is = cc
-  takes_short p (Some (Standing.answered get outcome)) is = outcome_short outcome is
-  takes_short p (Some (Standing.refreshing get number)) is = cc
-  takes_short p (Some (Standing.refreshed get outcome)) is = outcome_short outcome is
+  takes_short : (p : Proc) (c : Option CallState) → (takes h p c).reply ≡ Reply.refused refusals.NoMemory → ⊥
+  takes_short p (Some (CallState.in_fence f)) is = cc
+  takes_short p (Some (CallState.released f gone)) is = cc
+  takes_short p (Some (CallState.parked get)) is = cc
+  takes_short p (Some (CallState.answered get outcome)) is = outcome_short outcome is
+  takes_short p (Some (CallState.refreshing get number)) is = cc
+  takes_short p (Some (CallState.refreshed get outcome)) is = outcome_short outcome is
   takes_short p None is = cc
 
   pub leave_short : (p : Proc) → (acts jobs id h (Act.request (Request.leave p))).reply ≡ Reply.refused refusals.NoMemory → ⊥
@@ -181,7 +181,7 @@ module _ {X : Type 0} (view : X → Reply) (s : Server) (a : Act) where
   nothing_told (Err e) (Ok acted) same none = absurd same
 
 module _ (view : Committed → Reply) (s : Server) (a : Act) (p : Proc) (new : Server) (loud : (c : Committed) → is_quiet (view c) ≡ false)
-    (seals : (h : Holding) → act_joins s.holding a h ≡ seal_joins (sealer_of h p) (sealer_of s.holding p).level) where
+    (seals : (h : NodeState) → act_joins s.holding a h ≡ seal_joins (sealer_of h p) (sealer_of s.holding p).level) where
   pub sealed_told : (r : Result Committed Refusal) (q : Result Acted Refusal) → SameAnswer view commit_joins r q → Replies view r (reply_to s a) → (IsAnswered r → new ≡ after s a)
       → IfOk r (λ c. c.near ≡ piece_at (sealer_of new.holding p) (sealer_of s.holding p).level reach.Near)
       → IfOk r (λ c. c.far ≡ piece_at (sealer_of new.holding p) (sealer_of s.holding p).level reach.Far)
@@ -197,11 +197,11 @@ module _ (view : Committed → Reply) (s : Server) (a : Act) (p : Proc) (new : S
   sealed_told (Err e) (Ok acted) same due done near far = absurd same
 
 -- what the process that stands for the group's host sealed are the sets
-host_sets : (h : Holding) → sealer_of h host ≡ h.sets
+host_sets : (h : NodeState) → sealer_of h host ≡ h.sets
 unfolding sealer_in
 host_sets h = refl
 
-pub sets_joined : (old new : Holding) (to : Reach) (one : Committed → Contribution) (r : Result Committed Refusal) → IfOk r (λ c. one c ≡ piece_at new.sets old.sets.level to)
+pub sets_joined : (old new : NodeState) (to : Reach) (one : Committed → Contribution) (r : Result Committed Refusal) → IfOk r (λ c. one c ≡ piece_at new.sets old.sets.level to)
     → IfOk r (λ c. one c ≡ piece_at (sealer_of new host) (sealer_of old host).level to)
 sets_joined old new to one (Ok c) is = is ∙ (λ i. piece_at (sym (host_sets new) i) (sym (host_sets old) i).level to)
 sets_joined old new to one (Err e) is = tt

@@ -15,12 +15,12 @@ use Rattle.pmg_fence.proofs.Trees.{get_put}
 use Rattle.pmg_jobinfo.specs.Jobs.{Jobs}
 use Rattle.pmg_dmodex.specs.Refreshes.{Refreshes, requested, asker_for, asker_at, answered}
 use Rattle.pmg_get.specs.declared.view.Mode.TheVariants as modes
-use Rattle.pmg_holding.specs.Answered.{ArePlainAnew, IsAsker}
-use Rattle.pmg_holding.specs.Codes.{Calls}
-use Rattle.pmg_rules.specs.Holdings.{Get, Standing, Holding, answer_in, mapped, settle, is_replied, answer_reply}
-use Rattle.pmg_rules.specs.Kept.{is_about, settle_where}
-use Rattle.pmg_rules.proofs.KeptBasics.{put_cases, get-mapped, mapped_some}
-use Rattle.pmg_rules.proofs.KeptChanges.{settle_refreshing, reply_refreshing}
+use Rattle.pmg_node_parts.specs.Answered.{ArePlainAnew, IsAsker}
+use Rattle.pmg_node_parts.specs.Codes.{Calls}
+use Rattle.pmg_node_model.specs.Holdings.{Get, CallState, NodeState, answer_in, mapped, settle, is_replied, answer_reply}
+use Rattle.pmg_node_model.specs.Kept.{is_about, settle_where}
+use Rattle.pmg_node_model.proofs.KeptBasics.{put_cases, get-mapped, mapped_some}
+use Rattle.pmg_node_model.proofs.KeptChanges.{settle_refreshing, reply_refreshing}
 use Rattle.pmg_node.specs.Content.{AreOpen}
 
 -- ---- as it is
@@ -58,14 +58,14 @@ same_asker anew p target q k low =
     by_test true is = absurd (not_next k anew.last low (same_number k (suc anew.last) is))
     by_test false is = refl
 
-one_call : (get other : Get) (n k : ℕ) → Standing.refreshing get n ≡ Standing.refreshing other k → (get ≡ other) × (n ≡ k)
+one_call : (get other : Get) (n k : ℕ) → CallState.refreshing get n ≡ CallState.refreshing other k → (get ≡ other) × (n ≡ k)
 one_call get other n k is = (cc, cc)
 
 pub asked_open : (calls : Calls) (anew : Refreshes) → AreOpen calls anew
-    → ((p : Proc) (get : Get) (number : ℕ) → finite.get calls p ≡ Some (Standing.refreshing get number) → number ≤ anew.last)
-    → (p : Proc) (get : Get) → is_reserved get.key ≡ false → AreOpen (finite.insert calls p (Standing.refreshing get (suc anew.last))) (requested anew p get.target)
+    → ((p : Proc) (get : Get) (number : ℕ) → finite.get calls p ≡ Some (CallState.refreshing get number) → number ≤ anew.last)
+    → (p : Proc) (get : Get) → is_reserved get.key ≡ false → AreOpen (finite.insert calls p (CallState.refreshing get (suc anew.last))) (requested anew p get.target)
 asked_open calls anew are low p get plain q other k e =
-    put_cases calls p q (Standing.refreshing get (suc anew.last)) (Standing.refreshing other k) e
+    put_cases calls p q (CallState.refreshing get (suc anew.last)) (CallState.refreshing other k) e
     (λ same is.
     let its = one_call get other (suc anew.last) k is in (
       ap (λ (x : Get). is_reserved x.key) (sym its.0) ∙ plain,
@@ -115,18 +115,18 @@ last_answered anew number q = by_test (is_some (asker_at anew number q))
     by_test true = refl
     by_test false = refl
 
-module _ (jobs : Jobs) (id : ℕ) (h : Holding) (number : ℕ) (q : Proc) where
-  not_replied : (get : Get) (k : ℕ) → answer_reply jobs id h number q (Standing.refreshing get k) ≡ Standing.refreshing get k → is_replied number q get k ≡ false
+module _ (jobs : Jobs) (id : ℕ) (h : NodeState) (number : ℕ) (q : Proc) where
+  not_replied : (get : Get) (k : ℕ) → answer_reply jobs id h number q (CallState.refreshing get k) ≡ CallState.refreshing get k → is_replied number q get k ≡ false
   not_replied get k is = by_test (is_replied number q get k) is
     where
-      by_test : (b : Bool) → (if b then Standing.refreshed get (answer_in jobs id h get modes.Now) else Standing.refreshing get k) ≡ Standing.refreshing get k → b ≡ false
+      by_test : (b : Bool) → (if b then CallState.refreshed get (answer_in jobs id h get modes.Now) else CallState.refreshing get k) ≡ CallState.refreshing get k → b ≡ false
       by_test true is = absurd cc
       by_test false is = refl
 
-  later_refreshing : (t : Standing) (get : Get) (k : ℕ) → settle_where jobs id h (is_about q) t ≡ Standing.refreshing get k → t ≡ Standing.refreshing get k
+  later_refreshing : (t : CallState) (get : Get) (k : ℕ) → settle_where jobs id h (is_about q) t ≡ CallState.refreshing get k → t ≡ CallState.refreshing get k
   later_refreshing t get k is = by_test (is_about q t) is
     where
-      by_test : (b : Bool) → (if b then settle jobs id h t else t) ≡ Standing.refreshing get k → t ≡ Standing.refreshing get k
+      by_test : (b : Bool) → (if b then settle jobs id h t else t) ≡ CallState.refreshing get k → t ≡ CallState.refreshing get k
       by_test true is = settle_refreshing jobs id h t get k is
       by_test false is = is
 
@@ -134,9 +134,9 @@ module _ (jobs : Jobs) (id : ℕ) (h : Holding) (number : ℕ) (q : Proc) where
       → AreOpen (mapped (settle_where jobs id h (is_about q)) (mapped (answer_reply jobs id h number q) calls)) (answered anew number q)
   replied_open calls anew are p get k e =
       let replied = mapped (answer_reply jobs id h number q) calls in
-      let was = mapped_some (settle_where jobs id h (is_about q)) (finite.get replied p) (Standing.refreshing get k) (sym (get-mapped (settle_where jobs id h (is_about q)) replied p) ∙ e) in
+      let was = mapped_some (settle_where jobs id h (is_about q)) (finite.get replied p) (CallState.refreshing get k) (sym (get-mapped (settle_where jobs id h (is_about q)) replied p) ∙ e) in
       let still = was.1 ∙ ap Some (later_refreshing was.0 get k was.2) in
-      let before = mapped_some (answer_reply jobs id h number q) (finite.get calls p) (Standing.refreshing get k) (sym (get-mapped (answer_reply jobs id h number q) calls p) ∙ still) in
+      let before = mapped_some (answer_reply jobs id h number q) (finite.get calls p) (CallState.refreshing get k) (sym (get-mapped (answer_reply jobs id h number q) calls p) ∙ still) in
       let same = reply_refreshing jobs id h number q before.0 get k before.2 in
       let its = are p get k (before.1 ∙ ap Some same) in
       (its.0, still_asked anew number k q get p (not_replied get k (ap (answer_reply jobs id h number q) (sym same) ∙ before.2)) its.1)

@@ -15,18 +15,18 @@ use Rattle.pmg_jobinfo.specs.Jobs.{Jobs}
 use Rattle.pmg_fence.proofs.IndexLemmas.{keys_rise}
 use Rattle.pmg_dmodex.specs.Levels.{Levels}
 use Rattle.pmg_get.specs.declared.view.Mode.TheVariants as modes
-use Rattle.pmg_rules.specs.Acts.{Act, Reply, Done, done_as, is_taken, receives, acts}
-use Rattle.pmg_rules.specs.Choosing.{Out, asking, asking_again, is_parked_on, due_by, due_by_frame, marked_by_act, sends, chosen}
-use Rattle.pmg_rules.specs.Holdings.{Standing, Holding, sealer_of, joined, with_far, with_calls, answer_in, mapped, settled, is_replied, answer_reply, with_reply}
-use Rattle.pmg_rules.specs.Kept.{IsSettled, DiffersAt, is_about, settle_where}
-use Rattle.pmg_rules.specs.Sending.{is_quiet}
-use Rattle.pmg_rules.specs.declared.due.Due.{Due}
-use Rattle.pmg_rules.proofs.KeptAgain.{settled_on, piece_differs}
-use Rattle.pmg_rules.proofs.KeptChanges.{replied_some, reply_in_fence, reply_parked}
-use Rattle.pmg_holding.specs.Answering.{AreAnswersThen, AreAskedAgain}
-use Rattle.pmg_holding.specs.Calls.{all_instead}
-use Rattle.pmg_holding.specs.Codes.{Calls}
-use Rattle.pmg_holding.specs.declared.call.Settled.{Settled}
+use Rattle.pmg_node_model.specs.Acts.{Act, Reply, Done, done_as, is_taken, receives, acts}
+use Rattle.pmg_node_model.specs.Choosing.{Out, asking_home, asking_again, is_parked_on, due_by, due_by_frame, marked_by_act, sends, chosen}
+use Rattle.pmg_node_model.specs.Holdings.{CallState, NodeState, sealer_of, joined, with_far, with_calls, answer_in, mapped, settled, is_replied, answer_reply, with_reply}
+use Rattle.pmg_node_model.specs.Kept.{IsSettled, DiffersAt, is_about, settle_where}
+use Rattle.pmg_node_model.specs.Sending.{is_quiet}
+use Rattle.pmg_node_model.specs.declared.due.ToSend.{ToSend}
+use Rattle.pmg_node_model.proofs.KeptAgain.{settled_on, piece_differs}
+use Rattle.pmg_node_model.proofs.KeptChanges.{replied_some, reply_in_fence, reply_parked}
+use Rattle.pmg_node_parts.specs.Answering.{AreAnswersThen, AreAskedAgain}
+use Rattle.pmg_node_parts.specs.Calls.{all_instead}
+use Rattle.pmg_node_parts.specs.Codes.{Calls}
+use Rattle.pmg_node_parts.specs.declared.call.Completion.{Completion}
 use Rattle.pmg_node.specs.Servers.{Server, reply_to, sent_by, after}
 use Rattle.pmg_node.proofs.FrameLemmas.{deliver_by}
 use Rattle.pmg_node.proofs.PieceLemmas.{mapped_calls}
@@ -46,62 +46,62 @@ told_of r = by_test (nat_lt r.told.from r.told.to)
     by_test true = refl
     by_test false = tt
 
-told_differs : (jobs : Jobs) (id : ℕ) (h : Holding) (q : Proc) (told : Option Contribution) → IsOf q told → DiffersAt jobs id q h (with_far h (joined h.far told))
+told_differs : (jobs : Jobs) (id : ℕ) (h : NodeState) (q : Proc) (told : Option Contribution) → IsOf q told → DiffersAt jobs id q h (with_far h (joined h.far told))
 told_differs jobs id h q None of = record { calls = λ p s e apart. e; near = λ p other. refl; far = λ p other. refl; old = λ f young. young; told = λ f p young none. refl }
 told_differs jobs id h q (Some c) of = subst (λ (p : Proc). DiffersAt jobs id p h (with_far h (absorbed h.far c))) of (piece_differs jobs id h c)
 
 -- ---- the calls
 
 -- the calls that f makes, in the order of their processes
-entries_mapped : (f : Standing → Standing) (m : Calls) → finite.entries (mapped f m) ≡ map (λ e. (e.0, f e.1)) (finite.entries m)
+entries_mapped : (f : CallState → CallState) (m : Calls) → finite.entries (mapped f m) ≡ map (λ e. (e.0, f e.1)) (finite.entries m)
 unfolding mapped
 entries_mapped f m = entries_rising procs_total f (finite.entries m) (keys_rise proc_cmp m)
 
-module _ (jobs : Jobs) (id : ℕ) (h : Holding) (number : ℕ) (q : Proc) where
+module _ (jobs : Jobs) (id : ℕ) (h : NodeState) (number : ℕ) (q : Proc) where
   -- the calls, once the get that waits for the reply is answered
   abbrev pub replied : Calls → Calls
   replied m = mapped (answer_reply jobs id h number q) m
 
-  abbrev pub later : Standing → Standing
+  abbrev pub later : CallState → CallState
   later = settle_where jobs id h (is_about q)
 
-  replied_settled : (g : Holding) → g.table ≡ h.table → (m : Calls) → m ≡ h.calls → IsSettled jobs id (with_calls g m) → IsSettled jobs id (with_calls g (replied m))
+  replied_settled : (g : NodeState) → g.table ≡ h.table → (m : Calls) → m ≡ h.calls → IsSettled jobs id (with_calls g m) → IsSettled jobs id (with_calls g (replied m))
   replied_settled g tables m same is = record {
     fences = λ p f e.
-        let was = replied_some jobs id h number q p (Standing.in_fence f) (ap (λ (x : Calls). finite.get (replied x) p) (sym same) ∙ e) in
+        let was = replied_some jobs id h number q p (CallState.in_fence f) (ap (λ (x : Calls). finite.get (replied x) p) (sym same) ∙ e) in
         is.fences p f (ap (λ (x : Calls). finite.get x p) same ∙ was.1 ∙ ap Some (reply_in_fence jobs id h number q was.0 f was.2));
     gets = λ p get e.
-        let was = replied_some jobs id h number q p (Standing.parked get) (ap (λ (x : Calls). finite.get (replied x) p) (sym same) ∙ e) in
+        let was = replied_some jobs id h number q p (CallState.parked get) (ap (λ (x : Calls). finite.get (replied x) p) (sym same) ∙ e) in
         is.gets p get (ap (λ (x : Calls). finite.get x p) same ∙ was.1 ∙ ap Some (reply_parked jobs id h number q was.0 get was.2));
   }
 
   -- a get that asks anew waits for no direct answer, nor does one that is answered
-  replied_alike : (s : Standing) → is_parked_on q (later (answer_reply jobs id h number q s)) ≡ is_parked_on q (later s)
-  replied_alike (Standing.in_fence f) = refl
-  replied_alike (Standing.released f gone) = refl
-  replied_alike (Standing.parked get) = refl
-  replied_alike (Standing.answered get outcome) = refl
-  replied_alike (Standing.refreshed get outcome) = refl
-  replied_alike (Standing.refreshing get waits_for) = by_test (is_replied number q get waits_for)
+  replied_alike : (s : CallState) → is_parked_on q (later (answer_reply jobs id h number q s)) ≡ is_parked_on q (later s)
+  replied_alike (CallState.in_fence f) = refl
+  replied_alike (CallState.released f gone) = refl
+  replied_alike (CallState.parked get) = refl
+  replied_alike (CallState.answered get outcome) = refl
+  replied_alike (CallState.refreshed get outcome) = refl
+  replied_alike (CallState.refreshing get waits_for) = by_test (is_replied number q get waits_for)
     where
       by_test : (b : Bool)
-          → is_parked_on q (later (if b then Standing.refreshed get (answer_in jobs id h get modes.Now) else Standing.refreshing get waits_for)) ≡ is_parked_on q (later (Standing.refreshing get waits_for))
+          → is_parked_on q (later (if b then CallState.refreshed get (answer_in jobs id h get modes.Now) else CallState.refreshing get waits_for)) ≡ is_parked_on q (later (CallState.refreshing get waits_for))
       by_test true = refl
       by_test false = refl
 
-  rows_alike : (x : List Due) (rows : List (Proc × Standing))
-      → flat_map (λ (e : Proc × Standing). if is_parked_on q e.1 then x else []) (map (λ (e : Proc × Standing). (e.0, later e.1)) (map (λ (e : Proc × Standing). (e.0, answer_reply jobs id h number q e.1)) rows))
-      ≡ flat_map (λ (e : Proc × Standing). if is_parked_on q e.1 then x else []) (map (λ (e : Proc × Standing). (e.0, later e.1)) rows)
+  rows_alike : (x : List ToSend) (rows : List (Proc × CallState))
+      → flat_map (λ (e : Proc × CallState). if is_parked_on q e.1 then x else []) (map (λ (e : Proc × CallState). (e.0, later e.1)) (map (λ (e : Proc × CallState). (e.0, answer_reply jobs id h number q e.1)) rows))
+      ≡ flat_map (λ (e : Proc × CallState). if is_parked_on q e.1 then x else []) (map (λ (e : Proc × CallState). (e.0, later e.1)) rows)
   rows_alike x [] = refl
   rows_alike x (e ∷ rows) = λ i. (if replied_alike e.1 i then x else []) ++ rows_alike x rows i
 
   -- so the same homes are asked again
-  pub asked_alike : (x : List Due) (m : Calls)
-      → flat_map (λ (e : Proc × Standing). if is_parked_on q e.1 then x else []) (finite.entries (mapped later (replied m)))
-      ≡ flat_map (λ (e : Proc × Standing). if is_parked_on q e.1 then x else []) (finite.entries (mapped later m))
+  pub asked_alike : (x : List ToSend) (m : Calls)
+      → flat_map (λ (e : Proc × CallState). if is_parked_on q e.1 then x else []) (finite.entries (mapped later (replied m)))
+      ≡ flat_map (λ (e : Proc × CallState). if is_parked_on q e.1 then x else []) (finite.entries (mapped later m))
   asked_alike x m =
-      let sent = flat_map (λ (e : Proc × Standing). if is_parked_on q e.1 then x else []) in
-      ap sent (entries_mapped later (replied m) ∙ ap (map (λ (e : Proc × Standing). (e.0, later e.1))) (entries_mapped (answer_reply jobs id h number q) m))
+      let sent = flat_map (λ (e : Proc × CallState). if is_parked_on q e.1 then x else []) in
+      ap sent (entries_mapped later (replied m) ∙ ap (map (λ (e : Proc × CallState). (e.0, later e.1))) (entries_mapped (answer_reply jobs id h number q) m))
       ∙ rows_alike x (finite.entries m)
       ∙ ap sent (sym (entries_mapped later m))
 
@@ -118,10 +118,10 @@ module _ (s : Server) (r : RefreshReply) (taken : is_taken s.jobs s.id s.holding
   abbrev q : Proc
   q = r.told.proc
 
-  abbrev grown : Holding
+  abbrev grown : NodeState
   grown = with_far s.holding (joined s.holding.far (told_by r))
 
-  abbrev answered : Holding
+  abbrev answered : NodeState
   answered = with_reply s.jobs s.id grown r.request q
 
   is_done : acts s.jobs s.id s.holding a ≡ done_as Reply.taken (settled s.jobs s.id answered)
@@ -133,36 +133,36 @@ module _ (s : Server) (r : RefreshReply) (taken : is_taken s.jobs s.id s.holding
 
   left_is : (after s a).holding ≡ with_calls grown (after s a).holding.calls
   left_is =
-      let e : (after s a).holding ≡ settled s.jobs s.id answered = ap (λ (d : Done). d.left) is_done in e ∙ ap (λ (h : Holding). with_calls grown h.calls) (sym e)
+      let e : (after s a).holding ≡ settled s.jobs s.id answered = ap (λ (d : Done). d.left) is_done in e ∙ ap (λ (h : NodeState). with_calls grown h.calls) (sym e)
 
   -- what it sends, by what is due then
-  reply_out : (dues : List Due) → dues ≡ due_by s.jobs s.id s.holding a (after s a).holding → chosen s.jobs s.id s.holding s.marks a ≡ sends (sealer_of s.holding) s.marks dues
+  reply_out : (dues : List ToSend) → dues ≡ due_by s.jobs s.id s.holding a (after s a).holding → chosen s.jobs s.id s.holding s.marks a ≡ sends (sealer_of s.holding) s.marks dues
   unfolding marked_by_act
   reply_out dues due =
       sent_as s.jobs s.id s.holding a s.marks (acts s.jobs s.id s.holding a) refl (ap (λ (d : Done). is_quiet d.reply) is_done)
       ∙ (λ i. sends (sealer_of (left_is i)) s.marks (sym due i))
 
-  pub reply_sent : (dues : List Due) → dues ≡ due_by s.jobs s.id s.holding a (after s a).holding → sent_by s a ≡ (sends (sealer_of s.holding) s.marks dues).frames
+  pub reply_sent : (dues : List ToSend) → dues ≡ due_by s.jobs s.id s.holding a (after s a).holding → sent_by s a ≡ (sends (sealer_of s.holding) s.marks dues).frames
   reply_sent dues due = ap (λ (o : Out). o.frames) (reply_out dues due)
 
-  pub reply_after : (dues : List Due) → dues ≡ due_by s.jobs s.id s.holding a (after s a).holding
+  pub reply_after : (dues : List ToSend) → dues ≡ due_by s.jobs s.id s.holding a (after s a).holding
       → after s a ≡ with_told (told_by r) (after s a).holding.calls (sends (sealer_of s.holding) s.marks dues).marks s
   reply_after dues due = λ i. record { jobs = s.jobs; id = s.id; holding = left_is i; marks = (reply_out dues due i).marks }
 
   module _ (kept : IsSettled s.jobs s.id s.holding) where
     -- the node, where the get that waits for the reply is answered by what is known before
-    abbrev was : Holding
+    abbrev was : NodeState
     was = with_calls s.holding (replied s.jobs s.id grown r.request q s.holding.calls)
 
     pub reply_calls : (after s a).holding.calls ≡ mapped (later s.jobs s.id grown r.request q) (replied s.jobs s.id grown r.request q s.holding.calls)
     reply_calls =
         ap (λ (d : Done). d.left.calls) is_done
-        ∙ ap (λ (h : Holding). h.calls)
+        ∙ ap (λ (h : NodeState). h.calls)
         (settled_on s.jobs s.id q was answered (replied_settled s.jobs s.id grown r.request q s.holding refl s.holding.calls refl kept) (told_differs s.jobs s.id was q (told_by r) (told_of r)))
         ∙ sym (mapped_calls s.jobs s.id grown (replied s.jobs s.id grown r.request q s.holding.calls) (is_about q) (replied s.jobs s.id grown r.request q s.holding.calls))
 
     -- what is answered
-    pub reply_answers : (number : ℕ) (p : Proc) → number ≡ r.request → p ≡ q → (answers : List (Proc × Settled))
+    pub reply_answers : (number : ℕ) (p : Proc) → number ≡ r.request → p ≡ q → (answers : List (Proc × Completion))
         → AreAnswersThen s.jobs s.id number p s.holding.table s.holding.near (joined s.holding.far (told_by r)) s.holding.calls answers
         → all_instead s.holding.calls answers ≡ (after s a).holding.calls
     reply_answers number p numbers same answers are =
@@ -171,7 +171,7 @@ module _ (s : Server) (r : RefreshReply) (taken : is_taken s.jobs s.id s.holding
         ∙ sym reply_calls
 
     -- what is due, where more commits come to be known
-    pub reply_asks : (p : Proc) → p ≡ q → (dues : List Due)
+    pub reply_asks : (p : Proc) → p ≡ q → (dues : List ToSend)
         → AreAskedAgain s.jobs s.id p s.holding.table s.holding.near (joined s.holding.far (told_by r)) s.holding.calls dues
         → nat_lt (level_at s.holding.far q) (level_at (joined s.holding.far (told_by r)) q) ≡ true → dues ≡ due_by s.jobs s.id s.holding a (after s a).holding
     unfolding due_by due_by_frame
@@ -181,10 +181,10 @@ module _ (s : Server) (r : RefreshReply) (taken : is_taken s.jobs s.id s.holding
         let left = with_calls grown (after s a).holding.calls in
         are soon refl refl refl (mapped_calls s.jobs s.id grown settled_calls (is_about p) s.holding.calls)
         ∙ ap (λ (x : Proc). asking_again s.jobs s.id (with_calls grown (mapped (settle_where s.jobs s.id grown (is_about x)) s.holding.calls)) x) same
-        ∙ sym (asked_alike s.jobs s.id grown r.request q (asking s.jobs s.id grown q) s.holding.calls)
-        ∙ ap (λ (m : Calls). flat_map (λ (e : Proc × Standing). if is_parked_on q e.1 then asking s.jobs s.id grown q else []) (finite.entries m)) (sym reply_calls)
+        ∙ sym (asked_alike s.jobs s.id grown r.request q (asking_home s.jobs s.id grown q) s.holding.calls)
+        ∙ ap (λ (m : Calls). flat_map (λ (e : Proc × CallState). if is_parked_on q e.1 then asking_home s.jobs s.id grown q else []) (finite.entries m)) (sym reply_calls)
         ∙ ap (λ (b : Bool). cond b (asking_again s.jobs s.id left q) []) (sym more)
-        ∙ ap (λ (h : Holding). due_by s.jobs s.id s.holding a h) (sym left_is)
+        ∙ ap (λ (h : NodeState). due_by s.jobs s.id s.holding a h) (sym left_is)
 
   -- and where none do
   pub reply_quiet : nat_lt (level_at s.holding.far q) (level_at (joined s.holding.far (told_by r)) q) ≡ false → [] ≡ due_by s.jobs s.id s.holding a (after s a).holding
@@ -192,11 +192,11 @@ module _ (s : Server) (r : RefreshReply) (taken : is_taken s.jobs s.id s.holding
   reply_quiet none =
       let left = with_calls grown (after s a).holding.calls in
       ap (λ (b : Bool). cond b (asking_again s.jobs s.id left q) []) (sym none)
-      ∙ ap (λ (h : Holding). due_by s.jobs s.id s.holding a h) (sym left_is)
+      ∙ ap (λ (h : NodeState). due_by s.jobs s.id s.holding a h) (sym left_is)
 
 -- the node once the reply is taken, where its parts are so
 pub reply_moved : (s t : Server) (r : RefreshReply) → t ≡ s → is_taken s.jobs s.id s.holding.table (frames.RefreshReply r) ≡ true
-    → (near far : Data) (calls : Calls) (held marks : Levels) (requests : ℕ) (answers : List (Proc × Settled)) (dues : List Due)
+    → (near far : Data) (calls : Calls) (held marks : Levels) (requests : ℕ) (answers : List (Proc × Completion)) (dues : List ToSend)
     → near ≡ t.holding.near → far ≡ joined t.holding.far (told_by r) → calls ≡ all_instead t.holding.calls answers → held ≡ t.holding.held → requests ≡ t.holding.requests
     → marks ≡ (sends (sealer_of t.holding) t.marks dues).marks
     → all_instead s.holding.calls answers ≡ (after s (Act.deliver (frames.RefreshReply r))).holding.calls

@@ -7,34 +7,34 @@ use Rattle.pmg_commit.specs.Data.{absorbed}
 use Rattle.pmg_commit.specs.Knowledge.{Contribution}
 use Rattle.pmg_commit.specs.Sealed.{Sealed, piece_at}
 use Rattle.pmg_dmodex.specs.Levels.{without_below}
-use Rattle.pmg_rules.specs.Acts.{Act, Reply, Done, done_as, cause, does}
-use Rattle.pmg_holding.specs.Answering.{AreAnswers}
-use Rattle.pmg_holding.specs.Calls.{all_instead}
-use Rattle.pmg_rules.specs.Choosing.{due_by, marked_by_act, sends, settling}
-use Rattle.pmg_rules.specs.Holdings.{Holding, sealer_in, sealer_of, sealers_with, sets_with, sealing, with_calls, settled}
-use Rattle.pmg_rules.specs.Kept.{is_about}
-use Rattle.pmg_holding.specs.Owns.{Own, sealed_of}
-use Rattle.pmg_rules.specs.Sending.{is_quiet}
+use Rattle.pmg_node_model.specs.Acts.{Act, Reply, Done, done_as, cause, does}
+use Rattle.pmg_node_parts.specs.Answering.{AreAnswers}
+use Rattle.pmg_node_parts.specs.Calls.{all_instead}
+use Rattle.pmg_node_model.specs.Choosing.{due_by, marked_by_act, sends, settling}
+use Rattle.pmg_node_model.specs.Holdings.{NodeState, sealer_in, sealer_of, sealers_with, sets_with, sealing, with_calls, settled}
+use Rattle.pmg_node_model.specs.Kept.{is_about}
+use Rattle.pmg_node_parts.specs.Owns.{LocalCommits, sealed_of}
+use Rattle.pmg_node_model.specs.Sending.{is_quiet}
 use Rattle.pmg_node.specs.Servers.{Server, IsNode, reply_to, sent_by, after}
-use Rattle.pmg_holding.specs.Telling.{settling_by}
-use Rattle.pmg_holding.specs.declared.call.Settled.{Settled}
-use Rattle.pmg_rules.specs.declared.due.Due.{Due}
+use Rattle.pmg_node_parts.specs.Telling.{settling_by}
+use Rattle.pmg_node_parts.specs.declared.call.Completion.{Completion}
+use Rattle.pmg_node_model.specs.declared.due.ToSend.{ToSend}
 use Rattle.pmg_node.proofs.ActLemmas.{accepted_reply, accepted_after, accepted_sent}
-use Rattle.pmg_rules.proofs.KeptAgain.{settled_on, sealing_differs}
-use Rattle.pmg_rules.proofs.KeptChanges.{sealer_there}
+use Rattle.pmg_node_model.proofs.KeptAgain.{settled_on, sealing_differs}
+use Rattle.pmg_node_model.proofs.KeptChanges.{sealer_there}
 
 -- An act that is not refused, and seals this for the process; after what nodes waited for, more may be due.
-pub record Seals (s : Server) (a : Act) (p : Proc) (z : Sealed) (reply : Reply) (more : (Proc → Sealed) → List Due) : Type 0 where
+pub record Seals (s : Server) (a : Act) (p : Proc) (z : Sealed) (reply : Reply) (more : (Proc → Sealed) → List ToSend) : Type 0 where
   pub node : IsNode s
   pub free : first_of (cause s.jobs s.id s.holding a) (tt {0}) ≡ Ok tt
   pub does : does s.jobs s.id s.holding a ≡ done_as reply (sealing s.holding p z)
   pub loud : is_quiet reply ≡ false
   pub proc : z.proc ≡ p
-  pub owes : (new : Holding) → due_by s.jobs s.id s.holding a new ≡ settling s.holding new p ++ more (sealer_of new)
+  pub owes : (new : NodeState) → due_by s.jobs s.id s.holding a new ≡ settling s.holding new p ++ more (sealer_of new)
   pub unasked : marked_by_act s.marks a ≡ s.marks
 
 -- what is told of the process's next commit, where this is what each process sealed
-abbrev pub told_on : Server → Proc → ((Proc → Sealed) → List Due) → (Proc → Sealed) → List Due
+abbrev pub told_on : Server → Proc → ((Proc → Sealed) → List ToSend) → (Proc → Sealed) → List ToSend
 told_on s p more sealer = settling_by sealer s.holding.held p ++ more sealer
 
 -- the near and the far piece of the process's next commit
@@ -45,7 +45,7 @@ abbrev pub far_piece : Server → Proc → Sealed → Contribution
 far_piece s p z = piece_at z (sealer_of s.holding p).level reach.Far
 
 -- A node that is the same but for what comes of the process's next commit, which sealed this.
-pub record IsSealing (s : Server) (p : Proc) (z : Sealed) (answers : List (Proc × Settled)) (more : (Proc → Sealed) → List Due) (new : Server) : Type 0 where
+pub record IsSealing (s : Server) (p : Proc) (z : Sealed) (answers : List (Proc × Completion)) (more : (Proc → Sealed) → List ToSend) (new : Server) : Type 0 where
   pub jobs : new.jobs ≡ s.jobs
   pub id : new.id ≡ s.id
   pub near : new.holding.near ≡ absorbed s.holding.near (near_piece s p z)
@@ -58,9 +58,9 @@ pub record IsSealing (s : Server) (p : Proc) (z : Sealed) (answers : List (Proc 
   pub requests : new.holding.requests ≡ s.holding.requests
   pub marks : new.marks ≡ (sends (sealer_of new.holding) s.marks (told_on s p more (sealer_of new.holding))).marks
 
-module _ (s : Server) (a : Act) (p : Proc) (z : Sealed) (reply : Reply) (more : (Proc → Sealed) → List Due) (seals : Seals s a p z reply more) (answers : List (Proc × Settled))
+module _ (s : Server) (a : Act) (p : Proc) (z : Sealed) (reply : Reply) (more : (Proc → Sealed) → List ToSend) (seals : Seals s a p z reply more) (answers : List (Proc × Completion))
     (are : AreAnswers s.jobs s.id (is_about p) s.holding.table (absorbed s.holding.near (near_piece s p z)) (absorbed s.holding.far (far_piece s p z)) s.holding.calls answers) where
-  abbrev left : Holding
+  abbrev left : NodeState
   left = with_calls (sealing s.holding p z) (all_instead s.holding.calls answers)
 
   leaves : settled s.jobs s.id (does s.jobs s.id s.holding a).left ≡ left
@@ -109,7 +109,7 @@ module _ (s : Server) (a : Act) (p : Proc) (z : Sealed) (reply : Reply) (more : 
 -- ---- what publishing leaves
 
 -- A node that is the same but for what was published of the process's next commit, where own processes sealed this.
-pub record IsPublished (s : Server) (p : Proc) (own : Own) (from : ℕ) (answers : List (Proc × Settled)) (dues : List Due) (new : Server) : Type 0 where
+pub record IsPublished (s : Server) (p : Proc) (own : LocalCommits) (from : ℕ) (answers : List (Proc × Completion)) (dues : List ToSend) (new : Server) : Type 0 where
   pub jobs : new.jobs ≡ s.jobs
   pub id : new.id ≡ s.id
   pub near : new.holding.near ≡ absorbed s.holding.near (piece_at (sealed_of own p) from reach.Near)
@@ -124,9 +124,9 @@ pub record IsPublished (s : Server) (p : Proc) (own : Own) (from : ℕ) (answers
   pub found : AreAnswers s.jobs s.id (is_about p) s.holding.table (absorbed s.holding.near (piece_at (sealed_of own p) from reach.Near))
       (absorbed s.holding.far (piece_at (sealed_of own p) from reach.Far)) s.holding.calls answers
 
-module _ (s : Server) (a : Act) (p : Proc) (z : Sealed) (reply : Reply) (more : (Proc → Sealed) → List Due) (seals : Seals s a p z reply more)
-    (own : Own) (sealers : own.sealers ≡ sealers_with s.holding p z) (sets : own.sets ≡ sets_with s.holding p z) (from : ℕ) (last : from ≡ (sealer_of s.holding p).level)
-    (answers : List (Proc × Settled)) (new : Server) (is : IsPublished s p own from answers (more (sealed_of own)) new) where
+module _ (s : Server) (a : Act) (p : Proc) (z : Sealed) (reply : Reply) (more : (Proc → Sealed) → List ToSend) (seals : Seals s a p z reply more)
+    (own : LocalCommits) (sealers : own.sealers ≡ sealers_with s.holding p z) (sets : own.sets ≡ sets_with s.holding p z) (from : ℕ) (last : from ≡ (sealer_of s.holding p).level)
+    (answers : List (Proc × Completion)) (new : Server) (is : IsPublished s p own from answers (more (sealed_of own)) new) where
   pub now_sealed : sealed_of own p ≡ z
   now_sealed = (λ i. sealer_in (sets i) (sealers i) p) ∙ sealer_there s.holding p z
 

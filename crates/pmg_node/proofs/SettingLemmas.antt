@@ -9,15 +9,15 @@ use Rattle.pmg_commit.specs.Sealed.{Sealed}
 use Rattle.pmg_jobinfo.specs.Jobs.{Jobs}
 use Rattle.pmg_pset.specs.Members.{no_members}
 use Rattle.pmg_pset.specs.Refusing.{is_full, delete_cause}
-use Rattle.pmg_pset.specs.Sets.{host, is_live, changed}
+use Rattle.pmg_pset.specs.Sets.{host, is_live, set_changed}
 use Rattle.pmg_pset.proofs.SetLemmas.{refused_alike, made_alike}
-use Rattle.pmg_rules.specs.Acts.{Act, Request, Reply, Done, also, node_cause, name_cause, cause, request_cause, does, serves}
-use Rattle.pmg_rules.specs.Choosing.{due_by, due_by_request, marked_by_act}
-use Rattle.pmg_rules.specs.Holdings.{Holding, sealer_in}
-use Rattle.pmg_holding.specs.Owns.{Own, sealed_of, with_sets}
+use Rattle.pmg_node_model.specs.Acts.{Act, Request, Reply, Done, also, node_cause, name_cause, cause, request_cause, does, serves}
+use Rattle.pmg_node_model.specs.Choosing.{due_by, due_by_request, marked_by_act}
+use Rattle.pmg_node_model.specs.Holdings.{NodeState, sealer_in}
+use Rattle.pmg_node_parts.specs.Owns.{LocalCommits, sealed_of, with_sets}
 use Rattle.pmg_node.specs.Servers.{Server, IsNode, IsAccepted, reply_to}
-use Rattle.pmg_holding.specs.Telling.{spread_by}
-use Rattle.pmg_rules.proofs.KeptBasics.{act_free}
+use Rattle.pmg_node_parts.specs.Telling.{spread_by}
+use Rattle.pmg_node_model.proofs.KeptBasics.{act_free}
 use Rattle.pmg_node.proofs.FailLemmas.{fails_due}
 use Rattle.pmg_node.proofs.SealedActs.{Seals}
 
@@ -37,7 +37,7 @@ judged true n l f = refl
 judged false true l f = refl
 judged false false l f = refl
 
-module _ (jobs : Jobs) (id : ℕ) (h : Holding) (name : List ℕ) where
+module _ (jobs : Jobs) (id : ℕ) (h : NodeState) (name : List ℕ) where
   abbrev pub deletes : Act
   deletes = Act.request (Request.delete name)
 
@@ -61,7 +61,7 @@ delete_accepted s name free = subst IsAccepted (sym (ap (λ (d : Done). d.reply)
 
 -- what a deletion seals
 pub delete_seals : (s : Server) (name : List ℕ) → IsNode s → first_of (place_cause s.id name) (tt {0}) ≡ Ok tt → (w : Sealed) → first_of (delete_cause s.holding.sets name) s.holding.sets ≡ Ok w
-    → Seals s (Act.request (Request.delete name)) host (changed s.holding.sets name no_members) (Reply.defined (changed s.holding.sets name no_members).level) (λ sealer. spread_by s.jobs s.id sealer host)
+    → Seals s (Act.request (Request.delete name)) host (set_changed s.holding.sets name no_members) (Reply.defined (set_changed s.holding.sets name no_members).level) (λ sealer. spread_by s.jobs s.id sealer host)
 unfolding does serves due_by due_by_request marked_by_act sealer_in
 delete_seals s name node free w fits = record {
   node = node;
@@ -76,12 +76,12 @@ delete_seals s name node free w fits = record {
 -- ---- the sets, as a node keeps them
 
 -- the process that stands for the host sealed them
-pub sets_sealed : (own : Own) → sealed_of own host ≡ own.sets
+pub sets_sealed : (own : LocalCommits) → sealed_of own host ≡ own.sets
 unfolding sealer_in
 sets_sealed own = refl
 
-module _ (own changes : Own) (name bytes : List ℕ) (is : changes ≡ with_sets own (changed own.sets name bytes)) where
+module _ (own changes : LocalCommits) (name bytes : List ℕ) (is : changes ≡ with_sets own (set_changed own.sets name bytes)) where
   pub sets_rise : (from : ℕ) → from ≡ own.sets.level → from < (sealed_of changes host).level
   sets_rise from last =
-      let level : (sealed_of changes host).level ≡ suc own.sets.level = ap (λ (z : Sealed). z.level) (sets_sealed changes ∙ ap (λ (o : Own). o.sets) is) in
+      let level : (sealed_of changes host).level ≡ suc own.sets.level = ap (λ (z : Sealed). z.level) (sets_sealed changes ∙ ap (λ (o : LocalCommits). o.sets) is) in
       omega (arith, level, last)

@@ -5,15 +5,15 @@ use Rattle.pmg_value.specs.declared.process.Proc.{Proc}
 use Rattle.pmg_value.specs.declared.refusal.Refusal.{Refusal}
 use Rattle.pmg_jobinfo.specs.Jobs.{Jobs}
 use Rattle.pmg_dmodex.specs.Levels.{Levels}
-use Rattle.pmg_rules.specs.Acts.{Act, Request, Reply, Done, done_as, reply_of, cause, request_cause, caller_cause, serves, does, leaves, takes, over, acts}
-use Rattle.pmg_rules.specs.Choosing.{Out, due_by, due_by_request, marked_by_act, sends, chosen}
-use Rattle.pmg_rules.specs.Holdings.{Standing, Holding, sealer_of, call_of, uncalled, settled}
-use Rattle.pmg_rules.specs.Kept.{IsSettled}
+use Rattle.pmg_node_model.specs.Acts.{Act, Request, Reply, Done, done_as, reply_of, cause, request_cause, caller_cause, serves, does, leaves, takes, over, acts}
+use Rattle.pmg_node_model.specs.Choosing.{Out, due_by, due_by_request, marked_by_act, sends, chosen}
+use Rattle.pmg_node_model.specs.Holdings.{CallState, NodeState, sealer_of, call_of, uncalled, settled}
+use Rattle.pmg_node_model.specs.Kept.{IsSettled}
 use Rattle.pmg_node.specs.Replies.{stays_reply, released_reply, pending_reply, answered_reply}
-use Rattle.pmg_rules.specs.Sending.{is_quiet}
+use Rattle.pmg_node_model.specs.Sending.{is_quiet}
 use Rattle.pmg_node.specs.Servers.{Server, sent_by, after}
-use Rattle.pmg_rules.proofs.KeptBasics.{removed_some}
-use Rattle.pmg_rules.proofs.KeptSettled.{settled_same}
+use Rattle.pmg_node_model.proofs.KeptBasics.{removed_some}
+use Rattle.pmg_node_model.proofs.KeptSettled.{settled_same}
 
 -- the answer where nothing is refused
 abbrev pub then_answer : {Y : Type 0} → Result (Unit {0}) Refusal → Y → Result Y Refusal
@@ -29,7 +29,7 @@ pub first_then : {Y : Type 0} (has_cause : Refusal → Bool) (y : Y) (es : List 
 first_then has_cause y [] = refl
 first_then has_cause y (e ∷ es) = one_then e y (first_in es has_cause y) (first_in es has_cause (tt {0})) (first_then has_cause y es) (has_cause e)
 
-module _ (jobs : Jobs) (id : ℕ) (h : Holding) (a : Act) where
+module _ (jobs : Jobs) (id : ℕ) (h : NodeState) (a : Act) where
   pub acts_by : acts jobs id h a ≡ over jobs id h (then_answer (first_of (cause jobs id h a) tt) (does jobs id h a))
   acts_by = ap (over jobs id h) (first_then (cause jobs id h a) (does jobs id h a) check_order)
 
@@ -82,10 +82,10 @@ module _ (s : Server) (a : Act) (silent : chosen s.jobs s.id s.holding s.marks a
   sent_none = ap (λ (out : Out). out.frames) silent
 
 -- who is in no call any more changes nothing for the others
-pub uncalled_settled : (jobs : Jobs) (id : ℕ) (h : Holding) (p : Proc) → IsSettled jobs id h → IsSettled jobs id (uncalled h p)
+pub uncalled_settled : (jobs : Jobs) (id : ℕ) (h : NodeState) (p : Proc) → IsSettled jobs id h → IsSettled jobs id (uncalled h p)
 uncalled_settled jobs id h p is = record {
-  fences = λ q f e. is.fences q f (removed_some h.calls p q (Standing.in_fence f) e);
-  gets = λ q get e. is.gets q get (removed_some h.calls p q (Standing.parked get) e);
+  fences = λ q f e. is.fences q f (removed_some h.calls p q (CallState.in_fence f) e);
+  gets = λ q get e. is.gets q get (removed_some h.calls p q (CallState.parked get) e);
 }
 
 -- ---- a process leaves
@@ -94,7 +94,7 @@ uncalled_settled jobs id h p is = record {
 abbrev pub without_call : Server → Proc → Server
 without_call s p = record { jobs = s.jobs; id = s.id; holding = uncalled s.holding p; marks = s.marks }
 
-module _ (jobs : Jobs) (id : ℕ) (h : Holding) (p : Proc) where
+module _ (jobs : Jobs) (id : ℕ) (h : NodeState) (p : Proc) where
   pub leave_refused : (e : Refusal) → first_of (caller_cause jobs id h p) (tt {0}) ≡ Err e → first_of (cause jobs id h (Act.request (Request.leave p))) (tt {0}) ≡ Err e
   unfolding cause request_cause
   leave_refused e is = is
@@ -103,35 +103,35 @@ module _ (jobs : Jobs) (id : ℕ) (h : Holding) (p : Proc) where
   unfolding cause request_cause
   leave_free is = is
 
-  settled_leaves : IsSettled jobs id h → (c : Option Standing) → done_as (leaves h p c).reply (settled jobs id (leaves h p c).left) ≡ leaves h p c
-  settled_leaves is (Some (Standing.in_fence f)) = ap (done_as Reply.waiting) (settled_same jobs id h is)
-  settled_leaves is (Some (Standing.released f gone)) = ap (done_as (Reply.released f.instance gone)) (settled_same jobs id (uncalled h p) (uncalled_settled jobs id h p is))
-  settled_leaves is (Some (Standing.parked get)) = ap (done_as Reply.idle) (settled_same jobs id h is)
-  settled_leaves is (Some (Standing.answered get outcome)) = ap (done_as Reply.idle) (settled_same jobs id h is)
-  settled_leaves is (Some (Standing.refreshing get number)) = ap (done_as Reply.idle) (settled_same jobs id h is)
-  settled_leaves is (Some (Standing.refreshed get outcome)) = ap (done_as Reply.idle) (settled_same jobs id h is)
+  settled_leaves : IsSettled jobs id h → (c : Option CallState) → done_as (leaves h p c).reply (settled jobs id (leaves h p c).left) ≡ leaves h p c
+  settled_leaves is (Some (CallState.in_fence f)) = ap (done_as Reply.waiting) (settled_same jobs id h is)
+  settled_leaves is (Some (CallState.released f gone)) = ap (done_as (Reply.released f.instance gone)) (settled_same jobs id (uncalled h p) (uncalled_settled jobs id h p is))
+  settled_leaves is (Some (CallState.parked get)) = ap (done_as Reply.idle) (settled_same jobs id h is)
+  settled_leaves is (Some (CallState.answered get outcome)) = ap (done_as Reply.idle) (settled_same jobs id h is)
+  settled_leaves is (Some (CallState.refreshing get number)) = ap (done_as Reply.idle) (settled_same jobs id h is)
+  settled_leaves is (Some (CallState.refreshed get outcome)) = ap (done_as Reply.idle) (settled_same jobs id h is)
   settled_leaves is None = ap (done_as Reply.idle) (settled_same jobs id h is)
 
-  pub leave_is : IsSettled jobs id h → first_of (caller_cause jobs id h p) (tt {0}) ≡ Ok tt → (c : Option Standing) → call_of h p ≡ c → acts jobs id h (Act.request (Request.leave p)) ≡ leaves h p c
+  pub leave_is : IsSettled jobs id h → first_of (caller_cause jobs id h p) (tt {0}) ≡ Ok tt → (c : Option CallState) → call_of h p ≡ c → acts jobs id h (Act.request (Request.leave p)) ≡ leaves h p c
   unfolding does serves
   leave_is is free c e = act_free jobs id h (Act.request (Request.leave p)) (leave_free free) ∙ settled_leaves is (call_of h p) ∙ ap (leaves h p) e
 
-  leaves_stays : (c : Option Standing) (r : Reply) → stays_reply c ≡ Some r → leaves h p c ≡ done_as r h
-  leaves_stays (Some (Standing.in_fence f)) r e = ap (λ (x : Reply). done_as x h) cc
-  leaves_stays (Some (Standing.released f gone)) r e = absurd cc
-  leaves_stays (Some (Standing.parked get)) r e = ap (λ (x : Reply). done_as x h) cc
-  leaves_stays (Some (Standing.answered get outcome)) r e = ap (λ (x : Reply). done_as x h) cc
-  leaves_stays (Some (Standing.refreshing get number)) r e = ap (λ (x : Reply). done_as x h) cc
-  leaves_stays (Some (Standing.refreshed get outcome)) r e = ap (λ (x : Reply). done_as x h) cc
+  leaves_stays : (c : Option CallState) (r : Reply) → stays_reply c ≡ Some r → leaves h p c ≡ done_as r h
+  leaves_stays (Some (CallState.in_fence f)) r e = ap (λ (x : Reply). done_as x h) cc
+  leaves_stays (Some (CallState.released f gone)) r e = absurd cc
+  leaves_stays (Some (CallState.parked get)) r e = ap (λ (x : Reply). done_as x h) cc
+  leaves_stays (Some (CallState.answered get outcome)) r e = ap (λ (x : Reply). done_as x h) cc
+  leaves_stays (Some (CallState.refreshing get number)) r e = ap (λ (x : Reply). done_as x h) cc
+  leaves_stays (Some (CallState.refreshed get outcome)) r e = ap (λ (x : Reply). done_as x h) cc
   leaves_stays None r e = ap (λ (x : Reply). done_as x h) cc
 
-  leaves_goes : (c : Option Standing) → stays_reply c ≡ None → leaves h p c ≡ done_as (released_reply c) (uncalled h p)
-  leaves_goes (Some (Standing.in_fence f)) e = absurd cc
-  leaves_goes (Some (Standing.released f gone)) e = refl
-  leaves_goes (Some (Standing.parked get)) e = absurd cc
-  leaves_goes (Some (Standing.answered get outcome)) e = absurd cc
-  leaves_goes (Some (Standing.refreshing get number)) e = absurd cc
-  leaves_goes (Some (Standing.refreshed get outcome)) e = absurd cc
+  leaves_goes : (c : Option CallState) → stays_reply c ≡ None → leaves h p c ≡ done_as (released_reply c) (uncalled h p)
+  leaves_goes (Some (CallState.in_fence f)) e = absurd cc
+  leaves_goes (Some (CallState.released f gone)) e = refl
+  leaves_goes (Some (CallState.parked get)) e = absurd cc
+  leaves_goes (Some (CallState.answered get outcome)) e = absurd cc
+  leaves_goes (Some (CallState.refreshing get number)) e = absurd cc
+  leaves_goes (Some (CallState.refreshed get outcome)) e = absurd cc
   leaves_goes None e = absurd cc
 
   pub leave_stays : IsSettled jobs id h → first_of (caller_cause jobs id h p) (tt {0}) ≡ Ok tt → (r : Reply) → stays_reply (call_of h p) ≡ Some r → acts jobs id h (Act.request (Request.leave p)) ≡ done_as r h
@@ -146,7 +146,7 @@ module _ (jobs : Jobs) (id : ℕ) (h : Holding) (p : Proc) where
   leave_silent marks = none_due jobs id h (Act.request (Request.leave p)) marks refl refl
 
 -- ---- a process takes an answer
-module _ (jobs : Jobs) (id : ℕ) (h : Holding) (p : Proc) where
+module _ (jobs : Jobs) (id : ℕ) (h : NodeState) (p : Proc) where
   pub take_refused : (e : Refusal) → first_of (caller_cause jobs id h p) (tt {0}) ≡ Err e → first_of (cause jobs id h (Act.request (Request.take p))) (tt {0}) ≡ Err e
   unfolding cause request_cause
   take_refused e is = is
@@ -155,35 +155,35 @@ module _ (jobs : Jobs) (id : ℕ) (h : Holding) (p : Proc) where
   unfolding cause request_cause
   take_free is = is
 
-  settled_takes : IsSettled jobs id h → (c : Option Standing) → done_as (takes h p c).reply (settled jobs id (takes h p c).left) ≡ takes h p c
-  settled_takes is (Some (Standing.in_fence f)) = ap (done_as Reply.idle) (settled_same jobs id h is)
-  settled_takes is (Some (Standing.released f gone)) = ap (done_as Reply.idle) (settled_same jobs id h is)
-  settled_takes is (Some (Standing.parked get)) = ap (done_as Reply.waiting) (settled_same jobs id h is)
-  settled_takes is (Some (Standing.answered get outcome)) = ap (done_as (reply_of outcome)) (settled_same jobs id (uncalled h p) (uncalled_settled jobs id h p is))
-  settled_takes is (Some (Standing.refreshing get number)) = ap (done_as Reply.waiting) (settled_same jobs id h is)
-  settled_takes is (Some (Standing.refreshed get outcome)) = ap (done_as (reply_of outcome)) (settled_same jobs id (uncalled h p) (uncalled_settled jobs id h p is))
+  settled_takes : IsSettled jobs id h → (c : Option CallState) → done_as (takes h p c).reply (settled jobs id (takes h p c).left) ≡ takes h p c
+  settled_takes is (Some (CallState.in_fence f)) = ap (done_as Reply.idle) (settled_same jobs id h is)
+  settled_takes is (Some (CallState.released f gone)) = ap (done_as Reply.idle) (settled_same jobs id h is)
+  settled_takes is (Some (CallState.parked get)) = ap (done_as Reply.waiting) (settled_same jobs id h is)
+  settled_takes is (Some (CallState.answered get outcome)) = ap (done_as (reply_of outcome)) (settled_same jobs id (uncalled h p) (uncalled_settled jobs id h p is))
+  settled_takes is (Some (CallState.refreshing get number)) = ap (done_as Reply.waiting) (settled_same jobs id h is)
+  settled_takes is (Some (CallState.refreshed get outcome)) = ap (done_as (reply_of outcome)) (settled_same jobs id (uncalled h p) (uncalled_settled jobs id h p is))
   settled_takes is None = ap (done_as Reply.idle) (settled_same jobs id h is)
 
-  pub take_is : IsSettled jobs id h → first_of (caller_cause jobs id h p) (tt {0}) ≡ Ok tt → (c : Option Standing) → call_of h p ≡ c → acts jobs id h (Act.request (Request.take p)) ≡ takes h p c
+  pub take_is : IsSettled jobs id h → first_of (caller_cause jobs id h p) (tt {0}) ≡ Ok tt → (c : Option CallState) → call_of h p ≡ c → acts jobs id h (Act.request (Request.take p)) ≡ takes h p c
   unfolding does serves
   take_is is free c e = act_free jobs id h (Act.request (Request.take p)) (take_free free) ∙ settled_takes is (call_of h p) ∙ ap (takes h p) e
 
-  takes_stays : (c : Option Standing) (r : Reply) → pending_reply c ≡ Some r → takes h p c ≡ done_as r h
-  takes_stays (Some (Standing.in_fence f)) r e = ap (λ (x : Reply). done_as x h) cc
-  takes_stays (Some (Standing.released f gone)) r e = ap (λ (x : Reply). done_as x h) cc
-  takes_stays (Some (Standing.parked get)) r e = ap (λ (x : Reply). done_as x h) cc
-  takes_stays (Some (Standing.answered get outcome)) r e = absurd cc
-  takes_stays (Some (Standing.refreshing get number)) r e = ap (λ (x : Reply). done_as x h) cc
-  takes_stays (Some (Standing.refreshed get outcome)) r e = absurd cc
+  takes_stays : (c : Option CallState) (r : Reply) → pending_reply c ≡ Some r → takes h p c ≡ done_as r h
+  takes_stays (Some (CallState.in_fence f)) r e = ap (λ (x : Reply). done_as x h) cc
+  takes_stays (Some (CallState.released f gone)) r e = ap (λ (x : Reply). done_as x h) cc
+  takes_stays (Some (CallState.parked get)) r e = ap (λ (x : Reply). done_as x h) cc
+  takes_stays (Some (CallState.answered get outcome)) r e = absurd cc
+  takes_stays (Some (CallState.refreshing get number)) r e = ap (λ (x : Reply). done_as x h) cc
+  takes_stays (Some (CallState.refreshed get outcome)) r e = absurd cc
   takes_stays None r e = ap (λ (x : Reply). done_as x h) cc
 
-  takes_goes : (c : Option Standing) → pending_reply c ≡ None → takes h p c ≡ done_as (answered_reply c) (uncalled h p)
-  takes_goes (Some (Standing.in_fence f)) e = absurd cc
-  takes_goes (Some (Standing.released f gone)) e = absurd cc
-  takes_goes (Some (Standing.parked get)) e = absurd cc
-  takes_goes (Some (Standing.answered get outcome)) e = refl
-  takes_goes (Some (Standing.refreshing get number)) e = absurd cc
-  takes_goes (Some (Standing.refreshed get outcome)) e = refl
+  takes_goes : (c : Option CallState) → pending_reply c ≡ None → takes h p c ≡ done_as (answered_reply c) (uncalled h p)
+  takes_goes (Some (CallState.in_fence f)) e = absurd cc
+  takes_goes (Some (CallState.released f gone)) e = absurd cc
+  takes_goes (Some (CallState.parked get)) e = absurd cc
+  takes_goes (Some (CallState.answered get outcome)) e = refl
+  takes_goes (Some (CallState.refreshing get number)) e = absurd cc
+  takes_goes (Some (CallState.refreshed get outcome)) e = refl
   takes_goes None e = absurd cc
 
   pub take_stays : IsSettled jobs id h → first_of (caller_cause jobs id h p) (tt {0}) ≡ Ok tt → (r : Reply) → pending_reply (call_of h p) ≡ Some r → acts jobs id h (Act.request (Request.take p)) ≡ done_as r h

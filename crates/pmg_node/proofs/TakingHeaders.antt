@@ -11,7 +11,7 @@ use Rattle.pmg_frame.specs.declared.local.Local.{Local}
 use Rattle.pmg_jobinfo.specs.Jobs.{Jobs, home_of}
 use Rattle.pmg_fence.specs.Entering.{same_proc, locals_of}
 use Rattle.pmg_fence.proofs.LineLemmas.{drop-all}
-use Rattle.pmg_rules.specs.Acts.{is_complete}
+use Rattle.pmg_node_model.specs.Acts.{is_complete}
 
 module _ (jobs : Jobs) (node : ℕ) where
   -- these locals are of just those of the processes that are at home at the node, in their order

@@ -2,8 +2,8 @@
 use Rattle.std.specs.Prelude.{◌≡◌, Some, Result, Ok, Err}
 use Rattle.pmg_value.specs.Spelling.{spelling}
 use Rattle.pmg_value.specs.declared.refusal.Refusal.{Refusal}
-use Rattle.pmg_rules.specs.Acts.{Request, Act, Reply}
-use Rattle.pmg_holding.specs.Calls.{get_of}
+use Rattle.pmg_node_model.specs.Acts.{Request, Act, Reply}
+use Rattle.pmg_node_parts.specs.Calls.{get_of}
 use Rattle.pmg_node.specs.Joining.{Joins, no_joins}
 use Rattle.pmg_node.specs.declared.act.Acted.{Acted}
 use Rattle.pmg_node.specs.declared.asked.Delivery.{Delivery}

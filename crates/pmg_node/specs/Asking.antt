@@ -2,11 +2,11 @@
 use Rattle.std.specs.Prelude.{ℕ, List, Option, Some, None}
 use Rattle.pmg_value.specs.declared.process.Proc.{Proc}
 use Rattle.pmg_jobinfo.specs.Jobs.{Jobs}
-use Rattle.pmg_rules.specs.Choosing.{asking, asking_anew}
-use Rattle.pmg_rules.specs.Holdings.{Holding}
-use Rattle.pmg_rules.specs.declared.due.Due.{Due}
+use Rattle.pmg_node_model.specs.Choosing.{asking_home, asking_anew}
+use Rattle.pmg_node_model.specs.Holdings.{NodeState}
+use Rattle.pmg_node_model.specs.declared.due.ToSend.{ToSend}
 
 -- for a get that waits for a key of the process: its home is asked, and anew, where the get's request has a number
-abbrev pub asking_as : Jobs → ℕ → Holding → Proc × Option ℕ → List Due
-asking_as jobs id h (q, None) = asking jobs id h q
+abbrev pub asking_as : Jobs → ℕ → NodeState → Proc × Option ℕ → List ToSend
+asking_as jobs id h (q, None) = asking_home jobs id h q
 asking_as jobs id h (q, Some number) = asking_anew jobs id h q number

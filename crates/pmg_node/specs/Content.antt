@@ -8,13 +8,13 @@ use Rattle.pmg_fence.specs.Codes.{Known}
 use Rattle.pmg_dmodex.specs.Levels.{Levels}
 use Rattle.pmg_dmodex.specs.Refreshes.{Refreshes, asker_at}
 use Rattle.pmg_dmodex.specs.Requests.{Requests}
-use Rattle.pmg_holding.specs.Codes.{Calls}
-use Rattle.pmg_holding.specs.Owns.{Own}
-use Rattle.pmg_rules.specs.Holdings.{Get, Standing}
+use Rattle.pmg_node_parts.specs.Codes.{Calls}
+use Rattle.pmg_node_parts.specs.Owns.{LocalCommits}
+use Rattle.pmg_node_model.specs.Holdings.{Get, CallState}
 use Rattle.pmg_node.specs.Servers.{Server, IsNode}
 
 -- the node that these parts make
-abbrev pub server_of : Known → ℕ → Board → Own → Calls → Requests → Levels → Server
+abbrev pub server_of : Known → ℕ → Board → LocalCommits → Calls → Requests → Levels → Server
 server_of table id board own calls held marks = record {
   jobs = table.jobs;
   id = id;
@@ -24,7 +24,7 @@ server_of table id board own calls held marks = record {
 
 -- each get that waits for the reply to a request is of a key that is not reserved, and the one that the request was sent for
 abbrev pub AreOpen : Calls → Refreshes → Type 0
-AreOpen calls anew = (p : Proc) (get : Get) (number : ℕ) → finite.get calls p ≡ Some (Standing.refreshing get number)
+AreOpen calls anew = (p : Proc) (get : Get) (number : ℕ) → finite.get calls p ≡ Some (CallState.refreshing get number)
     → (is_reserved get.key ≡ false) × (asker_at anew number get.target ≡ Some p)
 
 -- the table is the node's, and no header of its own waits there; and replies find the gets that wait for them

@@ -3,17 +3,17 @@ use Rattle.std.specs.Prelude.{ℕ, [], Option}
 use Rattle.pmg_value.specs.declared.process.Proc.{Proc}
 use Rattle.pmg_commit.specs.Sealed.{ended_with}
 use Rattle.pmg_commit.specs.TakenBack.{end_back}
-use Rattle.pmg_commit.specs.declared.sealer.SealerBefore.{SealerBefore}
+use Rattle.pmg_commit.specs.declared.sealer.SealerUndo.{SealerUndo}
 use Rattle.pmg_fence.specs.Changes.{changed, ended_by, taken}
 use Rattle.pmg_fence.specs.Codes.{Known}
-use Rattle.pmg_holding.specs.Owns.{Own, sealed_of, with_sealed}
+use Rattle.pmg_node_parts.specs.Owns.{LocalCommits, sealed_of, with_sealed}
 
 -- the own process ended, which is its last commit
-abbrev pub own_ended : Own → Proc → Own
+abbrev pub own_ended : LocalCommits → Proc → LocalCommits
 own_ended own p = with_sealed own p (ended_with (sealed_of own p))
 
 -- its end is taken back
-abbrev pub own_back : Own → Proc → Option SealerBefore → Own
+abbrev pub own_back : LocalCommits → Proc → Option SealerUndo → LocalCommits
 own_back own p before = with_sealed own p (end_back (sealed_of own p) before)
 
 -- the process ended after so many commits, and the own headers that came to exist were taken

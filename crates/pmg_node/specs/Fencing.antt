@@ -4,30 +4,30 @@ use Rattle.std.specs.List.{flat_map}
 use Rattle.pmg_value.specs.Signatures.{FenceName}
 use Rattle.pmg_commit.specs.Data.{Data}
 use Rattle.pmg_jobinfo.specs.Jobs.{Jobs}
-use Rattle.pmg_fence.specs.Changes.{news, changed_at, taken}
+use Rattle.pmg_fence.specs.Changes.{news, fence_changed_at, taken}
 use Rattle.pmg_fence.specs.Codes.{Known}
 use Rattle.pmg_fence.specs.Kept.{noted_by, placed_by}
 use Rattle.pmg_fence.specs.Tables.{Fences}
 use Rattle.pmg_fence.specs.declared.change.Change.{Change}
-use Rattle.pmg_holding.specs.Codes.{Calls}
-use Rattle.pmg_rules.specs.Holdings.{Holding, mapped}
-use Rattle.pmg_rules.specs.Kept.{is_in, settle_where}
-use Rattle.pmg_holding.specs.Telling.{announcing_by}
-use Rattle.pmg_rules.specs.declared.due.Due.{Due}
+use Rattle.pmg_node_parts.specs.Codes.{Calls}
+use Rattle.pmg_node_model.specs.Holdings.{NodeState, mapped}
+use Rattle.pmg_node_model.specs.Kept.{is_in, settle_where}
+use Rattle.pmg_node_parts.specs.Telling.{announcing_by}
+use Rattle.pmg_node_model.specs.declared.due.ToSend.{ToSend}
 
 -- the table, once a change of the fence is noted and the own headers that came to exist are taken, before anything is forgotten
 abbrev pub fence_noted : Known → FenceName → Change → Known
-fence_noted k f change = taken (changed_at k f (noted_by k.fences f change)) []
+fence_noted k f change = taken (fence_changed_at k f (noted_by k.fences f change)) []
 
 -- the table, once the fence has changed and the own headers that came to exist are taken
 abbrev pub fence_after : Known → FenceName → Change → Known
-fence_after k f change = taken (changed_at k f (placed_by k.fences f change)) []
+fence_after k f change = taken (fence_changed_at k f (placed_by k.fences f change)) []
 
 -- these own headers are due to each other node of the fence
-abbrev pub fence_dues : Known → FenceName → Change → List Due
+abbrev pub fence_dues : Known → FenceName → Change → List ToSend
 fence_dues k f change = flat_map (announcing_by k.jobs k.node) (news k.jobs k.node k.fences (placed_by k.fences f change) f)
 
 -- The new calls are what comes of the old ones, where those in the fence are settled again, with this table and these stores.
 abbrev pub AreSettledIn : FenceName → Jobs → ℕ → Fences → Data → Data → Calls → Calls → Type 0
 AreSettledIn f jobs id table near far old new =
-    (h : Holding) → h.table ≡ table → h.near ≡ near → h.far ≡ far → new ≡ mapped (settle_where jobs id h (is_in f)) old
+    (h : NodeState) → h.table ≡ table → h.near ≡ near → h.far ≡ far → new ≡ mapped (settle_where jobs id h (is_in f)) old

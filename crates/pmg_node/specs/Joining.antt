@@ -8,9 +8,9 @@ use Rattle.pmg_frame.specs.Refreshing.{told_by}
 use Rattle.pmg_frame.specs.declared.frame.Frame.{Frame}
 use Rattle.pmg_frame.specs.declared.frame.Frame.TheVariants as frames
 use Rattle.pmg_jobinfo.specs.Jobs.{Jobs}
-use Rattle.pmg_rules.specs.Acts.{Request, Act, acts}
-use Rattle.pmg_rules.specs.Holdings.{Holding, joined, sealer_of}
-use Rattle.pmg_rules.specs.Sending.{is_quiet}
+use Rattle.pmg_node_model.specs.Acts.{Request, Act, acts}
+use Rattle.pmg_node_model.specs.Holdings.{NodeState, joined, sealer_of}
+use Rattle.pmg_node_model.specs.Sending.{is_quiet}
 
 -- what is joined for reads from the node itself, and from other nodes
 pub record Joins : Type 0 where
@@ -24,7 +24,7 @@ no_joins = record { near = None; far = None }
 abbrev pub seal_joins : Sealed → ℕ → Joins
 seal_joins z from = record { near = Some (piece_at z from reach.Near); far = Some (piece_at z from reach.Far) }
 
-abbrev pub request_joins : Holding → Request → Holding → Joins
+abbrev pub request_joins : NodeState → Request → NodeState → Joins
 request_joins old (Request.enter p list collect) new = no_joins
 request_joins old (Request.leave p) new = no_joins
 request_joins old (Request.ask p get mode) new = no_joins
@@ -43,17 +43,17 @@ frame_joins (frames.DirectAsk a) = no_joins
 frame_joins (frames.RefreshAsk a) = no_joins
 frame_joins (frames.RefreshReply r) = record { near = None; far = told_by r }
 
-abbrev pub act_joins : Holding → Act → Holding → Joins
+abbrev pub act_joins : NodeState → Act → NodeState → Joins
 act_joins old (Act.request r) new = request_joins old r new
 act_joins old (Act.commit p b) new = seal_joins (sealer_of new p) (sealer_of old p).level
 act_joins old (Act.deliver frame) new = frame_joins frame
 
 -- What an act joins: nothing where it is refused or ignored.
-unfoldable pub joins : Jobs → ℕ → Holding → Act → Joins
+unfoldable pub joins : Jobs → ℕ → NodeState → Act → Joins
 joins jobs id h a = if is_quiet (acts jobs id h a).reply then no_joins else act_joins h a (acts jobs id h a).left
 
 -- what an act joins makes the stores that it leaves
 abbrev pub JoinsAreAll : Type 0
 JoinsAreAll =
-    (jobs : Jobs) (id : ℕ) (h : Holding) (a : Act)
+    (jobs : Jobs) (id : ℕ) (h : NodeState) (a : Act)
     → ((acts jobs id h a).left.near ≡ joined h.near (joins jobs id h a).near) × ((acts jobs id h a).left.far ≡ joined h.far (joins jobs id h a).far)

@@ -1,5 +1,5 @@
 -- Kinds of replies.
-use Rattle.pmg_rules.specs.Acts.{Reply}
+use Rattle.pmg_node_model.specs.Acts.{Reply}
 
 abbrev pub IsCommitted : Reply → Type 0
 IsCommitted (Reply.committed number) = Unit {0}

@@ -9,20 +9,20 @@ use Rattle.pmg_pset.specs.Members.{members_told}
 use Rattle.pmg_pset.specs.Sets.{host}
 
 -- the bytes of the members' array that a value tells of, if there is one
-abbrev pub members_in : Option (List ℕ) → Option (List ℕ)
-members_in None = None
-members_in (Some bytes) = members_told bytes
+abbrev pub members_of_value : Option (List ℕ) → Option (List ℕ)
+members_of_value None = None
+members_of_value (Some bytes) = members_told bytes
 
 -- the bytes of the members' array of the set of that name, as far as the node knows: it was defined, and not deleted since
-abbrev pub live_in : Data → List ℕ → Option (List ℕ)
-live_in far name = members_in (read_at far host name)
+abbrev pub known_members : Data → List ℕ → Option (List ℕ)
+known_members far name = members_of_value (read_at far host name)
 
 -- the same, nothing where there is no such set
 abbrev pub members_known : Data → List ℕ → List ℕ
-members_known far name = unwrap_or (live_in far name) []
+members_known far name = unwrap_or (known_members far name) []
 
 -- a look at the members: the name is none of the standard's, and there is a set of it
-abbrev pub members_cause : Data → List ℕ → Refusal → Bool
-members_cause far name refusals.BadParam = is_reserved name
-members_cause far name refusals.NotFound = is_none (live_in far name)
-members_cause far name _ = false
+abbrev pub known_members_cause : Data → List ℕ → Refusal → Bool
+known_members_cause far name refusals.BadParam = is_reserved name
+known_members_cause far name refusals.NotFound = is_none (known_members far name)
+known_members_cause far name _ = false

@@ -4,9 +4,9 @@ use Rattle.pmg_value.specs.Signatures.{FenceName}
 use Rattle.pmg_value.specs.Spelling.{spelling}
 use Rattle.pmg_value.specs.declared.process.Proc.{Proc}
 use Rattle.pmg_get.specs.Gets.{Outcome}
-use Rattle.pmg_rules.specs.Acts.{Reply, Status, reply_of}
-use Rattle.pmg_rules.specs.Holdings.{Standing}
-use Rattle.pmg_holding.specs.Calls.{answered_in, released_in}
+use Rattle.pmg_node_model.specs.Acts.{Reply, Status, reply_of}
+use Rattle.pmg_node_model.specs.Holdings.{CallState}
+use Rattle.pmg_node_parts.specs.Calls.{answered_in, released_by_fence}
 use Rattle.pmg_node.specs.declared.committing.Committed.{Committed}
 use Rattle.pmg_node.specs.declared.leaving.Release.{Release}
 use Rattle.pmg_node.specs.declared.leaving.Release.TheVariants as releases
@@ -26,13 +26,13 @@ release_reply releases.Waiting = Reply.waiting
 release_reply (releases.Released instance gone) = Reply.released instance gone.items
 
 -- what it is told that is not released
-abbrev pub stays_reply : Option Standing → Option Reply
-stays_reply (Some (Standing.released f gone)) = None
-stays_reply (Some (Standing.in_fence f)) = Some Reply.waiting
-stays_reply (Some (Standing.parked get)) = Some Reply.idle
-stays_reply (Some (Standing.answered get outcome)) = Some Reply.idle
-stays_reply (Some (Standing.refreshing get number)) = Some Reply.idle
-stays_reply (Some (Standing.refreshed get outcome)) = Some Reply.idle
+abbrev pub stays_reply : Option CallState → Option Reply
+stays_reply (Some (CallState.released f gone)) = None
+stays_reply (Some (CallState.in_fence f)) = Some Reply.waiting
+stays_reply (Some (CallState.parked get)) = Some Reply.idle
+stays_reply (Some (CallState.answered get outcome)) = Some Reply.idle
+stays_reply (Some (CallState.refreshing get number)) = Some Reply.idle
+stays_reply (Some (CallState.refreshed get outcome)) = Some Reply.idle
 stays_reply None = Some Reply.idle
 
 -- what it is told that is released from this fence, where it is
@@ -41,8 +41,8 @@ freed_reply (Some (f, gone)) = Reply.released f.instance gone
 freed_reply None = Reply.idle
 
 -- what it is told once its call is over
-abbrev pub released_reply : Option Standing → Reply
-released_reply (Some s) = freed_reply (released_in s)
+abbrev pub released_reply : Option CallState → Reply
+released_reply (Some s) = freed_reply (released_by_fence s)
 released_reply None = Reply.idle
 
 -- what a process that takes an answer is told
@@ -52,13 +52,13 @@ taking_reply takings.Waiting = Reply.waiting
 taking_reply (takings.Found value) = Reply.found (spelling value)
 
 -- what it is told whose get is not answered
-abbrev pub pending_reply : Option Standing → Option Reply
-pending_reply (Some (Standing.answered get outcome)) = None
-pending_reply (Some (Standing.refreshed get outcome)) = None
-pending_reply (Some (Standing.refreshing get number)) = Some Reply.waiting
-pending_reply (Some (Standing.parked get)) = Some Reply.waiting
-pending_reply (Some (Standing.in_fence f)) = Some Reply.idle
-pending_reply (Some (Standing.released f gone)) = Some Reply.idle
+abbrev pub pending_reply : Option CallState → Option Reply
+pending_reply (Some (CallState.answered get outcome)) = None
+pending_reply (Some (CallState.refreshed get outcome)) = None
+pending_reply (Some (CallState.refreshing get number)) = Some Reply.waiting
+pending_reply (Some (CallState.parked get)) = Some Reply.waiting
+pending_reply (Some (CallState.in_fence f)) = Some Reply.idle
+pending_reply (Some (CallState.released f gone)) = Some Reply.idle
 pending_reply None = Some Reply.idle
 
 -- what it is told whose get is answered so, where it is
@@ -67,7 +67,7 @@ got_reply (Some outcome) = reply_of outcome
 got_reply None = Reply.idle
 
 -- what it is told once its call is over
-abbrev pub answered_reply : Option Standing → Reply
+abbrev pub answered_reply : Option CallState → Reply
 answered_reply (Some s) = got_reply (answered_in s)
 answered_reply None = Reply.idle
 

@@ -5,14 +5,14 @@ use Rattle.pmg_scope.specs.declared.scope.Reach.TheVariants as reach
 use Rattle.pmg_commit.specs.Sealed.{Sealed, piece_at}
 use Rattle.pmg_frame.specs.Refreshing.{RefreshAsk, RefreshReply, refresh_reply}
 use Rattle.pmg_frame.specs.declared.frame.Frame.TheVariants as frames
-use Rattle.pmg_rules.specs.Sending.{sent}
-use Rattle.pmg_rules.specs.declared.due.Due.{Due}
-use Rattle.pmg_rules.specs.declared.due.Due.TheVariants as sendings
+use Rattle.pmg_node_model.specs.Sending.{sent}
+use Rattle.pmg_node_model.specs.declared.due.ToSend.{ToSend}
+use Rattle.pmg_node_model.specs.declared.due.ToSend.TheVariants as sendings
 
 -- the commits above the one that the node knows, where this is what each process sealed
 abbrev pub reply_by : (Proc → Sealed) → RefreshAsk → RefreshReply
 reply_by sealer a = refresh_reply a.ask.node a.request (piece_at (sealer a.ask.proc) a.ask.level reach.Far)
 
 -- unless it names a commit that was not made
-abbrev pub replying_by : (Proc → Sealed) → RefreshAsk → List Due
+abbrev pub replying_by : (Proc → Sealed) → RefreshAsk → List ToSend
 replying_by sealer a = if nat_le a.ask.level (sealer a.ask.proc).level then sendings.Whole (sent a.ask.node (frames.RefreshReply (reply_by sealer a))) ∷ [] else []

@@ -11,23 +11,23 @@ use Rattle.pmg_frame.specs.declared.signature.TheConstants.{MAX_PARTICIPANTS}
 use Rattle.pmg_jobinfo.specs.Jobs.{Jobs, AreJobs, coded_jobs, is_node}
 use Rattle.pmg_fence.specs.Tables.{count_of}
 use Rattle.pmg_dmodex.specs.Levels.{Levels, coded_levels}
-use Rattle.pmg_rules.specs.Acts.{Act, Request, Reply, acts, signature_of}
-use Rattle.pmg_rules.specs.Choosing.{chosen}
-use Rattle.pmg_holding.specs.Codes.{coded_holding}
-use Rattle.pmg_rules.specs.Holdings.{Holding}
-use Rattle.pmg_rules.specs.Kept.{IsOwn, IsServer}
-use Rattle.pmg_rules.specs.declared.sent.Sent.{Sent}
+use Rattle.pmg_node_model.specs.Acts.{Act, Request, Reply, acts, signature_of}
+use Rattle.pmg_node_model.specs.Choosing.{chosen}
+use Rattle.pmg_node_parts.specs.Codes.{coded_holding}
+use Rattle.pmg_node_model.specs.Holdings.{NodeState}
+use Rattle.pmg_node_model.specs.Kept.{IsOwn, IsServer}
+use Rattle.pmg_node_model.specs.declared.sent.Sent.{Sent}
 
 -- a node: its group's jobs, its index, what it holds, and its marks
 pub record Server : Type 0 where
   pub jobs : Jobs
   pub id : ℕ
-  pub holding : Holding
+  pub holding : NodeState
   pub marks : Levels
 
 abbrev pub coded_server : Coded Server
 coded_server =
-    code_by (Jobs × (ℕ × (Holding × Levels))) (coded× coded_jobs (coded× coded_ℕ (coded× coded_holding coded_levels))) (λ s. (s.jobs, (s.id, (s.holding, s.marks))))
+    code_by (Jobs × (ℕ × (NodeState × Levels))) (coded× coded_jobs (coded× coded_ℕ (coded× coded_holding coded_levels))) (λ s. (s.jobs, (s.id, (s.holding, s.marks))))
     (λ p. record { jobs = p.0; id = p.1.0; holding = p.1.1.0; marks = p.1.1.1 }) (λ _. refl)
 
 -- what it replies to an act, what it sends, and what it is then
@@ -84,7 +84,7 @@ IsAnswered (Err refusals.NoMemory) = ⊥
 IsAnswered (Err e) = Unit {0}
 
 -- each own process has its place among those that seal
-abbrev pub HasSealers : Jobs → ℕ → Holding → Type 0
+abbrev pub HasSealers : Jobs → ℕ → NodeState → Type 0
 HasSealers jobs id h = (p : Proc) → IsOwn jobs id p → is_some (finite.get h.sealers p) ≡ true
 
 -- what a node keeps

@@ -1,9 +1,9 @@
 //! One call for all acts of a node.
-ghost use Rattle.std.specs.Prelude.{◌≡◌, ◌++◌, Some, Err, IfOk};
+ghost use Rattle.std.specs.Prelude.{◌≡◌, ◌++◌, Some, Err, IfOk, OnOk, OnErr};
 ghost use Rattle.pmg_value.specs.declared.refusal.Refusal.TheVariants as refusals;
 ghost use Rattle.pmg_node.specs.Acting.{act_of, acted_reply, commit_joins, delivery_joins, joins_in, joins_none, request_of, reply_as, SameAnswer};
 ghost use Rattle.pmg_node.specs.Joining.{frame_joins, joins, no_joins};
-ghost use Rattle.pmg_rules.specs.Acts.{Act as ModelAct, Reply as ModelReply};
+ghost use Rattle.pmg_node_model.specs.Acts.{Act as ModelAct, Reply as ModelReply};
 ghost use Rattle.pmg_node.specs.Replies.{asked_reply, committed_reply, defined_reply, delivery_reply, ended_reply, release_reply, taking_reply};
 ghost use Rattle.pmg_node.specs.Servers.{reply_to, sent_by, after, IsAnswered, Replies, RepliesAct};
 
@@ -16,14 +16,14 @@ use crate::parking::Asked;
 use crate::taking::Taking;
 use pmg_commit::Piece;
 use pmg_frame::Frame;
-use pmg_rules::Sent;
+use pmg_node_model::Sent;
 use pmg_scope::Batch;
 use pmg_value::{Proc, Refusal};
 use std::alloc::AllocError;
 use std::collections::VecDeque;
 
 /// The reply of an act that joins nothing.
-fn alone(reply: Reply) -> Acted
+fn reply_alone(reply: Reply) -> Acted
     ensures reply { acted_reply result ≡ reply_as reply }
     ensures joined { joins_in result.joined ≡ no_joins }
 {
@@ -37,7 +37,7 @@ fn alone(reply: Reply) -> Acted
 }
 
 /// The reply of an act that joins what a process sealed.
-fn sealed(reply: Reply, near: Piece, far: Piece) -> Acted
+fn reply_with_pieces(reply: Reply, near: Piece, far: Piece) -> Acted
     ensures reply { acted_reply result ≡ reply_as reply }
     ensures near { result.joined.near ≡ Some near }
     ensures far { result.joined.far ≡ Some far }
@@ -52,82 +52,86 @@ fn sealed(reply: Reply, near: Piece, far: Piece) -> Acted
 }
 
 /// The instance that a process entered, as a reply.
-fn entered(answer: Result<u64, Refusal>) -> Result<Acted, Refusal>
+fn as_entered(answer: Result<u64, Refusal>) -> Result<Acted, Refusal>
     ensures { SameAnswer ModelReply.entered joins_none answer result }
 {
     match answer {
-        Ok(instance) => Ok(alone(Reply::Entered(instance))),
+        Ok(instance) => Ok(reply_alone(Reply::Entered(instance))),
         Err(refusal) => Err(refusal),
     }
 }
 
 /// What a process that leaves a fence is told, as a reply.
-fn released(answer: Result<Release, Refusal>) -> Result<Acted, Refusal>
+fn as_released(answer: Result<Release, Refusal>) -> Result<Acted, Refusal>
     ensures { SameAnswer release_reply joins_none answer result }
 {
     match answer {
-        Ok(Release::Idle) => Ok(alone(Reply::Idle)),
-        Ok(Release::Waiting) => Ok(alone(Reply::Waiting)),
-        Ok(Release::Released(instance, gone)) => Ok(alone(Reply::Released(instance, gone))),
+        Ok(Release::Idle) => Ok(reply_alone(Reply::Idle)),
+        Ok(Release::Waiting) => Ok(reply_alone(Reply::Waiting)),
+        Ok(Release::Released(instance, gone)) => Ok(reply_alone(Reply::Released(instance, gone))),
         Err(refusal) => Err(refusal),
     }
 }
 
 /// What a process that asks for a key is told, as a reply.
-fn asked(answer: Result<Asked, Refusal>) -> Result<Acted, Refusal>
+fn as_asked(answer: Result<Asked, Refusal>) -> Result<Acted, Refusal>
     ensures { SameAnswer asked_reply joins_none answer result }
 {
     match answer {
-        Ok(Asked::Found(value)) => Ok(alone(Reply::Found(value))),
-        Ok(Asked::Parked) => Ok(alone(Reply::Parked)),
+        Ok(Asked::Found(value)) => Ok(reply_alone(Reply::Found(value))),
+        Ok(Asked::Parked) => Ok(reply_alone(Reply::Parked)),
         Err(refusal) => Err(refusal),
     }
 }
 
 /// What a process that takes an answer is told, as a reply.
-fn taken(answer: Result<Taking, Refusal>) -> Result<Acted, Refusal>
+fn as_taken(answer: Result<Taking, Refusal>) -> Result<Acted, Refusal>
     ensures { SameAnswer taking_reply joins_none answer result }
 {
     match answer {
-        Ok(Taking::Idle) => Ok(alone(Reply::Idle)),
-        Ok(Taking::Waiting) => Ok(alone(Reply::Waiting)),
-        Ok(Taking::Found(value)) => Ok(alone(Reply::Found(value))),
+        Ok(Taking::Idle) => Ok(reply_alone(Reply::Idle)),
+        Ok(Taking::Waiting) => Ok(reply_alone(Reply::Waiting)),
+        Ok(Taking::Found(value)) => Ok(reply_alone(Reply::Found(value))),
         Err(refusal) => Err(refusal),
     }
 }
 
 /// The number of a commit, as a reply.
-fn committed(answer: Result<Committed, Refusal>) -> Result<Acted, Refusal>
+fn as_committed(answer: Result<Committed, Refusal>) -> Result<Acted, Refusal>
     ensures { SameAnswer committed_reply commit_joins answer result }
 {
     match answer {
-        Ok(commit) => Ok(sealed(Reply::Committed(commit.level), commit.near, commit.far)),
+        Ok(commit) => Ok(reply_with_pieces(
+            Reply::Committed(commit.level),
+            commit.near,
+            commit.far,
+        )),
         Err(refusal) => Err(refusal),
     }
 }
 
 /// The number of a process's end, as a reply.
-fn ended(answer: Result<Committed, Refusal>) -> Result<Acted, Refusal>
+fn as_ended(answer: Result<Committed, Refusal>) -> Result<Acted, Refusal>
     ensures { SameAnswer ended_reply commit_joins answer result }
 {
     match answer {
-        Ok(end) => Ok(sealed(Reply::Ended(end.level), end.near, end.far)),
+        Ok(end) => Ok(reply_with_pieces(Reply::Ended(end.level), end.near, end.far)),
         Err(refusal) => Err(refusal),
     }
 }
 
 /// The number of a change of the process sets, as a reply.
-fn defined(answer: Result<Committed, Refusal>) -> Result<Acted, Refusal>
+fn as_defined(answer: Result<Committed, Refusal>) -> Result<Acted, Refusal>
     ensures { SameAnswer defined_reply commit_joins answer result }
 {
     match answer {
-        Ok(change) => Ok(sealed(Reply::Defined(change.level), change.near, change.far)),
+        Ok(change) => Ok(reply_with_pieces(Reply::Defined(change.level), change.near, change.far)),
         Err(refusal) => Err(refusal),
     }
 }
 
 /// What becomes of a frame, as a reply.
-fn delivered(delivery: Delivery, joined: Joined) -> Acted
+fn as_delivered(delivery: Delivery, joined: Joined) -> Acted
     ensures reply { acted_reply result ≡ delivery_reply delivery }
     ensures joined { joins_in result.joined ≡ delivery_joins delivery (joins_in joined) }
 {
@@ -136,7 +140,7 @@ fn delivered(delivery: Delivery, joined: Joined) -> Acted
             reply: Reply::Taken,
             joined,
         },
-        Delivery::Ignored => alone(Reply::Ignored),
+        Delivery::Ignored => reply_alone(Reply::Ignored),
     }
 }
 
@@ -168,18 +172,42 @@ impl Node {
         ensures unsent { result ≡ Err refusals.NoMemory → out.new.items ≡ out.old.items }
     {
         match request {
-            Request::Enter(proc, list, collect) => entered(self.enter(proc, list, *collect, out)),
-            Request::Leave(proc) => released(self.take_release(proc)),
-            Request::Ask(proc, target, key, mode) => asked(self.ask(proc, target, key, *mode, out)),
-            Request::Take(proc) => taken(self.take_answer(proc)),
-            Request::Terminate(proc) => ended(self.terminate(proc, out)),
-            Request::Define(name, list) => defined(self.define_set(name, list, out)),
-            Request::Delete(name) => defined(self.delete_set(name, out)),
+            Request::Enter(proc, list, collect) => as_entered(self.enter(
+                proc, list, *collect, out,
+            )),
+            Request::Leave(proc) => as_released(self.take_release(proc)),
+            Request::Ask(proc, target, key, mode) => as_asked(self.ask(
+                proc, target, key, *mode, out,
+            )),
+            Request::Take(proc) => as_taken(self.take_answer(proc)),
+            Request::Terminate(proc) => as_ended(self.terminate(proc, out)),
+            Request::Define(name, list) => as_defined(self.define_set(name, list, out)),
+            Request::Delete(name) => as_defined(self.delete_set(name, out)),
             Request::Nudge => {
                 self.nudge(out)?;
-                Ok(alone(Reply::Done))
+                Ok(reply_alone(Reply::Done))
             }
         }
+    }
+
+    /// A frame of another node is taken or ignored, as `deliver` does it, with what it joins. Where an allocation fails nothing
+    /// changes.
+    pub fn deliver_joined(
+        &mut self,
+        frame: &Frame,
+        out: &mut VecDeque<Sent>,
+    ) -> Result<Acted, AllocError>
+        ensures reply { IfOk result (λ acted. reply_to self.old (ModelAct.deliver frame.now) ≡ acted_reply acted) }
+        ensures ok { OnOk result (self.new ≡ after self.old (ModelAct.deliver frame.now)) }
+        ensures sent { OnOk result (out.new.items ≡ out.old.items ++ sent_by self.old (ModelAct.deliver frame.now)) }
+        ensures joined { IfOk result (λ acted. joins_in acted.joined
+            ≡ joins self.old.jobs self.old.id self.old.holding (ModelAct.deliver frame.now)) }
+        ensures err { OnErr result (self.new ≡ self.old) }
+        ensures unsent { OnErr result (out.new.items ≡ out.old.items) }
+    {
+        let joined = joined_by(frame)?;
+        let delivery = self.deliver(frame, out)?;
+        Ok(as_delivered(delivery, joined))
     }
 
     /// Does what is asked, and puts the frames that go out after those of the list, which the caller lends. Each call of a node is
@@ -194,12 +222,8 @@ impl Node {
     {
         match act {
             Act::Request(request) => self.serve(request, out),
-            Act::Commit(proc, batch) => committed(self.commit_joined(proc, batch, out)),
-            Act::Deliver(frame) => {
-                let joined = joined_by(frame)?;
-                let delivery = self.deliver(frame, out)?;
-                Ok(delivered(delivery, joined))
-            }
+            Act::Commit(proc, batch) => as_committed(self.commit_joined(proc, batch, out)),
+            Act::Deliver(frame) => Ok(self.deliver_joined(frame, out)?),
         }
     }
 

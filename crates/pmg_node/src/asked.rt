@@ -2,15 +2,15 @@
 ghost use Rattle.std.specs.Prelude.{◌≡◌, ◌++◌, ◌&&◌, ◌==◌, IfOk, OnOk, OnErr};
 ghost use Rattle.pmg_jobinfo.specs.Jobs.{home_of};
 ghost use Rattle.pmg_frame.specs.declared.frame.Frame.TheVariants as frames;
-ghost use Rattle.pmg_rules.specs.Acts.{Act, is_known, is_peer};
+ghost use Rattle.pmg_node_model.specs.Acts.{Act, is_known, is_peer};
 ghost use Rattle.pmg_node.specs.Replies.{delivery_reply};
 ghost use Rattle.pmg_node.specs.Servers.{reply_to, sent_by, after};
 
 use crate::causes::is_member;
 use crate::node::Node;
 use pmg_frame::CommitAsk;
-use pmg_holding::{answer_commits, hand_out, take_back};
-use pmg_rules::Sent;
+use pmg_node_model::Sent;
+use pmg_node_parts::{answer_commits, hand_out, rollback};
 use pmg_value::{NodeId, Proc};
 use std::alloc::AllocError;
 use std::collections::VecDeque;
@@ -92,7 +92,7 @@ impl Node {
             return Ok(Delivery::Taken);
         }
         if let Err(AllocError) = self.held.hold(ask.node(), ask.proc(), ask.level()) {
-            take_back(&mut self.marks, out, handed);
+            rollback(&mut self.marks, out, handed);
             return Err(AllocError);
         }
         Ok(Delivery::Taken)

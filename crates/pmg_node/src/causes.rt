@@ -4,7 +4,7 @@ ghost use Rattle.pmg_value.specs.CheckOrder.{first_of};
 ghost use Rattle.pmg_value.specs.Names.{is_reserved};
 ghost use Rattle.pmg_value.specs.Process.{is_host};
 ghost use Rattle.pmg_jobinfo.specs.Jobs.{is_registered, is_member};
-ghost use Rattle.pmg_rules.specs.Acts.{is_misnamed, caller_cause, free_cause};
+ghost use Rattle.pmg_node_model.specs.Acts.{is_misnamed, caller_cause, free_cause};
 
 use crate::node::Node;
 use pmg_jobinfo::Registry;

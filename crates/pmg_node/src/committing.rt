@@ -3,15 +3,15 @@ ghost use Rattle.std.specs.Prelude.{◌≡◌, ◌++◌, Err, IfOk};
 ghost use Rattle.pmg_value.specs.declared.refusal.Refusal.TheVariants as refusals;
 ghost use Rattle.pmg_scope.specs.declared.scope.Reach.TheVariants as reach;
 ghost use Rattle.pmg_commit.specs.Sealed.{piece_at};
-ghost use Rattle.pmg_rules.specs.Acts.{Act};
-ghost use Rattle.pmg_rules.specs.Holdings.{sealer_of};
+ghost use Rattle.pmg_node_model.specs.Acts.{Act};
+ghost use Rattle.pmg_node_model.specs.Holdings.{sealer_of};
 ghost use Rattle.pmg_node.specs.Replies.{committed_reply};
 ghost use Rattle.pmg_node.specs.Servers.{reply_to, sent_by, after, IsAnswered, Replies};
 
 use crate::node::Node;
-use crate::publishing::{Beside, publish};
+use crate::publishing::{PublishContext, publish};
 use pmg_commit::Piece;
-use pmg_rules::Sent;
+use pmg_node_model::Sent;
 use pmg_scope::Batch;
 use pmg_value::{Proc, Refusal};
 use std::alloc::AllocError;
@@ -50,7 +50,7 @@ impl Node {
         self.check_free(proc)?;
         let from = self.own.level(proc);
         let before = self.own.commit(proc, batch)?;
-        let beside = Beside {
+        let beside = PublishContext {
             table: &self.table,
             id: self.id,
             own: &self.own,
@@ -67,7 +67,7 @@ impl Node {
             from,
             dues,
         ) else {
-            self.own.take_back(proc, before);
+            self.own.rollback(proc, before);
             return Err(Refusal::NoMemory);
         };
         let level = self.own.level(proc);

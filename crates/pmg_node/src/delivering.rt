@@ -1,13 +1,13 @@
 //! A frame of another node comes.
 ghost use Rattle.std.specs.Prelude.{◌≡◌, ◌++◌, IfOk, OnOk, OnErr};
-ghost use Rattle.pmg_rules.specs.Acts.{Act};
+ghost use Rattle.pmg_node_model.specs.Acts.{Act};
 ghost use Rattle.pmg_node.specs.Replies.{delivery_reply};
 ghost use Rattle.pmg_node.specs.Servers.{reply_to, sent_by, after};
 
 use crate::asked::Delivery;
 use crate::node::Node;
 use pmg_frame::Frame;
-use pmg_rules::Sent;
+use pmg_node_model::Sent;
 use std::alloc::AllocError;
 use std::collections::VecDeque;
 

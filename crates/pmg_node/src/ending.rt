@@ -6,27 +6,28 @@ ghost use Rattle.pmg_value.specs.Process.{is_host};
 ghost use Rattle.pmg_value.specs.declared.refusal.Refusal.TheVariants as refusals;
 ghost use Rattle.pmg_scope.specs.declared.scope.Reach.TheVariants as reach;
 ghost use Rattle.pmg_commit.specs.Sealed.{ended_with, piece_at};
-ghost use Rattle.pmg_commit.specs.TakenBack.{CanTakeBack as CanTakeSealBack};
+ghost use Rattle.pmg_commit.specs.TakenBack.{CanRollBack as CanRollSealBack};
 ghost use Rattle.pmg_fence.specs.Changes.{ended_by, news};
 ghost use Rattle.pmg_fence.specs.Tables.{names_of};
-ghost use Rattle.pmg_fence.specs.TakenBack.{table_back, CanTakeBack};
-ghost use Rattle.pmg_rules.specs.Acts.{Act, Request};
-ghost use Rattle.pmg_holding.specs.Calls.{all_instead};
-ghost use Rattle.pmg_rules.specs.Choosing.{announcing};
+ghost use Rattle.pmg_fence.specs.TakenBack.{table_back, CanRollTableBack};
+ghost use Rattle.pmg_node_model.specs.Acts.{Act, Request};
+ghost use Rattle.pmg_node_parts.specs.Calls.{all_instead};
+ghost use Rattle.pmg_node_model.specs.Choosing.{announcing};
 ghost use Rattle.pmg_node.specs.Endings.{own_ended, own_back, table_ended};
-ghost use Rattle.pmg_rules.specs.Holdings.{sealer_of};
-ghost use Rattle.pmg_holding.specs.Owns.{sealed_of};
+ghost use Rattle.pmg_node_model.specs.Holdings.{sealer_of};
+ghost use Rattle.pmg_node_parts.specs.Owns.{sealed_of};
 ghost use Rattle.pmg_node.specs.Replies.{ended_reply};
 ghost use Rattle.pmg_node.specs.Servers.{reply_to, sent_by, after, IsAnswered, Replies};
+ghost use Rattle.pmg_commit.specs.declared.piece.TheConstants.{MAX_COMMIT};
 
 use crate::committing::Committed;
 use crate::fencing::announce_all;
 use crate::node::Node;
-use crate::publishing::{Beside, Published, publish};
-use pmg_commit::SealerBefore;
-use pmg_fence::{Table, TableBefore};
-use pmg_holding::{Calls, Own, Settled};
-use pmg_rules::{Due, Sent};
+use crate::publishing::{PublishContext, Published, publish};
+use pmg_commit::SealerUndo;
+use pmg_fence::{Table, TableUndo};
+use pmg_node_model::{Sent, ToSend};
+use pmg_node_parts::{Calls, Completion, LocalCommits};
 use pmg_value::{NodeId, Proc, Refusal};
 use std::alloc::AllocError;
 use std::collections::VecDeque;
@@ -38,15 +39,15 @@ fn end_fences(
     id: NodeId,
     proc: &Proc,
     level: u64,
-) -> Result<(TableBefore, Vec<Due>), AllocError>
+) -> Result<(TableUndo, Vec<ToSend>), AllocError>
     requires node { table.old.node ≡ id }
     requires waiting { table.old.waiting ≡ [] }
-    requires level { level ≤ 4294967295 }
+    requires level { level ≤ MAX_COMMIT }
     ensures ok { OnOk result (table.new ≡ table_ended table.old proc.now level) }
     ensures dues { IfOk result (λ r. r.1.items ≡ flat_map (announcing table.old.jobs id)
         (flat_map (news table.old.jobs id table.old.fences (ended_by table.old.fences proc.now level)) (names_of table.old.fences))) }
     ensures before { IfOk result (λ r. table_back table.new r.0 ≡ table.old) }
-    ensures fits { IfOk result (λ r. CanTakeBack table.new r.0) }
+    ensures fits { IfOk result (λ r. CanRollTableBack table.new r.0) }
     ensures err { OnErr result (table.new ≡ table.old) }
 {
     let before = table.end(proc, level)?;
@@ -54,7 +55,7 @@ fn end_fences(
     match announce_all(table.registry(), id, headers) {
         Ok(dues) => Ok((before, dues)),
         Err(AllocError) => {
-            table.take_back(before);
+            table.rollback(before);
             Err(AllocError)
         }
     }
@@ -63,30 +64,30 @@ fn end_fences(
 /// What there was before a process ended: of what it sealed, if it had not ended, and of fences.
 #[derive(Drop)]
 struct EndBefore {
-    sealer: Option<SealerBefore>,
-    table: TableBefore,
+    sealer: Option<SealerUndo>,
+    table: TableUndo,
 }
 
 /// The own process's end is taken back, if it had not ended before.
-#[tactic(auto, unfolding(pmg_rules::specs::Holdings::sealer_in))]
-fn take_seal_back(own: &mut Own, proc: &Proc, before: Option<SealerBefore>)
+#[tactic(auto, unfolding(pmg_node_model::specs::Holdings::sealer_in))]
+fn take_seal_back(own: &mut LocalCommits, proc: &Proc, before: Option<SealerUndo>)
     requires client { is_host proc.now ≡ false }
     requires there { is_some (finite.get own.old.sealers proc.now) ≡ true }
-    requires fits { IfSome before (CanTakeSealBack (sealed_of own.old proc.now)) }
+    requires fits { IfSome before (CanRollSealBack (sealed_of own.old proc.now)) }
     ensures { own.new ≡ own_back own.old proc.now before }
 {
     if let Some(before) = before {
-        own.sealers.take_back(proc, before);
+        own.sealers.rollback(proc, before);
     }
 }
 
 /// The own process ends, and is gone from the fences that it has not entered: what is due by that, and what there was before.
 fn end(
-    own: &mut Own,
+    own: &mut LocalCommits,
     table: &mut Table,
     id: NodeId,
     proc: &Proc,
-) -> Result<(EndBefore, Vec<Due>), AllocError>
+) -> Result<(EndBefore, Vec<ToSend>), AllocError>
     requires client { is_host proc.now ≡ false }
     requires there { is_some (finite.get own.old.sealers proc.now) ≡ true }
     requires live { (sealed_of own.old proc.now).ended ≡ false }
@@ -98,9 +99,9 @@ fn end(
         (flat_map (news table.old.jobs id table.old.fences (ended_by table.old.fences proc.now (ended_with (sealed_of own.old proc.now)).level))
         (names_of table.old.fences))) }
     ensures own_before { IfOk result (λ r. own_back own.new proc.now r.0.sealer ≡ own.old) }
-    ensures own_fits { IfOk result (λ r. IfSome r.0.sealer (CanTakeSealBack (sealed_of own.new proc.now))) }
+    ensures own_fits { IfOk result (λ r. IfSome r.0.sealer (CanRollSealBack (sealed_of own.new proc.now))) }
     ensures table_before { IfOk result (λ r. table_back table.new r.0.table ≡ table.old) }
-    ensures table_fits { IfOk result (λ r. CanTakeBack table.new r.0.table) }
+    ensures table_fits { IfOk result (λ r. CanRollTableBack table.new r.0.table) }
     ensures own_err { OnErr result (own.new ≡ own.old) }
     ensures table_err { OnErr result (table.new ≡ table.old) }
 {
@@ -116,7 +117,7 @@ fn end(
 
 /// The process's end is kept where it was published; where an allocation failed by then, it is taken back.
 fn keep_end(
-    own: &mut Own,
+    own: &mut LocalCommits,
     table: &mut Table,
     proc: &Proc,
     before: EndBefore,
@@ -124,8 +125,8 @@ fn keep_end(
 ) -> Result<Published, AllocError>
     requires client { is_host proc.now ≡ false }
     requires there { is_some (finite.get own.old.sealers proc.now) ≡ true }
-    requires own_fits { IfSome before.sealer (CanTakeSealBack (sealed_of own.old proc.now)) }
-    requires table_fits { CanTakeBack table.old before.table }
+    requires own_fits { IfSome before.sealer (CanRollSealBack (sealed_of own.old proc.now)) }
+    requires table_fits { CanRollTableBack table.old before.table }
     ensures same { result ≡ published }
     ensures own { OnOk result (own.new ≡ own.old) }
     ensures table { OnOk result (table.new ≡ table.old) }
@@ -136,14 +137,14 @@ fn keep_end(
         Ok(published) => Ok(published),
         Err(AllocError) => {
             take_seal_back(own, proc, before.sealer);
-            table.take_back(before.table);
+            table.rollback(before.table);
             Err(AllocError)
         }
     }
 }
 
 /// Calls are answered, and the process is in none any more.
-fn end_calls(calls: &mut Calls, answers: Vec<(Proc, Settled)>, proc: &Proc)
+fn end_calls(calls: &mut Calls, answers: Vec<(Proc, Completion)>, proc: &Proc)
     ensures { calls.new ≡ finite.remove (all_instead calls.old answers.items) proc.now }
 {
     calls.answer(answers);
@@ -173,7 +174,7 @@ impl Node {
         let Ok((before, dues)) = end(&mut self.own, &mut self.table, self.id, proc) else {
             return Err(Refusal::NoMemory);
         };
-        let beside = Beside {
+        let beside = PublishContext {
             table: &self.table,
             id: self.id,
             own: &self.own,

@@ -14,23 +14,23 @@ ghost use Rattle.pmg_jobinfo.specs.Refusing.{is_bad};
 ghost use Rattle.pmg_fence.specs.Kept.{placed_by};
 ghost use Rattle.pmg_fence.specs.Tables.{count_of};
 ghost use Rattle.pmg_fence.specs.declared.change.Change.TheVariants as changes;
-ghost use Rattle.pmg_rules.specs.Acts.{Act, Request, Reply, is_misnamed, list_of, signature_of};
-ghost use Rattle.pmg_rules.specs.Choosing.{sends};
-ghost use Rattle.pmg_node.specs.Entries.{entry_cause, entered_name};
+ghost use Rattle.pmg_node_model.specs.Acts.{Act, Request, Reply, is_misnamed, list_of, signature_of};
+ghost use Rattle.pmg_node_model.specs.Choosing.{sends};
+ghost use Rattle.pmg_node.specs.Entries.{entry_cause, entered_name, is_crowd};
 ghost use Rattle.pmg_node.specs.Fencing.{fence_after, fence_dues, AreSettledIn};
-ghost use Rattle.pmg_rules.specs.Holdings.{Standing};
-ghost use Rattle.pmg_holding.specs.Owns.{sealed_of};
+ghost use Rattle.pmg_node_model.specs.Holdings.{CallState};
+ghost use Rattle.pmg_node_parts.specs.Owns.{sealed_of};
 ghost use Rattle.pmg_node.specs.Servers.{sent_by, after, IsAnswered, RepliesAct};
 
 use crate::causes::{is_misnamed, is_registered};
-use crate::fencing::{Around, change_fence};
+use crate::fencing::{FenceContext, change_fence};
 use crate::node::Node;
 use pmg_dmodex::Marks;
 use pmg_fence::{Change, Table};
 use pmg_frame::{FenceName, MAX_INSTANCE, MAX_PARTICIPANTS, Signature};
-use pmg_holding::{Call, Calls};
 use pmg_jobinfo::Registry;
-use pmg_rules::Sent;
+use pmg_node_model::Sent;
+use pmg_node_parts::{Call, Calls};
 use pmg_value::{Proc, Rank, Refusal};
 use std::alloc::AllocError;
 use std::collections::VecDeque;
@@ -115,8 +115,8 @@ fn participants(registry: &Registry, proc: &Proc, list: &[Proc]) -> Result<Vec<P
 
 /// The signature of participants who were judged, unless there are too many.
 fn signature(procs: Vec<Proc>, collect: bool) -> Result<Option<Signature>, AllocError>
-    ensures { IfOk result (λ found. found ≡ (if nat_lt 4096 (set.len (set.from_list {R = proc_cmp} procs.items)) then None
-        else Some (signature procs.items collect))) }
+    ensures { IfOk result (λ found. found ≡ (if nat_lt MAX_PARTICIPANTS (set.len (set.from_list {R = proc_cmp} procs.items))
+        then None else Some (signature procs.items collect))) }
 {
     match Signature::new(procs, collect) {
         Ok(signature) => Ok(Some(signature)),
@@ -132,7 +132,7 @@ fn signature_for(
     list: &[Proc],
     collect: bool,
 ) -> Result<Option<Signature>, AllocError>
-    ensures { IfOk result (λ found. found ≡ (if nat_lt 4096 (set.len (expansion registry.now (list_of proc.now list.now))) then None
+    ensures { IfOk result (λ found. found ≡ (if is_crowd registry.now proc.now list.now then None
         else Some (signature_of registry.now proc.now list.now collect))) }
 {
     let procs = participants(registry, proc, list)?;
@@ -142,7 +142,7 @@ fn signature_for(
 /// The process is in the fence, which is the next one of the signature that it enters: it is released at once where this makes
 /// the fence ready. Where an allocation fails, all is as before.
 fn enter_fence(
-    around: &Around<'_>,
+    around: &FenceContext<'_>,
     table: &mut Table,
     calls: &mut Calls,
     marks: &mut Marks,
@@ -158,7 +158,7 @@ fn enter_fence(
         ≡ fence_after table.old name.now (changes.Entered proc.now (sealed_of around.now.own.now proc.now).level)) }
     ensures calls { OnOk result (AreSettledIn name.now table.old.jobs around.now.id
         (placed_by table.old.fences name.now (changes.Entered proc.now (sealed_of around.now.own.now proc.now).level))
-        around.now.board.now.near around.now.board.now.far (finite.insert calls.old proc.now (Standing.in_fence name.now)) calls.new) }
+        around.now.board.now.near around.now.board.now.far (finite.insert calls.old proc.now (CallState.in_fence name.now)) calls.new) }
     ensures marks { OnOk result (marks.new ≡ (sends (sealed_of around.now.own.now) marks.old
         (fence_dues table.old name.now (changes.Entered proc.now (sealed_of around.now.own.now proc.now).level))).marks) }
     ensures sent { OnOk result (out.new.items ≡ out.old.items ++ (sends (sealed_of around.now.own.now) marks.old
@@ -207,7 +207,7 @@ impl Node {
     /// Whether the list of who enters, which was judged, stands for more participants than a fence may have. An empty one stands for
     /// a namespace, which has no more. It takes no memory, and the time that `count_meant` takes.
     fn is_crowd(&self, proc: &Proc, list: &[Proc]) -> bool
-        ensures { result ≡ nat_lt 4096 (set.len (expansion self.now.jobs (list_of proc.now list.now))) }
+        ensures { result ≡ is_crowd self.now.jobs proc.now list.now }
     {
         let registry = self.table.registry();
         if list.is_empty() {
@@ -224,9 +224,9 @@ impl Node {
         list: &[Proc],
         collect: bool,
     ) -> Result<Option<Signature>, AllocError>
-        ensures found { IfOk result (λ found. found ≡ (if nat_lt 4096 (set.len (expansion self.now.jobs (list_of proc.now list.now))) then None
+        ensures found { IfOk result (λ found. found ≡ (if is_crowd self.now.jobs proc.now list.now then None
             else Some (signature_of self.now.jobs proc.now list.now collect))) }
-        ensures few { OnErr result (nat_lt 4096 (set.len (expansion self.now.jobs (list_of proc.now list.now))) ≡ false) }
+        ensures few { OnErr result (is_crowd self.now.jobs proc.now list.now ≡ false) }
     {
         match signature_for(self.table.registry(), proc, list, collect) {
             Ok(found) => Ok(found),
@@ -247,7 +247,7 @@ impl Node {
         collect: bool,
     ) -> Result<Option<FenceName>, AllocError>
         ensures name { IfOk result (λ name. name ≡ entered_name self.now.jobs self.now.holding proc.now list.now collect) }
-        ensures few { OnErr result (nat_lt 4096 (set.len (expansion self.now.jobs (list_of proc.now list.now))) ≡ false) }
+        ensures few { OnErr result (is_crowd self.now.jobs proc.now list.now ≡ false) }
     {
         let Some(signature) = self.asked_signature(proc, list, collect)? else {
             return Ok(None);
@@ -283,7 +283,7 @@ impl Node {
         let Some(name) = self.next_fence(proc, list, collect)? else {
             return Err(Refusal::TooMany);
         };
-        let around = Around {
+        let around = FenceContext {
             id: self.id,
             board: &self.board,
             own: &self.own,

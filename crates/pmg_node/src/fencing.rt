@@ -2,19 +2,21 @@
 ghost use Rattle.std.specs.Prelude.{◌≡◌, ◌++◌, [], IfOk, OnOk, OnErr};
 ghost use Rattle.std.specs.List.{flat_map};
 ghost use Rattle.pmg_fence.specs.Kept.{placed_by, CanChange};
-ghost use Rattle.pmg_holding.specs.Answering.{AreAnswers};
-ghost use Rattle.pmg_rules.specs.Choosing.{sends};
+ghost use Rattle.pmg_node_parts.specs.Answering.{AreAnswers};
+ghost use Rattle.pmg_node_model.specs.Choosing.{sends};
 ghost use Rattle.pmg_node.specs.Fencing.{fence_after, fence_dues, AreSettledIn};
-ghost use Rattle.pmg_rules.specs.Kept.{is_in};
-ghost use Rattle.pmg_holding.specs.Owns.{sealed_of};
-ghost use Rattle.pmg_holding.specs.Telling.{telling_by, announcing_by};
+ghost use Rattle.pmg_node_model.specs.Kept.{is_in};
+ghost use Rattle.pmg_node_parts.specs.Owns.{sealed_of};
+ghost use Rattle.pmg_node_parts.specs.Telling.{telling_by, announcing_by};
 
 use pmg_dmodex::Marks;
 use pmg_fence::{Change, Table};
 use pmg_frame::{FenceName, Header};
-use pmg_holding::{Ahead, Calls, Own, Settled, announce, answers_in, hand_out, tell};
 use pmg_jobinfo::Registry;
-use pmg_rules::{Due, Sent};
+use pmg_node_model::{Sent, ToSend};
+use pmg_node_parts::{
+    BoardPreview, Calls, Completion, LocalCommits, announce, answers_in, hand_out, tell,
+};
 use pmg_store::Board;
 use pmg_value::{NodeId, Proc};
 use std::alloc::{AllocError, Global};
@@ -22,10 +24,10 @@ use std::collections::VecDeque;
 
 /// What stays as it is while a fence changes.
 #[derive(Clone, Copy)]
-pub(crate) struct Around<'a> {
+pub(crate) struct FenceContext<'a> {
     pub(crate) id: NodeId,
     pub(crate) board: &'a Board,
-    pub(crate) own: &'a Own,
+    pub(crate) own: &'a LocalCommits,
 }
 
 /// The headers are due to each other node of their fences, one after the other.
@@ -33,7 +35,7 @@ pub(crate) fn announce_all(
     registry: &Registry,
     id: NodeId,
     headers: VecDeque<Header>,
-) -> Result<Vec<Due>, AllocError>
+) -> Result<Vec<ToSend>, AllocError>
     ensures { IfOk result (λ dues. dues.items ≡ flat_map (announcing_by registry.now id) headers.items) }
 {
     let mut dues = Vec::new(registry.allocator());
@@ -46,7 +48,7 @@ pub(crate) fn announce_all(
 /// The header goes out to the node, and where the fence collects data, the commits of each process that it lists.
 pub(crate) fn tell_node(
     alloc: Global,
-    own: &Own,
+    own: &LocalCommits,
     marks: &mut Marks,
     node: NodeId,
     header: &Header,
@@ -65,14 +67,14 @@ pub(crate) fn tell_node(
 
 /// The own headers that have come to exist go out. What calls in the fence come to be answered is told.
 fn send_news(
-    around: &Around<'_>,
+    around: &FenceContext<'_>,
     table: &Table,
     calls: &Calls,
     marks: &mut Marks,
     name: &FenceName,
     news: VecDeque<Header>,
     out: &mut VecDeque<Sent>,
-) -> Result<Vec<(Proc, Settled)>, AllocError>
+) -> Result<Vec<(Proc, Completion)>, AllocError>
     requires { table.now.node ≡ around.now.id }
     ensures answers { IfOk result (λ answers. AreAnswers table.now.jobs around.now.id (is_in name.now) table.now.fences
         around.now.board.now.near around.now.board.now.far calls.now answers.items) }
@@ -83,7 +85,7 @@ fn send_news(
     ensures marks_err { OnErr result (marks.new ≡ marks.old) }
     ensures unsent { OnErr result (out.new.items ≡ out.old.items) }
 {
-    let ahead = Ahead {
+    let ahead = BoardPreview {
         board: around.board,
         near: None,
         far: None,
@@ -98,7 +100,7 @@ fn send_news(
 /// The fence changes in the table. Its own header is announced where it comes to exist by this, and whoever can be released from
 /// it is; at last the instances of its signature that are old by now are forgotten. Where an allocation fails, all is as before.
 pub(crate) fn change_fence(
-    around: &Around<'_>,
+    around: &FenceContext<'_>,
     table: &mut Table,
     calls: &mut Calls,
     marks: &mut Marks,
@@ -123,7 +125,7 @@ pub(crate) fn change_fence(
     let before = table.note(name, change)?;
     let news = table.take_headers();
     let Ok(answers) = send_news(around, table, calls, marks, name, news, out) else {
-        table.take_back(before);
+        table.rollback(before);
         return Err(AllocError);
     };
     calls.answer(answers);

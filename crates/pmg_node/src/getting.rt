@@ -5,15 +5,15 @@ ghost use Rattle.pmg_value.specs.declared.refusal.Refusal.TheVariants as refusal
 ghost use Rattle.pmg_commit.specs.Data.{read_at};
 ghost use Rattle.pmg_jobinfo.specs.Reserved.{is_general};
 ghost use Rattle.pmg_get.specs.Views.{outcome_of, seen_in};
-ghost use Rattle.pmg_rules.specs.Acts.{target_cause};
-ghost use Rattle.pmg_holding.specs.Calls.{get_of};
-ghost use Rattle.pmg_rules.specs.Holdings.{answer_in, seen_of};
+ghost use Rattle.pmg_node_model.specs.Acts.{target_cause};
+ghost use Rattle.pmg_node_parts.specs.Calls.{get_of};
+ghost use Rattle.pmg_node_model.specs.Holdings.{answer_in, seen_of};
 
 use crate::causes::is_misnamed;
 use crate::node::Node;
 use pmg_get::{Answer, Mode, View, resolve};
-use pmg_holding::Ahead;
 use pmg_jobinfo::Registry;
+use pmg_node_parts::BoardPreview;
 use pmg_value::{Key, Proc};
 
 /// Whether no particular rank is named.
@@ -38,13 +38,13 @@ pub fn is_bad_target(registry: &Registry, proc: &Proc, target: &Proc, key: &Key)
 
 impl Node {
     /// What there is to be seen here of a key that is not reserved.
-    #[tactic(auto, unfolding(pmg_rules::specs::Holdings::seen_of))]
+    #[tactic(auto, unfolding(pmg_node_model::specs::Holdings::seen_of))]
     fn look(&self, target: &Proc, key: &Key) -> View<'_>
         requires { is_reserved key.now ≡ false }
         ensures { seen_in result ≡ seen_of self.now.jobs self.now.id (read_at self.now.holding.near target.now) (read_at self.now.holding.far target.now)
             (get_of target.now key.now) }
     {
-        let ahead = Ahead {
+        let ahead = BoardPreview {
             board: &self.board,
             near: None,
             far: None,

@@ -4,19 +4,19 @@ ghost use Rattle.pmg_frame.specs.declared.frame.Frame.TheVariants as frames;
 ghost use Rattle.pmg_jobinfo.specs.Jobs.{is_member};
 ghost use Rattle.std.specs.List.{list_all};
 ghost use Rattle.pmg_frame.specs.Fences.{participants_of};
-ghost use Rattle.pmg_rules.specs.Acts.{Act, is_concerned, is_complete, is_taken};
+ghost use Rattle.pmg_node_model.specs.Acts.{Act, is_concerned, is_complete, is_taken};
 ghost use Rattle.pmg_node.specs.Replies.{delivery_reply};
 ghost use Rattle.pmg_node.specs.Servers.{reply_to, sent_by, after};
 
 use crate::asked::Delivery;
 use crate::causes::is_member;
-use crate::fencing::{Around, change_fence, tell_node};
+use crate::fencing::{FenceContext, change_fence, tell_node};
 use crate::node::Node;
 use pmg_fence::Change;
 use pmg_frame::{FenceAsk, FenceName, Header};
-use pmg_holding::takes_part;
 use pmg_jobinfo::Registry;
-use pmg_rules::Sent;
+use pmg_node_model::Sent;
+use pmg_node_parts::takes_part;
 use std::alloc::AllocError;
 use std::collections::VecDeque;
 
@@ -64,7 +64,7 @@ impl Node {
 
     /// Whether the header comes from another node, is of a fence that concerns this one and is not forgotten, and lists its node's
     /// participants.
-    #[tactic(auto, unfolding(pmg_rules::specs::Acts::is_taken))]
+    #[tactic(auto, unfolding(pmg_node_model::specs::Acts::is_taken))]
     fn is_told(&self, header: &Header) -> bool
         ensures { result ≡ is_taken self.now.jobs self.now.id self.now.holding.table (frames.Header header.now) }
     {
@@ -75,7 +75,7 @@ impl Node {
     }
 
     /// Whether the request comes from another node, and is for a header of a fence that concerns this one and is not forgotten.
-    #[tactic(auto, unfolding(pmg_rules::specs::Acts::is_taken))]
+    #[tactic(auto, unfolding(pmg_node_model::specs::Acts::is_taken))]
     fn is_asked_for(&self, ask: &FenceAsk) -> bool
         ensures { result ≡ is_taken self.now.jobs self.now.id self.now.holding.table (frames.FenceAsk ask.now) }
     {
@@ -98,7 +98,7 @@ impl Node {
             return Ok(Delivery::Ignored);
         }
         let change = Change::Told(header.copy()?);
-        let around = Around {
+        let around = FenceContext {
             id: self.id,
             board: &self.board,
             own: &self.own,
@@ -135,7 +135,7 @@ impl Node {
             tell_node(alloc, &self.own, &mut self.marks, ask.node(), &header, out)?;
             return Ok(Delivery::Taken);
         }
-        let around = Around {
+        let around = FenceContext {
             id: self.id,
             board: &self.board,
             own: &self.own,

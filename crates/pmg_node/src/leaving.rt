@@ -1,13 +1,13 @@
 //! A process leaves a fence that it is released from.
 ghost use Rattle.std.specs.Prelude.{◌≡◌, []};
 ghost use Rattle.std.specs.Option.{option_map};
-ghost use Rattle.pmg_rules.specs.Acts.{Act, Request};
-ghost use Rattle.pmg_holding.specs.Calls.{standing_of};
+ghost use Rattle.pmg_node_model.specs.Acts.{Act, Request};
+ghost use Rattle.pmg_node_parts.specs.Calls.{standing_of};
 ghost use Rattle.pmg_node.specs.Replies.{release_reply, released_reply, stays_reply};
 ghost use Rattle.pmg_node.specs.Servers.{reply_in, reply_to, sent_by, after};
 
 use crate::node::Node;
-use pmg_holding::Call;
+use pmg_node_parts::Call;
 use pmg_value::{Proc, Refusal};
 
 /// What a process that leaves a fence is told (PMIx Standard 5.0, PMIx_Fence).

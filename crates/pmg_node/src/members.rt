@@ -4,7 +4,7 @@ ghost use Rattle.std.specs.Result.{result_map_both};
 ghost use Rattle.pmg_value.specs.CheckOrder.{first_of};
 ghost use Rattle.pmg_value.specs.Spelling.{spelling};
 ghost use Rattle.pmg_value.specs.declared.value.Value.TheVariants as values;
-ghost use Rattle.pmg_node.specs.Members.{members_cause, members_known};
+ghost use Rattle.pmg_node.specs.Members.{known_members_cause, members_known};
 
 use crate::node::Node;
 use pmg_pset::members_in;
@@ -16,7 +16,7 @@ impl Node {
     /// name is known, or the last that is known of it is its deletion. It takes no memory.
     pub fn set_members(&self, name: &Key) -> Result<&Array, Refusal>
         ensures value { result_map_both (λ a. spelling (values.Array a.now)) (λ e. e) result
-            ≡ first_of (members_cause self.now.holding.far name.now) (members_known self.now.holding.far name.now) }
+            ≡ first_of (known_members_cause self.now.holding.far name.now) (members_known self.now.holding.far name.now) }
         ensures kind { IfOk result (λ a. a.now.tag ≡ 16) }
     {
         if name.is_reserved() {

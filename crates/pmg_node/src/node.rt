@@ -3,8 +3,8 @@ ghost use Rattle.pmg_jobinfo.specs.Jobs.{is_node};
 
 use pmg_dmodex::{Marks, Pending};
 use pmg_fence::Table;
-use pmg_holding::{Calls, Own};
 use pmg_jobinfo::Registry;
+use pmg_node_parts::{Calls, LocalCommits};
 use pmg_store::Board;
 use pmg_value::NodeId;
 use std::marker::Model;
@@ -15,7 +15,7 @@ pub struct Node {
     pub(crate) id: NodeId,
     pub(crate) table: Table,
     pub(crate) board: Board,
-    pub(crate) own: Own,
+    pub(crate) own: LocalCommits,
     pub(crate) calls: Calls,
     pub(crate) held: Pending,
     pub(crate) marks: Marks,

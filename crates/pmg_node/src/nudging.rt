@@ -6,18 +6,18 @@ ghost use Rattle.pmg_fence.specs.Tables.{told_of};
 ghost use Rattle.pmg_frame.specs.Fences.{commit_ask};
 ghost use Rattle.pmg_frame.specs.declared.frame.Frame.TheVariants as frames;
 ghost use Rattle.pmg_jobinfo.specs.Jobs.{home_of};
-ghost use Rattle.pmg_rules.specs.Acts.{Act, Request, Reply};
-ghost use Rattle.pmg_holding.specs.Calls.{all_asks};
-ghost use Rattle.pmg_rules.specs.Choosing.{asking, asking_anew, asking_headers, asking_ranges, asking_fence, asking_sets, is_behind, nudging, waited_in};
-ghost use Rattle.pmg_rules.specs.Sending.{ask_anew, sent};
+ghost use Rattle.pmg_node_model.specs.Acts.{Act, Request, Reply};
+ghost use Rattle.pmg_node_parts.specs.Calls.{all_asks};
+ghost use Rattle.pmg_node_model.specs.Choosing.{asking_home, asking_anew, asking_headers, asking_ranges, asking_fence, asking_sets, is_behind, nudging, waited_in};
+ghost use Rattle.pmg_node_model.specs.Sending.{ask_anew, sent};
 ghost use Rattle.pmg_node.specs.Asking.{asking_as};
 ghost use Rattle.pmg_node.specs.Servers.{reply_to, sent_by, after};
-ghost use Rattle.pmg_rules.specs.declared.due.Due.TheVariants as sendings;
+ghost use Rattle.pmg_node_model.specs.declared.due.ToSend.TheVariants as sendings;
 
 use crate::node::Node;
 use pmg_frame::{CommitAsk, FenceAsk, FenceName, Frame, RefreshAsk};
-use pmg_holding::{hand_out, peers_in};
-use pmg_rules::{Due, Sent};
+use pmg_node_model::{Sent, ToSend};
+use pmg_node_parts::{hand_out, peers_in};
 use pmg_value::{NodeId, Proc};
 use std::alloc::AllocError;
 use std::collections::VecDeque;
@@ -35,11 +35,11 @@ impl Node {
     }
 
     /// The node is asked for the commits of the process past the level that is known.
-    fn range_due(&self, to: NodeId, proc: &Proc) -> Result<Due, AllocError>
+    fn range_due(&self, to: NodeId, proc: &Proc) -> Result<ToSend, AllocError>
         ensures { IfOk result (λ due. due ≡ sendings.Whole (sent to (frames.RangeAsk
             (commit_ask self.now.id proc.now (level_at self.now.holding.far proc.now))))) }
     {
-        Ok(Due::Whole(Sent {
+        Ok(ToSend::Whole(Sent {
             to,
             frame: Frame::RangeAsk(self.commit_ask(proc)?),
         }))
@@ -47,14 +47,14 @@ impl Node {
 
     /// The home of the process, where that is another node, is asked for its commits past the level that is known, and answers
     /// once there are some.
-    pub(crate) fn ask_home(&self, target: &Proc, dues: &mut Vec<Due>) -> Result<(), AllocError>
-        ensures { OnOk result (dues.new.items ≡ dues.old.items ++ asking self.now.jobs self.now.id self.now.holding target.now) }
+    pub(crate) fn ask_home(&self, target: &Proc, dues: &mut Vec<ToSend>) -> Result<(), AllocError>
+        ensures { OnOk result (dues.new.items ≡ dues.old.items ++ asking_home self.now.jobs self.now.id self.now.holding target.now) }
     {
         let home = self.table.registry().home_of(target);
         if home == self.id {
             return Ok(());
         }
-        dues.push(Due::Whole(Sent {
+        dues.push(ToSend::Whole(Sent {
             to: home,
             frame: Frame::DirectAsk(self.commit_ask(target)?),
         }))?;
@@ -76,7 +76,7 @@ impl Node {
         &self,
         target: &Proc,
         number: u64,
-        dues: &mut Vec<Due>,
+        dues: &mut Vec<ToSend>,
     ) -> Result<(), AllocError>
         ensures { OnOk result (dues.new.items ≡ dues.old.items ++ asking_anew self.now.jobs self.now.id self.now.holding target.now number) }
     {
@@ -84,7 +84,7 @@ impl Node {
         if home == self.id {
             return Ok(());
         }
-        dues.push(Due::Whole(Sent {
+        dues.push(ToSend::Whole(Sent {
             to: home,
             frame: Frame::RefreshAsk(self.refresh_ask(target, number)?),
         }))?;
@@ -96,7 +96,7 @@ impl Node {
         &self,
         target: &Proc,
         number: Option<u64>,
-        dues: &mut Vec<Due>,
+        dues: &mut Vec<ToSend>,
     ) -> Result<(), AllocError>
         ensures { OnOk result (dues.new.items ≡ dues.old.items ++ asking_as self.now.jobs self.now.id self.now.holding (target.now, number)) }
     {
@@ -107,14 +107,14 @@ impl Node {
     }
 
     /// The other nodes whose header of the fence is missing are asked for it.
-    fn ask_headers(&self, name: &FenceName, dues: &mut Vec<Due>) -> Result<(), AllocError>
+    fn ask_headers(&self, name: &FenceName, dues: &mut Vec<ToSend>) -> Result<(), AllocError>
         ensures { OnOk result (dues.new.items ≡ dues.old.items ++ asking_headers self.now.jobs self.now.id self.now.holding name.now) }
     {
         for node in peers_in(self.table.registry(), self.id, name)? {
             if self.table.has_header(name, node) {
                 continue;
             }
-            dues.push(Due::Whole(Sent {
+            dues.push(ToSend::Whole(Sent {
                 to: node,
                 frame: Frame::FenceAsk(FenceAsk::new(self.id, name.copy()?)),
             }))?;
@@ -137,7 +137,7 @@ impl Node {
     }
 
     /// Of each participant of another node whose commits are missing that a header of the fence names, the home is asked.
-    fn ask_ranges(&self, name: &FenceName, dues: &mut Vec<Due>) -> Result<(), AllocError>
+    fn ask_ranges(&self, name: &FenceName, dues: &mut Vec<ToSend>) -> Result<(), AllocError>
         ensures { OnOk result (dues.new.items ≡ dues.old.items ++ asking_ranges self.now.jobs self.now.id self.now.holding name.now) }
     {
         for proc in name.signature().participants() {
@@ -151,7 +151,7 @@ impl Node {
     }
 
     /// Other nodes are asked for what is missing of the fence: headers, and where it collects data, commits.
-    fn ask_fence(&self, name: &FenceName, dues: &mut Vec<Due>) -> Result<(), AllocError>
+    fn ask_fence(&self, name: &FenceName, dues: &mut Vec<ToSend>) -> Result<(), AllocError>
         ensures { OnOk result (dues.new.items ≡ dues.old.items ++ asking_fence self.now.jobs self.now.id self.now.holding name.now) }
     {
         self.ask_headers(name, dues)?;
@@ -162,18 +162,18 @@ impl Node {
     }
 
     /// The same for each fence in which an own process waits.
-    fn ask_fences(&self, dues: &mut Vec<Due>) -> Result<(), AllocError>
+    fn ask_fences(&self, dues: &mut Vec<ToSend>) -> Result<(), AllocError>
         ensures { OnOk result (dues.new.items ≡ dues.old.items
             ++ flat_map (asking_fence self.now.jobs self.now.id self.now.holding) (waited_in self.now.holding)) }
     {
-        for name in self.calls.waited()? {
+        for name in self.calls.waited_fences()? {
             self.ask_fence(name, dues)?;
         }
         Ok(())
     }
 
     /// For each get that waits, the home of the process whose key it waits for is asked.
-    fn ask_homes(&self, dues: &mut Vec<Due>) -> Result<(), AllocError>
+    fn ask_homes(&self, dues: &mut Vec<ToSend>) -> Result<(), AllocError>
         ensures { OnOk result (dues.new.items ≡ dues.old.items
             ++ flat_map (asking_as self.now.jobs self.now.id self.now.holding) (all_asks self.now.holding.calls)) }
     {
@@ -184,7 +184,7 @@ impl Node {
     }
 
     /// Node 0 is asked for changes of the process sets.
-    fn ask_sets(&self, dues: &mut Vec<Due>) -> Result<(), AllocError>
+    fn ask_sets(&self, dues: &mut Vec<ToSend>) -> Result<(), AllocError>
         ensures { OnOk result (dues.new.items ≡ dues.old.items ++ asking_sets self.now.id self.now.holding) }
     {
         if self.id.index() == 0 {
@@ -197,7 +197,7 @@ impl Node {
     }
 
     /// All that is missing here is asked for.
-    fn ask_all(&self, dues: &mut Vec<Due>) -> Result<(), AllocError>
+    fn ask_all(&self, dues: &mut Vec<ToSend>) -> Result<(), AllocError>
         ensures { OnOk result (dues.new.items ≡ dues.old.items ++ nudging self.now.jobs self.now.id self.now.holding) }
     {
         self.ask_fences(dues)?;

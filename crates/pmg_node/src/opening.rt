@@ -5,16 +5,16 @@ ghost use Rattle.std.specs.List.{list_all};
 ghost use Rattle.pmg_value.specs.Process.{can_commit};
 ghost use Rattle.pmg_commit.specs.Sealed.{fresh};
 ghost use Rattle.pmg_jobinfo.specs.Jobs.{is_node};
-ghost use Rattle.pmg_holding.specs.Marking.{node_zeros, senders, zeros};
-ghost use Rattle.pmg_holding.specs.Sealers.{with_fresh};
+ghost use Rattle.pmg_node_parts.specs.Marking.{node_zeros, senders, zeros};
+ghost use Rattle.pmg_node_parts.specs.Sealers.{with_fresh};
 ghost use Rattle.pmg_node.specs.Opening.{new_server};
 
 use crate::node::Node;
 use pmg_commit::Sealer;
 use pmg_dmodex::{Marks, Pending};
 use pmg_fence::Table;
-use pmg_holding::{Calls, Own, Sealers, peers};
 use pmg_jobinfo::Registry;
+use pmg_node_parts::{Calls, LocalCommits, Sealers, peers};
 use pmg_pset::Sets;
 use pmg_store::Board;
 use pmg_value::{NodeId, Proc};
@@ -90,7 +90,7 @@ impl Node {
             id,
             table: Table::new(id, registry),
             board: Board::new(alloc),
-            own: Own {
+            own: LocalCommits {
                 sealers,
                 sets: Sets::new(alloc),
             },

@@ -9,10 +9,10 @@ ghost use Rattle.pmg_get.specs.declared.view.Mode.{Mode as AskedMode};
 ghost use Rattle.pmg_get.specs.declared.view.Mode.TheVariants as modes;
 ghost use Rattle.pmg_jobinfo.specs.Jobs.{is_registered};
 ghost use Rattle.pmg_jobinfo.specs.Reserved.{is_general};
-ghost use Rattle.pmg_rules.specs.Acts.{Act, Request, also, free_cause, target_cause, number_cause, is_misnamed, reply_of};
-ghost use Rattle.pmg_holding.specs.Calls.{get_of};
-ghost use Rattle.pmg_rules.specs.Holdings.{answer_in};
-ghost use Rattle.pmg_rules.specs.Kept.{IsSettled};
+ghost use Rattle.pmg_node_model.specs.Acts.{Act, Request, also, free_cause, target_cause, number_cause, is_misnamed, reply_of};
+ghost use Rattle.pmg_node_parts.specs.Calls.{get_of};
+ghost use Rattle.pmg_node_model.specs.Holdings.{answer_in};
+ghost use Rattle.pmg_node_model.specs.Kept.{IsSettled};
 ghost use Rattle.pmg_node.specs.Replies.{asked_reply};
 ghost use Rattle.pmg_node.specs.Servers.{reply_to, sent_by, after, Replies, IsAnswered};
 
@@ -20,8 +20,8 @@ use crate::causes::{is_bad_caller, is_registered};
 use crate::getting::is_bad_target;
 use crate::node::Node;
 use pmg_get::{Answer, Mode};
-use pmg_holding::{Call, hand_out, take_back};
-use pmg_rules::Sent;
+use pmg_node_model::Sent;
+use pmg_node_parts::{Call, hand_out, rollback};
 use pmg_value::{Key, Proc, Refusal, Value};
 use std::alloc::AllocError;
 use std::collections::VecDeque;
@@ -36,7 +36,7 @@ pub enum Asked {
 }
 
 /// What a process is told whose get is answered so.
-fn told(answer: Answer<'_>) -> Result<Asked, Refusal>
+fn to_asked(answer: Answer<'_>) -> Result<Asked, Refusal>
     ensures { Replies asked_reply result (reply_of (outcome_of answer.entry)) }
 {
     match answer {
@@ -103,7 +103,7 @@ impl Node {
         if key.is_reserved() {
             return self.tell_reserved(target, key);
         }
-        told(self.answer(target, key, mode))
+        to_asked(self.answer(target, key, mode))
     }
 
     /// The process's get, which finds nothing yet, waits, and the target's home is asked.
@@ -131,7 +131,7 @@ impl Node {
         let alloc = self.table.registry().allocator();
         let handed = hand_out(alloc, &self.own, &mut self.marks, None, dues, out)?;
         if let Err(AllocError) = self.calls.put(asker, call) {
-            take_back(&mut self.marks, out, handed);
+            rollback(&mut self.marks, out, handed);
             return Err(AllocError);
         }
         Ok(())

@@ -1,24 +1,24 @@
 //! A piece of a process of another node comes.
 ghost use Rattle.std.specs.Prelude.{◌≡◌, ◌++◌, true, IfOk, OnOk, OnErr};
 ghost use Rattle.pmg_frame.specs.declared.frame.Frame.TheVariants as frames;
-ghost use Rattle.pmg_rules.specs.Acts.{Act, is_taken};
-ghost use Rattle.pmg_holding.specs.Calls.{all_instead};
-ghost use Rattle.pmg_rules.specs.Choosing.{due_by};
+ghost use Rattle.pmg_node_model.specs.Acts.{Act, is_taken};
+ghost use Rattle.pmg_node_parts.specs.Calls.{all_instead};
+ghost use Rattle.pmg_node_model.specs.Choosing.{due_by};
 ghost use Rattle.pmg_node.specs.Replies.{delivery_reply};
 ghost use Rattle.pmg_node.specs.Servers.{reply_to, sent_by, after};
 
 use crate::asked::Delivery;
 use crate::node::Node;
 use pmg_commit::Piece;
-use pmg_holding::{Ahead, Settled, answers_about, asks_again, hand_out, take_back};
-use pmg_rules::{Due, Sent};
+use pmg_node_model::{Sent, ToSend};
+use pmg_node_parts::{BoardPreview, Completion, answers_about, asks_again, hand_out, rollback};
 use pmg_value::Proc;
 use std::alloc::AllocError;
 use std::collections::VecDeque;
 
 impl Node {
     /// Whether the piece is of a process that is not at home at this node.
-    #[tactic(auto, unfolding(pmg_rules::specs::Acts::is_taken))]
+    #[tactic(auto, unfolding(pmg_node_model::specs::Acts::is_taken))]
     fn is_foreign(&self, piece: &Piece) -> bool
         ensures { result ≡ is_taken self.now.jobs self.now.id self.now.holding.table (frames.Piece piece.now) }
     {
@@ -26,12 +26,12 @@ impl Node {
     }
 
     /// What calls come to be answered once the piece is taken.
-    fn answers_to<'a>(&'a self, piece: &'a Piece) -> Result<Vec<(Proc, Settled)>, AllocError>
+    fn answers_to<'a>(&'a self, piece: &'a Piece) -> Result<Vec<(Proc, Completion)>, AllocError>
         requires { is_taken self.now.jobs self.now.id self.now.holding.table (frames.Piece piece.now) ≡ true }
         ensures { IfOk result (λ answers. all_instead self.now.holding.calls answers.items
             ≡ (after self.now (Act.deliver (frames.Piece piece.now))).holding.calls) }
     {
-        let ahead = Ahead {
+        let ahead = BoardPreview {
             board: &self.board,
             near: None,
             far: Some(piece),
@@ -41,7 +41,7 @@ impl Node {
 
     /// What is due once the piece is taken: where more commits of its process come to be known, its home is asked again for
     /// each get of its keys that will wait still.
-    fn asks_after<'a>(&'a self, piece: &'a Piece) -> Result<Vec<Due>, AllocError>
+    fn asks_after<'a>(&'a self, piece: &'a Piece) -> Result<Vec<ToSend>, AllocError>
         requires { is_taken self.now.jobs self.now.id self.now.holding.table (frames.Piece piece.now) ≡ true }
         ensures { IfOk result (λ dues. dues.items ≡ due_by self.now.jobs self.now.id self.now.holding
             (Act.deliver (frames.Piece piece.now)) (after self.now (Act.deliver (frames.Piece piece.now))).holding) }
@@ -51,7 +51,7 @@ impl Node {
         if far.level_with(piece, proc) <= far.level(proc) {
             return Ok(Vec::new(self.table.registry().allocator()));
         }
-        let ahead = Ahead {
+        let ahead = BoardPreview {
             board: &self.board,
             near: None,
             far: Some(piece),
@@ -80,7 +80,7 @@ impl Node {
         let alloc = self.table.registry().allocator();
         let handed = hand_out(alloc, &self.own, &mut self.marks, None, dues, out)?;
         if let Err(AllocError) = self.board.absorb_far(piece) {
-            take_back(&mut self.marks, out, handed);
+            rollback(&mut self.marks, out, handed);
             return Err(AllocError);
         }
         self.calls.answer(answers);

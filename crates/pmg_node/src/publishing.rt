@@ -3,18 +3,20 @@ ghost use Rattle.std.specs.Prelude.{◌≡◌, ◌<◌, ◌++◌, IfOk, OnOk, On
 ghost use Rattle.pmg_scope.specs.declared.scope.Reach.TheVariants as reach;
 ghost use Rattle.pmg_commit.specs.Data.{absorbed};
 ghost use Rattle.pmg_commit.specs.Sealed.{piece_at};
-ghost use Rattle.pmg_holding.specs.Answered.{ArePlain};
-ghost use Rattle.pmg_holding.specs.Answering.{AreAnswers};
-ghost use Rattle.pmg_rules.specs.Choosing.{sends};
-ghost use Rattle.pmg_rules.specs.Kept.{is_about};
-ghost use Rattle.pmg_holding.specs.Owns.{sealed_of};
-ghost use Rattle.pmg_holding.specs.Telling.{settling_by};
+ghost use Rattle.pmg_node_parts.specs.Answered.{ArePlain};
+ghost use Rattle.pmg_node_parts.specs.Answering.{AreAnswers};
+ghost use Rattle.pmg_node_model.specs.Choosing.{sends};
+ghost use Rattle.pmg_node_model.specs.Kept.{is_about};
+ghost use Rattle.pmg_node_parts.specs.Owns.{sealed_of};
+ghost use Rattle.pmg_node_parts.specs.Telling.{settling_by};
 
 use pmg_commit::Piece;
 use pmg_dmodex::{Marks, Pending};
 use pmg_fence::Table;
-use pmg_holding::{Ahead, Calls, Own, Settled, answers_about, hand_out, take_back, tell_waiting};
-use pmg_rules::{Due, Sent};
+use pmg_node_model::{Sent, ToSend};
+use pmg_node_parts::{
+    BoardPreview, Calls, Completion, LocalCommits, answers_about, hand_out, rollback, tell_waiting,
+};
 use pmg_scope::Reach;
 use pmg_store::Board;
 use pmg_value::{NodeId, Proc};
@@ -24,10 +26,10 @@ use std::slice;
 
 /// What stays as it is while an own process's commits are published.
 #[derive(Drop)]
-pub(crate) struct Beside<'a> {
+pub(crate) struct PublishContext<'a> {
     pub(crate) table: &'a Table,
     pub(crate) id: NodeId,
-    pub(crate) own: &'a Own,
+    pub(crate) own: &'a LocalCommits,
     pub(crate) held: &'a Pending,
     pub(crate) calls: &'a Calls,
 }
@@ -36,7 +38,7 @@ pub(crate) struct Beside<'a> {
 #[derive(Drop)]
 pub(crate) struct Published {
     /// What calls come to be answered.
-    pub(crate) answers: Vec<(Proc, Settled)>,
+    pub(crate) answers: Vec<(Proc, Completion)>,
     /// What was joined for reads from the node itself.
     pub(crate) near: Piece,
     /// What was joined for reads from other nodes.
@@ -45,12 +47,12 @@ pub(crate) struct Published {
 
 /// What comes to be answered once the process's pieces are joined.
 fn answers_after<'a>(
-    beside: &Beside<'_>,
+    beside: &PublishContext<'_>,
     board: &'a Board,
     near: &'a Piece,
     far: &'a Piece,
     proc: &Proc,
-) -> Result<Vec<(Proc, Settled)>, AllocError>
+) -> Result<Vec<(Proc, Completion)>, AllocError>
     requires node { beside.now.table.now.node ≡ beside.now.id }
     requires plain { ArePlain beside.now.calls.now }
     ensures { IfOk result (λ answers. AreAnswers beside.now.table.now.jobs beside.now.id (is_about proc.now) beside.now.table.now.fences
@@ -58,20 +60,20 @@ fn answers_after<'a>(
 {
     let near = Some(near);
     let far = Some(far);
-    let ahead = Ahead { board, near, far };
+    let ahead = BoardPreview { board, near, far };
     answers_about(beside.table, beside.id, &ahead, beside.calls, proc)
 }
 
 /// What the process sealed after a commit number is joined into the stores, and sent to the nodes that wait for it; after that
 /// these are sent. What comes to be answered is told.
 pub(crate) fn publish(
-    beside: &Beside<'_>,
+    beside: &PublishContext<'_>,
     board: &mut Board,
     marks: &mut Marks,
     out: &mut VecDeque<Sent>,
     proc: &Proc,
     from: u64,
-    mut dues: Vec<Due>,
+    mut dues: Vec<ToSend>,
 ) -> Result<Published, AllocError>
     requires node { beside.now.table.now.node ≡ beside.now.id }
     requires plain { ArePlain beside.now.calls.now }
@@ -100,7 +102,7 @@ pub(crate) fn publish(
     all.append(&mut dues)?;
     let handed = hand_out(alloc, beside.own, marks, None, all, out)?;
     if let Err(AllocError) = board.absorb_all(slice::from_ref(&near), slice::from_ref(&far)) {
-        take_back(marks, out, handed);
+        rollback(marks, out, handed);
         return Err(AllocError);
     }
     Ok(Published { answers, near, far })

@@ -4,18 +4,18 @@ ghost use Rattle.std.specs.FinMap as finite;
 ghost use Rattle.pmg_value.specs.CheckOrder.{first_of};
 ghost use Rattle.pmg_get.specs.Gets.{Outcome};
 ghost use Rattle.pmg_get.specs.declared.view.Mode.TheVariants as modes;
-ghost use Rattle.pmg_rules.specs.Acts.{Act, Request, also, asks_anew, free_cause, target_cause, number_cause};
-ghost use Rattle.pmg_holding.specs.Calls.{get_of};
+ghost use Rattle.pmg_node_model.specs.Acts.{Act, Request, also, asks_anew, free_cause, target_cause, number_cause};
+ghost use Rattle.pmg_node_parts.specs.Calls.{get_of};
 ghost use Rattle.pmg_dmodex.specs.Refreshes.{requested};
 ghost use Rattle.pmg_dmodex.specs.Requests.{with_anew};
-ghost use Rattle.pmg_rules.specs.Holdings.{Standing, answer_in};
+ghost use Rattle.pmg_node_model.specs.Holdings.{CallState, answer_in};
 ghost use Rattle.pmg_node.specs.Servers.{sent_by, after};
 
 use crate::node::Node;
 use pmg_dmodex::Pending;
 use pmg_get::Mode;
-use pmg_holding::{Call, Calls, hand_out, take_back};
-use pmg_rules::Sent;
+use pmg_node_model::Sent;
+use pmg_node_parts::{Call, Calls, hand_out, rollback};
 use pmg_value::{Key, Proc, Refusal};
 use std::alloc::AllocError;
 use std::collections::VecDeque;
@@ -32,7 +32,7 @@ fn wait_anew(
     requires free { finite.get calls.old proc.now ≡ None }
     requires number { held.old.anew.last < 18446744073709551615 }
     ensures calls { OnOk result (calls.new ≡ finite.insert calls.old proc.now
-        (Standing.refreshing (get_of target.now key.now) (suc held.old.anew.last))) }
+        (CallState.refreshing (get_of target.now key.now) (suc held.old.anew.last))) }
     ensures held { OnOk result (held.new ≡ with_anew held.old (requested held.old.anew proc.now target.now)) }
     ensures calls_err { OnErr result (calls.new ≡ calls.old) }
     ensures held_err { OnErr result (held.new ≡ held.old) }
@@ -96,7 +96,7 @@ impl Node {
         let alloc = self.table.registry().allocator();
         let handed = hand_out(alloc, &self.own, &mut self.marks, None, dues, out)?;
         if let Err(AllocError) = wait_anew(&mut self.calls, &mut self.held, proc, target, key) {
-            take_back(&mut self.marks, out, handed);
+            rollback(&mut self.marks, out, handed);
             return Err(AllocError);
         }
         Ok(())

@@ -4,11 +4,11 @@ ghost use Rattle.std.specs.Option.{option_map};
 ghost use Rattle.pmg_commit.specs.Stamped.{IsSealer};
 ghost use Rattle.pmg_frame.specs.Refreshing.{told_by};
 ghost use Rattle.pmg_frame.specs.declared.frame.Frame.TheVariants as frames;
-ghost use Rattle.pmg_holding.specs.Calls.{all_instead};
-ghost use Rattle.pmg_holding.specs.Owns.{sealed_of};
-ghost use Rattle.pmg_rules.specs.Acts.{Act, is_taken};
-ghost use Rattle.pmg_rules.specs.Choosing.{due_by};
-ghost use Rattle.pmg_rules.specs.Holdings.{joined};
+ghost use Rattle.pmg_node_parts.specs.Calls.{all_instead};
+ghost use Rattle.pmg_node_parts.specs.Owns.{sealed_of};
+ghost use Rattle.pmg_node_model.specs.Acts.{Act, is_taken};
+ghost use Rattle.pmg_node_model.specs.Choosing.{due_by};
+ghost use Rattle.pmg_node_model.specs.Holdings.{joined};
 ghost use Rattle.pmg_node.specs.Replies.{delivery_reply};
 ghost use Rattle.pmg_node.specs.Replying.{reply_by, replying_by};
 ghost use Rattle.pmg_node.specs.Servers.{reply_to, sent_by, after};
@@ -17,8 +17,10 @@ use crate::asked::Delivery;
 use crate::node::Node;
 use pmg_commit::Piece;
 use pmg_frame::{Frame, RefreshAsk, RefreshReply};
-use pmg_holding::{Ahead, Own, Settled, answers_then, asks_again, hand_out, take_back};
-use pmg_rules::{Due, Sent};
+use pmg_node_model::{Sent, ToSend};
+use pmg_node_parts::{
+    BoardPreview, Completion, LocalCommits, answers_then, asks_again, hand_out, rollback,
+};
 use pmg_scope::Reach;
 use pmg_store::Board;
 use pmg_value::Proc;
@@ -26,7 +28,7 @@ use std::alloc::{AllocError, Global};
 use std::collections::VecDeque;
 
 /// What the process's commits after the one that is named sealed, be it none, as the reply.
-fn reply_of(alloc: Global, own: &Own, ask: &RefreshAsk) -> Result<RefreshReply, AllocError>
+fn reply_of(alloc: Global, own: &LocalCommits, ask: &RefreshAsk) -> Result<RefreshReply, AllocError>
     requires made { ask.now.ask.level ≤ (sealed_of own.now ask.now.ask.proc).level }
     requires its { (sealed_of own.now ask.now.ask.proc).proc ≡ ask.now.ask.proc }
     ensures { IfOk result (λ reply. reply ≡ reply_by (sealed_of own.now) ask.now) }
@@ -46,13 +48,13 @@ fn reply_of(alloc: Global, own: &Own, ask: &RefreshAsk) -> Result<RefreshReply, 
 }
 
 /// The reply is due to the node that asks anew, unless it names a commit that was not made.
-fn reply_due(alloc: Global, own: &Own, ask: &RefreshAsk) -> Result<Vec<Due>, AllocError>
+fn reply_due(alloc: Global, own: &LocalCommits, ask: &RefreshAsk) -> Result<Vec<ToSend>, AllocError>
     requires { (sealed_of own.now ask.now.ask.proc).proc ≡ ask.now.ask.proc }
     ensures { IfOk result (λ dues. dues.items ≡ replying_by (sealed_of own.now) ask.now) }
 {
     let mut dues = Vec::new(alloc);
     if ask.ask().level() <= own.level(ask.ask().proc()) {
-        dues.push(Due::Whole(Sent {
+        dues.push(ToSend::Whole(Sent {
             to: ask.ask().node(),
             frame: Frame::RefreshReply(reply_of(alloc, own, ask)?),
         }))?;
@@ -102,7 +104,7 @@ impl Node {
     }
 
     /// Whether the reply is to a request of this node, for commits of a process that is not at home here.
-    #[tactic(auto, unfolding(pmg_rules::specs::Acts::is_taken))]
+    #[tactic(auto, unfolding(pmg_node_model::specs::Acts::is_taken))]
     fn is_replied(&self, reply: &RefreshReply) -> bool
         ensures { result ≡ is_taken self.now.jobs self.now.id self.now.holding.table (frames.RefreshReply reply.now) }
     {
@@ -117,13 +119,13 @@ impl Node {
         &'a self,
         reply: &'a RefreshReply,
         told: Option<&'a Piece>,
-    ) -> Result<Vec<(Proc, Settled)>, AllocError>
+    ) -> Result<Vec<(Proc, Completion)>, AllocError>
         requires taken { is_taken self.now.jobs self.now.id self.now.holding.table (frames.RefreshReply reply.now) ≡ true }
         requires told { option_map (λ c. c.now) told ≡ told_by reply.now }
         ensures { IfOk result (λ answers. all_instead self.now.holding.calls answers.items
             ≡ (after self.now (Act.deliver (frames.RefreshReply reply.now))).holding.calls) }
     {
-        let ahead = Ahead {
+        let ahead = BoardPreview {
             board: &self.board,
             near: None,
             far: told,
@@ -148,13 +150,13 @@ impl Node {
         &'a self,
         reply: &'a RefreshReply,
         told: Option<&'a Piece>,
-    ) -> Result<Vec<Due>, AllocError>
+    ) -> Result<Vec<ToSend>, AllocError>
         requires taken { is_taken self.now.jobs self.now.id self.now.holding.table (frames.RefreshReply reply.now) ≡ true }
         requires told { option_map (λ c. c.now) told ≡ told_by reply.now }
         ensures { IfOk result (λ dues. dues.items ≡ due_by self.now.jobs self.now.id self.now.holding
             (Act.deliver (frames.RefreshReply reply.now)) (after self.now (Act.deliver (frames.RefreshReply reply.now))).holding) }
     {
-        let ahead = Ahead {
+        let ahead = BoardPreview {
             board: &self.board,
             near: None,
             far: told,
@@ -188,7 +190,7 @@ impl Node {
         let alloc = self.table.registry().allocator();
         let handed = hand_out(alloc, &self.own, &mut self.marks, None, dues, out)?;
         if let Err(AllocError) = absorb_told(&mut self.board, told.as_ref()) {
-            take_back(&mut self.marks, out, handed);
+            rollback(&mut self.marks, out, handed);
             return Err(AllocError);
         }
         self.calls.answer(answers);

@@ -10,25 +10,25 @@ ghost use Rattle.pmg_commit.specs.Sealed.{piece_at};
 ghost use Rattle.pmg_jobinfo.specs.Refusing.{is_bad};
 ghost use Rattle.pmg_pset.specs.Refusing.{room_cause};
 ghost use Rattle.pmg_pset.specs.Sets.{host};
-ghost use Rattle.pmg_rules.specs.Acts.{Act, Request, also, node_cause, name_cause, members_of, cause};
-ghost use Rattle.pmg_holding.specs.Answered.{ArePlain};
-ghost use Rattle.pmg_holding.specs.Answering.{AreAnswers};
-ghost use Rattle.pmg_rules.specs.Choosing.{sends};
-ghost use Rattle.pmg_rules.specs.Kept.{is_about};
-ghost use Rattle.pmg_holding.specs.Owns.{sealed_of};
+ghost use Rattle.pmg_node_model.specs.Acts.{Act, Request, also, node_cause, name_cause, members_of, cause};
+ghost use Rattle.pmg_node_parts.specs.Answered.{ArePlain};
+ghost use Rattle.pmg_node_parts.specs.Answering.{AreAnswers};
+ghost use Rattle.pmg_node_model.specs.Choosing.{sends};
+ghost use Rattle.pmg_node_model.specs.Kept.{is_about};
+ghost use Rattle.pmg_node_parts.specs.Owns.{sealed_of};
 ghost use Rattle.pmg_node.specs.Replies.{defined_reply};
 ghost use Rattle.pmg_node.specs.Servers.{reply_to, sent_by, after, IsAnswered, Replies};
-ghost use Rattle.pmg_holding.specs.Telling.{settling_by, spread_by};
+ghost use Rattle.pmg_node_parts.specs.Telling.{settling_by, spread_by};
 
 use crate::committing::Committed;
 use crate::entering::{expand, has_bad, has_unknown};
 use crate::node::Node;
-use crate::publishing::{Beside, Published, publish};
+use crate::publishing::{PublishContext, Published, publish};
 use pmg_dmodex::Marks;
-use pmg_holding::spread;
 use pmg_jobinfo::Registry;
+use pmg_node_model::Sent;
+use pmg_node_parts::spread;
 use pmg_pset::{MAX_MEMBERS, Sets};
-use pmg_rules::Sent;
 use pmg_store::Board;
 use pmg_value::{Key, Proc, Refusal};
 use std::alloc::AllocError;
@@ -66,7 +66,7 @@ fn host() -> Proc
 /// The change of the sets after a number is joined into the stores, and sent to the nodes that wait for it; then all changes go to
 /// each other node. The process that stands for the group's host is given too.
 fn publish_sets(
-    beside: &Beside<'_>,
+    beside: &PublishContext<'_>,
     board: &mut Board,
     marks: &mut Marks,
     out: &mut VecDeque<Sent>,
@@ -153,7 +153,7 @@ impl Node {
         let members = expand(self.table.registry(), list)?;
         let from = self.own.sets_level();
         let before = self.own.define(name, members)?;
-        let beside = Beside {
+        let beside = PublishContext {
             table: &self.table,
             id: self.id,
             own: &self.own,
@@ -195,7 +195,7 @@ impl Node {
         self.check_name(name)?;
         let from = self.own.sets_level();
         let before = self.own.delete(name)?;
-        let beside = Beside {
+        let beside = PublishContext {
             table: &self.table,
             id: self.id,
             own: &self.own,

@@ -1,13 +1,13 @@
 //! How a process stands, which is looked at and changes nothing.
 ghost use Rattle.std.specs.Prelude.{◌≡◌};
 ghost use Rattle.std.specs.Option.{option_map};
-ghost use Rattle.pmg_rules.specs.Acts.{status_by, status_of};
-ghost use Rattle.pmg_holding.specs.Calls.{standing_of};
+ghost use Rattle.pmg_node_model.specs.Acts.{status_by, status_of};
+ghost use Rattle.pmg_node_parts.specs.Calls.{standing_of};
 ghost use Rattle.pmg_node.specs.Replies.{status_in};
 
 use crate::causes::is_member;
 use crate::node::Node;
-use pmg_holding::Call;
+use pmg_node_parts::Call;
 use pmg_value::Proc;
 
 /// How a process stands at a node.
@@ -46,7 +46,7 @@ fn status_by(call: Option<&Call>) -> Status
 
 impl Node {
     /// How the process stands. It takes no memory.
-    #[tactic(auto, unfolding(pmg_rules::specs::Acts::status_of))]
+    #[tactic(auto, unfolding(pmg_node_model::specs::Acts::status_of))]
     pub fn status(&self, proc: &Proc) -> Status
         ensures { status_in result ≡ status_of self.now.jobs self.now.id self.now.holding proc.now }
     {

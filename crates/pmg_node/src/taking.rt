@@ -1,13 +1,13 @@
 //! A process takes the answer of the get that it waited for.
 ghost use Rattle.std.specs.Prelude.{◌≡◌, []};
 ghost use Rattle.std.specs.Option.{option_map};
-ghost use Rattle.pmg_rules.specs.Acts.{Act, Request, reply_of};
-ghost use Rattle.pmg_holding.specs.Calls.{standing_of, outcome_of};
+ghost use Rattle.pmg_node_model.specs.Acts.{Act, Request, reply_of};
+ghost use Rattle.pmg_node_parts.specs.Calls.{standing_of, found_outcome};
 ghost use Rattle.pmg_node.specs.Replies.{taking_reply, answered_reply, pending_reply};
 ghost use Rattle.pmg_node.specs.Servers.{reply_in, reply_to, sent_by, after};
 
 use crate::node::Node;
-use pmg_holding::{Call, Found};
+use pmg_node_parts::{Call, Found};
 use pmg_value::{Proc, Refusal, Value};
 
 /// What a process that takes an answer is told (PMIx Standard 5.0, PMIx_Get).
@@ -37,8 +37,8 @@ fn pending(call: Option<&Call>) -> Option<Taking>
 }
 
 /// What the process is told whose get was answered so.
-fn told(found: Found) -> Result<Taking, Refusal>
-    ensures { reply_in taking_reply result ≡ reply_of (outcome_of found) }
+fn to_taking(found: Found) -> Result<Taking, Refusal>
+    ensures { reply_in taking_reply result ≡ reply_of (found_outcome found) }
 {
     match found {
         Found::Value(value) => Ok(Taking::Found(value)),
@@ -55,7 +55,7 @@ fn taking_of(call: Option<Call>) -> Result<Taking, Refusal>
         return Ok(Taking::Idle);
     };
     match call.into_found() {
-        Some(found) => told(found),
+        Some(found) => to_taking(found),
         None => Ok(Taking::Idle),
     }
 }

@@ -30,7 +30,7 @@ use Rattle.pmg_commit.proofs.HonestLaws.{honest_reading}
 use Rattle.pmg_commit.proofs.SealerLaws.{stamp_over, get-stamped, new_fits, seal_fits, put_seals_nothing, pieces_are_honest}
 use Rattle.pmg_pset.specs.Changes.{Change, script_of}
 use Rattle.pmg_pset.specs.Members.{proc_array, proc_bytes, no_members, live_of}
-use Rattle.pmg_pset.specs.Sets.{host, changed, live_in, live_at}
+use Rattle.pmg_pset.specs.Sets.{host, set_changed, live_in, live_at}
 use Rattle.pmg_pset.specs.Rules.{NewSetsFit, ChangeFits, ChangeIsSeen, DefinedIsLive, DeletedIsNot, ReadsAreSets, OnePieceIsEnough}
 use Rattle.pmg_pset.proofs.MemberLemmas.{longer}
 
@@ -71,7 +71,7 @@ change_fits z cs c fits =
       near = λ key. get_put c key reach.Near refl ∙ ap (last_put reach.Near key) (sym sealed);
       far = λ key. get_put c key reach.Far refl ∙ ap (last_put reach.Far key) (sym sealed);
     } in
-    subst (FitsSealer (changed z c.name c.bytes)) (sym (script_more cs c))
+    subst (FitsSealer (set_changed z c.name c.bytes)) (sym (script_more cs c))
     (seal_fits z (global_put c.name c.bytes) before (never_ends cs c) batch (put_seals_nothing z (script_of cs) scopes.Global c.name c.bytes fits))
 
 -- ---- what a change leaves
@@ -92,7 +92,7 @@ change_is_seen z name bytes q =
     ∙ over_one (suc z.level) (bytes_eq q name) bytes (finite.get z.far q)
 
 -- the name of a change itself
-own_name : (z : Sealed) (name bytes : List ℕ) → live_at (changed z name bytes) name ≡ live_of bytes
+own_name : (z : Sealed) (name bytes : List ℕ) → live_at (set_changed z name bytes) name ≡ live_of bytes
 own_name z name bytes =
     change_is_seen z name bytes name ∙ ap (λ (b : Bool). cond b (live_of bytes) (live_at z name)) ((bytes_eq-Decides name name).1 refl)
 

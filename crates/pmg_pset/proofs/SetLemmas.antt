@@ -26,7 +26,7 @@ use Rattle.pmg_scope.specs.declared.scope.Reach.TheVariants as reach
 use Rattle.pmg_commit.proofs.GrowthLemmas.{stamped_one}
 use Rattle.pmg_pset.specs.Members.{no_members, proc_bytes, are_procs}
 use Rattle.pmg_pset.specs.Refusing.{is_full, change_answer, delete_cause}
-use Rattle.pmg_pset.specs.Sets.{AreSets, are_sets, changed, host, live_in, is_live}
+use Rattle.pmg_pset.specs.Sets.{AreSets, are_sets, set_changed, host, live_in, is_live}
 use Rattle.pmg_pset.proofs.MemberLemmas.{bytes_of_procs}
 
 abbrev StampRows : Type 0
@@ -59,7 +59,7 @@ nothing_within : are_within finite.empty ≡ true
 nothing_within = λ i. nat_le (finite.len-empty (slice_cmp nat_cmp) Stamp i) 65535 && nat_le (sum_by stamp_size ((entries_of_nothing (slice_cmp nat_cmp)) i)) 16000000
 
 -- what a commit took is within them
-within_after : (z : Sealed) (name bytes : List ℕ) → can_seal z (global_put name bytes) ≡ true → are_within (changed z name bytes).far ≡ true
+within_after : (z : Sealed) (name bytes : List ℕ) → can_seal z (global_put name bytes) ≡ true → are_within (set_changed z name bytes).far ≡ true
 within_after z name bytes h = (and_parts _ _ h).1
 
 -- and so is what puts no longer value in the place of another
@@ -74,7 +74,7 @@ shorter_within m k v w there le h =
     and_from _ _ (le-leb (finite.len (finite.insert m k v)) 65535 (omega (arith, few, len)))
     (le-leb (stamps_size (finite.insert m k v)) 16000000 (omega (arith, short, sum, old, le)))
 
-changed_sets : (z : Sealed) (name bytes : List ℕ) → AreSets z → are_procs bytes ≡ true → are_within (changed z name bytes).far ≡ true → AreSets (changed z name bytes)
+changed_sets : (z : Sealed) (name bytes : List ℕ) → AreSets z → are_procs bytes ≡ true → are_within (set_changed z name bytes).far ≡ true → AreSets (set_changed z name bytes)
 changed_sets z name bytes are is within = record {
   host = are.host;
   going = are.going;
@@ -84,7 +84,7 @@ changed_sets z name bytes are is within = record {
 }
 
 -- a change that a commit took leaves sets
-pub changed_are_sets : (z w : Sealed) (name : List ℕ) (procs : List Proc) → AreSets z → can_seal z (global_put name (proc_bytes procs)) ≡ true → w ≡ changed z name (proc_bytes procs) → AreSets w
+pub changed_are_sets : (z w : Sealed) (name : List ℕ) (procs : List Proc) → AreSets z → can_seal z (global_put name (proc_bytes procs)) ≡ true → w ≡ set_changed z name (proc_bytes procs) → AreSets w
 changed_are_sets z w name procs are can made =
     let bytes = proc_bytes procs in
     subst AreSets (sym made) (changed_sets z name bytes are (bytes_of_procs procs) (within_after z name bytes can))
@@ -138,9 +138,9 @@ deletes z name are live =
     let found = live_stamp (finite.get z.far name) live in
     let long : 6 ≤ length found.0.bytes = leb-true 6 (length found.0.bytes) (and_parts _ _ (found_procs z name found.0 are found.1)).1 in
     let stamp : Stamp = record { number = suc z.level; bytes = no_members } in
-    let far : are_within (changed z name no_members).far ≡ true =
+    let far : are_within (set_changed z name no_members).far ≡ true =
     ap are_within (stamped_one (suc z.level) name no_members z.far) ∙ shorter_within z.far name stamp found.0 found.1 (omega (arith, long)) are.within in
-    let near : are_within (changed z name no_members).near ≡ true =
+    let near : are_within (set_changed z name no_members).near ≡ true =
     ap (λ m. are_within (stamped (suc z.level) (finite.insert finite.empty name no_members) m)) are.alike ∙ far in
     (λ i. not (are.going i) && nat_lt z.level 4294967294 && near i && far i) ∙ all_hold (nat_lt z.level 4294967294) ∙ below_last z.level
 

@@ -1,5 +1,5 @@
 -- Where each call of the sets has a cause to be refused. The causes are looked for in the order of all calls.
-use Rattle.std.specs.Prelude.{◌≡◌, ◌≤◌, ℕ, Bool, false, ◌||◌, ◌==◌, not, nat_lt, nat_le, List, length, Result, Ok, Err, if◌then◌else◌}
+use Rattle.std.specs.Prelude.{◌≡◌, ◌-◌, ◌≤◌, ℕ, Bool, false, ◌||◌, ◌==◌, not, nat_lt, nat_le, List, length, Result, Ok, Err, if◌then◌else◌}
 use Rattle.std.specs.List.{list_all}
 use Rattle.pmg_value.specs.declared.process.Proc.{Proc}
 use Rattle.pmg_value.specs.declared.refusal.Refusal.{Refusal}
@@ -10,6 +10,9 @@ use Rattle.pmg_scope.specs.Cached.{global_put}
 use Rattle.pmg_commit.specs.Sealed.{Sealed, can_seal}
 use Rattle.pmg_pset.specs.Members.{each_once, proc_bytes}
 use Rattle.pmg_pset.specs.Sets.{is_live}
+use Rattle.pmg_value.specs.declared.value.TheConstants.{MAX_VALUE_SIZE}
+use Rattle.pmg_pset.specs.declared.members.TheConstants.{MAX_MEMBERS}
+use Rattle.pmg_commit.specs.declared.piece.TheConstants.{MAX_COMMIT}
 
 -- no commit can seal the change: its number is the one that is kept for an end, or a limit of a sealer would be passed
 abbrev pub is_too_much : Sealed → List ℕ → List ℕ → Bool
@@ -17,7 +20,7 @@ is_too_much z name bytes = not (can_seal z (global_put name bytes))
 
 -- the processes, each once and in their order, are more than a set may have, or longer than a value may be
 abbrev pub are_too_many : List Proc → Bool
-are_too_many procs = nat_lt 4096 (length procs) || nat_lt 1048576 (length (proc_bytes procs))
+are_too_many procs = nat_lt MAX_MEMBERS (length procs) || nat_lt MAX_VALUE_SIZE (length (proc_bytes procs))
 
 -- what a change to these processes under the name gives, by which it can be taken back: the sets as they were
 abbrev pub change_answer : Sealed → List ℕ → List Proc → Result Sealed Refusal
@@ -45,12 +48,12 @@ room_cause z name procs _ = false
 -- The processes are of that number and their array of that many canonical bytes, as far as it matters: of more than a set
 -- may have neither needs to be told.
 pub record AreMeasured (procs : List Proc) (count size : ℕ) : Type 0 where
-  pub number : nat_lt 4096 count ≡ nat_lt 4096 (length procs)
-  pub bytes : length procs ≤ 4096 → size ≡ length (proc_bytes procs)
+  pub number : nat_lt MAX_MEMBERS count ≡ nat_lt MAX_MEMBERS (length procs)
+  pub bytes : length procs ≤ MAX_MEMBERS → size ≡ length (proc_bytes procs)
 
 -- the next commit's number would be the one that is kept for an end
 abbrev pub is_full : Sealed → Bool
-is_full z = nat_le 4294967294 z.level
+is_full z = nat_le (MAX_COMMIT - 1) z.level
 
 -- a deletion: there is a set of that name, and a number for the commit
 abbrev pub delete_cause : Sealed → List ℕ → Refusal → Bool

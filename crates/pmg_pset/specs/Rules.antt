@@ -16,7 +16,7 @@ use Rattle.pmg_commit.specs.Sealed.{Sealed, fresh, piece_at}
 use Rattle.pmg_commit.specs.SealerRules.{FitsSealer}
 use Rattle.pmg_pset.specs.Changes.{Change, script_of}
 use Rattle.pmg_pset.specs.Members.{each_once, proc_bytes, no_members, live_of}
-use Rattle.pmg_pset.specs.Sets.{host, changed, live_at}
+use Rattle.pmg_pset.specs.Sets.{host, set_changed, live_at}
 
 -- new sets fit the script of no change
 abbrev pub NewSetsFit : Type 0
@@ -24,19 +24,19 @@ NewSetsFit = FitsSealer (fresh host) (script_of [])
 
 -- a change goes into both
 abbrev pub ChangeFits : Type 0
-ChangeFits = (z : Sealed) (cs : List Change) (c : Change) → FitsSealer z (script_of cs) → FitsSealer (changed z c.name c.bytes) (script_of (cs ++ c ∷ []))
+ChangeFits = (z : Sealed) (cs : List Change) (c : Change) → FitsSealer z (script_of cs) → FitsSealer (set_changed z c.name c.bytes) (script_of (cs ++ c ∷ []))
 
 -- a change is seen under its own name, and under no other
 abbrev pub ChangeIsSeen : Type 0
-ChangeIsSeen = (z : Sealed) (name bytes q : List ℕ) → live_at (changed z name bytes) q ≡ (if bytes_eq q name then live_of bytes else live_at z q)
+ChangeIsSeen = (z : Sealed) (name bytes q : List ℕ) → live_at (set_changed z name bytes) q ≡ (if bytes_eq q name then live_of bytes else live_at z q)
 
 -- so a name is live that was defined
 abbrev pub DefinedIsLive : Type 0
-DefinedIsLive = (z : Sealed) (name : List ℕ) (p : Proc) (ps : List Proc) → live_at (changed z name (proc_bytes (p ∷ ps))) name ≡ Some (proc_bytes (p ∷ ps))
+DefinedIsLive = (z : Sealed) (name : List ℕ) (p : Proc) (ps : List Proc) → live_at (set_changed z name (proc_bytes (p ∷ ps))) name ≡ Some (proc_bytes (p ∷ ps))
 
 -- and is not that was deleted
 abbrev pub DeletedIsNot : Type 0
-DeletedIsNot = (z : Sealed) (name : List ℕ) → live_at (changed z name no_members) name ≡ None
+DeletedIsNot = (z : Sealed) (name : List ℕ) → live_at (set_changed z name no_members) name ≡ None
 
 -- Whoever took contributions of the host's process to the level of the sets reads what was put last under each name.
 abbrev pub ReadsAreSets : Type 0

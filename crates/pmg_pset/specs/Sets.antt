@@ -7,8 +7,8 @@ use Rattle.pmg_value.specs.declared.process.Proc.{Proc}
 use Rattle.pmg_value.specs.Process.{host_name}
 use Rattle.pmg_scope.specs.Cached.{global_put}
 use Rattle.pmg_commit.specs.Sealed.{Stamp, Stamps, Sealed, sealed_with, are_within}
-use Rattle.pmg_commit.specs.TakenBack.{CanTakeBack, sealer_back}
-use Rattle.pmg_commit.specs.declared.sealer.SealerBefore.{SealerBefore}
+use Rattle.pmg_commit.specs.TakenBack.{CanRollBack, sealer_back}
+use Rattle.pmg_commit.specs.declared.sealer.SealerUndo.{SealerUndo}
 use Rattle.pmg_pset.specs.Members.{are_procs, live_of}
 
 -- the process that puts the sets: `pmix.host 0`
@@ -29,8 +29,8 @@ pub record AreSets (z : Sealed) : Type 0 where
   pub within : IsTrue (are_within z.far)
 
 -- a change of the sets that can be taken back: what it replaced are sets
-pub record AreSetsBack (z : Sealed) (before : SealerBefore) : Type 0 where
-  pub sealer : CanTakeBack z before
+pub record AreSetsBack (z : Sealed) (before : SealerUndo) : Type 0 where
+  pub sealer : CanRollBack z before
   pub sets : AreSets (sealer_back z before)
 
 -- the bytes of the members' array, where what was put last has members
@@ -55,5 +55,5 @@ abbrev pub live_names : Sealed → List (List ℕ)
 live_names z = filter (is_live z) (finite.keys z.far)
 
 -- the sets once a change is made: the next commit of the host's process seals these bytes under the name, for all
-abbrev pub changed : Sealed → List ℕ → List ℕ → Sealed
-changed z name bytes = sealed_with z (global_put name bytes)
+abbrev pub set_changed : Sealed → List ℕ → List ℕ → Sealed
+set_changed z name bytes = sealed_with z (global_put name bytes)

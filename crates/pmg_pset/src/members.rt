@@ -86,9 +86,9 @@ pub fn array_size(procs: &[Proc]) -> Option<usize>
 
 /// How many bytes the processes have in their array: of each one of length, the namespace, and four of rank.
 fn bodies_size(procs: &[Proc]) -> usize
-    requires { length procs.now ≤ 4096 }
+    requires { length procs.now ≤ MAX_MEMBERS }
     ensures value { result ≡ sum_by proc_size procs.now }
-    ensures bound { result ≤ 260 * 4096 }
+    ensures bound { result ≤ 260 * MAX_MEMBERS }
 {
     let mut size = 0;
     for process in procs {

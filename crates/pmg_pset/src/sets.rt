@@ -14,10 +14,11 @@ ghost use Rattle.pmg_commit.specs.TakenBack.{sealer_back};
 ghost use Rattle.pmg_pset.specs.Changes.{Change, definition, deletion, script_of};
 ghost use Rattle.pmg_pset.specs.Members.{each_once, proc_bytes, no_members};
 ghost use Rattle.pmg_pset.specs.Refusing.{AreMeasured, are_too_many, is_too_much, define_cause, room_cause, delete_cause, members_cause, change_answer};
-ghost use Rattle.pmg_pset.specs.Sets.{host, changed, live_at, live_names, members_at, AreSetsBack};
+ghost use Rattle.pmg_pset.specs.Sets.{host, set_changed, live_at, live_names, members_at, AreSetsBack};
+ghost use Rattle.pmg_commit.specs.declared.piece.TheConstants.{MAX_COMMIT};
 
 use crate::members::{MAX_MEMBERS, are_unfit, array_of, array_size, each_once, members_of};
-use pmg_commit::{Piece, Sealer, SealerBefore};
+use pmg_commit::{Piece, Sealer, SealerUndo};
 use pmg_scope::{Batch, Reach};
 use pmg_value::{Array, Key, MAX_VALUE_SIZE, Proc, Refusal, Value};
 use std::alloc::{AllocError, Global};
@@ -63,10 +64,10 @@ impl Sets {
     /// named, where their array would be longer than 1,048,576 canonical bytes, where the number of the host's commit would
     /// be 4294967295, and where the sets would pass the limits of a sealer; and as NoMemory. A refused definition changes
     /// nothing.
-    pub fn put_set(&mut self, name: &Key, members: Vec<Proc>) -> Result<SealerBefore, Refusal>
+    pub fn put_set(&mut self, name: &Key, members: Vec<Proc>) -> Result<SealerUndo, Refusal>
         ensures before { Gives (λ b. sealer_back self.new b) result (first_of (define_cause self.old name.now members.items) self.old) }
         ensures fits { IfOk result (λ b. AreSetsBack self.new b) }
-        ensures ok { OnOk result (self.new ≡ changed self.old name.now (proc_bytes (each_once members.items))) }
+        ensures ok { OnOk result (self.new ≡ set_changed self.old name.now (proc_bytes (each_once members.items))) }
         ensures err { OnErr result (self.new ≡ self.old) }
     {
         if name.is_reserved() || are_unfit(&members) {
@@ -95,7 +96,7 @@ impl Sets {
     /// `put_set` is; a refused definition changes nothing.
     pub fn define(&mut self, name: Key, members: Vec<Proc>) -> Result<u64, Refusal>
         ensures answer { Gives (λ n. n) result (first_of (define_cause self.old name members.items) (suc self.old.level)) }
-        ensures ok { OnOk result (self.new ≡ changed self.old name (proc_bytes (each_once members.items))) }
+        ensures ok { OnOk result (self.new ≡ set_changed self.old name (proc_bytes (each_once members.items))) }
         ensures err { OnErr result (self.new ≡ self.old) }
         ensures script { OnOk result ((cs : List Change) → FitsSealer self.old (script_of cs)
             → FitsSealer self.new (script_of (cs ++ definition name members.items ∷ []))) }
@@ -107,10 +108,10 @@ impl Sets {
     /// Deletes the set of that name, which may then be defined again, and tells what there was before, by which the
     /// deletion can be taken back. Refused as NotFound where there is no such set; as TooMany where the number of the
     /// host's commit would be 4294967295; and as NoMemory. Where it is refused the set stays.
-    pub fn remove_set(&mut self, name: &Key) -> Result<SealerBefore, Refusal>
+    pub fn remove_set(&mut self, name: &Key) -> Result<SealerUndo, Refusal>
         ensures before { Gives (λ b. sealer_back self.new b) result (first_of (delete_cause self.old name.now) self.old) }
         ensures fits { IfOk result (λ b. AreSetsBack self.new b) }
-        ensures ok { OnOk result (self.new ≡ changed self.old name.now no_members) }
+        ensures ok { OnOk result (self.new ≡ set_changed self.old name.now no_members) }
         ensures err { OnErr result (self.new ≡ self.old) }
     {
         if self.live(name).is_none() {
@@ -123,7 +124,7 @@ impl Sets {
     /// is; where it is refused the set stays.
     pub fn delete(&mut self, name: &Key) -> Result<u64, Refusal>
         ensures answer { Gives (λ n. n) result (first_of (delete_cause self.old name.now) (suc self.old.level)) }
-        ensures ok { OnOk result (self.new ≡ changed self.old name.now no_members) }
+        ensures ok { OnOk result (self.new ≡ set_changed self.old name.now no_members) }
         ensures err { OnErr result (self.new ≡ self.old) }
         ensures script { OnOk result ((cs : List Change) → FitsSealer self.old (script_of cs)
             → FitsSealer self.new (script_of (cs ++ deletion name.now ∷ []))) }
@@ -133,11 +134,11 @@ impl Sets {
     }
 
     /// Takes a definition or a deletion back, by what there was before. It takes no memory.
-    pub fn take_back(&mut self, before: SealerBefore)
+    pub fn rollback(&mut self, before: SealerUndo)
         requires { AreSetsBack self.old before }
         ensures { self.new ≡ sealer_back self.old before }
     {
-        self.sealer.take_back(before);
+        self.sealer.rollback(before);
     }
 
     /// The members of the set of that name, as an array of processes (PMIx Standard 5.0, PMIX_QUERY_PSET_MEMBERSHIP).
@@ -176,7 +177,7 @@ impl Sets {
     /// The number of the changes that were made.
     pub fn level(&self) -> u64
         ensures value { result ≡ self.now.level }
-        ensures bound { result ≤ 4294967295 }
+        ensures bound { result ≤ MAX_COMMIT }
         ensures sealer { IsSealer self.now }
     {
         self.sealer.level()
@@ -212,10 +213,10 @@ impl Sets {
     }
 
     /// Seals the array of these processes under the name, for all, and tells what there was before.
-    fn change(&mut self, name: &Key, procs: Vec<Proc>) -> Result<SealerBefore, Refusal>
+    fn change(&mut self, name: &Key, procs: Vec<Proc>) -> Result<SealerUndo, Refusal>
         ensures before { Gives (λ b. sealer_back self.new b) result (change_answer self.old name.now procs.items) }
         ensures fits { IfOk result (λ b. AreSetsBack self.new b) }
-        ensures ok { OnOk result (self.new ≡ changed self.old name.now (proc_bytes procs.items)) }
+        ensures ok { OnOk result (self.new ≡ set_changed self.old name.now (proc_bytes procs.items)) }
         ensures err { OnErr result (self.new ≡ self.old) }
     {
         let Some(size) = array_size(&procs) else {

@@ -6,7 +6,7 @@ use mathlib.Core.List.{IsPrefix}
 use prog.Atomic.{either}
 use Rattle.logbook.specs.Pages.{Cell, cell, keeps, no_nib, step, Moves, Goes}
 use Rattle.pmg_publish.specs.declared.counting.Publication.{Publication}
-use Rattle.pmg_publish.specs.Counting.{IsCount, Adds}
+use Rattle.pmg_publish.specs.Counting.{IsCount, AddsStep}
 use Rattle.pmg_publish.proofs.Prefixes.{prefix_whole}
 
 -- what clients see of the list: nothing
@@ -19,7 +19,7 @@ moved xs ys n = Unit {0}
 
 pub adds_goes : (log v : List Publication) (p : Publication) (old : ℕ) → length v ≡ old → IsPrefix v log
     → (b : Bool) → (length log == old) ≡ b
-    → Goes IsCount shown moved 0 (v, (no_nib, None)) (λ n. either (n == old) (old + 1) n) (Adds (step 0 old (old + 1) p) (v, (no_nib, None))) ((length log, true) ∷ (0, true) ∷ []) log
+    → Goes IsCount shown moved 0 (v, (no_nib, None)) (λ n. either (n == old) (old + 1) n) (AddsStep (step 0 old (old + 1) p) (v, (no_nib, None))) ((length log, true) ∷ (0, true) ∷ []) log
 adds_goes log v p old len pre true is =
     let here : length log ≡ old = grind (arith, nat_tests) in
     let same : v ≡ log = prefix_whole v log pre (omega arith) in
@@ -46,7 +46,7 @@ adds_goes log v p old len pre false is =
 
 -- whatever the list is, the step adds the publication to all that was seen, or finds that the list is longer
 pub adds_moves : (v : List Publication) (p : Publication) (old : ℕ) → length v ≡ old
-    → Moves IsCount shown moved 0 (v, (no_nib, None)) (λ n. either (n == old) (old + 1) n) (Adds (step 0 old (old + 1) p) (v, (no_nib, None)))
+    → Moves IsCount shown moved 0 (v, (no_nib, None)) (λ n. either (n == old) (old + 1) n) (AddsStep (step 0 old (old + 1) p) (v, (no_nib, None)))
 adds_moves v p old len cs log kept pre away =
-    let P : List Cell → Type 0 = λ c. (0 < length c) × ((cell c 0).1 ≡ true) × Goes IsCount shown moved 0 (v, (no_nib, None)) (λ n. either (n == old) (old + 1) n) (Adds (step 0 old (old + 1) p) (v, (no_nib, None))) c log in
+    let P : List Cell → Type 0 = λ c. (0 < length c) × ((cell c 0).1 ≡ true) × Goes IsCount shown moved 0 (v, (no_nib, None)) (λ n. either (n == old) (old + 1) n) (AddsStep (step 0 old (old + 1) p) (v, (no_nib, None))) c log in
     subst P (sym kept) (omega arith, refl, adds_goes log v p old len pre (length log == old) refl)

@@ -23,7 +23,7 @@ use Rattle.pmg_store.specs.contracts.board.Board as Board
 use Rattle.pmg_publish.specs.contracts.history.History as History
 use Rattle.pmg_publish.specs.contracts.parts.Parts as Parts
 use Rattle.pmg_publish.specs.contracts.shown.Shown as Shown
-use Rattle.pmg_publish.specs.contracts.shown.Issue as Issue
+use Rattle.pmg_publish.specs.contracts.shown.Update as Update
 use Rattle.pmg_publish.specs.contracts.viewer.Viewer as Viewer
 use Rattle.pmg_publish.specs.contracts.publishing.Publisher as Publisher
 
@@ -93,7 +93,7 @@ shown_sync = search (board_sync, history_sync, sendable) depth 40
 parts_send : IsSend (Parts.the_field).row
 parts_send = search (piece_send, sendable, owners) depth 40
 
-issue_send : IsSend Issue.the_row
+issue_send : IsSend Update.the_row
 issue_send = search (parts_send, history_send, sendable) depth 40
 
 pub viewer_send : IsSend Viewer.the_row

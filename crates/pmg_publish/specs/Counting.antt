@@ -12,5 +12,5 @@ abbrev pub counter_of : Book → Named
 counter_of b = record { tracked = true; key = 0; book = b }
 
 -- the publication was added to all that had been seen; or the list was longer
-abbrev pub Adds : Step Publication → View Publication ℕ → ℕ → View Publication ℕ → Type 0
-Adds s v found w = MatchBool (found == s.old) (w.0 ≡ v.0 ++ s.ask ∷ []) (length w.0 ≡ found)
+abbrev pub AddsStep : Step Publication → View Publication ℕ → ℕ → View Publication ℕ → Type 0
+AddsStep s v found w = MatchBool (found == s.old) (w.0 ≡ v.0 ++ s.ask ∷ []) (length w.0 ≡ found)

@@ -22,13 +22,13 @@ abbrev pub IsOf : Book → Known → Type 0
 IsOf b v = (v.live ≡ true) × (v.history.book ≡ b)
 
 -- where the place is live, it knows a prefix of the list of what is shown
-abbrev pub Below : Shown → Known → Type 0
-Below x v = v.live ≡ true → (v.history.book ≡ x.history.book) × IsPrefix v.history.log x.history.log
+abbrev pub KnowsPrefix : Shown → Known → Type 0
+KnowsPrefix x v = v.live ≡ true → (v.history.book ≡ x.history.book) × IsPrefix v.history.log x.history.log
 
 -- what is shown is what its list makes, and each live place knows a prefix of that list
-abbrev pub Keeps : Shown → List Known → Type 0
-Keeps x views = IsMade x × ((seat : ℕ) (v : Known) → get_elem? views seat ≡ some v → Below x v)
+abbrev pub KeepsShown : Shown → List Known → Type 0
+KeepsShown x views = IsMade x × ((seat : ℕ) (v : Known) → get_elem? views seat ≡ some v → KnowsPrefix x v)
 
 -- what is shown afterwards is what its list makes; the list begins with what the place knew, which now knows all of it
 abbrev pub Sees : Known → Shown → Shown → Known → Type 0
-Sees v x y w = Below y v × IsMade y × (w ≡ knowing y.history)
+Sees v x y w = KnowsPrefix y v × IsMade y × (w ≡ knowing y.history)

@@ -5,10 +5,10 @@ use Rattle.pmg_value.specs.declared.process.Proc.{Proc}
 use Rattle.pmg_value.specs.Spelling.{spelling}
 use Rattle.pmg_scope.specs.Scripts.{term_key}
 use Rattle.pmg_commit.specs.Data.{Data, read_at}
-use Rattle.pmg_publish.specs.declared.sight.Sight.{Sight}
+use Rattle.pmg_publish.specs.declared.sight.Snapshot.{Snapshot}
 
 -- the values that read in the near and in the far store, and whether the process has ended in each
-abbrev pub IsSight : Data → Data → Proc → List ℕ → Sight → Type 0
+abbrev pub IsSight : Data → Data → Proc → List ℕ → Snapshot → Type 0
 IsSight near far p key s =
     (option_map spelling s.near ≡ read_at near p key)
     × (option_map spelling s.far ≡ read_at far p key)

@@ -47,9 +47,9 @@ impl Gain<Publication, u64> for Nothing {
 pub struct Add;
 
 impl Play<Publication, u64> for Add {
-    ghost use Rattle.pmg_publish.specs.Counting.{Adds};
+    ghost use Rattle.pmg_publish.specs.Counting.{AddsStep};
 
-    ghost then = { Adds };
+    ghost then = { AddsStep };
 }
 
 impl Plain<Parts, Publication, u64> for Add {

@@ -60,7 +60,7 @@ impl History {
 
     /// The history with the publication of these parts after all others; none where the list is longer than this history
     /// or cannot be counted any more.
-    pub fn extended(&self, counter: &Counter, parts: &Parts) -> Option<History>
+    pub fn with_publication(&self, counter: &Counter, parts: &Parts) -> Option<History>
         requires { counter.now ≡ counter_of self.now.book }
         ensures book { IfSome result (λ h. h.book ≡ self.now.book) }
         ensures log { IfSome result (λ h. h.log ≡ self.now.log ++ publication parts.now.near.items parts.now.far.items ∷ []) }

@@ -11,8 +11,8 @@ use crate::counting::Counter;
 use crate::history::History;
 use crate::parts::Parts;
 use crate::rule::{InOneList, Known, Sees};
-use crate::shown::{Issue, Shown};
-use crate::viewer::{Told, Viewer};
+use crate::shown::{Shown, Update};
+use crate::viewer::{Version, Viewer};
 use left_right::writer::Writer;
 use pmg_commit::Piece;
 use pmg_value::Refusal;
@@ -22,7 +22,7 @@ use std::mem;
 use std::sync::Wait;
 
 /// The writer of the two copies.
-pub(crate) type Desk = Writer<Shown, Issue, Known, InOneList>;
+pub(crate) type Desk = Writer<Shown, Update, Known, InOneList>;
 
 /// The one who publishes. Contracts see whether it is open, and the list of its publications. It is not dropped: end it by
 /// `close`.
@@ -93,19 +93,19 @@ impl Publisher {
     }
 
     /// The next publication of the list; none where an allocation fails.
-    fn issue_of(&self, near: &[Piece], far: &[Piece]) -> Option<Issue>
+    fn issue_of(&self, near: &[Piece], far: &[Piece]) -> Option<Update>
         ensures near { IfSome result (λ i. i.parts.near.items ≡ near.now) }
         ensures far { IfSome result (λ i. i.parts.far.items ≡ far.now) }
         ensures book { IfSome result (λ i. i.history.book ≡ self.now.book) }
         ensures log { IfSome result (λ i. i.history.log ≡ self.now.log ++ publication near.now far.now ∷ []) }
     {
         let parts = Parts::copies_of(self.alloc, near, far).ok()?;
-        let history = self.history.extended(&self.counter, &parts)?;
-        Some(Issue { parts, history })
+        let history = self.history.with_publication(&self.counter, &parts)?;
+        Some(Update { parts, history })
     }
 
     /// Shows the board with what is issued; the publisher is closed where an allocation fails.
-    fn show<R: Wait>(&mut self, rt: &R, issue: Issue) -> Result<(), Refusal>
+    fn show<R: Wait>(&mut self, rt: &R, issue: Update) -> Result<(), Refusal>
         requires open { self.old.is_open ≡ true }
         requires book { issue.history.book ≡ self.old.book }
         requires log { issue.history.log ≡ self.old.log ++ publication issue.parts.near.items issue.parts.far.items ∷ [] }
@@ -133,10 +133,10 @@ impl Publisher {
     }
 
     /// What was published so far. It tells nobody by itself: a viewer learns it.
-    pub fn tell(&self) -> Told
+    pub fn tell(&self) -> Version
         ensures { result ≡ record { book = self.now.book; log = self.now.log } }
     {
-        Told {
+        Version {
             history: self.history.again(),
         }
     }

@@ -14,9 +14,9 @@ pub struct Known {
 pub struct InOneList;
 
 impl Protocol<Shown, Known> for InOneList {
-    ghost use Rattle.pmg_publish.specs.Rule.{Keeps, unnamed};
+    ghost use Rattle.pmg_publish.specs.Rule.{KeepsShown, unnamed};
 
-    ghost holds = { Keeps };
+    ghost holds = { KeepsShown };
 
     ghost first = { unnamed };
 }

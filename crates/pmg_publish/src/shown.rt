@@ -23,14 +23,14 @@ impl Drop for Shown {
 }
 
 /// What is published: the parts, and the list that ends with them.
-pub struct Issue {
+pub struct Update {
     pub parts: Parts,
     pub history: History,
 }
 
-impl Drop for Issue {
+impl Drop for Update {
     fn drop(self) {
-        let Issue {
+        let Update {
             parts: _,
             history: _,
         } = self;
@@ -52,7 +52,7 @@ impl Shown {
     }
 }
 
-impl Absorb<Issue> for Shown {
+impl Absorb<Update> for Shown {
     ghost use Rattle.pmg_publish.specs.Boards.{applied};
 
     type State = Shown;
@@ -61,7 +61,7 @@ impl Absorb<Issue> for Shown {
 
     ghost applied = { applied };
 
-    fn absorb_first(&mut self, operation: &Issue, _other: &Shown) -> Result<(), AllocError> {
+    fn absorb_first(&mut self, operation: &Update, _other: &Shown) -> Result<(), AllocError> {
         self.board
             .absorb_all(&operation.parts.near, &operation.parts.far)?;
         self.history = operation.history.again();

@@ -9,7 +9,7 @@ use std::alloc::AllocError;
 /// What is read of a process under a key: the values in the near and in the far store, and whether the process has ended in
 /// each.
 #[derive(Drop)]
-pub struct Sight {
+pub struct Snapshot {
     pub near: Option<Value>,
     pub far: Option<Value>,
     pub near_ended: bool,
@@ -17,12 +17,12 @@ pub struct Sight {
 }
 
 /// What is read of the process under the key in the board, copied.
-pub(crate) fn sight_of(board: &Board, proc: &Proc, key: &Key) -> Result<Sight, AllocError>
+pub(crate) fn sight_of(board: &Board, proc: &Proc, key: &Key) -> Result<Snapshot, AllocError>
     ensures { IfOk result (IsSight board.now.near board.now.far proc.now key.now) }
 {
     let near = board.near().look(proc, key);
     let far = board.far().look(proc, key);
-    Ok(Sight {
+    Ok(Snapshot {
         near: copy_of(near.value)?,
         far: copy_of(far.value)?,
         near_ended: near.ended,

@@ -7,11 +7,12 @@ ghost use Rattle.pmg_publish.specs.Publications.{near_of, far_of};
 ghost use Rattle.pmg_publish.specs.Boards.{IsMade};
 ghost use Rattle.pmg_publish.specs.Rule.{IsOf};
 ghost use Rattle.pmg_publish.specs.Sights.{IsSight};
+ghost use Rattle.pmg_commit.specs.declared.piece.TheConstants.{MAX_COMMIT};
 
 use crate::history::History;
 use crate::rule::{InOneList, Known, Sees};
 use crate::shown::Shown;
-use crate::sight::{Sight, sight_of};
+use crate::sight::{Snapshot, sight_of};
 use left_right::reader::{Reader, Reading};
 use pmg_value::{Key, Proc, Refusal};
 use std::marker::Model;
@@ -24,11 +25,11 @@ type Entered = Reading<Shown, Known, InOneList>;
 
 /// What a publisher had published when it told so. Contracts see it as that prefix of its list.
 #[derive(Drop)]
-pub struct Told {
+pub struct Version {
     pub(crate) history: History,
 }
 
-impl Model for Told {
+impl Model for Version {
     ghost use Rattle.pmg_publish.specs.Publications.{Publications};
 
     ghost Value = { Publications };
@@ -86,7 +87,7 @@ impl Viewer {
     }
 
     /// From now on the viewer sees no less than what it was told of.
-    pub fn learn(&mut self, told: &Told)
+    pub fn learn(&mut self, told: &Version)
         requires { told.now.book ≡ self.old.book }
         ensures book { self.new.book ≡ self.old.book }
         ensures seen { IsPrefix self.old.log self.new.log }
@@ -100,7 +101,7 @@ impl Viewer {
 
     /// What is read of the process under the key, in the board that a list of publications makes. The list begins with all
     /// that this viewer saw before and was told of. Closed where the publisher is closed; NoMemory where a copy fails.
-    pub fn read(&mut self, proc: &Proc, key: &Key) -> Result<Sight, Refusal>
+    pub fn read(&mut self, proc: &Proc, key: &Key) -> Result<Snapshot, Refusal>
         ensures book { self.new.book ≡ self.old.book }
         ensures seen { IsPrefix self.old.log self.new.log }
         ensures read { IfOk result (IsSight (near_of self.new.log) (far_of self.new.log) proc.now key.now) }
@@ -133,7 +134,7 @@ impl Viewer {
         ensures book { self.new.book ≡ self.old.book }
         ensures seen { IsPrefix self.old.log self.new.log }
         ensures level { IfOk result (λ n. n ≡ level_at (far_of self.new.log) proc.now) }
-        ensures bound { IfOk result (λ n. n ≤ 4294967295) }
+        ensures bound { IfOk result (λ n. n ≤ MAX_COMMIT) }
         ensures err { OnErr result (self.new ≡ self.old) }
         ensures refusals { IfErr result (λ e. e ≡ refusals.Closed) }
     {

@@ -14,7 +14,7 @@ use Rattle.pmg_scope.specs.Scopes.{reaches}
 use Rattle.pmg_scope.specs.Scripts.{Call, Script, has_end, sealed, count_commits, commits, later_of, put_of, last_put}
 use Rattle.pmg_scope.specs.Sealing.{part, part_of, next_part}
 use Rattle.pmg_scope.specs.Cached.{Table, put_if}
-use Rattle.pmg_scope.specs.CacheRules.{NewFits, PutFits, CommitFits, EnterFits, EndFits, CacheIsOne, CommitSealsNext}
+use Rattle.pmg_scope.specs.CacheRules.{CacheNewFits, CachePutFits, CacheCommitFits, CacheEnterFits, CacheEndFits, CacheIsOne, CommitSealsNext}
 use Rattle.pmg_scope.proofs.ScriptLaws.{open_commits}
 use Rattle.pmg_scope.proofs.SealingLaws.{none_earlier, later_assoc}
 
@@ -120,7 +120,7 @@ has_end_commit (Call.terminate ∷ cs) = refl
 
 -- ---- the rules
 
-pub new_fits : NewFits
+pub new_fits : CacheNewFits
 unfolding part
 new_fits reach.Own q = map.get-empty (slice_cmp nat_cmp) q
 new_fits reach.Near q = map.get-empty (slice_cmp nat_cmp) q
@@ -133,13 +133,13 @@ put_unsealed r m s scope key value q e =
     get-put_if (reaches scope r) m key value q _ e
     ∙ sym (ap (last_put r q) (next_push s (Call.put scope key value) refl) ∙ last_put_push r q (next_part s) (Call.put scope key value))
 
-pub put_fits : PutFits
+pub put_fits : CachePutFits
 put_fits c s scope key value fits reach.Own q =
     get-put_if (reaches scope reach.Own) c.own key value q _ (fits reach.Own q) ∙ sym (last_put_push reach.Own q s (Call.put scope key value))
 put_fits c s scope key value fits reach.Near q = put_unsealed reach.Near c.near s scope key value q (fits reach.Near q)
 put_fits c s scope key value fits reach.Far q = put_unsealed reach.Far c.far s scope key value q (fits reach.Far q)
 
-pub commit_fits : CommitFits
+pub commit_fits : CacheCommitFits
 commit_fits c s fits reach.Own q = fits reach.Own q ∙ sym (last_put_push reach.Own q s Call.commit)
 commit_fits c s fits reach.Near q = map.get-empty (slice_cmp nat_cmp) q ∙ sym (ap (last_put reach.Near q) (next_commit s))
 commit_fits c s fits reach.Far q = map.get-empty (slice_cmp nat_cmp) q ∙ sym (ap (last_put reach.Far q) (next_commit s))
@@ -148,7 +148,7 @@ enter_unsealed : (r : Reach) (m : Table) (s : Script) (f : Signature) (q : List 
 unfolding is_commit
 enter_unsealed r m s f q e = e ∙ sym (ap (last_put r q) (next_push s (Call.enter f) refl) ∙ last_put_push r q (next_part s) (Call.enter f))
 
-pub enter_fits : EnterFits
+pub enter_fits : CacheEnterFits
 enter_fits c s f fits reach.Own q = fits reach.Own q ∙ sym (last_put_push reach.Own q s (Call.enter f))
 enter_fits c s f fits reach.Near q = enter_unsealed reach.Near c.near s f q (fits reach.Near q)
 enter_fits c s f fits reach.Far q = enter_unsealed reach.Far c.far s f q (fits reach.Far q)
@@ -157,7 +157,7 @@ end_unsealed : (r : Reach) (m : Table) (s : Script) (q : List ℕ) → map.get m
 unfolding is_commit
 end_unsealed r m s q e = e ∙ sym (ap (last_put r q) (next_push s Call.terminate refl) ∙ last_put_push r q (next_part s) Call.terminate)
 
-pub end_fits : EndFits
+pub end_fits : CacheEndFits
 end_fits c s fits reach.Own q = fits reach.Own q ∙ sym (last_put_push reach.Own q s Call.terminate)
 end_fits c s fits reach.Near q = end_unsealed reach.Near c.near s q (fits reach.Near q)
 end_fits c s fits reach.Far q = end_unsealed reach.Far c.far s q (fits reach.Far q)

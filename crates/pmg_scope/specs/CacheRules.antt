@@ -7,25 +7,25 @@ use Rattle.pmg_scope.specs.Sealing.{part_of, next_part}
 use Rattle.pmg_scope.specs.Cached.{Cached, FitsCache, no_puts, with_put, after_commit}
 
 -- a new cache fits a script without calls
-abbrev pub NewFits : Type 0
-NewFits = FitsCache no_puts []
+abbrev pub CacheNewFits : Type 0
+CacheNewFits = FitsCache no_puts []
 
 -- a put goes into both
-abbrev pub PutFits : Type 0
-PutFits =
+abbrev pub CachePutFits : Type 0
+CachePutFits =
     (c : Cached) (s : Script) (scope : Scope) (key value : List ℕ) → FitsCache c s → FitsCache (with_put c scope key value) (s ++ Call.put scope key value ∷ [])
 
 -- a commit takes what was not sealed out of the cache
-abbrev pub CommitFits : Type 0
-CommitFits = (c : Cached) (s : Script) → FitsCache c s → FitsCache (after_commit c) (s ++ Call.commit ∷ [])
+abbrev pub CacheCommitFits : Type 0
+CacheCommitFits = (c : Cached) (s : Script) → FitsCache c s → FitsCache (after_commit c) (s ++ Call.commit ∷ [])
 
 -- an entry into a fence changes no cache
-abbrev pub EnterFits : Type 0
-EnterFits = (c : Cached) (s : Script) (f : Signature) → FitsCache c s → FitsCache c (s ++ Call.enter f ∷ [])
+abbrev pub CacheEnterFits : Type 0
+CacheEnterFits = (c : Cached) (s : Script) (f : Signature) → FitsCache c s → FitsCache c (s ++ Call.enter f ∷ [])
 
 -- nor does the end of the process: what it had put itself it still reads, and what no commit sealed stays so
-abbrev pub EndFits : Type 0
-EndFits = (c : Cached) (s : Script) → FitsCache c s → FitsCache c (s ++ Call.terminate ∷ [])
+abbrev pub CacheEndFits : Type 0
+CacheEndFits = (c : Cached) (s : Script) → FitsCache c s → FitsCache c (s ++ Call.terminate ∷ [])
 
 -- a script has one cache
 abbrev pub CacheIsOne : Type 0

@@ -15,6 +15,7 @@ use Rattle.pmg_scope.specs.declared.scope.Reach.TheVariants as reach
 use Rattle.pmg_scope.specs.Scopes.{reaches}
 use Rattle.pmg_scope.specs.Scripts.{Script, last_put}
 use Rattle.pmg_scope.specs.Sealing.{next_part}
+use Rattle.pmg_scope.specs.declared.sizes.TheConstants.{MAX_CACHE_SIZE, MAX_KEYS}
 
 -- values by their keys, in canonical bytes
 abbrev pub Table : Type 0
@@ -33,7 +34,7 @@ table_size m = sum_by row_size (map.entries m)
 
 -- a table within the limits: at most 65,535 keys, which count for at most 16,000,000 bytes
 abbrev pub is_within : Table → Bool
-is_within m = nat_le (map.len m) 65535 && nat_le (table_size m) 16000000
+is_within m = nat_le (map.len m) MAX_KEYS && nat_le (table_size m) MAX_CACHE_SIZE
 
 -- under each key the last put that the process itself sees, and for each other reach the last put that no commit sealed
 pub record Cached : Type 0 where

@@ -1,4 +1,4 @@
-ghost use Rattle.pmg_scope.specs.CacheRules.{NewFits, PutFits, CommitFits, EnterFits, EndFits, CacheIsOne, CommitSealsNext};
+ghost use Rattle.pmg_scope.specs.CacheRules.{CacheNewFits, CachePutFits, CacheCommitFits, CacheEnterFits, CacheEndFits, CacheIsOne, CommitSealsNext};
 ghost use Rattle.pmg_scope.specs.Examples.{EachScope, TwoValues, PutAgain, LostPut};
 ghost use Rattle.pmg_scope.specs.Rules.{CommitsNeverFall, PastValuesStay, PastSealsStay, EndIsLast, SealedIsValue, NoneIsNoValue};
 
@@ -25,11 +25,11 @@ pub fn script_examples()
 /// The rules of a client's cache: it fits the script of the client's calls, and goes on with it call by call;
 /// what it has for the others is what the next commit seals.
 pub fn cache_rules()
-    ensures new_fits { NewFits }
-    ensures put_fits { PutFits }
-    ensures commit_fits { CommitFits }
-    ensures enter_fits { EnterFits }
-    ensures end_fits { EndFits }
+    ensures new_fits { CacheNewFits }
+    ensures put_fits { CachePutFits }
+    ensures commit_fits { CacheCommitFits }
+    ensures enter_fits { CacheEnterFits }
+    ensures end_fits { CacheEndFits }
     ensures cache_is_one { CacheIsOne }
     ensures commit_seals_next { CommitSealsNext }
 {}

@@ -3,6 +3,8 @@ ghost use Rattle.std.specs.FinMap as map;
 ghost use Rattle.pmg_value.specs.Spelling.{spelling};
 ghost use Rattle.pmg_scope.specs.Cached.{put_if, with_put, row_size, table_size, is_within, is_cache};
 ghost use Rattle.pmg_scope.specs.Rows.{counted_at, cached_of, AreSizes};
+ghost use Rattle.pmg_value.specs.declared.value.TheConstants.{MAX_VALUE_SIZE};
+ghost use Rattle.pmg_scope.specs.declared.sizes.TheConstants.{MAX_ENTRY_SIZE};
 
 use crate::scope::{Reach, Scope, includes};
 use crate::table::Table;
@@ -15,11 +17,14 @@ pub const MAX_KEYS: usize = 65_535;
 /// The most that the keys and values of a cache count for, for a reach.
 pub const MAX_CACHE_SIZE: usize = 16_000_000;
 
+/// The most that a key counts for with its value: the bytes of the longest key and of the largest value, and ten more.
+pub const MAX_ENTRY_SIZE: usize = 1_049_097;
+
 /// What a key counts for with a value of that many canonical bytes: their bytes, and ten more.
 pub fn size_with_key(key: &Key, size: usize) -> usize
-    requires { size ≤ 1048576 }
+    requires { size ≤ MAX_VALUE_SIZE }
     ensures value { result ≡ 10 + length key.now + size }
-    ensures bound { result ≤ 1049097 }
+    ensures bound { result ≤ MAX_ENTRY_SIZE }
 {
     10 + key.as_bytes().len() + size
 }
@@ -27,7 +32,7 @@ pub fn size_with_key(key: &Key, size: usize) -> usize
 /// What a key and its value count for: their bytes, and ten more.
 pub fn row_size(key: &Key, value: &Value) -> usize
     ensures value { result ≡ row_size (key.now, spelling value.now) }
-    ensures bound { result ≤ 1049097 }
+    ensures bound { result ≤ MAX_ENTRY_SIZE }
 {
     size_with_key(key, value.size())
 }
@@ -35,7 +40,7 @@ pub fn row_size(key: &Key, value: &Value) -> usize
 /// What the value under the key counts for, 0 where there is none.
 fn counted_at(table: &Table, key: &Key) -> usize
     ensures value { result ≡ counted_at table.now key.now }
-    ensures bound { result ≤ 1049097 }
+    ensures bound { result ≤ MAX_ENTRY_SIZE }
 {
     match table.get(key) {
         Some(value) => row_size(key, value),
@@ -45,7 +50,7 @@ fn counted_at(table: &Table, key: &Key) -> usize
 
 /// How many keys the table has once the value is put.
 fn len_put(table: &Table, key: &Key, value: &Value) -> usize
-    requires { map.len table.now ≤ 65535 }
+    requires { map.len table.now ≤ MAX_KEYS }
     ensures { result ≡ map.len (map.insert table.now key.now (spelling value.now)) }
 {
     match table.get(key) {
@@ -57,7 +62,7 @@ fn len_put(table: &Table, key: &Key, value: &Value) -> usize
 /// What the table counts for once the value is put. It counts for `size` now.
 fn size_put(table: &Table, size: usize, key: &Key, value: &Value) -> usize
     requires counted { size ≡ table_size table.now }
-    requires bound { size ≤ 16000000 }
+    requires bound { size ≤ MAX_CACHE_SIZE }
     ensures { result ≡ table_size (map.insert table.now key.now (spelling value.now)) }
 {
     size + row_size(key, value) - counted_at(table, key)

@@ -76,7 +76,7 @@ impl Table {
     }
 
     /// Takes a put of the key back, as the put told.
-    pub fn take_back(&mut self, key: &Key, before: Before)
+    pub fn rollback(&mut self, key: &Key, before: Before)
         ensures { self.new ≡ restored self.old key.now before }
     {
         match before {

@@ -47,7 +47,7 @@ impl Tables {
     {
         let own = self.own.put_if(includes(scope, Reach::Own), key, value)?;
         if let Err(e) = put_for_others(&mut self.near, &mut self.far, scope, key, value) {
-            self.own.take_back(key, own);
+            self.own.rollback(key, own);
             return Err(e);
         }
         Ok(())
@@ -81,7 +81,7 @@ fn put_for_others(
 {
     let before = near.put_if(includes(scope, Reach::Near), key, value)?;
     if let Err(e) = far.put_if(includes(scope, Reach::Far), key, value) {
-        near.take_back(key, before);
+        near.rollback(key, before);
         return Err(e);
     }
     Ok(())

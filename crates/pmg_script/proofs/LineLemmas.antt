@@ -7,8 +7,8 @@ use Rattle.std.proofs.lemmas.List.Splits.{slice_split_first}
 use Rattle.std.proofs.lemmas.Bool.{ltb-true, ltb-false, false≢true}
 use Rattle.pmg_script.specs.declared.lines.LineFault.{LineFault}
 use Rattle.pmg_script.specs.declared.lines.LineFault.TheVariants as faults
-use Rattle.pmg_script.specs.Lines.{is_blank, Left, parted, unless_empty, read_word, read_words, read_as, is_empty, ◌>>=◌, Fails}
-use Rattle.pmg_script.specs.Fields.{number_in, rank_in, numbers_in, procs_in, read_proc, read_procs, all_numbers, all_procs}
+use Rattle.pmg_script.specs.Lines.{is_blank, Left, parted, unless_empty, read_word, read_words, read_as, is_empty, ◌>>=◌, LineFails}
+use Rattle.pmg_script.specs.Fields.{number_in, rank_in, as_numbers, procs_in, read_proc_words, read_procs, all_numbers, read_proc_list}
 use Rattle.pmg_value.specs.declared.process.Proc.{Proc}
 use Rattle.std.proofs.lemmas.Option.{none-some, same_Some}
 
@@ -52,7 +52,7 @@ unfolding read_words read_word
 words_step text = ap (λ ws. cond (list_any is_empty ws) None (Some ws)) (word_first text) ∙ words_first (parted text (position is_blank text))
 
 -- what reading does not find, another does not find either
-pub fails_too : {A B : Type 0} (e : LineFault) (a : Option A) (b : Option B) → (a ≡ None → b ≡ None) → Fails e a → Fails e b
+pub fails_too : {A B : Type 0} (e : LineFault) (a : Option A) (b : Option B) → (a ≡ None → b ≡ None) → LineFails e a → LineFails e b
 fails_too faults.Malformed a b too fails = too fails
 fails_too faults.NoMemory a b too fails = tt
 
@@ -106,8 +106,8 @@ rank_less (Some rest) n l found = omega (arith, as_shrinks rank_in rest n l foun
 abbrev proc_of : List ℕ → ℕ → Proc
 proc_of nspace rank = record { nspace = nspace; rank = rank }
 
-pub proc_shrinks : Shrinks read_proc
-unfolding read_proc
+pub proc_shrinks : Shrinks read_proc_words
+unfolding read_proc_words
 proc_shrinks text p left is = go (read_word (Some text)) (λ word rest found. word_shrinks text word rest found) is
   where
     ranked : (nspace : List ℕ) (rest : Left) → left_len rest ≤ length text → (r : Option (ℕ × Left)) → ((n : ℕ) (l : Left) → r ≡ Some (n, l) → left_len l ≤ left_len rest)
@@ -157,8 +157,8 @@ module _ {A : Type 0} (one : Left → Option (A × Left)) (all : Left → Option
       sym (ap (λ r. r >>= λ xs. Some (items ++ xs)) (steps.1 text ∙ ap (λ r. r >>= λ y. all y.1 >>= λ xs. Some (y.0 ∷ xs)) is) ∙ step_by items x (all rest))
 
   -- the next item was not read, so not all are
-  pub after_fault : IsStepwise → (e : LineFault) (items : List A) (left : Left) (total : Option (List A)) → is_none left ≡ false → Fails e (one left)
-      → after items left ≡ total → Fails e total
+  pub after_fault : IsStepwise → (e : LineFault) (items : List A) (left : Left) (total : Option (List A)) → is_none left ≡ false → LineFails e (one left)
+      → after items left ≡ total → LineFails e total
   after_fault steps e items None total some fails is = absurd (false≢true (sym some))
   after_fault steps e items (Some text) total some fails is =
       fails_too e (one (Some text)) total
@@ -173,22 +173,22 @@ pub words_stepwise : IsStepwise read_word read_words
 unfolding read_words
 words_stepwise = (refl, words_step)
 
-by_number : (word : List ℕ) (n : Option ℕ) (left : Left) (words : Option (List (List ℕ))) (next : Left → Option (List ℕ)) → number_in word ≡ n → next left ≡ (words >>= numbers_in)
-    → ((words >>= λ ws. Some (word ∷ ws)) >>= numbers_in) ≡ ((n >>= λ x. with_left x left) >>= λ x. next x.1 >>= λ xs. Some (x.0 ∷ xs))
+by_number : (word : List ℕ) (n : Option ℕ) (left : Left) (words : Option (List (List ℕ))) (next : Left → Option (List ℕ)) → number_in word ≡ n → next left ≡ (words >>= as_numbers)
+    → ((words >>= λ ws. Some (word ∷ ws)) >>= as_numbers) ≡ ((n >>= λ x. with_left x left) >>= λ x. next x.1 >>= λ xs. Some (x.0 ∷ xs))
 by_number word None left None next first is = refl
-by_number word None left (Some ws) next first is = ap (λ m. m >>= λ x. numbers_in ws >>= λ others. Some (x ∷ others)) first
+by_number word None left (Some ws) next first is = ap (λ m. m >>= λ x. as_numbers ws >>= λ others. Some (x ∷ others)) first
 by_number word (Some x) left None next first is = ap (λ r. r >>= λ xs. Some (x ∷ xs)) (sym is)
 by_number word (Some x) left (Some ws) next first is =
-    ap (λ m. m >>= λ x. numbers_in ws >>= λ others. Some (x ∷ others)) first ∙ ap (λ r. r >>= λ xs. Some (x ∷ xs)) (sym is)
+    ap (λ m. m >>= λ x. as_numbers ws >>= λ others. Some (x ∷ others)) first ∙ ap (λ r. r >>= λ xs. Some (x ∷ xs)) (sym is)
 
 pub numbers_stepwise : IsStepwise (read_as number_in) all_numbers
 unfolding all_numbers read_words
-numbers_stepwise = (refl, λ text. ap (λ r. r >>= numbers_in) (words_step text) ∙ go (read_word (Some text)))
+numbers_stepwise = (refl, λ text. ap (λ r. r >>= as_numbers) (words_step text) ∙ go (read_word (Some text)))
   where
-    go : (r : Option (List ℕ × Left)) → ((r >>= λ w. read_words w.1 >>= λ ws. Some (w.0 ∷ ws)) >>= numbers_in)
-        ≡ ((r >>= λ w. number_in w.0 >>= λ x. with_left x w.1) >>= λ x. (read_words x.1 >>= numbers_in) >>= λ xs. Some (x.0 ∷ xs))
+    go : (r : Option (List ℕ × Left)) → ((r >>= λ w. read_words w.1 >>= λ ws. Some (w.0 ∷ ws)) >>= as_numbers)
+        ≡ ((r >>= λ w. number_in w.0 >>= λ x. with_left x w.1) >>= λ x. (read_words x.1 >>= as_numbers) >>= λ xs. Some (x.0 ∷ xs))
     go None = refl
-    go (Some w) = by_number w.0 (number_in w.0) w.1 (read_words w.1) (λ l. read_words l >>= numbers_in) refl refl
+    go (Some w) = by_number w.0 (number_in w.0) w.1 (read_words w.1) (λ l. read_words l >>= as_numbers) refl refl
 
 by_rank : (nspace word : List ℕ) (n : Option ℕ) (left : Left) (words : Option (List (List ℕ))) (next : Left → Option (List Proc)) → rank_in word ≡ n → next left ≡ (words >>= procs_in)
     → (((words >>= λ ws. Some (word ∷ ws)) >>= λ ws. Some (nspace ∷ ws)) >>= procs_in)
@@ -210,8 +210,8 @@ by_left nspace (Some text) = ap (λ r. (r >>= λ ws. Some (nspace ∷ ws)) >>= p
     go None = refl
     go (Some w) = by_rank nspace w.0 (rank_in w.0) w.1 (read_words w.1) (λ l. read_words l >>= procs_in) refl refl
 
-pub procs_stepwise : IsStepwise read_proc all_procs
-unfolding all_procs read_words read_proc
+pub procs_stepwise : IsStepwise read_proc_words read_proc_list
+unfolding read_proc_list read_words read_proc_words
 procs_stepwise = (refl, λ text. ap (λ r. r >>= procs_in) (words_step text) ∙ go (read_word (Some text)))
   where
     go : (r : Option (List ℕ × Left)) → ((r >>= λ w. read_words w.1 >>= λ ws. Some (w.0 ∷ ws)) >>= procs_in)
@@ -233,9 +233,9 @@ procs_none n left = let all : n - 0 ≡ n = omega arith in ap (λ k. procs_after
     go (Some ps) = refl
 
 procs_suc : (items : List Proc) (n : ℕ) (left : Left)
-    → procs_after items (suc n) left ≡ (read_proc left >>= λ p. procs_after (items ++ p.0 ∷ []) n p.1)
+    → procs_after items (suc n) left ≡ (read_proc_words left >>= λ p. procs_after (items ++ p.0 ∷ []) n p.1)
 unfolding read_procs
-procs_suc items n left = go (read_proc left)
+procs_suc items n left = go (read_proc_words left)
   where
     inner : (p : Proc) (r : Option (List Proc × Left)) → ((r >>= λ ps. with_left (p ∷ ps.0) ps.1) >>= λ ps. with_left (items ++ ps.0) ps.1) ≡ (r >>= λ ps. with_left ((items ++ p ∷ []) ++ ps.0) ps.1)
     inner p None = refl
@@ -250,17 +250,17 @@ next_count : (count i : ℕ) → i < count → count - i ≡ suc (count - (i + 1
 next_count count i lt = omega (arith, lt)
 
 -- one more was read
-pub procs_more : (items : List Proc) (count i : ℕ) (left rest : Left) (p : Proc) → i < count → read_proc left ≡ Some (p, rest)
+pub procs_more : (items : List Proc) (count i : ℕ) (left rest : Left) (p : Proc) → i < count → read_proc_words left ≡ Some (p, rest)
     → procs_after (items ++ p ∷ []) (count - (i + 1)) rest ≡ procs_after items (count - i) left
 procs_more items count i left rest p lt is =
     sym (ap (λ k. procs_after items k left) (next_count count i lt) ∙ procs_suc items (count - (i + 1)) left
     ∙ ap (λ r. r >>= λ q. procs_after (items ++ q.0 ∷ []) (count - (i + 1)) q.1) is)
 
 -- the next one was not read
-pub procs_fault : (e : LineFault) (items : List Proc) (count i : ℕ) (left : Left) (total : Option (List Proc × Left)) → i < count → Fails e (read_proc left)
-    → procs_after items (count - i) left ≡ total → Fails e total
+pub procs_fault : (e : LineFault) (items : List Proc) (count i : ℕ) (left : Left) (total : Option (List Proc × Left)) → i < count → LineFails e (read_proc_words left)
+    → procs_after items (count - i) left ≡ total → LineFails e total
 procs_fault e items count i left total lt fails is =
-    fails_too e (read_proc left) total
+    fails_too e (read_proc_words left) total
     (λ none. sym is ∙ ap (λ k. procs_after items k left) (next_count count i lt) ∙ procs_suc items (count - (i + 1)) left
     ∙ ap (λ r. r >>= λ q. procs_after (items ++ q.0 ∷ []) (count - (i + 1)) q.1) none) fails
 

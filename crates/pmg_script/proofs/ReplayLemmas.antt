@@ -14,7 +14,7 @@ use Rattle.pmg_script.specs.declared.lines.LineFault.{LineFault}
 use Rattle.pmg_script.specs.declared.lines.LineFault.TheVariants as faults
 use Rattle.pmg_script.specs.Lines.{content}
 use Rattle.pmg_script.specs.Reading.{is_end, onto, lines, IsUnended, IsWhole, NoLine, NextLine}
-use Rattle.pmg_script.specs.Replays.{joined, no_line, Plays, EndsAs, Replayed, IsGoing}
+use Rattle.pmg_script.specs.Replays.{joined_lines, no_line, Plays, EndsAs, Replayed, IsGoing}
 use Rattle.pmg_script.specs.declared.playing.Ended.TheVariants as ends
 
 -- ---- the lines of a text
@@ -45,9 +45,9 @@ no_lines : lines [] ≡ []
 unfolding lines
 no_lines = refl
 
-joined_more : (done : List (List ℕ)) (line : List ℕ) → joined (done ++ line ∷ []) ≡ joined done ++ line
+joined_more : (done : List (List ℕ)) (line : List ℕ) → joined_lines (done ++ line ∷ []) ≡ joined_lines done ++ line
 joined_more [] line = append-nil line
-joined_more (first ∷ others) line = ap (λ bytes. first ++ bytes) (joined_more others line) ∙ sym (append_assoc first (joined others) line)
+joined_more (first ∷ others) line = ap (λ bytes. first ++ bytes) (joined_more others line) ∙ sym (append_assoc first (joined_lines others) line)
 
 -- ---- what is left
 
@@ -86,9 +86,9 @@ next_of start left new rest (b ∷ bs) false is next some =
     let nothing = at_end new after.after after.is_left next.1.1 in
     record { others = []; cut = ap lines (after.parts ∙ ap (λ l. (b ∷ bs) ++ l) nothing ∙ append-nil (b ∷ bs)) ∙ last_line b bs next.0 }
 
-read_so_far : (text : List ℕ) (done : List (List ℕ)) (rest part : List ℕ) (left new : Option (List ℕ)) → text ≡ joined done ++ rest → left ≡ Some rest → Consumes left new part
-    → Consumes (Some text) new (joined done ++ part)
-read_so_far text done rest part left new whole is read = Consumes-trans (Some text) (Some rest) new (joined done) part whole (subst (λ l. Consumes l new part) is read)
+read_so_far : (text : List ℕ) (done : List (List ℕ)) (rest part : List ℕ) (left new : Option (List ℕ)) → text ≡ joined_lines done ++ rest → left ≡ Some rest → Consumes left new part
+    → Consumes (Some text) new (joined_lines done ++ part)
+read_so_far text done rest part left new whole is read = Consumes-trans (Some text) (Some rest) new (joined_lines done) part whole (subst (λ l. Consumes l new part) is read)
 
 -- ---- one turn
 module _ {S : Type 0} (plays : S → List ℕ → List ℕ → S → Type 0) (stops : S → List ℕ → Type 0) (over : S → Bool) where
@@ -113,9 +113,9 @@ module _ {S : Type 0} (plays : S → List ℕ → List ℕ → S → Type 0) (st
         rest = rest.after;
         told = g.told ++ answer;
         is_left = rest.is_left;
-        whole = g.whole ∙ ap (λ bytes. joined g.done ++ bytes) rest.parts ∙ sym (append_assoc (joined g.done) line rest.after) ∙ ap (λ bytes. bytes ++ rest.after) (sym (joined_more g.done line));
+        whole = g.whole ∙ ap (λ bytes. joined_lines g.done ++ bytes) rest.parts ∙ sym (append_assoc (joined_lines g.done) line rest.after) ∙ ap (λ bytes. bytes ++ rest.after) (sym (joined_more g.done line));
         cut = g.cut ∙ ap (λ ls. g.done ++ ls) cut ∙ sym (append_assoc g.done (line ∷ []) (lines rest.after));
-        count = ap length (joined_more g.done line) ∙ length-append (joined g.done) line ∙ ap (λ n. n + length line) g.count;
+        count = ap length (joined_more g.done line) ∙ length-append (joined_lines g.done) line ∙ ap (λ n. n + length line) g.count;
         live = live;
         run = plays_push start g.done g.told state line answer after g.run g.live played;
         wrote = appends_then first wrote written g.told answer wrote_it g.wrote;

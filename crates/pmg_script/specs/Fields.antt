@@ -5,6 +5,7 @@ use Rattle.std.specs.List.{fold, list_all}
 use Rattle.std.specs.Result.{result_ok}
 use Rattle.std.specs.Str.{bytes_eq}
 use Rattle.hex.specs.Hex.{decode_of}
+use Rattle.pmg_value.specs.Process.{undef, wildcard}
 use Rattle.pmg_value.specs.declared.process.Proc.{Proc}
 use Rattle.pmg_value.specs.declared.value.Value.{Value}
 use Rattle.pmg_wire.specs.Fields.{whole_value}
@@ -15,8 +16,8 @@ use Rattle.pmg_get.specs.declared.view.Mode.TheVariants as modes
 use Rattle.pmg_script.specs.Lines.{Left, read_word, read_words, read_as, ◌>>=◌}
 
 -- the number that decimal digits write
-abbrev pub value_of : List ℕ → ℕ
-value_of digits = fold (λ number digit. number * 10 + (digit - 48)) 0 digits
+abbrev pub decimal_value : List ℕ → ℕ
+decimal_value digits = fold (λ number digit. number * 10 + (digit - 48)) 0 digits
 
 -- The greatest number of 64 bits stands for each greater one: nothing has such a number.
 abbrev pub bounded : ℕ → ℕ
@@ -24,14 +25,14 @@ bounded number = min number 18446744073709551615
 
 -- a number is digits alone
 unfoldable pub number_in : List ℕ → Option ℕ
-number_in word = if list_all is_ascii_digit word then Some (bounded (value_of word)) else None
+number_in word = if list_all is_ascii_digit word then Some (bounded (decimal_value word)) else None
 
 abbrev pub as_rank : ℕ → Option ℕ
-as_rank number = if nat_le number 4294967295 then Some number else None
+as_rank number = if nat_le number undef then Some number else None
 
 -- a rank is a number of 32 bits, or `*` for all ranks (PMIx Standard 5.0, pmix_rank_t: PMIX_RANK_WILDCARD)
 unfoldable pub rank_in : List ℕ → Option ℕ
-rank_in word = if bytes_eq word (codes "*") then Some 4294967294 else number_in word >>= as_rank
+rank_in word = if bytes_eq word (codes "*") then Some wildcard else number_in word >>= as_rank
 
 -- a scope, by the end of its name in the standard (PMIx Standard 5.0, pmix_scope_t)
 unfoldable pub scope_in : List ℕ → Option Scope
@@ -60,8 +61,8 @@ value_in word = do
   result_ok (whole_value bytes)
 
 -- a process: a word that names its namespace, whatever it is, and its rank
-unfoldable pub read_proc : Left → Option (Proc × Left)
-read_proc left = do
+unfoldable pub read_proc_words : Left → Option (Proc × Left)
+read_proc_words left = do
   nspace ← read_word left
   rank ← read_as rank_in nspace.1
   Some (record { nspace = nspace.0; rank = rank.0 }, rank.1)
@@ -70,16 +71,16 @@ read_proc left = do
 unfoldable pub read_procs : ℕ → Left → Option (List Proc × Left)
 read_procs zero left = Some ([], left)
 read_procs (suc n) left = do
-  first ← read_proc left
+  first ← read_proc_words left
   others ← read_procs n first.1
   Some (first.0 ∷ others.0, others.1)
 
 -- each word as a number
-abbrev pub numbers_in : List (List ℕ) → Option (List ℕ)
-numbers_in [] = Some []
-numbers_in (word ∷ words) = do
+abbrev pub as_numbers : List (List ℕ) → Option (List ℕ)
+as_numbers [] = Some []
+as_numbers (word ∷ words) = do
   first ← number_in word
-  others ← numbers_in words
+  others ← as_numbers words
   Some (first ∷ others)
 
 -- each two words as a process
@@ -93,8 +94,8 @@ procs_in (nspace ∷ rank ∷ words) = do
 
 -- all that is left, as numbers
 unfoldable pub all_numbers : Left → Option (List ℕ)
-all_numbers left = read_words left >>= numbers_in
+all_numbers left = read_words left >>= as_numbers
 
 -- all that is left, as processes
-unfoldable pub all_procs : Left → Option (List Proc)
-all_procs left = read_words left >>= procs_in
+unfoldable pub read_proc_list : Left → Option (List Proc)
+read_proc_list left = read_words left >>= procs_in

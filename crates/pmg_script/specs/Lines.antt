@@ -65,16 +65,16 @@ read_as says left = do
   Some (x, word.1)
 
 -- Reading fails so: the line has no such form, or an allocation failed, which no definition says.
-abbrev pub Fails : {Y : Type 0} → LineFault → Option Y → Type 0
-Fails faults.Malformed read = read ≡ None
-Fails faults.NoMemory read = Unit {0}
+abbrev pub LineFails : {Y : Type 0} → LineFault → Option Y → Type 0
+LineFails faults.Malformed read = read ≡ None
+LineFails faults.NoMemory read = Unit {0}
 
 -- What a reader of words answered, seen by view, and what it left of the line, are what reading gives.
-abbrev pub Reads : {X Y : Type 0} → (X → Y) → Result X LineFault → Left → Option (Y × Left) → Type 0
-Reads view (Ok x) new read = read ≡ Some (view x, new)
-Reads view (Err e) new read = Fails e read
+abbrev pub ReadsWords : {X Y : Type 0} → (X → Y) → Result X LineFault → Left → Option (Y × Left) → Type 0
+ReadsWords view (Ok x) new read = read ≡ Some (view x, new)
+ReadsWords view (Err e) new read = LineFails e read
 
 -- What a reader of all that is left answered, seen by view, is what reading gives.
-abbrev pub ReadsAll : {X Y : Type 0} → (X → Y) → Result X LineFault → Option Y → Type 0
-ReadsAll view (Ok x) read = read ≡ Some (view x)
-ReadsAll view (Err e) read = Fails e read
+abbrev pub ReadsAllWords : {X Y : Type 0} → (X → Y) → Result X LineFault → Option Y → Type 0
+ReadsAllWords view (Ok x) read = read ≡ Some (view x)
+ReadsAllWords view (Err e) read = LineFails e read

@@ -15,9 +15,9 @@ use Rattle.pmg_script.specs.declared.playing.Ended.{Ended}
 use Rattle.pmg_script.specs.declared.playing.Ended.TheVariants as ends
 
 -- lines, one after another
-abbrev pub joined : List (List ℕ) → List ℕ
-joined [] = []
-joined (line ∷ others) = line ++ joined others
+abbrev pub joined_lines : List (List ℕ) → List ℕ
+joined_lines [] = []
+joined_lines (line ∷ others) = line ++ joined_lines others
 
 -- the fault of a line that has no form of a script's lines, or stands out of order
 abbrev pub no_line : ℕ → Fault
@@ -27,15 +27,15 @@ no_line offset = fault offset causes.Script
 pub record IsCaughtUp (text : List ℕ) (left : Option (List ℕ)) (done : List (List ℕ)) : Type 0 where
   pub part : List ℕ
   pub unended : IsUnended part
-  pub read : Consumes (Some text) left (joined done ++ part)
+  pub read : Consumes (Some text) left (joined_lines done ++ part)
 
 -- the script is too long, and each line was done that ends before the limit
 pub record IsTooLong (text : List ℕ) (left : Option (List ℕ)) (done : List (List ℕ)) : Type 0 where
   pub part : List ℕ
   pub unended : IsUnended part
-  pub limit : length (joined done) + length part ≡ INPUT_LIMIT
+  pub limit : length (joined_lines done) + length part ≡ INPUT_LIMIT
   pub byte : ℕ
-  pub read : Consumes (Some text) left (joined done ++ (part ++ byte ∷ []))
+  pub read : Consumes (Some text) left (joined_lines done ++ (part ++ byte ∷ []))
 
 -- how one state answers a line, by its content, with a text, and what it is then; which lines it takes for none; and where it is over,
 -- after which no line is done
@@ -70,7 +70,7 @@ module _ {S : Type 0} (plays : S → List ℕ → List ℕ → S → Type 0) (st
   EndsAs text left old new done others told s (Err Write) = (over s ≡ false) × IsUnwritten s others told old new
   EndsAs text left old new done others told s (Err (Refused NoMemory)) = (over s ≡ false) × Appends old new told
   EndsAs text left old new done others told s (Err (Refused (BadFrame f))) =
-      (over s ≡ false) × (((f ≡ no_line (length (joined done))) × IsStopped s others) ⊎ ((f ≡ too_much_input) × IsTooLong text left done)) × Appends old new told
+      (over s ≡ false) × (((f ≡ no_line (length (joined_lines done))) × IsStopped s others) ⊎ ((f ≡ too_much_input) × IsTooLong text left done)) × Appends old new told
   EndsAs text left old new done others told s (Err _) = ⊥
 
   -- The first lines of the text were done, from one state to another, and their answers were written; and it ended there.
@@ -89,9 +89,9 @@ module _ {S : Type 0} (plays : S → List ℕ → List ℕ → S → Type 0) (st
     pub rest : List ℕ
     pub told : List ℕ
     pub is_left : left ≡ Some rest
-    pub whole : text ≡ joined done ++ rest
+    pub whole : text ≡ joined_lines done ++ rest
     pub cut : lines text ≡ done ++ lines rest
-    pub count : length (joined done) ≡ offset
+    pub count : length (joined_lines done) ≡ offset
     pub live : over state ≡ false
     pub run : Plays start done told state
     pub wrote : Appends old new told

@@ -6,7 +6,7 @@ use Rattle.pmg_value.specs.declared.process.Proc.{Proc}
 use Rattle.pmg_value.specs.declared.value.Value.{Value}
 use Rattle.pmg_scope.specs.declared.scope.Scope.{Scope}
 use Rattle.pmg_get.specs.declared.view.Mode.{Mode}
-use Rattle.pmg_script.specs.Fields.{number_in, scope_in, collect_in, mode_in, value_in, read_proc, read_procs, all_numbers, all_procs}
+use Rattle.pmg_script.specs.Fields.{number_in, scope_in, collect_in, mode_in, value_in, read_proc_words, read_procs, all_numbers, read_proc_list}
 use Rattle.pmg_script.specs.Lines.{Left, read_word, read_words, read_end, read_as, ◌>>=◌}
 use Rattle.pmg_script.specs.declared.script.Line.{Line as SaidLine}
 use Rattle.pmg_script.specs.declared.script.Line.TheVariants as said_lines
@@ -74,7 +74,7 @@ space_in left = do
 -- `put NS RANK SCOPE HEX KEY`
 unfoldable pub put_in : Left → Option Line
 put_in left = do
-  p ← read_proc left
+  p ← read_proc_words left
   scope ← read_as scope_in p.1
   value ← read_as value_in scope.1
   key ← value.1
@@ -83,17 +83,17 @@ put_in left = do
 -- `enter NS RANK plain` or `collect`, then pairs `NS RANK`
 unfoldable pub enter_in : Left → Option Line
 enter_in left = do
-  p ← read_proc left
+  p ← read_proc_words left
   collect ← read_as collect_in p.1
-  list ← all_procs collect.1
+  list ← read_proc_list collect.1
   Some (Line.enter p.0 collect.0 list)
 
 -- `get NS RANK wait` or `now`, then `NS RANK KEY`
 unfoldable pub get_in : Left → Option Line
 get_in left = do
-  p ← read_proc left
+  p ← read_proc_words left
   mode ← read_as mode_in p.1
-  target ← read_proc mode.1
+  target ← read_proc_words mode.1
   key ← target.1
   Some (Line.get p.0 mode.0 target.0 key)
 
@@ -121,7 +121,7 @@ members_in left = do
 -- `NS RANK` alone
 unfoldable pub proc_in : (Proc → Line) → Left → Option Line
 proc_in says left = do
-  p ← read_proc left
+  p ← read_proc_words left
   nothing_more ← read_end p.1
   Some (says p.0)
 
@@ -141,8 +141,8 @@ alone line left = do
 -- ---- whole lines
 
 -- what a line says that begins with the word
-unfoldable pub said_by : List ℕ → Left → Option Line
-said_by word left =
+unfoldable pub said_with : List ℕ → Left → Option Line
+said_with word left =
     if bytes_eq word (codes "put") then put_in left
     else if bytes_eq word (codes "commit") then proc_in Line.commit left
     else if bytes_eq word (codes "enter") then enter_in left
@@ -164,4 +164,4 @@ said_by word left =
 unfoldable pub said : List ℕ → Option Line
 said text = if length text == 0 then Some Line.nothing else do
   word ← read_word (Some text)
-  said_by word.0 word.1
+  said_with word.0 word.1

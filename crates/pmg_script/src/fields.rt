@@ -2,9 +2,9 @@
 ghost use Rattle.std.specs.Prelude.{◌≡◌, true};
 ghost use Rattle.std.specs.Char.{is_ascii_digit};
 ghost use Rattle.std.specs.List.{list_all};
-ghost use Rattle.pmg_script.specs.Lines.{Reads, ReadsAll, read_as, read_words};
+ghost use Rattle.pmg_script.specs.Lines.{ReadsWords, ReadsAllWords, read_as, read_words};
 ghost use Rattle.pmg_script.specs.Scripts.{texts};
-ghost use Rattle.pmg_script.specs.Fields.{value_of, bounded, number_in, rank_in, scope_in, collect_in, mode_in, value_in, read_proc, read_procs, all_numbers, all_procs};
+ghost use Rattle.pmg_script.specs.Fields.{decimal_value, bounded, number_in, rank_in, scope_in, collect_in, mode_in, value_in, read_proc_words, read_procs, all_numbers, read_proc_list};
 ghost use Rattle.std.specs.Result.{result_ok};
 ghost use Rattle.pmg_wire.specs.Fields.{whole_value};
 
@@ -37,7 +37,7 @@ impl<'a> Model for Named<'a> {
 /// A number, which is digits alone.
 #[tactic(auto, unfolding(crate::specs::Fields::number_in))]
 pub fn number_of(word: &[u8]) -> Result<u64, LineFault>
-    ensures { ReadsAll (λ n. n) result (number_in word.now) }
+    ensures { ReadsAllWords (λ n. n) result (number_in word.now) }
 {
     if !are_digits(word) {
         return Err(LineFault::Malformed);
@@ -54,7 +54,7 @@ fn are_digits(word: &[u8]) -> bool
 /// The number that the digits write; of a greater one than 64 bits hold, the greatest of these.
 fn value_of(digits: &[u8]) -> u64
     requires { list_all is_ascii_digit digits.now ≡ true }
-    ensures { result ≡ bounded (value_of digits.now) }
+    ensures { result ≡ bounded (decimal_value digits.now) }
 {
     let mut value = 0u64;
     for digit in digits {
@@ -68,7 +68,7 @@ fn value_of(digits: &[u8]) -> u64
 /// A rank: a number of 32 bits, or `*` for all ranks.
 #[tactic(auto, unfolding(crate::specs::Fields::rank_in))]
 fn rank_of(word: &[u8]) -> Result<Rank, LineFault>
-    ensures { ReadsAll (λ r. r) result (rank_in word.now) }
+    ensures { ReadsAllWords (λ r. r) result (rank_in word.now) }
 {
     if word == b"*".as_slice() {
         return Ok(Rank::WILDCARD);
@@ -83,7 +83,7 @@ fn rank_of(word: &[u8]) -> Result<Rank, LineFault>
 /// A scope.
 #[tactic(auto, unfolding(crate::specs::Fields::scope_in))]
 fn scope_of(word: &[u8]) -> Result<Scope, LineFault>
-    ensures { ReadsAll (λ s. s) result (scope_in word.now) }
+    ensures { ReadsAllWords (λ s. s) result (scope_in word.now) }
 {
     if word == b"internal".as_slice() {
         Ok(Scope::Internal)
@@ -103,7 +103,7 @@ fn scope_of(word: &[u8]) -> Result<Scope, LineFault>
 /// Whether a fence collects data.
 #[tactic(auto, unfolding(crate::specs::Fields::collect_in))]
 fn collect_of(word: &[u8]) -> Result<bool, LineFault>
-    ensures { ReadsAll (λ c. c) result (collect_in word.now) }
+    ensures { ReadsAllWords (λ c. c) result (collect_in word.now) }
 {
     if word == b"plain".as_slice() {
         Ok(false)
@@ -117,7 +117,7 @@ fn collect_of(word: &[u8]) -> Result<bool, LineFault>
 /// Whether a get waits, and whether it asks the home of its target anew.
 #[tactic(auto, unfolding(crate::specs::Fields::mode_in))]
 fn mode_of(word: &[u8]) -> Result<Mode, LineFault>
-    ensures { ReadsAll (λ m. m) result (mode_in word.now) }
+    ensures { ReadsAllWords (λ m. m) result (mode_in word.now) }
 {
     if word == b"wait".as_slice() {
         Ok(Mode::Wait)
@@ -133,7 +133,7 @@ fn mode_of(word: &[u8]) -> Result<Mode, LineFault>
 /// A value, by its canonical bytes in hexadecimal.
 #[tactic(auto, unfolding(crate::specs::Fields::value_in))]
 fn value_by_hex(alloc: Global, word: &[u8]) -> Result<Value, LineFault>
-    ensures { ReadsAll (λ v. v) result (value_in word.now) }
+    ensures { ReadsAllWords (λ v. v) result (value_in word.now) }
 {
     match hex::decode(alloc, word) {
         Ok(bytes) => value_by_bytes(alloc, &bytes),
@@ -144,7 +144,7 @@ fn value_by_hex(alloc: Global, word: &[u8]) -> Result<Value, LineFault>
 
 /// A value, by its canonical bytes.
 fn value_by_bytes(alloc: Global, bytes: &[u8]) -> Result<Value, LineFault>
-    ensures { ReadsAll (λ v. v) result (result_ok (whole_value bytes.now)) }
+    ensures { ReadsAllWords (λ v. v) result (result_ok (whole_value bytes.now)) }
 {
     match value_from_bytes(alloc, bytes) {
         Ok(value) => Ok(value),
@@ -156,7 +156,7 @@ fn value_by_bytes(alloc: Global, bytes: &[u8]) -> Result<Value, LineFault>
 impl<'a> Words<'a> {
     /// The next word, which is a number.
     pub fn number(&mut self) -> Result<u64, LineFault>
-        ensures { Reads (λ n. n) result self.new (read_as number_in self.old) }
+        ensures { ReadsWords (λ n. n) result self.new (read_as number_in self.old) }
     {
         let word = self.word()?;
         number_of(word)
@@ -164,7 +164,7 @@ impl<'a> Words<'a> {
 
     /// The next word, which is a scope.
     pub fn scope(&mut self) -> Result<Scope, LineFault>
-        ensures { Reads (λ s. s) result self.new (read_as scope_in self.old) }
+        ensures { ReadsWords (λ s. s) result self.new (read_as scope_in self.old) }
     {
         let word = self.word()?;
         scope_of(word)
@@ -172,7 +172,7 @@ impl<'a> Words<'a> {
 
     /// The next word, which says whether a fence collects data.
     pub fn collect(&mut self) -> Result<bool, LineFault>
-        ensures { Reads (λ c. c) result self.new (read_as collect_in self.old) }
+        ensures { ReadsWords (λ c. c) result self.new (read_as collect_in self.old) }
     {
         let word = self.word()?;
         collect_of(word)
@@ -180,7 +180,7 @@ impl<'a> Words<'a> {
 
     /// The next word, which is the mode of a get.
     pub fn mode(&mut self) -> Result<Mode, LineFault>
-        ensures { Reads (λ m. m) result self.new (read_as mode_in self.old) }
+        ensures { ReadsWords (λ m. m) result self.new (read_as mode_in self.old) }
     {
         let word = self.word()?;
         mode_of(word)
@@ -188,16 +188,16 @@ impl<'a> Words<'a> {
 
     /// The next word, which is a value in hexadecimal.
     pub fn value(&mut self, alloc: Global) -> Result<Value, LineFault>
-        ensures { Reads (λ v. v) result self.new (read_as value_in self.old) }
+        ensures { ReadsWords (λ v. v) result self.new (read_as value_in self.old) }
     {
         let word = self.word()?;
         value_by_hex(alloc, word)
     }
 
     /// The next two words, which name a process.
-    #[tactic(auto, unfolding(crate::specs::Fields::read_proc))]
+    #[tactic(auto, unfolding(crate::specs::Fields::read_proc_words))]
     pub fn proc(&mut self) -> Result<Named<'a>, LineFault>
-        ensures { Reads (λ p. p) result self.new (read_proc self.old) }
+        ensures { ReadsWords (λ p. p) result self.new (read_proc_words self.old) }
     {
         let nspace = self.word()?;
         let word = self.word()?;
@@ -207,7 +207,7 @@ impl<'a> Words<'a> {
 
     /// So many processes.
     pub fn procs(&mut self, alloc: Global, count: u64) -> Result<Vec<Named<'a>>, LineFault>
-        ensures { Reads (λ ps. ps.items) result self.new (read_procs count self.old) }
+        ensures { ReadsWords (λ ps. ps.items) result self.new (read_procs count self.old) }
     {
         let mut procs = Vec::new(alloc);
         for _ in 0..count {
@@ -219,7 +219,7 @@ impl<'a> Words<'a> {
 
     /// All words that are left.
     pub fn all_words(&mut self, alloc: Global) -> Result<Vec<&'a [u8]>, LineFault>
-        ensures { ReadsAll (λ words. texts words.items) result (read_words self.old) }
+        ensures { ReadsAllWords (λ words. texts words.items) result (read_words self.old) }
     {
         let mut words = Vec::new(alloc);
         while !self.is_at_end() {
@@ -231,7 +231,7 @@ impl<'a> Words<'a> {
 
     /// All that is left, as numbers.
     pub fn all_numbers(&mut self, alloc: Global) -> Result<Vec<u64>, LineFault>
-        ensures { ReadsAll (λ ns. ns.items) result (all_numbers self.old) }
+        ensures { ReadsAllWords (λ ns. ns.items) result (all_numbers self.old) }
     {
         let mut numbers = Vec::new(alloc);
         while !self.is_at_end() {
@@ -243,7 +243,7 @@ impl<'a> Words<'a> {
 
     /// All that is left, as processes.
     pub fn all_procs(&mut self, alloc: Global) -> Result<Vec<Named<'a>>, LineFault>
-        ensures { ReadsAll (λ ps. ps.items) result (all_procs self.old) }
+        ensures { ReadsAllWords (λ ps. ps.items) result (read_proc_list self.old) }
     {
         let mut procs = Vec::new(alloc);
         while !self.is_at_end() {

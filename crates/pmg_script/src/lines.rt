@@ -3,7 +3,7 @@ ghost use Rattle.std.specs.Prelude.{◌≡◌, ◌<◌, ◌&&◌, ◌==◌, nat_
 ghost use Rattle.std.specs.List.{position};
 ghost use Rattle.std.specs.Option.{option_map};
 ghost use Rattle.pmg_script.specs.declared.lines.LineFault.TheVariants as faults;
-ghost use Rattle.pmg_script.specs.Lines.{content, has_byte, is_blank, parted, read_word, read_end, Reads, ReadsAll};
+ghost use Rattle.pmg_script.specs.Lines.{content, has_byte, is_blank, parted, read_word, read_end, ReadsWords, ReadsAllWords};
 
 use std::alloc::{AllocError, AllocFailed};
 use std::marker::Model;
@@ -88,7 +88,7 @@ impl<'a> Words<'a> {
     /// The next word. It is malformed where nothing is left, and where the word is empty.
     #[tactic(auto, unfolding(crate::specs::Lines::read_word))]
     pub fn word(&mut self) -> Result<&'a [u8], LineFault>
-        ensures { Reads (λ word. word.now) result self.new (read_word self.old) }
+        ensures { ReadsWords (λ word. word.now) result self.new (read_word self.old) }
     {
         let Some(text) = self.left else {
             return Err(LineFault::Malformed);
@@ -103,7 +103,7 @@ impl<'a> Words<'a> {
 
     /// What stands after the blank that ended the last word. It is malformed where no blank ended it.
     pub fn rest(&self) -> Result<&'a [u8], LineFault>
-        ensures { ReadsAll (λ rest. rest.now) result self.now }
+        ensures { ReadsAllWords (λ rest. rest.now) result self.now }
     {
         match self.left {
             Some(rest) => Ok(rest),
@@ -120,7 +120,7 @@ impl<'a> Words<'a> {
 
     /// The line is malformed where something is left.
     pub fn end(&self) -> Result<(), LineFault>
-        ensures { ReadsAll (λ u. u) result (read_end self.now) }
+        ensures { ReadsAllWords (λ u. u) result (read_end self.now) }
     {
         match self.left {
             Some(_) => Err(LineFault::Malformed),

@@ -1,7 +1,7 @@
 //! What the lines of a script say.
 ghost use Rattle.std.specs.Prelude.{◌≡◌};
-ghost use Rattle.pmg_script.specs.Lines.{ReadsAll};
-ghost use Rattle.pmg_script.specs.Scripts.{line_of, nodes_in, space_in, put_in, enter_in, get_in, define_in, delete_in, members_in, proc_in, number_alone, alone, said_by, said};
+ghost use Rattle.pmg_script.specs.Lines.{ReadsAllWords};
+ghost use Rattle.pmg_script.specs.Scripts.{line_of, nodes_in, space_in, put_in, enter_in, get_in, define_in, delete_in, members_in, proc_in, number_alone, alone, said_with, said};
 ghost use Rattle.pmg_script.specs.Scripts.{Line as ScriptLine};
 
 use crate::fields::Named;
@@ -53,7 +53,7 @@ pub enum Line<'a> {
 /// What the content of a line says. It is malformed where it has no form that lines have.
 #[tactic(auto, unfolding(crate::specs::Scripts::said))]
 pub fn read_line<'a>(alloc: Global, text: &'a [u8]) -> Result<Line<'a>, LineFault>
-    ensures { ReadsAll line_of result (said text.now) }
+    ensures { ReadsAllWords line_of result (said text.now) }
 {
     if text.is_empty() {
         return Ok(Line::Nothing);
@@ -64,9 +64,9 @@ pub fn read_line<'a>(alloc: Global, text: &'a [u8]) -> Result<Line<'a>, LineFaul
 }
 
 /// What a line says that begins with the word.
-#[tactic(auto, unfolding(crate::specs::Scripts::said_by))]
+#[tactic(auto, unfolding(crate::specs::Scripts::said_with))]
 fn read_rest<'a>(alloc: Global, word: &[u8], words: &mut Words<'a>) -> Result<Line<'a>, LineFault>
-    ensures { ReadsAll line_of result (said_by word.now words.old) }
+    ensures { ReadsAllWords line_of result (said_with word.now words.old) }
 {
     if word == b"put".as_slice() {
         read_put(alloc, words)
@@ -108,7 +108,7 @@ fn read_rest<'a>(alloc: Global, word: &[u8], words: &mut Words<'a>) -> Result<Li
 /// `nodes NAME ..`
 #[tactic(auto, unfolding(crate::specs::Scripts::nodes_in))]
 fn read_nodes<'a>(alloc: Global, words: &mut Words<'a>) -> Result<Line<'a>, LineFault>
-    ensures { ReadsAll line_of result (nodes_in words.old) }
+    ensures { ReadsAllWords line_of result (nodes_in words.old) }
 {
     let names = words.all_words(alloc)?;
     Ok(Line::Nodes(names))
@@ -117,7 +117,7 @@ fn read_nodes<'a>(alloc: Global, words: &mut Words<'a>) -> Result<Line<'a>, Line
 /// `space NS NODE ..`
 #[tactic(auto, unfolding(crate::specs::Scripts::space_in))]
 fn read_space<'a>(alloc: Global, words: &mut Words<'a>) -> Result<Line<'a>, LineFault>
-    ensures { ReadsAll line_of result (space_in words.old) }
+    ensures { ReadsAllWords line_of result (space_in words.old) }
 {
     let nspace = words.word()?;
     let homes = words.all_numbers(alloc)?;
@@ -127,7 +127,7 @@ fn read_space<'a>(alloc: Global, words: &mut Words<'a>) -> Result<Line<'a>, Line
 /// `put NS RANK SCOPE HEX KEY`
 #[tactic(auto, unfolding(crate::specs::Scripts::put_in))]
 fn read_put<'a>(alloc: Global, words: &mut Words<'a>) -> Result<Line<'a>, LineFault>
-    ensures { ReadsAll line_of result (put_in words.old) }
+    ensures { ReadsAllWords line_of result (put_in words.old) }
 {
     let proc = words.proc()?;
     let scope = words.scope()?;
@@ -139,7 +139,7 @@ fn read_put<'a>(alloc: Global, words: &mut Words<'a>) -> Result<Line<'a>, LineFa
 /// `enter NS RANK plain` or `collect`, then pairs `NS RANK`
 #[tactic(auto, unfolding(crate::specs::Scripts::enter_in))]
 fn read_enter<'a>(alloc: Global, words: &mut Words<'a>) -> Result<Line<'a>, LineFault>
-    ensures { ReadsAll line_of result (enter_in words.old) }
+    ensures { ReadsAllWords line_of result (enter_in words.old) }
 {
     let proc = words.proc()?;
     let collect = words.collect()?;
@@ -150,7 +150,7 @@ fn read_enter<'a>(alloc: Global, words: &mut Words<'a>) -> Result<Line<'a>, Line
 /// `get NS RANK wait` or `now`, then `NS RANK KEY`
 #[tactic(auto, unfolding(crate::specs::Scripts::get_in))]
 fn read_get<'a>(words: &mut Words<'a>) -> Result<Line<'a>, LineFault>
-    ensures { ReadsAll line_of result (get_in words.old) }
+    ensures { ReadsAllWords line_of result (get_in words.old) }
 {
     let proc = words.proc()?;
     let mode = words.mode()?;
@@ -162,7 +162,7 @@ fn read_get<'a>(words: &mut Words<'a>) -> Result<Line<'a>, LineFault>
 /// `define M`, so many pairs `NS RANK`, `NAME`
 #[tactic(auto, unfolding(crate::specs::Scripts::define_in))]
 fn read_define<'a>(alloc: Global, words: &mut Words<'a>) -> Result<Line<'a>, LineFault>
-    ensures { ReadsAll line_of result (define_in words.old) }
+    ensures { ReadsAllWords line_of result (define_in words.old) }
 {
     let count = words.number()?;
     let list = words.procs(alloc, count)?;
@@ -173,7 +173,7 @@ fn read_define<'a>(alloc: Global, words: &mut Words<'a>) -> Result<Line<'a>, Lin
 /// `delete NAME`
 #[tactic(auto, unfolding(crate::specs::Scripts::delete_in))]
 fn read_delete<'a>(words: &mut Words<'a>) -> Result<Line<'a>, LineFault>
-    ensures { ReadsAll line_of result (delete_in words.old) }
+    ensures { ReadsAllWords line_of result (delete_in words.old) }
 {
     let name = words.rest()?;
     Ok(Line::Delete(name))
@@ -182,7 +182,7 @@ fn read_delete<'a>(words: &mut Words<'a>) -> Result<Line<'a>, LineFault>
 /// `members NODE NAME`
 #[tactic(auto, unfolding(crate::specs::Scripts::members_in))]
 fn read_members<'a>(words: &mut Words<'a>) -> Result<Line<'a>, LineFault>
-    ensures { ReadsAll line_of result (members_in words.old) }
+    ensures { ReadsAllWords line_of result (members_in words.old) }
 {
     let node = words.number()?;
     let name = words.rest()?;
@@ -192,7 +192,7 @@ fn read_members<'a>(words: &mut Words<'a>) -> Result<Line<'a>, LineFault>
 /// `flow`
 #[tactic(auto, unfolding(crate::specs::Scripts::alone))]
 fn read_flow<'a>(words: &mut Words<'a>) -> Result<Line<'a>, LineFault>
-    ensures { ReadsAll line_of result (alone ScriptLine.flow words.old) }
+    ensures { ReadsAllWords line_of result (alone ScriptLine.flow words.old) }
 {
     words.end()?;
     Ok(Line::Flow)
@@ -201,7 +201,7 @@ fn read_flow<'a>(words: &mut Words<'a>) -> Result<Line<'a>, LineFault>
 /// `commit NS RANK`
 #[tactic(auto, unfolding(crate::specs::Scripts::proc_in))]
 fn read_commit<'a>(words: &mut Words<'a>) -> Result<Line<'a>, LineFault>
-    ensures { ReadsAll line_of result (proc_in ScriptLine.commit words.old) }
+    ensures { ReadsAllWords line_of result (proc_in ScriptLine.commit words.old) }
 {
     let proc = words.proc()?;
     words.end()?;
@@ -211,7 +211,7 @@ fn read_commit<'a>(words: &mut Words<'a>) -> Result<Line<'a>, LineFault>
 /// `leave NS RANK`
 #[tactic(auto, unfolding(crate::specs::Scripts::proc_in))]
 fn read_leave<'a>(words: &mut Words<'a>) -> Result<Line<'a>, LineFault>
-    ensures { ReadsAll line_of result (proc_in ScriptLine.leave words.old) }
+    ensures { ReadsAllWords line_of result (proc_in ScriptLine.leave words.old) }
 {
     let proc = words.proc()?;
     words.end()?;
@@ -221,7 +221,7 @@ fn read_leave<'a>(words: &mut Words<'a>) -> Result<Line<'a>, LineFault>
 /// `take NS RANK`
 #[tactic(auto, unfolding(crate::specs::Scripts::proc_in))]
 fn read_take<'a>(words: &mut Words<'a>) -> Result<Line<'a>, LineFault>
-    ensures { ReadsAll line_of result (proc_in ScriptLine.take words.old) }
+    ensures { ReadsAllWords line_of result (proc_in ScriptLine.take words.old) }
 {
     let proc = words.proc()?;
     words.end()?;
@@ -231,7 +231,7 @@ fn read_take<'a>(words: &mut Words<'a>) -> Result<Line<'a>, LineFault>
 /// `end NS RANK`
 #[tactic(auto, unfolding(crate::specs::Scripts::proc_in))]
 fn read_end<'a>(words: &mut Words<'a>) -> Result<Line<'a>, LineFault>
-    ensures { ReadsAll line_of result (proc_in ScriptLine.end words.old) }
+    ensures { ReadsAllWords line_of result (proc_in ScriptLine.end words.old) }
 {
     let proc = words.proc()?;
     words.end()?;
@@ -241,7 +241,7 @@ fn read_end<'a>(words: &mut Words<'a>) -> Result<Line<'a>, LineFault>
 /// `deliver I`
 #[tactic(auto, unfolding(crate::specs::Scripts::number_alone))]
 fn read_deliver<'a>(words: &mut Words<'a>) -> Result<Line<'a>, LineFault>
-    ensures { ReadsAll line_of result (number_alone ScriptLine.deliver words.old) }
+    ensures { ReadsAllWords line_of result (number_alone ScriptLine.deliver words.old) }
 {
     let frame = words.number()?;
     words.end()?;
@@ -251,7 +251,7 @@ fn read_deliver<'a>(words: &mut Words<'a>) -> Result<Line<'a>, LineFault>
 /// `nudge NODE`
 #[tactic(auto, unfolding(crate::specs::Scripts::number_alone))]
 fn read_nudge<'a>(words: &mut Words<'a>) -> Result<Line<'a>, LineFault>
-    ensures { ReadsAll line_of result (number_alone ScriptLine.nudge words.old) }
+    ensures { ReadsAllWords line_of result (number_alone ScriptLine.nudge words.old) }
 {
     let node = words.number()?;
     words.end()?;
@@ -261,7 +261,7 @@ fn read_nudge<'a>(words: &mut Words<'a>) -> Result<Line<'a>, LineFault>
 /// `dump NODE`
 #[tactic(auto, unfolding(crate::specs::Scripts::number_alone))]
 fn read_dump<'a>(words: &mut Words<'a>) -> Result<Line<'a>, LineFault>
-    ensures { ReadsAll line_of result (number_alone ScriptLine.dump words.old) }
+    ensures { ReadsAllWords line_of result (number_alone ScriptLine.dump words.old) }
 {
     let node = words.number()?;
     words.end()?;

@@ -20,7 +20,7 @@ use Rattle.pmg_commit.specs.Cores.{Core}
 use Rattle.pmg_commit.specs.Data.{known, knowledge_in}
 use Rattle.pmg_commit.specs.Entries.{Entry}
 use Rattle.pmg_commit.specs.Levels.{level}
-use Rattle.pmg_lane.specs.Entries.{read_entry}
+use Rattle.pmg_lane.specs.Entries.{entry_under}
 use Rattle.pmg_lane.specs.Lanes.{known_by, level_of, IsTrack}
 use Rattle.pmg_lane.specs.Places.{placed, there_at}
 use Rattle.pmg_lane.specs.declared.entries.Stamp.{Stamp}
@@ -28,7 +28,7 @@ use Rattle.pmg_lane.specs.declared.track.Track.{Track}
 use Rattle.pmg_lane.proofs.Knowing.{level_known}
 use Rattle.pmg_lane.proofs.Tracking.{read_known}
 use Rattle.pmg_store.specs.Dump.{key_line, proc_line, reads_of, known_text, dump}
-use Rattle.pmg_store.specs.Tables.{filled_before, filled, lines_of, track_text, place_text, procs_of}
+use Rattle.pmg_store.specs.Tables.{filled_before, filled, lines_of, track_text, place_text, tracked_procs}
 use Rattle.pmg_store.specs.Tracks.{core_in, held_in, data_in, AreTracks}
 use Rattle.pmg_store.proofs.Filled.{find-filled, sorted_filled}
 use Rattle.pmg_store.proofs.Ordered.{entries_are, sorted_from}
@@ -37,7 +37,7 @@ use Rattle.pmg_store.proofs.TrackData.{get-data_in, known_in}
 
 -- ---- one process
 
-bytes_of : (q : List ℕ) (o : Option Stamp) → option_map (λ (e : Entry). e.bytes) (option_map (read_entry q) o) ≡ option_map (λ s. spelling s.value) o
+bytes_of : (q : List ℕ) (o : Option Stamp) → option_map (λ (e : Entry). e.bytes) (option_map (entry_under q) o) ≡ option_map (λ s. spelling s.value) o
 bytes_of q None = refl
 bytes_of q (Some s) = refl
 
@@ -71,7 +71,7 @@ entries_in places ordered =
     let sorted = sorted_from proc_cmp (filled core_in es) (sorted_filled proc_cmp core_in es ordered) in
     entries_are procs_total exact_procs (data_in places) (filled core_in es) sorted (λ q. get-data_in places q ∙ sym (find-filled proc_cmp core_in exact_procs es ordered q))
 
-pub keys_in : (places : BTreeMap Proc (Option Track)) → IsOrdered proc_cmp places → procs_of places.entries ≡ finite.keys (data_in places)
+pub keys_in : (places : BTreeMap Proc (Option Track)) → IsOrdered proc_cmp places → tracked_procs places.entries ≡ finite.keys (data_in places)
 keys_in places ordered = ap (λ rows. map (λ (e : Proc × Core). e.0) rows) (sym (entries_in places ordered))
 
 module _ (places : BTreeMap Proc (Option Track)) (are : AreTracks places) where

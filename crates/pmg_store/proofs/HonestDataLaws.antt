@@ -14,20 +14,20 @@ use Rattle.pmg_commit.proofs.HonestLaws.{honest_reading, honest_stays, level_is_
 use Rattle.pmg_commit.proofs.Joining.{unions_assoc, unions_comm, union_nothing, core_of_union, core-nothing, known_together}
 use Rattle.pmg_commit.proofs.ReadLaws.{read-core}
 use Rattle.pmg_store.specs.HonestData.{IsHonestData, EmptyIsHonest, AbsorbedIsHonest, JoinedIsHonest, LongerIsHonest, HonestDataReads, HonestLevelIsMade, LevelsRise}
-use Rattle.pmg_store.specs.Pieces.{is_of, told_by}
+use Rattle.pmg_store.specs.Pieces.{is_of, piece_knowledge}
 use Rattle.pmg_store.proofs.Telling.{known-empty, known_by}
 
 pub empty_is_honest : EmptyIsHonest
 empty_is_honest s r p = record { told = []; honest = tt; is = known-empty p ∙ sym core-nothing }
 
-told_now : (c : Contribution) (p : Proc) (b : Bool) → is_of p c ≡ b → told_by p c ≡ (if b then knowledge_of c else nothing)
+told_now : (c : Contribution) (p : Proc) (b : Bool) → is_of p c ≡ b → piece_knowledge p c ≡ (if b then knowledge_of c else nothing)
 told_now c p b e = ap (λ (x : Bool). if x then knowledge_of c else nothing) e
 
 -- what is known once a contribution was taken
-known_now : (d : Data) (c : Contribution) (p : Proc) (k : Knowledge) → known d p ≡ core k → known (absorbed d c) p ≡ core (union (told_by p c) k)
+known_now : (d : Data) (c : Contribution) (p : Proc) (k : Knowledge) → known d p ≡ core k → known (absorbed d c) p ≡ core (union (piece_knowledge p c) k)
 known_now d c p k e =
-    known_together d (of_contribution c) p ∙ (λ i. core (union (e i) (known_by c p i))) ∙ sym (core_of_union k (told_by p c))
-    ∙ ap core (unions_comm k (told_by p c))
+    known_together d (of_contribution c) p ∙ (λ i. core (union (e i) (known_by c p i))) ∙ sym (core_of_union k (piece_knowledge p c))
+    ∙ ap core (unions_comm k (piece_knowledge p c))
 
 pub absorbed_is_honest : AbsorbedIsHonest
 absorbed_is_honest s r p d c own h = by_own (is_of p c) refl where

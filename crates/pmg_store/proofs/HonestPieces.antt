@@ -13,7 +13,7 @@ use Rattle.pmg_commit.specs.Knowledge.{Contribution, Knowledge, nothing, union, 
 use Rattle.pmg_commit.specs.Levels.{level}
 use Rattle.pmg_commit.specs.Honest.{IsHonest, known_from}
 use Rattle.pmg_commit.proofs.HonestLaws.{honest_reading}
-use Rattle.pmg_store.specs.Pieces.{is_of, told_of}
+use Rattle.pmg_store.specs.Pieces.{is_of, pieces_told}
 use Rattle.pmg_store.specs.HonestStores.{AreHonest, StoreReadsHonestly, EqualStoresReadAlike}
 use Rattle.pmg_store.proofs.Telling.{level-told, read-told}
 
@@ -27,9 +27,9 @@ one_told : (c : Contribution) (cs : List Contribution) (k : Knowledge) (b : Bool
 one_told c cs k true e = ap (union (knowledge_of c)) e
 one_told c cs k false e = nothing_more k ∙ e
 
-told_from : (p : Proc) (cs : List Contribution) → told_of p cs ≡ known_from (filter (is_of p) cs)
+told_from : (p : Proc) (cs : List Contribution) → pieces_told p cs ≡ known_from (filter (is_of p) cs)
 told_from p [] = refl
-told_from p (c ∷ cs) = one_told c (filter (is_of p) cs) (told_of p cs) (is_of p c) (told_from p cs)
+told_from p (c ∷ cs) = one_told c (filter (is_of p) cs) (pieces_told p cs) (is_of p c) (told_from p cs)
 
 each_first : (P : Contribution → Type 0) (c : Contribution) (cs : List Contribution) (b : Bool) → (b ≡ true → P c) → Each P cs → Each P (cond b (c ∷ cs) cs)
 each_first P c cs true own others = (own refl, others)

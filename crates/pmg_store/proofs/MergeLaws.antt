@@ -16,7 +16,7 @@ use Rattle.pmg_frame.specs.declared.frame.Frame.TheVariants as frames
 use Rattle.pmg_frame.specs.Grammar.{IsSpelt}
 use Rattle.pmg_frame.specs.Reading.{read_frame}
 use Rattle.pmg_frame.specs.Versions.{Spelt, spelt_text}
-use Rattle.pmg_frame.specs.Streams.{said_by}
+use Rattle.pmg_frame.specs.Streams.{stream_said}
 use Rattle.pmg_frame.proofs.Cuts.{is_said, is_found}
 use Rattle.pmg_store.specs.Convergence.{MergesAlike, MergesAsOne}
 use Rattle.pmg_store.specs.declared.failure.Failure.{Failure}
@@ -133,7 +133,7 @@ ended fs f left false none is = absurd cc
 whole : (bytes : List ℕ) (cs : List Contribution) → IsBytes bytes → told_in bytes ≡ Ok cs → IsWhole bytes cs
 unfolding told_in
 whole bytes cs fits is =
-    let said = said_by bytes in
+    let said = stream_said bytes in
     let says = is_said bytes fits in
     let all = parts said.frames said.fault said.end.offset (length said.end.rest) is in
     let text = flat_map spelt_text says.spelt in

@@ -15,7 +15,7 @@ use Rattle.pmg_join.proofs.ManyJoined.{free_in_grouping}
 use Rattle.pmg_commit.specs.Data.{Data, join_data, of_contribution}
 use Rattle.pmg_store.specs.Joining.{data_joined}
 use Rattle.pmg_store.proofs.Converging.{nothing_joined}
-use Rattle.pmg_frame.specs.Streams.{Said, Feeds, Runs, StopsAt, left_after, finished, said_by}
+use Rattle.pmg_frame.specs.Streams.{StreamSaid, Feeds, FramesFollow, StopsAt, left_after, finished, stream_said}
 use Rattle.pmg_frame.proofs.Cuts.{said_is, runs_none, runs_push}
 use Rattle.pmg_commit.specs.Knowledge.{Contribution}
 use Rattle.pmg_store.specs.Pieces.{data_of}
@@ -27,12 +27,12 @@ use Rattle.pmg_frame.specs.Refreshing.{told_by}
 abbrev pub start : Place
 start = record { offset = 0; rest = [] }
 
-said_of_feed : (bytes : List ℕ) (fs : List Frame) (f : Option Fault) (new : Option Place) (fed : Feeds start bytes fs f new) → said_by bytes ≡ record { frames = fs; fault = f; end = fed.end }
+said_of_feed : (bytes : List ℕ) (fs : List Frame) (f : Option Fault) (new : Option Place) (fed : Feeds start bytes fs f new) → stream_said bytes ≡ record { frames = fs; fault = f; end = fed.end }
 said_of_feed bytes fs f new fed = said_is _ (record { offset = 0; rest = bytes }) fs fed.end f (omega arith) fed.runs fed.stops
 
 pub told_of_feed : (bytes : List ℕ) (fs : List Frame) (f : Option Fault) (new : Option Place) (fed : Feeds start bytes fs f new) → told_in bytes ≡ told_by_said fs f fed.end.offset (length fed.end.rest)
 unfolding told_in
-told_of_feed bytes fs f new fed = ap (λ (s : Said). told_by_said s.frames s.fault s.end.offset (length s.end.rest)) (said_of_feed bytes fs f new fed)
+told_of_feed bytes fs f new fed = ap (λ (s : StreamSaid). told_by_said s.frames s.fault s.end.offset (length s.end.rest)) (said_of_feed bytes fs f new fed)
 
 pub told_fault : (bytes : List ℕ) (fs : List Frame) (f : Fault) (new : Option Place) → Feeds start bytes fs (Some f) new → data_told bytes ≡ Err f
 unfolding data_told
@@ -77,7 +77,7 @@ told_cut bytes fs new e fed done =
 -- the contributions of the frames from the start to a place are taken
 abbrev pub IsTakenTo : List ℕ → Data → Place → Data → Type 0
 IsTakenTo bytes old at new =
-    (fs : List Frame) × Runs (record { offset = 0; rest = bytes }) fs at × (new ≡ join_all join_data old (map of_contribution (contributions fs)))
+    (fs : List Frame) × FramesFollow (record { offset = 0; rest = bytes }) fs at × (new ≡ join_all join_data old (map of_contribution (contributions fs)))
 
 pub none_taken : (bytes : List ℕ) (old : Data) → IsTakenTo bytes old (record { offset = 0; rest = bytes }) old
 none_taken bytes old = ([], runs_none (record { offset = 0; rest = bytes }), refl)
@@ -116,7 +116,7 @@ one_taken bytes start_data old new at mid frame taken next is = (
   is ∙ ap (λ d. join_all join_data d (map of_contribution (contributions (frame ∷ [])))) taken.2 ∙ taken_more start_data taken.0 frame,
 )
 
-fed_to : (bytes : List ℕ) (fs : List Frame) (end : Place) (f : Option Fault) → Runs (record { offset = 0; rest = bytes }) fs end → StopsAt end f → Feeds start bytes fs f (left_after f end)
+fed_to : (bytes : List ℕ) (fs : List Frame) (end : Place) (f : Option Fault) → FramesFollow (record { offset = 0; rest = bytes }) fs end → StopsAt end f → Feeds start bytes fs f (left_after f end)
 fed_to bytes fs end f runs stops = record { end = end; runs = runs; stops = stops; left = refl }
 
 -- at a fault

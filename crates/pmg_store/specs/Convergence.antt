@@ -10,8 +10,9 @@ use Rattle.pmg_commit.specs.Data.{Data, join_data, absorbed, known, level_at, re
 use Rattle.pmg_store.specs.Dump.{dump}
 use Rattle.pmg_store.specs.Dumps.{stream_dump}
 use Rattle.pmg_store.specs.Merged.{merge_of, one_after_the_other}
-use Rattle.pmg_store.specs.Pieces.{data_of, told_of}
+use Rattle.pmg_store.specs.Pieces.{data_of, pieces_told}
 use Rattle.pmg_store.specs.Told.{told_in}
+use Rattle.pmg_store.specs.declared.merge.TheConstants.{MAX_STREAMS}
 
 -- A way in which a store came to be: made, and then taking a piece, or another store with all that this one took.
 pub data Taking : Type 0 where
@@ -37,7 +38,7 @@ taken_by (Taking.join store other) = taken_by store ++ taken_by other
 abbrev pub Converges : Type 0
 Converges =
     (a b : Taking) → SameItems (taken_by a) (taken_by b)
-    → (held_by a ≡ held_by b) × (dump (held_by a) ≡ dump (held_by b)) × ((p : Proc) → known (held_by a) p ≡ core (told_of p (taken_by a)))
+    → (held_by a ≡ held_by b) × (dump (held_by a) ≡ dump (held_by b)) × ((p : Proc) → known (held_by a) p ≡ core (pieces_told p (taken_by a)))
 
 -- in any order, and however often each of them came
 abbrev pub SameInAnyOrder : Type 0
@@ -65,7 +66,7 @@ StreamsPrintAlike = (a b : List ℕ) (xs ys : List Contribution) → told_in a �
 
 -- Streams that are merged print the same in whatever order they come, and however often each of them does.
 abbrev pub MergesAlike : Type 0
-MergesAlike = (xs ys : List (List ℕ)) (text : List ℕ) → SameItems xs ys → length ys ≤ 64 → merge_of xs ≡ Ok text → merge_of ys ≡ Ok text
+MergesAlike = (xs ys : List (List ℕ)) (text : List ℕ) → SameItems xs ys → length ys ≤ MAX_STREAMS → merge_of xs ≡ Ok text → merge_of ys ≡ Ok text
 
 -- They print what they print as one stream, one after the other.
 abbrev pub MergesAsOne : Type 0
@@ -73,4 +74,4 @@ MergesAsOne = (streams : List (List ℕ)) (text : List ℕ) → Each IsBytes str
 
 -- What is held of each process is the core of the union of what the pieces tell of it.
 abbrev pub HoldsUnion : Type 0
-HoldsUnion = (pieces : List Contribution) (p : Proc) → known (data_of pieces) p ≡ core (told_of p pieces)
+HoldsUnion = (pieces : List Contribution) (p : Proc) → known (data_of pieces) p ≡ core (pieces_told p pieces)

@@ -13,6 +13,7 @@ use Rattle.pmg_store.specs.Dump.{dump}
 use Rattle.pmg_store.specs.Input.{input_of}
 use Rattle.pmg_store.specs.Pieces.{data_of}
 use Rattle.pmg_store.specs.Told.{told_in}
+use Rattle.pmg_store.specs.declared.merge.TheConstants.{MAX_STREAMS}
 
 -- the contributions that an input holds as a stream, or its first fault
 abbrev pub told_by_input : List ℕ → Result (List Contribution) Fault
@@ -62,4 +63,4 @@ too_many = Refused TooMany
 
 -- the dump of what it holds; of more than 64 streams none is read
 unfoldable pub merge_of : List (List ℕ) → Result (List ℕ) Failure
-merge_of streams = if nat_lt 64 (length streams) then Err too_many else made_of (λ cs. dump (data_of cs)) (told_from 1 streams)
+merge_of streams = if nat_lt MAX_STREAMS (length streams) then Err too_many else made_of (λ cs. dump (data_of cs)) (told_from 1 streams)

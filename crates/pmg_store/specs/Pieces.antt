@@ -17,10 +17,10 @@ abbrev pub is_of : Proc → Contribution → Bool
 is_of p c = eq_by_cmp proc_cmp p c.proc
 
 -- what the piece tells of the process: nothing, if it is of another one
-abbrev pub told_by : Proc → Contribution → Knowledge
-told_by p c = if is_of p c then knowledge_of c else nothing
+abbrev pub piece_knowledge : Proc → Contribution → Knowledge
+piece_knowledge p c = if is_of p c then knowledge_of c else nothing
 
 -- the union of what the pieces tell of the process
-abbrev pub told_of : Proc → List Contribution → Knowledge
-told_of p [] = nothing
-told_of p (c ∷ cs) = union (told_by p c) (told_of p cs)
+abbrev pub pieces_told : Proc → List Contribution → Knowledge
+pieces_told p [] = nothing
+pieces_told p (c ∷ cs) = union (piece_knowledge p c) (pieces_told p cs)

@@ -32,5 +32,5 @@ abbrev pub place_text : Proc × Option Track → List ℕ
 place_text place = track_text place.0 place.1
 
 -- the processes that have tracks
-abbrev pub procs_of : List (Proc × Option Track) → List Proc
-procs_of places = map (λ e. e.0) (filled core_in places)
+abbrev pub tracked_procs : List (Proc × Option Track) → List Proc
+tracked_procs places = map (λ e. e.0) (filled core_in places)

@@ -9,7 +9,7 @@ use Rattle.pmg_commit.specs.Data.{Data}
 use Rattle.pmg_frame.specs.declared.frame.Frame.{Frame}
 use Rattle.pmg_frame.specs.declared.frame.Frame.TheVariants as frames
 use Rattle.pmg_frame.specs.Refreshing.{told_by}
-use Rattle.pmg_frame.specs.Streams.{said_by}
+use Rattle.pmg_frame.specs.Streams.{stream_said}
 use Rattle.pmg_store.specs.Pieces.{data_of}
 
 -- what is told, where something is
@@ -31,7 +31,7 @@ told_by_said fs None offset left = if left == 0 then Ok (contributions fs) else 
 
 -- the contributions in a stream, or its first fault; a stream that ends inside a frame is cut there
 unfoldable pub told_in : List ℕ → Result (List Contribution) Fault
-told_in bytes = let said = said_by bytes in told_by_said said.frames said.fault said.end.offset (length said.end.rest)
+told_in bytes = let said = stream_said bytes in told_by_said said.frames said.fault said.end.offset (length said.end.rest)
 
 -- what a server holds that took a stream's contributions
 unfoldable pub data_told : List ℕ → Result Data Fault

@@ -7,6 +7,7 @@ ghost use Rattle.pmg_commit.specs.Data.{join_data, absorbed, level_at, read_at, 
 ghost use Rattle.pmg_store.specs.Dump.{dump};
 ghost use Rattle.pmg_store.specs.Outcomes.{Dumps};
 ghost use Rattle.pmg_store.specs.Pieces.{data_of, is_of};
+ghost use Rattle.pmg_commit.specs.declared.piece.TheConstants.{MAX_COMMIT};
 
 use crate::dump::dump_of_tracks;
 use crate::failure::Failure;
@@ -132,7 +133,7 @@ impl Store {
     /// The greatest n such that the commits 1 to n of the process were all taken, 0 if the first was not.
     pub fn level(&self, proc: &Proc) -> u64
         ensures value { result ≡ level_at self.now proc.now }
-        ensures bound { result ≤ 4294967295 }
+        ensures bound { result ≤ MAX_COMMIT }
     {
         match self.tracks.get(proc) {
             Some(track) => track.level(),
@@ -165,7 +166,7 @@ impl Store {
     /// held.
     pub fn level_with(&self, piece: &Piece, proc: &Proc) -> u64
         ensures value { result ≡ level_at (absorbed self.now piece.now) proc.now }
-        ensures bound { result ≤ 4294967295 }
+        ensures bound { result ≤ MAX_COMMIT }
     {
         if !is_of(proc, piece) {
             return self.level(proc);

@@ -10,8 +10,9 @@ ghost use Rattle.pmg_commit.specs.Pieces.{entry_of};
 ghost use Rattle.pmg_lane.specs.Lanes.{told, IsTrack};
 ghost use Rattle.pmg_lane.specs.declared.track.Track.{Track};
 ghost use Rattle.pmg_lane.specs.Places.{there_at};
-ghost use Rattle.pmg_store.specs.Tables.{procs_of};
+ghost use Rattle.pmg_store.specs.Tables.{tracked_procs};
 ghost use Rattle.pmg_store.specs.Tracks.{held_in, held_at, AreTracks, IsRoomFor, HaveRoomFor};
+ghost use Rattle.pmg_commit.specs.declared.piece.TheConstants.{MAX_COMMIT};
 
 use pmg_commit::PieceEntry;
 use pmg_lane::{Track, make_place, pop_place};
@@ -37,7 +38,7 @@ fn absorb_in(
 ) -> Result<(), AllocError>
     requires kept { IfSome place.old IsTrack }
     requires some { from < to }
-    requires bound { to ≤ 4294967295 }
+    requires bound { to ≤ MAX_COMMIT }
     ensures kept { IfSome place.new IsTrack }
     ensures taken { OnOk result (held_in place.new
         ≡ Some (join_to join_cores (held_in place.old) (core_of (told from to (map entry_of entries.items))))) }
@@ -107,7 +108,7 @@ impl Tracks {
 
     /// Copies of the processes that have tracks, in their order.
     pub fn processes(&self) -> Result<Vec<Proc>, AllocError>
-        ensures all { IfOk result (λ procs. procs.items ≡ procs_of self.now.places.entries) }
+        ensures all { IfOk result (λ procs. procs.items ≡ tracked_procs self.now.places.entries) }
         ensures ordered { IsOrdered proc_cmp self.now.places }
     {
         let mut procs = Vec::new(self.alloc);
@@ -143,7 +144,7 @@ impl Tracks {
     ) -> Result<(), AllocError>
         requires kept { AreTracks self.old.places }
         requires some { from < to }
-        requires bound { to ≤ 4294967295 }
+        requires bound { to ≤ MAX_COMMIT }
         ensures kept { AreTracks self.new.places }
         ensures taken { OnOk result ((q : Proc) → held_at self.new.places q
             ≡ cond (is_at (proc_cmp proc.now) q)

@@ -1,7 +1,7 @@
 //! Calls that are asked for again where an allocation failed in them: what they are called on was as before, and all ends as if
 //! nothing had been. These tests pass whichever allocation fails.
-use crate::making::{MEMORY, drawn, next_number, proc};
-use crate::spelled::{FRAMES, decoded};
+use crate::making::{MEMORY, draw_piece, next_number, proc};
+use crate::spelled::{FRAMES, decode_fields};
 use pmg_commit::Piece;
 use pmg_frame::{Fed, Stream};
 use pmg_store::{Failure, Store};
@@ -20,15 +20,15 @@ macro_rules! again {
 }
 
 // The store's dump.
-fn dumped(alloc: Global, store: &Store) -> Result<Vec<u8>, Failure> {
+fn dump_of(alloc: Global, store: &Store) -> Result<Vec<u8>, Failure> {
     let mut writer = WatchedWriter::new(Vec::new(alloc));
     store.dump(&mut writer)?;
     Ok(writer.into_inner())
 }
 
 // All that is seen of the store: its dump, and which of the commits 1 to 19 of the processes 0 to 3 it took.
-fn seen(rt: &impl Abort, alloc: Global, store: &Store) -> Vec<u8> {
-    let mut text = again!(rt, dumped(alloc, store));
+fn look_at(rt: &impl Abort, alloc: Global, store: &Store) -> Vec<u8> {
+    let mut text = again!(rt, dump_of(alloc, store));
     for rank in 0..4 {
         let proc = again!(rt, proc(alloc, rank));
         for n in 1..20 {
@@ -41,19 +41,21 @@ fn seen(rt: &impl Abort, alloc: Global, store: &Store) -> Vec<u8> {
 
 // Takes the piece.
 fn absorb(rt: &impl Abort, alloc: Global, store: &mut Store, piece: &Piece) {
-    let before = seen(rt, alloc, store);
+    let before = look_at(rt, alloc, store);
     if store.absorb(piece).is_err() {
-        assert!(rt; seen(rt, alloc, store) == before);
+        assert!(rt; look_at(rt, alloc, store) == before);
         store.absorb(piece).expect(rt, MEMORY);
     }
 }
 
 // Joins the other store.
 fn join(rt: &impl Abort, alloc: Global, store: &mut Store, other: Store) {
-    let before = seen(rt, alloc, store);
-    let given = seen(rt, alloc, &other);
+    let before = look_at(rt, alloc, store);
+    let given = look_at(rt, alloc, &other);
     if let Err(refused) = store.join(other) {
-        assert!(rt; seen(rt, alloc, store) == before && seen(rt, alloc, &refused.value) == given);
+        assert!(rt;
+            look_at(rt, alloc, store) == before && look_at(rt, alloc, &refused.value) == given
+        );
         store.join(refused.value).expect(rt, MEMORY);
     }
 }
@@ -68,13 +70,13 @@ fn stores_take_and_join(rt: HostRuntime) {
     let mut number = 7;
     for done in 0..24 {
         number = next_number(number);
-        let piece = again!(&rt, drawn(alloc, (number >> 62) as u32, number));
+        let piece = again!(&rt, draw_piece(alloc, (number >> 62) as u32, number));
         let half = if done % 2 == 0 { &mut even } else { &mut odd };
         absorb(&rt, alloc, half, &piece);
         absorb(&rt, alloc, &mut whole, &piece);
     }
     join(&rt, alloc, &mut even, odd);
-    assert!(rt; seen(&rt, alloc, &even) == seen(&rt, alloc, &whole));
+    assert!(rt; look_at(&rt, alloc, &even) == look_at(&rt, alloc, &whole));
 }
 
 // Feeds the bytes.
@@ -90,7 +92,7 @@ fn feed(rt: &impl Abort, stream: &mut Stream, bytes: &[u8]) -> Fed {
 }
 
 // The bytes of the frames that are found where these are fed in parts, each in its version, and the offset of the fault.
-fn found(rt: &impl Abort, alloc: Global, bytes: &[u8]) -> (Vec<u8>, Option<u64>) {
+fn frames_found(rt: &impl Abort, alloc: Global, bytes: &[u8]) -> (Vec<u8>, Option<u64>) {
     let mut stream = Stream::new(alloc);
     let mut found = Vec::new(alloc);
     let mut offset = None;
@@ -111,7 +113,7 @@ fn frames_and_fault(rt: &impl Abort, alloc: Global) -> Vec<u8> {
     let mut bytes = Vec::new(alloc);
     for line in FRAMES.lines() {
         let (_, text) = line.split_once(' ').unwrap_or(("", ""));
-        let frame = again!(rt, decoded(alloc, text));
+        let frame = again!(rt, decode_fields(alloc, text));
         again!(rt, bytes.extend_from_slice(&frame));
     }
     again!(rt, bytes.extend_from_slice(b"\x03\x01\x00\x00\x00\x00"));
@@ -123,6 +125,6 @@ fn streams_are_fed(rt: HostRuntime) {
     let alloc = rt.alloc();
     let bytes = frames_and_fault(&rt, alloc);
     let whole = bytes.get(..bytes.len().saturating_sub(6)).unwrap_or(&bytes);
-    let (found, offset) = found(&rt, alloc, &bytes);
+    let (found, offset) = frames_found(&rt, alloc, &bytes);
     assert!(rt; found.as_slice() == whole && offset == Some(whole.len() as u64));
 }

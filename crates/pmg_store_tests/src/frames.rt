@@ -1,7 +1,7 @@
 //! What no clause says: that frames of which bytes, faults and offsets were found by hand are read and written so,
 //! however their bytes come.
 use crate::making::{MEMORY, fence_name};
-use crate::spelled::{FRAMES, edited, full_header, made};
+use crate::spelled::{FRAMES, edit_frame, full_header, make_frame};
 use pmg_frame::{FenceName, Frame, HEAD_SIZE, Stream};
 use pmg_value::{Cause, Fault, Refusal};
 use std::alloc::Global;
@@ -21,7 +21,7 @@ fn assert_one(rt: &impl Abort, alloc: Global, bytes: &[u8], frame: &Frame) {
 
 // Requires that these bytes say the frame of that name alone.
 fn assert_kind(rt: &impl Abort, alloc: Global, bytes: &[u8], name: &str) {
-    assert_one(rt, alloc, bytes, &made(rt, alloc, name))
+    assert_one(rt, alloc, bytes, &make_frame(rt, alloc, name))
 }
 
 // Feeds bytes, and requires that so many frames are in them and no fault.
@@ -47,7 +47,7 @@ fn each_kind_is_read_and_written_whole_and_split(rt: HostRuntime) {
     let alloc = rt.alloc();
     for line in FRAMES.lines() {
         let (name, _) = line.split_once(' ').unwrap_or(("", ""));
-        let bytes = edited(&rt, alloc, name);
+        let bytes = edit_frame(&rt, alloc, name);
         assert_kind(&rt, alloc, &bytes, name);
         assert_splits(&rt, alloc, &bytes);
     }
@@ -56,9 +56,9 @@ fn each_kind_is_read_and_written_whole_and_split(rt: HostRuntime) {
 #[test]
 fn frames_are_written_in_version_2_and_in_no_version_past_it(rt: HostRuntime) {
     let alloc = rt.alloc();
-    let frame = made(&rt, alloc, "short-header");
+    let frame = make_frame(&rt, alloc, "short-header");
     let written = frame.encode(alloc).expect(&rt, MEMORY);
-    assert!(rt; written.as_slice() == edited(&rt, alloc, "short-header").as_slice());
+    assert!(rt; written.as_slice() == edit_frame(&rt, alloc, "short-header").as_slice());
     for version in [0, 3, 255] {
         assert!(rt; frame.encode_as(alloc, version).err() == Some(Refusal::BadParam));
     }
@@ -94,9 +94,9 @@ fn assert_closed(rt: &impl Abort, stream: &mut Stream, more: &[u8]) {
 
 #[test]
 fn a_fault_closes_the_stream(rt: HostRuntime) {
-    let mut bytes = edited(&rt, rt.alloc(), "piece");
+    let mut bytes = edit_frame(&rt, rt.alloc(), "piece");
     for frame in ["piece 27=02 42=02", "piece 44=02", "piece"] {
-        let more = edited(&rt, rt.alloc(), frame);
+        let more = edit_frame(&rt, rt.alloc(), frame);
         bytes.extend_from_slice(&more).expect(&rt, MEMORY);
     }
     for cut in 0..bytes.len().min(135) {
@@ -254,7 +254,7 @@ fn the_first_fault_is_found_with_its_last_byte(rt: HostRuntime) {
     let alloc = rt.alloc();
     for line in FAULTS.lines() {
         let (text, want) = line.split_once(": ").unwrap_or(("", ""));
-        let fault = last_fault(&rt, alloc, &edited(&rt, alloc, text));
+        let fault = last_fault(&rt, alloc, &edit_frame(&rt, alloc, text));
         assert_eq!(rt; fault_text(&rt, alloc, fault).as_str(), want, "{line}");
     }
 }

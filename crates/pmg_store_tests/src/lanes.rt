@@ -1,6 +1,6 @@
 //! What no clause says: that calls succeed where there is memory, and what lanes and stores of some pieces hold, found
 //! by hand or by a slow program.
-use crate::making::{MEMORY, ORDERS, drawn, next_number, piece, proc, small, three};
+use crate::making::{MEMORY, ORDERS, draw_piece, next_number, piece, proc, small, three};
 use crate::plain::Plain;
 use pmg_commit::Piece;
 use pmg_join::Join;
@@ -22,7 +22,7 @@ fn lane_of(rt: &impl Abort, alloc: Global, pieces: &[Piece], order: &[usize]) ->
 }
 
 // The level, and what is read under the keys a and b.
-fn seen(rt: &impl Abort, alloc: Global, lane: &Lane) -> (u64, Option<u8>, Option<u8>) {
+fn look_at(rt: &impl Abort, alloc: Global, lane: &Lane) -> (u64, Option<u8>, Option<u8>) {
     let a = small(lane.read(&Key::read(alloc, b"a").expect(rt, MEMORY)));
     let b = small(lane.read(&Key::read(alloc, b"b").expect(rt, MEMORY)));
     (lane.level(), a, b)
@@ -34,7 +34,7 @@ fn each_order_ends_alike(rt: HostRuntime) {
     let pieces = three(&rt, alloc);
     for order in ORDERS {
         let lane = lane_of(&rt, alloc, &pieces, &order);
-        assert!(rt; seen(&rt, alloc, &lane) == (3, Some(2), Some(3)));
+        assert!(rt; look_at(&rt, alloc, &lane) == (3, Some(2), Some(3)));
     }
 }
 
@@ -46,7 +46,7 @@ fn two_lanes(rt: &impl Abort, alloc: Global) -> (Lane, Lane) {
 }
 
 // A copy of what two lanes join to, where one is joined twice.
-fn joined(rt: &impl Abort, alloc: Global) -> Lane {
+fn join_twice(rt: &impl Abort, alloc: Global) -> Lane {
     let (early, mut late) = two_lanes(rt, alloc);
     Join::join(&mut late, Join::copy(&early).expect(rt, MEMORY)).expect(rt, MEMORY);
     late.join(early).expect(rt, MEMORY);
@@ -55,8 +55,8 @@ fn joined(rt: &impl Abort, alloc: Global) -> Lane {
 
 #[test]
 fn lanes_join_to_what_both_took(rt: HostRuntime) {
-    let lane = joined(&rt, rt.alloc());
-    assert!(rt; seen(&rt, rt.alloc(), &lane) == (3, Some(2), Some(3)));
+    let lane = join_twice(&rt, rt.alloc());
+    assert!(rt; look_at(&rt, rt.alloc(), &lane) == (3, Some(2), Some(3)));
 }
 
 // A piece with one entry: its first commit less one, its last, the commit of the entry, and the value under a.
@@ -114,7 +114,7 @@ fn seen_in_store(rt: &impl Abort, alloc: Global, store: &Store) -> (u64, Option<
 fn assert_row(rt: &impl Abort, alloc: Global, row: Row<'_>) {
     let (parts, level, missing, value) = row;
     let lane = lane_of_parts(rt, alloc, parts);
-    assert!(rt; seen(rt, alloc, &lane) == (level, value, None));
+    assert!(rt; look_at(rt, alloc, &lane) == (level, value, None));
     assert!(rt; lane.missing_after(2) == missing);
     let store = store_of_parts(rt, alloc, parts);
     assert!(rt; seen_in_store(rt, alloc, &store) == (level, value));
@@ -161,7 +161,7 @@ fn is_same(lane: &Lane, plain: &Plain) -> bool {
 
 // Takes the piece that the number says.
 fn take(rt: &impl Abort, alloc: Global, lane: &mut Lane, plain: &mut Plain, number: u64) {
-    let next = drawn(alloc, 0, number).expect(rt, MEMORY);
+    let next = draw_piece(alloc, 0, number).expect(rt, MEMORY);
     lane.absorb(&next).expect(rt, MEMORY);
     plain.absorb(rt, next);
 }

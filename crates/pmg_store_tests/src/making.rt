@@ -94,7 +94,7 @@ pub fn next_number(number: u64) -> u64 {
 }
 
 /// A piece of one to four of the commits 1 to 19 of the process of that rank, as the number says.
-pub fn drawn(alloc: Global, rank: u32, number: u64) -> Result<Piece, Refusal> {
+pub fn draw_piece(alloc: Global, rank: u32, number: u64) -> Result<Piece, Refusal> {
     let from = (number >> 58) & 15;
     let first = from.wrapping_add(1);
     let more = (number >> 56) & 3;

@@ -115,7 +115,7 @@ fn commit_ask(rt: &impl Abort, alloc: Global, node: NodeId, level: u64) -> Commi
 }
 
 /// The frame of that name, made from what it says.
-pub fn made(rt: &impl Abort, alloc: Global, name: &str) -> Frame {
+pub fn make_frame(rt: &impl Abort, alloc: Global, name: &str) -> Frame {
     let node = NodeId::new(1).expect(rt, MEMORY);
     match name.strip_prefix("short-").unwrap_or(name) {
         "piece" => Frame::Piece(first_commit(rt, alloc, &[b"a"])),
@@ -147,7 +147,7 @@ pub fn made(rt: &impl Abort, alloc: Global, name: &str) -> Frame {
 }
 
 /// The bytes of hexadecimal text, in which blanks part the fields.
-pub fn decoded(alloc: Global, text: &str) -> Result<Vec<u8>, FromHexError> {
+pub fn decode_fields(alloc: Global, text: &str) -> Result<Vec<u8>, FromHexError> {
     let mut bytes = Vec::new(alloc);
     for field in text.split_whitespace() {
         bytes.extend_from_slice(&hex::decode(alloc, field.as_bytes())?)?;
@@ -160,7 +160,7 @@ fn bytes_of(rt: &impl Abort, alloc: Global, name: &str) -> Vec<u8> {
     for line in FRAMES.lines() {
         let (first, text) = line.split_once(' ').unwrap_or(("", ""));
         if first == name {
-            return decoded(alloc, text).expect(rt, MEMORY);
+            return decode_fields(alloc, text).expect(rt, MEMORY);
         }
     }
     panic!(rt; "there is no frame {name}")
@@ -185,7 +185,7 @@ fn edit(rt: &impl Abort, bytes: &mut Vec<u8>, text: &str) {
 }
 
 /// The bytes of the frame that is named first, with the edits that follow, as `piece 7=20 19=01`.
-pub fn edited(rt: &impl Abort, alloc: Global, text: &str) -> Vec<u8> {
+pub fn edit_frame(rt: &impl Abort, alloc: Global, text: &str) -> Vec<u8> {
     let mut words = text.split_whitespace();
     let mut bytes = bytes_of(rt, alloc, words.next().unwrap_or(""));
     for word in words {

@@ -1,8 +1,8 @@
 //! What no clause says of stores and boards: that calls succeed where there is memory, the text of their dumps, and
 //! that they hold what a plain list of pieces does; and that they are as they were where memory ran out.
-use crate::making::{MEMORY, ORDERS, drawn, next_number, piece, small, three};
+use crate::making::{MEMORY, ORDERS, draw_piece, next_number, piece, small, three};
 use crate::plain::Plain;
-use crate::spelled::{PIECE_DUMPED, edited, first_commit};
+use crate::spelled::{PIECE_DUMPED, edit_frame, first_commit};
 use pmg_commit::Piece;
 use pmg_join::{Join, join_all};
 use pmg_store::{Board, Store, store_of_stream};
@@ -50,7 +50,7 @@ fn two_stores(rt: &impl Abort, alloc: Global) -> (Store, Store) {
 }
 
 // What the stores join to, where the first is joined twice.
-fn joined(rt: &impl Abort, alloc: Global, first: Store, second: Store) -> Store {
+fn join_twice(rt: &impl Abort, alloc: Global, first: Store, second: Store) -> Store {
     let mut both = second;
     let copy = Join::copy(&first).expect(rt, MEMORY);
     both.join(copy).expect(rt, MEMORY);
@@ -64,7 +64,14 @@ fn three_pieces_end_alike_by_joins(rt: HostRuntime) {
     let alloc = rt.alloc();
     let (outer, second) = two_stores(&rt, alloc);
     assert!(rt; is_dumped(&rt, alloc, &outer, ONE_DUMPED));
-    assert!(rt; is_dumped(&rt, alloc, &joined(&rt, alloc, outer, second), THREE_DUMPED));
+    assert!(rt;
+        is_dumped(
+            &rt,
+            alloc,
+            &join_twice(&rt, alloc, outer, second),
+            THREE_DUMPED
+        )
+    );
 }
 
 // Takes the piece. Where memory runs out, the store is dumped as it was before, and the piece is taken then.
@@ -111,7 +118,7 @@ fn join(rt: &impl Abort, alloc: Global, store: &mut Store, other: Store, text: &
 #[test]
 fn refused_memory_leaves_a_store_as_it_was(rt: HostRuntime) {
     let alloc = rt.alloc();
-    let other = store_of_stream(alloc, &edited(&rt, alloc, "piece")).expect(&rt, MEMORY);
+    let other = store_of_stream(alloc, &edit_frame(&rt, alloc, "piece")).expect(&rt, MEMORY);
     let mut store = Store::new(alloc);
     join(&rt, alloc, &mut store, other, PIECE_DUMPED);
     assert!(rt; is_dumped(&rt, alloc, &store, PIECE_DUMPED));
@@ -203,7 +210,7 @@ fn take(
     plain: &mut Plain,
     number: u64,
 ) {
-    let next = drawn(alloc, (number >> 62) as u32, number).expect(rt, MEMORY);
+    let next = draw_piece(alloc, (number >> 62) as u32, number).expect(rt, MEMORY);
     half.absorb(&next).expect(rt, MEMORY);
     both.absorb(&next).expect(rt, MEMORY);
     plain.absorb(rt, next);

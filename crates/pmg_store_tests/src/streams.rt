@@ -1,6 +1,6 @@
 //! What no clause says: that streams are read, merged and dumped, and what is left where a reader or a writer fails.
 use crate::making::MEMORY;
-use crate::spelled::{PIECE_DUMPED, edited};
+use crate::spelled::{PIECE_DUMPED, edit_frame};
 use pmg_store::{
     Failure, INPUT_LIMIT, WatchedReader, dump_stream, merge_inputs, merge_streams, read_input,
 };
@@ -75,7 +75,7 @@ fn with_memory(rt: &impl Abort, failure: Option<Failure>) -> Option<Failure> {
 #[test]
 fn a_failed_read_leaves_nothing_written(rt: HostRuntime) {
     let alloc = rt.alloc();
-    let bytes = edited(&rt, alloc, "piece");
+    let bytes = edit_frame(&rt, alloc, "piece");
     for fails_at in 1..=46 {
         let kind = match fails_at % 3 {
             0 => ErrorKind::Other,
@@ -99,7 +99,7 @@ fn a_failed_read_leaves_nothing_written(rt: HostRuntime) {
 #[test]
 fn a_failed_write_leaves_a_prefix(rt: HostRuntime) {
     let alloc = rt.alloc();
-    let bytes = edited(&rt, alloc, "piece");
+    let bytes = edit_frame(&rt, alloc, "piece");
     for most in 0..=31 {
         let held = Vec::with_capacity(alloc, most).expect(&rt, MEMORY);
         let mut reader = WatchedReader::new(bytes.as_slice());
@@ -137,12 +137,12 @@ fn merge_fault(rt: &impl Abort, alloc: Global, first: &[u8], second: &[u8]) -> O
 #[test]
 fn streams_are_merged_up_to_a_fault(rt: HostRuntime) {
     let alloc = rt.alloc();
-    let whole = edited(&rt, alloc, "piece");
+    let whole = edit_frame(&rt, alloc, "piece");
     let none = Vec::new(alloc);
     for (first, second) in [(&whole, &none), (&none, &whole), (&whole, &whole)] {
         assert_merged(&rt, alloc, first, second);
     }
-    let cut = edited(&rt, alloc, "piece ..44");
+    let cut = edit_frame(&rt, alloc, "piece ..44");
     let late = merge_fault(&rt, alloc, &whole, &cut);
     assert!(rt; matches!(late, Some(Failure::InStream(2, fault)) if fault.cause == Cause::Cut));
     let early = merge_fault(&rt, alloc, &cut, b"\x03\x01\x00\x00\x00\x00");

@@ -11,7 +11,7 @@ use Rattle.std.specs.Prelude.{Option, Some, None, is_some}
 use Rattle.std.specs.declared.cmp.Ordering.{Ordering}
 use Rattle.std.specs.declared.cmp.Ordering.TheVariants.{Less}
 use lib.Dec.{T}
-use Rattle.pmg_value.specs.InOrder.{marked, in_order}
+use Rattle.pmg_value.specs.InOrder.{as_entries, in_order}
 
 both : (a b : Bool) → T a → T b → T (a && b)
 both true b p q = q
@@ -25,16 +25,16 @@ less_is : (r : Ordering) → T (is_lt r) → r ≡ Less
 less_is Less p = refl
 less_is r p = absurd p
 
-keys_of-marks : {K : Type 0} (ks : List K) → map (λ e. e.0) (marked ks) ≡ ks
+keys_of-marks : {K : Type 0} (ks : List K) → map (λ e. e.0) (as_entries ks) ≡ ks
 keys_of-marks [] = refl
 keys_of-marks (k ∷ ks) = ap (λ xs. k ∷ xs) (keys_of-marks ks)
 
 module _ {K : Type 0} (R : K → K → Ordering) where
-  marks_below : (k : K) (ks : List K) → AllByRecursion (λ y. R k y ≡ Less) ks → T (below_all R k (marked ks))
+  marks_below : (k : K) (ks : List K) → AllByRecursion (λ y. R k y ≡ Less) ks → T (below_all R k (as_entries ks))
   marks_below k [] h = tt
   marks_below k (y ∷ ks) h = both _ _ (subst (λ r. T (is_lt r)) (sym h.0) tt) (marks_below k ks h.1)
 
-  marks_sorted : (ks : List K) → IsStrictlySortedBy R ks → T (is_sorted R (marked ks))
+  marks_sorted : (ks : List K) → IsStrictlySortedBy R ks → T (is_sorted R (as_entries ks))
   unfolding IsStrictlySortedBy
   marks_sorted [] h = tt
   marks_sorted (k ∷ ks) h = both _ _ (marks_below k ks h.0) (marks_sorted ks h.1)
@@ -48,9 +48,9 @@ module _ {K : Type 0} (R : K → K → Ordering) where
   keys_sorted [] h = tt
   keys_sorted (e ∷ es) h = let p = parts_of (below_all R e.0 es) (is_sorted R es) h in (keys_above e.0 es p.0, keys_sorted es p.1)
 
-  any_mark : (q : K) (ks : List K) → is_some (find R q (marked ks)) ≡ list_any (eq_by_cmp R q) ks
+  any_mark : (q : K) (ks : List K) → is_some (find R q (as_entries ks)) ≡ list_any (eq_by_cmp R q) ks
   any_mark q [] = refl
-  any_mark q (k ∷ ks) = elim (eq_by_cmp R q k) as (λ b. is_some (cond b (Some tt) (find R q (marked ks))) ≡ (b || list_any (eq_by_cmp R q) ks)) [ true ↦ refl | false ↦ any_mark q ks ]
+  any_mark q (k ∷ ks) = elim (eq_by_cmp R q k) as (λ b. is_some (cond b (Some tt) (find R q (as_entries ks))) ≡ (b || list_any (eq_by_cmp R q) ks)) [ true ↦ refl | false ↦ any_mark q ks ]
 
 -- two marks that are there alike are equal
 units : (a b : Option (Unit {0})) → is_some a ≡ is_some b → a ≡ b
@@ -65,18 +65,18 @@ some_if false x = refl
 
 -- the items in order rise
 pub in_order_rises : {K : Type 0} {R : K → K → Ordering} (s : set.FinSet R) → IsStrictlySortedBy R (in_order s)
-in_order_rises {R = R} s = let m = finite.from_entries {R = R} (marked (set.items s)) in keys_sorted R (finite.entries m) (finite.entries_sorted m)
+in_order_rises {R = R} s = let m = finite.from_entries {R = R} (as_entries (set.items s)) in keys_sorted R (finite.entries m) (finite.entries_sorted m)
 
 module _ {K : Type 0} {R : K → K → Ordering} (o : IsTotalOrder R) where
-  has_mark : (ks : List K) (q : K) → is_some (finite.get (finite.from_entries {R = R} (marked ks)) q) ≡ list_any (eq_by_cmp R q) ks
+  has_mark : (ks : List K) (q : K) → is_some (finite.get (finite.from_entries {R = R} (as_entries ks)) q) ≡ list_any (eq_by_cmp R q) ks
   has_mark [] q = ap is_some (finite.get-empty R q)
   has_mark (k ∷ ks) q =
-      ap is_some (finite.get-insert o (finite.from_entries (marked ks)) k tt q) ∙ some_if (eq_by_cmp R q k) (finite.get (finite.from_entries (marked ks)) q)
+      ap is_some (finite.get-insert o (finite.from_entries (as_entries ks)) k tt q) ∙ some_if (eq_by_cmp R q k) (finite.get (finite.from_entries (as_entries ks)) q)
       ∙ ap (λ b. eq_by_cmp R q k || b) (has_mark ks q)
 
   pub any_in_order : (s : set.FinSet R) (q : K) → list_any (eq_by_cmp R q) (in_order s) ≡ set.contains s q
   any_in_order s q =
-      sym (finite.contains_key-keys (finite.from_entries (marked (set.items s))) q) ∙ has_mark (set.items s) q ∙ sym (set.contains-items s q)
+      sym (finite.contains_key-keys (finite.from_entries (as_entries (set.items s))) q) ∙ has_mark (set.items s) q ∙ sym (set.contains-items s q)
 
   not_among : (k : K) (ks : List K) → AllByRecursion (λ y. R k y ≡ Less) ks → list_any (eq_by_cmp R k) ks ≡ false
   not_among k [] h = refl
@@ -95,13 +95,13 @@ module _ {K : Type 0} {R : K → K → Ordering} (o : IsTotalOrder R) (exact : s
   pub in_order-from_list : (ks : List K) → IsStrictlySortedBy R ks → in_order (set.from_list {R = R} ks) ≡ ks
   in_order-from_list ks rises =
       let sorted = marks_sorted R ks rises in
-      let own : finite.FinMap R (Unit {0}) = finite.from_sorted (marked ks) in
-      let other : finite.FinMap R (Unit {0}) = finite.from_entries (marked (set.items (set.from_list {R = R} ks))) in
+      let own : finite.FinMap R (Unit {0}) = finite.from_sorted (as_entries ks) in
+      let other : finite.FinMap R (Unit {0}) = finite.from_entries (as_entries (set.items (set.from_list {R = R} ks))) in
       let has : (q : K) → is_some (finite.get other q) ≡ is_some (finite.get own q) = λ q.
       has_mark o (set.items (set.from_list {R = R} ks)) q ∙ sym (set.contains-items (set.from_list ks) q) ∙ set.contains-from_list o ks q
-      ∙ sym (ap is_some (finite.get-from_sorted R (marked ks) q sorted) ∙ any_mark R q ks) in
+      ∙ sym (ap is_some (finite.get-from_sorted R (as_entries ks) q sorted) ∙ any_mark R q ks) in
       let alike : other ≡ own = finite.same_map o exact other own (λ q. units _ _ (has q)) in
-      ap finite.keys alike ∙ ap (map (λ (e : K × Unit {0}). e.0)) (finite.entries-from_sorted R (marked ks) sorted) ∙ keys_of-marks ks
+      ap finite.keys alike ∙ ap (map (λ (e : K × Unit {0}). e.0)) (finite.entries-from_sorted R (as_entries ks) sorted) ∙ keys_of-marks ks
 
   -- and the set of its list is the set
   pub from_list-in_order : (s : set.FinSet R) → set.from_list (in_order s) ≡ s

@@ -8,7 +8,7 @@ use Rattle.std.specs.Ordering.{nat_cmp, ordering_then, is_ne}
 use Rattle.std.specs.Cmp.Lexicographic.{slice_cmp}
 use Rattle.std.proofs.lemmas.Bool.{true≢false, and_parts, leb-true, lt-ltb, le-ltb, ltb-true, ltb-false, eq-eqb, ne_eqb}
 use Rattle.pmg_value.specs.Names.{is_printable}
-use Rattle.pmg_value.specs.Words.{front_from, front_of}
+use Rattle.pmg_value.specs.Words.{front_from, first_eight}
 
 -- each byte is one
 abbrev pub AreBytes : List ℕ → Type 0
@@ -16,7 +16,7 @@ AreBytes [] = Unit {0}
 AreBytes (b ∷ bs) = (b ≤ 255) × AreBytes bs
 
 -- the first eight bytes, by the number of each
-pub front_is : (bs : List ℕ) → (((((get_or bs 0 0 * 256 + get_or bs 1 0) * 65536 + (get_or bs 2 0 * 256 + get_or bs 3 0)) * 65536 + (get_or bs 4 0 * 256 + get_or bs 5 0)) * 65536) + (get_or bs 6 0 * 256 + get_or bs 7 0)) ≡ front_of bs
+pub front_is : (bs : List ℕ) → (((((get_or bs 0 0 * 256 + get_or bs 1 0) * 65536 + (get_or bs 2 0 * 256 + get_or bs 3 0)) * 65536 + (get_or bs 4 0 * 256 + get_or bs 5 0)) * 65536) + (get_or bs 6 0 * 256 + get_or bs 7 0)) ≡ first_eight bs
 front_is [] = omega arith
 front_is (a ∷ []) = omega arith
 front_is (a ∷ b ∷ []) = omega arith
@@ -127,7 +127,7 @@ printable_are_bytes (b ∷ bs) all =
     (omega (arith, low), printable_are_bytes bs parts.1)
 
 module _ (a b : List ℕ) (f g : ℕ) (fronts : Ordering)
-    (first : (f ≡ front_of a) × IsTrue (list_all is_printable a)) (second : (g ≡ front_of b) × IsTrue (list_all is_printable b))
+    (first : (f ≡ first_eight a) × IsTrue (list_all is_printable a)) (second : (g ≡ first_eight b) × IsTrue (list_all is_printable b))
     (compared : fronts ≡ nat_cmp f g) where
   -- words with different fronts compare as these do
   pub by_fronts : is_ne fronts ≡ true → fronts ≡ slice_cmp nat_cmp a b

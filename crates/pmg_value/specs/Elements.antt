@@ -4,6 +4,7 @@ use Rattle.std.specs.Int.{w32, to_be_bytes}
 use Rattle.std.specs.List.{flat_map, list_all}
 use Rattle.pmg_value.specs.Lists.{Each}
 use Rattle.pmg_value.specs.Plain.{Plain, IsPlain, plain_tag, plain_body, is_plain_tag}
+use Rattle.pmg_value.specs.declared.value.TheConstants.{MAX_VALUE_SIZE}
 
 -- an array: the tag of its elements, and the elements (PMIx Standard 5.0, pmix_data_array_t)
 pub record Elements : Type 0 where
@@ -24,7 +25,7 @@ are_of_kind tag plains = list_all (λ p. plain_tag p == tag) plains
 
 -- the array's tag is one of elements, each element is of that kind, and the value is no longer than one may be
 abbrev pub is_array : Elements → Bool
-is_array a = is_plain_tag a.tag && are_of_kind a.tag a.plains && nat_le (1 + length (array_body a)) 1048576
+is_array a = is_plain_tag a.tag && are_of_kind a.tag a.plains && nat_le (1 + length (array_body a)) MAX_VALUE_SIZE
 
 -- an array that a value may be
 pub record IsArray (a : Elements) : Type 0 where

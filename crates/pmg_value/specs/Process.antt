@@ -7,14 +7,23 @@ use Rattle.std.specs.Coded.{Coded, code_by, coded×, coded_list, coded_ℕ}
 use Rattle.pmg_value.specs.declared.process.Proc.{Proc}
 use Rattle.std.specs.Str.{bytes_eq}
 use Rattle.pmg_value.specs.Names.{is_reserved}
+use Rattle.pmg_value.specs.declared.process.TheConstants.{MAX_RANK}
 
--- no rank is named (PMIx Standard 5.0, pmix_rank_t: PMIX_RANK_UNDEF)
+-- the rank that names none (PMIx Standard 5.0, pmix_rank_t: PMIX_RANK_UNDEF); it is the greatest number of a rank
+abbrev pub undef : ℕ
+undef = 4294967295
+
+-- the rank that means all of the namespace (PMIx Standard 5.0, pmix_rank_t: PMIX_RANK_WILDCARD)
+abbrev pub wildcard : ℕ
+wildcard = 4294967294
+
+-- no rank is named
 abbrev pub is_undef : ℕ → Bool
-is_undef rank = rank == 4294967295
+is_undef rank = rank == undef
 
--- all ranks of the namespace are meant (PMIx Standard 5.0, pmix_rank_t: PMIX_RANK_WILDCARD)
+-- all ranks of the namespace are meant
 abbrev pub is_wildcard : ℕ → Bool
-is_wildcard rank = rank == 4294967294
+is_wildcard rank = rank == wildcard
 
 -- by the bytes of the namespace, then by rank (PMIx Standard 5.0, data types: pmix_proc_t)
 abbrev pub proc_cmp : Proc → Proc → Ordering
@@ -32,7 +41,7 @@ coded_proc =
 
 -- A process that a group may register: its namespace's name is not kept for the standard, and its rank is one of 4096.
 abbrev pub is_client : Proc → Bool
-is_client p = not (is_reserved p.nspace) && nat_le p.rank 4095
+is_client p = not (is_reserved p.nspace) && nat_le p.rank MAX_RANK
 
 -- The namespace of the one process that stands for the group's host.
 abbrev pub host_name : List ℕ

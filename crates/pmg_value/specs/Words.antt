@@ -8,5 +8,5 @@ front_from (suc n) so_far [] = front_from n (so_far * 256) []
 front_from (suc n) so_far (b ∷ bs) = front_from n (so_far * 256 + b) bs
 
 -- the first eight bytes as one number, of which the first counts most
-abbrev pub front_of : List ℕ → ℕ
-front_of bytes = front_from 8 0 bytes
+abbrev pub first_eight : List ℕ → ℕ
+first_eight bytes = front_from 8 0 bytes

@@ -75,7 +75,7 @@ impl Array {
     /// The number of the canonical bytes of the array as a value.
     pub fn size(&self) -> usize
         ensures value { result ≡ 1 + length (array_body self.now) }
-        ensures bound { result ≤ 1048576 }
+        ensures bound { result ≤ MAX_VALUE_SIZE }
     {
         self.size
     }

@@ -8,6 +8,7 @@ ghost use Rattle.pmg_value.specs.Spelling.{spelling, tag_of, body_of, plains_of,
 ghost use Rattle.pmg_value.specs.Plain.{counted};
 ghost use Rattle.pmg_value.specs.Parts.{in_parts, head_len, middle_len, end_len, AreItems, AreAlike};
 ghost use Rattle.pmg_value.specs.Names.{is_nspace};
+ghost use Rattle.pmg_value.specs.declared.blobs.TheConstants.{MAX_BLOB_LEN};
 
 use crate::array::Array;
 use crate::process::Proc;
@@ -46,25 +47,25 @@ impl Value {
         ensures is { IsValue self.now }
     {
         match self {
-            Value::Bool(b) => alone(&[u8::from(*b)]),
-            Value::Byte(n) => alone(&[*n]),
-            Value::Str(text) => counted(text.as_bytes()),
-            Value::Size(n) => alone(&n.to_be_bytes()),
-            Value::I8(n) => alone(&n.to_be_bytes()),
-            Value::I16(n) => alone(&n.to_be_bytes()),
-            Value::I32(n) => alone(&n.to_be_bytes()),
-            Value::I64(n) => alone(&n.to_be_bytes()),
-            Value::U8(n) => alone(&[*n]),
-            Value::U16(n) => alone(&n.to_be_bytes()),
-            Value::U32(n) => alone(&n.to_be_bytes()),
-            Value::U64(n) => alone(&n.to_be_bytes()),
-            Value::Int(n) => alone(&n.to_be_bytes()),
-            Value::Uint(n) => alone(&n.to_be_bytes()),
-            Value::Rank(rank) => alone(&rank.number().to_be_bytes()),
-            Value::Proc(process) => named(process),
-            Value::Status(n) => alone(&n.to_be_bytes()),
-            Value::Bytes(octets) => counted(octets.as_bytes()),
-            Value::Array(array) => listed(array),
+            Value::Bool(b) => head_alone(&[u8::from(*b)]),
+            Value::Byte(n) => head_alone(&[*n]),
+            Value::Str(text) => counted_body(text.as_bytes()),
+            Value::Size(n) => head_alone(&n.to_be_bytes()),
+            Value::I8(n) => head_alone(&n.to_be_bytes()),
+            Value::I16(n) => head_alone(&n.to_be_bytes()),
+            Value::I32(n) => head_alone(&n.to_be_bytes()),
+            Value::I64(n) => head_alone(&n.to_be_bytes()),
+            Value::U8(n) => head_alone(&[*n]),
+            Value::U16(n) => head_alone(&n.to_be_bytes()),
+            Value::U32(n) => head_alone(&n.to_be_bytes()),
+            Value::U64(n) => head_alone(&n.to_be_bytes()),
+            Value::Int(n) => head_alone(&n.to_be_bytes()),
+            Value::Uint(n) => head_alone(&n.to_be_bytes()),
+            Value::Rank(rank) => head_alone(&rank.number().to_be_bytes()),
+            Value::Proc(process) => proc_body(process),
+            Value::Status(n) => head_alone(&n.to_be_bytes()),
+            Value::Bytes(octets) => counted_body(octets.as_bytes()),
+            Value::Array(array) => array_parts(array),
         }
     }
 
@@ -86,7 +87,7 @@ impl Value {
 }
 
 // These bytes, of which there are at most eight.
-fn held(bytes: &[u8]) -> ArrayVec<u8, 8>
+fn short_bytes(bytes: &[u8]) -> ArrayVec<u8, 8>
     requires { length bytes.now ≤ 8 }
     ensures { result.items ≡ bytes.now }
 {
@@ -96,7 +97,7 @@ fn held(bytes: &[u8]) -> ArrayVec<u8, 8>
 }
 
 // A body that is a head alone, of these bytes.
-fn alone(bytes: &[u8]) -> Parts<'static>
+fn head_alone(bytes: &[u8]) -> Parts<'static>
     requires { length bytes.now ≤ 8 }
     ensures body { in_parts result.head.items result.middle.now result.end.items result.items.now ≡ bytes.now }
     ensures head { result.head.items ≡ bytes.now }
@@ -105,7 +106,7 @@ fn alone(bytes: &[u8]) -> Parts<'static>
     ensures items { result.items.now ≡ [] }
 {
     Parts {
-        head: held(bytes),
+        head: short_bytes(bytes),
         middle: &[],
         end: ArrayVec::new(),
         items: &[],
@@ -114,8 +115,8 @@ fn alone(bytes: &[u8]) -> Parts<'static>
 
 // A body of these bytes, after four bytes of their number.
 #[tactic(auto, using(crate::proofs::OrderLemmas::length_again))]
-fn counted(bytes: &[u8]) -> Parts<'_>
-    requires { length bytes.now ≤ 1048571 }
+fn counted_body(bytes: &[u8]) -> Parts<'_>
+    requires { length bytes.now ≤ MAX_BLOB_LEN }
     ensures body { in_parts result.head.items result.middle.now result.end.items result.items.now ≡ counted bytes.now }
     ensures head { length result.head.items ≡ 4 }
     ensures middle { length result.middle.now ≡ from_be_bytes w32 result.head.items }
@@ -123,7 +124,7 @@ fn counted(bytes: &[u8]) -> Parts<'_>
     ensures items { result.items.now ≡ [] }
 {
     Parts {
-        head: held(&(bytes.len() as u32).to_be_bytes()),
+        head: short_bytes(&(bytes.len() as u32).to_be_bytes()),
         middle: bytes,
         end: ArrayVec::new(),
         items: &[],
@@ -131,7 +132,7 @@ fn counted(bytes: &[u8]) -> Parts<'_>
 }
 
 // A body of a process: one byte of length, the namespace, and four bytes of rank.
-fn named(process: &Proc) -> Parts<'_>
+fn proc_body(process: &Proc) -> Parts<'_>
     ensures body { in_parts result.head.items result.middle.now result.end.items result.items.now
         ≡ (length process.now.nspace ∷ process.now.nspace) ++ to_be_bytes w32 process.now.rank }
     ensures head { result.head.items ≡ length process.now.nspace ∷ [] }
@@ -143,15 +144,15 @@ fn named(process: &Proc) -> Parts<'_>
 {
     let name = process.nspace.as_bytes();
     Parts {
-        head: held(&[name.len() as u8]),
+        head: short_bytes(&[name.len() as u8]),
         middle: name,
-        end: held(&process.rank.number().to_be_bytes()),
+        end: short_bytes(&process.rank.number().to_be_bytes()),
         items: &[],
     }
 }
 
 // A body of an array: the tag of its items, four bytes of their number, and their bodies.
-fn listed(array: &Array) -> Parts<'_>
+fn array_parts(array: &Array) -> Parts<'_>
     ensures body { in_parts result.head.items result.middle.now result.end.items result.items.now ≡ array_body array.now }
     ensures head { length result.head.items ≡ 5 }
     ensures middle { result.middle.now ≡ [] }
@@ -162,7 +163,7 @@ fn listed(array: &Array) -> Parts<'_>
     let items = array.items();
     let count = (items.len() as u32).to_be_bytes();
     Parts {
-        head: held(&[array.tag(), count[0], count[1], count[2], count[3]]),
+        head: short_bytes(&[array.tag(), count[0], count[1], count[2], count[3]]),
         middle: &[],
         end: ArrayVec::new(),
         items,

@@ -144,12 +144,13 @@ pub struct NodeId {
 
 impl Model for NodeId {
     ghost use Rattle.std.specs.Prelude.{ℕ, ◌≤◌};
+    ghost use Rattle.pmg_value.specs.declared.process.TheConstants.{MAX_NODE};
 
     ghost Value = { ℕ };
 
     ghost view = { λ a. a.index };
 
-    ghost invariant = { λ a. a.index ≤ 63 };
+    ghost invariant = { λ a. a.index ≤ MAX_NODE };
 
     ghost inverse = { λ n. record { index = n } };
 }
@@ -157,7 +158,7 @@ impl Model for NodeId {
 impl NodeId {
     /// The node of this index. Refused as BadParam past 63.
     pub fn new(index: u32) -> Result<NodeId, Refusal>
-        ensures { result ≡ (if nat_le index 63 then Ok index else Err refusals.BadParam) }
+        ensures { result ≡ (if nat_le index MAX_NODE then Ok index else Err refusals.BadParam) }
     {
         if index > MAX_NODE {
             return Err(Refusal::BadParam);
@@ -167,7 +168,7 @@ impl NodeId {
 
     /// The node of this index, which was tested already.
     pub fn from_checked(index: u32) -> NodeId
-        requires { index ≤ 63 }
+        requires { index ≤ MAX_NODE }
         ensures { result ≡ index }
     {
         NodeId { index }
@@ -176,7 +177,7 @@ impl NodeId {
     /// The node's index.
     pub fn index(self) -> u32
         ensures value { result ≡ self }
-        ensures bound { result ≤ 63 }
+        ensures bound { result ≤ MAX_NODE }
     {
         self.index
     }

@@ -140,7 +140,7 @@ impl Value {
     /// The number of the canonical bytes.
     pub fn size(&self) -> usize
         ensures value { result ≡ length (spelling self.now) }
-        ensures bound { result ≤ 1048576 }
+        ensures bound { result ≤ MAX_VALUE_SIZE }
     {
         match self {
             Value::Bool(_) | Value::Byte(_) | Value::I8(_) | Value::U8(_) => 2,

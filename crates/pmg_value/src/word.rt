@@ -6,7 +6,7 @@ ghost use Rattle.std.specs.Cmp.Lexicographic.{pointwise, slice_cmp, nat_list_eq_
 ghost use Rattle.std.specs.Cmp.{partial_equiv_from_equiv};
 ghost use Rattle.std.specs.Prelude.{nat_eq};
 ghost use Rattle.pmg_value.specs.Names.{is_printable};
-ghost use Rattle.pmg_value.specs.Words.{front_of};
+ghost use Rattle.pmg_value.specs.Words.{first_eight};
 
 use bytes::{ByteStr, Bytes};
 use std::alloc::AllocError;
@@ -36,13 +36,13 @@ impl Model for Word {
     ghost Value = { List ℕ };
 
     ghost use Rattle.pmg_value.specs.Names.{is_printable};
-    ghost use Rattle.pmg_value.specs.Words.{front_of};
+    ghost use Rattle.pmg_value.specs.Words.{first_eight};
 
     ghost view = { λ a. a.text };
 
-    ghost invariant = { λ a. (a.front ≡ front_of a.text) × IsTrue (list_all is_printable a.text) };
+    ghost invariant = { λ a. (a.front ≡ first_eight a.text) × IsTrue (list_all is_printable a.text) };
 
-    ghost inverse = { λ v. record { front = front_of v; text = v } };
+    ghost inverse = { λ v. record { front = first_eight v; text = v } };
 }
 
 impl Word {
@@ -141,7 +141,7 @@ fn byte_at(bytes: &[u8], index: usize) -> u64
 
 /// The first eight bytes as a number, with zeros in the place of those that there are not.
 fn front_of(bytes: &[u8]) -> u64
-    ensures { result ≡ front_of bytes.now }
+    ensures { result ≡ first_eight bytes.now }
 {
     let first = byte_at(bytes, 0) * 256 + byte_at(bytes, 1);
     let second = byte_at(bytes, 2) * 256 + byte_at(bytes, 3);

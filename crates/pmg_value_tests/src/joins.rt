@@ -5,7 +5,7 @@ use pmg_value::{Key, Nspace, Proc, Rank, Refusal, push_number};
 use std::alloc::{AllocError, Global};
 
 // A copy of the first, with the second joined to it.
-fn joined<J: Join>(first: &J, second: J) -> Result<J, Refusal> {
+fn join_both<J: Join>(first: &J, second: J) -> Result<J, Refusal> {
     let mut all = first.copy()?;
     all.join(second)?;
     Ok(all)
@@ -65,7 +65,7 @@ fn pairs_join_side_by_side(rt: HostRuntime) -> Result<(), Refusal> {
         first: MaxU64::new(7),
         second: range(rt.alloc(), 1, 4)?,
     };
-    let both = joined(&first, second)?;
+    let both = join_both(&first, second)?;
     assert!(rt; both.first.value() == 7);
     assert!(rt; both.second.level() == 4);
     Ok(())
@@ -79,7 +79,7 @@ fn sets_join_to_their_union(rt: HostRuntime) -> Result<(), Refusal> {
     let mut second = GrowSet::new(rt.alloc());
     second.insert(2)?;
     second.insert(3)?;
-    let all = joined(&first, second)?;
+    let all = join_both(&first, second)?;
     for (number, is_in) in [(0, false), (1, true), (2, true), (3, true), (4, false)] {
         assert!(rt; all.contains(&number) == is_in);
     }
@@ -138,7 +138,7 @@ fn map_text(alloc: Global, map: &MapJoin<u64, RangeSet>) -> Result<Vec<u8>, Refu
 fn maps_join_key_by_key(rt: HostRuntime) -> Result<(), Refusal> {
     let alloc = rt.alloc();
     let first = map_of(alloc, &[(1, 0, 2), (1, 8, 9), (2, 0, 1)])?;
-    let all = joined(&first, map_of(alloc, &[(1, 1, 4)])?)?;
+    let all = join_both(&first, map_of(alloc, &[(1, 1, 4)])?)?;
     assert!(rt; map_text(alloc, &all)?.as_slice() == b"12349 4;1 1;".as_slice());
     Ok(())
 }

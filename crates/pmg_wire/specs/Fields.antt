@@ -17,12 +17,15 @@ use Rattle.pmg_wire.specs.declared.fields.Admits.{Admits}
 use Rattle.pmg_wire.specs.declared.fields.Admits.TheVariants as admits
 use Rattle.pmg_wire.specs.Many.{many}
 use Rattle.pmg_wire.specs.Reading.{Place, Read, fault, ◌>>=◌, check, read_bytes, byte_at, number_at}
+use Rattle.pmg_value.specs.declared.value.TheConstants.{MAX_VALUE_SIZE}
+use Rattle.pmg_value.specs.declared.names.TheConstants.{MAX_KEY_LEN}
+use Rattle.pmg_value.specs.declared.process.TheConstants.{MAX_RANK}
 
 -- a key: two bytes of length, and the key
 unfoldable pub read_key : Place → Read (List ℕ)
 read_key at = do
   len ← number_at w16 at
-  _ ← check (nat_lt 0 len.0 && nat_le len.0 511) (fault at.offset causes.Key)
+  _ ← check (nat_lt 0 len.0 && nat_le len.0 MAX_KEY_LEN) (fault at.offset causes.Key)
   key ← read_bytes len.0 len.1
   _ ← check (is_key key.0) (fault at.offset causes.Key)
   Ok key
@@ -39,7 +42,7 @@ is_named admits.ClientsAndHost name = is_nspace name && (not (is_reserved name) 
 
 -- a rank that may stand after the namespace
 abbrev pub is_ranked : List ℕ → ℕ → Bool
-is_ranked name rank = if bytes_eq name host_name then rank == 0 else nat_le rank 4095
+is_ranked name rank = if bytes_eq name host_name then rank == 0 else nat_le rank MAX_RANK
 
 -- a process: one byte of length, the namespace, and four bytes of rank
 unfoldable pub read_proc : Admits → Place → Read Proc
@@ -135,7 +138,7 @@ read_value at = do
   tag ← byte_at at
   _ ← check (nat_lt 0 tag.0 && nat_lt tag.0 20) (fault at.offset causes.Tag)
   body ← read_value_body tag.0 tag.1
-  _ ← check (nat_le (body.1.offset - at.offset) 1048576) (fault at.offset causes.Size)
+  _ ← check (nat_le (body.1.offset - at.offset) MAX_VALUE_SIZE) (fault at.offset causes.Size)
   Ok (value_of body.0, body.1)
 
 -- bytes that are one value, and nothing after it

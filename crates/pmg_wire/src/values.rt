@@ -1,6 +1,6 @@
 //! Reading values. A value is read in two passes: the first finds the first fault and where the value ends,
 //! and takes no memory; the second builds the value from its bytes, all of which are there.
-ghost use Rattle.std.specs.Prelude.{◌≡◌, ◌≤◌, None, length, IfOk, IsTrue, OnErr};
+ghost use Rattle.std.specs.Prelude.{◌≡◌, ◌-◌, ◌≤◌, None, length, IfOk, IsTrue, OnErr};
 ghost use Rattle.pmg_value.specs.Spelling.{Form, form, are_plain, plains_of};
 ghost use Rattle.pmg_wire.specs.Grammar.{SpellsValue, IsWholeValue};
 ghost use Rattle.pmg_wire.specs.Many.{many};
@@ -16,7 +16,7 @@ use std::alloc::Global;
 
 // A string, of bytes that are no more than a value's body.
 fn text_of(alloc: Global, at: &mut Cursor<'_>) -> Result<Text, Refusal>
-    requires { length at.old.rest ≤ 1048575 }
+    requires { length at.old.rest ≤ MAX_VALUE_SIZE - 1 }
     ensures { Reads (λ t. t) result at.new (read_text at.old) }
 {
     // No effect at run time: the proof reads here that what is left are bytes.
@@ -27,7 +27,7 @@ fn text_of(alloc: Global, at: &mut Cursor<'_>) -> Result<Text, Refusal>
 
 // A byte object, of bytes that are no more than a value's body.
 fn octets_of(alloc: Global, at: &mut Cursor<'_>) -> Result<Octets, Refusal>
-    requires { length at.old.rest ≤ 1048575 }
+    requires { length at.old.rest ≤ MAX_VALUE_SIZE - 1 }
     ensures { Reads (λ o. o) result at.new (read_blob at.old) }
 {
     // No effect at run time: the proof reads here that what is left are bytes.
@@ -47,7 +47,7 @@ fn any_proc_of(alloc: Global, at: &mut Cursor<'_>) -> Result<Proc, Refusal>
 // The value with this tag whose body is here. It is no array, and no longer than a value may be.
 #[tactic(auto, unfolding(crate::specs::Fields::read_plain))]
 fn plain_of(alloc: Global, tag: u8, at: &mut Cursor<'_>) -> Result<Value, Refusal>
-    requires { length at.old.rest ≤ 1048575 }
+    requires { length at.old.rest ≤ MAX_VALUE_SIZE - 1 }
     ensures { Reads form result at.new (made Form.plain (read_plain tag at.old)) }
 {
     match tag {
@@ -79,7 +79,7 @@ fn elements_of(
     count: u32,
     at: &mut Cursor<'_>,
 ) -> Result<Vec<Value>, Refusal>
-    requires { length at.old.rest ≤ 1048575 }
+    requires { length at.old.rest ≤ MAX_VALUE_SIZE - 1 }
     ensures read { Reads (λ vs. plains_of vs.items) result at.new (many (λ _. read_plain tag) count None at.old) }
     ensures plain { IfOk result (λ vs. IsTrue (are_plain vs.items)) }
 {
@@ -96,7 +96,7 @@ fn elements_of(
 // An array: the tag of its elements, their number, and their bodies.
 #[tactic(auto, unfolding(crate::specs::Fields::read_array))]
 fn array_of(alloc: Global, at: &mut Cursor<'_>) -> Result<Value, Refusal>
-    requires { length at.old.rest ≤ 1048575 }
+    requires { length at.old.rest ≤ MAX_VALUE_SIZE - 1 }
     ensures { Reads form result at.new (made Form.array (read_array at.old)) }
 {
     let start = at.offset();
@@ -112,7 +112,7 @@ fn array_of(alloc: Global, at: &mut Cursor<'_>) -> Result<Value, Refusal>
 // The value with this tag whose body is here. It is no longer than a value may be.
 #[tactic(auto, unfolding(crate::specs::Fields::read_value_body))]
 fn body_of(alloc: Global, tag: u8, at: &mut Cursor<'_>) -> Result<Value, Refusal>
-    requires { length at.old.rest ≤ 1048575 }
+    requires { length at.old.rest ≤ MAX_VALUE_SIZE - 1 }
     ensures { Reads form result at.new (read_value_body tag at.old) }
 {
     if tag == ARRAY_TAG {

@@ -7,16 +7,16 @@ use Rattle.pmg_value.specs.Lists.{Each}
 use Rattle.pmg_value.specs.declared.refusal.Refusal.{Refusal}
 use Rattle.pmg_value.specs.declared.refusal.Refusal.TheVariants as refusals
 use Rattle.pmg_jobinfo.specs.Jobs.{Jobs, AreJobs, is_node}
-use Rattle.pmg_rules.specs.Acts.{Act, Reply, is_peer}
-use Rattle.pmg_rules.specs.Holdings.{Holding}
-use Rattle.pmg_rules.specs.Kept.{IsServer}
-use Rattle.pmg_rules.specs.Sending.{NodeStep}
+use Rattle.pmg_node_model.specs.Acts.{Act, Reply, is_peer}
+use Rattle.pmg_node_model.specs.Holdings.{NodeState}
+use Rattle.pmg_node_model.specs.Kept.{IsServer}
+use Rattle.pmg_node_model.specs.Sending.{NodeStep}
 use Rattle.pmg_node.specs.Servers.{Server, IsAnswered, RepliesAct, after, reply_in, reply_to, sent_by}
-use Rattle.pmg_rules.specs.declared.sent.Sent.{Sent}
-use Rattle.pmg_rules.proofs.ChoosingSteps.{chosen_is_step}
-use Rattle.pmg_rules.proofs.KeptActs.{server_stays}
+use Rattle.pmg_node_model.specs.declared.sent.Sent.{Sent}
+use Rattle.pmg_node_model.proofs.ChoosingSteps.{chosen_is_step}
+use Rattle.pmg_node_model.proofs.KeptActs.{server_stays}
 use Rattle.pmg_world.specs.Keeping.{IsNodeOf, AreNodes}
-use Rattle.pmg_runs.specs.Worlds.{changed_at}
+use Rattle.pmg_group_model.specs.Worlds.{with_holding_at}
 
 -- an answer that is no failed allocation is the one that is due
 pub answered_due : {X : Type 0} (view : X → Reply) (answer : Result X Refusal) (s : Server) (a : Act) → RepliesAct view answer s a → IsAnswered answer → reply_in view answer ≡ reply_to s a
@@ -39,7 +39,7 @@ answered_due view (Err refusals.Unordered) s a replies is = sym replies
 answered_due view (Err refusals.Closed) s a replies is = sym replies
 
 -- what a node chooses to do is one step
-server_step : (jobs : Jobs) → AreJobs jobs → (node : ℕ) (h : Holding) → IsServer jobs node h → (s : Server) → IsNodeOf jobs node h s → (a : Act)
+server_step : (jobs : Jobs) → AreJobs jobs → (node : ℕ) (h : NodeState) → IsServer jobs node h → (s : Server) → IsNodeOf jobs node h s → (a : Act)
     → NodeStep jobs node h a (reply_to s a) (after s a).holding (sent_by s a)
 server_step jobs are node h server s of a =
     let same_jobs : s.jobs ≡ jobs = of.jobs_same in
@@ -53,7 +53,7 @@ server_step jobs are node h server s of a =
     (subst (λ (j : Jobs). NodeStep j s.id s.holding a (reply_to s a) (after s a).holding (sent_by s a)) same_jobs step))
 
 -- it stays the node's
-server_of_still : (jobs : Jobs) (node : ℕ) (h : Holding) (s : Server) (a : Act) → IsNodeOf jobs node h s → IsNodeOf jobs node (after s a).holding (after s a)
+server_of_still : (jobs : Jobs) (node : ℕ) (h : NodeState) (s : Server) (a : Act) → IsNodeOf jobs node h s → IsNodeOf jobs node (after s a).holding (after s a)
 server_of_still jobs node h s a of = record { jobs_same = of.jobs_same; id_same = of.id_same; holds = refl }
 
 other_node : (m n : ℕ) → (m == n) ≡ false → m ≡ n → ⊥
@@ -66,7 +66,7 @@ peer_is_node : (jobs : Jobs) (id : ℕ) (xs : List Sent) → Each (λ s. is_peer
 peer_is_node jobs id [] each = tt
 peer_is_node jobs id (x ∷ xs) each = ((and_parts (is_node jobs x.to) _ each.0).0, peer_is_node jobs id xs each.1)
 
-module _ (jobs : Jobs) (are : AreJobs jobs) (servers : List Server) (nodes : ℕ → Holding) (kept : AreNodes jobs servers nodes) (node : ℕ) (d : Server) (inside : node < length servers) (a : Act) where
+module _ (jobs : Jobs) (are : AreJobs jobs) (servers : List Server) (nodes : ℕ → NodeState) (kept : AreNodes jobs servers nodes) (node : ℕ) (d : Server) (inside : node < length servers) (a : Act) where
   abbrev s : Server
   s = get_or servers node d
 
@@ -75,7 +75,7 @@ module _ (jobs : Jobs) (are : AreJobs jobs) (servers : List Server) (nodes : ℕ
   act_steps = server_step jobs are node (nodes node) (kept.servers node inside) s (kept.each node d inside) a
 
   -- the nodes after it
-  pub act_keeps : AreNodes jobs (set servers node (after s a)) (changed_at nodes node (after s a).holding)
+  pub act_keeps : AreNodes jobs (set servers node (after s a)) (with_holding_at nodes node (after s a).holding)
   act_keeps = record {
     count = length-set servers node (after s a) ∙ kept.count;
     each = λ m e within. at m e (subst (λ n. m < n) (length-set servers node (after s a)) within) (m == node) refl;

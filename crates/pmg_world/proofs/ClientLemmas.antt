@@ -18,12 +18,12 @@ use Rattle.pmg_jobinfo.specs.Jobs.{Jobs}
 use Rattle.pmg_fence.specs.Entering.{same_proc}
 use Rattle.pmg_fence.specs.Rules.{Scripts}
 use Rattle.pmg_scope.specs.Scripts.{last_put}
-use Rattle.pmg_rules.specs.Acts.{Request, Act, said_by, says, members_of, signature_of}
-use Rattle.pmg_rules.specs.Fitting.{unless_refused, with_said}
-use Rattle.pmg_world.specs.Caching.{AllCached, cached_by}
+use Rattle.pmg_node_model.specs.Acts.{Request, Act, said_by, says, members_of, signature_of}
+use Rattle.pmg_node_model.specs.Fitting.{unless_refused, with_said}
+use Rattle.pmg_world.specs.Caching.{AllCached, cached_for}
 use Rattle.pmg_world.specs.Keeping.{KeepsFor, AreCaches}
-use Rattle.pmg_runs.specs.Worlds.{cache_from, cache_of}
-use Rattle.pmg_runs.proofs.Speaking.{cache_fits}
+use Rattle.pmg_group_model.specs.Worlds.{cache_from, cache_of}
+use Rattle.pmg_group_model.proofs.Speaking.{cache_fits}
 
 cache_both : (c : Cached) (s t : Script) → cache_from c (s ++ t) ≡ cache_from (cache_from c s) t
 cache_both c [] t = refl
@@ -77,11 +77,11 @@ host_keeps c s change keeps = record {
 
 module _ (all : AllCached) (scripts : Scripts) (are : AreCaches all scripts) where
   -- the script of one process grows
-  script_grows : (p : Proc) (calls : Script) → KeepsFor p (cached_by all p) (scripts p ++ calls) → AreCaches all (with_said scripts (said_by p calls))
+  script_grows : (p : Proc) (calls : Script) → KeepsFor p (cached_for all p) (scripts p ++ calls) → AreCaches all (with_said scripts (said_by p calls))
   script_grows p calls keeps q = by (same_proc q p) refl
     where
-      by : (b : Bool) → same_proc q p ≡ b → KeepsFor q (cached_by all q) (cond b (scripts q ++ calls) (scripts q))
-      by true e = subst (λ (r : Proc). KeepsFor r (cached_by all r) (scripts r ++ calls)) (sym (exact_procs q p ((Equal-is _).0 e))) keeps
+      by : (b : Bool) → same_proc q p ≡ b → KeepsFor q (cached_for all q) (cond b (scripts q ++ calls) (scripts q))
+      by true e = subst (λ (r : Proc). KeepsFor r (cached_for all r) (scripts r ++ calls)) (sym (exact_procs q p ((Equal-is _).0 e))) keeps
       by false e = are q
 
   -- and its client's cache changes
@@ -95,31 +95,31 @@ module _ (all : AllCached) (scripts : Scripts) (are : AreCaches all scripts) whe
 
   -- a put of a client
   pub put_kept : (p : Proc) (scope : Scope) (key value : List _) → is_reserved p.nspace ≡ false
-      → AreCaches (finite.insert all p (with_put (cached_by all p) scope key value)) (with_said scripts (said_by p (Call.put scope key value ∷ [])))
-  put_kept p scope key value free = both_change p _ _ (put_keeps p (cached_by all p) (scripts p) scope key value free (are p))
+      → AreCaches (finite.insert all p (with_put (cached_for all p) scope key value)) (with_said scripts (said_by p (Call.put scope key value ∷ [])))
+  put_kept p scope key value free = both_change p _ _ (put_keeps p (cached_for all p) (scripts p) scope key value free (are p))
 
   -- its commit
-  pub commit_kept : (p : Proc) → AreCaches (changed_at all p (after_commit (cached_by all p))) (with_said scripts (said_by p (Call.commit ∷ [])))
+  pub commit_kept : (p : Proc) → AreCaches (changed_at all p (after_commit (cached_for all p))) (with_said scripts (said_by p (Call.commit ∷ [])))
   commit_kept p = by (finite.get all p) refl
     where
       by : (o : Option Cached) → finite.get all p ≡ o
-          → AreCaches (cond (is_some o) (finite.insert all p (after_commit (cached_by all p))) all) (with_said scripts (said_by p (Call.commit ∷ [])))
-      by (Some c) e = both_change p _ _ (commit_keeps p (cached_by all p) (scripts p) (are p))
+          → AreCaches (cond (is_some o) (finite.insert all p (after_commit (cached_for all p))) all) (with_said scripts (said_by p (Call.commit ∷ [])))
+      by (Some c) e = both_change p _ _ (commit_keeps p (cached_for all p) (scripts p) (are p))
       by None e =
           let nothing = ap (λ (o : Option Cached). unwrap_or o no_puts) e in
-          script_grows p _ (subst (λ (x : Cached). KeepsFor p x (scripts p ++ Call.commit ∷ [])) (ap after_commit nothing ∙ sym nothing) (commit_keeps p (cached_by all p) (scripts p) (are p)))
+          script_grows p _ (subst (λ (x : Cached). KeepsFor p x (scripts p ++ Call.commit ∷ [])) (ap after_commit nothing ∙ sym nothing) (commit_keeps p (cached_for all p) (scripts p) (are p)))
 
   -- a request changes no client's cache
   request_kept : (jobs : Jobs) (r : Request) → AreCaches all (with_said scripts (says jobs (Act.request r)))
   unfolding says
   request_kept jobs (Request.enter p list collect) =
-      script_grows p _ (quiet_keeps p (cached_by all p) (scripts p) _ (cache_more (scripts p) (Call.enter (signature_of jobs p list collect) ∷ [])) (are p))
+      script_grows p _ (quiet_keeps p (cached_for all p) (scripts p) _ (cache_more (scripts p) (Call.enter (signature_of jobs p list collect) ∷ [])) (are p))
   request_kept jobs (Request.leave p) = are
   request_kept jobs (Request.ask p get mode) = are
   request_kept jobs (Request.take p) = are
-  request_kept jobs (Request.terminate p) = script_grows p _ (quiet_keeps p (cached_by all p) (scripts p) _ (cache_more (scripts p) (Call.terminate ∷ [])) (are p))
-  request_kept jobs (Request.define name list) = script_grows host _ (host_keeps (cached_by all host) (scripts host) (definition name (members_of jobs list)) (are host))
-  request_kept jobs (Request.delete name) = script_grows host _ (host_keeps (cached_by all host) (scripts host) (deletion name) (are host))
+  request_kept jobs (Request.terminate p) = script_grows p _ (quiet_keeps p (cached_for all p) (scripts p) _ (cache_more (scripts p) (Call.terminate ∷ [])) (are p))
+  request_kept jobs (Request.define name list) = script_grows host _ (host_keeps (cached_for all host) (scripts host) (definition name (members_of jobs list)) (are host))
+  request_kept jobs (Request.delete name) = script_grows host _ (host_keeps (cached_for all host) (scripts host) (deletion name) (are host))
   request_kept jobs Request.nudge = are
 
   -- nor does one that is refused
@@ -134,15 +134,15 @@ module _ (all : AllCached) (scripts : Scripts) (are : AreCaches all scripts) whe
   frame_keeps jobs false frame = are
 
   -- a commit seals what its client's cache has that no commit sealed
-  pub unsealed_is : (p : Proc) → unsealed_of (cached_by all p) ≡ unsealed_of (cache_of (scripts p))
+  pub unsealed_is : (p : Proc) → unsealed_of (cached_for all p) ≡ unsealed_of (cache_of (scripts p))
   unsealed_is p = by (is_reserved p.nspace) refl
     where
-      by : (b : Bool) → is_reserved p.nspace ≡ b → unsealed_of (cached_by all p) ≡ unsealed_of (cache_of (scripts p))
+      by : (b : Bool) → is_reserved p.nspace ≡ b → unsealed_of (cached_for all p) ≡ unsealed_of (cache_of (scripts p))
       by true e = ap unsealed_of ((are p).none e) ∙ sym ((are p).sealed e)
       by false e = ap unsealed_of ((are p).client e)
 
   -- a commit that is not refused
-  pub commit_seals : (jobs : Jobs) (refused : Bool) (p : Proc) (batch : _) (caches : AllCached) → refused ≡ false → caches ≡ changed_at all p (after_commit (cached_by all p))
+  pub commit_seals : (jobs : Jobs) (refused : Bool) (p : Proc) (batch : _) (caches : AllCached) → refused ≡ false → caches ≡ changed_at all p (after_commit (cached_for all p))
       → AreCaches caches (unless_refused refused scripts (says jobs (Act.commit p batch)))
   unfolding says
   commit_seals jobs refused p batch caches taken is =

@@ -6,17 +6,17 @@ use Rattle.std.specs.Ordering.{nat_cmp}
 use Rattle.std.proofs.lemmas.List.{map-id, map_push, take_all, take_more}
 use Rattle.std.proofs.lemmas.List.FromFn.{filter_of_map_range_with_len_more}
 use Rattle.std.proofs.lemmas.List.Folds.{list_any-append}
-use Rattle.pmg_world.specs.Delivering.{IsNoted, delivers, missing, undelivered, was_delivered}
+use Rattle.pmg_world.specs.Delivering.{IsNoted, delivered_by, missing, undelivered, was_delivered}
 use Rattle.pmg_world.specs.Telling.{event_of}
-use Rattle.pmg_runs.specs.Worlds.{Event}
+use Rattle.pmg_group_model.specs.Worlds.{Event}
 use Rattle.pmg_world.specs.declared.delivered.Delivered.{Delivered}
 use Rattle.pmg_world.specs.declared.event.Event.{Event as ToldEvent}
 use Rattle.pmg_world.specs.declared.event.Event.TheVariants as events
-use Rattle.pmg_world.specs.declared.event.Told.{Told}
+use Rattle.pmg_world.specs.declared.event.LoggedEvent.{LoggedEvent}
 
 -- ---- what was looked at
 
-one_any : (p : Told → Bool) (t : Told) → list_any p (t ∷ []) ≡ p t
+one_any : (p : LoggedEvent → Bool) (t : LoggedEvent) → list_any p (t ∷ []) ≡ p t
 one_any p t = go (p t)
   where
     go : (b : Bool) → (b || false) ≡ b
@@ -24,19 +24,19 @@ one_any p t = go (p t)
     go false = refl
 
 -- one event more was looked at
-pub noted_more : (told : List Told) (d e : Delivered) → IsNoted told d → d.seen < length told → e.seen ≡ d.seen + 1
-    → ((t : Told) (n : ℕ) → set.contains e.frames (suc n) ≡ (set.contains d.frames (suc n) || delivers (suc n) (get_or told d.seen t))) → IsNoted told e
+pub noted_more : (told : List LoggedEvent) (d e : Delivered) → IsNoted told d → d.seen < length told → e.seen ≡ d.seen + 1
+    → ((t : LoggedEvent) (n : ℕ) → set.contains e.frames (suc n) ≡ (set.contains d.frames (suc n) || delivered_by (suc n) (get_or told d.seen t))) → IsNoted told e
 noted_more told d e is lt seen frames = record { seen = omega (arith, lt, seen); frames = λ n. go told is lt frames n }
   where
-    go : (told : List Told) → IsNoted told d → d.seen < length told
-        → ((t : Told) (n : ℕ) → set.contains e.frames (suc n) ≡ (set.contains d.frames (suc n) || delivers (suc n) (get_or told d.seen t))) → (n : ℕ)
+    go : (told : List LoggedEvent) → IsNoted told d → d.seen < length told
+        → ((t : LoggedEvent) (n : ℕ) → set.contains e.frames (suc n) ≡ (set.contains d.frames (suc n) || delivered_by (suc n) (get_or told d.seen t))) → (n : ℕ)
         → set.contains e.frames (suc n) ≡ was_delivered (take e.seen told) (suc n)
     go [] is lt frames n = absurd (omega (arith, lt))
     go (t ∷ ts) is lt frames n =
         let last = get_or (t ∷ ts) d.seen t in
-        frames t n ∙ ap (λ b. b || delivers (suc n) last) (is.frames n)
-        ∙ ap (λ b. was_delivered (take d.seen (t ∷ ts)) (suc n) || b) (sym (one_any (delivers (suc n)) last))
-        ∙ sym (list_any-append (delivers (suc n)) (take d.seen (t ∷ ts)) (last ∷ []))
+        frames t n ∙ ap (λ b. b || delivered_by (suc n) last) (is.frames n)
+        ∙ ap (λ b. was_delivered (take d.seen (t ∷ ts)) (suc n) || b) (sym (one_any (delivered_by (suc n)) last))
+        ∙ sym (list_any-append (delivered_by (suc n)) (take d.seen (t ∷ ts)) (last ∷ []))
         ∙ ap (λ xs. was_delivered xs (suc n)) (sym (take_more (t ∷ ts) d.seen t lt) ∙ ap (λ k. take k (t ∷ ts)) (sym seen))
 
 -- ---- what was never delivered
@@ -90,6 +90,6 @@ agree_from p q same a (suc n) =
     ∙ ap (λ xs. cond (q (suc a)) (suc a ∷ xs) xs) rest
 
 -- where all events told were looked at, what is missing was never delivered
-pub missing_is : (told : List Told) (d : Delivered) (count : ℕ) → IsNoted told d → d.seen ≡ length told → missing d.frames count ≡ undelivered told count
+pub missing_is : (told : List LoggedEvent) (d : Delivered) (count : ℕ) → IsNoted told d → d.seen ≡ length told → missing d.frames count ≡ undelivered told count
 unfolding missing undelivered
 missing_is told d count is all = agree_from (λ frame. not (set.contains d.frames frame)) (λ frame. not (was_delivered told frame)) (λ n. ap not (is.frames n ∙ ap (λ xs. was_delivered xs (suc n)) (take_all d.seen told (omega (arith, all))))) 0 count

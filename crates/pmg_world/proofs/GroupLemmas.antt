@@ -9,35 +9,35 @@ use Rattle.pmg_value.specs.declared.refusal.Refusal.TheVariants as refusals
 use Rattle.pmg_jobinfo.specs.Jobs.{Jobs, AreJobs, is_node, home_of}
 use Rattle.pmg_fence.specs.Rules.{Scripts}
 use Rattle.pmg_node.specs.Acting.{reply_as}
-use Rattle.pmg_rules.specs.Acts.{Act, Reply, Said, says}
-use Rattle.pmg_rules.specs.Fitting.{is_refusal, unless_refused}
-use Rattle.pmg_rules.specs.Sending.{NodeStep}
+use Rattle.pmg_node_model.specs.Acts.{Act, Reply, Said, says}
+use Rattle.pmg_node_model.specs.Fitting.{is_refusal, unless_refused}
+use Rattle.pmg_node_model.specs.Sending.{NodeStep}
 use Rattle.pmg_node.specs.Servers.{Server, IsAnswered, RepliesAct, after, sent_by}
 use Rattle.pmg_node.specs.declared.act.Reply.{Reply as GivenReply}
 use Rattle.pmg_node.specs.declared.act.Reply.TheVariants as replies
-use Rattle.pmg_rules.specs.declared.sent.Sent.{Sent}
-use Rattle.pmg_world.specs.Keeping.{AreCaches, AreNodes, IsNodeOf, IsSame, IsGroup, Stands, Happens, replied}
-use Rattle.pmg_runs.specs.Worlds.{World, Event, Doing, Does, Step, changed_at, doing, numbered, reply_in}
+use Rattle.pmg_node_model.specs.declared.sent.Sent.{Sent}
+use Rattle.pmg_world.specs.Keeping.{AreCaches, AreNodes, IsNodeOf, IsSame, IsGroup, Represents, Happens, replied}
+use Rattle.pmg_group_model.specs.Worlds.{World, Event, Doing, Does, Step, with_holding_at, doing, numbered, reply_or_refusal}
 use Rattle.pmg_world.specs.declared.group.Group.{Group}
 use Rattle.pmg_world.proofs.ActLemmas.{answered_due, act_steps, act_keeps, act_peers}
-use Rattle.pmg_runs.proofs.Speaking.{numbered_is}
-use Rattle.pmg_runs.proofs.Steps.{each_both}
-use Rattle.pmg_rules.proofs.KeptBasics.{home_is_node}
+use Rattle.pmg_group_model.proofs.Speaking.{numbered_is}
+use Rattle.pmg_group_model.proofs.Steps.{each_both}
+use Rattle.pmg_node_model.proofs.KeptBasics.{home_is_node}
 
 -- the event leads from the world, with that reply, to one that the group stands for
 pub record LeadsOn (jobs : Jobs) (w : World) (e : Event) (r : Reply) (g : Group) : Type 0 where
   pub after : World
   pub step : Step jobs w e r after
-  pub stands : Stands g after
+  pub stands : Represents g after
 
 pub happens_by : (old : Group) (e : Event) (answer : Result GivenReply Refusal) (new : Group) → new.registry ≡ old.registry
-    → (IsAnswered answer → (w : World) → Stands old w → LeadsOn old.registry w e (replied answer) new) → Happens old e answer new
+    → (IsAnswered answer → (w : World) → Represents old w → LeadsOn old.registry w e (replied answer) new) → Happens old e answer new
 unfolding Happens
 happens_by old e answer new same leads is = (same, λ w stands. let on = leads is w stands in (on.after, on.step, on.stands))
 
 -- a group of the same nodes and frames, whose caches are those of other scripts
-pub stands_with : (old new : Group) (w v : World) → Stands old w → new.registry ≡ old.registry → new.nodes.items ≡ old.nodes.items → new.sent.items ≡ old.sent.items
-    → v.nodes ≡ w.nodes → v.sent ≡ w.sent → AreCaches new.caches v.scripts → Stands new v
+pub stands_with : (old new : Group) (w v : World) → Represents old w → new.registry ≡ old.registry → new.nodes.items ≡ old.nodes.items → new.sent.items ≡ old.sent.items
+    → v.nodes ≡ w.nodes → v.sent ≡ w.sent → AreCaches new.caches v.scripts → Represents new v
 stands_with old new w v stands same_jobs same_nodes same_sent nodes sent caches = record {
   jobs = subst AreJobs (sym same_jobs) stands.jobs;
   nodes = subst (λ (j : Jobs). AreNodes j new.nodes.items v.nodes) (sym same_jobs)
@@ -51,7 +51,7 @@ stands_with old new w v stands same_jobs same_nodes same_sent nodes sent caches 
 -- ---- a call that a cache answers
 
 -- it says nothing, or is refused
-pub stays : (g : Group) (w : World) → Stands g w → (e : Event) (due : Result Reply Refusal) (said : Option Said) (r : Reply) → doing g.registry w e ≡ Doing.by_cache due said → r ≡ reply_in due
+pub stays : (g : Group) (w : World) → Represents g w → (e : Event) (due : Result Reply Refusal) (said : Option Said) (r : Reply) → doing g.registry w e ≡ Doing.by_cache due said → r ≡ reply_or_refusal due
     → unless_refused (is_refusal r) w.scripts said ≡ w.scripts → LeadsOn g.registry w e r g
 stays g w stands e due said r is replied same = record {
   after = w;
@@ -59,9 +59,9 @@ stays g w stands e due said r is replied same = record {
   stands = stands;
 }
 
-pub refused_stays : (g : Group) (w : World) → Stands g w → (e : Event) (due : Result Reply Refusal) (said : Option Said) (cause : Refusal) → doing g.registry w e ≡ Doing.by_cache due said
+pub refused_stays : (g : Group) (w : World) → Represents g w → (e : Event) (due : Result Reply Refusal) (said : Option Said) (cause : Refusal) → doing g.registry w e ≡ Doing.by_cache due said
     → due ≡ Err cause → LeadsOn g.registry w e (Reply.refused cause) g
-refused_stays g w stands e due said cause is refused = stays g w stands e due said (Reply.refused cause) is (ap reply_in (sym refused)) refl
+refused_stays g w stands e due said cause is refused = stays g w stands e due said (Reply.refused cause) is (ap reply_or_refusal (sym refused)) refl
 
 -- ---- an act at a node
 
@@ -74,7 +74,7 @@ pub record IsActed (old : Group) (node : ℕ) (d : Server) (a : Act) (answer : R
   pub sent : frames ≡ old.sent.items ++ sent_by (get_or old.nodes.items node d) a
   pub jobs : registry ≡ old.registry
 
-pub acts_on : (old new : Group) (w : World) → Stands old w → (e : Event) (node : ℕ) (d : Server) (a : Act) (answer : Result GivenReply Refusal)
+pub acts_on : (old new : Group) (w : World) → Represents old w → (e : Event) (node : ℕ) (d : Server) (a : Act) (answer : Result GivenReply Refusal)
     → IsActed old node d a answer new.registry new.nodes.items new.sent.items → doing old.registry w e ≡ Doing.at_node node a
     → AreCaches new.caches (unless_refused (is_refusal (replied answer)) w.scripts (says old.registry a)) → LeadsOn old.registry w e (replied answer) new
 acts_on old new w stands e node d a answer acted is caches =
@@ -83,7 +83,7 @@ acts_on old new w stands e node d a answer acted is caches =
     let keeps = act_keeps old.registry stands.jobs old.nodes.items w.nodes stands.nodes node d acted.inside a in
     let peers = act_peers old.registry stands.jobs old.nodes.items w.nodes stands.nodes node d acted.inside a in
     let due = answered_due reply_as answer s a acted.reply acted.is in
-    let left : World = record { scripts = unless_refused (is_refusal (replied answer)) w.scripts (says old.registry a); nodes = changed_at w.nodes node (after s a).holding; sent = w.sent ++ sent_by s a } in
+    let left : World = record { scripts = unless_refused (is_refusal (replied answer)) w.scripts (says old.registry a); nodes = with_holding_at w.nodes node (after s a).holding; sent = w.sent ++ sent_by s a } in
     record {
       after = left;
       step = subst (λ (x : Doing). Does old.registry w x (replied answer) left) (sym is) (record {
@@ -121,17 +121,17 @@ not_short answer short is = absurd (subst IsAnswered short is)
 inside_by : (jobs : Jobs) (n node : ℕ) → n ≡ length jobs.nodes → node < n → is_node jobs node ≡ true
 inside_by jobs n node count inside = lt-ltb node (length jobs.nodes) (subst (λ k. node < k) count inside)
 
-pub inside_is_node : (g : Group) (w : World) → Stands g w → (node : ℕ) → node < length g.nodes.items → is_node g.registry node ≡ true
+pub inside_is_node : (g : Group) (w : World) → Represents g w → (node : ℕ) → node < length g.nodes.items → is_node g.registry node ≡ true
 inside_is_node g w stands node inside = inside_by g.registry (length g.nodes.items) node stands.nodes.count inside
 
-pub outside_is_none : (g : Group) (w : World) → Stands g w → (node : ℕ) → length g.nodes.items ≤ node → is_node g.registry node ≡ false
+pub outside_is_none : (g : Group) (w : World) → Represents g w → (node : ℕ) → length g.nodes.items ≤ node → is_node g.registry node ≡ false
 outside_is_none g w stands node past = out (length g.registry.nodes) stands.nodes.count
   where
     out : (n : ℕ) → length g.nodes.items ≡ n → nat_lt node n ≡ false
     out n count = grind (arith, nat_tests)
 
 -- the server that stands at an index is that node's
-pub node_there : (g : Group) (w : World) → Stands g w → (node index : ℕ) (s : Server) → index ≡ node → index < length g.nodes.items → s ≡ get_or g.nodes.items index s → IsNodeOf g.registry node (w.nodes node) s
+pub node_there : (g : Group) (w : World) → Represents g w → (node index : ℕ) (s : Server) → index ≡ node → index < length g.nodes.items → s ≡ get_or g.nodes.items index s → IsNodeOf g.registry node (w.nodes node) s
 node_there g w stands node index s same inside is =
     subst (λ n. IsNodeOf g.registry n (w.nodes n) s) same (subst (IsNodeOf g.registry index (w.nodes index)) (sym is) (stands.nodes.each index s inside))
 

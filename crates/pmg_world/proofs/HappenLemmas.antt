@@ -13,12 +13,12 @@ use Rattle.pmg_jobinfo.specs.Jobs.{Jobs, is_node}
 use Rattle.pmg_jobinfo.specs.Reserved.{is_general}
 use Rattle.pmg_get.specs.Gets.{Outcome, found_or, resolve}
 use Rattle.pmg_get.specs.declared.view.Mode.{Mode}
-use Rattle.pmg_rules.specs.Acts.{Request, Act, Reply, is_misnamed, reply_of}
-use Rattle.pmg_rules.specs.Holdings.{Get, Holding}
+use Rattle.pmg_node_model.specs.Acts.{Request, Act, Reply, is_misnamed, reply_of}
+use Rattle.pmg_node_model.specs.Holdings.{Get, NodeState}
 use Rattle.pmg_node.specs.Servers.{Server}
-use Rattle.pmg_rules.specs.declared.sent.Sent.{Sent}
+use Rattle.pmg_node_model.specs.declared.sent.Sent.{Sent}
 use Rattle.pmg_world.specs.Keeping.{KeepsFor, IsNodeOf, own_key, own_answer}
-use Rattle.pmg_runs.specs.Worlds.{World, Event, Doing, doing, requests, own_get, own_cause, is_own, puts, not_there, nth, numbered, delivers, cache_of}
+use Rattle.pmg_group_model.specs.Worlds.{World, Event, Doing, doing, requests, own_get, own_cause, is_own, puts, not_there, nth, numbered, delivers, cache_of}
 use Rattle.pmg_world.proofs.CauseLemmas.{first_bad}
 use Rattle.pmg_world.proofs.ClientLemmas.{own_is}
 
@@ -123,7 +123,7 @@ module _ (jobs : Jobs) (w : World) where
       first_bad (own_cause s.jobs s.id s.holding p) (reply_of (found_or (map.get c.own key) Outcome.absent)) refl (bad s.jobs s.id s.holding)
       ∙ sym (first_bad (own_cause jobs node (w.nodes node) p) (reply_of (found_or (last_put reach.Own key (w.scripts p)) Outcome.absent)) refl (bad jobs node (w.nodes node)))
     where
-      bad : (jobs : Jobs) (node : ℕ) (h : Holding) → own_cause jobs node h p refusals.BadParam ≡ true
+      bad : (jobs : Jobs) (node : ℕ) (h : NodeState) → own_cause jobs node h p refusals.BadParam ≡ true
       bad jobs node h = (λ i. ((e i || is_misnamed jobs p) || false) || is_general p)
   own_by node s c p key of keeps false e = (λ i. first_of (own_cause (of.jobs_same i) (of.id_same i) (of.holds i) p) (reply_of (found_or (has i) Outcome.absent)))
     where

@@ -8,5 +8,4 @@ pub mod GroupLemmas
 pub mod HappenLemmas
 pub mod PutLemmas
 pub mod StartLemmas
-pub mod RunLemmas
 pub mod LedLemmas

@@ -10,12 +10,12 @@ use Rattle.pmg_value.specs.declared.refusal.Refusal.{Refusal}
 use Rattle.pmg_value.specs.declared.refusal.Refusal.TheVariants as refusals
 use Rattle.pmg_jobinfo.specs.Jobs.{Jobs, is_node, opened, registered}
 use Rattle.pmg_jobinfo.specs.Refusing.{new_cause, register_cause}
-use Rattle.pmg_rules.specs.Acts.{also}
+use Rattle.pmg_node_model.specs.Acts.{also}
 use Rattle.pmg_world.specs.Accounts.{Account}
-use Rattle.pmg_world.specs.Asking.{asks}
-use Rattle.pmg_script.specs.Lines.{Fails as NotRead}
+use Rattle.pmg_world.specs.Asking.{line_asks}
+use Rattle.pmg_script.specs.Lines.{LineFails as NotRead}
 use Rattle.pmg_script.specs.Scripts.{Line, line_of, said}
-use Rattle.pmg_world.specs.Stages.{AsksNothing, IsNew, Opens, OpensAt, Plays, PlaysLine, PlaysSaid, RegistersAt, Runs, RunsAt, RunsOn, Stops, ok_line, refused_line, unnamed_cause, with_space}
+use Rattle.pmg_world.specs.Stages.{AsksNothing, IsNew, Opens, OpensAt, Plays, PlaysLine, PlaysSaid, RegistersAt, Runs, RunsAt, RunsOn, StopsLine, ok_line, refused_line, unnamed_cause, with_named_space}
 use Rattle.pmg_script.specs.declared.lines.LineFault.{LineFault}
 use Rattle.pmg_script.specs.declared.lines.LineFault.TheVariants as faults
 use Rattle.pmg_world.specs.declared.phase.Phase.{Phase}
@@ -67,14 +67,14 @@ not_fresh phases.Over names text v some h = h
 
 -- ---- namespaces
 
-pub registers_there : (s : Phase) (jobs more : Jobs) (nspace homes text : List ℕ) → s ≡ phases.Registering jobs → with_space jobs nspace homes ≡ Ok more → text ≡ ok_line
+pub registers_there : (s : Phase) (jobs more : Jobs) (nspace homes text : List ℕ) → s ≡ phases.Registering jobs → with_named_space jobs nspace homes ≡ Ok more → text ≡ ok_line
     → RegistersAt s nspace homes text (phases.Registering more)
 unfolding RegistersAt
 registers_there s jobs more nspace homes text is ok line =
     subst (λ (p : Phase). RegistersAt p nspace homes text (phases.Registering more)) (sym is)
     (rw ok (line, refl))
 
-pub keeps_there : (s : Phase) (jobs left : Jobs) (nspace homes text : List ℕ) (e : Refusal) → s ≡ phases.Registering jobs → with_space jobs nspace homes ≡ Err e → left ≡ jobs → text ≡ refused_line e
+pub keeps_there : (s : Phase) (jobs left : Jobs) (nspace homes text : List ℕ) (e : Refusal) → s ≡ phases.Registering jobs → with_named_space jobs nspace homes ≡ Err e → left ≡ jobs → text ≡ refused_line e
     → RegistersAt s nspace homes text (phases.Registering left)
 unfolding RegistersAt
 keeps_there s jobs left nspace homes text e is err same line =
@@ -116,7 +116,7 @@ nothing_starts s jobs w line is new none text v runs = go (subst (λ (p : Phase)
     go : RunsAt (phases.Registering jobs) line text v → ⊥
     go starts =
         let same : starts.world.jobs ≡ w.jobs = starts.is_new.jobs_are ∙ sym new.jobs_are in
-        runs_nothing starts.world line text v (ap (λ (j : Jobs). asks j line) same ∙ none) starts.runs
+        runs_nothing starts.world line text v (ap (λ (j : Jobs). line_asks j line) same ∙ none) starts.runs
 
 pub closed : (s : Phase) (line : Line) → ((w : Account) → s ≡ phases.Running w → ⊥) → ((jobs : Jobs) → s ≡ phases.Registering jobs → ⊥)
     → (text : List ℕ) (v : Phase) → RunsAt s line text v → ⊥
@@ -171,20 +171,20 @@ last_true false true c = refl
 last_true false false true = refl
 last_true false false false = refl
 
-pub unnamed_space : (jobs : Jobs) (nspace homes : List ℕ) → is_nspace nspace ≡ false → with_space jobs nspace homes ≡ Err refusals.BadParam
-unfolding with_space
+pub unnamed_space : (jobs : Jobs) (nspace homes : List ℕ) → is_nspace nspace ≡ false → with_named_space jobs nspace homes ≡ Err refusals.BadParam
+unfolding with_named_space
 unnamed_space jobs nspace homes none =
     first_bad (also (unnamed_cause nspace) (register_cause jobs nspace homes)) (registered jobs nspace homes) refl
     (ap (λ b. not b || register_cause jobs nspace homes refusals.BadParam) none)
 
-pub unknown_home : (jobs : Jobs) (nspace homes : List ℕ) → list_all (is_node jobs) homes ≡ false → with_space jobs nspace homes ≡ Err refusals.BadParam
-unfolding with_space
+pub unknown_home : (jobs : Jobs) (nspace homes : List ℕ) → list_all (is_node jobs) homes ≡ false → with_named_space jobs nspace homes ≡ Err refusals.BadParam
+unfolding with_named_space
 unknown_home jobs nspace homes none =
     first_bad (also (unnamed_cause nspace) (register_cause jobs nspace homes)) (registered jobs nspace homes) refl
     (ap (λ b. not (is_nspace nspace) || (is_reserved nspace || ((length homes == 0) || not b))) none ∙ last_true (not (is_nspace nspace)) (is_reserved nspace) (length homes == 0))
 
-named_space : (jobs : Jobs) (nspace homes : List ℕ) → is_nspace nspace ≡ true → with_space jobs nspace homes ≡ first_of (register_cause jobs nspace homes) (registered jobs nspace homes)
-unfolding with_space
+named_space : (jobs : Jobs) (nspace homes : List ℕ) → is_nspace nspace ≡ true → with_named_space jobs nspace homes ≡ first_of (register_cause jobs nspace homes) (registered jobs nspace homes)
+unfolding with_named_space
 named_space jobs nspace homes named = first_same (also (unnamed_cause nspace) (register_cause jobs nspace homes)) (register_cause jobs nspace homes) (registered jobs nspace homes) same
   where
     same : (e : Refusal) → also (unnamed_cause nspace) (register_cause jobs nspace homes) e ≡ register_cause jobs nspace homes e
@@ -193,18 +193,18 @@ named_space jobs nspace homes named = first_same (also (unnamed_cause nspace) (r
 
 -- a registration that was done
 pub space_done : (r : Result (Unit {0}) Refusal) (old new : Jobs) (nspace homes list : List ℕ) → is_nspace nspace ≡ true → list ≡ homes
-    → Gives (λ u. u) r (first_of (register_cause old nspace list) (tt {0})) → OnOk r (new ≡ registered old nspace list) → OnOk r (with_space old nspace homes ≡ Ok new)
+    → Gives (λ u. u) r (first_of (register_cause old nspace list) (tt {0})) → OnOk r (new ≡ registered old nspace list) → OnOk r (with_named_space old nspace homes ≡ Ok new)
 space_done (Ok u) old new nspace homes list named same due is =
-    subst (λ hs. with_space old nspace hs ≡ Ok new) same
+    subst (λ hs. with_named_space old nspace hs ≡ Ok new) same
     (named_space old nspace list named ∙ given_in check_order (register_cause old nspace list) (tt {0}) u (registered old nspace list) due ∙ ap Ok (sym is))
 space_done (Err e) old new nspace homes list named same due is = tt
 
 -- and one that was refused
 pub space_refused : (r : Result (Unit {0}) Refusal) (old : Jobs) (nspace homes list : List ℕ) → is_nspace nspace ≡ true → list ≡ homes
-    → Gives (λ u. u) r (first_of (register_cause old nspace list) (tt {0})) → IfErr r (λ e. (e ≡ refusals.NoMemory → ⊥) → with_space old nspace homes ≡ Err e)
+    → Gives (λ u. u) r (first_of (register_cause old nspace list) (tt {0})) → IfErr r (λ e. (e ≡ refusals.NoMemory → ⊥) → with_named_space old nspace homes ≡ Err e)
 space_refused (Ok u) old nspace homes list named same due = tt
 space_refused (Err e) old nspace homes list named same due = λ some.
-    subst (λ hs. with_space old nspace hs ≡ Err e) same
+    subst (λ hs. with_named_space old nspace hs ≡ Err e) same
     (named_space old nspace list named ∙ over_in check_order (register_cause old nspace list) (tt {0}) (registered old nspace list) e (refuses e (first_of (register_cause old nspace list) (tt {0})) some due))
 
 pub at_phase : (s t : Phase) (nspace homes text : List ℕ) (v : Phase) → s ≡ t → RegistersAt t nspace homes text v → RegistersAt s nspace homes text v
@@ -228,7 +228,7 @@ pub plays_space : (s : Phase) (content nspace homes text : List ℕ) (v : Phase)
 unfolding Plays
 plays_space s content nspace homes text v is registers = said_there s content (Line.space nspace homes) text v is registers
 
-no_run : (s : Phase) (line : Line) (text : List ℕ) (v : Phase) → ((jobs : Jobs) → asks jobs line ≡ None) → RunsAt s line text v → ⊥
+no_run : (s : Phase) (line : Line) (text : List ℕ) (v : Phase) → ((jobs : Jobs) → line_asks jobs line ≡ None) → RunsAt s line text v → ⊥
 unfolding RunsAt
 no_run phases.Fresh line text v none h = h
 no_run (phases.Registering jobs) line text v none h = none-some h.runs.runs.asked (sym (none h.world.jobs) ∙ h.runs.runs.asks)
@@ -236,7 +236,7 @@ no_run (phases.Running w) line text v none h = none-some h.runs.asked (sym (none
 no_run phases.Over line text v none h = h
 
 plays_on : (s : Phase) (line : Line) (text : List ℕ) (v : Phase) → RunsAt s line text v → Plays s line text v
-unfolding Plays asks
+unfolding Plays line_asks
 plays_on s Line.nothing text v h = absurd (no_run s Line.nothing text v (λ jobs. refl) h)
 plays_on s (Line.nodes names) text v h = absurd (no_run s (Line.nodes names) text v (λ jobs. refl) h)
 plays_on s (Line.space nspace homes) text v h = absurd (no_run s (Line.space nspace homes) text v (λ jobs. refl) h)
@@ -247,20 +247,20 @@ plays_other s content line text v is runs = said_there s content line text v is 
 
 -- ---- lines that are none
 
-pub stops_unread : (s : Phase) (content : List ℕ) → said content ≡ None → Stops s content
-unfolding Stops PlaysLine
+pub stops_unread : (s : Phase) (content : List ℕ) → said content ≡ None → StopsLine s content
+unfolding StopsLine PlaysLine
 stops_unread s content none text v plays = subst (λ (l : Option Line). PlaysSaid s l text v) none plays
 
-stops_said : (s : Phase) (content : List ℕ) (line : Line) → said content ≡ Some line → ((text : List ℕ) (v : Phase) → Plays s line text v → ⊥) → Stops s content
-unfolding Stops PlaysLine
+stops_said : (s : Phase) (content : List ℕ) (line : Line) → said content ≡ Some line → ((text : List ℕ) (v : Phase) → Plays s line text v → ⊥) → StopsLine s content
+unfolding StopsLine PlaysLine
 stops_said s content line is never text v plays = never text v (subst (λ (l : Option Line). PlaysSaid s l text v) is plays)
 
-pub stops_nodes : (s : Phase) (content : List ℕ) (names : List (List ℕ)) → said content ≡ Some (Line.nodes names) → ((text : List ℕ) (v : Phase) → OpensAt s names text v → ⊥) → Stops s content
+pub stops_nodes : (s : Phase) (content : List ℕ) (names : List (List ℕ)) → said content ≡ Some (Line.nodes names) → ((text : List ℕ) (v : Phase) → OpensAt s names text v → ⊥) → StopsLine s content
 unfolding Plays
 stops_nodes s content names is never = stops_said s content (Line.nodes names) is never
 
 pub stops_space : (s : Phase) (content nspace homes : List ℕ) → said content ≡ Some (Line.space nspace homes) → ((text : List ℕ) (v : Phase) → RegistersAt s nspace homes text v → ⊥)
-    → Stops s content
+    → StopsLine s content
 unfolding Plays
 stops_space s content nspace homes is never = stops_said s content (Line.space nspace homes) is never
 
@@ -275,6 +275,6 @@ other_runs line nothing nodes space s text v h = h
 
 pub stops_other : (s : Phase) (content : List ℕ) (line : SaidLine) → (line ≡ said_lines.Nothing → ⊥) → ((names : Vec (Bor (List ℕ)) Global) → line ≡ said_lines.Nodes names → ⊥)
     → ((nspace : Bor (List ℕ)) (homes : Vec ℕ Global) → line ≡ said_lines.Space nspace homes → ⊥) → said content ≡ Some (line_of line)
-    → ((text : List ℕ) (v : Phase) → RunsAt s (line_of line) text v → ⊥) → Stops s content
+    → ((text : List ℕ) (v : Phase) → RunsAt s (line_of line) text v → ⊥) → StopsLine s content
 stops_other s content line nothing nodes space is never =
     stops_said s content (line_of line) is (λ text v plays. never text v (other_runs line nothing nodes space s text v plays))

@@ -11,10 +11,10 @@ use Rattle.pmg_scope.specs.Cached.{Cached, no_puts}
 use Rattle.pmg_jobinfo.specs.Jobs.{Jobs, AreJobs, is_node}
 use Rattle.pmg_node.specs.Opening.{new_server}
 use Rattle.pmg_node.specs.Servers.{Server}
-use Rattle.pmg_rules.specs.declared.sent.Sent.{Sent}
-use Rattle.pmg_rules.proofs.KeptActs.{new_is_server}
-use Rattle.pmg_world.specs.Keeping.{AreNew, Stands}
-use Rattle.pmg_runs.specs.Worlds.{start, cache_of}
+use Rattle.pmg_node_model.specs.declared.sent.Sent.{Sent}
+use Rattle.pmg_node_model.proofs.KeptActs.{new_is_server}
+use Rattle.pmg_world.specs.Keeping.{AreNew, Represents}
+use Rattle.pmg_group_model.specs.Worlds.{start, cache_of}
 use Rattle.pmg_world.specs.declared.group.Group.{Group}
 
 -- some server
@@ -43,7 +43,7 @@ more_new jobs n m xs x are is next = record {
 nobody : (p : _) → unwrap_or (finite.get (finite.empty {X = Cached} {R = proc_cmp}) p) no_puts ≡ no_puts
 nobody p = ap (λ (o : Option Cached). unwrap_or o no_puts) (finite.get-empty proc_cmp p)
 
-pub starts : (g : Group) → AreJobs g.registry → AreNew g.registry (length g.registry.nodes) g.nodes.items → g.caches ≡ finite.empty → g.sent.items ≡ [] → Stands g (start g.registry)
+pub starts : (g : Group) → AreJobs g.registry → AreNew g.registry (length g.registry.nodes) g.nodes.items → g.caches ≡ finite.empty → g.sent.items ≡ [] → Represents g (start g.registry)
 unfolding cache_of
 starts g jobs are caches sent = record {
   jobs = jobs;

@@ -3,13 +3,13 @@ use Rattle.std.specs.Prelude.{◌≡◌, ℕ, ◌<◌, List, ◌++◌, length, m
 use Rattle.std.specs.Coded.{Coded, code_by, coded×, coded_list}
 use Rattle.pmg_jobinfo.specs.Jobs.{Jobs, coded_jobs}
 use Rattle.pmg_node.specs.Servers.{Server, coded_server}
-use Rattle.pmg_rules.specs.declared.sent.Sent.{Sent}
-use Rattle.pmg_world.specs.Keeping.{IsNodeOf, Stands}
-use Rattle.pmg_world.specs.KeptLaws.{IsLawful}
+use Rattle.pmg_node_model.specs.declared.sent.Sent.{Sent}
+use Rattle.pmg_world.specs.Keeping.{IsNodeOf, Represents}
+use Rattle.pmg_group_model.specs.Lawful.{IsLawful}
 use Rattle.pmg_world.specs.Telling.{event_of, happened_of}
-use Rattle.pmg_runs.specs.Worlds.{World, Happened, Run, start}
+use Rattle.pmg_group_model.specs.Worlds.{World, Happened, Run, start}
 use Rattle.pmg_world.specs.declared.event.Event.{Event as ToldEvent}
-use Rattle.pmg_world.specs.declared.event.Told.{Told}
+use Rattle.pmg_world.specs.declared.event.LoggedEvent.{LoggedEvent}
 use Rattle.pmg_world.specs.declared.group.Group.{Group}
 
 -- A world in code: the jobs of its group, its nodes in the order of their indexes, all frames ever sent, and all events with their
@@ -18,20 +18,20 @@ pub record Account : Type 0 where
   pub jobs : Jobs
   pub nodes : List Server
   pub sent : List Sent
-  pub told : List Told
+  pub told : List LoggedEvent
 
-abbrev pub coded_account : Coded Sent → Coded Told → Coded Account
+abbrev pub coded_account : Coded Sent → Coded LoggedEvent → Coded Account
 coded_account coded_sent coded_told =
-    code_by (Jobs × (List Server × (List Sent × List Told))) (coded× coded_jobs (coded× (coded_list coded_server) (coded× (coded_list coded_sent) (coded_list coded_told))))
+    code_by (Jobs × (List Server × (List Sent × List LoggedEvent))) (coded× coded_jobs (coded× (coded_list coded_server) (coded× (coded_list coded_sent) (coded_list coded_told))))
     (λ a. (a.jobs, (a.nodes, (a.sent, a.told)))) (λ p. record { jobs = p.0; nodes = p.1.0; sent = p.1.1.0; told = p.1.1.1 }) (λ _. refl)
 
 -- what a group tells, of which this was told
-abbrev pub account_of : Group → List Told → Account
+abbrev pub account_of : Group → List LoggedEvent → Account
 account_of g told = record { jobs = g.registry; nodes = g.nodes.items; sent = g.sent.items; told = told }
 
 -- the events told lead from the start to a world that the group stands for
-unfoldable pub IsLed : Group → List Told → Type 0
-IsLed g told = (w : World) × Run g.registry (start g.registry) (map happened_of told) w × Stands g w
+unfoldable pub IsLed : Group → List LoggedEvent → Type 0
+IsLed g told = (w : World) × Run g.registry (start g.registry) (map happened_of told) w × Represents g w
 
 -- The events told lead from the start to the world; its nodes hold what these hold, and these frames are all that were sent.
 pub record LeadsTo (a : Account) (w : World) : Type 0 where
@@ -45,17 +45,17 @@ unfoldable pub IsRun : Account → Type 0
 IsRun a = (w : World) × LeadsTo a w
 
 -- the laws of every run hold of what is told, and of each beginning of it
-unfoldable pub IsKept : Account → Type 0
-IsKept a = (xs ys : List Happened) → map happened_of a.told ≡ xs ++ ys → IsLawful a.jobs xs
+unfoldable pub IsAccountLawful : Account → Type 0
+IsAccountLawful a = (xs ys : List Happened) → map happened_of a.told ≡ xs ++ ys → IsLawful a.jobs xs
 
 -- what was told before, and these events, each once and in their order, each with its answer
-unfoldable pub Adds : List Told → List ToldEvent → List Told → Type 0
-Adds old events new = (more : List Told) × (new ≡ old ++ more) × (map (λ t. event_of t.event) more ≡ map event_of events)
+unfoldable pub Adds : List LoggedEvent → List ToldEvent → List LoggedEvent → Type 0
+Adds old events new = (more : List LoggedEvent) × (new ≡ old ++ more) × (map (λ t. event_of t.event) more ≡ map event_of events)
 
 -- The new world goes on from where the old one stood: more is told after what was told, more frames are sent after those that were
 -- sent, and each run of the model that led to the old world goes on by what is told more, and then leads to the new one.
 pub record GoesOn (old new : Account) : Type 0 where
-  pub more : List Told
+  pub more : List LoggedEvent
   pub told : new.told ≡ old.told ++ more
   pub out : List Sent
   pub sent : new.sent ≡ old.sent ++ out

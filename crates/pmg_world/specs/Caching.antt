@@ -14,5 +14,5 @@ abbrev pub coded_all_cached : Coded AllCached
 coded_all_cached = finite.code coded_proc coded_cached
 
 -- what the process's client put
-abbrev pub cached_by : AllCached → Proc → Cached
-cached_by all p = unwrap_or (finite.get all p) no_puts
+abbrev pub cached_for : AllCached → Proc → Cached
+cached_for all p = unwrap_or (finite.get all p) no_puts

@@ -12,14 +12,14 @@ use Rattle.pmg_jobinfo.specs.Jobs.{Jobs, AreJobs, is_node}
 use Rattle.pmg_fence.specs.Rules.{Scripts}
 use Rattle.pmg_get.specs.Gets.{Outcome, found_or}
 use Rattle.pmg_node.specs.Acting.{reply_as}
-use Rattle.pmg_rules.specs.Acts.{Request, Reply, reply_of}
-use Rattle.pmg_rules.specs.Holdings.{Holding}
-use Rattle.pmg_rules.specs.Kept.{IsServer}
+use Rattle.pmg_node_model.specs.Acts.{Request, Reply, reply_of}
+use Rattle.pmg_node_model.specs.Holdings.{NodeState}
+use Rattle.pmg_node_model.specs.Kept.{IsServer}
 use Rattle.pmg_node.specs.Opening.{new_server}
 use Rattle.pmg_node.specs.Servers.{Server, IsAnswered, reply_in}
 use Rattle.pmg_node.specs.declared.act.Reply.{Reply as GivenReply}
-use Rattle.pmg_world.specs.Caching.{AllCached, cached_by}
-use Rattle.pmg_runs.specs.Worlds.{World, Event, Step, cache_of, is_own, own_cause}
+use Rattle.pmg_world.specs.Caching.{AllCached, cached_for}
+use Rattle.pmg_group_model.specs.Worlds.{World, Event, Step, cache_of, is_own, own_cause}
 use Rattle.pmg_world.specs.declared.group.Group.{Group}
 
 -- What is kept for a process is its client's cache; the standard's own processes have none, and no put that is not sealed.
@@ -30,23 +30,23 @@ pub record KeepsFor (p : Proc) (c : Cached) (s : Script) : Type 0 where
 
 -- so it is for all processes
 abbrev pub AreCaches : AllCached → Scripts → Type 0
-AreCaches caches scripts = (p : Proc) → KeepsFor p (cached_by caches p) (scripts p)
+AreCaches caches scripts = (p : Proc) → KeepsFor p (cached_for caches p) (scripts p)
 
 -- the server is that of the node, and holds this
-pub record IsNodeOf (jobs : Jobs) (node : ℕ) (h : Holding) (s : Server) : Type 0 where
+pub record IsNodeOf (jobs : Jobs) (node : ℕ) (h : NodeState) (s : Server) : Type 0 where
   pub jobs_same : s.jobs ≡ jobs
   pub id_same : s.id ≡ node
   pub holds : s.holding ≡ h
 
 -- the servers are those of all nodes, in their order, and hold this
-pub record AreNodes (jobs : Jobs) (items : List Server) (nodes : ℕ → Holding) : Type 0 where
+pub record AreNodes (jobs : Jobs) (items : List Server) (nodes : ℕ → NodeState) : Type 0 where
   pub count : length items ≡ length jobs.nodes
   pub each : (node : ℕ) (d : Server) → node < length items → IsNodeOf jobs node (nodes node) (slice_index_or items node d)
   pub servers : (node : ℕ) → node < length items → IsServer jobs node (nodes node)
 
 -- The group stands for the world: its nodes hold what they hold there, its clients' caches are those of the scripts, and the frames
 -- are those sent, each to a node of the group.
-pub record Stands (g : Group) (w : World) : Type 0 where
+pub record Represents (g : Group) (w : World) : Type 0 where
   pub jobs : AreJobs g.registry
   pub nodes : AreNodes g.registry g.nodes.items w.nodes
   pub caches : AreCaches g.caches w.scripts
@@ -62,7 +62,7 @@ pub record IsSame (old new : Group) : Type 0 where
 
 -- it stands for some world
 unfoldable pub IsGroup : Group → Type 0
-IsGroup g = (w : World) × Stands g w
+IsGroup g = (w : World) × Represents g w
 
 -- what is answered, as a reply
 abbrev pub replied : Result GivenReply Refusal → Reply
@@ -71,7 +71,7 @@ replied answer = reply_in reply_as answer
 -- Whatever world the old group stands for: the event leads from it, with that answer, to one that the new group stands for.
 unfoldable pub Happens : Group → Event → Result GivenReply Refusal → Group → Type 0
 Happens old e answer new =
-    IsAnswered answer → (new.registry ≡ old.registry) × ((w : World) → Stands old w → (v : World) × Step old.registry w e (replied answer) v × Stands new v)
+    IsAnswered answer → (new.registry ≡ old.registry) × ((w : World) → Represents old w → (v : World) × Step old.registry w e (replied answer) v × Represents new v)
 
 -- ---- gets of one's own keys
 

@@ -2,7 +2,6 @@ pub mod ReplyLines
 pub mod Telling
 pub mod Caching
 pub mod Keeping
-pub mod KeptLaws
 pub mod Accounts
 pub mod Asking
 pub mod Delivering

@@ -7,7 +7,7 @@ use Rattle.pmg_value.specs.declared.process.Proc.{Proc}
 use Rattle.pmg_value.specs.declared.refusal.Fault.{Fault}
 use Rattle.pmg_value.specs.declared.value.Value.{Value}
 use Rattle.pmg_wire.specs.Fields.{whole_value}
-use Rattle.pmg_rules.specs.Acts.{Reply}
+use Rattle.pmg_node_model.specs.Acts.{Reply}
 
 -- a process, as `j/2`
 unfoldable pub proc_text : Proc → List ℕ

@@ -14,17 +14,17 @@ use Rattle.pmg_wire.specs.Fields.{whole_value}
 use Rattle.pmg_store.specs.Dump.{dump}
 use Rattle.pmg_jobinfo.specs.Jobs.{Jobs, is_node, opened, registered}
 use Rattle.pmg_jobinfo.specs.Refusing.{new_cause, register_cause}
-use Rattle.pmg_rules.specs.Acts.{Request, Reply, also}
-use Rattle.pmg_node.specs.Members.{members_cause, members_known}
+use Rattle.pmg_node_model.specs.Acts.{Request, Reply, also}
+use Rattle.pmg_node.specs.Members.{known_members_cause, members_known}
 use Rattle.pmg_node.specs.Servers.{Server}
-use Rattle.pmg_world.specs.Accounts.{Account, GoesOn, IsRun, IsKept}
-use Rattle.pmg_world.specs.Asking.{Asked, asks}
+use Rattle.pmg_world.specs.Accounts.{Account, GoesOn, IsRun, IsAccountLawful}
+use Rattle.pmg_world.specs.Asking.{Asked, line_asks}
 use Rattle.pmg_world.specs.Delivering.{undelivered}
 use Rattle.pmg_world.specs.ReplyLines.{reply_line, flow_line, members_line}
 use Rattle.pmg_script.specs.Scripts.{Line, said}
 use Rattle.pmg_world.specs.Telling.{event_of, happened_of}
-use Rattle.pmg_runs.specs.Worlds.{Event, Happened}
-use Rattle.pmg_world.specs.declared.event.Told.{Told}
+use Rattle.pmg_group_model.specs.Worlds.{Event, Happened}
+use Rattle.pmg_world.specs.declared.event.LoggedEvent.{LoggedEvent}
 use Rattle.pmg_world.specs.declared.phase.Phase.{Phase}
 use Rattle.pmg_world.specs.declared.phase.Phase.TheVariants as phases
 
@@ -50,52 +50,52 @@ told_line h = reply_line (is_deletion h.event) h.reply
 
 -- These events happen, each once and in their order, with these answers, and the world goes on by them from where it stood. What is
 -- told then is a run of the model, and the laws of every run hold of it.
-pub record Happen (w : Account) (events : List Event) (more : List Told) (v : Account) : Type 0 where
+pub record Happen (w : Account) (events : List Event) (more : List LoggedEvent) (v : Account) : Type 0 where
   pub jobs : v.jobs ≡ w.jobs
   pub told : v.told ≡ w.told ++ more
   pub asked : map (λ t. event_of t.event) more ≡ events
   pub goes_on : GoesOn w v
   pub run : IsRun v
-  pub lawful : IsKept v
+  pub lawful : IsAccountLawful v
 
 -- the event happens, and the line is that of its answer
-pub record Answers (w : Account) (e : Event) (text : List ℕ) (v : Account) : Type 0 where
-  pub entry : Told
+pub record AnswersLine (w : Account) (e : Event) (text : List ℕ) (v : Account) : Type 0 where
+  pub entry : LoggedEvent
   pub happened : Happen w (e ∷ []) (entry ∷ []) v
   pub line : text ≡ told_line (happened_of entry)
 
 -- all frames are delivered that never were, of those that were sent; the line tells how many
 pub record Flows (w : Account) (text : List ℕ) (v : Account) : Type 0 where
-  pub more : List Told
+  pub more : List LoggedEvent
   pub happened : Happen w (map Event.deliver (undelivered w.told (length w.sent))) more v
   pub line : text ≡ flow_line (length more)
 
 -- the node of that index, if the group has one
-abbrev pub node_of : Account → ℕ → Option Server
-node_of w node = if is_node w.jobs node then slice_get w.nodes node else None
+abbrev pub server_at : Account → ℕ → Option Server
+server_at w node = if is_node w.jobs node then slice_get w.nodes node else None
 
 -- the process that the element of an array is
-abbrev pub proc_in : Plain → Option Proc
-proc_in (Plain.proc p) = Some p
-proc_in _ = None
+abbrev pub proc_element : Plain → Option Proc
+proc_element (Plain.proc p) = Some p
+proc_element _ = None
 
 -- the processes among the elements
-abbrev pub procs_in : List Plain → List Proc
-procs_in plains = filter_map proc_in plains
+abbrev pub proc_elements : List Plain → List Proc
+proc_elements plains = filter_map proc_element plains
 
-abbrev pub procs_of : Result Value Fault → List Proc
-procs_of (Ok (values.Array a)) = procs_in a.plains
-procs_of _ = []
+abbrev pub procs_in_value : Result Value Fault → List Proc
+procs_in_value (Ok (values.Array a)) = proc_elements a.plains
+procs_in_value _ = []
 
 -- the line of a set's members, or of why there are none
-abbrev pub members_told : Result (List ℕ) Refusal → List ℕ
-members_told (Ok bytes) = members_line (procs_of (whole_value bytes))
-members_told (Err e) = refused_line e
+abbrev pub members_reply : Result (List ℕ) Refusal → List ℕ
+members_reply (Ok bytes) = members_line (procs_in_value (whole_value bytes))
+members_reply (Err e) = refused_line e
 
 -- the members of the set, as the node knows them
-abbrev pub members_at : Option Server → List ℕ → List ℕ
-members_at None name = refused_line refusals.BadParam
-members_at (Some s) name = members_told (first_of (members_cause s.holding.far name) (members_known s.holding.far name))
+abbrev pub members_text : Option Server → List ℕ → List ℕ
+members_text None name = refused_line refusals.BadParam
+members_text (Some s) name = members_reply (first_of (known_members_cause s.holding.far name) (members_known s.holding.far name))
 
 -- the dump of what the node tells others
 abbrev pub dump_at : Option Server → List ℕ
@@ -104,11 +104,11 @@ dump_at (Some s) = dump s.holding.far
 
 -- How the world answers what is asked of it, and what it is then.
 unfoldable pub Performs : Account → Asked → List ℕ → Account → Type 0
-Performs w (Asked.happens e) text v = Answers w e text v
+Performs w (Asked.happens e) text v = AnswersLine w e text v
 Performs w Asked.unnamed text v = (text ≡ refused_line refusals.BadParam) × (v ≡ w)
 Performs w Asked.flow text v = Flows w text v
-Performs w (Asked.members node name) text v = (text ≡ members_at (node_of w node) name) × (v ≡ w)
-Performs w (Asked.dump node) text v = (text ≡ dump_at (node_of w node)) × (v ≡ w)
+Performs w (Asked.members node name) text v = (text ≡ members_text (server_at w node) name) × (v ≡ w)
+Performs w (Asked.dump node) text v = (text ≡ dump_at (server_at w node)) × (v ≡ w)
 
 -- ---- the phases of a script
 
@@ -123,8 +123,8 @@ unnamed_cause nspace refusals.BadParam = not (is_nspace nspace)
 unnamed_cause nspace _ = false
 
 -- the jobs with the namespace, or why it is not registered
-unfoldable pub with_space : Jobs → List ℕ → List ℕ → Result Jobs Refusal
-with_space jobs nspace homes = first_of (also (unnamed_cause nspace) (register_cause jobs nspace homes)) (registered jobs nspace homes)
+unfoldable pub with_named_space : Jobs → List ℕ → List ℕ → Result Jobs Refusal
+with_named_space jobs nspace homes = first_of (also (unnamed_cause nspace) (register_cause jobs nspace homes)) (registered jobs nspace homes)
 
 -- the namespace is registered; a refusal changes nothing
 abbrev pub Registers : Jobs → Result Jobs Refusal → List ℕ → Phase → Type 0
@@ -141,12 +141,12 @@ pub record IsNew (jobs : Jobs) (w : Account) : Type 0 where
 -- the world answers what the line asks of it
 pub record Runs (w : Account) (line : Line) (text : List ℕ) (v : Account) : Type 0 where
   pub asked : Asked
-  pub asks : asks w.jobs line ≡ Some asked
+  pub asks : line_asks w.jobs line ≡ Some asked
   pub performs : Performs w asked text v
 
 -- nothing is asked of it
 unfoldable pub AsksNothing : Account → Line → Type 0
-AsksNothing w line = asks w.jobs line ≡ None
+AsksNothing w line = line_asks w.jobs line ≡ None
 
 -- it does so, and runs on
 pub record RunsOn (w : Account) (line : Line) (text : List ℕ) (v : Phase) : Type 0 where
@@ -167,7 +167,7 @@ OpensAt _ names text v = ⊥
 
 -- Namespaces are registered before the world runs.
 unfoldable pub RegistersAt : Phase → List ℕ → List ℕ → List ℕ → Phase → Type 0
-RegistersAt (phases.Registering jobs) nspace homes text v = Registers jobs (with_space jobs nspace homes) text v
+RegistersAt (phases.Registering jobs) nspace homes text v = Registers jobs (with_named_space jobs nspace homes) text v
 RegistersAt _ nspace homes text v = ⊥
 
 -- The first other line starts the world.
@@ -192,8 +192,8 @@ unfoldable pub PlaysLine : Phase → List ℕ → List ℕ → Phase → Type 0
 PlaysLine s content text v = PlaysSaid s (said content) text v
 
 -- A line is none that has no form of a script's lines, or stands out of its order: nothing is what it does.
-unfoldable pub Stops : Phase → List ℕ → Type 0
-Stops s content = (text : List ℕ) (v : Phase) → PlaysLine s content text v → ⊥
+unfoldable pub StopsLine : Phase → List ℕ → Type 0
+StopsLine s content = (text : List ℕ) (v : Phase) → PlaysLine s content text v → ⊥
 
 -- No line is done after a refusal of the nodes' names.
 abbrev pub is_over : Phase → Bool

@@ -2,10 +2,10 @@
 use Rattle.pmg_value.specs.Spelling.{spelling}
 use Rattle.pmg_node.specs.Acting.{request_of, reply_as}
 use Rattle.pmg_node.specs.Servers.{reply_in}
-use Rattle.pmg_runs.specs.Worlds.{Event, Happened}
+use Rattle.pmg_group_model.specs.Worlds.{Event, Happened}
 use Rattle.pmg_world.specs.declared.event.Event.{Event as ToldEvent}
 use Rattle.pmg_world.specs.declared.event.Event.TheVariants as events
-use Rattle.pmg_world.specs.declared.event.Told.{Told}
+use Rattle.pmg_world.specs.declared.event.LoggedEvent.{LoggedEvent}
 
 -- what happens
 abbrev pub event_of : ToldEvent → Event
@@ -15,5 +15,5 @@ event_of (events.Request node request) = Event.request node (request_of request)
 event_of (events.Deliver frame) = Event.deliver frame
 
 -- an event, with its reply
-abbrev pub happened_of : Told → Happened
+abbrev pub happened_of : LoggedEvent → Happened
 happened_of told = record { event = event_of told.event; reply = reply_in reply_as told.answer }

@@ -3,12 +3,12 @@ ghost use Rattle.std.specs.Prelude.{◌≡◌, ◌&&◌, IfOk, IsTrue, if◌then
 ghost use Rattle.pmg_value.specs.Names.{is_key};
 ghost use Rattle.pmg_value.specs.Spelling.{spelling};
 ghost use Rattle.pmg_jobinfo.specs.Jobs.{home_of};
-ghost use Rattle.pmg_rules.specs.Acts.{Request as ModelRequest};
-ghost use Rattle.pmg_holding.specs.Calls.{get_of};
-ghost use Rattle.pmg_world.specs.Asking.{Asked as ModelAsked, asked_of, asks, are_named, at_home, if_named, is_named, sets_node};
-ghost use Rattle.pmg_script.specs.Lines.{ReadsAll};
+ghost use Rattle.pmg_node_model.specs.Acts.{Request as ModelRequest};
+ghost use Rattle.pmg_node_parts.specs.Calls.{get_of};
+ghost use Rattle.pmg_world.specs.Asking.{Asked as ModelAsked, asked_of, line_asks, are_named, at_home, if_named, has_named_nspace, sets_node};
+ghost use Rattle.pmg_script.specs.Lines.{ReadsAllWords};
 ghost use Rattle.pmg_script.specs.Scripts.{line_of};
-ghost use Rattle.pmg_runs.specs.Worlds.{Event as ModelEvent};
+ghost use Rattle.pmg_group_model.specs.Worlds.{Event as ModelEvent};
 
 use crate::event::Event;
 use pmg_get::Mode;
@@ -47,7 +47,7 @@ impl Drop for Asked {
 
 /// Whether the process's namespace has a name.
 fn is_named(proc: &Named<'_>) -> bool
-    ensures { result ≡ is_named proc.now }
+    ensures { result ≡ has_named_nspace proc.now }
 {
     is_nspace_name(proc.nspace)
 }
@@ -66,7 +66,7 @@ fn are_named(procs: &[Named<'_>]) -> bool
 
 /// The process of a name that was judged.
 fn proc_of(alloc: Global, named: &Named<'_>) -> Result<Proc, AllocError>
-    requires { IsTrue (is_named named.now) }
+    requires { IsTrue (has_named_nspace named.now) }
     ensures { IfOk result (λ p. p ≡ named.now) }
 {
     let nspace = Nspace::from_name(alloc, named.nspace)?;
@@ -104,7 +104,7 @@ fn ask_put(
     key: &[u8],
 ) -> Result<Asked, AllocError>
     ensures { IfOk result (λ a. asked_of a
-        ≡ if_named (is_named proc.now && is_key key.now) (ModelEvent.put proc.now scope key.now (spelling value))) }
+        ≡ if_named (has_named_nspace proc.now && is_key key.now) (ModelEvent.put proc.now scope key.now (spelling value))) }
 {
     if !is_named(proc) || !is_key_text(key) {
         return Ok(Asked::Unnamed);
@@ -117,7 +117,7 @@ fn ask_put(
 /// `commit NS RANK`
 fn ask_commit(alloc: Global, registry: &Registry, proc: &Named<'_>) -> Result<Asked, AllocError>
     ensures { IfOk result (λ a. asked_of a
-        ≡ if_named (is_named proc.now) (ModelEvent.commit (home_of registry.now proc.now) proc.now)) }
+        ≡ if_named (has_named_nspace proc.now) (ModelEvent.commit (home_of registry.now proc.now) proc.now)) }
 {
     if !is_named(proc) {
         return Ok(Asked::Unnamed);
@@ -135,7 +135,7 @@ fn ask_enter(
     list: &[Named<'_>],
 ) -> Result<Asked, AllocError>
     ensures { IfOk result (λ a. asked_of a
-        ≡ if_named (is_named proc.now && are_named list.now) (at_home registry.now proc.now (ModelRequest.enter proc.now list.now collect))) }
+        ≡ if_named (has_named_nspace proc.now && are_named list.now) (at_home registry.now proc.now (ModelRequest.enter proc.now list.now collect))) }
 {
     if !is_named(proc) || !are_named(list) {
         return Ok(Asked::Unnamed);
@@ -150,7 +150,7 @@ fn ask_enter(
 /// `leave NS RANK`
 fn ask_leave(alloc: Global, registry: &Registry, proc: &Named<'_>) -> Result<Asked, AllocError>
     ensures { IfOk result (λ a. asked_of a
-        ≡ if_named (is_named proc.now) (at_home registry.now proc.now (ModelRequest.leave proc.now))) }
+        ≡ if_named (has_named_nspace proc.now) (at_home registry.now proc.now (ModelRequest.leave proc.now))) }
 {
     if !is_named(proc) {
         return Ok(Asked::Unnamed);
@@ -170,7 +170,7 @@ fn ask_get(
     key: &[u8],
 ) -> Result<Asked, AllocError>
     ensures { IfOk result (λ a. asked_of a
-        ≡ if_named (is_named proc.now && is_named target.now && is_key key.now) (at_home registry.now proc.now (ModelRequest.ask proc.now (get_of target.now key.now) mode))) }
+        ≡ if_named (has_named_nspace proc.now && has_named_nspace target.now && is_key key.now) (at_home registry.now proc.now (ModelRequest.ask proc.now (get_of target.now key.now) mode))) }
 {
     if !is_named(proc) || !is_named(target) || !is_key_text(key) {
         return Ok(Asked::Unnamed);
@@ -186,7 +186,7 @@ fn ask_get(
 /// `take NS RANK`
 fn ask_take(alloc: Global, registry: &Registry, proc: &Named<'_>) -> Result<Asked, AllocError>
     ensures { IfOk result (λ a. asked_of a
-        ≡ if_named (is_named proc.now) (at_home registry.now proc.now (ModelRequest.take proc.now))) }
+        ≡ if_named (has_named_nspace proc.now) (at_home registry.now proc.now (ModelRequest.take proc.now))) }
 {
     if !is_named(proc) {
         return Ok(Asked::Unnamed);
@@ -199,7 +199,7 @@ fn ask_take(alloc: Global, registry: &Registry, proc: &Named<'_>) -> Result<Aske
 /// `end NS RANK`
 fn ask_end(alloc: Global, registry: &Registry, proc: &Named<'_>) -> Result<Asked, AllocError>
     ensures { IfOk result (λ a. asked_of a
-        ≡ if_named (is_named proc.now) (at_home registry.now proc.now (ModelRequest.terminate proc.now))) }
+        ≡ if_named (has_named_nspace proc.now) (at_home registry.now proc.now (ModelRequest.terminate proc.now))) }
 {
     if !is_named(proc) {
         return Ok(Asked::Unnamed);
@@ -244,9 +244,9 @@ fn ask_members(alloc: Global, node: u64, name: &[u8]) -> Result<Asked, AllocErro
 }
 
 /// What the line asks of the world of these jobs. It is malformed where it asks nothing of it.
-#[tactic(auto, unfolding(crate::specs::Asking::asks))]
+#[tactic(auto, unfolding(crate::specs::Asking::line_asks))]
 pub(crate) fn ask(alloc: Global, registry: &Registry, line: Line<'_>) -> Result<Asked, LineFault>
-    ensures { ReadsAll asked_of result (asks registry.now (line_of line.entry)) }
+    ensures { ReadsAllWords asked_of result (line_asks registry.now (line_of line.entry)) }
 {
     match line {
         Line::Put(proc, scope, value, key) => Ok(ask_put(alloc, &proc, scope, value, key)?),

@@ -7,7 +7,7 @@ ghost use Rattle.pmg_value.specs.CheckOrder.{first_of};
 ghost use Rattle.pmg_value.specs.Rows.{changed_at};
 ghost use Rattle.pmg_value.specs.Spelling.{spelling};
 ghost use Rattle.pmg_scope.specs.Cached.{after_commit, put_cause, unsealed_of, with_put};
-ghost use Rattle.pmg_world.specs.Caching.{cached_by};
+ghost use Rattle.pmg_world.specs.Caching.{cached_for};
 
 use pmg_scope::{Batch, Cache, Scope};
 use pmg_value::{Key, Proc, Refusal, Value};
@@ -53,7 +53,7 @@ impl Caches {
 
     /// What the process itself reads under the key.
     pub(crate) fn own(&self, proc: &Proc, key: &Key) -> Option<&Value>
-        ensures { option_map (λ v. spelling v.now) result ≡ finite.get (cached_by self.now proc.now).own key.now }
+        ensures { option_map (λ v. spelling v.now) result ≡ finite.get (cached_for self.now proc.now).own key.now }
     {
         match self.get(proc) {
             Some(cache) => cache.own(key),
@@ -63,7 +63,7 @@ impl Caches {
 
     /// What no commit of the process sealed.
     pub(crate) fn unsealed(&self, proc: &Proc) -> Result<Batch, AllocError>
-        ensures { IfOk result (λ b. b ≡ unsealed_of (cached_by self.now proc.now)) }
+        ensures { IfOk result (λ b. b ≡ unsealed_of (cached_for self.now proc.now)) }
     {
         match self.get(proc) {
             Some(cache) => cache.unsealed(),
@@ -79,8 +79,8 @@ impl Caches {
         key: Key,
         value: Value,
     ) -> Result<(), Refusal>
-        ensures answer { Gives (λ u. u) result (first_of (put_cause (cached_by self.old proc.now) scope key (spelling value)) tt) }
-        ensures ok { OnOk result (self.new ≡ finite.insert self.old proc.now (with_put (cached_by self.old proc.now) scope key (spelling value))) }
+        ensures answer { Gives (λ u. u) result (first_of (put_cause (cached_for self.old proc.now) scope key (spelling value)) tt) }
+        ensures ok { OnOk result (self.new ≡ finite.insert self.old proc.now (with_put (cached_for self.old proc.now) scope key (spelling value))) }
         ensures err { OnErr result (self.new ≡ self.old) }
     {
         if let Some(cache) = self.rows.get_mut(proc) {
@@ -94,7 +94,7 @@ impl Caches {
 
     /// All that the process put is sealed by a commit.
     pub(crate) fn mark_sealed(&mut self, proc: &Proc)
-        ensures { self.new ≡ changed_at self.old proc.now (after_commit (cached_by self.old proc.now)) }
+        ensures { self.new ≡ changed_at self.old proc.now (after_commit (cached_for self.old proc.now)) }
     {
         if let Some(cache) = self.rows.get_mut(proc) {
             cache.mark_sealed();

@@ -1,12 +1,12 @@
 //! Which of the frames ever sent were delivered.
 ghost use Rattle.std.specs.Prelude.{◌≡◌, ◌<◌, ◌+◌, ◌||◌, ℕ, suc, List, length, map, slice_index_or, IfOk, OnOk, OnErr};
 ghost use Rattle.std.specs.FinSet as set;
-ghost use Rattle.pmg_world.specs.Delivering.{IsNoted, delivers, is_number, missing};
+ghost use Rattle.pmg_world.specs.Delivering.{IsNoted, delivered_by, is_number, missing};
 ghost use Rattle.pmg_world.specs.Telling.{event_of};
-ghost use Rattle.pmg_runs.specs.Worlds.{Event as ModelEvent};
-ghost use Rattle.pmg_world.specs.declared.event.Told.{Told as AnyTold};
+ghost use Rattle.pmg_group_model.specs.Worlds.{Event as ModelEvent};
+ghost use Rattle.pmg_world.specs.declared.event.LoggedEvent.{LoggedEvent as AnyTold};
 
-use crate::event::{Event, Told};
+use crate::event::{Event, LoggedEvent};
 use pmg_join::RangeSet;
 use std::alloc::{AllocError, Global};
 
@@ -20,8 +20,8 @@ pub(crate) struct Delivered {
 }
 
 /// The number of the frame that was delivered by this, if one was.
-fn frame_of(told: &Told) -> Option<u64>
-    ensures { (frame : ℕ) → delivers frame told.now ≡ is_number frame result }
+fn frame_of(told: &LoggedEvent) -> Option<u64>
+    ensures { (frame : ℕ) → delivered_by frame told.now ≡ is_number frame result }
 {
     match (&told.event, &told.answer) {
         (Event::Deliver(frame), Ok(_)) => Some(*frame),
@@ -41,10 +41,10 @@ impl Delivered {
     }
 
     /// Looks at the next of the events told.
-    fn note_next(&mut self, told: &[Told]) -> Result<(), AllocError>
+    fn note_next(&mut self, told: &[LoggedEvent]) -> Result<(), AllocError>
         requires { self.old.seen < length told.now }
         ensures frames { OnOk result ((t : AnyTold) (n : ℕ) → set.contains self.new.frames (suc n)
-            ≡ (set.contains self.old.frames (suc n) || delivers (suc n) (slice_index_or told.now self.old.seen t))) }
+            ≡ (set.contains self.old.frames (suc n) || delivered_by (suc n) (slice_index_or told.now self.old.seen t))) }
         ensures seen { OnOk result (self.new.seen ≡ self.old.seen + 1) }
         ensures err { OnErr result (self.new ≡ self.old) }
     {
@@ -57,7 +57,7 @@ impl Delivered {
     }
 
     /// Looks at all events told since.
-    pub(crate) fn note(&mut self, told: &[Told]) -> Result<(), AllocError>
+    pub(crate) fn note(&mut self, told: &[LoggedEvent]) -> Result<(), AllocError>
         requires { IsNoted told.now self.old }
         ensures noted { IsNoted told.now self.new }
         ensures seen { OnOk result (self.new.seen ≡ length told.now) }

@@ -47,16 +47,16 @@ impl Event {
 }
 
 /// An event, with its answer.
-pub struct Told {
+pub struct LoggedEvent {
     /// What happened.
     pub event: Event,
     /// What it was answered with.
     pub answer: Result<Reply, Refusal>,
 }
 
-impl Drop for Told {
+impl Drop for LoggedEvent {
     fn drop(self) {
-        let Told {
+        let LoggedEvent {
             event: _,
             answer: _,
         } = self;

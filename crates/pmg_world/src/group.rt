@@ -10,17 +10,17 @@ ghost use Rattle.pmg_jobinfo.specs.Jobs.{AreJobs, home_of};
 ghost use Rattle.pmg_jobinfo.specs.Reserved.{is_general};
 ghost use Rattle.pmg_node.specs.Acting.{act_of, reply_as, request_of};
 ghost use Rattle.pmg_node.specs.Servers.{Server, IsAnswered, RepliesAct, after, sent_by};
-ghost use Rattle.pmg_world.specs.Caching.{cached_by};
-ghost use Rattle.pmg_world.specs.Keeping.{AreNew, Happens, IsGroup, IsSame, Stands, own_answer, own_key, replied};
+ghost use Rattle.pmg_world.specs.Caching.{cached_for};
+ghost use Rattle.pmg_world.specs.Keeping.{AreNew, Happens, IsGroup, IsSame, Represents, own_answer, own_key, replied};
 ghost use Rattle.pmg_world.specs.Telling.{event_of};
-ghost use Rattle.pmg_runs.specs.Worlds.{Event as ModelEvent, reply_in, start};
+ghost use Rattle.pmg_group_model.specs.Worlds.{Event as ModelEvent, reply_or_refusal, start};
 ghost use Rattle.pmg_world.specs.declared.group.Group.{Group as GroupOf};
 
 use crate::caches::Caches;
 use crate::event::Event;
 use pmg_jobinfo::Registry;
 use pmg_node::{Act, Node, Reply, Request};
-use pmg_rules::Sent;
+use pmg_node_model::Sent;
 use pmg_scope::{Reach, Scope, includes};
 use pmg_value::{Key, NodeId, Proc, Refusal, Value};
 use std::alloc::AllocError;
@@ -96,7 +96,7 @@ fn own_key(request: &Request) -> Option<(&Proc, &Key)>
 
 /// A process gets a key of its own at the node.
 fn own_get(node: &Node, caches: &Caches, proc: &Proc, key: &Key) -> Result<Reply, Refusal>
-    ensures { IsAnswered result → replied result ≡ reply_in (own_answer node.now (cached_by caches.now proc.now) proc.now key.now) }
+    ensures { IsAnswered result → replied result ≡ reply_or_refusal (own_answer node.now (cached_for caches.now proc.now) proc.now key.now) }
 {
     if is_general(proc) {
         return Err(Refusal::BadParam);
@@ -114,7 +114,7 @@ impl Group {
     /// A new group: nobody has called, and nothing was sent.
     pub(crate) fn new(registry: &Registry) -> Result<Group, AllocError>
         ensures jobs { IfOk result (λ g. g.registry ≡ registry.now) }
-        ensures stands { IfOk result (λ g. Stands g (start registry.now)) }
+        ensures stands { IfOk result (λ g. Represents g (start registry.now)) }
     {
         let alloc = registry.allocator();
         Ok(Group {

@@ -13,7 +13,7 @@ mod scene;
 mod stage;
 mod world;
 
-pub use event::{Event, Told};
+pub use event::{Event, LoggedEvent};
 pub use reply_lines::{flow_line, members_line, refusal_line, reply_line};
 pub use stage::{Stage, replay};
 pub use world::{RunFailed, World};

@@ -5,7 +5,7 @@ ghost use Rattle.pmg_value.specs.RefusalText.{refusal_text};
 ghost use Rattle.pmg_value.specs.Spelling.{spelling};
 ghost use Rattle.pmg_wire.specs.Fields.{whole_value};
 ghost use Rattle.pmg_node.specs.Acting.{reply_as};
-ghost use Rattle.pmg_rules.specs.Acts.{Reply as ModelReply};
+ghost use Rattle.pmg_node_model.specs.Acts.{Reply as ModelReply};
 ghost use Rattle.pmg_node.specs.Servers.{reply_in};
 ghost use Rattle.pmg_world.specs.ReplyLines.{proc_text, list_text, found_text, change_text, reply_line, flow_line, members_line};
 

@@ -6,7 +6,7 @@ ghost use Rattle.pmg_value.specs.declared.value.Value.TheVariants as values;
 ghost use Rattle.pmg_wire.specs.Fields.{whole_value};
 ghost use Rattle.pmg_store.specs.Dump.{dump};
 ghost use Rattle.pmg_world.specs.Asking.{asked_of};
-ghost use Rattle.pmg_world.specs.Stages.{Answers, Flows, IsNew, Performs, dump_at, is_deletion, members_at, node_of, proc_in, procs_in, procs_of};
+ghost use Rattle.pmg_world.specs.Stages.{AnswersLine, Flows, IsNew, Performs, dump_at, is_deletion, members_text, server_at, proc_element, proc_elements, procs_in_value};
 ghost use Rattle.pmg_world.specs.Telling.{event_of};
 
 use crate::asking::Asked;
@@ -38,10 +38,10 @@ impl Drop for Scene {
 }
 
 impl Model for Scene {
-    ghost use Rattle.pmg_rules.specs.contracts.sent.Sent.{the_row as sent_row};
+    ghost use Rattle.pmg_node_model.specs.contracts.sent.Sent.{the_row as sent_row};
     ghost use Rattle.pmg_world.specs.Accounts.{Account, coded_account};
     ghost use Rattle.pmg_world.specs.Delivering.{IsNoted};
-    ghost use Rattle.pmg_world.specs.contracts.event.Told.{the_row as told_row};
+    ghost use Rattle.pmg_world.specs.contracts.event.LoggedEvent.{the_row as told_row};
 
     ghost Value = { Account };
 
@@ -64,7 +64,7 @@ fn is_deletion(event: &Event) -> bool
 
 /// The process that the item of an array is.
 fn proc_in(item: &Value) -> Option<&Proc>
-    ensures { option_map (λ p. p.now) result ≡ proc_in (plain_of (form item.now)) }
+    ensures { option_map (λ p. p.now) result ≡ proc_element (plain_of (form item.now)) }
 {
     match item {
         Value::Proc(proc) => Some(proc),
@@ -74,7 +74,7 @@ fn proc_in(item: &Value) -> Option<&Proc>
 
 /// The processes among the items of an array.
 fn procs_in(alloc: Global, items: &[Value]) -> Result<Vec<Proc>, AllocError>
-    ensures { IfOk result (λ procs. procs.items ≡ procs_in (plains_of items.now)) }
+    ensures { IfOk result (λ procs. procs.items ≡ proc_elements (plains_of items.now)) }
 {
     let mut procs = Vec::new(alloc);
     for item in items {
@@ -87,7 +87,7 @@ fn procs_in(alloc: Global, items: &[Value]) -> Result<Vec<Proc>, AllocError>
 
 /// The processes of an array.
 fn procs_of(alloc: Global, members: &Array) -> Result<Vec<Proc>, AllocError>
-    ensures { IfOk result (λ procs. procs.items ≡ procs_of (whole_value (spelling (values.Array members.now)))) }
+    ensures { IfOk result (λ procs. procs.items ≡ procs_in_value (whole_value (spelling (values.Array members.now)))) }
 {
     procs_in(alloc, members.items())
 }
@@ -137,7 +137,7 @@ impl Scene {
 
     /// The event happens, and is answered with the line of its reply.
     fn happen(&mut self, alloc: Global, event: &Event) -> Result<Vec<u8>, AllocError>
-        ensures { IfOk result (λ text. Answers self.old (event_of event.now) text.items self.new) }
+        ensures { IfOk result (λ text. AnswersLine self.old (event_of event.now) text.items self.new) }
     {
         self.world.step(event)?;
         match self.world.events().last() {
@@ -161,7 +161,7 @@ impl Scene {
 
     /// The node of that index, if the group has one.
     fn node(&self, index: u64) -> Option<&Node>
-        ensures { option_map (λ n. n.now) result ≡ node_of self.now index }
+        ensures { option_map (λ n. n.now) result ≡ server_at self.now index }
     {
         match node_id(self.world.registry(), index) {
             Some(node) => self.world.node(node),
@@ -171,7 +171,7 @@ impl Scene {
 
     /// The members of the set, as the node knows them.
     fn members(&self, alloc: Global, node: u64, name: &Key) -> Result<Vec<u8>, AllocError>
-        ensures { IfOk result (λ text. text.items ≡ members_at (node_of self.now node) name.now) }
+        ensures { IfOk result (λ text. text.items ≡ members_text (server_at self.now node) name.now) }
     {
         let Some(node) = self.node(node) else {
             return refusal_line(alloc, &Refusal::BadParam);
@@ -184,7 +184,7 @@ impl Scene {
 
     /// The dump of what the node tells others.
     fn dump(&self, alloc: Global, node: u64) -> Result<Vec<u8>, AllocError>
-        ensures { IfOk result (λ text. text.items ≡ dump_at (node_of self.now node)) }
+        ensures { IfOk result (λ text. text.items ≡ dump_at (server_at self.now node)) }
     {
         match self.node(node) {
             Some(node) => dump_of(alloc, node.board().far()),

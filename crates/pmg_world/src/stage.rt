@@ -5,7 +5,7 @@ ghost use Rattle.pmg_store.specs.declared.input.TheConstants.{MOST_READS};
 ghost use Rattle.pmg_value.specs.declared.refusal.Refusal.TheVariants as refusals;
 ghost use Rattle.pmg_script.specs.Replays.{Replayed};
 ghost use Rattle.pmg_script.specs.Scripts.{line_of, texts};
-ghost use Rattle.pmg_world.specs.Stages.{OpensAt, PlaysLine, RegistersAt, Runs, RunsAt, Stops, AsksNothing, is_over, ok_line, refused_line, with_space};
+ghost use Rattle.pmg_world.specs.Stages.{OpensAt, PlaysLine, RegistersAt, Runs, RunsAt, StopsLine, AsksNothing, is_over, ok_line, refused_line, with_named_space};
 ghost use Rattle.pmg_script.specs.declared.lines.LineFault.TheVariants as faults;
 ghost use Rattle.pmg_world.specs.declared.phase.Phase.{Phase as AnyPhase};
 ghost use Rattle.pmg_world.specs.declared.phase.Phase.TheVariants as phases;
@@ -50,7 +50,7 @@ fn ok_line(alloc: Global) -> Result<Vec<u8>, AllocError>
 }
 
 /// The line of a refusal; where an allocation failed there is none.
-fn refused(alloc: Global, refusal: Refusal) -> Result<Vec<u8>, LineFault>
+fn line_of_refusal(alloc: Global, refusal: Refusal) -> Result<Vec<u8>, LineFault>
     ensures line { IfOk result (λ line. line.items ≡ refused_line refusal) }
     ensures memory { IfOk result (λ _. refusal ≢ refusals.NoMemory) }
     ensures formed { result ≢ Err faults.Malformed }
@@ -68,8 +68,8 @@ fn register_space(
     nspace: &[u8],
     homes: &[u64],
 ) -> Result<(), Refusal>
-    ensures ok { OnOk result (with_space registry.old nspace.now homes.now ≡ Ok registry.new) }
-    ensures refused { IfErr result (λ e. e ≢ refusals.NoMemory → with_space registry.old nspace.now homes.now ≡ Err e) }
+    ensures ok { OnOk result (with_named_space registry.old nspace.now homes.now ≡ Ok registry.new) }
+    ensures refused { IfErr result (λ e. e ≢ refusals.NoMemory → with_named_space registry.old nspace.now homes.now ≡ Err e) }
     ensures err { OnErr result (registry.new ≡ registry.old) }
 {
     if !is_nspace_name(nspace) {
@@ -91,7 +91,7 @@ fn space_line(
 {
     match register_space(alloc, registry, nspace, homes) {
         Ok(()) => {}
-        Err(refusal) => return Ok(refused(alloc, refusal)?),
+        Err(refusal) => return Ok(line_of_refusal(alloc, refusal)?),
     }
     Ok(ok_line(alloc)?)
 }
@@ -131,7 +131,7 @@ impl Stage {
                 Ok(ok_line(self.alloc)?)
             }
             Err(refusal) => {
-                let reply = refused(self.alloc, refusal)?;
+                let reply = line_of_refusal(self.alloc, refusal)?;
                 self.phase = Phase::Over;
                 Ok(reply)
             }
@@ -170,7 +170,7 @@ impl Stage {
 impl Player for Stage {
     ghost plays = { PlaysLine };
 
-    ghost stops = { Stops };
+    ghost stops = { StopsLine };
 
     ghost over = { is_over };
 
@@ -203,7 +203,7 @@ pub fn replay<R: Read, W: Write>(
 ) -> Result<Ended, Failure>
     ensures few { reader.new.reads ≤ reader.old.reads + MOST_READS }
     ensures replayed { IfSome (R.remaining reader.old.reader) (λ text.
-        Replayed PlaysLine Stops is_over phases.Fresh text (R.remaining reader.new.reader) (W.contents writer.old.writer) (W.contents writer.new.writer) result) }
+        Replayed PlaysLine StopsLine is_over phases.Fresh text (R.remaining reader.new.reader) (W.contents writer.old.writer) (W.contents writer.new.writer) result) }
     ensures read_fault { IfErr result (λ e. e ≡ failures.Read → IsSome reader.new.failure) }
     ensures failed { IsSome reader.new.failure → IsSome reader.old.failure ⊎ (result
         ≡ Err failures.Read) }

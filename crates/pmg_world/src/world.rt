@@ -3,13 +3,13 @@ ghost use Rattle.std.specs.Prelude.{◌≡◌, ◌<◌, true, false, [], ◌∷�
 ghost use Rattle.std.specs.Option.{option_map};
 ghost use Rattle.pmg_node.specs.Servers.{IsAnswered};
 ghost use Rattle.pmg_value.specs.declared.refusal.Refusal.TheVariants as refusals;
-ghost use Rattle.pmg_world.specs.Accounts.{Adds, GoesOn, IsKept, IsRun};
+ghost use Rattle.pmg_world.specs.Accounts.{Adds, GoesOn, IsAccountLawful, IsRun};
 
-use crate::event::{Event, Told};
+use crate::event::{Event, LoggedEvent};
 use crate::group::Group;
 use pmg_jobinfo::Registry;
 use pmg_node::{Node, Reply};
-use pmg_rules::Sent;
+use pmg_node_model::Sent;
 use pmg_value::{NodeId, Refusal};
 use std::alloc::AllocError;
 use std::collections::VecDeque;
@@ -20,7 +20,7 @@ use std::marker::Model;
 /// run of the model, and the laws of every run hold of it.
 pub struct World {
     group: Group,
-    told: Vec<Told>,
+    told: Vec<LoggedEvent>,
 }
 
 impl Drop for World {
@@ -30,9 +30,9 @@ impl Drop for World {
 }
 
 impl Model for World {
-    ghost use Rattle.pmg_rules.specs.contracts.sent.Sent.{the_row as sent_row};
+    ghost use Rattle.pmg_node_model.specs.contracts.sent.Sent.{the_row as sent_row};
     ghost use Rattle.pmg_world.specs.Accounts.{Account, account_of, coded_account, IsLed};
-    ghost use Rattle.pmg_world.specs.contracts.event.Told.{the_row as told_row};
+    ghost use Rattle.pmg_world.specs.contracts.event.LoggedEvent.{the_row as told_row};
 
     ghost Value = { Account };
 
@@ -68,7 +68,7 @@ impl World {
         ensures told { IfOk result (λ w. w.told ≡ []) }
         ensures sent { IfOk result (λ w. w.sent ≡ []) }
         ensures run { IfOk result IsRun }
-        ensures lawful { IfOk result IsKept }
+        ensures lawful { IfOk result IsAccountLawful }
     {
         let group = Group::new(registry)?;
         Ok(World {
@@ -85,7 +85,7 @@ impl World {
     }
 
     /// All that happened, each event with its answer, in their order.
-    pub fn events(&self) -> &[Told]
+    pub fn events(&self) -> &[LoggedEvent]
         ensures { result.now ≡ self.now.told }
     {
         &self.told
@@ -112,7 +112,7 @@ impl World {
         ensures err { OnErr result (self.new ≡ self.old) }
         ensures goes_on { GoesOn self.old self.new }
         ensures run { IsRun self.new }
-        ensures lawful { IsKept self.new }
+        ensures lawful { IsAccountLawful self.new }
     {
         self.told.reserve(1)?;
         let event = event.copy()?;
@@ -120,7 +120,7 @@ impl World {
         if is_short(&answer) {
             return Err(AllocError);
         }
-        match self.told.push(Told { event, answer }) {
+        match self.told.push(LoggedEvent { event, answer }) {
             Ok(()) => Ok(()),
             Err(_) => unreachable!(),
         }
@@ -134,7 +134,7 @@ impl World {
         ensures few { IfErr result (λ e. e.done < length events.now) }
         ensures goes_on { GoesOn self.old self.new }
         ensures run { IsRun self.new }
-        ensures lawful { IsKept self.new }
+        ensures lawful { IsAccountLawful self.new }
     {
         if self.told.reserve(events.len()).is_err() {
             return Err(RunFailed { done: 0 });

@@ -2,7 +2,7 @@
 //! memory.
 use crate::nodes::words::{MEMORY, key, name, process};
 use pmg_frame::FenceName;
-use pmg_holding::{Call, Calls, Found, Settled};
+use pmg_node_parts::{Call, Calls, Completion, Found};
 use pmg_value::Proc;
 use std::alloc::Global;
 use std::process::Abort;
@@ -59,25 +59,25 @@ fn sizes(rt: &impl Abort, calls: &Calls, alloc: Global) -> [usize; 4] {
         parked_on(rt, calls, alloc, "j2"),
         waiting_in(rt, calls, alloc, "collect"),
         waiting_in(rt, calls, alloc, "plain"),
-        calls.waited().expect(rt, MEMORY).len(),
+        calls.waited_fences().expect(rt, MEMORY).len(),
     ]
 }
 
 // The get of process 1 is answered.
-fn answered(rt: &impl Abort, alloc: Global) -> (Proc, Settled) {
+fn answered_get(rt: &impl Abort, alloc: Global) -> (Proc, Completion) {
     let proc = process(alloc, "j1").expect(rt, MEMORY);
     let target = process(alloc, "j2").expect(rt, MEMORY);
     let name = key(alloc, "k").expect(rt, MEMORY);
-    (proc, Settled::Answered(target, name, Found::NotFound))
+    (proc, Completion::Answered(target, name, Found::NotFound))
 }
 
 // Process 0 is released, and the get of process 1 is answered.
-fn answers(rt: &impl Abort, alloc: Global) -> Vec<(Proc, Settled)> {
+fn answers(rt: &impl Abort, alloc: Global) -> Vec<(Proc, Completion)> {
     let mut answers = Vec::new(alloc);
     let proc = process(alloc, "j0").expect(rt, MEMORY);
-    let released = Settled::Released(fence(rt, alloc, "collect"), Vec::new(alloc));
+    let released = Completion::Released(fence(rt, alloc, "collect"), Vec::new(alloc));
     answers.push((proc, released)).expect(rt, MEMORY);
-    answers.push(answered(rt, alloc)).expect(rt, MEMORY);
+    answers.push(answered_get(rt, alloc)).expect(rt, MEMORY);
     answers
 }
 

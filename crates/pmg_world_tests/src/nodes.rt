@@ -6,6 +6,7 @@ mod fence_news;
 mod get_acts;
 pub(crate) mod group;
 mod ignored_frames;
+mod links;
 mod moving_levels;
 mod refresh_acts;
 mod refusal_acts;

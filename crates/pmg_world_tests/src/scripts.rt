@@ -1,5 +1,5 @@
 //! What no clause says of whole scripts: what is written where a reader or a writer fails. What
-//! scripts are replied is shown by `examples/replay.rows`.
+//! scripts are replied is as_text by `examples/replay.rows`.
 use crate::failing::{FailingReader, FailingWriter};
 use crate::nodes::text::put_line;
 use crate::nodes::words::MEMORY;
@@ -44,7 +44,7 @@ struct Outcome {
 }
 
 // What comes of a script, of whose replies so many bytes can be written, one by one.
-fn played<R: Read + Drop>(rt: &impl Abort, alloc: Global, reader: R, writes: usize) -> Outcome {
+fn play<R: Read + Drop>(rt: &impl Abort, alloc: Global, reader: R, writes: usize) -> Outcome {
     let held = Vec::with_capacity(alloc, ROOM).expect(rt, MEMORY);
     let mut reader = WatchedReader::new(reader);
     let mut writer = WatchedWriter::new(FailingWriter {
@@ -105,7 +105,7 @@ fn replies_before_a_read_fault_stay(rt: HostRuntime) {
             fails_at,
             fault: ErrorKind::Other,
         };
-        let played = played(&rt, rt.alloc(), reader, usize::MAX);
+        let played = play(&rt, rt.alloc(), reader, usize::MAX);
         let told = told_before(fails_at.saturating_sub(1));
         let before = replies.get(..told).unwrap_or(b"");
         assert!(rt; has_ended(&played, Failure::Read, before));
@@ -116,7 +116,7 @@ fn replies_before_a_read_fault_stay(rt: HostRuntime) {
 fn write_faults_leave_a_prefix(rt: HostRuntime) {
     let (script, replies) = texts(&rt, rt.alloc());
     for most in 0..replies.len() {
-        let played = played(&rt, rt.alloc(), script.as_slice(), most);
+        let played = play(&rt, rt.alloc(), script.as_slice(), most);
         let before = replies.get(..most).unwrap_or(b"");
         assert!(rt; has_ended(&played, Failure::Write, before));
     }

@@ -3,7 +3,7 @@
 mod asked_again;
 
 use crate::nodes::group::registry;
-use crate::nodes::text::{put_line, shown};
+use crate::nodes::text::{as_text, put_line};
 use crate::nodes::words::{MEMORY, key, number, process, request, scope_of, value, word, words_of};
 use pmg_value::Refusal;
 use pmg_world::{Event, World, reply_line};
@@ -99,7 +99,7 @@ fn answers(rt: &impl Abort, alloc: Global, events: &[Event]) -> Vec<u8> {
 fn happens(rt: &impl Abort, alloc: Global, rows: &str) {
     let (events, wanted) = events(alloc, rows).expect(rt, MEMORY);
     let text = answers(rt, alloc, &events);
-    assert_eq!(rt; shown(&text), shown(&wanted));
+    assert_eq!(rt; as_text(&text), as_text(&wanted));
 }
 
 // Process 1 puts, commits and enters; its header and its commit reach node 0, where process 0

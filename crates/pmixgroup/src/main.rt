@@ -2,7 +2,7 @@
 #![tactic(auto)]
 
 use pmg_app::{end_with, run};
-use pmg_job::MAX_JOB_PROCS;
+use pmg_jobfile::MAX_JOB_PROCS;
 use pmg_launch::{Exchange, Program};
 use pmg_value::WatchedWriter;
 use std::io;

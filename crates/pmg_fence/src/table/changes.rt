@@ -1,11 +1,12 @@
 //! Changes of a table that can be taken back.
 ghost use Rattle.std.specs.Prelude.{◌≡◌, ◌≤◌, IsTrue, IfOk, OnOk, OnErr};
 ghost use Rattle.std.specs.Option.{option_map};
-ghost use Rattle.pmg_fence.specs.Changes.{changed_at, changed, ended_by};
-ghost use Rattle.pmg_fence.specs.Kept.{line_of, noted_by, IsLine, CanChange};
-ghost use Rattle.pmg_fence.specs.TakenBack.{table_back, CanTakeBack};
+ghost use Rattle.pmg_fence.specs.Changes.{fence_changed_at, changed, ended_by};
+ghost use Rattle.pmg_fence.specs.Kept.{changed_local, noted_by, IsLine, CanChange};
+ghost use Rattle.pmg_fence.specs.TakenBack.{table_back, CanRollTableBack};
+ghost use Rattle.pmg_commit.specs.declared.piece.TheConstants.{MAX_COMMIT};
 
-use super::{ChangeBefore, Table, TableBefore};
+use super::{ChangeBefore, Table, TableUndo};
 use crate::change::Change;
 use pmg_frame::{FenceName, Local, State};
 use pmg_value::Proc;
@@ -13,7 +14,7 @@ use std::alloc::AllocError;
 
 /// What comes to be told of a process by the change.
 fn line_of(change: &Change) -> Result<Option<Local>, AllocError>
-    ensures { IfOk result (λ l. l ≡ line_of change.now) }
+    ensures { IfOk result (λ l. l ≡ changed_local change.now) }
 {
     match change {
         Change::Entered(proc, level) => Ok(Some(Local {
@@ -31,28 +32,28 @@ impl Table {
     /// entry has to be the process's next of the signature. Where this completes the node's header, that waits to be taken. Of an
     /// old fence an entry is counted, and nothing else is kept. Nothing is forgotten yet: that is a call of its own, `forget`,
     /// which cannot be taken back.
-    pub fn note(&mut self, name: &FenceName, change: Change) -> Result<TableBefore, AllocError>
+    pub fn note(&mut self, name: &FenceName, change: Change) -> Result<TableUndo, AllocError>
         requires { CanChange self.old.fences name.now change }
         ensures before { IfOk result (λ b. table_back self.new b ≡ self.old) }
-        ensures fits { IfOk result (λ b. CanTakeBack self.new b) }
-        ensures ok { OnOk result (self.new ≡ changed_at self.old name.now (noted_by self.old.fences name.now change)) }
+        ensures fits { IfOk result (λ b. CanRollTableBack self.new b) }
+        ensures ok { OnOk result (self.new ≡ fence_changed_at self.old name.now (noted_by self.old.fences name.now change)) }
         ensures err { OnErr result (self.new ≡ self.old) }
     {
         let kept = name.copy()?;
         let line = line_of(&change)?;
         let waiting = self.waiting.len();
         let before = self.change(name.signature(), name.instance(), line.as_ref(), change)?;
-        Ok(TableBefore {
+        Ok(TableUndo {
             waiting,
             change: ChangeBefore::Fence(kept, before),
         })
     }
 
     /// The process ends, as `gone` tells, and what there was before is told, by which it can be taken back.
-    pub fn end(&mut self, proc: &Proc, level: u64) -> Result<TableBefore, AllocError>
-        requires { level ≤ 4294967295 }
+    pub fn end(&mut self, proc: &Proc, level: u64) -> Result<TableUndo, AllocError>
+        requires { level ≤ MAX_COMMIT }
         ensures before { IfOk result (λ b. table_back self.new b ≡ self.old) }
-        ensures fits { IfOk result (λ b. CanTakeBack self.new b) }
+        ensures fits { IfOk result (λ b. CanRollTableBack self.new b) }
         ensures ok { OnOk result (self.new ≡ changed self.old (ended_by self.old.fences proc.now level)) }
         ensures err { OnErr result (self.new ≡ self.old) }
     {
@@ -70,7 +71,7 @@ impl Table {
                 self.waiting.truncate(waiting);
                 Err(AllocError)
             }
-            Ok(before) => Ok(TableBefore {
+            Ok(before) => Ok(TableUndo {
                 waiting,
                 change: ChangeBefore::End(before),
             }),
@@ -79,17 +80,17 @@ impl Table {
 
     /// Takes a change back, by what there was before; of the own headers that wait, only so many are left as waited then. It
     /// takes no memory.
-    pub fn take_back(&mut self, before: TableBefore)
-        requires { CanTakeBack self.old before }
+    pub fn rollback(&mut self, before: TableUndo)
+        requires { CanRollTableBack self.old before }
         ensures { self.new ≡ table_back self.old before }
     {
         self.waiting.truncate(before.waiting);
         match &before.change {
             ChangeBefore::Fence(name, series) => {
                 self.series
-                    .take_back(name.signature(), name.instance(), series)
+                    .rollback(name.signature(), name.instance(), series)
             }
-            ChangeBefore::End(number) => self.ends.take_back(number),
+            ChangeBefore::End(number) => self.ends.rollback(number),
         }
     }
 }

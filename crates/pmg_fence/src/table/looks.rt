@@ -83,6 +83,6 @@ impl Table {
         }
         let fence = self.fence(signature, name.instance());
         let whole = self.is_whole(signature, fence);
-        self.told(fence, whole, proc)
+        self.standing_in(fence, whole, proc)
     }
 }

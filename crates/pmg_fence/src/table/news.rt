@@ -5,7 +5,7 @@ ghost use Rattle.std.specs.List.{flat_map};
 ghost use Rattle.std.specs.Option.{option_map};
 ghost use Rattle.pmg_value.specs.declared.process.Proc.{Proc};
 ghost use Rattle.pmg_frame.specs.Fences.{header, is_instance, is_level};
-ghost use Rattle.pmg_fence.specs.Entering.{told, lines};
+ghost use Rattle.pmg_fence.specs.Entering.{told_locals, collected_locals};
 ghost use Rattle.pmg_fence.specs.Tables.{names_of, fence_of, entry_at};
 ghost use Rattle.pmg_fence.specs.Kept.{instead, entry_with, known_fence, own_by, own_of, told_with, newly_told, changed_with, ended_told, series_told, most_told, IsLine, CanChange};
 ghost use Rattle.pmg_fence.specs.TakenBack.{fences_back};
@@ -15,7 +15,7 @@ use crate::change::Change;
 use crate::entry::Entry;
 use crate::fence::Fence;
 use crate::owns::Owns;
-use crate::series::SeriesBefore;
+use crate::series::SeriesUndo;
 use pmg_frame::{FenceName, Header, Local, Signature};
 use pmg_jobinfo::Registry;
 use pmg_value::{NodeId, Proc};
@@ -83,7 +83,7 @@ impl Table {
 
     /// Whether there is something to tell of each of these.
     fn are_told(&self, own: &[Proc], fence: Option<&Fence>) -> bool
-        ensures { result ≡ is_some (lines (entry_with (known_fence (option_map (λ f. f.now) fence.entry)) self.now.fences.ends) own.now) }
+        ensures { result ≡ is_some (collected_locals (entry_with (known_fence (option_map (λ f. f.now) fence.entry)) self.now.fences.ends) own.now) }
     {
         for proc in own {
             let Some(_) = self.entry(fence, proc) else {
@@ -100,7 +100,7 @@ impl Table {
         fence: Option<&Fence>,
         line: Option<&Local>,
     ) -> Result<Option<Vec<Local>>, AllocError>
-        ensures { IfOk result (λ o. option_map (λ ls. ls.items) o ≡ told (instead (option_map (λ l. l.now) line.entry)
+        ensures { IfOk result (λ o. option_map (λ ls. ls.items) o ≡ told_locals (instead (option_map (λ l. l.now) line.entry)
             (entry_with (known_fence (option_map (λ f. f.now) fence.entry)) self.now.fences.ends)) own.now) }
     {
         let mut lines = Vec::new(self.series.allocator());
@@ -118,7 +118,7 @@ impl Table {
 
     /// Whether the own header is there of a fence that is looked up, whose own participants these are.
     fn is_present(&self, own: &[Proc], fence: Option<&Fence>) -> bool
-        ensures { result ≡ (is_some fence.entry && is_some (told (entry_with (known_fence (option_map (λ f. f.now) fence.entry)) self.now.fences.ends) own.now)) }
+        ensures { result ≡ (is_some fence.entry && is_some (told_locals (entry_with (known_fence (option_map (λ f. f.now) fence.entry)) self.now.fences.ends) own.now)) }
     {
         fence.is_some() && !own.is_empty() && self.are_told(own, fence)
     }
@@ -135,7 +135,7 @@ impl Table {
         requires number { IsTrue (is_instance instance) }
         requires line { IsLine (option_map (λ l. l.now) line) }
         ensures { IfOk result (λ o. o ≡ option_map (header self.now.node (fence_of signature.now instance))
-            (told (instead (option_map (λ l. l.now) line.entry) (entry_at self.now.fences (fence_of signature.now instance)))
+            (told_locals (instead (option_map (λ l. l.now) line.entry) (entry_at self.now.fences (fence_of signature.now instance)))
             (own_of self.now signature.now))) }
     {
         let fence = self.fence(signature, instance);
@@ -221,7 +221,7 @@ impl Table {
         instance: u64,
         line: Option<&Local>,
         change: Change,
-    ) -> Result<Option<SeriesBefore>, AllocError>
+    ) -> Result<Option<SeriesUndo>, AllocError>
         requires number { IsTrue (is_instance instance) }
         requires line { IsLine (option_map (λ l. l.now) line) }
         requires change { CanChange self.old.fences (fence_of signature.now instance) change }

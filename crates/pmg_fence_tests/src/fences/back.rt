@@ -1,9 +1,9 @@
 //! What is taken back: a table says of two fences what it said before the change.
-ghost use Rattle.pmg_fence.specs.TakenBack.{CanTakeBack};
+ghost use Rattle.pmg_fence.specs.TakenBack.{CanRollTableBack};
 
 use super::{Meeting, table};
 use crate::making::{MEMORY, process};
-use pmg_fence::{Change, Table, TableBefore};
+use pmg_fence::{Change, Table, TableUndo};
 use pmg_frame::{FenceName, Header};
 use pmg_value::NodeId;
 use std::process::Abort;
@@ -12,7 +12,7 @@ use std::process::Abort;
 // that of node 0 would be there in the second; how often process 0 entered, and how many headers wait.
 type Seen = ([bool; 5], [u64; 2]);
 
-fn seen(rt: &impl Abort, table: &Table, meeting: Meeting) -> Seen {
+fn look_at(rt: &impl Abort, table: &Table, meeting: Meeting) -> Seen {
     (
         [
             has_name(rt, table, meeting, 1),
@@ -51,8 +51,8 @@ pub(super) fn waiting(rt: &impl Abort, table: &Table) -> u64 {
     table.copy().expect(rt, MEMORY).take_headers().len() as u64
 }
 
-fn note_entry(rt: &impl Abort, table: &mut Table, meeting: Meeting, rank: u32) -> TableBefore
-    ensures { CanTakeBack table.new result }
+fn note_entry(rt: &impl Abort, table: &mut Table, meeting: Meeting, rank: u32) -> TableUndo
+    ensures { CanRollTableBack table.new result }
 {
     let signature = meeting.signature(rt);
     let proc = process(rt, meeting.alloc, rank);
@@ -67,18 +67,18 @@ fn note_entry(rt: &impl Abort, table: &mut Table, meeting: Meeting, rank: u32) -
 // What is seen with the entry, and once it is taken back.
 fn enters_and_back(rt: &impl Abort, table: &mut Table, meeting: Meeting) -> [Seen; 2] {
     let before = note_entry(rt, table, meeting, 0);
-    let there = seen(rt, table, meeting);
-    table.take_back(before);
-    [there, seen(rt, table, meeting)]
+    let there = look_at(rt, table, meeting);
+    table.rollback(before);
+    [there, look_at(rt, table, meeting)]
 }
 
 fn learns_and_back(rt: &impl Abort, table: &mut Table, meeting: Meeting) -> [Seen; 2] {
     let before = table
         .note(&meeting.name(rt, 2), Change::Learned)
         .expect(rt, MEMORY);
-    let there = seen(rt, table, meeting);
-    table.take_back(before);
-    [there, seen(rt, table, meeting)]
+    let there = look_at(rt, table, meeting);
+    table.rollback(before);
+    [there, look_at(rt, table, meeting)]
 }
 
 fn is_told_and_back(
@@ -90,18 +90,18 @@ fn is_told_and_back(
     let before = table
         .note(&meeting.name(rt, 1), Change::Told(header))
         .expect(rt, MEMORY);
-    let there = seen(rt, table, meeting);
-    table.take_back(before);
-    [there, seen(rt, table, meeting)]
+    let there = look_at(rt, table, meeting);
+    table.rollback(before);
+    [there, look_at(rt, table, meeting)]
 }
 
 fn ends_and_back(rt: &impl Abort, table: &mut Table, meeting: Meeting) -> [Seen; 2] {
     let before = table
         .end(&process(rt, meeting.alloc, 0), 2)
         .expect(rt, MEMORY);
-    let there = seen(rt, table, meeting);
-    table.take_back(before);
-    [there, seen(rt, table, meeting)]
+    let there = look_at(rt, table, meeting);
+    table.rollback(before);
+    [there, look_at(rt, table, meeting)]
 }
 
 // The first entry, taken back, and then the second, after one that stays.

@@ -124,7 +124,7 @@ fn notes_and_back(rt: &impl Abort, table: &mut Table, meeting: Meeting) -> [[boo
         .expect(rt, MEMORY);
     let old = olds(rt, table, meeting);
     let there = names(rt, table, meeting);
-    table.take_back(before);
+    table.rollback(before);
     [
         old,
         there,

@@ -1,9 +1,9 @@
 //! The nodes of a group, and scripts of what they do, line by line.
-use crate::nodes::text::{put, put_answer, put_line, put_sent, shown};
+use crate::nodes::text::{as_text, put, put_answer, put_line, put_sent};
 use crate::nodes::words::{MEMORY, batch, frame, key, number, process, request, word, words_of};
 use pmg_jobinfo::Registry;
 use pmg_node::{Act, Node, Reply, Status};
-use pmg_rules::Sent;
+use pmg_node_model::Sent;
 use pmg_value::{NodeId, Nspace, Refusal, Value, WatchedWriter};
 use std::alloc::Global;
 use std::collections::VecDeque;
@@ -105,14 +105,14 @@ fn dump_lines(rt: &impl Abort, alloc: Global, node: &Node) -> Vec<u8> {
 // Puts the line, and the lines of what comes of it with a blank before each.
 fn put_played(rt: &impl Abort, text: &mut Vec<u8>, line: &str, found: &[u8]) {
     put_line(text, line).expect(rt, MEMORY);
-    for line in shown(found).lines() {
+    for line in as_text(found).lines() {
         put(text, " ").expect(rt, MEMORY);
         put_line(text, line).expect(rt, MEMORY);
     }
 }
 
 // What the node replies to the act, or why it is refused.
-fn replied(node: &mut Node, act: &Act, sent: &mut VecDeque<Sent>) -> Result<Reply, Refusal> {
+fn reply_to(node: &mut Node, act: &Act, sent: &mut VecDeque<Sent>) -> Result<Reply, Refusal> {
     let acted = node.act_into(act, sent)?;
     Ok(acted.reply)
 }
@@ -169,7 +169,7 @@ impl Group {
 
     // All that is seen of the node: what is known to other nodes, how each process stands, and what
     // was sent.
-    fn seen(&self, rt: &impl Abort, at: usize) -> Vec<u8> {
+    fn text_seen(&self, rt: &impl Abort, at: usize) -> Vec<u8> {
         let node = self.node(rt, at);
         let mut text = dump_lines(rt, self.alloc, node);
         for proc in ["j0", "j1", "j2", "j3"] {
@@ -189,22 +189,22 @@ impl Group {
     // The node does the act: the reply, or why it is refused.
     fn act_once(&mut self, rt: &impl Abort, at: usize, act: &Act) -> Result<Reply, Refusal> {
         let node = self.nodes.get_mut(at).expect(rt, "a node");
-        replied(node, act, &mut self.sent)
+        reply_to(node, act, &mut self.sent)
     }
 
     // The same. Where an allocation of the act fails, nothing that is seen may change, and the act
     // is asked for again.
     fn answer(&mut self, rt: &impl Abort, at: usize, act: &Act) -> Result<Reply, Refusal> {
-        let before = self.seen(rt, at);
+        let before = self.text_seen(rt, at);
         let answer = self.act_once(rt, at, act);
-        if matches!(answer, Err(Refusal::NoMemory)) && self.seen(rt, at) == before {
+        if matches!(answer, Err(Refusal::NoMemory)) && self.text_seen(rt, at) == before {
             return self.act_once(rt, at, act);
         }
         answer
     }
 
     // The lines of what the act is answered with, and of the frames that are sent with it.
-    fn acted(&mut self, rt: &impl Abort, at: usize, act: &Act) -> Vec<u8> {
+    fn act_lines(&mut self, rt: &impl Abort, at: usize, act: &Act) -> Vec<u8> {
         let before = self.sent.len();
         let mut text = Vec::new(self.alloc);
         let answer = self.answer(rt, at, act);
@@ -236,7 +236,7 @@ impl Group {
         let words = words_of(self.alloc, line).expect(rt, MEMORY);
         let at = number(&words, 0) as usize;
         match self.act(rt, at, &words) {
-            Some(act) => self.acted(rt, at, &act),
+            Some(act) => self.act_lines(rt, at, &act),
             None => self.look(rt, at, &words),
         }
     }
@@ -257,7 +257,7 @@ impl Group {
     fn plays(&mut self, rt: &impl Abort, name: &str, scripts: &[&str]) {
         for script in scripts {
             let text = self.transcript(rt, script);
-            assert_eq!(rt; (name, shown(&text)), (name, *script));
+            assert_eq!(rt; (name, as_text(&text)), (name, *script));
         }
     }
 }

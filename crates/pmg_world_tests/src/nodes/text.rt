@@ -2,13 +2,13 @@
 use pmg_commit::{Piece, PieceEntry};
 use pmg_frame::{CommitAsk, FenceName, Frame, Header, Local, RefreshReply, State};
 use pmg_node::Reply;
-use pmg_rules::Sent;
+use pmg_node_model::Sent;
 use pmg_value::{Proc, Refusal, Value, push_number};
 use std::alloc::{AllocError, Global};
 use std::str;
 
 /// The text of these bytes.
-pub(crate) fn shown(text: &[u8]) -> &str {
+pub(crate) fn as_text(text: &[u8]) -> &str {
     str::from_utf8(text).unwrap_or("no text")
 }
 

@@ -2,7 +2,7 @@
 //! that it counts, and the others are answered as if nothing had been. This test passes whichever
 //! allocation fails.
 use crate::nodes::group::registry;
-use crate::nodes::text::{put_sent, shown};
+use crate::nodes::text::{as_text, put_sent};
 use crate::nodes::words::MEMORY;
 use crate::worlds::{events, lines, put_lines};
 use pmg_store::Store;
@@ -64,7 +64,7 @@ fn seen_once(alloc: Global, world: &World) -> Result<Vec<u8>, Refusal> {
     Ok(text)
 }
 
-fn seen(rt: &impl Abort, alloc: Global, world: &World) -> Vec<u8> {
+fn look_at(rt: &impl Abort, alloc: Global, world: &World) -> Vec<u8> {
     again!(rt, seen_once(alloc, world))
 }
 
@@ -89,7 +89,7 @@ fn happen(rt: &impl Abort, alloc: Global, world: &mut World, events: &[Event]) {
         let done = events.get(..failed.done).unwrap_or(&[]);
         let left = events.get(failed.done..).unwrap_or(&[]);
         let other = after(rt, alloc, done);
-        assert!(rt; seen(rt, alloc, world) == seen(rt, alloc, &other));
+        assert!(rt; look_at(rt, alloc, world) == look_at(rt, alloc, &other));
         assert!(rt; world.run(left).is_ok());
     }
 }
@@ -144,7 +144,7 @@ fn each_kind_of_event_happens(rt: HostRuntime) {
     let mut world = after(&rt, alloc, &[]);
     happen(&rt, alloc, &mut world, &events);
     let told = again!(&rt, lines(alloc, &world));
-    assert_eq!(rt; shown(&told), shown(&wanted));
+    assert_eq!(rt; as_text(&told), as_text(&wanted));
     let other = after(&rt, alloc, &events);
-    assert!(rt; seen(&rt, alloc, &world) == seen(&rt, alloc, &other));
+    assert!(rt; look_at(&rt, alloc, &world) == look_at(&rt, alloc, &other));
 }

@@ -7,7 +7,7 @@ use Rattle.pmg_node.specs.Servers.{Server}
 use Rattle.pmg_journal.specs.Journals.{happening_of}
 use Rattle.pmg_journal.specs.Replays.{Happening}
 use Rattle.pmg_audit.specs.Agreeing.{IsSaidBy, MayPut}
-use Rattle.pmg_audit.specs.Codes.{put_in, rest_of, said_in}
+use Rattle.pmg_audit.specs.Codes.{audited_put, rest_of, audited_due}
 use Rattle.pmg_audit.specs.declared.moves.Put.{Put as KeptPut}
 use Rattle.pmg_audit.proofs.ReplaySteps.{caller_takes, none_left, not_home, other_said}
 use Rattle.pmg_audit.proofs.replaying.puts_of.Goals as goal
@@ -38,7 +38,7 @@ returns-then-not-is_said-clause-none c = λ _ said.
     let s : Server = c.args.node.now in
     let p : Proc = c.args.proc.now in
     let e : Happening = happening_of c.args.event.now in
-    other_said s (rest_of c.args.sayings.now) p e (said_in c.in-Some.due) (rest_of c.take_due.new.self p) c.in-Some.ensures.some.here
+    other_said s (rest_of c.args.sayings.now) p e (audited_due c.in-Some.due) (rest_of c.take_due.new.self p) c.in-Some.ensures.some.here
     (λ same may. false≢true (sym c.if-not-is_said.true ∙ c.is_said.ensures.1 same)) (subst (λ (o : Option Proc). IsSaidBy s (rest_of c.args.sayings.now) o e) c.requires said)
 
 pub returns-then-not-may_put-clause-none : goal.returns-then-not-may_put-clause-none
@@ -46,8 +46,8 @@ returns-then-not-may_put-clause-none c = λ _ said.
     let s : Server = c.args.node.now in
     let p : Proc = c.args.proc.now in
     let e : Happening = happening_of c.args.event.now in
-    other_said s (rest_of c.args.sayings.now) p e (said_in c.in-Some.due) (rest_of c.take_due.new.self p) c.in-Some.ensures.some.here
-    (λ same may. false≢true (sym c.if-not-may_put.true ∙ c.may_put.ensures.1 (subst (λ (xs : List KeptPut). MayPut s p (map put_in xs)) (sym c.deref.ensures.value) may)))
+    other_said s (rest_of c.args.sayings.now) p e (audited_due c.in-Some.due) (rest_of c.take_due.new.self p) c.in-Some.ensures.some.here
+    (λ same may. false≢true (sym c.if-not-may_put.true ∙ c.may_put.ensures.1 (subst (λ (xs : List KeptPut). MayPut s p (map audited_put xs)) (sym c.deref.ensures.value) may)))
     (subst (λ (o : Option Proc). IsSaidBy s (rest_of c.args.sayings.now) o e) c.requires said)
 
 pub returns-clause-some : goal.returns-clause-some
@@ -56,7 +56,7 @@ returns-clause-some c =
     let p : Proc = c.args.proc.now in
     let e : Happening = happening_of c.args.event.now in
     let near : (home_of s.jobs p == s.id) ≡ true = (λ i. home_of (sym c.registry.ensures i) p == sym c.id.ensures.value i) ∙ sym c.is_home.ensures ∙ c.if-not-is_home.false in
-    let may : MayPut s p (map put_in c.in-Some.due.puts.items) = subst (λ (xs : List KeptPut). MayPut s p (map put_in xs)) c.deref.ensures.value (c.may_put.ensures.0 c.if-not-may_put.false) in
+    let may : MayPut s p (map audited_put c.in-Some.due.puts.items) = subst (λ (xs : List KeptPut). MayPut s p (map audited_put xs)) c.deref.ensures.value (c.may_put.ensures.0 c.if-not-may_put.false) in
     rw c.into_puts.ensures
-    (caller_takes s c.args.sayings.now p (said_in c.in-Some.due) c.take_due.new.self e c.requires (same_number (home_of s.jobs p) s.id near) c.in-Some.ensures.some
+    (caller_takes s c.args.sayings.now p (audited_due c.in-Some.due) c.take_due.new.self e c.requires (same_number (home_of s.jobs p) s.id near) c.in-Some.ensures.some
     (c.is_said.ensures.0 c.if-not-is_said.false) may)

@@ -1,5 +1,5 @@
 use Rattle.std.proofs.Common.{◌≡◌, ap}
-use Rattle.pmg_rules.specs.Acts.{Act, Request}
+use Rattle.pmg_node_model.specs.Acts.{Act, Request}
 use Rattle.pmg_node.specs.Acting.{request_of}
 use Rattle.pmg_audit.proofs.SameActs.{same_requests}
 use Rattle.pmg_audit.proofs.same.is_same_act.Goals as goal

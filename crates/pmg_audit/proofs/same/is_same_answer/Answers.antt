@@ -1,6 +1,6 @@
 use Rattle.std.proofs.Common.{◌≡◌, ap}
 use Rattle.pmg_value.specs.declared.refusal.Refusal.{Refusal}
-use Rattle.pmg_rules.specs.Acts.{Reply}
+use Rattle.pmg_node_model.specs.Acts.{Reply}
 use Rattle.pmg_node.specs.Acting.{reply_as}
 use Rattle.pmg_audit.proofs.SameActs.{same_refusals, same_replies}
 use Rattle.pmg_audit.proofs.same.is_same_answer.Goals as goal

@@ -3,9 +3,9 @@ use Rattle.pmg_value.specs.Lists.{Each}
 use Rattle.pmg_scope.specs.Cached.{no_puts}
 use Rattle.pmg_journal.specs.Transcripts.{noted_in}
 use Rattle.pmg_journal.specs.declared.transcript.Transcript.{Transcript}
-use Rattle.pmg_audit.specs.Agreeing.{AreApart}
+use Rattle.pmg_audit.specs.Agreeing.{AreOfOtherProcs}
 use Rattle.pmg_audit.specs.Dues.{takes_all}
-use Rattle.pmg_audit.specs.Taking.{ArePlaces, AreSayings, NoneOf, IsSayingOf, procs_of}
+use Rattle.pmg_audit.specs.Taking.{ArePlaces, AreSayings, NoneOf, IsSayingOf, sayers}
 use Rattle.pmg_value.specs.declared.process.Proc.{Proc}
 use Rattle.pmg_audit.specs.declared.moves.Saying.{Saying}
 use Rattle.pmg_audit.proofs.SayingLemmas.{apart_more, cut_at, each_push, kept_place, no_place, no_places, not_apart, sayings_more, sayings_none, take_is}
@@ -13,8 +13,8 @@ use Rattle.pmg_audit.proofs.sayings.sayings_of.Goals as goal
 
 pub loop-transcript-init : goal.loop-transcript-init
 loop-transcript-init c = record {
-  places = subst (λ (rows : List (Proc × ℕ)). ArePlaces (procs_of c.new-items.result.items) rows) (sym c.new-places.ensures.empty)
-      (subst (λ (l : List Saying). ArePlaces (procs_of l) []) (sym c.new-items.ensures.items) no_places);
+  places = subst (λ (rows : List (Proc × ℕ)). ArePlaces (sayers c.new-items.result.items) rows) (sym c.new-places.ensures.empty)
+      (subst (λ (l : List Saying). ArePlaces (sayers l) []) (sym c.new-items.ensures.items) no_places);
   said = subst (λ (l : List Saying). AreSayings l []) (sym c.new-items.ensures.items) sayings_none;
   apart = tt;
   taken = tt;
@@ -30,7 +30,7 @@ returns-then-contains_key-clause-refused c = λ _. (
       let ss = c.loop-transcript.items.items in
       let place = kept_place ss t.proc c.loop-transcript.places.entries c.loop-transcript.invariant.places (sym c.if-contains_key.ensures) in
       not_apart ss (take i ts) t (drop (i + 1) ts) place.0 c.loop-transcript.invariant.said place.1
-      (subst AreApart (cut_at ts i t (search rules) c.transcript-item.is) apart),
+      (subst AreOfOtherProcs (cut_at ts i t (search rules) c.transcript-item.is) apart),
 )
 
 pub add-requires-clause-none : goal.add-requires-clause-none
@@ -55,7 +55,7 @@ loop-transcript-preserved c =
       places = c.in_ok-add.ensures.places;
       said = subst (λ (l : List Transcript). AreSayings c.add.new.items.items l) (sym more)
           (subst (λ (l : List Saying). AreSayings l (take i ts ++ t ∷ [])) (sym c.in_ok-add.ensures.items) (sayings_more ss (take i ts) s t c.loop-transcript.invariant.said says));
-      apart = subst AreApart (sym more) (apart_more ss (take i ts) t c.loop-transcript.invariant.apart c.loop-transcript.invariant.said none);
+      apart = subst AreOfOtherProcs (sym more) (apart_more ss (take i ts) t c.loop-transcript.invariant.apart c.loop-transcript.invariant.said none);
       taken = subst (Each (λ (u : Transcript). takes_all no_puts (noted_in u) ≡ true)) (sym more)
           (each_push (λ (u : Transcript). takes_all no_puts (noted_in u) ≡ true) (take i ts) t c.loop-transcript.invariant.taken taken);
     }

@@ -1,4 +1,4 @@
-use Rattle.pmg_holding.specs.Calls.{get_of}
+use Rattle.pmg_node_parts.specs.Calls.{get_of}
 use Rattle.pmg_desk.proofs.ReadLemmas.{reserved_due}
 use Rattle.pmg_desk.proofs.reading.reserved_now.Goals as goal
 

@@ -7,7 +7,7 @@ use Rattle.pmg_fence.specs.Kept.{known_fence}
 use Rattle.pmg_fence.proofs.table.told_in.Goals as goal
 
 pub returns-in-Some : goal.returns-in-Some
-returns-in-Some c = c.told.ensures ∙ ap (λ o. entry_in c.args.proc.now (finite.get (known_fence (option_map (λ (f : Bor Fence). f.now) o)).headers c.args.home)) (sym c.in-Some.is)
+returns-in-Some c = c.told_entry.ensures ∙ ap (λ o. entry_in c.args.proc.now (finite.get (known_fence (option_map (λ (f : Bor Fence). f.now) o)).headers c.args.home)) (sym c.in-Some.is)
 
 pub returns-in-None : goal.returns-in-None
 returns-in-None c =

@@ -1,6 +1,6 @@
 use Rattle.std.proofs.Common.{subst, arith}
 use Rattle.pmg_wire.specs.Reading.{Place, IsBytes}
-use Rattle.pmg_frame.specs.Streams.{Runs, StopsAt}
+use Rattle.pmg_frame.specs.Streams.{FramesFollow, StopsAt}
 use Rattle.pmg_frame.proofs.Cuts.{IsEnd, runs_end}
 use Rattle.pmg_frame.proofs.stream.frames_in.Goals as goal
 
@@ -15,7 +15,7 @@ overflow_sub-used c = rw c.rest.ensures (end_of c).fewer
 
 pub returns-clause-runs : goal.returns-clause-runs
 returns-clause-runs c =
-    rw c.rest.ensures (subst (λ (x : Place). Runs (record { offset = c.args.offset; rest = c.args.held.now }) c.in_ok-fed.fed.frames.items x) (end_of c).is (rw c.new-at.ensures at c.in_ok-fed.ensures.runs))
+    rw c.rest.ensures (subst (λ (x : Place). FramesFollow (record { offset = c.args.offset; rest = c.args.held.now }) c.in_ok-fed.fed.frames.items x) (end_of c).is (rw c.new-at.ensures at c.in_ok-fed.ensures.runs))
 
 pub returns-clause-stops : goal.returns-clause-stops
 returns-clause-stops c = rw c.rest.ensures (subst (λ (x : Place). StopsAt x c.in_ok-fed.fed.fault) (end_of c).is c.in_ok-fed.ensures.stops)

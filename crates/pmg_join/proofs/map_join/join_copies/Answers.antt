@@ -3,7 +3,7 @@ use Rattle.std.specs.List.Sorted.{IsStrictlySortedBy}
 use Rattle.std.specs.Map.{keys_of}
 use Rattle.std.proofs.lemmas.Map.Keys.{sorted_tail}
 use Rattle.pmg_value.specs.Maps.{join_options}
-use Rattle.pmg_join.specs.Maps.{meant, meant_by, joined_under}
+use Rattle.pmg_join.specs.Maps.{meant_at, meant_by, joined_under}
 use Rattle.pmg_join.proofs.MapSteps.{first_joined}
 use Rattle.pmg_join.proofs.map_join.join_copies.Goals as goal
 
@@ -14,7 +14,7 @@ loop-key-preserved g c =
     let meaning = g.J.Join.meaning in
     let entry : g.row.K.Denot × g.row.J.Denot = (c.in-Some.key.now, c.in-Some.part.now) in
     let others = c.next.new.self in
-    let before = meant cmp meaning c.loop-key.map.table in
+    let before = meant_at cmp meaning c.loop-key.map.table in
     let sorted : IsStrictlySortedBy cmp (keys_of (entry ∷ others)) = subst (λ es. IsStrictlySortedBy cmp (keys_of es)) c.in-Some.ensures.steps c.loop-key.invariant.0 in (
       sorted_tail cmp entry.0 (keys_of others) sorted,
       λ q.

@@ -3,19 +3,19 @@ use Rattle.std.specs.List.{flat_map}
 use Rattle.pmg_fence.specs.Changes.{ended_by, news}
 use Rattle.pmg_fence.specs.Codes.{Known}
 use Rattle.pmg_fence.specs.Tables.{names_of}
-use Rattle.pmg_fence.specs.TakenBack.{CanTakeBack}
+use Rattle.pmg_fence.specs.TakenBack.{CanRollTableBack}
 use Rattle.pmg_fence.proofs.UndoLemmas.{taken_fits}
-use Rattle.pmg_holding.specs.Telling.{announcing_by}
+use Rattle.pmg_node_parts.specs.Telling.{announcing_by}
 use Rattle.pmg_node.proofs.EndLemmas.{announced}
 use Rattle.pmg_node.proofs.ending.end_fences.Goals as goal
 
-pub take_back-requires : goal.take_back-requires
-take_back-requires c =
-    subst (λ (k : Known). CanTakeBack k c.in_ok-before.before) (sym c.take_headers-headers.ensures.rest) (taken_fits c.end.new.self c.in_ok-before.before [] c.in_ok-before.ensures.fits)
+pub rollback-requires : goal.rollback-requires
+rollback-requires c =
+    subst (λ (k : Known). CanRollTableBack k c.in_ok-before.before) (sym c.take_headers-headers.ensures.rest) (taken_fits c.end.new.self c.in_ok-before.before [] c.in_ok-before.ensures.fits)
 
 pub returns-in-Ok-clause-fits : goal.returns-in-Ok-clause-fits
 returns-in-Ok-clause-fits c =
-    subst (λ (k : Known). CanTakeBack k c.in_ok-before.before) (sym c.take_headers-headers.ensures.rest) (taken_fits c.end.new.self c.in_ok-before.before [] c.in_ok-before.ensures.fits)
+    subst (λ (k : Known). CanRollTableBack k c.in_ok-before.before) (sym c.take_headers-headers.ensures.rest) (taken_fits c.end.new.self c.in_ok-before.before [] c.in_ok-before.ensures.fits)
 
 pub returns-in-Ok-clause-dues : goal.returns-in-Ok-clause-dues
 returns-in-Ok-clause-dues c =

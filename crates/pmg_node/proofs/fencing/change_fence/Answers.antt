@@ -4,22 +4,22 @@ use Rattle.pmg_frame.specs.Fences.{Header}
 use Rattle.pmg_fence.specs.Changes.{news, taken}
 use Rattle.pmg_fence.specs.Codes.{Known}
 use Rattle.pmg_fence.specs.Kept.{noted_by, placed_by}
-use Rattle.pmg_fence.specs.TakenBack.{CanTakeBack}
-use Rattle.pmg_holding.specs.Answering.{AreAnswers}
-use Rattle.pmg_holding.specs.Owns.{sealed_of}
-use Rattle.pmg_holding.specs.Telling.{announcing_by}
+use Rattle.pmg_fence.specs.TakenBack.{CanRollTableBack}
+use Rattle.pmg_node_parts.specs.Answering.{AreAnswers}
+use Rattle.pmg_node_parts.specs.Owns.{sealed_of}
+use Rattle.pmg_node_parts.specs.Telling.{announcing_by}
 use Rattle.pmg_node.specs.Fencing.{fence_noted, fence_dues}
-use Rattle.pmg_rules.specs.Choosing.{sends}
-use Rattle.pmg_rules.specs.Kept.{is_in}
+use Rattle.pmg_node_model.specs.Choosing.{sends}
+use Rattle.pmg_node_model.specs.Kept.{is_in}
 use Rattle.pmg_node.proofs.FenceLemmas.{can_take_back}
 use Rattle.pmg_node.proofs.ForgettingLemmas.{answers_then}
 use Rattle.pmg_fence.proofs.NewsLemmas.{news-placed_by}
 use Rattle.pmg_node.proofs.fencing.change_fence.Goals as goal
 
-pub take_back-requires : goal.take_back-requires
-take_back-requires c =
+pub rollback-requires : goal.rollback-requires
+rollback-requires c =
     let before = c.in_ok-before.before in
-    subst (λ (k : Known). CanTakeBack k before) (sym c.take_headers-news.ensures.rest) (can_take_back c.note.new.self before c.in_ok-before.ensures.fits)
+    subst (λ (k : Known). CanRollTableBack k before) (sym c.take_headers-news.ensures.rest) (can_take_back c.note.new.self before c.in_ok-before.ensures.fits)
 
 pub returns-clause-calls : goal.returns-clause-calls
 returns-clause-calls c h table near far =

@@ -3,8 +3,8 @@ use Rattle.std.specs.List.{list_all}
 use Rattle.std.proofs.lemmas.List.{length-append}
 use Rattle.pmg_value.specs.Process.{can_commit}
 use Rattle.pmg_value.specs.declared.process.Proc.{Proc}
-use Rattle.pmg_holding.specs.Sealers.{with_fresh}
-use Rattle.pmg_holding.proofs.SealerLemmas.{fresh_snoc, all_snoc}
+use Rattle.pmg_node_parts.specs.Sealers.{with_fresh}
+use Rattle.pmg_node_parts.proofs.SealerLemmas.{fresh_snoc, all_snoc}
 use Rattle.pmg_node.proofs.opening.fresh_sealers.Goals as goal
 
 pub loop-proc-smaller : goal.loop-proc-smaller

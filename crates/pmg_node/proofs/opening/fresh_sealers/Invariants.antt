@@ -2,7 +2,7 @@ use Rattle.std.proofs.Common.{◌≡◌, true, length}
 use Rattle.std.specs.FinMap as finite
 use Rattle.std.specs.List.{list_all}
 use Rattle.pmg_value.specs.Process.{can_commit}
-use Rattle.pmg_holding.specs.Sealers.{with_fresh}
+use Rattle.pmg_node_parts.specs.Sealers.{with_fresh}
 use Rattle.pmg_node.proofs.opening.fresh_sealers.Given as goal
 
 abbrev pub invariant-loop-proc : goal.invariant-loop-proc

@@ -1,5 +1,5 @@
 use Rattle.std.proofs.Common.{◌≡◌, drop}
-use Rattle.pmg_holding.specs.Marking.{node_zeros}
+use Rattle.pmg_node_parts.specs.Marking.{node_zeros}
 use Rattle.pmg_node.proofs.opening.set_zeros.Given as goal
 
 abbrev pub invariant-loop-node : goal.invariant-loop-node

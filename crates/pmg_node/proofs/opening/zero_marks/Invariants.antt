@@ -1,6 +1,6 @@
 use Rattle.std.proofs.Common.{◌≡◌, drop}
 use Rattle.std.specs.FinMap as finite
-use Rattle.pmg_holding.specs.Marking.{zeros}
+use Rattle.pmg_node_parts.specs.Marking.{zeros}
 use Rattle.pmg_node.proofs.opening.zero_marks.Given as goal
 
 abbrev pub invariant-loop-proc : goal.invariant-loop-proc

@@ -1,6 +1,6 @@
 use Rattle.std.proofs.Common.{sym, ap, ◌∙◌}
 use Rattle.pmg_commit.specs.Data.{absorbed}
-use Rattle.pmg_holding.proofs.PublishLemmas.{joined_alone}
+use Rattle.pmg_node_parts.proofs.PublishLemmas.{joined_alone}
 use Rattle.pmg_node.proofs.publishing.publish.Goals as goal
 
 pub returns-clause-joined_near : goal.returns-clause-joined_near

@@ -8,7 +8,7 @@ use Rattle.pmg_commit.specs.Sealed.{piece_at}
 use Rattle.pmg_commit.specs.Stamped.{IsSealer}
 use Rattle.pmg_frame.specs.Fences.{CommitAsk}
 use Rattle.pmg_frame.specs.Refreshing.{RefreshReply, refresh_reply, is_refresh_reply}
-use Rattle.pmg_holding.specs.Owns.{sealed_of}
+use Rattle.pmg_node_parts.specs.Owns.{sealed_of}
 use Rattle.pmg_node.proofs.ReplyFits.{short_name, told_fits, nothing_fits, nothing_since}
 use Rattle.pmg_node.proofs.replying.reply_of.Goals as goal
 

@@ -1,7 +1,7 @@
 use Rattle.std.proofs.Common.{◌+◌, ap}
 use Rattle.pmg_jobinfo.specs.Expansion.{expansion}
 use Rattle.pmg_pset.proofs.MeasureLemmas.{set_measured}
-use Rattle.pmg_rules.specs.Acts.{members_of}
+use Rattle.pmg_node_model.specs.Acts.{members_of}
 use Rattle.pmg_node.proofs.setting.check_room.Goals as goal
 use Rattle.std.proofs.Common.{arith}
 use Rattle.std.proofs.lemmas.Bool.Decides.{nat_tests}

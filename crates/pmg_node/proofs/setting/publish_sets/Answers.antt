@@ -3,11 +3,11 @@ use Rattle.pmg_value.specs.declared.process.Proc.{Proc}
 use Rattle.pmg_scope.specs.declared.scope.Reach.TheVariants as reach
 use Rattle.pmg_commit.specs.Data.{absorbed}
 use Rattle.pmg_commit.specs.Sealed.{piece_at}
-use Rattle.pmg_holding.specs.Answering.{AreAnswers}
-use Rattle.pmg_rules.specs.Choosing.{sends}
-use Rattle.pmg_rules.specs.Kept.{is_about}
-use Rattle.pmg_holding.specs.Owns.{sealed_of}
-use Rattle.pmg_holding.specs.Telling.{settling_by, spread_by}
+use Rattle.pmg_node_parts.specs.Answering.{AreAnswers}
+use Rattle.pmg_node_model.specs.Choosing.{sends}
+use Rattle.pmg_node_model.specs.Kept.{is_about}
+use Rattle.pmg_node_parts.specs.Owns.{sealed_of}
+use Rattle.pmg_node_parts.specs.Telling.{settling_by, spread_by}
 use Rattle.pmg_node.proofs.setting.publish_sets.Goals as goal
 
 pub returns-clause-marks : goal.returns-clause-marks

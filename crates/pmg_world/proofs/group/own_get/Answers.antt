@@ -6,9 +6,9 @@ use Rattle.pmg_value.specs.declared.value.Value.{Value}
 use Rattle.pmg_value.specs.declared.refusal.Refusal.TheVariants as refusals
 use Rattle.pmg_get.specs.Gets.{Outcome, found_or}
 use Rattle.pmg_jobinfo.specs.Reserved.{is_general}
-use Rattle.pmg_rules.specs.Acts.{Reply, free_cause, reply_of}
+use Rattle.pmg_node_model.specs.Acts.{Reply, free_cause, reply_of}
 use Rattle.pmg_world.specs.Keeping.{own_answer}
-use Rattle.pmg_runs.specs.Worlds.{reply_in}
+use Rattle.pmg_group_model.specs.Worlds.{reply_or_refusal}
 use Rattle.pmg_world.proofs.CauseLemmas.{due_bad, due_refused, due_free}
 use Rattle.pmg_world.proofs.GroupLemmas.{not_short}
 use Rattle.pmg_world.proofs.group.own_get.Goals as goal
@@ -18,14 +18,14 @@ unfolding own_answer
 returns-then-is_general c = λ u.
     let s = c.args.node.now in
     let free = free_cause s.jobs s.id s.holding c.args.proc.now in
-    ap reply_in (sym (due_bad (free refusals.BadParam) (free refusals.UnknownNamespace) (free refusals.NotMine) (free refusals.Terminated) (free refusals.Busy) false _ (is_general c.args.proc.now) (sym c.is_general.ensures ∙ c.if-is_general.true)))
+    ap reply_or_refusal (sym (due_bad (free refusals.BadParam) (free refusals.UnknownNamespace) (free refusals.NotMine) (free refusals.Terminated) (free refusals.Busy) false _ (is_general c.args.proc.now) (sym c.is_general.ensures ∙ c.if-is_general.true)))
 
 pub returns-in-Err : goal.returns-in-Err
 unfolding own_answer
 returns-in-Err c = λ u.
     let s = c.args.node.now in
     let free = free_cause s.jobs s.id s.holding c.args.proc.now in
-    ap reply_in (sym (due_refused (free refusals.BadParam) (free refusals.UnknownNamespace) (free refusals.NotMine) (free refusals.Terminated) (free refusals.Busy) false _ (is_general c.args.proc.now) (sym c.is_general.ensures ∙ c.if-is_general.false) c.in-Err.refusal (sym c.in-Err.ensures)))
+    ap reply_or_refusal (sym (due_refused (free refusals.BadParam) (free refusals.UnknownNamespace) (free refusals.NotMine) (free refusals.Terminated) (free refusals.Busy) false _ (is_general c.args.proc.now) (sym c.is_general.ensures ∙ c.if-is_general.false) c.in-Err.refusal (sym c.in-Err.ensures)))
 
 pub returns-in_err-copy-in-Some : goal.returns-in_err-copy-in-Some
 returns-in_err-copy-in-Some c = λ is.
@@ -39,7 +39,7 @@ returns-in_ok-copy-in-Some c = λ u.
     let free = free_cause s.jobs s.id s.holding c.args.proc.now in
     let found = sym c.own.ensures ∙ ap (option_map (λ v. spelling v.now)) c.in-Some.is in
     let due = due_free (free refusals.BadParam) (free refusals.UnknownNamespace) (free refusals.NotMine) (free refusals.Terminated) (free refusals.Busy) false _ (is_general c.args.proc.now) (sym c.is_general.ensures ∙ c.if-is_general.false) (sym c.in_default.ensures ∙ ap Ok refl) in
-    ap (λ (v : Value). Reply.found (spelling v)) c.in_ok-copy-in-Some.ensures ∙ ap reply_in (sym (due ∙ ap (λ o. Ok (reply_of (found_or o Outcome.absent))) found))
+    ap (λ (v : Value). Reply.found (spelling v)) c.in_ok-copy-in-Some.ensures ∙ ap reply_or_refusal (sym (due ∙ ap (λ o. Ok (reply_of (found_or o Outcome.absent))) found))
 
 pub returns-in-None : goal.returns-in-None
 unfolding own_answer
@@ -48,4 +48,4 @@ returns-in-None c = λ u.
     let free = free_cause s.jobs s.id s.holding c.args.proc.now in
     let nothing = sym c.own.ensures ∙ ap (option_map (λ v. spelling v.now)) c.in-None.is in
     let due = due_free (free refusals.BadParam) (free refusals.UnknownNamespace) (free refusals.NotMine) (free refusals.Terminated) (free refusals.Busy) false _ (is_general c.args.proc.now) (sym c.is_general.ensures ∙ c.if-is_general.false) (sym c.in_default.ensures ∙ ap Ok refl) in
-    ap reply_in (sym (due ∙ ap (λ o. Ok (reply_of (found_or o Outcome.absent))) nothing))
+    ap reply_or_refusal (sym (due ∙ ap (λ o. Ok (reply_of (found_or o Outcome.absent))) nothing))

@@ -1,8 +1,8 @@
 use Rattle.std.proofs.Common.{◌≡◌, take}
 use Rattle.pmg_value.specs.Spelling.{plains_of}
-use Rattle.pmg_world.specs.Stages.{procs_in}
+use Rattle.pmg_world.specs.Stages.{proc_elements}
 use Rattle.pmg_world.proofs.scene.procs_in.Given as goal
 
 -- the processes among the items so far
 abbrev pub invariant-loop-item : goal.invariant-loop-item
-invariant-loop-item l = l.procs.items ≡ procs_in (plains_of (take l.item-index l.items))
+invariant-loop-item l = l.procs.items ≡ proc_elements (plains_of (take l.item-index l.items))

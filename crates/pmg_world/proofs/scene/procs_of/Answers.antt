@@ -5,14 +5,14 @@ use Rattle.pmg_value.specs.Spelling.{plains_of, spelling}
 use Rattle.pmg_value.specs.declared.value.Value.TheVariants as values
 use Rattle.pmg_wire.specs.Fields.{whole_value}
 use Rattle.pmg_wire.proofs.WholeLaws.{whole_only}
-use Rattle.pmg_world.specs.Stages.{procs_in, procs_of}
+use Rattle.pmg_world.specs.Stages.{proc_elements, procs_in_value}
 use Rattle.pmg_world.proofs.scene.procs_of.Goals as goal
 
 pub returns : goal.returns
 returns c =
     let array = values.Array c.args.members.now in
-    IfOk-weaker c.procs_in.result (λ procs. procs.items ≡ procs_in (plains_of c.items.result.now)) (λ procs. procs.items ≡ procs_of (whole_value (spelling array)))
+    IfOk-weaker c.procs_in.result (λ procs. procs.items ≡ proc_elements (plains_of c.items.result.now)) (λ procs. procs.items ≡ procs_in_value (whole_value (spelling array)))
     (λ procs is.
-    is ∙ ap (λ (e : Elements). procs_in e.plains) c.items.ensures.items
-    ∙ sym (ap procs_of (whole_only (spelling array) array (record { text = refl; is = c.items.ensures.is }))))
+    is ∙ ap (λ (e : Elements). proc_elements e.plains) c.items.ensures.items
+    ∙ sym (ap procs_in_value (whole_only (spelling array) array (record { text = refl; is = c.items.ensures.is }))))
     c.procs_in.ensures

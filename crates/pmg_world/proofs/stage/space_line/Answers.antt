@@ -5,8 +5,8 @@ use Rattle.pmg_world.proofs.stage.space_line.Goals as goal
 
 pub returns-in-Err-clause-ok : goal.returns-in-Err-clause-ok
 returns-in-Err-clause-ok c =
-    keeps_there (phases.Registering c.args.registry.now) c.args.registry.now c.register_space.new.registry c.args.nspace.now c.args.homes.now c.in_ok-refused-in-Err.field-0.items c.in-Err.refusal
-    refl (c.in-Err.ensures.refused c.in_ok-refused-in-Err.ensures.memory) c.in-Err.ensures.err c.in_ok-refused-in-Err.ensures.line
+    keeps_there (phases.Registering c.args.registry.now) c.args.registry.now c.register_space.new.registry c.args.nspace.now c.args.homes.now c.in_ok-line_of_refusal-in-Err.field-0.items c.in-Err.refusal
+    refl (c.in-Err.ensures.refused c.in_ok-line_of_refusal-in-Err.ensures.memory) c.in-Err.ensures.err c.in_ok-line_of_refusal-in-Err.ensures.line
 
 pub returns-clause-ok : goal.returns-clause-ok
 returns-clause-ok c =

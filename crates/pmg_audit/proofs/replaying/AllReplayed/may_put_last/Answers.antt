@@ -4,9 +4,9 @@ use Rattle.std.proofs.lemmas.List.{get_or_default}
 use Rattle.pmg_value.specs.declared.process.Proc.{Proc}
 use Rattle.pmg_jobinfo.specs.Jobs.{Jobs, AreJobs, home_of}
 use Rattle.pmg_node.specs.Servers.{Server}
-use Rattle.pmg_rules.proofs.KeptBasics.{home_is_node}
+use Rattle.pmg_node_model.proofs.KeptBasics.{home_is_node}
 use Rattle.pmg_audit.specs.Agreeing.{MayPut}
-use Rattle.pmg_audit.specs.Codes.{put_in}
+use Rattle.pmg_audit.specs.Codes.{audited_put}
 use Rattle.pmg_audit.specs.Replaying.{MayPutAt}
 use Rattle.pmg_audit.specs.declared.moves.Put.{Put}
 use Rattle.pmg_audit.specs.declared.moves.Saying.{Saying}
@@ -36,8 +36,8 @@ returns-then-not-may_put-clause-other c = λ _ all.
     let node : Server = c.index.result.now in
     let one : MayPutAt jobs nodes s = each_in (MayPutAt jobs nodes) c.args.sayings.now s all (in_get c.args.sayings.now c.loop-saying.saying-index s (search rules) c.saying-item.is) in
     let is = node_is jobs s.proc c.requires.jobs nodes c.requires.nodes c.index-home.result node (c.index-home.ensures.value ∙ c.home_of.ensures) c.index.ensures node in
-    let may : MayPut node s.proc (map put_in s.last_puts.items) = subst (λ (x : Server). MayPut x s.proc (map put_in s.last_puts.items)) is (one node) in
-    false≢true (sym c.if-not-may_put.true ∙ c.may_put.ensures.1 (subst (λ (xs : List Put). MayPut node s.proc (map put_in xs)) (sym c.deref.ensures.value) may))
+    let may : MayPut node s.proc (map audited_put s.last_puts.items) = subst (λ (x : Server). MayPut x s.proc (map audited_put s.last_puts.items)) is (one node) in
+    false≢true (sym c.if-not-may_put.true ∙ c.may_put.ensures.1 (subst (λ (xs : List Put). MayPut node s.proc (map audited_put xs)) (sym c.deref.ensures.value) may))
 
 pub loop-saying-preserved : goal.loop-saying-preserved
 loop-saying-preserved c =
@@ -45,8 +45,8 @@ loop-saying-preserved c =
     let nodes = c.args.self.now.nodes.items in
     let s : Saying = c.saying-item.result in
     let node : Server = c.index.result.now in
-    let may : MayPut node s.proc (map put_in s.last_puts.items) = subst (λ (xs : List Put). MayPut node s.proc (map put_in xs)) c.deref.ensures.value (c.may_put.ensures.0 c.if-not-may_put.false) in
-    let one : MayPutAt jobs nodes s = λ d. subst (λ (x : Server). MayPut x s.proc (map put_in s.last_puts.items))
+    let may : MayPut node s.proc (map audited_put s.last_puts.items) = subst (λ (xs : List Put). MayPut node s.proc (map audited_put xs)) c.deref.ensures.value (c.may_put.ensures.0 c.if-not-may_put.false) in
+    let one : MayPutAt jobs nodes s = λ d. subst (λ (x : Server). MayPut x s.proc (map audited_put s.last_puts.items))
     (sym (node_is jobs s.proc c.requires.jobs nodes c.requires.nodes c.index-home.result node (c.index-home.ensures.value ∙ c.home_of.ensures) c.index.ensures d)) may in
     each_more (MayPutAt jobs nodes) c.args.sayings.now c.loop-saying.saying-index s (search rules) c.loop-saying.invariant (subst (MayPutAt jobs nodes) c.saying-item.is one)
 

@@ -1,6 +1,6 @@
 use Rattle.std.proofs.Common.{◌++◌, ◌+◌, List, map, drop, sym, ap, ◌∙◌, rules}
 use Rattle.pmg_journal.specs.Transcripts.{Noted, noted_of}
-use Rattle.pmg_audit.specs.Codes.{put_in, said_in}
+use Rattle.pmg_audit.specs.Codes.{audited_put, audited_due}
 use Rattle.pmg_audit.specs.Dues.{dues, puts_after, takes_all}
 use Rattle.pmg_audit.proofs.DueLemmas.{calls_left, dues_end, dues_next, left_end, left_next, no_calls_left, taken_end, taken_next, taken_stops}
 use Rattle.pmg_audit.proofs.sayings.Reading.read_all.Goals as goal
@@ -25,11 +25,11 @@ loop-called-preserved c =
     let ns = map noted_of (drop (i + 1) calls) in
     let reads = c.in_ok-read.ensures.reads c.if-not-branch.false in
     record {
-      said = dues_next c.args.proc.now old.cache (map put_in old.puts.items) (noted_of x) ns (map said_in old.dues.items) (map said_in new.dues.items) new.cache (map put_in new.puts.items)
+      said = dues_next c.args.proc.now old.cache (map audited_put old.puts.items) (noted_of x) ns (map audited_due old.dues.items) (map audited_due new.dues.items) new.cache (map audited_put new.puts.items)
           reads.dues reads.cache reads.puts
-          ∙ ap (λ (l : List Noted). map said_in old.dues.items ++ dues c.args.proc.now old.cache (map put_in old.puts.items) l) (sym left) ∙ c.loop-called.invariant.said;
-      left = left_next c.args.proc.now old.cache (map put_in old.puts.items) (noted_of x) ns new.cache (map put_in new.puts.items) reads.cache reads.puts
-          ∙ ap (puts_after c.args.proc.now old.cache (map put_in old.puts.items)) (sym left) ∙ c.loop-called.invariant.left;
+          ∙ ap (λ (l : List Noted). map audited_due old.dues.items ++ dues c.args.proc.now old.cache (map audited_put old.puts.items) l) (sym left) ∙ c.loop-called.invariant.said;
+      left = left_next c.args.proc.now old.cache (map audited_put old.puts.items) (noted_of x) ns new.cache (map audited_put new.puts.items) reads.cache reads.puts
+          ∙ ap (puts_after c.args.proc.now old.cache (map audited_put old.puts.items)) (sym left) ∙ c.loop-called.invariant.left;
       taken = taken_next old.cache new.cache (noted_of x) ns (sym c.in_ok-read.ensures.takes ∙ c.if-not-branch.false) reads.cache ∙ ap (takes_all old.cache) (sym left) ∙ c.loop-called.invariant.taken;
     }
 
@@ -42,11 +42,11 @@ pub returns-clause-said : goal.returns-clause-said
 returns-clause-said c = λ _.
     let none = no_calls_left c.args.calls.now c.loop-called.called-index (search rules) in
     let now = c.loop-called.self in
-    sym (dues_end c.args.proc.now now.cache (map put_in now.puts.items) (map said_in now.dues.items))
-    ∙ ap (λ (l : List Noted). map said_in now.dues.items ++ dues c.args.proc.now now.cache (map put_in now.puts.items) l) (sym none) ∙ c.loop-called.invariant.said
+    sym (dues_end c.args.proc.now now.cache (map audited_put now.puts.items) (map audited_due now.dues.items))
+    ∙ ap (λ (l : List Noted). map audited_due now.dues.items ++ dues c.args.proc.now now.cache (map audited_put now.puts.items) l) (sym none) ∙ c.loop-called.invariant.said
 
 pub returns-clause-left : goal.returns-clause-left
 returns-clause-left c = λ _.
     let none = no_calls_left c.args.calls.now c.loop-called.called-index (search rules) in
     let now = c.loop-called.self in
-    sym (left_end c.args.proc.now now.cache (map put_in now.puts.items)) ∙ ap (puts_after c.args.proc.now now.cache (map put_in now.puts.items)) (sym none) ∙ c.loop-called.invariant.left
+    sym (left_end c.args.proc.now now.cache (map audited_put now.puts.items)) ∙ ap (puts_after c.args.proc.now now.cache (map audited_put now.puts.items)) (sym none) ∙ c.loop-called.invariant.left

@@ -1,6 +1,6 @@
 use Rattle.std.proofs.Common.{◌≡◌, [], List, IfSome, IsNone, set, drop, sym, ap, subst, ◌∙◌, rules}
-use Rattle.pmg_audit.specs.Codes.{rest_of, said_in}
-use Rattle.pmg_audit.specs.Taking.{IsPlace, Takes, last_of}
+use Rattle.pmg_audit.specs.Codes.{rest_of, audited_due}
+use Rattle.pmg_audit.specs.Taking.{IsPlace, TakesSaying, last_of}
 use Rattle.pmg_audit.specs.declared.moves.Saying.{Saying}
 use Rattle.pmg_audit.proofs.SayingLemmas.{none_rest, place_inside, places_stay, popped_none, popped_some}
 use Rattle.pmg_audit.proofs.sayings.Sayings.take_due.Goals as goal
@@ -26,7 +26,7 @@ returns-in-Some-clause-some c =
     let place : IsPlace ss p k = c.self.invariant.found p k (sym (c.copied.ensures ∙ c.get.ensures.value) ∙ c.in-Some.is) in
     let e : Saying = c.index_mut.result.now in
     let x : Saying = record { proc = e.proc; dues = c.pop_front.new.self; last_puts = e.last_puts } in
-    subst (λ (l : List Saying). IfSome c.pop_front.result (λ d. Takes l p (said_in d) (set ss k x))) c.self.view_is
+    subst (λ (l : List Saying). IfSome c.pop_front.result (λ d. TakesSaying l p (audited_due d) (set ss k x))) c.self.view_is
     (popped_some p ss k e x c.pop_front.result place (ap last_of c.index_mut.ensures.value)
     (ap (λ (s : Saying). s.dues.items) (sym c.index_mut.ensures.value) ∙ c.pop_front.ensures.items))
 

@@ -1,5 +1,5 @@
 use Rattle.std.proofs.Common.{◌∙◌}
-use Rattle.pmg_rules.specs.Sending.{sent}
+use Rattle.pmg_node_model.specs.Sending.{sent}
 use Rattle.pmg_audit.specs.Sends.{IsKeyOf}
 use Rattle.pmg_audit.proofs.SendLemmas.{no_number, some_number}
 use Rattle.pmg_audit.proofs.sends.Sends.number_of.Goals as goal

@@ -1,7 +1,7 @@
 use Rattle.std.proofs.Common.{◌≡◌, suc, List, [], ◌∷◌, ◌++◌, length, sym, ap, subst, ◌∙◌, rules}
 use Rattle.pmg_frame.specs.declared.frame.Frame.{Frame}
-use Rattle.pmg_rules.specs.Sending.{sent}
-use Rattle.pmg_rules.specs.declared.sent.Sent.{Sent}
+use Rattle.pmg_node_model.specs.Sending.{sent}
+use Rattle.pmg_node_model.specs.declared.sent.Sent.{Sent}
 use Rattle.pmg_audit.specs.Sends.{AreNumbers, IsKeyOf}
 use Rattle.pmg_audit.proofs.SendLemmas.{sent_again, sent_new}
 use Rattle.pmg_audit.proofs.sends.Sends.push.Goals as goal

@@ -1,5 +1,5 @@
 use Rattle.std.proofs.Common.{rules, ◌≡◌, subst}
-use Rattle.pmg_rules.specs.Acts.{Act, Reply}
+use Rattle.pmg_node_model.specs.Acts.{Act, Reply}
 use Rattle.pmg_node.specs.Acting.{reply_as}
 use Rattle.pmg_node.specs.Servers.{reply_in}
 use Rattle.pmg_desk.specs.Clients.{batch_of, proc_of}

@@ -1,4 +1,4 @@
-use Rattle.pmg_rules.specs.Acts.{Act, Request}
+use Rattle.pmg_node_model.specs.Acts.{Act, Request}
 use Rattle.pmg_desk.proofs.KindLemmas.{told_kind}
 use Rattle.pmg_desk.proofs.client.Client.end.Goals as goal
 

@@ -1,6 +1,6 @@
 use Rattle.std.proofs.Common.{subst}
 use Rattle.pmg_value.specs.declared.process.Proc.{Proc}
-use Rattle.pmg_holding.specs.Calls.{get_of}
+use Rattle.pmg_node_parts.specs.Calls.{get_of}
 use Rattle.pmg_desk.specs.Clients.{proc_of}
 use Rattle.pmg_desk.specs.Reading.{IsOwnGet}
 use Rattle.pmg_desk.proofs.OwnLemmas.{own_target}

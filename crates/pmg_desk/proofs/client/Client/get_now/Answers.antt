@@ -5,12 +5,12 @@ use Rattle.pmg_value.specs.declared.refusal.Refusal.{Refusal}
 use Rattle.pmg_commit.specs.Data.{read_at}
 use Rattle.pmg_get.specs.Gets.{resolve}
 use Rattle.pmg_get.specs.declared.view.Mode.TheVariants as modes
-use Rattle.pmg_holding.specs.Calls.{get_of}
+use Rattle.pmg_node_parts.specs.Calls.{get_of}
 use Rattle.pmg_publish.specs.Publications.{far_of, near_of}
-use Rattle.pmg_rules.specs.Acts.{reply_of}
-use Rattle.pmg_rules.specs.Holdings.{plain_seen}
+use Rattle.pmg_node_model.specs.Acts.{reply_of}
+use Rattle.pmg_node_model.specs.Holdings.{plain_seen}
 use Rattle.pmg_desk.specs.Clients.{Client, proc_of}
-use Rattle.pmg_desk.specs.Reading.{IsDue, is_own, now_cause, reserved_seen}
+use Rattle.pmg_desk.specs.Reading.{IsDueOrClosed, is_own_key, now_cause, reserved_seen}
 use Rattle.pmg_desk.proofs.ReadLemmas.{read_plain, read_reserved}
 use Rattle.pmg_desk.proofs.client.Client.get_now.Goals as goal
 
@@ -19,10 +19,10 @@ returns-then-is_reserved-clause-answer c =
     let d : Client = c.args.self.now in
     let get = get_of c.args.target.now c.args.key.now in
     let free : ◌≡◌ {A = Result (Unit {0}) Refusal} (Ok tt) (first_of (now_cause d get) tt) = search rules in
-    let other : is_own (proc_of d) get ≡ false = search rules in
+    let other : is_own_key (proc_of d) get ≡ false = search rules in
     let key : is_reserved get.key ≡ true = search rules in
-    let due : IsDue c.reserved_now.result (reply_of (resolve (reserved_seen d.jobs d.node get) modes.Now)) =
-    subst (λ (x : Client). IsDue c.reserved_now.result (reply_of (resolve (reserved_seen x.jobs x.node get) modes.Now))) c.self.view_is c.reserved_now.ensures in
+    let due : IsDueOrClosed c.reserved_now.result (reply_of (resolve (reserved_seen d.jobs d.node get) modes.Now)) =
+    subst (λ (x : Client). IsDueOrClosed c.reserved_now.result (reply_of (resolve (reserved_seen x.jobs x.node get) modes.Now))) c.self.view_is c.reserved_now.ensures in
     read_reserved d d get c.reserved_now.result free other key due
 
 pub returns-clause-answer : goal.returns-clause-answer
@@ -30,12 +30,12 @@ returns-clause-answer c =
     let d : Client = c.args.self.now in
     let get = get_of c.args.target.now c.args.key.now in
     let free : ◌≡◌ {A = Result (Unit {0}) Refusal} (Ok tt) (first_of (now_cause d get) tt) = search rules in
-    let other : is_own (proc_of d) get ≡ false = search rules in
+    let other : is_own_key (proc_of d) get ≡ false = search rules in
     let key : is_reserved get.key ≡ false = search rules in
     let near = near_of c.read.new.self.log in
     let far = far_of c.read.new.self.log in
-    let due : IsDue c.plain_now.result (reply_of (resolve (plain_seen d.jobs d.node (read_at near get.target) (read_at far get.target) get) modes.Now)) =
-    subst (λ (x : Client). IsDue c.plain_now.result (reply_of (resolve (plain_seen x.jobs x.node (read_at near get.target) (read_at far get.target) get) modes.Now))) c.self.view_is
+    let due : IsDueOrClosed c.plain_now.result (reply_of (resolve (plain_seen d.jobs d.node (read_at near get.target) (read_at far get.target) get) modes.Now)) =
+    subst (λ (x : Client). IsDueOrClosed c.plain_now.result (reply_of (resolve (plain_seen x.jobs x.node (read_at near get.target) (read_at far get.target) get) modes.Now))) c.self.view_is
     (c.plain_now.ensures near far c.in_ok-sight.ensures.read) in
     let later : Client = record { jobs = c.self.inside.desk.now.place.registry; node = c.self.inside.desk.now.place.node; viewer = c.read.new.self; transcript = c.self.inside.notes } in
     read_plain d later get c.plain_now.result free other key due

@@ -1,5 +1,5 @@
 use Rattle.std.proofs.Common.{rules, ◌≡◌, sym, ◌∙◌}
-use Rattle.pmg_rules.specs.Acts.{Act, Request}
+use Rattle.pmg_node_model.specs.Acts.{Act, Request}
 use Rattle.pmg_node.specs.Acting.{reply_as}
 use Rattle.pmg_node.specs.Replies.{release_reply}
 use Rattle.pmg_desk.specs.Clients.{proc_of}

@@ -1,10 +1,10 @@
 use Rattle.pmg_node.specs.Acting.{act_of, reply_as}
 use Rattle.pmg_node.specs.Servers.{reply_in}
-use Rattle.pmg_journal.specs.declared.notes.Twice.{Twice}
+use Rattle.pmg_journal.specs.declared.notes.AnswerCopies.{AnswerCopies}
 use Rattle.pmg_desk.proofs.WaitLemmas.{replies_there}
 use Rattle.pmg_desk.proofs.lock.Desk.act_for.Goals as goal
 
 pub returns-clause-there : goal.returns-clause-there
 returns-clause-there g c =
-    replies_there c.args.awaited.now c.in-Some.held.state.node (act_of c.args.act.now) (λ (t : Twice). reply_in reply_as t.told) c.act_for-answer.result c.in-Some.ensures.there
+    replies_there c.args.awaited.now c.in-Some.held.state.node (act_of c.args.act.now) (λ (t : AnswerCopies). reply_in reply_as t.told) c.act_for-answer.result c.in-Some.ensures.there
     c.act_for-answer.ensures.step c.act_for-answer.ensures.shut

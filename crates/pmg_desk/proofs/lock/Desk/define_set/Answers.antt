@@ -1,5 +1,5 @@
 use Rattle.std.proofs.Common.{subst}
-use Rattle.pmg_rules.specs.Acts.{Act, Reply, Request}
+use Rattle.pmg_node_model.specs.Acts.{Act, Reply, Request}
 use Rattle.pmg_node.specs.Servers.{reply_in}
 use Rattle.pmg_desk.specs.Kinds.{IsReplyTo}
 use Rattle.pmg_desk.proofs.lock.Desk.define_set.Goals as goal

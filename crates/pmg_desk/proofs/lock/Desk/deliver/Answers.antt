@@ -1,4 +1,4 @@
-use Rattle.pmg_rules.specs.Acts.{Act}
+use Rattle.pmg_node_model.specs.Acts.{Act}
 use Rattle.pmg_node.specs.Acting.{reply_as}
 use Rattle.pmg_node.specs.Replies.{delivery_reply}
 use Rattle.pmg_desk.proofs.ClientLemmas.{same_given}

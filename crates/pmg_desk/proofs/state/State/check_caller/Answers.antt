@@ -1,6 +1,6 @@
 use Rattle.std.proofs.Common.{rules, ◌≡◌, Some, subst, ◌∙◌}
 use Rattle.std.specs.Option.{option_map}
-use Rattle.pmg_rules.specs.Kept.{IsOwn}
+use Rattle.pmg_node_model.specs.Kept.{IsOwn}
 use Rattle.pmg_desk.specs.declared.state.Parts.{Parts}
 use Rattle.pmg_desk.proofs.OutLemmas.{judged, own_by}
 use Rattle.pmg_desk.proofs.state.State.check_caller.Goals as goal

@@ -4,7 +4,7 @@ use Rattle.pmg_value.specs.declared.process.Proc.{Proc}
 use Rattle.pmg_frame.specs.Fences.{header}
 use Rattle.pmg_frame.specs.declared.local.Local.{Local}
 use Rattle.pmg_fence.specs.Codes.{Known}
-use Rattle.pmg_fence.specs.Entering.{told}
+use Rattle.pmg_fence.specs.Entering.{told_locals}
 use Rattle.pmg_fence.specs.Tables.{fence_of, entry_at}
 use Rattle.pmg_fence.specs.Kept.{instead, IsKept}
 use Rattle.pmg_fence.proofs.TellLemmas.{fence_known, told_known, header_is, header_framed}
@@ -17,7 +17,7 @@ returns-in_default c =
     ap (λ o. option_map (header c.args.self.now.node f) (option_map (λ (ls : Vec Local Global). ls.items) o)) (sym c.in_default.is)
     ∙ ap (option_map (header c.args.self.now.node f)) (c.in_ok-lines.ensures
     ∙ told_known c.args.self.now.fences f _ line _ (fence_known c.args.self.now.fences c.args.signature.now c.args.instance _ c.fence-fence.ensures.value)
-    ∙ ap (λ (ps : List Proc). told (instead line (entry_at c.args.self.now.fences f)) ps) c.requires.own)
+    ∙ ap (λ (ps : List Proc). told_locals (instead line (entry_at c.args.self.now.fences f)) ps) c.requires.own)
 
 pub from_checked-requires : goal.from_checked-requires
 from_checked-requires c =
@@ -34,4 +34,4 @@ returns c =
     c.in_ok-copy.ensures (ap (λ (k : Known). k.node) c.self.view_is) c.from_checked-name.ensures.signature c.from_checked-name.ensures.instance c.from_checked.ensures
     (ap (option_map (λ (ls : Vec Local Global). ls.items)) (sym c.in-Some.is) ∙ c.in_ok-lines.ensures
     ∙ told_known c.args.self.now.fences f _ line _ (fence_known c.args.self.now.fences c.args.signature.now c.args.instance _ c.fence-fence.ensures.value)
-    ∙ ap (λ (ps : List Proc). told (instead line (entry_at c.args.self.now.fences f)) ps) c.requires.own)
+    ∙ ap (λ (ps : List Proc). told_locals (instead line (entry_at c.args.self.now.fences f)) ps) c.requires.own)

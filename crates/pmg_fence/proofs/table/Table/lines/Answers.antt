@@ -1,11 +1,11 @@
 use Rattle.std.proofs.Common.{sym, ap, ◌∙◌, ◌++◌, ◌∷◌, []}
-use Rattle.pmg_fence.specs.Entering.{lines}
+use Rattle.pmg_fence.specs.Entering.{collected_locals}
 use Rattle.pmg_fence.proofs.LineLemmas.{before, before_none, stands_with, line_added, line_missing}
 use Rattle.pmg_fence.proofs.table.Table.lines.Goals as goal
 
 pub loop-proc-init : goal.loop-proc-init
 loop-proc-init c =
-    let left = lines (stands_with c.args.self.now c.args.fence c.args.line) c.args.own.now in
+    let left = collected_locals (stands_with c.args.self.now c.args.fence c.args.line) c.args.own.now in
     before_none left ∙ ap (λ ls. before ls left) (sym c.new-lines.ensures.items)
 
 pub returns-in_default : goal.returns-in_default

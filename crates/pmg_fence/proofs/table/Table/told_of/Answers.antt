@@ -12,7 +12,7 @@ returns-then-not-contains c =
 
 pub returns : goal.returns
 returns c =
-    c.told.ensures
+    c.standing_in.ensures
     ∙ elim c.else-is_own.branch [
       | else-is_own-via-then-is_own+else-not-contains w ↦
           told_listed c.args.self.now c.args.name.now c.signature-signature.result.now c.instance.result _ c.is_whole-whole.result c.signature-signature.ensures c.instance.ensures.value c.fence-fence.ensures.value c.is_whole-whole.ensures

@@ -1,5 +1,5 @@
 use Rattle.std.proofs.Common.{inl, inr}
-use Rattle.pmg_lane.specs.Entries.{read_entry, late_entry}
+use Rattle.pmg_lane.specs.Entries.{entry_under, late_entry}
 use Rattle.pmg_lane.specs.declared.entries.Entries.{Entries}
 use Rattle.pmg_lane.proofs.Moving.{read_taken, late_taken, none_made}
 use Rattle.pmg_lane.proofs.entries.Entries.pop.Goals as goal
@@ -15,6 +15,6 @@ returns-in-Some-pop_place-clause-taken c =
 
 pub returns-in-None-clause-none : goal.returns-in-None-clause-none
 returns-in-None-clause-none c e h = elim h [
-  | inl read ↦ none_made _ read_entry c.args.self.now.reads c.in_default.ensures.none e.key e read
+  | inl read ↦ none_made _ entry_under c.args.self.now.reads c.in_default.ensures.none e.key e read
   | inr late ↦ none_made _ late_entry c.args.self.now.late c.in-None.ensures.none (e.number, e.key) e late
 ]

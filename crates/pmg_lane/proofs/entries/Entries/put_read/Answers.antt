@@ -3,7 +3,7 @@ use Rattle.std.specs.Prelude.{Some}
 use Rattle.std.specs.Option.{is_some, option_map}
 use Rattle.std.proofs.lemmas.Map.Lookups.{exact_bytes}
 use Rattle.pmg_lane.specs.Places.{placed}
-use Rattle.pmg_lane.specs.Entries.{read_entry, beats}
+use Rattle.pmg_lane.specs.Entries.{entry_under, beats}
 use Rattle.pmg_lane.specs.declared.entries.Entries.{Entries}
 use Rattle.pmg_lane.specs.declared.entries.Stamp.{Stamp}
 use Rattle.pmg_lane.proofs.Settling.{read_settles, read_within, read_kept, alike_reads, settles_alike, within_alike, filled_at, left_at, filled_stay}
@@ -18,7 +18,7 @@ returns-then-is_newer-clause-settles c =
     let tree = c.get_mut.follows.lender (Some s) in
     let put = ((c.get_mut.follows.holds (Some s)).3 (ap is_some (sym c.in-Some.ensures.value))).0 in
     read_settles a (record { reads = tree; late = a.late }) c.args.level key s (filled_at a.reads tree key there (Some s) c.in-Some.ensures.value exact_bytes put) refl c.requires.reached
-    (ap (λ o. beats (option_map (read_entry key) (placed o)) (read_entry key s)) (sym c.in-Some.ensures.value) ∙ sym (c.is_newer.ensures key) ∙ c.if-is_newer.true)
+    (ap (λ o. beats (option_map (entry_under key) (placed o)) (entry_under key s)) (sym c.in-Some.ensures.value) ∙ sym (c.is_newer.ensures key) ∙ c.if-is_newer.true)
 
 pub returns-then-is_newer-clause-within : goal.returns-then-is_newer-clause-within
 returns-then-is_newer-clause-within c =
@@ -44,9 +44,9 @@ returns-in-Some-clause-settles c =
     let tree = c.get_mut.follows.lender there in
     let put = ((c.get_mut.follows.holds there).3 (ap is_some (sym c.in-Some.ensures.value))).0 in
     let b : Entries = record { reads = tree; late = a.late } in
-    settles_alike c.args.level a b (λ e. e ≡ read_entry key s) (alike_reads a b (left_at a.reads tree key there there c.in-Some.ensures.value exact_bytes put refl) refl)
+    settles_alike c.args.level a b (λ e. e ≡ entry_under key s) (alike_reads a b (left_at a.reads tree key there there c.in-Some.ensures.value exact_bytes put refl) refl)
     (read_kept a c.args.level key s c.requires.within
-    (ap (λ o. beats (option_map (read_entry key) (placed o)) (read_entry key s)) (sym c.in-Some.ensures.value) ∙ sym (c.is_newer.ensures key) ∙ c.if-is_newer.false))
+    (ap (λ o. beats (option_map (entry_under key) (placed o)) (entry_under key s)) (sym c.in-Some.ensures.value) ∙ sym (c.is_newer.ensures key) ∙ c.if-is_newer.false))
 
 pub returns-in-Some-clause-within : goal.returns-in-Some-clause-within
 returns-in-Some-clause-within c =

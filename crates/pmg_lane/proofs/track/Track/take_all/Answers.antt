@@ -1,7 +1,7 @@
 use Rattle.std.proofs.Common.{◌≤◌, inl, inr, sym, subst, ◌∙◌}
 use Rattle.pmg_join.specs.Ranges.{set_of}
 use Rattle.pmg_commit.specs.Levels.{level}
-use Rattle.pmg_lane.specs.Entries.{HasPlaces, ReadsWithin, IsRoomyTo, LatePast, Settles, Holds, NoneLeft}
+use Rattle.pmg_lane.specs.Entries.{HasPlaces, ReadsWithin, IsRoomyTo, LatePast, Settles, HasEntry, NoneLeft}
 use Rattle.pmg_lane.specs.declared.track.Track.{Track}
 use Rattle.pmg_lane.proofs.Tracking.{level_reached, level_up, level_is_of, within_up, joined_level, make_track, past_from, joined_core}
 use Rattle.pmg_lane.proofs.track.Track.take_all.Goals as goal
@@ -51,4 +51,4 @@ returns-clause-taken c =
     let filled = c.fill_rooms.ensures in
     joined_core t o u c.promote.new.self filled.kept filled.added filled.no_more
     (subst (λ n. Settles n t.entries NoneLeft c.promote.new.self NoneLeft) is c.promote.ensures.settles)
-    (subst (λ n. Settles n c.promote.new.self (Holds o.entries) c.put_others.new.self NoneLeft) is c.put_others.ensures.settles)
+    (subst (λ n. Settles n c.promote.new.self (HasEntry o.entries) c.put_others.new.self NoneLeft) is c.put_others.ensures.settles)

@@ -3,14 +3,14 @@ use Rattle.std.proofs.lemmas.Result.{IfOk-weaker}
 use Rattle.pmg_value.specs.declared.process.Proc.{Proc}
 use Rattle.pmg_commit.specs.Knowledge.{Contribution}
 use Rattle.pmg_frame.specs.declared.frame.Frame.TheVariants as frames
-use Rattle.pmg_rules.specs.Acts.{Act, is_taken}
-use Rattle.pmg_rules.specs.Holdings.{joined}
-use Rattle.pmg_holding.specs.Answered.{IsAsker}
-use Rattle.pmg_holding.specs.Answering.{AreAnswersThen}
-use Rattle.pmg_holding.specs.Calls.{all_instead}
+use Rattle.pmg_node_model.specs.Acts.{Act, is_taken}
+use Rattle.pmg_node_model.specs.Holdings.{joined}
+use Rattle.pmg_node_parts.specs.Answered.{IsAsker}
+use Rattle.pmg_node_parts.specs.Answering.{AreAnswersThen}
+use Rattle.pmg_node_parts.specs.Calls.{all_instead}
 use Rattle.pmg_node.specs.Content.{server_of}
 use Rattle.pmg_node.specs.Servers.{Server, after}
-use Rattle.pmg_holding.proofs.AnswerLemmas.{plain_calls}
+use Rattle.pmg_node_parts.proofs.AnswerLemmas.{plain_calls}
 use Rattle.pmg_node.proofs.ReplyOpen.{open_plain, open_asker}
 use Rattle.pmg_node.proofs.ReplyTaking.{reply_answers}
 use Rattle.pmg_node.proofs.node.Node.answers_by.Goals as goal

@@ -1,11 +1,11 @@
 use Rattle.std.proofs.Common.{sym, ap, ◌∙◌}
 use Rattle.std.proofs.lemmas.Result.{IfOk-weaker}
 use Rattle.pmg_frame.specs.declared.frame.Frame.TheVariants as frames
-use Rattle.pmg_rules.specs.Acts.{Act, is_taken}
-use Rattle.pmg_holding.specs.Calls.{all_instead}
+use Rattle.pmg_node_model.specs.Acts.{Act, is_taken}
+use Rattle.pmg_node_parts.specs.Calls.{all_instead}
 use Rattle.pmg_node.specs.Content.{server_of}
 use Rattle.pmg_node.specs.Servers.{Server, after}
-use Rattle.pmg_holding.proofs.AnswerLemmas.{plain_calls}
+use Rattle.pmg_node_parts.proofs.AnswerLemmas.{plain_calls}
 use Rattle.pmg_node.proofs.PieceLemmas.{piece_answers}
 use Rattle.pmg_node.proofs.node.Node.answers_to.Goals as goal
 

@@ -1,13 +1,13 @@
 use Rattle.std.proofs.Common.{◌++◌, Err, List, sym, ap, subst, append-nil, ◌∙◌}
 use Rattle.std.proofs.lemmas.Result.{err_from_is_err_and}
 use Rattle.pmg_value.specs.Spelling.{spelling}
-use Rattle.pmg_rules.specs.Acts.{Act, Request, also, free_cause, target_cause, number_cause, reply_of}
-use Rattle.pmg_holding.specs.Calls.{get_of}
-use Rattle.pmg_rules.specs.Holdings.{answer_in}
+use Rattle.pmg_node_model.specs.Acts.{Act, Request, also, free_cause, target_cause, number_cause, reply_of}
+use Rattle.pmg_node_parts.specs.Calls.{get_of}
+use Rattle.pmg_node_model.specs.Holdings.{answer_in}
 use Rattle.pmg_node.specs.Replies.{asked_reply}
 use Rattle.pmg_node.specs.Servers.{Refuses, IsAccepted}
 use Rattle.pmg_node.specs.declared.parking.Asked.{Asked}
-use Rattle.pmg_rules.specs.declared.sent.Sent.{Sent}
+use Rattle.pmg_node_model.specs.declared.sent.Sent.{Sent}
 use Rattle.pmg_node.proofs.ActLemmas.{refused_reply, refused_after, refused_sent}
 use Rattle.pmg_node.proofs.AskLemmas.{ask_free, reserved_named, ask_cause, ask_reply, found_told, refused_told, parks_by, told_after, told_sent}
 use Rattle.pmg_node.proofs.RefusalLemmas.{refused_as, refuses_first}

@@ -1,6 +1,6 @@
 use Rattle.std.proofs.Common.{◌≡◌, ◌++◌, map}
 use Rattle.std.specs.List.{flat_map}
-use Rattle.pmg_rules.specs.Choosing.{asking_fence}
+use Rattle.pmg_node_model.specs.Choosing.{asking_fence}
 use Rattle.pmg_node.proofs.node.Node.ask_fences.Given as goal
 
 abbrev pub invariant-loop-name : goal.invariant-loop-name

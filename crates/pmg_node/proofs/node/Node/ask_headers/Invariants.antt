@@ -3,8 +3,8 @@ use Rattle.std.specs.List.{filter}
 use Rattle.pmg_fence.specs.Tables.{header_at}
 use Rattle.pmg_frame.specs.Fences.{fence_ask}
 use Rattle.pmg_frame.specs.declared.frame.Frame.TheVariants as frames
-use Rattle.pmg_rules.specs.Sending.{sent}
-use Rattle.pmg_rules.specs.declared.due.Due.TheVariants as sendings
+use Rattle.pmg_node_model.specs.Sending.{sent}
+use Rattle.pmg_node_model.specs.declared.due.ToSend.TheVariants as sendings
 use Rattle.pmg_node.proofs.node.Node.ask_headers.Given as goal
 
 abbrev pub invariant-loop-node : goal.invariant-loop-node

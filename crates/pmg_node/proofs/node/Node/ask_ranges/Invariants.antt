@@ -6,9 +6,9 @@ use Rattle.pmg_fence.specs.Tables.{told_of}
 use Rattle.pmg_frame.specs.Fences.{commit_ask}
 use Rattle.pmg_frame.specs.declared.frame.Frame.TheVariants as frames
 use Rattle.pmg_jobinfo.specs.Jobs.{home_of}
-use Rattle.pmg_rules.specs.Choosing.{is_behind}
-use Rattle.pmg_rules.specs.Sending.{sent}
-use Rattle.pmg_rules.specs.declared.due.Due.TheVariants as sendings
+use Rattle.pmg_node_model.specs.Choosing.{is_behind}
+use Rattle.pmg_node_model.specs.Sending.{sent}
+use Rattle.pmg_node_model.specs.declared.due.ToSend.TheVariants as sendings
 use Rattle.pmg_node.proofs.node.Node.ask_ranges.Given as goal
 
 abbrev pub invariant-loop-proc : goal.invariant-loop-proc

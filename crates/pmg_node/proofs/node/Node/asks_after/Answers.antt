@@ -2,12 +2,12 @@ use Rattle.std.proofs.Common.{◌≡◌, nat_lt, true, false, sym, ap, ◌∙◌
 use Rattle.std.proofs.lemmas.Result.{IfOk-weaker}
 use Rattle.pmg_commit.specs.Data.{absorbed, level_at}
 use Rattle.pmg_frame.specs.declared.frame.Frame.TheVariants as frames
-use Rattle.pmg_rules.specs.Acts.{Act, is_taken}
-use Rattle.pmg_rules.specs.Choosing.{due_by}
+use Rattle.pmg_node_model.specs.Acts.{Act, is_taken}
+use Rattle.pmg_node_model.specs.Choosing.{due_by}
 use Rattle.pmg_node.specs.Content.{server_of}
 use Rattle.pmg_node.specs.Servers.{Server, after}
 use Rattle.pmg_node.proofs.FrameLemmas.{below_is, not_below_is}
-use Rattle.pmg_holding.proofs.AnswerLemmas.{plain_calls}
+use Rattle.pmg_node_parts.proofs.AnswerLemmas.{plain_calls}
 use Rattle.pmg_node.proofs.PieceLemmas.{piece_asks, piece_quiet}
 use Rattle.pmg_node.proofs.node.Node.asks_after.Goals as goal
 

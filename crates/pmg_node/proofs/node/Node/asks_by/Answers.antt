@@ -4,14 +4,14 @@ use Rattle.pmg_commit.specs.Data.{level_at}
 use Rattle.pmg_commit.specs.Knowledge.{Contribution}
 use Rattle.pmg_frame.specs.Refreshing.{told_by}
 use Rattle.pmg_frame.specs.declared.frame.Frame.TheVariants as frames
-use Rattle.pmg_rules.specs.Acts.{Act, is_taken}
-use Rattle.pmg_rules.specs.Choosing.{due_by}
-use Rattle.pmg_rules.specs.Holdings.{joined}
-use Rattle.pmg_holding.specs.Answering.{AreAskedAgain}
+use Rattle.pmg_node_model.specs.Acts.{Act, is_taken}
+use Rattle.pmg_node_model.specs.Choosing.{due_by}
+use Rattle.pmg_node_model.specs.Holdings.{joined}
+use Rattle.pmg_node_parts.specs.Answering.{AreAskedAgain}
 use Rattle.pmg_node.specs.Content.{server_of}
 use Rattle.pmg_node.specs.Servers.{Server, after}
 use Rattle.pmg_node.proofs.FrameLemmas.{below_is, not_below_is}
-use Rattle.pmg_holding.proofs.AnswerLemmas.{plain_calls}
+use Rattle.pmg_node_parts.proofs.AnswerLemmas.{plain_calls}
 use Rattle.pmg_node.proofs.ReplyTaking.{reply_asks, reply_quiet}
 use Rattle.pmg_node.proofs.node.Node.asks_by.Goals as goal
 

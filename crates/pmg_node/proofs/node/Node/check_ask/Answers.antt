@@ -1,7 +1,7 @@
 use Rattle.std.proofs.Common.{sym, ap, ◌∙◌}
 use Rattle.pmg_value.specs.declared.refusal.Refusal.TheVariants as refusals
-use Rattle.pmg_rules.specs.Acts.{number_cause}
-use Rattle.pmg_holding.specs.Calls.{get_of}
+use Rattle.pmg_node_model.specs.Acts.{number_cause}
+use Rattle.pmg_node_parts.specs.Calls.{get_of}
 use Rattle.pmg_node.proofs.AskLemmas.{ask_numbered}
 use Rattle.pmg_node.proofs.CommitLemmas.{then_full}
 use Rattle.pmg_node.proofs.node.Node.check_ask.Goals as goal

@@ -1,5 +1,5 @@
 use Rattle.std.proofs.Common.{is_some, sym, ap, ◌∙◌}
-use Rattle.pmg_rules.specs.Holdings.{call_of}
+use Rattle.pmg_node_model.specs.Holdings.{call_of}
 use Rattle.pmg_node.proofs.JudgeLemmas.{then_busy, free_first}
 use Rattle.pmg_node.proofs.node.Node.check_free.Goals as goal
 

@@ -1,8 +1,8 @@
 use Rattle.std.proofs.Common.{◌≡◌, true, false, sym, ap, subst, ◌∙◌}
 use Rattle.pmg_value.specs.declared.refusal.Refusal.TheVariants as refusals
 use Rattle.pmg_jobinfo.specs.Jobs.{Jobs, is_registered}
-use Rattle.pmg_rules.specs.Acts.{target_cause}
-use Rattle.pmg_holding.specs.Calls.{get_of}
+use Rattle.pmg_node_model.specs.Acts.{target_cause}
+use Rattle.pmg_node_parts.specs.Calls.{get_of}
 use Rattle.pmg_node.specs.Servers.{Server, IsNode}
 use Rattle.pmg_node.proofs.AskLemmas.{ask_bad, ask_known}
 use Rattle.pmg_node.proofs.node.Node.check_target.Goals as goal

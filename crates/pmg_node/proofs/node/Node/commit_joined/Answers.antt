@@ -7,18 +7,18 @@ use Rattle.pmg_commit.specs.Sealed.{Sealed, sealed_with, commit_answer}
 use Rattle.pmg_commit.specs.TakenBack.{sealer_back}
 use Rattle.pmg_dmodex.specs.Levels.{without_below}
 use Rattle.pmg_dmodex.specs.Requests.{Requests}
-use Rattle.pmg_rules.specs.Acts.{Act, Reply, cause, free_cause}
-use Rattle.pmg_holding.specs.Answered.{ArePlain}
-use Rattle.pmg_rules.specs.Choosing.{sends}
+use Rattle.pmg_node_model.specs.Acts.{Act, Reply, cause, free_cause}
+use Rattle.pmg_node_parts.specs.Answered.{ArePlain}
+use Rattle.pmg_node_model.specs.Choosing.{sends}
 use Rattle.pmg_node.specs.Content.{server_of}
-use Rattle.pmg_rules.specs.Holdings.{sealer_of, sealers_with, sets_with}
-use Rattle.pmg_holding.specs.Owns.{Own, sealed_of}
+use Rattle.pmg_node_model.specs.Holdings.{sealer_of, sealers_with, sets_with}
+use Rattle.pmg_node_parts.specs.Owns.{LocalCommits, sealed_of}
 use Rattle.pmg_node.specs.Replies.{committed_reply}
 use Rattle.pmg_node.specs.Servers.{Server, IsNode, reply_to, sent_by, after}
-use Rattle.pmg_holding.specs.Telling.{settling_by}
-use Rattle.pmg_rules.specs.declared.due.Due.{Due}
-use Rattle.pmg_rules.specs.declared.sent.Sent.{Sent}
-use Rattle.pmg_holding.proofs.AnswerLemmas.{plain_calls}
+use Rattle.pmg_node_parts.specs.Telling.{settling_by}
+use Rattle.pmg_node_model.specs.declared.due.ToSend.{ToSend}
+use Rattle.pmg_node_model.specs.declared.sent.Sent.{Sent}
+use Rattle.pmg_node_parts.proofs.AnswerLemmas.{plain_calls}
 use Rattle.pmg_node.proofs.CommitLemmas.{free_own, free_client, commit_barred, commit_over, commit_free, commit_accepted, commit_seals, client_put, client_sets, level_rises, still_own, own_back}
 use Rattle.pmg_node.proofs.NodeKept.{node_stays}
 use Rattle.pmg_node.proofs.OpenLemmas.{still_open}
@@ -68,7 +68,7 @@ returns-in_err-before-clause-done c =
     let s = c.args.self.now in
     let inside = c.self.inside in
     λ answered.
-    ap (λ (o : Own). server_of inside.table inside.id inside.board o inside.calls inside.held inside.marks) c.in_err-before.ensures.err
+    ap (λ (o : LocalCommits). server_of inside.table inside.id inside.board o inside.calls inside.held inside.marks) c.in_err-before.ensures.err
     ∙ c.self.view_is
     ∙ erred_after s (Act.commit c.args.proc.now c.args.batch.now) c.in_err-before.field-0.0 (over c) c.from_residual-in_err-before.result (p.1 ∙ ap Err p.2) answered
 
@@ -100,15 +100,15 @@ publish-requires-clause-plain c =
     let kept = subst IsNode c.self.view_is c.self.invariant.node in
     subst (λ (x : Server). ArePlain x.holding.calls) (sym c.self.view_is) (plain_calls s.jobs s.id s.holding kept.server.settled)
 
-pub take_back-requires-clause-own : goal.take_back-requires-clause-own
-take_back-requires-clause-own c =
+pub rollback-requires-clause-own : goal.rollback-requires-clause-own
+rollback-requires-clause-own c =
     let s = c.args.self.now in
     let p = c.args.proc.now in
     let client = free_client s.jobs s.id s.holding p (sym c.in_ok-check_free.ensures) in
     still_own c.self.inside.own p client c.commit.new.self _ c.in_ok-before.ensures.ok
 
 -- what is left where publishing fails
-back : (c : goal.After-take_back) → server_of c.self.inside.table c.self.inside.id c.publish.new.board c.take_back.new.self c.self.inside.calls c.self.inside.held c.publish.new.marks
+back : (c : goal.After-rollback) → server_of c.self.inside.table c.self.inside.id c.publish.new.board c.rollback.new.self c.self.inside.calls c.self.inside.held c.publish.new.marks
     ≡ server_of c.self.inside.table c.self.inside.id c.self.inside.board c.self.inside.own c.self.inside.calls c.self.inside.held c.self.inside.marks
 back c =
     let s = c.args.self.now in
@@ -118,8 +118,8 @@ back c =
     let here = subst (λ (x : Server). first_of (free_cause x.jobs x.id x.holding p) (tt {0}) ≡ Ok tt) (sym c.self.view_is) free in
     let client = free_client s.jobs s.id s.holding p free in
     let there = c.self.invariant.node.sealers p (free_own inside.table.jobs inside.id (server_of inside.table inside.id inside.board inside.own inside.calls inside.held inside.marks).holding p here) in
-    let own = own_back inside.own p client c.commit.new.self _ c.in_ok-before.ensures.ok c.take_back.new.self c.args.batch.now
-    (sealer_back (sealed_of c.commit.new.self p) c.in_ok-before.before) there c.take_back.ensures c.in_ok-before.ensures.before in
+    let own = own_back inside.own p client c.commit.new.self _ c.in_ok-before.ensures.ok c.rollback.new.self c.args.batch.now
+    (sealer_back (sealed_of c.commit.new.self p) c.in_ok-before.before) there c.rollback.ensures c.in_ok-before.ensures.before in
     λ i. server_of inside.table inside.id (record { near = c.in_default.ensures.near_err i; far = c.in_default.ensures.far_err i }) (own i) inside.calls inside.held (c.in_default.ensures.marks_err i)
 
 pub invariant_of-self-in_default : goal.invariant_of-self-in_default
@@ -162,7 +162,7 @@ published c =
       calls = c.answer.ensures;
       held = ap (λ (r : Requests). r.held) c.settle.ensures ∙ ap (without_below inside.held.held p) c.level-level.ensures.value;
       requests = ap (λ (r : Requests). r.anew.last) c.settle.ensures;
-      marks = c.in-Ok.ensures.marks ∙ ap (λ (ds : List Due). (sends sealer inside.marks (settling_by sealer inside.held.held p ++ ds)).marks) c.new-dues.ensures.items;
+      marks = c.in-Ok.ensures.marks ∙ ap (λ (ds : List ToSend). (sends sealer inside.marks (settling_by sealer inside.held.held p ++ ds)).marks) c.new-dues.ensures.items;
       found = c.in-Ok.ensures.answers;
     }
 
@@ -183,10 +183,10 @@ module _ (c : goal.After-drop-before-2) where
   seals = commit_seals (before c) p c.args.batch.now c.self.invariant.node here _ c.in_ok-before.ensures.before
 
   sealers : c.commit.new.self.sealers ≡ sealers_with (before c).holding p z
-  sealers = ap (λ (o : Own). o.sealers) c.in_ok-before.ensures.ok ∙ client_put (before c).holding p (free_client (before c).jobs (before c).id (before c).holding p here) z
+  sealers = ap (λ (o : LocalCommits). o.sealers) c.in_ok-before.ensures.ok ∙ client_put (before c).holding p (free_client (before c).jobs (before c).id (before c).holding p here) z
 
   sets : c.commit.new.self.sets ≡ sets_with (before c).holding p z
-  sets = ap (λ (o : Own). o.sets) c.in_ok-before.ensures.ok ∙ client_sets (before c).holding p (free_client (before c).jobs (before c).id (before c).holding p here) z
+  sets = ap (λ (o : LocalCommits). o.sets) c.in_ok-before.ensures.ok ∙ client_sets (before c).holding p (free_client (before c).jobs (before c).id (before c).holding p here) z
 
   done : left c ≡ after (before c) act
   done = published_after (before c) act p z (Reply.committed z.level) (λ _. []) seals c.commit.new.self sealers sets c.level-from.result c.level-from.ensures.value
@@ -204,7 +204,7 @@ module _ (c : goal.After-drop-before-2) where
   sends_out : c.publish.new.out.items ≡ c.args.out.now.items ++ sent_by (before c) act
   sends_out =
       c.in-Ok.ensures.sent
-      ∙ ap (λ (ds : List Due). c.args.out.now.items ++ (sends (sealed_of c.commit.new.self) (before c).marks
+      ∙ ap (λ (ds : List ToSend). c.args.out.now.items ++ (sends (sealed_of c.commit.new.self) (before c).marks
       (settling_by (sealed_of c.commit.new.self) (before c).holding.held p ++ ds)).frames) c.new-dues.ensures.items
       ∙ ap (λ (x : List Sent). c.args.out.now.items ++ x) (published_sent (before c) act p z (Reply.committed z.level) (λ _. []) seals c.commit.new.self sealers sets
       c.level-from.result c.level-from.ensures.value c.in-Ok.published.answers.items (left c) (published c))

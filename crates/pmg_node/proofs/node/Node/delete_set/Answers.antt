@@ -10,18 +10,18 @@ use Rattle.pmg_dmodex.specs.Levels.{without_below}
 use Rattle.pmg_dmodex.specs.Requests.{Requests}
 use Rattle.pmg_pset.specs.Members.{no_members}
 use Rattle.pmg_pset.specs.Refusing.{delete_cause}
-use Rattle.pmg_pset.specs.Sets.{host, changed}
-use Rattle.pmg_rules.specs.Acts.{Act, Request, Reply, cause}
+use Rattle.pmg_pset.specs.Sets.{host, set_changed}
+use Rattle.pmg_node_model.specs.Acts.{Act, Request, Reply, cause}
 use Rattle.pmg_node.specs.Content.{server_of}
-use Rattle.pmg_rules.specs.Holdings.{sealers_with, sets_with}
-use Rattle.pmg_holding.specs.Owns.{Own, sealed_of}
+use Rattle.pmg_node_model.specs.Holdings.{sealers_with, sets_with}
+use Rattle.pmg_node_parts.specs.Owns.{LocalCommits, sealed_of}
 use Rattle.pmg_node.specs.Replies.{defined_reply}
 use Rattle.pmg_node.specs.Servers.{Server, IsNode, reply_to, sent_by, after}
-use Rattle.pmg_holding.specs.Telling.{spread_by}
-use Rattle.pmg_rules.specs.declared.due.Due.{Due}
-use Rattle.pmg_rules.specs.declared.sent.Sent.{Sent}
-use Rattle.pmg_holding.specs.Answered.{ArePlain}
-use Rattle.pmg_holding.proofs.AnswerLemmas.{plain_calls}
+use Rattle.pmg_node_parts.specs.Telling.{spread_by}
+use Rattle.pmg_node_model.specs.declared.due.ToSend.{ToSend}
+use Rattle.pmg_node_model.specs.declared.sent.Sent.{Sent}
+use Rattle.pmg_node_parts.specs.Answered.{ArePlain}
+use Rattle.pmg_node_parts.proofs.AnswerLemmas.{plain_calls}
 use Rattle.pmg_node.proofs.DefineLemmas.{own_back}
 use Rattle.pmg_node.proofs.NodeKept.{node_stays}
 use Rattle.pmg_node.proofs.OpenLemmas.{still_open}
@@ -72,7 +72,7 @@ returns-in_err-before-clause-done c =
     let s = c.args.self.now in
     let inside = c.self.inside in
     λ answered.
-    ap (λ (o : Own). server_of inside.table inside.id inside.board o inside.calls inside.held inside.marks) c.in_err-before.ensures.err
+    ap (λ (o : LocalCommits). server_of inside.table inside.id inside.board o inside.calls inside.held inside.marks) c.in_err-before.ensures.err
     ∙ c.self.view_is
     ∙ erred_after s (Act.request (Request.delete c.args.name.now)) c.in_err-before.field-0.0 (over c) c.from_residual-in_err-before.result (p.1 ∙ ap Err p.2) answered
 
@@ -134,9 +134,9 @@ module _ (c : goal.After-drop-before-2) where
   act = Act.request (Request.delete c.args.name.now)
 
   abbrev z : Sealed
-  z = changed (before c).holding.sets c.args.name.now no_members
+  z = set_changed (before c).holding.sets c.args.name.now no_members
 
-  abbrev more : (Proc → Sealed) → List Due
+  abbrev more : (Proc → Sealed) → List ToSend
   more sealer = spread_by (before c).jobs (before c).id sealer host
 
   last : c.sets_level-level.result ≡ (sealed_of c.delete.new.self host).level
@@ -163,10 +163,10 @@ module _ (c : goal.After-drop-before-2) where
       (subst (λ (x : Server). first_of (place_cause x.id c.args.name.now) (tt {0}) ≡ Ok tt) (sym c.self.view_is) (sym c.in_ok-check_name.ensures)) _ c.in_ok-before.ensures.before
 
   sealers : c.delete.new.self.sealers ≡ sealers_with (before c).holding host z
-  sealers = ap (λ (o : Own). o.sealers) c.in_ok-before.ensures.ok
+  sealers = ap (λ (o : LocalCommits). o.sealers) c.in_ok-before.ensures.ok
 
   sets : c.delete.new.self.sets ≡ sets_with (before c).holding host z
-  sets = ap (λ (o : Own). o.sets) c.in_ok-before.ensures.ok
+  sets = ap (λ (o : LocalCommits). o.sets) c.in_ok-before.ensures.ok
 
   from_is : c.sets_level-from.result ≡ (sealed_of c.self.inside.own host).level
   from_is = c.sets_level-from.ensures.value ∙ ap (λ (x : Sealed). x.level) (sym (sets_sealed c.self.inside.own))

@@ -2,16 +2,16 @@ use Rattle.std.proofs.Common.{◌≡◌, nat_lt, Bool, true, false, List, ◌++�
 use Rattle.pmg_frame.specs.declared.frame.Frame.{Frame}
 use Rattle.pmg_frame.specs.declared.frame.Frame.TheVariants as frames
 use Rattle.pmg_dmodex.specs.Levels.{Levels}
-use Rattle.pmg_rules.specs.Acts.{Act, Done, holds_unless}
-use Rattle.pmg_rules.specs.Choosing.{Out, asked_marks, sends}
+use Rattle.pmg_node_model.specs.Acts.{Act, Done, holds_unless}
+use Rattle.pmg_node_model.specs.Choosing.{Out, asked_marks, sends}
 use Rattle.pmg_node.specs.Content.{server_of}
 use Rattle.pmg_dmodex.specs.Requests.{Requests, holding}
-use Rattle.pmg_rules.specs.Holdings.{sealer_of}
-use Rattle.pmg_holding.specs.Owns.{sealed_of}
+use Rattle.pmg_node_model.specs.Holdings.{sealer_of}
+use Rattle.pmg_node_parts.specs.Owns.{sealed_of}
 use Rattle.pmg_node.specs.Servers.{Server, IsNode}
-use Rattle.pmg_holding.specs.Telling.{answering_by}
-use Rattle.pmg_rules.specs.declared.due.Due.{Due}
-use Rattle.pmg_rules.specs.declared.sent.Sent.{Sent}
+use Rattle.pmg_node_parts.specs.Telling.{answering_by}
+use Rattle.pmg_node_model.specs.declared.due.ToSend.{ToSend}
+use Rattle.pmg_node_model.specs.declared.sent.Sent.{Sent}
 use Rattle.pmg_node.proofs.FrameLemmas.{below_is, not_below_is, direct_taken, with_marks, waits_for, range_out, ignored_is, ignored_silent, direct_is, direct_sent}
 use Rattle.pmg_node.proofs.NodeKept.{node_stays}
 use Rattle.pmg_node.proofs.OpenLemmas.{still_open}
@@ -68,7 +68,7 @@ returns-then-level-clause-ok c =
     let due = c.in_ok-dues.ensures ∙ (λ i. answering_by (sealed_of inside.own) (c.node.ensures i) (c.proc.ensures.value i) (c.level.ensures.value i)) in
     let out : c.hand_out.new.marks ≡ (range_out ask s).marks =
     c.in_ok-handed.ensures.marks
-    ∙ ap (λ (ds : List Due). (sends (sealed_of inside.own) (asked_marks inside.marks (Some ask)) ds).marks) due
+    ∙ ap (λ (ds : List ToSend). (sends (sealed_of inside.own) (asked_marks inside.marks (Some ask)) ds).marks) due
     ∙ ap (λ (x : Server). (range_out ask x).marks) c.self.view_is in
     ap (λ (x : Server). with_marks c.hand_out.new.marks x) c.self.view_is
     ∙ ap (λ (m : Levels). with_marks m s) out
@@ -88,7 +88,7 @@ returns-then-level-clause-sent c =
     let taken = direct_taken s.jobs s.id s.holding.table ask ∙ sym c.is_asked.ensures ∙ c.if-not-is_asked.false in
     let due = c.in_ok-dues.ensures ∙ (λ i. answering_by (sealed_of inside.own) (c.node.ensures i) (c.proc.ensures.value i) (c.level.ensures.value i)) in
     c.in_ok-handed.ensures.frames
-    ∙ ap (λ (ds : List Due). c.args.out.now.items ++ (sends (sealed_of inside.own) (asked_marks inside.marks (Some ask)) ds).frames) due
+    ∙ ap (λ (ds : List ToSend). c.args.out.now.items ++ (sends (sealed_of inside.own) (asked_marks inside.marks (Some ask)) ds).frames) due
     ∙ ap (λ (x : Server). c.args.out.now.items ++ (range_out ask x).frames) c.self.view_is
     ∙ ap (λ (o : Out). c.args.out.now.items ++ o.frames) (sym (direct_sent s.jobs s.id s.holding kept.server.settled s.marks ask taken))
 
@@ -108,7 +108,7 @@ invariant_of-self-in_default c =
     let due = c.in_ok-dues.ensures ∙ (λ i. answering_by (sealed_of inside.own) (c.node.ensures i) (c.proc.ensures.value i) (c.level.ensures.value i)) in
     let out : c.hand_out.new.marks ≡ (range_out ask s).marks =
     c.in_ok-handed.ensures.marks
-    ∙ ap (λ (ds : List Due). (sends (sealed_of inside.own) (asked_marks inside.marks (Some ask)) ds).marks) due
+    ∙ ap (λ (ds : List ToSend). (sends (sealed_of inside.own) (asked_marks inside.marks (Some ask)) ds).marks) due
     ∙ ap (λ (x : Server). (range_out ask x).marks) c.self.view_is in
     let moved =
     ap (λ (r : Requests). server_of inside.table inside.id inside.board inside.own inside.calls r c.hand_out.new.marks)
@@ -154,7 +154,7 @@ returns-clause-ok c =
     let due = c.in_ok-dues.ensures ∙ (λ i. answering_by (sealed_of inside.own) (c.node.ensures i) (c.proc.ensures.value i) (c.level.ensures.value i)) in
     let out : c.hand_out.new.marks ≡ (range_out ask s).marks =
     c.in_ok-handed.ensures.marks
-    ∙ ap (λ (ds : List Due). (sends (sealed_of inside.own) (asked_marks inside.marks (Some ask)) ds).marks) due
+    ∙ ap (λ (ds : List ToSend). (sends (sealed_of inside.own) (asked_marks inside.marks (Some ask)) ds).marks) due
     ∙ ap (λ (x : Server). (range_out ask x).marks) c.self.view_is in
     let moved =
     ap (λ (r : Requests). server_of inside.table inside.id inside.board inside.own inside.calls r c.hand_out.new.marks)
@@ -178,6 +178,6 @@ returns-clause-sent c =
     let taken = direct_taken s.jobs s.id s.holding.table ask ∙ sym c.is_asked.ensures ∙ c.if-not-is_asked.false in
     let due = c.in_ok-dues.ensures ∙ (λ i. answering_by (sealed_of inside.own) (c.node.ensures i) (c.proc.ensures.value i) (c.level.ensures.value i)) in
     c.in_ok-handed.ensures.frames
-    ∙ ap (λ (ds : List Due). c.args.out.now.items ++ (sends (sealed_of inside.own) (asked_marks inside.marks (Some ask)) ds).frames) due
+    ∙ ap (λ (ds : List ToSend). c.args.out.now.items ++ (sends (sealed_of inside.own) (asked_marks inside.marks (Some ask)) ds).frames) due
     ∙ ap (λ (x : Server). c.args.out.now.items ++ (range_out ask x).frames) c.self.view_is
     ∙ ap (λ (o : Out). c.args.out.now.items ++ o.frames) (sym (direct_sent s.jobs s.id s.holding kept.server.settled s.marks ask taken))

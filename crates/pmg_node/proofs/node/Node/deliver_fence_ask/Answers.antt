@@ -4,12 +4,12 @@ use Rattle.pmg_frame.specs.Fences.{header}
 use Rattle.pmg_frame.specs.declared.frame.Frame.{Frame}
 use Rattle.pmg_frame.specs.declared.frame.Frame.TheVariants as frames
 use Rattle.pmg_fence.specs.Changes.{present}
-use Rattle.pmg_rules.specs.Acts.{Act, Done}
-use Rattle.pmg_rules.specs.Choosing.{sends}
-use Rattle.pmg_holding.specs.Owns.{sealed_of}
+use Rattle.pmg_node_model.specs.Acts.{Act, Done}
+use Rattle.pmg_node_model.specs.Choosing.{sends}
+use Rattle.pmg_node_parts.specs.Owns.{sealed_of}
 use Rattle.pmg_node.specs.Servers.{IsNode}
-use Rattle.pmg_holding.specs.Telling.{telling_by}
-use Rattle.pmg_rules.specs.declared.sent.Sent.{Sent}
+use Rattle.pmg_node_parts.specs.Telling.{telling_by}
+use Rattle.pmg_node_model.specs.declared.sent.Sent.{Sent}
 use Rattle.pmg_node.proofs.FenceLemmas.{ask_steps, told_steps}
 use Rattle.pmg_node.proofs.FrameLemmas.{ignored_is, ignored_silent}
 use Rattle.pmg_node.proofs.SilentLemmas.{after_is, sent_none}

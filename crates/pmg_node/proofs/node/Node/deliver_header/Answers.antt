@@ -1,9 +1,9 @@
 use Rattle.std.proofs.Common.{◌++◌, List, sym, ap, subst, append-nil, ◌∙◌}
 use Rattle.pmg_frame.specs.declared.frame.Frame.{Frame}
 use Rattle.pmg_frame.specs.declared.frame.Frame.TheVariants as frames
-use Rattle.pmg_rules.specs.Acts.{Act, Done}
+use Rattle.pmg_node_model.specs.Acts.{Act, Done}
 use Rattle.pmg_node.specs.Servers.{IsNode}
-use Rattle.pmg_rules.specs.declared.sent.Sent.{Sent}
+use Rattle.pmg_node_model.specs.declared.sent.Sent.{Sent}
 use Rattle.pmg_node.proofs.FenceLemmas.{header_steps}
 use Rattle.pmg_node.proofs.FrameLemmas.{ignored_is, ignored_silent}
 use Rattle.pmg_node.proofs.SilentLemmas.{after_is, sent_none}

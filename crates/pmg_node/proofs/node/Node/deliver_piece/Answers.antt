@@ -1,12 +1,12 @@
 use Rattle.std.proofs.Common.{List, ◌++◌, refl, sym, ap, subst, append-nil, ◌∙◌}
 use Rattle.pmg_frame.specs.declared.frame.Frame.{Frame}
 use Rattle.pmg_frame.specs.declared.frame.Frame.TheVariants as frames
-use Rattle.pmg_rules.specs.Acts.{Act, Done}
-use Rattle.pmg_rules.specs.Choosing.{sends}
+use Rattle.pmg_node_model.specs.Acts.{Act, Done}
+use Rattle.pmg_node_model.specs.Choosing.{sends}
 use Rattle.pmg_node.specs.Content.{server_of}
-use Rattle.pmg_rules.specs.Holdings.{sealer_of}
+use Rattle.pmg_node_model.specs.Holdings.{sealer_of}
 use Rattle.pmg_node.specs.Servers.{Server, IsNode}
-use Rattle.pmg_rules.specs.declared.sent.Sent.{Sent}
+use Rattle.pmg_node_model.specs.declared.sent.Sent.{Sent}
 use Rattle.pmg_node.proofs.FrameLemmas.{ignored_is, ignored_silent}
 use Rattle.pmg_node.proofs.NodeKept.{node_stays}
 use Rattle.pmg_node.proofs.OpenLemmas.{still_open}

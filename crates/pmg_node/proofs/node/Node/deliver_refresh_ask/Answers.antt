@@ -4,11 +4,11 @@ use Rattle.pmg_frame.specs.declared.frame.Frame.{Frame}
 use Rattle.pmg_frame.specs.declared.frame.Frame.TheVariants as frames
 use Rattle.pmg_jobinfo.specs.Jobs.{home_of}
 use Rattle.pmg_dmodex.specs.Levels.{Levels}
-use Rattle.pmg_holding.specs.Owns.{sealed_of}
-use Rattle.pmg_rules.specs.Acts.{Done, is_known, is_peer}
-use Rattle.pmg_rules.specs.Choosing.{Out, asked_marks, sends}
+use Rattle.pmg_node_parts.specs.Owns.{sealed_of}
+use Rattle.pmg_node_model.specs.Acts.{Done, is_known, is_peer}
+use Rattle.pmg_node_model.specs.Choosing.{Out, asked_marks, sends}
 use Rattle.pmg_node.specs.Servers.{Server, IsNode}
-use Rattle.pmg_rules.specs.declared.sent.Sent.{Sent}
+use Rattle.pmg_node_model.specs.declared.sent.Sent.{Sent}
 use Rattle.pmg_node.proofs.FrameLemmas.{refresh_taken, with_marks, refresh_out, ignores, refresh_is, refresh_sent}
 use Rattle.pmg_node.proofs.node.Node.deliver_refresh_ask.Goals as goal
 

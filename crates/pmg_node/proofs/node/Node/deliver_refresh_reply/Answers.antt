@@ -5,13 +5,13 @@ use Rattle.pmg_frame.specs.declared.frame.Frame.{Frame}
 use Rattle.pmg_frame.specs.declared.frame.Frame.TheVariants as frames
 use Rattle.pmg_dmodex.specs.Refreshes.{Refreshes, answered}
 use Rattle.pmg_dmodex.specs.Requests.{Requests, with_anew}
-use Rattle.pmg_holding.specs.Codes.{Calls}
-use Rattle.pmg_rules.specs.Acts.{Act}
-use Rattle.pmg_rules.specs.Choosing.{sends}
-use Rattle.pmg_rules.specs.Holdings.{joined, sealer_of, with_far}
+use Rattle.pmg_node_parts.specs.Codes.{Calls}
+use Rattle.pmg_node_model.specs.Acts.{Act}
+use Rattle.pmg_node_model.specs.Choosing.{sends}
+use Rattle.pmg_node_model.specs.Holdings.{joined, sealer_of, with_far}
 use Rattle.pmg_node.specs.Content.{server_of, AreOpen}
 use Rattle.pmg_node.specs.Servers.{Server, IsNode, after}
-use Rattle.pmg_rules.specs.declared.sent.Sent.{Sent}
+use Rattle.pmg_node_model.specs.declared.sent.Sent.{Sent}
 use Rattle.pmg_node.proofs.FrameLemmas.{ignores}
 use Rattle.pmg_node.proofs.NodeKept.{node_stays}
 use Rattle.pmg_node.proofs.ReplyOpen.{replied_open, last_answered}

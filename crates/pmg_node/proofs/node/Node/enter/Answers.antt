@@ -2,10 +2,10 @@ use Rattle.std.proofs.Common.{◌++◌, List, inl, sym, ap, append-nil, ◌∙�
 use Rattle.std.proofs.lemmas.Result.{err_from_is_err_and}
 use Rattle.pmg_value.specs.Signatures.{FenceName}
 use Rattle.pmg_value.specs.declared.refusal.Refusal.TheVariants as refusals
-use Rattle.pmg_rules.specs.Acts.{Act, Request, Reply}
-use Rattle.pmg_rules.specs.Holdings.{call_of}
+use Rattle.pmg_node_model.specs.Acts.{Act, Request, Reply}
+use Rattle.pmg_node_model.specs.Holdings.{call_of}
 use Rattle.pmg_node.specs.Servers.{Server}
-use Rattle.pmg_rules.specs.declared.sent.Sent.{Sent}
+use Rattle.pmg_node_model.specs.declared.sent.Sent.{Sent}
 use Rattle.pmg_node.proofs.ActLemmas.{refused_reply, refused_after, refused_sent}
 use Rattle.pmg_node.proofs.EntryLemmas.{entry_refused, entry_idle, entry_told, entry_short, enters_it, entry_limited, entry_named, entry_steps}
 use Rattle.pmg_node.proofs.node.Node.enter.Goals as goal

@@ -5,11 +5,11 @@ use Rattle.pmg_value.specs.Process.{can_commit}
 use Rattle.pmg_value.specs.declared.process.Proc.{Proc}
 use Rattle.pmg_jobinfo.specs.Procs.{procs_at}
 use Rattle.pmg_jobinfo.proofs.ListedLemmas.{listed_can_commit}
-use Rattle.pmg_holding.specs.Marking.{zeros}
-use Rattle.pmg_holding.specs.Sealers.{with_fresh}
+use Rattle.pmg_node_parts.specs.Marking.{zeros}
+use Rattle.pmg_node_parts.specs.Sealers.{with_fresh}
 use Rattle.pmg_node.specs.Servers.{IsNode}
 use Rattle.pmg_node.proofs.OpeningLemmas.{new_is_node, none_open}
-use Rattle.pmg_holding.proofs.SealerLemmas.{fresh_is}
+use Rattle.pmg_node_parts.proofs.SealerLemmas.{fresh_is}
 use Rattle.pmg_node.proofs.node.Node.new.Goals as goal
 
 pub fresh_sealers-requires : goal.fresh_sealers-requires

@@ -2,14 +2,14 @@ use Rattle.std.proofs.Common.{◌≡◌, ◌<◌, ◌+◌, ℕ, suc, arith, List
 use Rattle.pmg_value.specs.declared.process.Proc.{Proc}
 use Rattle.pmg_get.specs.declared.view.Mode.TheVariants as modes
 use Rattle.pmg_dmodex.specs.Refreshes.{Refreshes}
-use Rattle.pmg_holding.specs.Calls.{get_of}
-use Rattle.pmg_holding.specs.Codes.{Calls}
-use Rattle.pmg_rules.specs.Acts.{Act, Request, waits_as}
-use Rattle.pmg_rules.specs.Choosing.{Out, asking_anew, asking_for}
-use Rattle.pmg_rules.specs.Holdings.{Get, call_of}
-use Rattle.pmg_rules.specs.declared.due.Due.{Due}
-use Rattle.pmg_rules.specs.declared.sent.Sent.{Sent}
-use Rattle.pmg_rules.proofs.KeptSettled.{parks_anew}
+use Rattle.pmg_node_parts.specs.Calls.{get_of}
+use Rattle.pmg_node_parts.specs.Codes.{Calls}
+use Rattle.pmg_node_model.specs.Acts.{Act, Request, waits_as}
+use Rattle.pmg_node_model.specs.Choosing.{Out, asking_anew, asking_for}
+use Rattle.pmg_node_model.specs.Holdings.{Get, call_of}
+use Rattle.pmg_node_model.specs.declared.due.ToSend.{ToSend}
+use Rattle.pmg_node_model.specs.declared.sent.Sent.{Sent}
+use Rattle.pmg_node_model.proofs.KeptSettled.{parks_anew}
 use Rattle.pmg_node.specs.Content.{server_of, AreOpen}
 use Rattle.pmg_node.specs.Servers.{IsNode, Server, sent_by, after}
 use Rattle.pmg_node.proofs.AskLemmas.{ask_free, number_left, park_sends, park_moved, parks_sent}
@@ -56,7 +56,7 @@ module _ (c : In_default) where
   due : c.ask_home_anew.new.dues.items ≡ asking_for s.jobs s.id s.holding (Some (waits_as s.holding.requests get modes.Refresh))
   due =
       c.in_ok-ask_home_anew.ensures
-      ∙ ap (λ (ds : List Due). ds ++ asking_anew s.jobs s.id s.holding c.args.target.now (c.last_request-number.result + 1)) c.new-dues.ensures.items
+      ∙ ap (λ (ds : List ToSend). ds ++ asking_anew s.jobs s.id s.holding c.args.target.now (c.last_request-number.result + 1)) c.new-dues.ensures.items
       ∙ ap (asking_anew s.jobs s.id s.holding c.args.target.now) number_is
 
   pub sends_it : c.hand_out.new.out.items ≡ c.args.out.now.items ++ sent_by s (Act.request (Request.ask p get modes.Refresh))

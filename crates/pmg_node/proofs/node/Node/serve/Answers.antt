@@ -5,10 +5,10 @@ use Rattle.pmg_value.specs.declared.process.Proc.{Proc}
 use Rattle.pmg_scope.specs.declared.scope.Reach.TheVariants as reach
 use Rattle.pmg_pset.specs.Sets.{host}
 use Rattle.pmg_node.specs.Acting.{acted_reply, commit_joins, joins_in, joins_none, request_of}
-use Rattle.pmg_holding.specs.Calls.{get_of}
-use Rattle.pmg_rules.specs.Holdings.{sealer_of}
+use Rattle.pmg_node_parts.specs.Calls.{get_of}
+use Rattle.pmg_node_model.specs.Holdings.{sealer_of}
 use Rattle.pmg_node.specs.Joining.{joins}
-use Rattle.pmg_rules.specs.Acts.{Act, Request, Reply}
+use Rattle.pmg_node_model.specs.Acts.{Act, Request, Reply}
 use Rattle.pmg_node.specs.Replies.{asked_reply, defined_reply, ended_reply, release_reply, taking_reply}
 use Rattle.pmg_node.specs.Servers.{RepliesAct, reply_in}
 use Rattle.pmg_node.specs.declared.act.Request.{Request as AskedRequest}
@@ -26,63 +26,63 @@ returns-in_err-nudge-in-Nudge-clause-reply c =
 pub returns-in-Leave-clause-reply : goal.returns-in-Leave-clause-reply
 returns-in-Leave-clause-reply c =
     let s = c.args.self.now in
-    subst (λ (r : AskedRequest). RepliesAct acted_reply c.released.result s (Act.request (request_of r))) (sym c.in-Leave.is)
-    (entry_told release_reply joins_none c.take_release.result c.released.result s (Act.request (Request.leave c.in-Leave.proc)) c.released.ensures c.take_release.ensures.reply
+    subst (λ (r : AskedRequest). RepliesAct acted_reply c.as_released.result s (Act.request (request_of r))) (sym c.in-Leave.is)
+    (entry_told release_reply joins_none c.take_release.result c.as_released.result s (Act.request (Request.leave c.in-Leave.proc)) c.as_released.ensures c.take_release.ensures.reply
     (leave_short s.jobs s.id s.holding c.in-Leave.proc))
 
 pub returns-in-Leave-clause-memory : goal.returns-in-Leave-clause-memory
 returns-in-Leave-clause-memory c = λ is.
     let s = c.args.self.now in
     absurd (leave_short s.jobs s.id s.holding c.in-Leave.proc
-    (sym c.take_release.ensures.reply ∙ ap (reply_in release_reply) (entry_short release_reply joins_none c.take_release.result c.released.result c.released.ensures is)))
+    (sym c.take_release.ensures.reply ∙ ap (reply_in release_reply) (entry_short release_reply joins_none c.take_release.result c.as_released.result c.as_released.ensures is)))
 
 pub returns-in-Take-clause-reply : goal.returns-in-Take-clause-reply
 returns-in-Take-clause-reply c =
     let s = c.args.self.now in
-    subst (λ (r : AskedRequest). RepliesAct acted_reply c.taken.result s (Act.request (request_of r))) (sym c.in-Take.is)
-    (entry_told taking_reply joins_none c.take_answer.result c.taken.result s (Act.request (Request.take c.in-Take.proc)) c.taken.ensures c.take_answer.ensures.reply
+    subst (λ (r : AskedRequest). RepliesAct acted_reply c.as_taken.result s (Act.request (request_of r))) (sym c.in-Take.is)
+    (entry_told taking_reply joins_none c.take_answer.result c.as_taken.result s (Act.request (Request.take c.in-Take.proc)) c.as_taken.ensures c.take_answer.ensures.reply
     (take_short s.jobs s.id s.holding c.in-Take.proc))
 
 pub returns-in-Take-clause-memory : goal.returns-in-Take-clause-memory
 returns-in-Take-clause-memory c = λ is.
     let s = c.args.self.now in
     absurd (take_short s.jobs s.id s.holding c.in-Take.proc
-    (sym c.take_answer.ensures.reply ∙ ap (reply_in taking_reply) (entry_short taking_reply joins_none c.take_answer.result c.taken.result c.taken.ensures is)))
+    (sym c.take_answer.ensures.reply ∙ ap (reply_in taking_reply) (entry_short taking_reply joins_none c.take_answer.result c.as_taken.result c.as_taken.ensures is)))
 
 pub returns-in-Enter-clause-joined : goal.returns-in-Enter-clause-joined
 returns-in-Enter-clause-joined c =
     let s = c.args.self.now in
     let a : Act = Act.request (Request.enter c.in-Enter.proc c.in-Enter.list.items c.in-Enter.collect) in
-    subst (λ (r : AskedRequest). IfOk c.entered.result (λ acted. joins_in acted.joined ≡ joins s.jobs s.id s.holding (Act.request (request_of r)))) (sym c.in-Enter.is)
-    (nothing_told Reply.entered s a c.enter.result c.entered.result c.entered.ensures (joins_nothing s.jobs s.id s.holding a refl))
+    subst (λ (r : AskedRequest). IfOk c.as_entered.result (λ acted. joins_in acted.joined ≡ joins s.jobs s.id s.holding (Act.request (request_of r)))) (sym c.in-Enter.is)
+    (nothing_told Reply.entered s a c.enter.result c.as_entered.result c.as_entered.ensures (joins_nothing s.jobs s.id s.holding a refl))
 
 pub returns-in-Leave-clause-joined : goal.returns-in-Leave-clause-joined
 returns-in-Leave-clause-joined c =
     let s = c.args.self.now in
     let a : Act = Act.request (Request.leave c.in-Leave.proc) in
-    subst (λ (r : AskedRequest). IfOk c.released.result (λ acted. joins_in acted.joined ≡ joins s.jobs s.id s.holding (Act.request (request_of r)))) (sym c.in-Leave.is)
-    (nothing_told release_reply s a c.take_release.result c.released.result c.released.ensures (joins_nothing s.jobs s.id s.holding a refl))
+    subst (λ (r : AskedRequest). IfOk c.as_released.result (λ acted. joins_in acted.joined ≡ joins s.jobs s.id s.holding (Act.request (request_of r)))) (sym c.in-Leave.is)
+    (nothing_told release_reply s a c.take_release.result c.as_released.result c.as_released.ensures (joins_nothing s.jobs s.id s.holding a refl))
 
 pub returns-in-Ask-clause-joined : goal.returns-in-Ask-clause-joined
 returns-in-Ask-clause-joined c =
     let s = c.args.self.now in
     let a : Act = Act.request (Request.ask c.in-Ask.proc (get_of c.in-Ask.target c.in-Ask.key) c.in-Ask.mode) in
-    subst (λ (r : AskedRequest). IfOk c.asked.result (λ acted. joins_in acted.joined ≡ joins s.jobs s.id s.holding (Act.request (request_of r)))) (sym c.in-Ask.is)
-    (nothing_told asked_reply s a c.ask.result c.asked.result c.asked.ensures (joins_nothing s.jobs s.id s.holding a refl))
+    subst (λ (r : AskedRequest). IfOk c.as_asked.result (λ acted. joins_in acted.joined ≡ joins s.jobs s.id s.holding (Act.request (request_of r)))) (sym c.in-Ask.is)
+    (nothing_told asked_reply s a c.ask.result c.as_asked.result c.as_asked.ensures (joins_nothing s.jobs s.id s.holding a refl))
 
 pub returns-in-Take-clause-joined : goal.returns-in-Take-clause-joined
 returns-in-Take-clause-joined c =
     let s = c.args.self.now in
     let a : Act = Act.request (Request.take c.in-Take.proc) in
-    subst (λ (r : AskedRequest). IfOk c.taken.result (λ acted. joins_in acted.joined ≡ joins s.jobs s.id s.holding (Act.request (request_of r)))) (sym c.in-Take.is)
-    (nothing_told taking_reply s a c.take_answer.result c.taken.result c.taken.ensures (joins_nothing s.jobs s.id s.holding a refl))
+    subst (λ (r : AskedRequest). IfOk c.as_taken.result (λ acted. joins_in acted.joined ≡ joins s.jobs s.id s.holding (Act.request (request_of r)))) (sym c.in-Take.is)
+    (nothing_told taking_reply s a c.take_answer.result c.as_taken.result c.as_taken.ensures (joins_nothing s.jobs s.id s.holding a refl))
 
 pub returns-in-Terminate-clause-joined : goal.returns-in-Terminate-clause-joined
 returns-in-Terminate-clause-joined c =
     let s = c.args.self.now in
     let a : Act = Act.request (Request.terminate c.in-Terminate.proc) in
-    subst (λ (r : AskedRequest). IfOk c.ended.result (λ acted. joins_in acted.joined ≡ joins s.jobs s.id s.holding (Act.request (request_of r)))) (sym c.in-Terminate.is)
-    (sealed_told ended_reply s a c.in-Terminate.proc c.terminate.new.self (λ z. refl) (λ h. refl) c.terminate.result c.ended.result c.ended.ensures c.terminate.ensures.reply c.terminate.ensures.done
+    subst (λ (r : AskedRequest). IfOk c.as_ended.result (λ acted. joins_in acted.joined ≡ joins s.jobs s.id s.holding (Act.request (request_of r)))) (sym c.in-Terminate.is)
+    (sealed_told ended_reply s a c.in-Terminate.proc c.terminate.new.self (λ z. refl) (λ h. refl) c.terminate.result c.as_ended.result c.as_ended.ensures c.terminate.ensures.reply c.terminate.ensures.done
     (end_joined s c.in-Terminate.proc c.terminate.new.self reach.Near (λ z. z.near) (sealer_of s.holding c.in-Terminate.proc).level c.terminate.result c.terminate.ensures.reply c.terminate.ensures.done c.terminate.ensures.near)
     (end_joined s c.in-Terminate.proc c.terminate.new.self reach.Far (λ z. z.far) (sealer_of s.holding c.in-Terminate.proc).level c.terminate.result c.terminate.ensures.reply c.terminate.ensures.done c.terminate.ensures.far))
 
@@ -90,9 +90,9 @@ pub returns-in-Define-clause-joined : goal.returns-in-Define-clause-joined
 returns-in-Define-clause-joined c =
     let s = c.args.self.now in
     let a : Act = Act.request (Request.define c.in-Define.name c.deref-in-Define.result.now) in
-    subst (λ (r : AskedRequest). IfOk c.defined.result (λ acted. joins_in acted.joined ≡ joins s.jobs s.id s.holding (Act.request (request_of r)))) (sym c.in-Define.is)
-    (subst (λ (l : List Proc). IfOk c.defined.result (λ acted. joins_in acted.joined ≡ joins s.jobs s.id s.holding (Act.request (Request.define c.in-Define.name l)))) c.deref-in-Define.ensures.value
-    (sealed_told defined_reply s a host c.define_set.new.self (λ z. refl) (λ h. refl) c.define_set.result c.defined.result c.defined.ensures c.define_set.ensures.reply c.define_set.ensures.done
+    subst (λ (r : AskedRequest). IfOk c.as_defined.result (λ acted. joins_in acted.joined ≡ joins s.jobs s.id s.holding (Act.request (request_of r)))) (sym c.in-Define.is)
+    (subst (λ (l : List Proc). IfOk c.as_defined.result (λ acted. joins_in acted.joined ≡ joins s.jobs s.id s.holding (Act.request (Request.define c.in-Define.name l)))) c.deref-in-Define.ensures.value
+    (sealed_told defined_reply s a host c.define_set.new.self (λ z. refl) (λ h. refl) c.define_set.result c.as_defined.result c.as_defined.ensures c.define_set.ensures.reply c.define_set.ensures.done
     (sets_joined s.holding c.define_set.new.self.holding reach.Near (λ z. z.near) c.define_set.result c.define_set.ensures.near)
     (sets_joined s.holding c.define_set.new.self.holding reach.Far (λ z. z.far) c.define_set.result c.define_set.ensures.far)))
 
@@ -100,8 +100,8 @@ pub returns-in-Delete-clause-joined : goal.returns-in-Delete-clause-joined
 returns-in-Delete-clause-joined c =
     let s = c.args.self.now in
     let a : Act = Act.request (Request.delete c.in-Delete.name) in
-    subst (λ (r : AskedRequest). IfOk c.defined-in-Delete.result (λ acted. joins_in acted.joined ≡ joins s.jobs s.id s.holding (Act.request (request_of r)))) (sym c.in-Delete.is)
-    (sealed_told defined_reply s a host c.delete_set.new.self (λ z. refl) (λ h. refl) c.delete_set.result c.defined-in-Delete.result c.defined-in-Delete.ensures c.delete_set.ensures.reply c.delete_set.ensures.done
+    subst (λ (r : AskedRequest). IfOk c.as_defined-in-Delete.result (λ acted. joins_in acted.joined ≡ joins s.jobs s.id s.holding (Act.request (request_of r)))) (sym c.in-Delete.is)
+    (sealed_told defined_reply s a host c.delete_set.new.self (λ z. refl) (λ h. refl) c.delete_set.result c.as_defined-in-Delete.result c.as_defined-in-Delete.ensures c.delete_set.ensures.reply c.delete_set.ensures.done
     (sets_joined s.holding c.delete_set.new.self.holding reach.Near (λ z. z.near) c.delete_set.result c.delete_set.ensures.near)
     (sets_joined s.holding c.delete_set.new.self.holding reach.Far (λ z. z.far) c.delete_set.result c.delete_set.ensures.far))
 
@@ -109,36 +109,36 @@ pub returns-in_ok-nudge-in-Nudge-clause-joined : goal.returns-in_ok-nudge-in-Nud
 returns-in_ok-nudge-in-Nudge-clause-joined c =
     let s = c.args.self.now in
     let a : Act = Act.request Request.nudge in
-    c.alone.ensures.joined ∙ sym (joins_nothing s.jobs s.id s.holding a refl) ∙ ap (λ (r : AskedRequest). joins s.jobs s.id s.holding (Act.request (request_of r))) (sym c.in-Nudge.is)
+    c.reply_alone.ensures.joined ∙ sym (joins_nothing s.jobs s.id s.holding a refl) ∙ ap (λ (r : AskedRequest). joins s.jobs s.id s.holding (Act.request (request_of r))) (sym c.in-Nudge.is)
 
 pub returns-in-Enter-clause-reply : goal.returns-in-Enter-clause-reply
 returns-in-Enter-clause-reply c =
     let s = c.args.self.now in
-    subst (λ (r : AskedRequest). RepliesAct acted_reply c.entered.result s (Act.request (request_of r))) (sym c.in-Enter.is)
-    (subst (λ (l : List Proc). RepliesAct acted_reply c.entered.result s (Act.request (Request.enter c.in-Enter.proc l c.in-Enter.collect))) c.deref.ensures.value
-    (same_told Reply.entered joins_none c.enter.result c.entered.result s (Act.request (Request.enter c.in-Enter.proc c.deref.result.now c.in-Enter.collect)) c.entered.ensures c.enter.ensures.reply))
+    subst (λ (r : AskedRequest). RepliesAct acted_reply c.as_entered.result s (Act.request (request_of r))) (sym c.in-Enter.is)
+    (subst (λ (l : List Proc). RepliesAct acted_reply c.as_entered.result s (Act.request (Request.enter c.in-Enter.proc l c.in-Enter.collect))) c.deref.ensures.value
+    (same_told Reply.entered joins_none c.enter.result c.as_entered.result s (Act.request (Request.enter c.in-Enter.proc c.deref.result.now c.in-Enter.collect)) c.as_entered.ensures c.enter.ensures.reply))
 
 pub returns-in-Ask-clause-reply : goal.returns-in-Ask-clause-reply
 returns-in-Ask-clause-reply c =
     let s = c.args.self.now in
-    subst (λ (r : AskedRequest). RepliesAct acted_reply c.asked.result s (Act.request (request_of r))) (sym c.in-Ask.is)
-    (act_told asked_reply joins_none c.ask.result c.asked.result s (Act.request (Request.ask c.in-Ask.proc (get_of c.in-Ask.target c.in-Ask.key) c.in-Ask.mode)) c.asked.ensures c.ask.ensures.reply)
+    subst (λ (r : AskedRequest). RepliesAct acted_reply c.as_asked.result s (Act.request (request_of r))) (sym c.in-Ask.is)
+    (act_told asked_reply joins_none c.ask.result c.as_asked.result s (Act.request (Request.ask c.in-Ask.proc (get_of c.in-Ask.target c.in-Ask.key) c.in-Ask.mode)) c.as_asked.ensures c.ask.ensures.reply)
 
 pub returns-in-Terminate-clause-reply : goal.returns-in-Terminate-clause-reply
 returns-in-Terminate-clause-reply c =
     let s = c.args.self.now in
-    subst (λ (r : AskedRequest). RepliesAct acted_reply c.ended.result s (Act.request (request_of r))) (sym c.in-Terminate.is)
-    (act_told ended_reply commit_joins c.terminate.result c.ended.result s (Act.request (Request.terminate c.in-Terminate.proc)) c.ended.ensures c.terminate.ensures.reply)
+    subst (λ (r : AskedRequest). RepliesAct acted_reply c.as_ended.result s (Act.request (request_of r))) (sym c.in-Terminate.is)
+    (act_told ended_reply commit_joins c.terminate.result c.as_ended.result s (Act.request (Request.terminate c.in-Terminate.proc)) c.as_ended.ensures c.terminate.ensures.reply)
 
 pub returns-in-Define-clause-reply : goal.returns-in-Define-clause-reply
 returns-in-Define-clause-reply c =
     let s = c.args.self.now in
-    subst (λ (r : AskedRequest). RepliesAct acted_reply c.defined.result s (Act.request (request_of r))) (sym c.in-Define.is)
-    (subst (λ (l : List Proc). RepliesAct acted_reply c.defined.result s (Act.request (Request.define c.in-Define.name l))) c.deref-in-Define.ensures.value
-    (act_told defined_reply commit_joins c.define_set.result c.defined.result s (Act.request (Request.define c.in-Define.name c.deref-in-Define.result.now)) c.defined.ensures c.define_set.ensures.reply))
+    subst (λ (r : AskedRequest). RepliesAct acted_reply c.as_defined.result s (Act.request (request_of r))) (sym c.in-Define.is)
+    (subst (λ (l : List Proc). RepliesAct acted_reply c.as_defined.result s (Act.request (Request.define c.in-Define.name l))) c.deref-in-Define.ensures.value
+    (act_told defined_reply commit_joins c.define_set.result c.as_defined.result s (Act.request (Request.define c.in-Define.name c.deref-in-Define.result.now)) c.as_defined.ensures c.define_set.ensures.reply))
 
 pub returns-in-Delete-clause-reply : goal.returns-in-Delete-clause-reply
 returns-in-Delete-clause-reply c =
     let s = c.args.self.now in
-    subst (λ (r : AskedRequest). RepliesAct acted_reply c.defined-in-Delete.result s (Act.request (request_of r))) (sym c.in-Delete.is)
-    (act_told defined_reply commit_joins c.delete_set.result c.defined-in-Delete.result s (Act.request (Request.delete c.in-Delete.name)) c.defined-in-Delete.ensures c.delete_set.ensures.reply)
+    subst (λ (r : AskedRequest). RepliesAct acted_reply c.as_defined-in-Delete.result s (Act.request (request_of r))) (sym c.in-Delete.is)
+    (act_told defined_reply commit_joins c.delete_set.result c.as_defined-in-Delete.result s (Act.request (Request.delete c.in-Delete.name)) c.as_defined-in-Delete.ensures c.delete_set.ensures.reply)

@@ -1,8 +1,8 @@
 use Rattle.std.proofs.Common.{refl, sym, ap, subst, ◌∙◌}
 use Rattle.std.specs.FinMap as finite
 use Rattle.std.specs.Option.{option_map}
-use Rattle.pmg_rules.specs.Acts.{Act, Request, Done}
-use Rattle.pmg_holding.specs.Codes as codes
+use Rattle.pmg_node_model.specs.Acts.{Act, Request, Done}
+use Rattle.pmg_node_parts.specs.Codes as codes
 use Rattle.pmg_node.specs.Content.{server_of}
 use Rattle.pmg_node.specs.Replies.{taking_reply, answered_reply, pending_reply}
 use Rattle.pmg_node.specs.Servers.{Server, IsNode}

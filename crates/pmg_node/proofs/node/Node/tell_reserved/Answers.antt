@@ -4,7 +4,7 @@ use Rattle.pmg_value.specs.CheckOrder.{first_of}
 use Rattle.pmg_jobinfo.specs.Jobs.{Jobs}
 use Rattle.pmg_jobinfo.specs.Refusing.{reserved_cause}
 use Rattle.pmg_jobinfo.specs.Reserved.{reserved_value}
-use Rattle.pmg_holding.specs.Calls.{get_of}
+use Rattle.pmg_node_parts.specs.Calls.{get_of}
 use Rattle.pmg_node.specs.Servers.{Server, IsNode}
 use Rattle.pmg_node.proofs.AskLemmas.{reserved_found, reserved_refuses}
 use Rattle.pmg_node.proofs.node.Node.tell_reserved.Goals as goal

@@ -6,15 +6,15 @@ use Rattle.pmg_scope.specs.declared.scope.Reach.TheVariants as reach
 use Rattle.pmg_commit.specs.Sealed.{ended_with, piece_at}
 use Rattle.pmg_fence.specs.Codes.{Known}
 use Rattle.pmg_dmodex.specs.Requests.{Requests}
-use Rattle.pmg_rules.specs.Acts.{Act, Request, Reply, caller_cause}
+use Rattle.pmg_node_model.specs.Acts.{Act, Request, Reply, caller_cause}
 use Rattle.pmg_node.specs.Content.{server_of}
 use Rattle.pmg_node.specs.Endings.{table_ended}
-use Rattle.pmg_rules.specs.Holdings.{sealer_of}
-use Rattle.pmg_holding.specs.Owns.{Own, sealed_of}
+use Rattle.pmg_node_model.specs.Holdings.{sealer_of}
+use Rattle.pmg_node_parts.specs.Owns.{LocalCommits, sealed_of}
 use Rattle.pmg_node.specs.Servers.{Server, IsNode, reply_to, sent_by, after}
-use Rattle.pmg_rules.specs.declared.sent.Sent.{Sent}
-use Rattle.pmg_holding.specs.Answered.{ArePlain}
-use Rattle.pmg_holding.proofs.AnswerLemmas.{plain_calls}
+use Rattle.pmg_node_model.specs.declared.sent.Sent.{Sent}
+use Rattle.pmg_node_parts.specs.Answered.{ArePlain}
+use Rattle.pmg_node_parts.proofs.AnswerLemmas.{plain_calls}
 use Rattle.pmg_node.proofs.ActLemmas.{refused_after, refused_sent}
 use Rattle.pmg_node.proofs.EndLemmas.{put_there, own_ended_level, may_end, end_refused, end_refuses, end_accepted, level_rises, piece_is, ended_reply, ended_sent, ended_after}
 use Rattle.pmg_node.proofs.NodeKept.{node_stays}
@@ -67,13 +67,13 @@ publish-told-requires-clause-level c =
     let p = c.args.proc.now in
     let may = may_end s.jobs s.id s.holding p (sym c.check_caller.ensures ∙ c.in_default.is) in
     level_rises c.level-from.result (sealed_of c.self.inside.own p).level (sealed_of c.end.new.own p).level c.level-from.ensures.value
-    (ap (λ (o : Own). (sealed_of o p).level) c.in-Ok.ensures.own ∙ own_ended_level c.self.inside.own p may.client)
+    (ap (λ (o : LocalCommits). (sealed_of o p).level) c.in-Ok.ensures.own ∙ own_ended_level c.self.inside.own p may.client)
 
 pub keep_end-kept-requires-clause-there : goal.keep_end-kept-requires-clause-there
 keep_end-kept-requires-clause-there c =
     let p = c.args.proc.now in
     let own = c.self.inside.own in
-    ap (λ (o : Own). is_some (finite.get o.sealers p)) c.in-Ok.ensures.own ∙ put_there own.sealers p (ended_with (sealed_of own p))
+    ap (λ (o : LocalCommits). is_some (finite.get o.sealers p)) c.in-Ok.ensures.own ∙ put_there own.sealers p (ended_with (sealed_of own p))
 
 pub returns-in_default-kept-clause-reply : goal.returns-in_default-kept-clause-reply
 returns-in_default-kept-clause-reply c = end_accepted c.args.self.now c.args.proc.now (sym c.check_caller.ensures ∙ c.in_default.is)
@@ -95,7 +95,7 @@ invariant_of-self-2 c =
     c.in-Ok.ensures.own (ap (λ (k : Known). k.fences) ended) c.level-from.ensures.value are c.in-Ok.ensures.dues
     c.publish-told.new.board.near c.publish-told.new.board.far c.end_calls.new.calls c.settle.new.self.held c.publish-told.new.marks c.level-level.result c.settle.new.self.anew.last
     (IfOk-at_ok _ told c.publish-told.ensures.joined_near) (IfOk-at_ok _ told c.publish-told.ensures.joined_far) c.end_calls.ensures
-    (c.level-level.ensures.value ∙ ap (λ (o : Own). (sealed_of o p).level) c.in-Ok-kept.ensures.own) (ap (λ (r : Requests). r.held) c.settle.ensures) (ap (λ (r : Requests). r.anew.last) c.settle.ensures)
+    (c.level-level.ensures.value ∙ ap (λ (o : LocalCommits). (sealed_of o p).level) c.in-Ok-kept.ensures.own) (ap (λ (r : Requests). r.held) c.settle.ensures) (ap (λ (r : Requests). r.anew.last) c.settle.ensures)
     (IfOk-at_ok _ told c.publish-told.ensures.marks)
     ∙ ap (λ (x : Server). after x (Act.request (Request.terminate p))) c.self.view_is in
     let kept = subst IsNode c.self.view_is c.self.invariant.node in
@@ -122,7 +122,7 @@ returns-clause-reply c =
     ap (λ (x : Server). reply_to x (Act.request (Request.terminate p))) (sym c.self.view_is)
     ∙ ended_reply s p free c.self.invariant.node.server table.jobs c.end.new.own table.fences c.level-from.result answers c.in-Ok.dues.items (ap (λ (k : Known). k.jobs) ended)
     c.in-Ok.ensures.own (ap (λ (k : Known). k.fences) ended) c.level-from.ensures.value are c.in-Ok.ensures.dues
-    ∙ ap Reply.ended (sym (c.level-level.ensures.value ∙ ap (λ (o : Own). (sealed_of o p).level) c.in-Ok-kept.ensures.own))
+    ∙ ap Reply.ended (sym (c.level-level.ensures.value ∙ ap (λ (o : LocalCommits). (sealed_of o p).level) c.in-Ok-kept.ensures.own))
 
 pub returns-clause-done : goal.returns-clause-done
 returns-clause-done c =
@@ -141,7 +141,7 @@ returns-clause-done c =
     c.in-Ok.ensures.own (ap (λ (k : Known). k.fences) ended) c.level-from.ensures.value are c.in-Ok.ensures.dues
     c.publish-told.new.board.near c.publish-told.new.board.far c.end_calls.new.calls c.settle.new.self.held c.publish-told.new.marks c.level-level.result c.settle.new.self.anew.last
     (IfOk-at_ok _ told c.publish-told.ensures.joined_near) (IfOk-at_ok _ told c.publish-told.ensures.joined_far) c.end_calls.ensures
-    (c.level-level.ensures.value ∙ ap (λ (o : Own). (sealed_of o p).level) c.in-Ok-kept.ensures.own) (ap (λ (r : Requests). r.held) c.settle.ensures) (ap (λ (r : Requests). r.anew.last) c.settle.ensures)
+    (c.level-level.ensures.value ∙ ap (λ (o : LocalCommits). (sealed_of o p).level) c.in-Ok-kept.ensures.own) (ap (λ (r : Requests). r.held) c.settle.ensures) (ap (λ (r : Requests). r.anew.last) c.settle.ensures)
     (IfOk-at_ok _ told c.publish-told.ensures.marks)
     ∙ ap (λ (x : Server). after x (Act.request (Request.terminate p))) c.self.view_is in
     λ answered. moved

@@ -1,6 +1,6 @@
 use Rattle.std.proofs.Common.{sym, ap, ◌∙◌}
-use Rattle.pmg_holding.specs.Calls.{get_of}
-use Rattle.pmg_rules.specs.Holdings.{answer_in}
+use Rattle.pmg_node_parts.specs.Calls.{get_of}
+use Rattle.pmg_node_model.specs.Holdings.{answer_in}
 use Rattle.pmg_node.proofs.AskLemmas.{now_told}
 use Rattle.pmg_node.proofs.node.Node.wait.Goals as goal
 

@@ -6,7 +6,7 @@ use Rattle.pmg_value.proofs.ProcessOrder.{procs_total, exact_procs}
 use Rattle.pmg_value.proofs.RowLemmas.{at_key, changed_there, changed_nowhere, found_is, some_found}
 use Rattle.pmg_dmodex.proofs.InnerLemmas.{kept_is}
 use Rattle.pmg_scope.specs.Cached.{Cached, after_commit, no_puts}
-use Rattle.pmg_world.specs.Caching.{cached_by}
+use Rattle.pmg_world.specs.Caching.{cached_for}
 use Rattle.pmg_world.proofs.caches.Caches.mark_sealed.Goals as goal
 use Rattle.pmg_world.proofs.caches.Caches.mark_sealed.Goals.{in-Some, in_default}
 use Rattle.pmg_world.specs.contracts.caches.Caches.{the_view}
@@ -27,5 +27,5 @@ returns c =
       | in_default w ↦
           ap the_view w.self-inside-is
           ∙ ap (λ a. map_of a.entries) c.get_mut.follows.holds-at-none
-          ∙ changed_nowhere procs_total exact_procs (λ (z : Cached). z) old all p (after_commit (cached_by all p)) c.self.view_is w.in_default.ensures.value
+          ∙ changed_nowhere procs_total exact_procs (λ (z : Cached). z) old all p (after_commit (cached_for all p)) c.self.view_is w.in_default.ensures.value
     ]

@@ -11,7 +11,7 @@ use Rattle.pmg_value.proofs.ProcessOrder.{procs_total, exact_procs}
 use Rattle.pmg_value.proofs.RowLemmas.{at_key, found_is, rows_with, some_found}
 use Rattle.pmg_dmodex.proofs.InnerLemmas.{kept_is, put_there, put_same}
 use Rattle.pmg_scope.specs.Cached.{Cached, no_puts, put_cause, with_put}
-use Rattle.pmg_world.specs.Caching.{AllCached, cached_by}
+use Rattle.pmg_world.specs.Caching.{AllCached, cached_for}
 use Rattle.pmg_world.proofs.caches.Caches.put.Goals as goal
 
 pub returns-in-Some-clause-answer : goal.returns-in-Some-clause-answer
@@ -41,7 +41,7 @@ returns-in-Some-clause-err c =
     c.put.ensures.err
 
 -- nobody put anything under the process yet
-abbrev fresh : (all : AllCached) (p : _) → finite.get all p ≡ None → cached_by all p ≡ no_puts
+abbrev fresh : (all : AllCached) (p : _) → finite.get all p ≡ None → cached_for all p ≡ no_puts
 fresh all p none = ap (λ o. unwrap_or o no_puts) none
 
 pub returns-in_err-put-clause-answer : goal.returns-in_err-put-clause-answer

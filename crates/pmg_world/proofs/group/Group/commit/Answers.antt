@@ -5,12 +5,12 @@ use Rattle.pmg_value.specs.declared.refusal.Refusal.{Refusal}
 use Rattle.pmg_value.specs.declared.refusal.Refusal.TheVariants as refusals
 use Rattle.pmg_scope.specs.Cached.{after_commit, unsealed_of}
 use Rattle.pmg_value.specs.Rows.{changed_at}
-use Rattle.pmg_rules.specs.Acts.{Act, says}
-use Rattle.pmg_rules.specs.Fitting.{is_refusal, unless_refused}
+use Rattle.pmg_node_model.specs.Acts.{Act, says}
+use Rattle.pmg_node_model.specs.Fitting.{is_refusal, unless_refused}
 use Rattle.pmg_node.specs.declared.act.Reply.{Reply as GivenReply}
-use Rattle.pmg_world.specs.Caching.{AllCached, cached_by}
+use Rattle.pmg_world.specs.Caching.{AllCached, cached_for}
 use Rattle.pmg_world.specs.Keeping.{AreCaches, replied}
-use Rattle.pmg_runs.specs.Worlds.{Doing, Event, cache_of}
+use Rattle.pmg_group_model.specs.Worlds.{Doing, Event, cache_of}
 use Rattle.pmg_world.specs.declared.group.Group.{Group}
 use Rattle.pmg_world.proofs.ClientLemmas.{commit_seals, unsealed_is}
 use Rattle.pmg_world.proofs.GroupLemmas.{acts_on, happens_by, inside_is_node, no_refusal, outside_is_none, refused_stays, short_happens}
@@ -53,7 +53,7 @@ returns-in-Ok-clause-step c =
     (commit_there g.registry w c.args.index p (inside_is_node g w stands c.args.index inside) ∙ ap (Doing.at_node c.args.index) same_act)
     (subst (λ q. AreCaches new.caches (unless_refused (is_refusal (replied (Ok c.in-Ok.reply))) w.scripts (says g.registry (Act.commit q c.in_ok-batch.batch)))) (sym c.in_ok-copy.ensures)
     (commit_seals g.caches w.scripts stands.caches g.registry _ p _ new.caches (no_refusal c.in-Ok.reply)
-    (c.mark_sealed.ensures ∙ ap (λ (x : AllCached). changed_at x p (after_commit (cached_by x p))) done.caches))))
+    (c.mark_sealed.ensures ∙ ap (λ (x : AllCached). changed_at x p (after_commit (cached_for x p))) done.caches))))
 
 pub returns-clause-step : goal.returns-clause-step
 returns-clause-step c =

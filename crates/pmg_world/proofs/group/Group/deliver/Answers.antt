@@ -2,12 +2,12 @@ use Rattle.std.proofs.Common.{◌≡◌, ◌<◌, ◌-◌, suc, List, length, So
 use Rattle.std.proofs.lemmas.Bool.Decides.{nat_tests}
 use Rattle.std.proofs.lemmas.Result.{err_from_is_err_and}
 use Rattle.pmg_value.specs.declared.refusal.Refusal.TheVariants as refusals
-use Rattle.pmg_rules.specs.Acts.{Act, says}
-use Rattle.pmg_rules.specs.Fitting.{is_refusal, unless_refused}
-use Rattle.pmg_rules.specs.declared.sent.Sent.{Sent}
+use Rattle.pmg_node_model.specs.Acts.{Act, says}
+use Rattle.pmg_node_model.specs.Fitting.{is_refusal, unless_refused}
+use Rattle.pmg_node_model.specs.declared.sent.Sent.{Sent}
 use Rattle.pmg_world.specs.Caching.{AllCached}
 use Rattle.pmg_world.specs.Keeping.{AreCaches, replied}
-use Rattle.pmg_runs.specs.Worlds.{Doing, Event, numbered}
+use Rattle.pmg_group_model.specs.Worlds.{Doing, Event, numbered}
 use Rattle.pmg_world.proofs.ClientLemmas.{frame_keeps}
 use Rattle.pmg_world.proofs.GroupLemmas.{acts_on, happens_by, peer_inside, refused_stays, short_happens}
 use Rattle.pmg_world.proofs.HappenLemmas.{frame_nowhere, frame_there, numbered_past, numbered_there, numbered_zero}

@@ -7,9 +7,9 @@ use Rattle.pmg_value.specs.declared.refusal.Refusal.TheVariants as refusals
 use Rattle.pmg_jobinfo.specs.Jobs.{home_of}
 use Rattle.pmg_node.specs.declared.act.Reply.TheVariants as replies
 use Rattle.pmg_scope.specs.Cached.{put_cause, with_put}
-use Rattle.pmg_world.specs.Caching.{AllCached, cached_by}
+use Rattle.pmg_world.specs.Caching.{AllCached, cached_for}
 use Rattle.pmg_world.specs.Keeping.{Happens}
-use Rattle.pmg_runs.specs.Worlds.{Event}
+use Rattle.pmg_group_model.specs.Worlds.{Event}
 use Rattle.pmg_world.specs.declared.group.Group.{Group}
 use Rattle.pmg_world.proofs.CauseLemmas.{fails_due}
 use Rattle.pmg_world.proofs.GroupLemmas.{happens_by, not_short, short_happens, node_there}
@@ -55,14 +55,14 @@ returns-in-Ok-clause-step c =
     let new : Group = record { registry = g.registry; nodes = g.nodes; caches = c.put.new.self; sent = g.sent } in
     let same_key : c.in_ok-copy.field-0 ≡ key = c.in_ok-copy.ensures in
     let same_value : spelling c.in_ok-copy-2.field-0 ≡ value = ap spelling c.in_ok-copy-2.ensures in
-    let there = (λ i. first_of (put_cause (cached_by g.caches p) scope (sym same_key i) (sym same_value i)) (tt {0})) ∙ c.in-Ok.ensures.answer in
+    let there = (λ i. first_of (put_cause (cached_for g.caches p) scope (sym same_key i) (sym same_value i)) (tt {0})) ∙ c.in-Ok.ensures.answer in
     happens_by g (Event.put p scope key value) (Ok replies.Done) new refl
     (λ is w stands.
     let s = c.index.result.now in
     let of = node_there g w stands (home_of g.registry p) c.home_of-home.result s c.home_of-home.ensures.value c.home_of-home.ensures.bound c.index.ensures in
     put_done g w stands p scope key value (sym c.is_bad_put.ensures ∙ c.if-is_bad_put.false)
     (free_at g.registry (home_of g.registry p) (w.nodes (home_of g.registry p)) s p (Ok tt) of c.in_default.ensures)
-    new there refl refl refl (c.in-Ok.ensures.ok ∙ (λ i. finite.insert g.caches p (with_put (cached_by g.caches p) scope (same_key i) (same_value i)))))
+    new there refl refl refl (c.in-Ok.ensures.ok ∙ (λ i. finite.insert g.caches p (with_put (cached_for g.caches p) scope (same_key i) (same_value i)))))
 
 pub returns-in-Err-put-clause-step : goal.returns-in-Err-put-clause-step
 returns-in-Err-put-clause-step c =
@@ -82,4 +82,4 @@ returns-in-Err-put-clause-step c =
     let due = fails_due e _ c.in-Err-put.ensures.answer (λ short. not_short (Err e) (ap Err short) is) in
     put_full g w stands p scope key value (sym c.is_bad_put.ensures ∙ c.if-is_bad_put.false)
     (free_at g.registry (home_of g.registry p) (w.nodes (home_of g.registry p)) s p (Ok tt) of c.in_default.ensures)
-    e ((λ i. first_of (put_cause (cached_by g.caches p) scope (sym same_key i) (sym same_value i)) (tt {0})) ∙ due)))
+    e ((λ i. first_of (put_cause (cached_for g.caches p) scope (sym same_key i) (sym same_value i)) (tt {0})) ∙ due)))

@@ -4,11 +4,11 @@ use Rattle.std.proofs.lemmas.Bool.Decides.{nat_tests}
 use Rattle.std.proofs.lemmas.Result.{err_from_is_err_and}
 use Rattle.pmg_value.specs.declared.refusal.Refusal.TheVariants as refusals
 use Rattle.pmg_node.specs.Acting.{request_of}
-use Rattle.pmg_rules.specs.Acts.{Act, says}
-use Rattle.pmg_rules.specs.Fitting.{is_refusal, unless_refused}
-use Rattle.pmg_world.specs.Caching.{AllCached, cached_by}
+use Rattle.pmg_node_model.specs.Acts.{Act, says}
+use Rattle.pmg_node_model.specs.Fitting.{is_refusal, unless_refused}
+use Rattle.pmg_world.specs.Caching.{AllCached, cached_for}
 use Rattle.pmg_world.specs.Keeping.{AreCaches, replied}
-use Rattle.pmg_runs.specs.Worlds.{Doing, Event, reply_in}
+use Rattle.pmg_group_model.specs.Worlds.{Doing, Event, reply_or_refusal}
 use Rattle.pmg_world.proofs.ClientLemmas.{request_keeps}
 use Rattle.pmg_world.proofs.GroupLemmas.{acts_on, happens_by, inside_is_node, node_there, outside_is_none, refused_stays, says_nothing, short_happens, stays}
 use Rattle.pmg_world.proofs.HappenLemmas.{at_node_is, own_answer_is, own_due, own_is_due, request_nowhere, request_there}
@@ -44,7 +44,7 @@ returns-in-Some-clause-step c =
     let of = node_there g w stands index index s refl inside c.index.ensures in
     stays g w stands (Event.request index r) (own_due g.registry w index p key) None (replied c.own_get.result)
     (request_there g.registry w index r (inside_is_node g w stands index inside) ∙ own_is_due g.registry w index r p key own)
-    (c.own_get.ensures is ∙ ap reply_in (own_answer_is g.registry w index s (cached_by g.caches p) p key of (stands.caches p)))
+    (c.own_get.ensures is ∙ ap reply_or_refusal (own_answer_is g.registry w index s (cached_for g.caches p) p key of (stands.caches p)))
     (says_nothing (is_refusal (replied c.own_get.result)) w.scripts))
 
 pub returns-in_ok-copy-in-None-clause-step : goal.returns-in_ok-copy-in-None-clause-step

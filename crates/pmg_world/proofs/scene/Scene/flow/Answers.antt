@@ -4,16 +4,16 @@ use Rattle.pmg_world.specs.Accounts.{Account, Adds}
 use Rattle.pmg_world.specs.Delivering.{IsNoted, missing}
 use Rattle.pmg_world.specs.ReplyLines.{flow_line}
 use Rattle.pmg_world.specs.Stages.{Flows}
-use Rattle.pmg_runs.specs.Worlds.{Event}
+use Rattle.pmg_group_model.specs.Worlds.{Event}
 use Rattle.pmg_world.specs.declared.event.Event.{Event as ToldEvent}
-use Rattle.pmg_world.specs.declared.event.Told.{Told}
+use Rattle.pmg_world.specs.declared.event.LoggedEvent.{LoggedEvent}
 use Rattle.pmg_world.proofs.Scenes.{noted_after, flows_all}
 use Rattle.pmg_world.proofs.scene.Scene.flow.Goals as goal
 
 pub invariant_of-self-in-Ok : goal.invariant_of-self-in-Ok
 invariant_of-self-in-Ok c =
     noted_after c.self.inside.world.told c.run.new.self.told c.deref.result.now c.note.new.self c.in-Ok.ensures.told
-    (subst (λ (xs : List Told). IsNoted xs c.note.new.self) c.events.ensures c.in_ok-note.ensures.noted)
+    (subst (λ (xs : List LoggedEvent). IsNoted xs c.note.new.self) c.events.ensures c.in_ok-note.ensures.noted)
 
 pub returns-in-Ok : goal.returns-in-Ok
 returns-in-Ok c =
@@ -24,7 +24,7 @@ returns-in-Ok c =
     (λ text line.
     subst (λ (w : Account). Flows w text.items c.run.new.self) c.self.view_is
     (flows_all c.self.inside.world c.run.new.self c.note.new.self c.in_ok-events.events.items text.items c.in-Ok.ensures.jobs
-    (subst (λ (xs : List Told). IsNoted xs c.note.new.self) c.events.ensures c.in_ok-note.ensures.noted) (c.in_ok-note.ensures.seen ∙ ap length c.events.ensures)
+    (subst (λ (xs : List LoggedEvent). IsNoted xs c.note.new.self) c.events.ensures c.in_ok-note.ensures.noted) (c.in_ok-note.ensures.seen ∙ ap length c.events.ensures)
     (c.in_ok-events.ensures ∙ ap (λ n. map Event.deliver (missing c.note.new.self.frames n)) count) adds c.in-Ok.ensures.goes_on c.in-Ok.ensures.run c.in-Ok.ensures.lawful
     (line ∙ ap flow_line size)))
     c.flow_line.ensures
@@ -32,4 +32,4 @@ returns-in-Ok c =
 pub invariant_of-self-2 : goal.invariant_of-self-2
 invariant_of-self-2 c =
     noted_after c.self.inside.world.told c.run.new.self.told (take c.in-Err.field-0.done c.deref.result.now) c.note.new.self c.in-Err.ensures.done
-    (subst (λ (xs : List Told). IsNoted xs c.note.new.self) c.events.ensures c.in_ok-note.ensures.noted)
+    (subst (λ (xs : List LoggedEvent). IsNoted xs c.note.new.self) c.events.ensures c.in_ok-note.ensures.noted)

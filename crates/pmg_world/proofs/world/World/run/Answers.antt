@@ -1,14 +1,14 @@
 use Rattle.std.proofs.Common.{◌≡◌, List, [], length, take, sym, ap, subst, ◌∙◌, add-one, arith}
 use Rattle.std.proofs.Math.Seq.{take-length}
-use Rattle.pmg_world.specs.Accounts.{Account, Adds, GoesOn, IsKept, IsLed, IsRun, account_of}
-use Rattle.pmg_world.specs.declared.event.Told.{Told}
+use Rattle.pmg_world.specs.Accounts.{Account, Adds, GoesOn, IsAccountLawful, IsLed, IsRun, account_of}
+use Rattle.pmg_world.specs.declared.event.LoggedEvent.{LoggedEvent}
 use Rattle.pmg_world.specs.declared.group.Group.{Group}
 use Rattle.pmg_world.specs.declared.event.Event.{Event as ToldEvent}
 use Rattle.pmg_world.proofs.LedLemmas.{adds_next, adds_none, goes_on_more, goes_on_same, led_kept, led_run}
 use Rattle.pmg_world.proofs.world.World.run.Goals as goal
 
 -- a world with room for more is the world that it was
-module _ (group : Group) (old new : List Told) (now : Account) (led : IsLed group old) (view : account_of group old ≡ now) (kept : new ≡ old) where
+module _ (group : Group) (old new : List LoggedEvent) (now : Account) (led : IsLed group old) (view : account_of group old ≡ now) (kept : new ≡ old) where
   same_world : account_of group new ≡ now
   same_world = ap (account_of group) kept ∙ view
 
@@ -16,10 +16,10 @@ module _ (group : Group) (old new : List Told) (now : Account) (led : IsLed grou
   no_event = subst (λ (a : Account). Adds now.told [] a.told) (sym same_world) (adds_none now.told)
 
   run_still : IsRun (account_of group new)
-  run_still = subst (λ (l : List Told). IsRun (account_of group l)) (sym kept) (led_run group old led)
+  run_still = subst (λ (l : List LoggedEvent). IsRun (account_of group l)) (sym kept) (led_run group old led)
 
-  kept_still : IsKept (account_of group new)
-  kept_still = subst (λ (l : List Told). IsKept (account_of group l)) (sym kept) (led_kept group old led)
+  kept_still : IsAccountLawful (account_of group new)
+  kept_still = subst (λ (l : List LoggedEvent). IsAccountLawful (account_of group l)) (sym kept) (led_kept group old led)
 
   goes_on_still : GoesOn now (account_of group new)
   goes_on_still = goes_on_same now (account_of group new) same_world

@@ -1,6 +1,6 @@
 use Rattle.std.proofs.Common.{List, [], ◌∷◌, ◌++◌, refl, sym, ap, subst, ◌∙◌}
 use Rattle.pmg_world.specs.Accounts.{Account, GoesOn, IsLed, account_of}
-use Rattle.pmg_world.specs.declared.event.Told.{Told}
+use Rattle.pmg_world.specs.declared.event.LoggedEvent.{LoggedEvent}
 use Rattle.pmg_world.proofs.LedLemmas.{adds_one, goes_on_same, happens_jobs, led_goes_on, led_group, led_kept, led_more, led_run, same_account, same_led}
 use Rattle.pmg_world.proofs.world.World.step.Goals as goal
 
@@ -67,7 +67,7 @@ returns-then-is_short-clause-goes_on c =
 -- the event, with its answer, is told
 led_after : (c : goal.In-Ok) → IsLed c.happen-answer.new.self c.push.new.self.items
 led_after c =
-    let t : Told = record { event = c.in_ok-event.event; answer = c.happen-answer.result } in
+    let t : LoggedEvent = record { event = c.in_ok-event.event; answer = c.happen-answer.result } in
     subst (IsLed c.happen-answer.new.self) (sym c.in-Ok.ensures.items)
     (led_more c.self.inside.group c.happen-answer.new.self c.reserve.new.self.items t c.happen-answer.result (subst (IsLed c.self.inside.group) (sym c.reserve.ensures.items) c.self.invariant)
     (c.is_short.ensures.answered c.if-is_short.false) refl c.happen-answer.ensures.step)
@@ -77,15 +77,15 @@ invariant_of-self-2 c = led_after c
 
 pub returns-clause-jobs : goal.returns-clause-jobs
 returns-clause-jobs c =
-    let t : Told = record { event = c.in_ok-event.event; answer = c.happen-answer.result } in
+    let t : LoggedEvent = record { event = c.in_ok-event.event; answer = c.happen-answer.result } in
     happens_jobs c.self.inside.group c.reserve.new.self.items t c.happen-answer.result c.happen-answer.new.self (c.is_short.ensures.answered c.if-is_short.false) c.happen-answer.ensures.step
     ∙ ap (λ (a : Account). a.jobs) c.self.view_is
 
 pub returns-clause-told : goal.returns-clause-told
 returns-clause-told c =
-    let t : Told = record { event = c.in_ok-event.event; answer = c.happen-answer.result } in
+    let t : LoggedEvent = record { event = c.in_ok-event.event; answer = c.happen-answer.result } in
     adds_one c.args.self.now.told c.args.event.now t c.push.new.self.items
-    (c.in-Ok.ensures.items ∙ ap (λ (l : List Told). l ++ t ∷ []) (c.reserve.ensures.items ∙ ap (λ (a : Account). a.told) c.self.view_is)) c.in_ok-event.ensures
+    (c.in-Ok.ensures.items ∙ ap (λ (l : List LoggedEvent). l ++ t ∷ []) (c.reserve.ensures.items ∙ ap (λ (a : Account). a.told) c.self.view_is)) c.in_ok-event.ensures
 
 pub returns-clause-run : goal.returns-clause-run
 returns-clause-run c = led_run c.happen-answer.new.self c.push.new.self.items (led_after c)
@@ -95,10 +95,10 @@ returns-clause-lawful c = led_kept c.happen-answer.new.self c.push.new.self.item
 
 pub returns-clause-goes_on : goal.returns-clause-goes_on
 returns-clause-goes_on c =
-    let t : Told = record { event = c.in_ok-event.event; answer = c.happen-answer.result } in
+    let t : LoggedEvent = record { event = c.in_ok-event.event; answer = c.happen-answer.result } in
     let on =
     led_goes_on c.self.inside.group c.happen-answer.new.self c.reserve.new.self.items t c.happen-answer.result (subst (IsLed c.self.inside.group) (sym c.reserve.ensures.items) c.self.invariant)
     (c.is_short.ensures.answered c.if-is_short.false) refl c.happen-answer.ensures.step in
     let same = ap (account_of c.self.inside.group) c.reserve.ensures.items ∙ c.self.view_is in
     subst (λ (a : Account). GoesOn a (account_of c.happen-answer.new.self c.push.new.self.items)) same
-    (subst (λ (l : List Told). GoesOn (account_of c.self.inside.group c.reserve.new.self.items) (account_of c.happen-answer.new.self l)) (sym c.in-Ok.ensures.items) on)
+    (subst (λ (l : List LoggedEvent). GoesOn (account_of c.self.inside.group c.reserve.new.self.items) (account_of c.happen-answer.new.self l)) (sym c.in-Ok.ensures.items) on)

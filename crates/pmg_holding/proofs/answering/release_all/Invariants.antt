@@ -1,6 +1,0 @@
-use Rattle.std.proofs.Common.{◌≡◌, ◌++◌}
-use Rattle.pmg_holding.specs.Answered.{standings, released_all}
-use Rattle.pmg_holding.proofs.answering.release_all.Given as goal
-
-abbrev pub invariant-loop-proc : goal.invariant-loop-proc
-invariant-loop-proc l = standings l.answers.items ≡ standings l.fn.answers.items ++ released_all l.fn.name l.fn.gone.items l.yielded

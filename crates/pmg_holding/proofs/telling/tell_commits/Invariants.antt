@@ -1,6 +1,0 @@
-use Rattle.std.proofs.Common.{◌≡◌, ◌++◌, take}
-use Rattle.pmg_holding.specs.Telling.{pieces_by}
-use Rattle.pmg_holding.proofs.telling.tell_commits.Given as goal
-
-abbrev pub invariant-loop-local : goal.invariant-loop-local
-invariant-loop-local l = l.dues.items ≡ l.fn.dues.items ++ pieces_by l.fn.node (take l.local-index l.local-items)

@@ -1,0 +1,8 @@
+use Rattle.std.proofs.Common.{◌≡◌, ◌++◌, drop}
+use Rattle.std.specs.Option.{option_map}
+use Rattle.serde_json.specs.View.{items_view}
+use Rattle.pmg_jobfile.specs.Reading.{all_in, json_space}
+use Rattle.pmg_jobfile.proofs.parts.spaces_of.Given as goal
+
+abbrev pub invariant-loop-item : goal.invariant-loop-item
+invariant-loop-item l = option_map (λ xs. l.spaces.items ++ xs) (all_in (json_space l.nodes) (items_view (drop l.item-index l.items))) ≡ all_in (json_space l.nodes) (items_view l.items)

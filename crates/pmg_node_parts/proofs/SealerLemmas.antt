@@ -1,0 +1,59 @@
+-- What own processes sealed, and what stands under one of them.
+use Rattle.std.proofs.Common.{◌≡◌, Bool, true, false, ◌&&◌, cond, List, [], ◌∷◌, ◌++◌, map, Option, Some, None, is_some, refl, sym, ap, ◌∙◌}
+use Rattle.std.specs.List.{list_all}
+use Rattle.std.specs.FinMap as finite
+use Rattle.std.specs.BTreeMap.{is_at}
+use Rattle.std.specs.Cmp.{eq_by_cmp_equiv}
+use Rattle.std.specs.Option.{unwrap_or}
+use Rattle.std.proofs.lemmas.Bool.{false≢true}
+use Rattle.pmg_value.specs.declared.process.Proc.{Proc}
+use Rattle.pmg_value.specs.Process.{proc_cmp}
+use Rattle.pmg_value.specs.Rows.{map_of}
+use Rattle.pmg_value.proofs.ProcessOrder.{procs_total, exact_procs}
+use Rattle.pmg_value.proofs.RowLemmas.{at_key, get-map_of, rows_with}
+use Rattle.pmg_commit.specs.Sealed.{Sealed, fresh}
+use Rattle.pmg_node_parts.specs.Sealers.{AllSealed, sealed_by, with_fresh}
+
+-- what was put there is there
+pub sealed-insert : (all : AllSealed) (p : Proc) (z : Sealed) → sealed_by (finite.insert all p z) p ≡ z
+sealed-insert all p z = ap (λ (o : Option Sealed). unwrap_or o (fresh p)) (finite.get-insert procs_total all p z p ∙ ap (λ (b : Bool). cond b (Some z) (finite.get all p)) ((eq_by_cmp_equiv procs_total).refl p))
+
+module _ (old : List (Proc × Sealed)) (all : AllSealed) (p : Proc) (same : map_of old ≡ all) where
+  pub found : (there : Option Sealed) → at_key proc_cmp p old ≡ there → finite.get all p ≡ there
+  found there e = ap (λ (m : AllSealed). finite.get m p) (sym same) ∙ get-map_of procs_total old p ∙ e
+
+  pub sealed_there : (z : Sealed) → at_key proc_cmp p old ≡ Some z → sealed_by all p ≡ z
+  sealed_there z e = ap (λ (o : Option Sealed). unwrap_or o (fresh p)) (found (Some z) e)
+
+  -- an own process is there
+  pub not_there : {P : Type 0} → is_some (finite.get all p) ≡ true → at_key proc_cmp p old ≡ None → P
+  not_there own e = absurd (false≢true (sym (ap is_some (found None e)) ∙ own))
+
+  pub put_there : (new : List (Proc × Sealed)) (after : Sealed) → ((q : Proc) → at_key proc_cmp q new ≡ cond (is_at (proc_cmp p) q) (Some after) (at_key proc_cmp q old)) → map_of {R = proc_cmp} new ≡ finite.insert all p after
+  put_there new after updates = rows_with procs_total exact_procs (λ (z : Sealed). z) old new p after updates ∙ ap (λ (m : AllSealed). finite.insert m p after) same
+
+-- one more that made no commit
+pub fresh_snoc : (ps : List Proc) (p : Proc) (all : AllSealed) → with_fresh (ps ++ p ∷ []) all ≡ with_fresh ps (finite.insert all p (fresh p))
+fresh_snoc [] p all = refl
+fresh_snoc (q ∷ ps) p all = ap (λ (m : AllSealed). finite.insert m q (fresh q)) (fresh_snoc ps p all)
+
+-- all but the last, and the last
+pub all_snoc : (test : Proc → Bool) (ps : List Proc) (p : Proc) → list_all test (ps ++ p ∷ []) ≡ true → (list_all test ps ≡ true) × (test p ≡ true)
+all_snoc test [] p h = (refl, last (test p) h)
+  where
+    last : (b : Bool) → (b && true) ≡ true → b ≡ true
+    last true h = refl
+    last false h = h
+all_snoc test (q ∷ ps) p h = both (test q) (list_all test (ps ++ p ∷ [])) h (all_snoc test ps p)
+  where
+    both : (b c : Bool) → (b && c) ≡ true → (c ≡ true → (list_all test ps ≡ true) × (test p ≡ true)) → ((b && list_all test ps) ≡ true) × (test p ≡ true)
+    both true c h rest = rest h
+    both false c h rest = absurd (false≢true h)
+
+-- the places of these processes, which made no commit
+pub fresh_is : (ps : List Proc) → with_fresh ps finite.empty ≡ map_of (map (λ p. (p, fresh p)) ps)
+fresh_is [] = finite.same_map procs_total exact_procs finite.empty (map_of []) (λ q. finite.get-empty proc_cmp q ∙ sym (get-map_of procs_total [] q))
+fresh_is (p ∷ ps) =
+    ap (λ (m : AllSealed). finite.insert m p (fresh p)) (fresh_is ps)
+    ∙ sym (rows_with procs_total exact_procs (λ (z : Sealed). z) (map (λ p. (p, fresh p)) ps) ((p, fresh p) ∷ map (λ p. (p, fresh p)) ps) p (fresh p)
+    (λ q. ap (λ (b : Bool). cond b (Some (fresh p)) (at_key proc_cmp q (map (λ p. (p, fresh p)) ps))) (sym ((eq_by_cmp_equiv procs_total).symm p q))))

@@ -1,0 +1,31 @@
+-- What calls come to be answered, before anything of it is done.
+use Rattle.std.specs.Prelude.{◌≡◌, ℕ, Bool, List}
+use Rattle.pmg_value.specs.declared.process.Proc.{Proc}
+use Rattle.pmg_commit.specs.Data.{Data}
+use Rattle.pmg_jobinfo.specs.Jobs.{Jobs}
+use Rattle.pmg_fence.specs.Tables.{Fences}
+use Rattle.pmg_node_parts.specs.Calls.{all_instead}
+use Rattle.pmg_node_model.specs.Choosing.{asking_again}
+use Rattle.pmg_node_parts.specs.Codes.{Calls}
+use Rattle.pmg_node_model.specs.Holdings.{CallState, NodeState, mapped, answer_reply}
+use Rattle.pmg_node_model.specs.Kept.{is_about, settle_where}
+use Rattle.pmg_node_parts.specs.declared.call.Completion.{Completion}
+use Rattle.pmg_node_model.specs.declared.due.ToSend.{ToSend}
+
+-- The answers, in the place of the calls that they answer, are what comes of the calls where those are settled again of which
+-- the test tells so, with this table and these stores.
+abbrev pub AreAnswers : Jobs → ℕ → (CallState → Bool) → Fences → Data → Data → Calls → List (Proc × Completion) → Type 0
+AreAnswers jobs id looks table near far all answers =
+    (h : NodeState) → h.table ≡ table → h.near ≡ near → h.far ≡ far → all_instead all answers ≡ mapped (settle_where jobs id h looks) all
+
+-- So they are where a reply to the request of that number, of the process, has come: the get that waits for it is answered, and the
+-- calls are settled again that are about the process.
+abbrev pub AreAnswersThen : Jobs → ℕ → ℕ → Proc → Fences → Data → Data → Calls → List (Proc × Completion) → Type 0
+AreAnswersThen jobs id number q table near far all answers =
+    (h : NodeState) → h.table ≡ table → h.near ≡ near → h.far ≡ far
+    → all_instead all answers ≡ mapped (settle_where jobs id h (is_about q)) (mapped (answer_reply jobs id h number q) all)
+
+-- what is due to homes of processes for gets of the process's keys that will wait still, with this table and these stores
+abbrev pub AreAskedAgain : Jobs → ℕ → Proc → Fences → Data → Data → Calls → List ToSend → Type 0
+AreAskedAgain jobs id q table near far all dues =
+    (h : NodeState) → h.table ≡ table → h.near ≡ near → h.far ≡ far → h.calls ≡ mapped (settle_where jobs id h (is_about q)) all → dues ≡ asking_again jobs id h q

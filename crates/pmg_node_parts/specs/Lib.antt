@@ -1,0 +1,11 @@
+pub mod Sealers
+pub mod Owns
+pub mod Marking
+pub mod Telling
+pub mod Answering
+pub mod BoardPreview
+pub mod Codes
+pub mod Calls
+pub mod Answered
+pub mod Waiters
+pub mod Waiting

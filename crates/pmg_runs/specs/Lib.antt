@@ -1,6 +1,0 @@
-pub mod Worlds
-pub mod Forgetting
-pub mod Laws
-pub mod Refreshes
-pub mod Turns
-pub mod Examples
