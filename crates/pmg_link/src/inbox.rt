@@ -1,7 +1,7 @@
 //! What comes from one other node.
-ghost use Rattle.std.specs.Prelude.{◌≡◌, ◌≢◌, ◌↔◌, [], length, Some, None, Err, IsNone, OnOk, OnErr};
+ghost use Rattle.std.specs.Prelude.{◌≡◌, ◌≢◌, ◌↔◌, [], length, Some, None, Err, IfSome, IfErr, ◌⊎◌, IsNone, OnOk, OnErr};
 ghost use Rattle.pmg_value.specs.declared.refusal.Refusal.TheVariants as refusals;
-ghost use Rattle.pmg_frame.specs.Streams.{FeedsOpen, IsPastEnd};
+ghost use Rattle.pmg_frame.specs.Streams.{FeedsOpen, IsFeedRefusal, IsPastEnd};
 
 use pmg_frame::{Frame, Stream};
 use pmg_value::{Fault, Refusal};
@@ -48,7 +48,9 @@ impl Inbox {
         ensures idle { OnOk result (self.old.frames.items ≡ []) }
         ensures closed { (result ≡ Err refusals.Closed) ↔ (self.old.stream ≡ None) }
         ensures busy { result ≡ Err refusals.Busy → self.old.frames.items ≢ [] }
+        ensures waits { self.old.frames.items ≢ [] → IfSome self.old.stream (λ _. result ≡ Err refusals.Busy) }
         ensures too_many { result ≡ Err refusals.TooMany → IsPastEnd self.old.stream bytes.now }
+        ensures no_other { IfErr result (λ e. (e ≡ refusals.Busy) ⊎ IsFeedRefusal e) }
         ensures err { OnErr result (self.new ≡ self.old) }
     {
         if self.stream.is_closed() {
