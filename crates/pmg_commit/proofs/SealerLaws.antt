@@ -16,6 +16,7 @@ use Rattle.pmg_value.specs.Lists.{In}
 use Rattle.pmg_value.specs.declared.refusal.Refusal.{Refusal}
 use Rattle.pmg_value.specs.declared.refusal.Refusal.TheVariants as refusals
 use Rattle.pmg_value.proofs.ListLemmas.{in_map, in_map_from}
+use Rattle.pmg_value.proofs.MadeLists.{in_filter, in_filter_from}
 use Rattle.pmg_scope.specs.declared.scope.Reach.{Reach}
 use Rattle.pmg_scope.specs.declared.scope.Reach.TheVariants as reach
 use Rattle.pmg_scope.specs.Scripts.{Call, Script, has_end, has_commit, ended, count_commits, commits, term_key, term_put, put_of, last_put}
@@ -228,24 +229,6 @@ get-term_table r k =
     ∙ (λ i. cond (is_eq-slice_cmp k term_key i) (Some (1 ∷ 1 ∷ [])) (finite.get-empty {X = List ℕ} (slice_cmp nat_cmp) k i))
 
 -- ---- what is newer than a commit
-
-module _ {A : Type 0} (p : A → Bool) where
-  in_filter : (xs : List A) (x : A) → In x xs → p x ≡ true → In x (filter p xs)
-  in_filter [] x i h = absurd i
-  in_filter (y ∷ ys) x (inl same) h = subst (λ (b : Bool). In x (cond b (y ∷ filter p ys) (filter p ys))) (sym h ∙ ap p same) (inl same)
-  in_filter (y ∷ ys) x (inr i) h = behind (p y) (in_filter ys x i h)
-    where
-      behind : (b : Bool) → In x (filter p ys) → In x (cond b (y ∷ filter p ys) (filter p ys))
-      behind true j = inr j
-      behind false j = j
-
-  in_filter_from : (xs : List A) (x : A) → In x (filter p xs) → In x xs × (p x ≡ true)
-  in_filter_from [] x i = absurd i
-  in_filter_from (y ∷ ys) x i =
-      elim (p y) as (λ b. p y ≡ b → In x (cond b (y ∷ filter p ys) (filter p ys)) → In x (y ∷ ys) × (p x ≡ true)) [
-        | true ↦ λ t j. elim j [ inl same ↦ (inl same, ap p same ∙ t) | inr rest ↦ let found = in_filter_from ys x rest in (inr found.0, found.1) ]
-        | false ↦ λ t j. let found = in_filter_from ys x j in (inr found.0, found.1)
-      ] refl i
 
 -- the stamp of an entry
 abbrev stamp_of : Entry → Stamp

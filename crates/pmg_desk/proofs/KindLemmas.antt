@@ -9,8 +9,9 @@ use Rattle.pmg_jobinfo.specs.Jobs.{Jobs}
 use Rattle.pmg_frame.specs.declared.frame.Frame.{Frame}
 use Rattle.pmg_get.specs.Gets.{Outcome}
 use Rattle.pmg_get.specs.declared.view.Mode.{Mode}
-use Rattle.pmg_node_model.specs.Acts.{Act, Reply, Request, acts, asks, cause, does, done_as, is_taken, leaves, receives, serves, takes}
-use Rattle.pmg_node_model.specs.Holdings.{Get, NodeState, CallState, answer_in, call_of}
+use Rattle.pmg_node_model.specs.Acts.{Act, Reply, Request, acts, cause, does, done_as, is_taken, receives, reply_of, serves}
+use Rattle.pmg_node_model.specs.Holdings.{Get, NodeState, answer_in, call_of}
+use Rattle.pmg_node_model.proofs.CallEnds.{leaves_reply, takes_reply, asks_reply}
 use Rattle.pmg_node.specs.Acting.{act_of, reply_as}
 use Rattle.pmg_node.specs.Kinds.{IsDefined}
 use Rattle.pmg_node.specs.Opening.{new_server}
@@ -30,43 +31,25 @@ use Rattle.pmg_journal.proofs.ReplayLemmas.{last_is}
 refused_kind : (a : Act) (e : Refusal) → IsKind a (Reply.refused e)
 refused_kind a e = tt
 
+taken_kind : (p : Proc) (o : Outcome) → IsKind (Act.request (Request.take p)) (reply_of o)
+taken_kind p (Outcome.found value) = tt
+taken_kind p Outcome.absent = tt
+taken_kind p Outcome.outside = tt
+taken_kind p Outcome.parks = tt
+
+asked_kind : (p : Proc) (get : Get) (mode : Mode) (o : Outcome) → IsKind (Act.request (Request.ask p get mode)) (reply_of o)
+asked_kind p get mode (Outcome.found value) = tt
+asked_kind p get mode Outcome.absent = tt
+asked_kind p get mode Outcome.outside = tt
+asked_kind p get mode Outcome.parks = tt
+
 module _ (jobs : Jobs) (id : ℕ) (h : NodeState) where
-  leaves_kind : (p : Proc) (c : Option CallState) → IsKind (Act.request (Request.leave p)) (leaves h p c).reply
-  leaves_kind p None = tt
-  leaves_kind p (Some (CallState.in_fence f)) = tt
-  leaves_kind p (Some (CallState.released f gone)) = tt
-  leaves_kind p (Some (CallState.parked get)) = tt
-  leaves_kind p (Some (CallState.answered get outcome)) = tt
-  leaves_kind p (Some (CallState.refreshing get number)) = tt
-  leaves_kind p (Some (CallState.refreshed get outcome)) = tt
-
-  takes_kind : (p : Proc) (c : Option CallState) → IsKind (Act.request (Request.take p)) (takes h p c).reply
-  takes_kind p None = tt
-  takes_kind p (Some (CallState.in_fence f)) = tt
-  takes_kind p (Some (CallState.released f gone)) = tt
-  takes_kind p (Some (CallState.parked get)) = tt
-  takes_kind p (Some (CallState.answered get (Outcome.found value))) = tt
-  takes_kind p (Some (CallState.answered get Outcome.absent)) = tt
-  takes_kind p (Some (CallState.answered get Outcome.outside)) = tt
-  takes_kind p (Some (CallState.answered get Outcome.parks)) = tt
-  takes_kind p (Some (CallState.refreshing get number)) = tt
-  takes_kind p (Some (CallState.refreshed get (Outcome.found value))) = tt
-  takes_kind p (Some (CallState.refreshed get Outcome.absent)) = tt
-  takes_kind p (Some (CallState.refreshed get Outcome.outside)) = tt
-  takes_kind p (Some (CallState.refreshed get Outcome.parks)) = tt
-
-  asks_kind : (p : Proc) (get : Get) (mode : Mode) (o : Outcome) → IsKind (Act.request (Request.ask p get mode)) (asks h p get mode o).reply
-  asks_kind p get mode (Outcome.found value) = tt
-  asks_kind p get mode Outcome.absent = tt
-  asks_kind p get mode Outcome.outside = tt
-  asks_kind p get mode Outcome.parks = tt
-
   serves_kind : (r : Request) → IsKind (Act.request r) (serves jobs id h r).reply
   unfolding serves
   serves_kind (Request.enter p list collect) = tt
-  serves_kind (Request.leave p) = leaves_kind p (call_of h p)
-  serves_kind (Request.ask p get mode) = asks_kind p get mode (answer_in jobs id h get mode)
-  serves_kind (Request.take p) = takes_kind p (call_of h p)
+  serves_kind (Request.leave p) = leaves_reply h p (IsKind (Act.request (Request.leave p))) tt tt (λ n gone. tt) (call_of h p)
+  serves_kind (Request.ask p get mode) = asks_reply h p get mode (IsKind (Act.request (Request.ask p get mode))) (asked_kind p get mode) (answer_in jobs id h get mode)
+  serves_kind (Request.take p) = takes_reply h p (IsKind (Act.request (Request.take p))) tt tt (taken_kind p) (call_of h p)
   serves_kind (Request.terminate p) = tt
   serves_kind (Request.define name list) = tt
   serves_kind (Request.delete name) = tt

@@ -1,17 +1,16 @@
 -- No act of a node is refused as Closed.
 use Rattle.std.specs.Prelude.{if◌then◌else◌}
-use Rattle.std.proofs.Common.{◌≡◌, ℕ, Bool, true, false, cond, List, [], ◌∷◌, Option, Some, None, Result, Ok, Err, refl, sym, ap, subst}
+use Rattle.std.proofs.Common.{◌≡◌, ℕ, Bool, true, false, cond, List, [], ◌∷◌, Result, Ok, Err, refl, sym, ap, subst}
 use Rattle.pmg_value.specs.CheckOrder.{check_order, first_in}
-use Rattle.pmg_value.specs.declared.process.Proc.{Proc}
 use Rattle.pmg_value.specs.declared.refusal.Refusal.{Refusal}
 use Rattle.pmg_value.specs.declared.refusal.Refusal.TheVariants as refusals
 use Rattle.pmg_jobinfo.specs.Jobs.{Jobs}
 use Rattle.pmg_frame.specs.declared.frame.Frame.{Frame}
 use Rattle.pmg_get.specs.Gets.{Outcome}
-use Rattle.pmg_get.specs.declared.view.Mode.{Mode}
-use Rattle.pmg_node_model.specs.Acts.{Act, Done, Reply, Request, acts, asks, cause, does, done_as, is_taken, leaves, over, receives, request_cause, serves, takes}
-use Rattle.pmg_node_model.specs.Holdings.{Get, NodeState, CallState, answer_in, call_of}
+use Rattle.pmg_node_model.specs.Acts.{Act, Done, Reply, Request, acts, cause, does, done_as, is_taken, over, receives, reply_of, request_cause, serves}
+use Rattle.pmg_node_model.specs.Holdings.{NodeState, answer_in, call_of}
 use Rattle.pmg_node_model.specs.Sending.{is_quiet}
+use Rattle.pmg_node_model.proofs.CallEnds.{leaves_reply, takes_reply, asks_reply}
 use Rattle.pmg_node.specs.Acting.{acted_reply}
 use Rattle.pmg_node.specs.Joining.{act_joins, joins, no_joins}
 use Rattle.pmg_node.specs.Servers.{IsAnswered, RepliesAct, Server, reply_in, reply_to}
@@ -23,6 +22,12 @@ use Rattle.pmg_journal.specs.Journals.{IsEvent, is_memory}
 abbrev IsOpen : Reply → Type 0
 IsOpen (Reply.refused refusals.Closed) = ⊥
 IsOpen _ = Unit {0}
+
+outcome_open : (o : Outcome) → IsOpen (reply_of o)
+outcome_open (Outcome.found value) = tt
+outcome_open Outcome.absent = tt
+outcome_open Outcome.outside = tt
+outcome_open Outcome.parks = tt
 
 module _ (jobs : Jobs) (id : ℕ) (h : NodeState) where
   no_cause_in : (r : Request) → request_cause jobs id h r refusals.Closed ≡ false
@@ -42,42 +47,12 @@ module _ (jobs : Jobs) (id : ℕ) (h : NodeState) where
   no_cause (Act.commit p b) = refl
   no_cause (Act.deliver frame) = refl
 
-  leaves_open : (p : Proc) (c : Option CallState) → IsOpen (leaves h p c).reply
-  leaves_open p None = tt
-  leaves_open p (Some (CallState.in_fence f)) = tt
-  leaves_open p (Some (CallState.released f gone)) = tt
-  leaves_open p (Some (CallState.parked get)) = tt
-  leaves_open p (Some (CallState.answered get outcome)) = tt
-  leaves_open p (Some (CallState.refreshing get number)) = tt
-  leaves_open p (Some (CallState.refreshed get outcome)) = tt
-
-  takes_open : (p : Proc) (c : Option CallState) → IsOpen (takes h p c).reply
-  takes_open p None = tt
-  takes_open p (Some (CallState.in_fence f)) = tt
-  takes_open p (Some (CallState.released f gone)) = tt
-  takes_open p (Some (CallState.parked get)) = tt
-  takes_open p (Some (CallState.answered get (Outcome.found value))) = tt
-  takes_open p (Some (CallState.answered get Outcome.absent)) = tt
-  takes_open p (Some (CallState.answered get Outcome.outside)) = tt
-  takes_open p (Some (CallState.answered get Outcome.parks)) = tt
-  takes_open p (Some (CallState.refreshing get number)) = tt
-  takes_open p (Some (CallState.refreshed get (Outcome.found value))) = tt
-  takes_open p (Some (CallState.refreshed get Outcome.absent)) = tt
-  takes_open p (Some (CallState.refreshed get Outcome.outside)) = tt
-  takes_open p (Some (CallState.refreshed get Outcome.parks)) = tt
-
-  asks_open : (p : Proc) (get : Get) (mode : Mode) (o : Outcome) → IsOpen (asks h p get mode o).reply
-  asks_open p get mode (Outcome.found value) = tt
-  asks_open p get mode Outcome.absent = tt
-  asks_open p get mode Outcome.outside = tt
-  asks_open p get mode Outcome.parks = tt
-
   serves_open : (r : Request) → IsOpen (serves jobs id h r).reply
   unfolding serves
   serves_open (Request.enter p list collect) = tt
-  serves_open (Request.leave p) = leaves_open p (call_of h p)
-  serves_open (Request.ask p get mode) = asks_open p get mode (answer_in jobs id h get mode)
-  serves_open (Request.take p) = takes_open p (call_of h p)
+  serves_open (Request.leave p) = leaves_reply h p IsOpen tt tt (λ n gone. tt) (call_of h p)
+  serves_open (Request.ask p get mode) = asks_reply h p get mode IsOpen outcome_open (answer_in jobs id h get mode)
+  serves_open (Request.take p) = takes_reply h p IsOpen tt tt outcome_open (call_of h p)
   serves_open (Request.terminate p) = tt
   serves_open (Request.define name list) = tt
   serves_open (Request.delete name) = tt

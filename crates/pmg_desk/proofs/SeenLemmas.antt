@@ -21,17 +21,16 @@ use Rattle.pmg_fence.specs.Entering.{same_proc}
 use Rattle.pmg_frame.specs.Refreshing.{told_by}
 use Rattle.pmg_frame.specs.declared.frame.Frame.{Frame}
 use Rattle.pmg_frame.specs.declared.frame.Frame.TheVariants as frames
-use Rattle.pmg_get.specs.Gets.{Outcome}
-use Rattle.pmg_get.specs.declared.view.Mode.{Mode}
 use Rattle.pmg_jobinfo.specs.Jobs.{Jobs, home_of}
 use Rattle.pmg_jobinfo.specs.Procs.{procs_at}
 use Rattle.pmg_pset.specs.Sets.{host}
 use Rattle.pmg_store.specs.Pieces.{data_of}
 use Rattle.pmg_store.proofs.Converging.{same_in_any_grouping}
 use Rattle.pmg_store.proofs.HonestDataLaws.{levels_rise}
-use Rattle.pmg_node_model.specs.Acts.{Act, Done, Reply, Request, acts, asks, cause, does, done_as, free_cause, holds_unless, is_taken, leaves, over, receives, seal_cause, serves, takes}
-use Rattle.pmg_node_model.specs.Holdings.{Get, NodeState, CallState, answer_in, call_of, joined, new_holding, sealer_in, sealer_of, sealing}
+use Rattle.pmg_node_model.specs.Acts.{Act, Done, Reply, Request, acts, cause, does, done_as, free_cause, holds_unless, is_taken, over, receives, seal_cause, serves}
+use Rattle.pmg_node_model.specs.Holdings.{NodeState, answer_in, call_of, joined, new_holding, sealer_in, sealer_of, sealing}
 use Rattle.pmg_node_model.specs.Kept.{Holds, IsServer}
+use Rattle.pmg_node_model.proofs.CallEnds.{ends_left, asks_left}
 use Rattle.pmg_node_model.proofs.CauseFacts.{by_causes, free_is, neither_cause}
 use Rattle.pmg_node_model.proofs.KeptActs.{new_is_server, server_stays}
 use Rattle.pmg_node_model.proofs.Sealing.{level_raised, sealer_here, sealer_there}
@@ -73,30 +72,6 @@ module _ (jobs : Jobs) (id : ℕ) where
         by_same false apart =
             subst (λ (x : Sealed). x.level ≤ level_at (absorbed h.far piece) q) (sym (sealer_there h p z q apart)) (no_more _ _ _ (held q home) (levels_rise h.far (of_contribution piece) q))
 
-    leaves_in : (p : Proc) (c : Option CallState) → IsIn (leaves h p c).left
-    leaves_in p None = held
-    leaves_in p (Some (CallState.in_fence f)) = held
-    leaves_in p (Some (CallState.released f gone)) = held
-    leaves_in p (Some (CallState.parked get)) = held
-    leaves_in p (Some (CallState.answered get outcome)) = held
-    leaves_in p (Some (CallState.refreshing get number)) = held
-    leaves_in p (Some (CallState.refreshed get outcome)) = held
-
-    takes_in : (p : Proc) (c : Option CallState) → IsIn (takes h p c).left
-    takes_in p None = held
-    takes_in p (Some (CallState.in_fence f)) = held
-    takes_in p (Some (CallState.released f gone)) = held
-    takes_in p (Some (CallState.parked get)) = held
-    takes_in p (Some (CallState.answered get outcome)) = held
-    takes_in p (Some (CallState.refreshing get number)) = held
-    takes_in p (Some (CallState.refreshed get outcome)) = held
-
-    asks_in : (p : Proc) (get : Get) (mode : Mode) (o : Outcome) → IsIn (asks h p get mode o).left
-    asks_in p get mode (Outcome.found value) = held
-    asks_in p get mode Outcome.absent = held
-    asks_in p get mode Outcome.outside = held
-    asks_in p get mode Outcome.parks = held
-
     unless_in : (b : Bool) (node : ℕ) (p : Proc) (level : ℕ) → IsIn (holds_unless b h node p level)
     unless_in true node p level = held
     unless_in false node p level = held
@@ -127,9 +102,9 @@ module _ (jobs : Jobs) (id : ℕ) where
       serves_in : (r : Request) → IsIn (serves jobs id h r).left
       unfolding serves
       serves_in (Request.enter p list collect) = held
-      serves_in (Request.leave p) = leaves_in p (call_of h p)
-      serves_in (Request.ask p get mode) = asks_in p get mode (answer_in jobs id h get mode)
-      serves_in (Request.take p) = takes_in p (call_of h p)
+      serves_in (Request.leave p) = (ends_left h p IsIn held held (call_of h p)).0
+      serves_in (Request.ask p get mode) = asks_left h p get mode IsIn held held (answer_in jobs id h get mode)
+      serves_in (Request.take p) = (ends_left h p IsIn held held (call_of h p)).1
       serves_in (Request.terminate p) = sealing_in p (ended_with (sealer_of h p)) (holds.sealers p)
       serves_in (Request.define name list) = sets_in _ refl
       serves_in (Request.delete name) = sets_in _ refl

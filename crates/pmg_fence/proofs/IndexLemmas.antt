@@ -17,7 +17,7 @@ use Rattle.std.proofs.lemmas.List.Kept.{IsStrictlySortedBy-filter}
 use Rattle.std.proofs.lemmas.Map.Views.{any-filter_same}
 use Rattle.pmg_value.specs.Lists.{In}
 use Rattle.pmg_value.specs.InOrder.{in_order}
-use Rattle.pmg_value.proofs.SetOrder.{in_order-from_list}
+use Rattle.pmg_value.proofs.SetOrder.{in_order-from_list, parts_of, less_is}
 
 -- ---- of two lists that rise, what each item brings
 
@@ -62,14 +62,6 @@ module _ {K : Type 0} {R : K → K → Ordering} (o : IsTotalOrder R) (exact : I
       ∙ only_some n (is_in xs) ys none_here
 
 -- ---- the entries of a map
-
-parts_of : (a b : Bool) → T (a && b) → T a × T b
-parts_of true b p = (tt, p)
-parts_of false b p = absurd p
-
-less_is : (r : Ordering) → T (is_lt r) → r ≡ Less
-less_is Less p = refl
-less_is r p = absurd p
 
 module _ {K X : Type 0} (R : K → K → Ordering) where
   keys_above : (k : K) (es : List (K × X)) → T (below_all R k es) → AllByRecursion (λ y. R k y ≡ Less) (keys_of es)

@@ -11,7 +11,7 @@ use Rattle.pmg_wire.proofs.Steps.{place, IfRead, bind_if, check_if, choice_if, d
 use Rattle.pmg_frame.specs.declared.frame.Frame.{Frame}
 use Rattle.pmg_frame.specs.declared.frame.Frame.TheVariants as frames
 use Rattle.pmg_frame.specs.Fences.{Header, FenceAsk}
-use Rattle.pmg_frame.specs.Grammar.{IsHeader, IsFenceAsk, IsFrame, IsSpelt, SpellsFrame}
+use Rattle.pmg_frame.specs.Grammar.{IsFrame, IsSpelt, SpellsFrame}
 use Rattle.pmg_frame.specs.Spelling.{header_body, fence_ask_body}
 use Rattle.pmg_frame.specs.RunSpelling.{short_header, short_fence_ask}
 use Rattle.pmg_frame.specs.Reading.{read_fields, read_frame_body, read_head, behind_head, read_frame}
@@ -137,29 +137,19 @@ body_found v kind at frame known fits e =
     subst (IsBody v kind at) (ok_is whole.0.0 frame checked.1) body
 
 -- read again, as the version writes it
-header_fields_again : (v o : ℕ) (h : Header) (rest : List ℕ) → IsHeader h
-    → made frames.Header (cond (v == 1) (read_header (place o (body_spelling v (frames.Header h) ++ rest))) (read_short_header (place o (body_spelling v (frames.Header h) ++ rest))))
-    ≡ Ok (frames.Header h, place (o + length (body_spelling v (frames.Header h))) rest)
-header_fields_again v o h rest is = by (v == 1) where
-  by : (b : Bool) → made frames.Header (cond b (read_header (place o (cond b (header_body h) (short_header h) ++ rest))) (read_short_header (place o (cond b (header_body h) (short_header h) ++ rest))))
-      ≡ Ok (frames.Header h, place (o + length (cond b (header_body h) (short_header h))) rest)
-  by true = rw (header_again o h rest is) refl
-  by false = rw (short_header_again o h rest is) refl
-
-ask_fields_again : (v o : ℕ) (a : FenceAsk) (rest : List ℕ) → IsFenceAsk a
-    → made frames.FenceAsk (cond (v == 1) (read_fence_ask (place o (body_spelling v (frames.FenceAsk a) ++ rest))) (read_short_ask (place o (body_spelling v (frames.FenceAsk a) ++ rest))))
-    ≡ Ok (frames.FenceAsk a, place (o + length (body_spelling v (frames.FenceAsk a))) rest)
-ask_fields_again v o a rest is = by (v == 1) where
-  by : (b : Bool) → made frames.FenceAsk (cond b (read_fence_ask (place o (cond b (fence_ask_body a) (short_fence_ask a) ++ rest))) (read_short_ask (place o (cond b (fence_ask_body a) (short_fence_ask a) ++ rest))))
-      ≡ Ok (frames.FenceAsk a, place (o + length (cond b (fence_ask_body a) (short_fence_ask a))) rest)
-  by true = rw (fence_ask_again o a rest is) refl
-  by false = rw (short_ask_again o a rest is) refl
+by_version : {X : Type 0} (tag : X → Frame) (first second : Place → Read X) (one two : List ℕ) (o : ℕ) (rest : List ℕ) (x : X)
+    → first (place o (one ++ rest)) ≡ Ok (x, place (o + length one) rest) → second (place o (two ++ rest)) ≡ Ok (x, place (o + length two) rest) → (b : Bool)
+    → made tag (cond b (first (place o (cond b one two ++ rest))) (second (place o (cond b one two ++ rest)))) ≡ Ok (tag x, place (o + length (cond b one two)) rest)
+by_version tag first second one two o rest x again else_again true = rw again refl
+by_version tag first second one two o rest x again else_again false = rw else_again refl
 
 fields_again : (v o : ℕ) (frame : Frame) (rest : List ℕ) → IsFrame frame → read_fields v (kind_of frame) (place o (body_spelling v frame ++ rest)) ≡ Ok (frame, place (o + length (body_spelling v frame)) rest)
 unfolding read_fields
 fields_again v o (frames.Piece c) rest is = rw (piece_again o c rest is) refl
-fields_again v o (frames.Header h) rest is = header_fields_again v o h rest is
-fields_again v o (frames.FenceAsk a) rest is = ask_fields_again v o a rest is
+fields_again v o (frames.Header h) rest is =
+    by_version frames.Header read_header read_short_header (header_body h) (short_header h) o rest h (header_again o h rest is) (short_header_again o h rest is) (v == 1)
+fields_again v o (frames.FenceAsk a) rest is =
+    by_version frames.FenceAsk read_fence_ask read_short_ask (fence_ask_body a) (short_fence_ask a) o rest a (fence_ask_again o a rest is) (short_ask_again o a rest is) (v == 1)
 fields_again v o (frames.RangeAsk a) rest is = rw (commit_ask_again o a rest is) refl
 fields_again v o (frames.DirectAsk a) rest is = rw (commit_ask_again o a rest is) refl
 fields_again v o (frames.RefreshAsk a) rest is = ask_read_again o a rest is

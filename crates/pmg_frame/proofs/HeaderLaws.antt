@@ -26,6 +26,7 @@ use Rattle.pmg_frame.specs.Spelling.{flag_spelling, name_spelling, local_spellin
 use Rattle.pmg_frame.specs.declared.local.Local.{Local}
 use Rattle.pmg_frame.specs.declared.local.State.{State}
 use Rattle.pmg_frame.proofs.FenceLaws.{name_if, name_again, regroup_4, length_4}
+use Rattle.pmg_frame.proofs.Taken.{TakesBody}
 
 -- ---- nodes and levels
 
@@ -113,12 +114,7 @@ local_again name before o l rest f =
 
 -- ---- headers
 
--- what a header's body took
-pub record TakesHeader (at : Place) (h : Header) (after : Place) : Type 0 where
-  pub takes : Takes at (header_body h) after
-  pub is : IsHeader h
-
-pub header_if : (at : Place) → IsBytes at.rest → IfRead (read_header at) (TakesHeader at)
+pub header_if : (at : Place) → IsBytes at.rest → IfRead (read_header at) (λ h. TakesBody at (header_body h) (IsHeader h))
 unfolding read_header
 header_if at fits =
     let in_range : FenceName → ℕ → Bool = λ name count. nat_lt 0 count && nat_le count (length (participants_of name)) in
@@ -187,12 +183,7 @@ header_count h passes = leb-true _ _ (and_parts _ _ (and_parts _ _ (and_parts _ 
 
 -- ---- asks
 
--- what a fence ask's body took
-pub record TakesFenceAsk (at : Place) (a : FenceAsk) (after : Place) : Type 0 where
-  pub takes : Takes at (fence_ask_body a) after
-  pub is : IsFenceAsk a
-
-pub fence_ask_if : (at : Place) → IsBytes at.rest → IfRead (read_fence_ask at) (TakesFenceAsk at)
+pub fence_ask_if : (at : Place) → IsBytes at.rest → IfRead (read_fence_ask at) (λ a. TakesBody at (fence_ask_body a) (IsFenceAsk a))
 unfolding read_fence_ask
 fence_ask_if at fits =
     let made : ℕ → FenceName × Place → Read FenceAsk = λ node name. Ok (record { node = node; name = name.0 }, name.1) in
@@ -211,12 +202,7 @@ fence_ask_again o a rest is =
     ap (λ (text : List ℕ). read_fence_ask (place o text)) (append_assoc node_text name_text rest)
     ∙ rw (n, t) (ap (λ (x : ℕ). Ok (a, place x rest)) end)
 
--- what the body of an ask for commits took
-pub record TakesCommitAsk (at : Place) (a : CommitAsk) (after : Place) : Type 0 where
-  pub takes : Takes at (commit_ask_body a) after
-  pub is : IsCommitAsk a
-
-pub commit_ask_if : (at : Place) → IsBytes at.rest → IfRead (read_commit_ask at) (TakesCommitAsk at)
+pub commit_ask_if : (at : Place) → IsBytes at.rest → IfRead (read_commit_ask at) (λ a. TakesBody at (commit_ask_body a) (IsCommitAsk a))
 unfolding read_commit_ask
 commit_ask_if at fits =
     let made : ℕ → Proc → ℕ × Place → Read CommitAsk = λ node p level. Ok (record { node = node; proc = p; level = level.0 }, level.1) in

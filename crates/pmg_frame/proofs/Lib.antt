@@ -5,6 +5,7 @@ pub mod FrameLaws
 pub mod Cuts
 pub mod Kept
 pub mod Searching
+pub mod Taken
 pub mod FenceLaws
 pub mod Lasts
 pub mod HeaderLaws

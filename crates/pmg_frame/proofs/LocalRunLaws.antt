@@ -38,6 +38,7 @@ use Rattle.pmg_frame.proofs.HeaderLaws.{is_gone-state_of, node_if, node_again, l
 use Rattle.pmg_frame.proofs.RunLaws.{short_name_if, short_name_again}
 use Rattle.pmg_frame.proofs.RunRules.{local_ranked}
 use Rattle.pmg_frame.proofs.RunSteps.{Adds, AddAll, TakesRun, if_weaker, items_if, items_again, adds_of, chain_of_runs, few_runs, some_runs}
+use Rattle.pmg_frame.proofs.Taken.{TakesBody}
 
 -- ---- a run of participants
 
@@ -255,12 +256,7 @@ within name ls chain =
 
 -- ---- headers
 
--- what a header's body took
-pub record TakesShortHeader (at : Place) (h : Header) (after : Place) : Type 0 where
-  pub takes : Takes at (short_header h) after
-  pub is : IsHeader h
-
-pub short_header_if : (at : Place) → IsBytes at.rest → IfRead (read_short_header at) (TakesShortHeader at)
+pub short_header_if : (at : Place) → IsBytes at.rest → IfRead (read_short_header at) (λ h. TakesBody at (short_header h) (IsHeader h))
 unfolding read_short_header
 short_header_if at fits =
     let made : ℕ → FenceName → List Local × Place → Read Header = λ node name locals. Ok (record { node = node; name = name; locals = locals.0 }, locals.1) in

@@ -33,6 +33,7 @@ use Rattle.pmg_frame.proofs.FenceLaws.{FollowsProc, each, AreFields, listed_is, 
 use Rattle.pmg_frame.proofs.HeaderLaws.{node_if, node_again, regroup_3, length_3}
 use Rattle.pmg_frame.proofs.RunRules.{proc_ranked, items_of-line, length-items_of, runs_of-are}
 use Rattle.pmg_frame.proofs.RunSteps.{Adds, AddAll, TakesRun, if_weaker, items_if, items_again, adds_of, chain_of_runs, few_runs, some_runs}
+use Rattle.pmg_frame.proofs.Taken.{TakesBody}
 
 -- ---- a run of participants
 
@@ -277,12 +278,7 @@ short_name_again o name rest is =
 
 -- ---- asks
 
--- what a fence ask's body took
-pub record TakesShortAsk (at : Place) (a : FenceAsk) (after : Place) : Type 0 where
-  pub takes : Takes at (short_fence_ask a) after
-  pub is : IsFenceAsk a
-
-pub short_ask_if : (at : Place) → IsBytes at.rest → IfRead (read_short_ask at) (TakesShortAsk at)
+pub short_ask_if : (at : Place) → IsBytes at.rest → IfRead (read_short_ask at) (λ a. TakesBody at (short_fence_ask a) (IsFenceAsk a))
 unfolding read_short_ask
 short_ask_if at fits =
     let made : ℕ → FenceName × Place → Read FenceAsk = λ node name. Ok (record { node = node; name = name.0 }, name.1) in

@@ -20,6 +20,7 @@ use Rattle.pmg_frame.specs.contracts.local.StatePartialEq.TheImpl as state_tests
 use Rattle.pmg_frame.specs.declared.local.Local.{Local}
 use Rattle.pmg_frame.specs.declared.local.State.{State}
 use Rattle.pmg_frame.specs.declared.local.State.TheVariants as states
+use Rattle.pmg_frame.specs.declared.frame.Frame.TheVariants as frames
 use Rattle.pmg_frame.proofs.FenceOrderLemmas.{names_exact}
 
 pub same_procs : (p q : Proc) → Decides (is_same_proc p q) (p ≡ q)
@@ -99,3 +100,17 @@ same_refresh_replies r s =
     Decides-like _ forth (λ e. (ap (λ (x : RefreshReply). x.node) e, (ap (λ (x : RefreshReply). x.request) e, ap (λ (x : RefreshReply). x.told) e)))
     (Decides-and (r.node == s.node) (r.request == s.request && is_same_piece r.told s.told) (Decides-eqb r.node s.node)
     (Decides-and (r.request == s.request) (is_same_piece r.told s.told) (Decides-eqb r.request s.request) (same_pieces r.told s.told)))
+
+-- ---- frames of one kind are equal where what they carry is
+
+pub same_piece_frames : (x y : Contribution) → Decides (is_same_piece x y) (frames.Piece x ≡ frames.Piece y)
+same_piece_frames x y = Decides-like _ (λ e. ap (λ (z : Contribution). frames.Piece z) e) (λ e. cc) (same_pieces x y)
+
+pub same_header_frames : (x y : Header) → Decides (is_same_header x y) (frames.Header x ≡ frames.Header y)
+same_header_frames x y = Decides-like _ (λ e. ap (λ (z : Header). frames.Header z) e) (λ e. cc) (same_headers x y)
+
+pub same_fence_ask_frames : (x y : FenceAsk) → Decides (is_same_fence_ask x y) (frames.FenceAsk x ≡ frames.FenceAsk y)
+same_fence_ask_frames x y = Decides-like _ (λ e. ap (λ (z : FenceAsk). frames.FenceAsk z) e) (λ e. cc) (same_fence_asks x y)
+
+pub same_refresh_reply_frames : (x y : RefreshReply) → Decides (is_same_refresh_reply x y) (frames.RefreshReply x ≡ frames.RefreshReply y)
+same_refresh_reply_frames x y = Decides-like _ (λ e. ap (λ (z : RefreshReply). frames.RefreshReply z) e) (λ e. cc) (same_refresh_replies x y)

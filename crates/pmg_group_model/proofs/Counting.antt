@@ -1,5 +1,5 @@
 -- Requests that ask anew have numbers that only rise, and begin no later than what is known where they were made.
-use Rattle.std.proofs.Common.{◌≡◌, ◌≤◌, ℕ, Bool, true, false, nat_lt, cond, List, [], ◌∷◌, ◌++◌, Option, Some, None, refl, sym, ap, subst, ◌∙◌, arith}
+use Rattle.std.proofs.Common.{◌≡◌, ◌≤◌, ℕ, Bool, true, false, nat_lt, cond, List, [], ◌∷◌, ◌++◌, refl, sym, ap, subst, ◌∙◌, arith}
 use Rattle.pmg_value.specs.Lists.{Each}
 use Rattle.pmg_value.specs.declared.process.Proc.{Proc}
 use Rattle.pmg_commit.specs.Data.{level_at}
@@ -7,13 +7,13 @@ use Rattle.pmg_frame.specs.Refreshing.{RefreshAsk, RefreshReply}
 use Rattle.pmg_frame.specs.declared.frame.Frame.{Frame}
 use Rattle.pmg_frame.specs.declared.frame.Frame.TheVariants as frames
 use Rattle.pmg_jobinfo.specs.Jobs.{Jobs, AreJobs, home_of}
-use Rattle.pmg_get.specs.Gets.{Outcome}
 use Rattle.pmg_get.specs.declared.view.Mode.{Mode}
 use Rattle.pmg_get.specs.declared.view.Mode.TheVariants as modes
-use Rattle.pmg_node_model.specs.Acts.{Request, Act, Reply, is_taken, done_as, leaves, takes, requests_after, asks, holds_unless, receives, serves, does, acts}
-use Rattle.pmg_node_model.specs.Holdings.{Get, CallState, NodeState, sealer_of, call_of, answer_in}
+use Rattle.pmg_node_model.specs.Acts.{Request, Act, Reply, is_taken, done_as, requests_after, holds_unless, receives, serves, does, acts}
+use Rattle.pmg_node_model.specs.Holdings.{NodeState, sealer_of, call_of, answer_in}
 use Rattle.pmg_node_model.specs.Sending.{Allowed, reply_anew}
 use Rattle.pmg_node_model.specs.declared.sent.Sent.{Sent}
+use Rattle.pmg_node_model.proofs.CallEnds.{ends_left, asks_left}
 use Rattle.pmg_node_model.proofs.AfterActs.{after_act}
 use Rattle.pmg_node_model.proofs.Growing.{act_rises}
 use Rattle.pmg_group_model.specs.Laws.{Good}
@@ -29,34 +29,14 @@ same_number : (n : ℕ) → n ≤ n
 same_number n = omega arith
 
 module _ (jobs : Jobs) (id : ℕ) (h : NodeState) where
-  leave_counts : (by : Proc) (c : Option CallState) → h.requests ≤ (leaves h by c).left.requests
-  leave_counts by (Some (CallState.in_fence f)) = same_number _
-  leave_counts by (Some (CallState.released f gone)) = same_number _
-  leave_counts by (Some (CallState.parked get)) = same_number _
-  leave_counts by (Some (CallState.answered get outcome)) = same_number _
-  leave_counts by (Some (CallState.refreshing get number)) = same_number _
-  leave_counts by (Some (CallState.refreshed get outcome)) = same_number _
-  leave_counts by None = same_number _
-
-  take_counts : (by : Proc) (c : Option CallState) → h.requests ≤ (takes h by c).left.requests
-  take_counts by (Some (CallState.in_fence f)) = same_number _
-  take_counts by (Some (CallState.released f gone)) = same_number _
-  take_counts by (Some (CallState.parked get)) = same_number _
-  take_counts by (Some (CallState.answered get outcome)) = same_number _
-  take_counts by (Some (CallState.refreshing get number)) = same_number _
-  take_counts by (Some (CallState.refreshed get outcome)) = same_number _
-  take_counts by None = same_number _
+  -- there were no more requests before
+  abbrev NoFewer : NodeState → Type 0
+  NoFewer g = h.requests ≤ g.requests
 
   more_requests : (n : ℕ) (mode : Mode) → n ≤ requests_after n mode
   more_requests n modes.Wait = omega arith
   more_requests n modes.Now = omega arith
   more_requests n modes.Refresh = omega arith
-
-  ask_counts : (by : Proc) (get : Get) (mode : Mode) (o : Outcome) → h.requests ≤ (asks h by get mode o).left.requests
-  ask_counts by get mode Outcome.parks = more_requests h.requests mode
-  ask_counts by get mode (Outcome.found value) = same_number _
-  ask_counts by get mode Outcome.absent = same_number _
-  ask_counts by get mode Outcome.outside = same_number _
 
   held_counts : (b : Bool) (from : ℕ) (p : Proc) (level : ℕ) → h.requests ≤ (holds_unless b h from p level).requests
   held_counts true from p level = same_number _
@@ -79,9 +59,9 @@ module _ (jobs : Jobs) (id : ℕ) (h : NodeState) where
   request_counts : (r : Request) → h.requests ≤ (serves jobs id h r).left.requests
   unfolding serves
   request_counts (Request.enter by list collect) = same_number _
-  request_counts (Request.leave by) = leave_counts by (call_of h by)
-  request_counts (Request.ask by get mode) = ask_counts by get mode (answer_in jobs id h get mode)
-  request_counts (Request.take by) = take_counts by (call_of h by)
+  request_counts (Request.leave by) = (ends_left h by NoFewer (same_number _) (same_number _) (call_of h by)).0
+  request_counts (Request.ask by get mode) = asks_left h by get mode NoFewer (same_number _) (more_requests h.requests mode) (answer_in jobs id h get mode)
+  request_counts (Request.take by) = (ends_left h by NoFewer (same_number _) (same_number _) (call_of h by)).1
   request_counts (Request.terminate by) = same_number _
   request_counts (Request.define name list) = same_number _
   request_counts (Request.delete name) = same_number _

@@ -6,7 +6,7 @@ use Rattle.std.specs.Cmp.Lexicographic.{nat_list_cmp_total}
 use Rattle.std.specs.FinMap as finite
 use Rattle.std.specs.FinMap.{IsAntisymmetric}
 use Rattle.std.specs.FinMap.Entries.{find, below_all, is_sorted}
-use Rattle.std.specs.List.{filter, flat_map, list_all}
+use Rattle.std.specs.List.{list_all}
 use Rattle.std.specs.Option.{unwrap_or}
 use Rattle.std.specs.declared.cmp.Ordering.{Ordering}
 use Rattle.std.specs.declared.cmp.Ordering.TheVariants.{Less}
@@ -17,49 +17,19 @@ use Rattle.std.proofs.lemmas.Map.Lookups.{exact_bytes}
 use Rattle.pmg_value.specs.declared.process.Proc.{Proc}
 use Rattle.pmg_value.specs.Lists.{In}
 use Rattle.pmg_value.specs.Process.{is_client, is_host, can_commit}
-use Rattle.pmg_value.proofs.ListLemmas.{in_append_left, in_append_right, in_parts, in_map, in_map_from}
+use Rattle.pmg_value.proofs.ListLemmas.{in_map, in_map_from}
+use Rattle.pmg_value.proofs.MadeLists.{in_filter, in_filter_from, in_flat, in_flat_from, in_range, range_in}
 use Rattle.pmg_scope.proofs.SumLemmas.{t_first, t_second, is_less}
 use Rattle.pmg_jobinfo.specs.Expansion.{ranks}
 use Rattle.pmg_jobinfo.specs.Jobs.{Jobs, AreJobs, IsSpace, homes_of}
 use Rattle.pmg_jobinfo.specs.Procs.{procs_of, procs_at}
 use Rattle.pmg_jobinfo.specs.Reserved.{ranks_at}
 use Rattle.pmg_jobinfo.specs.Rules.{OwnAreListed, ListedAreOwn, ListedAreClients}
-use Rattle.pmg_jobinfo.proofs.RuleLemmas.{in_range, range_in}
 use Rattle.pmg_jobinfo.proofs.TableLemmas.{space_at}
 
--- ---- items of lists that are made of others
-
-module _ {A : Type 0} (p : A → Bool) where
-  pub in_filter : (xs : List A) (x : A) → In x xs → p x ≡ true → In x (filter p xs)
-  in_filter [] x i h = absurd i
-  in_filter (y ∷ ys) x (inl same) h = subst (λ (b : Bool). In x (cond b (y ∷ filter p ys) (filter p ys))) (sym h ∙ ap p same) (inl same)
-  in_filter (y ∷ ys) x (inr i) h = elim (p y) as (λ b. In x (cond b (y ∷ filter p ys) (filter p ys))) [ true ↦ inr (in_filter ys x i h) | false ↦ in_filter ys x i h ]
-
-  pub in_filter_from : (xs : List A) (x : A) → In x (filter p xs) → In x xs × (p x ≡ true)
-  in_filter_from [] x i = absurd i
-  in_filter_from (y ∷ ys) x i =
-      elim (p y) as (λ b. p y ≡ b → In x (cond b (y ∷ filter p ys) (filter p ys)) → In x (y ∷ ys) × (p x ≡ true)) [
-        | true ↦ λ t j. elim j [ inl same ↦ (inl same, ap p same ∙ t) | inr rest ↦ let found = in_filter_from ys x rest in (inr found.0, found.1) ]
-        | false ↦ λ t j. let found = in_filter_from ys x j in (inr found.0, found.1)
-      ] refl i
-
-  pub all_pass : (xs : List A) → ((x : A) → In x xs → p x ≡ true) → list_all p xs ≡ true
-  all_pass [] each = refl
-  all_pass (x ∷ xs) each = ap (λ (b : Bool). b && list_all p xs) (each x (inl refl)) ∙ all_pass xs (λ y i. each y (inr i))
-
-module _ {A B : Type 0} (f : A → List B) where
-  pub in_flat : (xs : List A) (x : A) (z : B) → In x xs → In z (f x) → In z (flat_map f xs)
-  in_flat [] x z i j = absurd i
-  in_flat (y ∷ ys) x z (inl same) j = in_append_left (f y) (flat_map f ys) z (subst (λ (w : A). In z (f w)) same j)
-  in_flat (y ∷ ys) x z (inr i) j = in_append_right (f y) (flat_map f ys) z (in_flat ys x z i j)
-
-  pub in_flat_from : (xs : List A) (z : B) → In z (flat_map f xs) → (x : A) × In x xs × In z (f x)
-  in_flat_from [] z i = absurd i
-  in_flat_from (x ∷ xs) z i =
-      elim (in_parts (f x) (flat_map f xs) z i) [
-        | inl j ↦ (x, inl refl, j)
-        | inr j ↦ let found = in_flat_from xs z j in (found.0, inr found.1, found.2)
-      ]
+pub all_pass : {A : Type 0} (p : A → Bool) (xs : List A) → ((x : A) → In x xs → p x ≡ true) → list_all p xs ≡ true
+all_pass p [] each = refl
+all_pass p (x ∷ xs) each = ap (λ (b : Bool). b && list_all p xs) (each x (inl refl)) ∙ all_pass p xs (λ y i. each y (inr i))
 
 -- ---- entries of a map
 

@@ -11,6 +11,7 @@ use Rattle.pmg_value.specs.declared.process.Proc.{Proc}
 use Rattle.pmg_value.specs.InOrder.{in_order}
 use Rattle.pmg_value.specs.Process.{proc_cmp}
 use Rattle.pmg_value.proofs.ListLemmas.{in_from_list_any, list_any_in, list_any_none, in_map_from}
+use Rattle.pmg_value.proofs.MadeLists.{in_range}
 use Rattle.pmg_value.proofs.ProcessOrder.{procs_total, exact_procs}
 use Rattle.pmg_value.proofs.SetLemmas.{same_bool}
 use Rattle.pmg_jobinfo.specs.Expansion.{ranks, is_all, members, meant, expansion, expansion_size}
@@ -18,7 +19,7 @@ use Rattle.pmg_jobinfo.specs.Jobs.{Jobs, size_of}
 use Rattle.pmg_jobinfo.specs.Rules.{StandsFor}
 use Rattle.pmg_jobinfo.proofs.HomeLemmas.{count_more}
 use Rattle.pmg_jobinfo.proofs.MemberLemmas.{any_append}
-use Rattle.pmg_jobinfo.proofs.RuleLemmas.{in_range, is_same, same_itself, same_is, meant_stands, stands_meant}
+use Rattle.pmg_jobinfo.proofs.RuleLemmas.{is_same, same_itself, same_is, meant_stands, stands_meant}
 use Rattle.pmg_jobinfo.proofs.SetSums.{sum-insert, sum-empty}
 
 -- p in a list stands for q

@@ -1,8 +1,8 @@
 -- Whom an expansion has.
-use Rattle.std.proofs.Common.{◌≡◌, ℕ, zero, suc, ◌+◌, ◌<◌, ◌≤◌, List, [], ◌∷◌, Bool, true, false, not, ◌||◌, ◌⊎◌, inl, inr, map, refl, sym, ap, subst, ◌∙◌, arith}
+use Rattle.std.proofs.Common.{◌≡◌, ℕ, ◌<◌, List, [], ◌∷◌, Bool, true, false, not, ◌||◌, inl, inr, map, refl, sym, ap, subst, ◌∙◌, arith}
 use Rattle.std.specs.Prelude.{◌&&◌, if◌then◌else◌}
 use Rattle.std.specs.Cmp.{Equal-is}
-use Rattle.std.specs.List.{list_any, flat_map, range_with_len}
+use Rattle.std.specs.List.{list_any, flat_map}
 use Rattle.std.specs.Ordering.{eq_by_cmp, is_eq}
 use Rattle.std.specs.FinSet as set
 use Rattle.std.proofs.lemmas.Bool.{false≢true, ltb-true, lt-ltb}
@@ -12,6 +12,7 @@ use Rattle.pmg_value.specs.declared.refusal.Refusal.TheVariants as refusals
 use Rattle.pmg_value.specs.Lists.{In, SameItems}
 use Rattle.pmg_value.specs.Process.{proc_cmp}
 use Rattle.pmg_value.proofs.ListLemmas.{in_from_list_any, list_any_in, not_in_list_any, in_map, in_map_from}
+use Rattle.pmg_value.proofs.MadeLists.{in_range, range_in}
 use Rattle.pmg_value.proofs.ProcessOrder.{procs_total, exact_procs}
 use Rattle.pmg_value.proofs.SetLemmas.{same_bool}
 use Rattle.pmg_jobinfo.specs.Expansion.{ranks, is_all, is_undefined, members, meant, expansion}
@@ -19,23 +20,6 @@ use Rattle.pmg_jobinfo.specs.Jobs.{Jobs, is_member, is_registered, size_of}
 use Rattle.pmg_jobinfo.specs.Refusing.{is_bad}
 use Rattle.pmg_jobinfo.specs.Rules.{StandsFor, EachIsMeant, OrderIsFree, EachIsMember}
 use Rattle.pmg_jobinfo.proofs.MemberLemmas.{any_flat}
-
--- ---- ranks
-
-pub in_range : (a n k : ℕ) → In k (range_with_len a n) → (a ≤ k) × (k < a + n)
-in_range a zero k i = absurd i
-in_range a (suc n) k (inl e) = (omega (arith, e), omega (arith, e))
-in_range a (suc n) k (inr i) = let h = in_range (a + 1) n k i in (omega (arith, h.0), omega (arith, h.1))
-
-pub range_in : (a n k : ℕ) → a ≤ k → k < a + n → In k (range_with_len a n)
-range_in a zero k low high = absurd (omega (arith, low, high))
-range_in a (suc n) k low high = elim (order_cases a k low) [ inl e ↦ inl (sym e) | inr less ↦ inr (range_in (a + 1) n k (omega (arith, less)) (omega (arith, high))) ]
-  where
-    order_cases : (x y : ℕ) → x ≤ y → (x ≡ y) ⊎ (x < y)
-    order_cases zero zero h = inl refl
-    order_cases zero (suc y) h = inr (omega arith)
-    order_cases (suc x) zero h = absurd (omega (arith, h))
-    order_cases (suc x) (suc y) h = elim (order_cases x y (omega (arith, h))) [ inl e ↦ inl (ap (λ (n : ℕ). suc n) e) | inr less ↦ inr (omega (arith, less)) ]
 
 -- ---- membership
 

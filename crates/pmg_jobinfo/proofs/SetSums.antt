@@ -1,5 +1,5 @@
 -- What the items of a finite set count for, when one is put to it.
-use Rattle.std.proofs.Common.{◌≡◌, ℕ, ◌+◌, Bool, true, false, cond, ◌&&◌, ◌||◌, T, List, [], ◌∷◌, map, Option, Some, None, is_some, refl, sym, ap, ◌∙◌, arith}
+use Rattle.std.proofs.Common.{◌≡◌, ℕ, ◌+◌, cond, ◌||◌, T, List, [], ◌∷◌, map, Option, Some, None, is_some, refl, sym, ap, ◌∙◌, arith}
 use Rattle.std.specs.Cmp.{IsTotalOrder}
 use Rattle.std.specs.FinMap as finite
 use Rattle.std.specs.FinMap.Entries.{find, put, by_order, below_all, is_sorted}
@@ -11,31 +11,8 @@ use Rattle.std.specs.declared.cmp.Ordering.{Ordering}
 use Rattle.std.specs.declared.cmp.Ordering.TheVariants.{Less, Equal, Greater}
 use Rattle.std.proofs.lemmas.List.Sums.{sum_by-cons}
 use Rattle.pmg_value.specs.InOrder.{as_entries, in_order}
-use Rattle.pmg_value.proofs.SetOrder.{any_in_order, in_order-from_list}
-
-t_first : (a b : Bool) → T (a && b) → T a
-t_first true b h = tt
-t_first false b h = absurd h
-
-t_second : (a b : Bool) → T (a && b) → T b
-t_second true b h = h
-t_second false b h = absurd h
-
-is_less : (r : Ordering) → T (is_lt r) → r ≡ Less
-is_less Less h = refl
-is_less Equal h = absurd h
-is_less Greater h = absurd h
-
--- two marks that are there alike are equal
-units : (a b : Option (Unit {0})) → is_some a ≡ is_some b → a ≡ b
-units None None e = refl
-units (Some x) (Some y) e = refl
-units None (Some y) e = absurd cc
-units (Some x) None e = absurd cc
-
-some_if : (b : Bool) (x : Option (Unit {0})) → is_some (cond b (Some tt) x) ≡ (b || is_some x)
-some_if true x = refl
-some_if false x = refl
+use Rattle.pmg_value.proofs.SetOrder.{any_in_order, in_order-from_list, units, some_if}
+use Rattle.pmg_scope.proofs.SumLemmas.{t_first, t_second, is_less}
 
 module _ {K : Type 0} {R : K → K → Ordering} (o : IsTotalOrder R) (exact : set.IsAntisymmetric R) (f : K → ℕ) where
   abbrev Marks : Type 0

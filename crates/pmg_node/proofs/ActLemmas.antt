@@ -1,5 +1,5 @@
 -- An act of a node: that it is refused, or what it does and sends.
-use Rattle.std.proofs.Common.{◌≡◌, false, List, [], Ok, Err, ap, ◌∙◌}
+use Rattle.std.proofs.Common.{◌≡◌, false, List, [], ◌++◌, append-nil, Ok, Err, sym, ap, ◌∙◌}
 use Rattle.pmg_value.specs.CheckOrder.{first_of}
 use Rattle.pmg_value.specs.declared.refusal.Refusal.{Refusal}
 use Rattle.pmg_node_model.specs.Acts.{Act, Reply, Done, done_as, cause, does, acts}
@@ -8,6 +8,7 @@ use Rattle.pmg_node_model.specs.Holdings.{NodeState, sealer_of, settled}
 use Rattle.pmg_node_model.specs.Sending.{is_quiet}
 use Rattle.pmg_node.specs.Servers.{Server, reply_to, sent_by, after}
 use Rattle.pmg_node_model.specs.declared.due.ToSend.{ToSend}
+use Rattle.pmg_node_model.specs.declared.sent.Sent.{Sent}
 use Rattle.pmg_node.proofs.SilentLemmas.{act_free, act_refused, refused_silent, sent_as, after_is, sent_none}
 
 -- an act that is refused changes nothing
@@ -20,6 +21,19 @@ module _ (s : Server) (a : Act) (e : Refusal) (is : first_of (cause s.jobs s.id 
 
   pub refused_sent : sent_by s a ≡ []
   refused_sent = sent_none s a (refused_silent s.jobs s.id s.holding a s.marks e is)
+
+-- so this is told, left and sent
+pub record IsRefused (s : Server) (a : Act) (e : Refusal) (out : List Sent) : Type 0 where
+  pub reply : reply_to s a ≡ Reply.refused e
+  pub done : s ≡ after s a
+  pub sent : out ≡ out ++ sent_by s a
+
+pub refused : (s : Server) (a : Act) (e : Refusal) → first_of (cause s.jobs s.id s.holding a) (tt {0}) ≡ Err e → (out : List Sent) → IsRefused s a e out
+refused s a e is out = record {
+  reply = refused_reply s a e is;
+  done = sym (refused_after s a e is);
+  sent = sym (append-nil out) ∙ ap (λ (x : List Sent). out ++ x) (sym (refused_sent s a e is));
+}
 
 -- an act that is not refused, by what it leaves and by what is due then
 module _

@@ -100,3 +100,13 @@ module _ (s : Server) (a : Act) (e : Refusal) (fails : Fails e (first_of (cause 
       | inl same ↦ no_memory same answered
       | inr plain ↦ sym (append-nil out) ∙ ap (λ (x : List Sent). out ++ x) (sym (refused_sent s a e (plain.due _ fails)))
     ]
+
+-- so this is told, left and sent, where the call was answered
+pub record IsErred {X : Type 0} (s : Server) (a : Act) (view : X → Reply) (r : Result X Refusal) (out : List Sent) : Type 0 where
+  pub reply : Replies view r (reply_to s a)
+  pub done : IsAnswered r → s ≡ after s a
+  pub sent : IsAnswered r → out ≡ out ++ sent_by s a
+
+pub erred : {X : Type 0} (s : Server) (a : Act) (e : Refusal) → Fails e (first_of (cause s.jobs s.id s.holding a) (tt {0})) → (r : Result X Refusal) → r ≡ Err e → (view : X → Reply)
+    → (first_of (cause s.jobs s.id s.holding a) (tt {0}) ≡ Ok tt → IsAccepted (reply_to s a)) → (out : List Sent) → IsErred s a view r out
+erred s a e fails r is view accepted out = record { reply = erred_reply s a e fails r is view accepted; done = erred_after s a e fails r is; sent = erred_sent s a e fails r is out }

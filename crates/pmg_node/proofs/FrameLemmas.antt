@@ -1,5 +1,5 @@
 -- Frames that are ignored or taken.
-use Rattle.std.proofs.Common.{◌≡◌, ◌<◌, ◌≤◌, arith, ℕ, nat_lt, Bool, true, false, ◌&&◌, ◌==◌, cond, [], Some, Ok, refl, ap, ◌∙◌}
+use Rattle.std.proofs.Common.{◌≡◌, ◌<◌, ◌≤◌, arith, ℕ, nat_lt, Bool, true, false, ◌&&◌, ◌==◌, cond, List, [], ◌++◌, append-nil, Some, Ok, refl, sym, ap, ◌∙◌}
 use Rattle.std.proofs.lemmas.Bool.Decides.{nat_tests}
 use Rattle.pmg_value.specs.CheckOrder.{first_of}
 use Rattle.pmg_value.specs.declared.process.Proc.{Proc}
@@ -14,6 +14,7 @@ use Rattle.pmg_node_model.specs.Acts.{Act, Done, Reply, done_as, holds_unless, c
 use Rattle.pmg_node_model.specs.Choosing.{Out, asked_marks, answering, replying, due_by, due_by_frame, marked_by_act, sends, chosen}
 use Rattle.pmg_node_model.specs.Holdings.{NodeState, sealer_of, holding_ask, settled}
 use Rattle.pmg_node_model.specs.Kept.{IsSettled}
+use Rattle.pmg_node_model.specs.declared.sent.Sent.{Sent}
 use Rattle.pmg_node.specs.Servers.{Server, IsNode, after, reply_to, sent_by}
 use Rattle.pmg_node_model.proofs.KeptSettled.{settled_same}
 use Rattle.pmg_node.proofs.SilentLemmas.{act_free, sent_as, quiet_silent, after_is, sent_none}
@@ -119,14 +120,24 @@ module _ (jobs : Jobs) (id : ℕ) (h : NodeState) where
         sent_as jobs id h (Act.deliver (frames.DirectAsk a)) marks (done_as Reply.taken (holds_unless (nat_lt a.level (sealer_of h a.proc).level) h a.node a.proc a.level)) (direct_is a e) refl
         ∙ same_out (nat_lt a.level (sealer_of h a.proc).level) (asked_marks marks (Some a)) a.node a.proc a.level
 
--- a frame that is not taken changes nothing, and nothing goes out
-pub record Ignores (s : Server) (frame : Frame) : Type 0 where
-  pub reply : reply_to s (Act.deliver frame) ≡ Reply.ignored
-  pub left : after s (Act.deliver frame) ≡ s
-  pub sent : sent_by s (Act.deliver frame) ≡ []
+-- after a frame that is taken, and changes nothing of what is held, the marks are those of what goes out
+pub marked_after : (t s : Server) → t ≡ s → (frame : Frame) (marks : Levels) (out : Out) → marks ≡ out.marks → acts s.jobs s.id s.holding (Act.deliver frame) ≡ done_as Reply.taken s.holding
+    → chosen s.jobs s.id s.holding s.marks (Act.deliver frame) ≡ out → with_marks marks t ≡ after s (Act.deliver frame)
+marked_after t s view frame marks out same is goes =
+    ap (with_marks marks) view ∙ ap (λ (m : Levels). with_marks m s) same ∙ sym (λ i. record { jobs = s.jobs; id = s.id; holding = (is i).left; marks = (goes i).marks })
 
-pub ignores : (s : Server) → IsNode s → (frame : Frame) → is_taken s.jobs s.id s.holding.table frame ≡ false → Ignores s frame
-ignores s kept frame none =
+-- a frame that is not taken changes nothing, and nothing goes out after what is there
+pub record Ignores (s : Server) (frame : Frame) (out : List Sent) : Type 0 where
+  pub reply : reply_to s (Act.deliver frame) ≡ Reply.ignored
+  pub ok : s ≡ after s (Act.deliver frame)
+  pub sent : out ≡ out ++ sent_by s (Act.deliver frame)
+
+pub ignores : (s : Server) → IsNode s → (frame : Frame) → is_taken s.jobs s.id s.holding.table frame ≡ false → (out : List Sent) → Ignores s frame out
+ignores s kept frame none out =
     let is = ignored_is s.jobs s.id s.holding kept.server.settled frame none in
     let silent = ignored_silent s.jobs s.id s.holding kept.server.settled s.marks frame none in
-    record { reply = ap (λ (d : Done). d.reply) is; left = after_is s (Act.deliver frame) silent _ is; sent = sent_none s (Act.deliver frame) silent }
+    record {
+      reply = ap (λ (d : Done). d.reply) is;
+      ok = sym (after_is s (Act.deliver frame) silent _ is);
+      sent = sym (append-nil out) ∙ ap (λ (x : List Sent). out ++ x) (sym (sent_none s (Act.deliver frame) silent));
+    }

@@ -1,5 +1,5 @@
 -- What a node keeps stays so.
-use Rattle.std.proofs.Common.{◌≡◌, ℕ, Bool, true, false, cond, Option, Some, None, is_some, refl, ap, ◌∙◌}
+use Rattle.std.proofs.Common.{◌≡◌, ℕ, Bool, true, false, cond, Some, is_some, refl, ap, ◌∙◌}
 use Rattle.std.specs.FinMap as finite
 use Rattle.std.specs.Ordering.{eq_by_cmp}
 use Rattle.pmg_value.specs.Process.{proc_cmp, is_host}
@@ -11,12 +11,11 @@ use Rattle.pmg_pset.specs.Sets.{host, set_changed}
 use Rattle.pmg_frame.specs.declared.frame.Frame.{Frame}
 use Rattle.pmg_frame.specs.declared.frame.Frame.TheVariants as frames
 use Rattle.pmg_jobinfo.specs.Jobs.{Jobs}
-use Rattle.pmg_get.specs.Gets.{Outcome}
-use Rattle.pmg_get.specs.declared.view.Mode.{Mode}
 use Rattle.std.specs.Prelude.{nat_lt, if◌then◌else◌}
-use Rattle.pmg_node_model.specs.Acts.{Act, Request, Reply, done_as, members_of, is_taken, holds_unless, receives, leaves, takes, asks, serves, does, acts}
-use Rattle.pmg_node_model.specs.Holdings.{Get, CallState, NodeState, sealing, sealer_of, call_of, answer_in}
+use Rattle.pmg_node_model.specs.Acts.{Act, Request, Reply, done_as, members_of, is_taken, holds_unless, receives, serves, does, acts}
+use Rattle.pmg_node_model.specs.Holdings.{NodeState, sealing, sealer_of, call_of, answer_in}
 use Rattle.pmg_node.specs.Servers.{Server, after, HasSealers, IsNode}
+use Rattle.pmg_node_model.proofs.CallEnds.{ends_left, asks_left}
 use Rattle.pmg_node_model.proofs.KeptActs.{server_stays}
 use Rattle.pmg_node_model.proofs.KeptBasics.{act_cases}
 
@@ -33,36 +32,12 @@ module _ (jobs : Jobs) (id : ℕ) (h : NodeState) (has : HasSealers jobs id h) w
   sealing_has : (by : Proc) (z : Sealed) → Has (sealing h by z)
   sealing_has by z p own = still_there h by z p (is_host by) (has p own)
 
-  leave_has : (p : Proc) (c : Option CallState) → Has (leaves h p c).left
-  leave_has p (Some (CallState.in_fence f)) = has
-  leave_has p (Some (CallState.released f gone)) = has
-  leave_has p (Some (CallState.parked get)) = has
-  leave_has p (Some (CallState.answered get outcome)) = has
-  leave_has p (Some (CallState.refreshing get number)) = has
-  leave_has p (Some (CallState.refreshed get outcome)) = has
-  leave_has p None = has
-
-  take_has : (p : Proc) (c : Option CallState) → Has (takes h p c).left
-  take_has p (Some (CallState.in_fence f)) = has
-  take_has p (Some (CallState.released f gone)) = has
-  take_has p (Some (CallState.parked get)) = has
-  take_has p (Some (CallState.answered get outcome)) = has
-  take_has p (Some (CallState.refreshing get number)) = has
-  take_has p (Some (CallState.refreshed get outcome)) = has
-  take_has p None = has
-
-  ask_has : (p : Proc) (get : Get) (mode : Mode) (o : Outcome) → Has (asks h p get mode o).left
-  ask_has p get mode Outcome.parks = has
-  ask_has p get mode (Outcome.found value) = has
-  ask_has p get mode Outcome.absent = has
-  ask_has p get mode Outcome.outside = has
-
   serve_has : (r : Request) → Has (serves jobs id h r).left
   unfolding serves
   serve_has (Request.enter p list collect) = has
-  serve_has (Request.leave p) = leave_has p (call_of h p)
-  serve_has (Request.ask p get mode) = ask_has p get mode (answer_in jobs id h get mode)
-  serve_has (Request.take p) = take_has p (call_of h p)
+  serve_has (Request.leave p) = (ends_left h p Has has has (call_of h p)).0
+  serve_has (Request.ask p get mode) = asks_left h p get mode Has has has (answer_in jobs id h get mode)
+  serve_has (Request.take p) = (ends_left h p Has has has (call_of h p)).1
   serve_has (Request.terminate p) = sealing_has p (ended_with (sealer_of h p))
   serve_has (Request.define name list) = sealing_has host (set_changed h.sets name (definition name (members_of jobs list)).bytes)
   serve_has (Request.delete name) = sealing_has host (set_changed h.sets name (deletion name).bytes)

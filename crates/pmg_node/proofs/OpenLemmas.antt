@@ -1,19 +1,19 @@
 -- Gets that wait for replies, after an act.
-use Rattle.std.proofs.Common.{◌≡◌, ◌⊎◌, ◌≤◌, ℕ, suc, arith, Bool, true, false, Option, Some, None, inl, inr, sym, ap, ◌∙◌}
+use Rattle.std.proofs.Common.{◌≡◌, ◌⊎◌, ◌≤◌, ℕ, suc, arith, Bool, true, false, Some, inl, inr, sym, ap, ◌∙◌}
 use Rattle.std.specs.Prelude.{if◌then◌else◌, nat_lt}
 use Rattle.pmg_value.specs.declared.process.Proc.{Proc}
 use Rattle.pmg_value.specs.Signatures.{FenceName}
 use Rattle.pmg_frame.specs.Refreshing.{told_by}
 use Rattle.pmg_frame.specs.declared.frame.Frame.{Frame}
 use Rattle.pmg_frame.specs.declared.frame.Frame.TheVariants as frames
-use Rattle.pmg_get.specs.Gets.{Outcome}
 use Rattle.pmg_get.specs.declared.view.Mode.{Mode}
 use Rattle.pmg_get.specs.declared.view.Mode.TheVariants as modes
 use Rattle.pmg_jobinfo.specs.Jobs.{Jobs}
 use Rattle.pmg_fence.specs.Changes.{next_name}
 use Rattle.pmg_dmodex.specs.Refreshes.{Refreshes, asker_at}
-use Rattle.pmg_node_model.specs.Acts.{Act, Request, Reply, done_as, waits_as, leaves, takes, asks, signature_of, serves, does, is_taken, holds_unless, receives, acts}
+use Rattle.pmg_node_model.specs.Acts.{Act, Request, Reply, done_as, waits_as, signature_of, serves, does, is_taken, holds_unless, receives, acts}
 use Rattle.pmg_node_model.specs.Holdings.{Get, CallState, NodeState, sealer_of, call_of, with_far, joined, uncalled, answer_in, settled}
+use Rattle.pmg_node_model.proofs.CallEnds.{ends_left, asks_left}
 use Rattle.pmg_node_model.proofs.KeptBasics.{act_cases, put_cases, removed_some}
 use Rattle.pmg_node_model.proofs.KeptChanges.{settled_some, settle_refreshing, replied_some, reply_refreshing}
 use Rattle.pmg_node.specs.Content.{AreOpen}
@@ -36,35 +36,10 @@ module _ (jobs : Jobs) (id : ℕ) (h : NodeState) where
   uncalled_old : (by : Proc) → AreOld (uncalled h by)
   uncalled_old by p get number e = inl (removed_some h.calls by p (CallState.refreshing get number) e)
 
-  leaves_old : (by : Proc) (c : Option CallState) → AreOld (leaves h by c).left
-  leaves_old by (Some (CallState.in_fence f)) = same_old
-  leaves_old by (Some (CallState.released f gone)) = uncalled_old by
-  leaves_old by (Some (CallState.parked get)) = same_old
-  leaves_old by (Some (CallState.answered get outcome)) = same_old
-  leaves_old by (Some (CallState.refreshing get number)) = same_old
-  leaves_old by (Some (CallState.refreshed get outcome)) = same_old
-  leaves_old by None = same_old
-
-  takes_old : (by : Proc) (c : Option CallState) → AreOld (takes h by c).left
-  takes_old by (Some (CallState.in_fence f)) = same_old
-  takes_old by (Some (CallState.released f gone)) = same_old
-  takes_old by (Some (CallState.parked get)) = same_old
-  takes_old by (Some (CallState.answered get outcome)) = uncalled_old by
-  takes_old by (Some (CallState.refreshing get number)) = same_old
-  takes_old by (Some (CallState.refreshed get outcome)) = uncalled_old by
-  takes_old by None = same_old
-
   waits_next : (n : ℕ) (get other : Get) (number : ℕ) (mode : Mode) → waits_as n get mode ≡ CallState.refreshing other number → number ≡ suc n
   waits_next n get other number modes.Wait is = absurd cc
   waits_next n get other number modes.Now is = absurd cc
   waits_next n get other number modes.Refresh is = cc
-
-  asks_old : (by : Proc) (get : Get) (mode : Mode) (o : Outcome) → AreOld (asks h by get mode o).left
-  asks_old by get mode Outcome.parks = λ p other number e.
-      put_cases h.calls by p (waits_as h.requests get mode) (CallState.refreshing other number) e (λ same is. inr (waits_next h.requests get other number mode is)) (λ is. inl is)
-  asks_old by get mode (Outcome.found value) = same_old
-  asks_old by get mode Outcome.absent = same_old
-  asks_old by get mode Outcome.outside = same_old
 
   apart : {A : Type 0} (f : FenceName) (get : Get) (number : ℕ) → CallState.in_fence f ≡ CallState.refreshing get number → A
   apart f get number is = absurd cc
@@ -74,9 +49,12 @@ module _ (jobs : Jobs) (id : ℕ) (h : NodeState) where
   serves_old (Request.enter by list collect) = λ p get number e.
       let f = next_name h.table (signature_of jobs by list collect) by in
       put_cases h.calls by p (CallState.in_fence f) (CallState.refreshing get number) e (λ same is. apart f get number is) (λ is. inl is)
-  serves_old (Request.leave by) = leaves_old by (call_of h by)
-  serves_old (Request.ask by get mode) = asks_old by get mode (answer_in jobs id h get mode)
-  serves_old (Request.take by) = takes_old by (call_of h by)
+  serves_old (Request.leave by) = (ends_left h by AreOld same_old (uncalled_old by) (call_of h by)).0
+  serves_old (Request.ask by get mode) =
+      asks_left h by get mode AreOld same_old (λ p other number e.
+      put_cases h.calls by p (waits_as h.requests get mode) (CallState.refreshing other number) e (λ same is. inr (waits_next h.requests get other number mode is)) (λ is. inl is))
+      (answer_in jobs id h get mode)
+  serves_old (Request.take by) = (ends_left h by AreOld same_old (uncalled_old by) (call_of h by)).1
   serves_old (Request.terminate by) = λ p get number e. inl (removed_some h.calls by p (CallState.refreshing get number) e)
   serves_old (Request.define name list) = λ p get number e. inl e
   serves_old (Request.delete name) = λ p get number e. inl e

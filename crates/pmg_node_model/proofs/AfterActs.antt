@@ -39,41 +39,35 @@ not_released modes.Wait n get f gone e = cc
 not_released modes.Now n get f gone e = cc
 not_released modes.Refresh n get f gone e = cc
 
+-- a call that no act of the process comes to was there before
+module _
+    (jobs : Jobs)
+    (id : ℕ)
+    (h : NodeState)
+    (p : Proc)
+    (s : CallState)
+    (enters : (f : FenceName) → Some (CallState.in_fence f) ≡ Some s → ⊥)
+    (waits : (mode : Mode) (n : ℕ) (get : Get) → Some (waits_as n get mode) ≡ Some s → ⊥)
+    (answers : (get : Get) (o : Outcome) → Some (CallState.refreshed get o) ≡ Some s → ⊥) where
+  over_not : None ≡ Some s → ⊥
+  over_not z = cc
+
+  pub called_before : (a : Act) (c : Option CallState) → StaysOrMoves jobs id h p a c → c ≡ Some s → call_of h p ≡ Some s
+  called_before a c (inl same) e = sym same ∙ e
+  called_before a c (inr (Moves.entering list collect is was now)) e = absurd (enters _ (sym now ∙ e))
+  called_before a c (inr (Moves.parking get mode is was answer now)) e = absurd (waits mode h.requests get (sym now ∙ e))
+  called_before a c (inr (Moves.leaving f gone is was now)) e = absurd (over_not (sym now ∙ e))
+  called_before a c (inr (Moves.taking get outcome is was now)) e = absurd (over_not (sym now ∙ e))
+  called_before a c (inr (Moves.taking_anew get outcome is was now)) e = absurd (over_not (sym now ∙ e))
+  called_before a c (inr (Moves.answering r get number is was its now)) e = absurd (answers get _ (sym now ∙ e))
+  called_before a c (inr (Moves.ending is now)) e = absurd (over_not (sym now ∙ e))
+
 -- no act makes a process released
 module _ (jobs : Jobs) (id : ℕ) (h : NodeState) (p : Proc) (f : FenceName) (gone : List Proc) where
-  released_still : (a : Act) (c : Option CallState) → StaysOrMoves jobs id h p a c → c ≡ Some (CallState.released f gone) → call_of h p ≡ Some (CallState.released f gone)
-  released_still a c (inl same) e = sym same ∙ e
-  released_still a c (inr (Moves.entering list collect is was now)) e = absurd (elsewhere (sym now ∙ e))
-    where
-      elsewhere : {x : FenceName} → Some (CallState.in_fence x) ≡ Some (CallState.released f gone) → ⊥
-      elsewhere z = cc
-  released_still a c (inr (Moves.parking get mode is was answer now)) e = absurd (elsewhere (sym now ∙ e))
-    where
-      elsewhere : Some (waits_as h.requests get mode) ≡ Some (CallState.released f gone) → ⊥
-      elsewhere z = not_released mode h.requests get f gone z
-  released_still a c (inr (Moves.leaving x others is was now)) e = absurd (elsewhere (sym now ∙ e))
-    where
-      elsewhere : None ≡ Some (CallState.released f gone) → ⊥
-      elsewhere z = cc
-  released_still a c (inr (Moves.taking get outcome is was now)) e = absurd (elsewhere (sym now ∙ e))
-    where
-      elsewhere : None ≡ Some (CallState.released f gone) → ⊥
-      elsewhere z = cc
-  released_still a c (inr (Moves.taking_anew get outcome is was now)) e = absurd (elsewhere (sym now ∙ e))
-    where
-      elsewhere : None ≡ Some (CallState.released f gone) → ⊥
-      elsewhere z = cc
-  released_still a c (inr (Moves.answering r get number is was its now)) e = absurd (elsewhere (sym now ∙ e))
-    where
-      elsewhere : {o : Outcome} → Some (CallState.refreshed get o) ≡ Some (CallState.released f gone) → ⊥
-      elsewhere z = cc
-  released_still a c (inr (Moves.ending is now)) e = absurd (elsewhere (sym now ∙ e))
-    where
-      elsewhere : None ≡ Some (CallState.released f gone) → ⊥
-      elsewhere z = cc
-
   pub does_frees : (a : Act) → NoCause (cause jobs id h a) → call_of (does jobs id h a).left p ≡ Some (CallState.released f gone) → call_of h p ≡ Some (CallState.released f gone)
-  does_frees a none e = released_still a (call_of (does jobs id h a).left p) (does_call jobs id h p a none) e
+  does_frees a none e =
+      called_before jobs id h p (CallState.released f gone) (λ x z. cc) (λ mode n get z. not_released mode n get f gone z) (λ get o z. cc) a (call_of (does jobs id h a).left p)
+      (does_call jobs id h p a none) e
 
   -- who is released stays so, unless it leaves or ends
   released_goes_on : (a : Act) (c : Option CallState) → call_of h p ≡ Some (CallState.released f gone) → (a ≡ Act.request (Request.leave p) → ⊥) → (a ≡ Act.request (Request.terminate p) → ⊥)

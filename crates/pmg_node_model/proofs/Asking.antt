@@ -16,12 +16,11 @@ use Rattle.pmg_frame.specs.declared.frame.Frame.TheVariants as frames
 use Rattle.pmg_jobinfo.specs.Jobs.{Jobs, home_of}
 use Rattle.pmg_fence.specs.Entering.{same_proc}
 use Rattle.pmg_dmodex.specs.Levels.{NodeLevels, Levels, levels_of, node_level, with_level, not_below, without_below}
-use Rattle.pmg_get.specs.Gets.{Outcome}
-use Rattle.pmg_get.specs.declared.view.Mode.{Mode}
-use Rattle.pmg_node_model.specs.Acts.{Request, Act, Reply, is_peer, is_known, is_taken, done_as, leaves, takes, asks, holds_unless, receives, serves, does}
-use Rattle.pmg_node_model.specs.Holdings.{Get, CallState, NodeState, sealer_of, call_of, answer_in}
+use Rattle.pmg_node_model.specs.Acts.{Request, Act, Reply, is_peer, is_known, is_taken, done_as, holds_unless, receives, serves, does}
+use Rattle.pmg_node_model.specs.Holdings.{NodeState, sealer_of, call_of, answer_in}
 use Rattle.pmg_node_model.specs.NodeLaws.{HeldAreOwn, HeldStayOwn}
 use Rattle.pmg_node_model.proofs.AfterActs.{after_act}
+use Rattle.pmg_node_model.proofs.CallEnds.{ends_left, asks_left}
 
 -- the levels are of processes at home at the node, at other nodes of the group
 abbrev pub AreOwn : Jobs → ℕ → Levels → Type 0
@@ -81,30 +80,6 @@ module _ (jobs : Jobs) (id : ℕ) (held : Levels) (p : Proc) where
 -- ---- each act
 
 module _ (jobs : Jobs) (id : ℕ) (h : NodeState) (own : HeldAreOwn jobs id h) where
-  leave_own : (by : Proc) (c : Option CallState) → HeldAreOwn jobs id (leaves h by c).left
-  leave_own by (Some (CallState.in_fence x)) = own
-  leave_own by (Some (CallState.released x gone)) = own
-  leave_own by (Some (CallState.parked get)) = own
-  leave_own by (Some (CallState.answered get outcome)) = own
-  leave_own by (Some (CallState.refreshing get number)) = own
-  leave_own by (Some (CallState.refreshed get outcome)) = own
-  leave_own by None = own
-
-  take_own : (by : Proc) (c : Option CallState) → HeldAreOwn jobs id (takes h by c).left
-  take_own by (Some (CallState.in_fence x)) = own
-  take_own by (Some (CallState.released x gone)) = own
-  take_own by (Some (CallState.parked get)) = own
-  take_own by (Some (CallState.answered get outcome)) = own
-  take_own by (Some (CallState.refreshing get number)) = own
-  take_own by (Some (CallState.refreshed get outcome)) = own
-  take_own by None = own
-
-  ask_own : (by : Proc) (get : Get) (mode : Mode) (o : Outcome) → HeldAreOwn jobs id (asks h by get mode o).left
-  ask_own by get mode Outcome.parks = own
-  ask_own by get mode (Outcome.found value) = own
-  ask_own by get mode Outcome.absent = own
-  ask_own by get mode Outcome.outside = own
-
   is_home : (m : ℕ) → (m == id) ≡ true → m ≡ id
   is_home m e = grind (arith, nat_tests)
 
@@ -132,9 +107,9 @@ module _ (jobs : Jobs) (id : ℕ) (h : NodeState) (own : HeldAreOwn jobs id h) w
   request_own : (r : Request) → HeldAreOwn jobs id (serves jobs id h r).left
   unfolding serves
   request_own (Request.enter by list collect) = own
-  request_own (Request.leave by) = leave_own by (call_of h by)
-  request_own (Request.ask by get mode) = ask_own by get mode (answer_in jobs id h get mode)
-  request_own (Request.take by) = take_own by (call_of h by)
+  request_own (Request.leave by) = (ends_left h by (HeldAreOwn jobs id) own own (call_of h by)).0
+  request_own (Request.ask by get mode) = asks_left h by get mode (HeldAreOwn jobs id) own own (answer_in jobs id h get mode)
+  request_own (Request.take by) = (ends_left h by (HeldAreOwn jobs id) own own (call_of h by)).1
   request_own (Request.terminate by) = own_without jobs id h.held by _ own
   request_own (Request.define name list) = own_without jobs id h.held _ _ own
   request_own (Request.delete name) = own_without jobs id h.held _ _ own

@@ -35,7 +35,8 @@ use Rattle.pmg_node_model.proofs.KeptBasics.{IsFree, act_cases, bad, unknown, fo
 use Rattle.pmg_node_model.proofs.KeptChanges.{sealer_there, settled_holds}
 use Rattle.pmg_node_model.proofs.KeptActs.{own_by, do_holds, receive_holds}
 use Rattle.pmg_node_model.proofs.ChoosingNews.{present_named}
-use Rattle.pmg_node_model.proofs.SendingLists.{flat_in, each_from, sent_for}
+use Rattle.pmg_value.proofs.MadeLists.{in_flat_from}
+use Rattle.pmg_node_model.proofs.SendingLists.{each_from, sent_for}
 use Rattle.pmg_node_model.proofs.ChoosingAllowed.{IsFine, fine_sent, news_own, telling_fine, announcing_fine, settling_fine, spreading_fine, answering_fine, replying_fine, asking_for_fine, asking_again_fine, nudging_fine}
 
 -- ---- an own header stays where its name is learned
@@ -79,7 +80,7 @@ module _ (jobs : Jobs) (are : AreJobs jobs) (id : ℕ) (old : NodeState) (holds 
       → (d : ToSend) → In d (due_by_request jobs id old r new) → IsFine jobs id (Act.request r) new d
   unfolding due_by_request serves cause request_cause
   request_fine (Request.enter p list collect) free new is after d i =
-      let found = flat_in (announcing jobs id) (news jobs id old.table new.table (next_name old.table (signature_of jobs p list collect) p)) d i in
+      let found = in_flat_from (announcing jobs id) (news jobs id old.table new.table (next_name old.table (signature_of jobs p list collect) p)) d i in
       announcing_fine jobs id (Act.request (Request.enter p list collect)) new found.0 (news_own jobs id (Act.request (Request.enter p list collect)) new old.table _ found.0 found.1) d found.2
   request_fine (Request.leave p) free new is after d i = absurd i
   request_fine (Request.ask p get mode) free new is after d i = asking_for_fine jobs id (Act.request (Request.ask p get mode)) new are after p (call_of new p) refl d i
@@ -89,8 +90,8 @@ module _ (jobs : Jobs) (are : AreJobs jobs) (id : ℕ) (old : NodeState) (holds 
       elim (in_parts _ (flat_map (announcing jobs id) (flat_map (news jobs id old.table new.table) (names_of old.table))) d i) [
         | inl j ↦ settling_fine jobs id (Act.request (Request.terminate p)) new old p holds after own.1 d j
         | inr j ↦
-            let told = flat_in (announcing jobs id) (flat_map (news jobs id old.table new.table) (names_of old.table)) d j in
-            let named = flat_in (news jobs id old.table new.table) (names_of old.table) told.0 told.1 in
+            let told = in_flat_from (announcing jobs id) (flat_map (news jobs id old.table new.table) (names_of old.table)) d j in
+            let named = in_flat_from (news jobs id old.table new.table) (names_of old.table) told.0 told.1 in
             announcing_fine jobs id (Act.request (Request.terminate p)) new told.0 (news_own jobs id (Act.request (Request.terminate p)) new old.table named.0 told.0 named.2) d told.2
       ]
   request_fine (Request.define name list) free new is after d i =
@@ -112,7 +113,7 @@ module _ (jobs : Jobs) (are : AreJobs jobs) (id : ℕ) (old : NodeState) (holds 
   unfolding due_by_frame is_taken receives
   frame_fine (frames.Piece c) taken new is after d i = risen_fine (Act.deliver (frames.Piece c)) new c.proc d i
   frame_fine (frames.Header hd) taken new is after d i =
-      let found = flat_in (announcing jobs id) (news jobs id old.table new.table hd.name) d i in
+      let found = in_flat_from (announcing jobs id) (news jobs id old.table new.table hd.name) d i in
       announcing_fine jobs id (Act.deliver (frames.Header hd)) new found.0 (news_own jobs id (Act.deliver (frames.Header hd)) new old.table hd.name found.0 found.1) d found.2
   frame_fine (frames.FenceAsk a) taken new is after d i = by_header (own_header_of jobs id old a.name) refl i
     where
@@ -123,7 +124,7 @@ module _ (jobs : Jobs) (are : AreJobs jobs) (id : ℕ) (old : NodeState) (holds 
           (refl, ap (λ (x : NodeState). own_header_of jobs id x a.name) is ∙ present_learned jobs id old.table a.name locals (not-true (is_old old.table a.name) (and_parts _ _ taken).1) e)
           (and_parts _ _ (and_parts _ _ taken).0).0 d j
       by_header None e j =
-          let found = flat_in (announcing jobs id) (news jobs id old.table new.table a.name) d j in
+          let found = in_flat_from (announcing jobs id) (news jobs id old.table new.table a.name) d j in
           announcing_fine jobs id (Act.deliver (frames.FenceAsk a)) new found.0 (news_own jobs id (Act.deliver (frames.FenceAsk a)) new old.table a.name found.0 found.1) d found.2
   frame_fine (frames.RangeAsk a) taken new is after d i =
       answering_fine jobs id (Act.deliver (frames.RangeAsk a)) new a.node a.proc a.level after (eqb-true (home_of jobs a.proc) id (and_parts _ _ taken).1) (and_parts _ _ (and_parts _ _ taken).0).0 d i

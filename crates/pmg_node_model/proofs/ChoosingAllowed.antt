@@ -42,7 +42,8 @@ use Rattle.pmg_node_model.specs.Kept.{Holds}
 use Rattle.pmg_node_model.specs.Sending.{sent, own_header_of, piece_from, reply_anew, ask_anew, Allowed}
 use Rattle.pmg_node_model.specs.declared.sent.Sent.{Sent}
 use Rattle.pmg_node_model.proofs.KeptBasics.{home_is_node}
-use Rattle.pmg_node_model.proofs.SendingLists.{flat_in, in_range, IsFor}
+use Rattle.pmg_value.proofs.MadeLists.{in_flat_from, in_range}
+use Rattle.pmg_node_model.proofs.SendingLists.{IsFor}
 
 -- what is due goes to another node, and may be sent
 abbrev pub IsFine : Jobs → ℕ → Act → NodeState → ToSend → Type 0
@@ -70,7 +71,7 @@ fine_sent jobs id a h holds (sendings.Rest node p) s fine is = (
 pub peer_is : (jobs : Jobs) (id node : ℕ) → In node (peers jobs id) → is_peer jobs id node ≡ true
 peer_is jobs id node i =
     let found = filter_in (λ m. not (m == id)) (ranks (length jobs.nodes)) node i in
-    and_from _ _ (lt-ltb node (length jobs.nodes) (omega (arith, in_range 0 (length jobs.nodes) node found.0))) found.1
+    and_from _ _ (lt-ltb node (length jobs.nodes) (omega (arith, (in_range 0 (length jobs.nodes) node found.0).1))) found.1
 
 pub peer_in : (jobs : Jobs) (id : ℕ) (f : FenceName) (node : ℕ) → In node (peers_in jobs id f) → is_peer jobs id node ≡ true
 peer_in jobs id f node i = peer_is jobs id node (filter_in (λ m. list_any (λ q. home_of jobs q == m) (participants_of f)) (peers jobs id) node i).0
@@ -111,7 +112,7 @@ module _ (jobs : Jobs) (id : ℕ) (a : Act) (h : NodeState) where
 
   pub announcing_fine : (hd : Header) → IsOwnHeader hd → (d : ToSend) → In d (announcing jobs id hd) → IsFine jobs id a h d
   announcing_fine hd own d i =
-      let found = flat_in (telling jobs id hd) (peers_in jobs id hd.name) d i in
+      let found = in_flat_from (telling jobs id hd) (peers_in jobs id hd.name) d i in
       telling_fine hd found.0 own (peer_in jobs id hd.name found.0 found.1) d found.2
 
   -- ---- pieces
@@ -190,7 +191,7 @@ module _ (jobs : Jobs) (id : ℕ) (a : Act) (h : NodeState) where
 
     pub asking_again_fine : (q : Proc) (d : ToSend) → In d (asking_again jobs id h q) → IsFine jobs id a h d
     asking_again_fine q d i =
-        let found = flat_in (λ (e : Proc × CallState). if is_parked_on q e.1 then asking_home jobs id h q else []) (finite.entries h.calls) d i in
+        let found = in_flat_from (λ (e : Proc × CallState). if is_parked_on q e.1 then asking_home jobs id h q else []) (finite.entries h.calls) d i in
         by_test (is_parked_on q found.0.1) found.2
       where
         by_test : (b : Bool) → In d (if b then asking_home jobs id h q else []) → IsFine jobs id a h d
@@ -205,7 +206,7 @@ module _ (jobs : Jobs) (id : ℕ) (a : Act) (h : NodeState) where
       let rows : List FenceName = flat_map (λ e. waited e.1) (finite.entries h.calls) in
       let listed = in_from_list name_total names_exact rows f
       (sym (any_in_order name_total (set.from_list {R = name_cmp} rows) f) ∙ list_any_in (eq_by_cmp name_cmp f) (waited_in h) f i (ap is_eq (tied_itself name_total f))) in
-      let found = flat_in (λ (e : Proc × CallState). waited e.1) (finite.entries h.calls) f listed in
+      let found = in_flat_from (λ (e : Proc × CallState). waited e.1) (finite.entries h.calls) f listed in
       (found.0.0, each_row procs_total h.calls found.0 found.1 ∙ ap Some (standing found.0.1 found.2))
     where
       standing : (s : CallState) → In f (waited s) → s ≡ CallState.in_fence f
@@ -261,9 +262,9 @@ module _ (jobs : Jobs) (id : ℕ) (a : Act) (h : NodeState) where
     pub nudging_fine : (d : ToSend) → In d (nudging jobs id h) → IsFine jobs id a h d
     nudging_fine d i =
         elim (in_parts (flat_map (asking_fence jobs id h) (waited_in h)) (flat_map (λ e. asking_for jobs id h (Some e.1)) (finite.entries h.calls) ++ asking_sets id h) d i) [
-          | inl j ↦ let found = flat_in (asking_fence jobs id h) (waited_in h) d j in asking_fence_fine found.0 found.1 d found.2
+          | inl j ↦ let found = in_flat_from (asking_fence jobs id h) (waited_in h) d j in asking_fence_fine found.0 found.1 d found.2
           | inr j ↦ elim (in_parts (flat_map (λ e. asking_for jobs id h (Some e.1)) (finite.entries h.calls)) (asking_sets id h) d j) [
-            | inl k ↦ let found = flat_in (λ (e : Proc × CallState). asking_for jobs id h (Some e.1)) (finite.entries h.calls) d k in asking_for_fine are holds found.0.0 (Some found.0.1) (each_row procs_total h.calls found.0 found.1) d found.2
+            | inl k ↦ let found = in_flat_from (λ (e : Proc × CallState). asking_for jobs id h (Some e.1)) (finite.entries h.calls) d k in asking_for_fine are holds found.0.0 (Some found.0.1) (each_row procs_total h.calls found.0 found.1) d found.2
             | inr k ↦ asking_sets_fine d k
           ]
         ]

@@ -34,8 +34,9 @@ use Rattle.pmg_node_model.specs.Kept.{Holds}
 use Rattle.pmg_node_model.specs.Sending.{sent, own_header_of, reply_anew, asked_by}
 use Rattle.pmg_node_model.proofs.KeptBasics.{put_cases, entry_listed}
 use Rattle.pmg_node_model.proofs.KeptChanges.{settled_call, settled_some, sealer_other}
+use Rattle.pmg_node_model.proofs.CallEnds.{ends_left}
 use Rattle.pmg_node_model.proofs.CallFacts.{get-mapped, call-uncalled}
-use Rattle.pmg_node_model.proofs.SendingLists.{in_flat}
+use Rattle.pmg_value.proofs.MadeLists.{in_flat}
 use Rattle.pmg_node_model.proofs.SendingOwed.{Covers}
 use Rattle.pmg_node_model.proofs.ChoosingNews.{by_name, present_named, present_with, present_entered, news_has, name_listed}
 
@@ -158,23 +159,8 @@ module _ (jobs : Jobs) (id : ℕ) (old : NodeState) (holds : Holds jobs id old) 
   left_stays : (p : Proc) → Stays (settled jobs id (uncalled old p))
   left_stays p = calls_stay (uncalled old p) refl (λ q. refl) (uncalled_free old p)
 
-  pub leave_stays : (p : Proc) (s : Option CallState) → Stays (settled jobs id (leaves old p s).left)
-  leave_stays p None = same_stays
-  leave_stays p (Some (CallState.in_fence f)) = same_stays
-  leave_stays p (Some (CallState.released f gone)) = left_stays p
-  leave_stays p (Some (CallState.parked get)) = same_stays
-  leave_stays p (Some (CallState.answered get outcome)) = same_stays
-  leave_stays p (Some (CallState.refreshing get number)) = same_stays
-  leave_stays p (Some (CallState.refreshed get outcome)) = same_stays
-
-  pub take_stays : (p : Proc) (s : Option CallState) → Stays (settled jobs id (takes old p s).left)
-  take_stays p None = same_stays
-  take_stays p (Some (CallState.in_fence f)) = same_stays
-  take_stays p (Some (CallState.released f gone)) = same_stays
-  take_stays p (Some (CallState.parked get)) = same_stays
-  take_stays p (Some (CallState.answered get outcome)) = left_stays p
-  take_stays p (Some (CallState.refreshing get number)) = same_stays
-  take_stays p (Some (CallState.refreshed get outcome)) = left_stays p
+  pub ends_stay : (p : Proc) (s : Option CallState) → Stays (settled jobs id (leaves old p s).left) × Stays (settled jobs id (takes old p s).left)
+  ends_stay p s = ends_left old p (λ h. Stays (settled jobs id h)) same_stays (left_stays p) s
 
   -- only this process comes to be in a call
   newly_called : (p : Proc) (t : CallState) (h : NodeState) → h.calls ≡ finite.insert old.calls p t → (q : Proc) (s : CallState) → call_of (settled jobs id h) q ≡ Some s → call_of old q ≡ None

@@ -21,7 +21,7 @@ use Rattle.pmg_fence.proofs.TableLemmas.{same_name, name_exact}
 use Rattle.pmg_node_model.specs.Kept.{HasTwo}
 use Rattle.pmg_node_model.proofs.Forgetting.{known_names, entry_names}
 use Rattle.pmg_node_model.proofs.KeptBasics.{entry_listed}
-use Rattle.pmg_node_model.proofs.SendingLists.{in_flat}
+use Rattle.pmg_value.proofs.MadeLists.{in_flat}
 
 -- two names are one or are told apart
 pub by_name : (x f : FenceName) {P : Type 0} → (x ≡ f → P) → (same_name x f ≡ false → P) → P

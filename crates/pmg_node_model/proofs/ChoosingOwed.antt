@@ -26,7 +26,7 @@ use Rattle.pmg_node_model.proofs.KeptBasics.{act_cases}
 use Rattle.pmg_node_model.proofs.SendingLists.{whole_sent}
 use Rattle.pmg_node_model.proofs.SendingOwed.{Covers, owed_due}
 use Rattle.pmg_node_model.proofs.ChoosingActs.{out_of}
-use Rattle.pmg_node_model.proofs.ChoosingCovers.{IsPlain, is_nudge, Stays, idle_covers, plain_request, plain_commit, old_stays, same_stays, leave_stays, take_stays, enter_covers, park_covers, commit_covers, more_covers, end_covers, nudge_covers, frame_covers, one_frame, no_header, no_piece, no_get, not_nudge}
+use Rattle.pmg_node_model.proofs.ChoosingCovers.{IsPlain, is_nudge, Stays, idle_covers, plain_request, plain_commit, old_stays, same_stays, ends_stay, enter_covers, park_covers, commit_covers, more_covers, end_covers, nudge_covers, frame_covers, one_frame, no_header, no_piece, no_get, not_nudge}
 
 module _ (jobs : Jobs) (are : AreJobs jobs) (id : ℕ) (old : NodeState) (holds : Holds jobs id old) (marks : Levels) where
   -- what is owed after an act that was done so is sent
@@ -67,11 +67,11 @@ module _ (jobs : Jobs) (are : AreJobs jobs) (id : ℕ) (old : NodeState) (holds 
       paid_by a (done_as done.reply (settled jobs id done.left)) refl (enter_covers jobs id old holds a (plain (Request.enter p list collect) refl) p (signature_of jobs p list collect))
   request_paid (Request.leave p) other =
       let done = leaves old p (call_of old p) in
-      paid_none (Act.request (Request.leave p)) (done_as done.reply (settled jobs id done.left)) (leave_stays jobs id old holds p (call_of old p)) (plain (Request.leave p) refl)
+      paid_none (Act.request (Request.leave p)) (done_as done.reply (settled jobs id done.left)) (ends_stay jobs id old holds p (call_of old p)).0 (plain (Request.leave p) refl)
   request_paid (Request.ask p get mode) other = ask_paid p get mode (answer_in jobs id old get mode)
   request_paid (Request.take p) other =
       let done = takes old p (call_of old p) in
-      paid_none (Act.request (Request.take p)) (done_as done.reply (settled jobs id done.left)) (take_stays jobs id old holds p (call_of old p)) (plain (Request.take p) refl)
+      paid_none (Act.request (Request.take p)) (done_as done.reply (settled jobs id done.left)) (ends_stay jobs id old holds p (call_of old p)).1 (plain (Request.take p) refl)
   request_paid (Request.terminate p) other =
       let a = Act.request (Request.terminate p) in
       let done = ends_as old p (ended_with (sealer_of old p)) in

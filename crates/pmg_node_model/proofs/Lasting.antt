@@ -26,12 +26,11 @@ use Rattle.pmg_fence.proofs.OldLemmas.{fence-counts, count-counts, ends-counts, 
 use Rattle.pmg_fence.proofs.StepLemmas.{count_is, new_fence}
 use Rattle.pmg_fence.proofs.TableLemmas.{same_instance, signature_exact, fence-placed, count-placed, ends-placed}
 use Rattle.pmg_fence.proofs.Trees.{get_put}
-use Rattle.pmg_get.specs.Gets.{Outcome}
-use Rattle.pmg_get.specs.declared.view.Mode.{Mode}
-use Rattle.pmg_node_model.specs.Acts.{Request, Act, Reply, also, list_cause, signature_cause, free_cause, request_cause, cause, list_of, signature_of, is_taken, done_as, leaves, takes, asks, enters_fence, holds_unless, receives, serves, does, acts}
-use Rattle.pmg_node_model.specs.Holdings.{Get, CallState, NodeState, new_holding, sealer_in, sealer_of, call_of, answer_in, with_table, uncalled, sealing}
+use Rattle.pmg_node_model.specs.Acts.{Request, Act, Reply, also, list_cause, signature_cause, free_cause, request_cause, cause, list_of, signature_of, is_taken, done_as, enters_fence, holds_unless, receives, serves, does, acts}
+use Rattle.pmg_node_model.specs.Holdings.{NodeState, new_holding, sealer_in, sealer_of, call_of, answer_in, with_table, uncalled, sealing}
 use Rattle.pmg_node_model.specs.Kept.{IsCounted, ReleasedRight}
 use Rattle.pmg_node_model.proofs.AfterActs.{after_act, ready_frees, freed_by_ready}
+use Rattle.pmg_node_model.proofs.CallEnds.{ends_left, asks_left}
 use Rattle.pmg_node_model.proofs.CauseFacts.{NoCause, IsCaller, caller_is, free_is, neither_cause}
 use Rattle.pmg_node_model.proofs.Growing.{act_gains}
 use Rattle.pmg_node_model.proofs.KeptBasics.{put_cases, put_other}
@@ -52,30 +51,6 @@ module _
 
   same_kept : KeepsIn h.table
   same_kept young other ls is = is
-
-  leave_keeps : (by : Proc) (c : Option CallState) → KeepsIn (leaves h by c).left.table
-  leave_keeps by (Some (CallState.in_fence x)) = same_kept
-  leave_keeps by (Some (CallState.released x gone)) = same_kept
-  leave_keeps by (Some (CallState.parked get)) = same_kept
-  leave_keeps by (Some (CallState.answered get outcome)) = same_kept
-  leave_keeps by (Some (CallState.refreshing get number)) = same_kept
-  leave_keeps by (Some (CallState.refreshed get outcome)) = same_kept
-  leave_keeps by None = same_kept
-
-  take_keeps : (by : Proc) (c : Option CallState) → KeepsIn (takes h by c).left.table
-  take_keeps by (Some (CallState.in_fence x)) = same_kept
-  take_keeps by (Some (CallState.released x gone)) = same_kept
-  take_keeps by (Some (CallState.parked get)) = same_kept
-  take_keeps by (Some (CallState.answered get outcome)) = same_kept
-  take_keeps by (Some (CallState.refreshing get number)) = same_kept
-  take_keeps by (Some (CallState.refreshed get outcome)) = same_kept
-  take_keeps by None = same_kept
-
-  ask_keeps : (by : Proc) (get : Get) (mode : Mode) (o : Outcome) → KeepsIn (asks h by get mode o).left.table
-  ask_keeps by get mode Outcome.parks = same_kept
-  ask_keeps by get mode (Outcome.found value) = same_kept
-  ask_keeps by get mode Outcome.absent = same_kept
-  ask_keeps by get mode Outcome.outside = same_kept
 
   held_keeps : (b : Bool) (from : ℕ) (p : Proc) (level : ℕ) → KeepsIn (holds_unless b h from p level).table
   held_keeps true from p level = same_kept
@@ -100,9 +75,9 @@ module _
   request_keeps (Request.enter by list collect) none =
       enters by (signature_of jobs by list collect)
       (free_is jobs node h by (neither_cause (free_cause jobs node h by) (also (list_cause jobs (list_of by list)) (signature_cause h (signature_of jobs by list collect) by)) none).0).0
-  request_keeps (Request.leave by) none = leave_keeps by (call_of h by)
-  request_keeps (Request.ask by get mode) none = ask_keeps by get mode (answer_in jobs node h get mode)
-  request_keeps (Request.take by) none = take_keeps by (call_of h by)
+  request_keeps (Request.leave by) none = (ends_left h by (λ g. KeepsIn g.table) same_kept same_kept (call_of h by)).0
+  request_keeps (Request.ask by get mode) none = asks_left h by get mode (λ g. KeepsIn g.table) same_kept same_kept (answer_in jobs node h get mode)
+  request_keeps (Request.take by) none = (ends_left h by (λ g. KeepsIn g.table) same_kept same_kept (call_of h by)).1
   request_keeps (Request.terminate by) none = ends by (caller_is jobs node h by none)
   request_keeps (Request.define name list) none = same_kept
   request_keeps (Request.delete name) none = same_kept
@@ -254,30 +229,6 @@ module _ (jobs : Jobs) (id : ℕ) (h : NodeState) (counted : IsCounted h) where
       }
 
   -- ---- any act
-  leave_counts : (by : Proc) (c : Option CallState) → IsCounted (leaves h by c).left
-  leave_counts by (Some (CallState.in_fence x)) = counted
-  leave_counts by (Some (CallState.released x gone)) = record { entered = counted.entered; ended = counted.ended }
-  leave_counts by (Some (CallState.parked get)) = counted
-  leave_counts by (Some (CallState.answered get outcome)) = counted
-  leave_counts by (Some (CallState.refreshing get number)) = counted
-  leave_counts by (Some (CallState.refreshed get outcome)) = counted
-  leave_counts by None = counted
-
-  take_counts : (by : Proc) (c : Option CallState) → IsCounted (takes h by c).left
-  take_counts by (Some (CallState.in_fence x)) = counted
-  take_counts by (Some (CallState.released x gone)) = counted
-  take_counts by (Some (CallState.parked get)) = counted
-  take_counts by (Some (CallState.answered get outcome)) = record { entered = counted.entered; ended = counted.ended }
-  take_counts by (Some (CallState.refreshing get number)) = counted
-  take_counts by (Some (CallState.refreshed get outcome)) = record { entered = counted.entered; ended = counted.ended }
-  take_counts by None = counted
-
-  ask_counts : (by : Proc) (get : Get) (mode : Mode) (o : Outcome) → IsCounted (asks h by get mode o).left
-  ask_counts by get mode Outcome.parks = record { entered = counted.entered; ended = counted.ended }
-  ask_counts by get mode (Outcome.found value) = counted
-  ask_counts by get mode Outcome.absent = counted
-  ask_counts by get mode Outcome.outside = counted
-
   held_counts : (b : Bool) (from : ℕ) (p : Proc) (level : ℕ) → IsCounted (holds_unless b h from p level)
   held_counts true from p level = counted
   held_counts false from p level = record { entered = counted.entered; ended = counted.ended }
@@ -299,9 +250,9 @@ module _ (jobs : Jobs) (id : ℕ) (h : NodeState) (counted : IsCounted h) where
   request_counts : (r : Request) → IsCounted (serves jobs id h r).left
   unfolding serves
   request_counts (Request.enter by list collect) = enter_counts by (signature_of jobs by list collect)
-  request_counts (Request.leave by) = leave_counts by (call_of h by)
-  request_counts (Request.ask by get mode) = ask_counts by get mode (answer_in jobs id h get mode)
-  request_counts (Request.take by) = take_counts by (call_of h by)
+  request_counts (Request.leave by) = (ends_left h by IsCounted counted (record { entered = counted.entered; ended = counted.ended }) (call_of h by)).0
+  request_counts (Request.ask by get mode) = asks_left h by get mode IsCounted counted (record { entered = counted.entered; ended = counted.ended }) (answer_in jobs id h get mode)
+  request_counts (Request.take by) = (ends_left h by IsCounted counted (record { entered = counted.entered; ended = counted.ended }) (call_of h by)).1
   request_counts (Request.terminate by) = end_counts by
   request_counts (Request.define name list) = change_counts _ _
   request_counts (Request.delete name) = change_counts _ _

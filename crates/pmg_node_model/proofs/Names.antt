@@ -1,5 +1,5 @@
 -- Which names of fences there are after an act.
-use Rattle.std.proofs.Common.{◌≡◌, ℕ, Bool, true, false, nat_lt, cond, Option, Some, None, refl}
+use Rattle.std.proofs.Common.{◌≡◌, ℕ, Bool, true, false, nat_lt, cond, Some, refl}
 use Rattle.pmg_value.specs.Signatures.{FenceName}
 use Rattle.pmg_value.specs.declared.process.Proc.{Proc}
 use Rattle.pmg_frame.specs.declared.frame.Frame.{Frame}
@@ -7,12 +7,11 @@ use Rattle.pmg_frame.specs.declared.frame.Frame.TheVariants as frames
 use Rattle.pmg_jobinfo.specs.Jobs.{Jobs}
 use Rattle.pmg_fence.specs.Changes.{next_name, fence_told}
 use Rattle.pmg_fence.specs.Tables.{is_old, fence_at}
-use Rattle.pmg_get.specs.Gets.{Outcome}
-use Rattle.pmg_get.specs.declared.view.Mode.{Mode}
-use Rattle.pmg_node_model.specs.Acts.{Request, Act, Reply, signature_of, is_taken, done_as, leaves, takes, asks, holds_unless, receives, serves, does, acts}
-use Rattle.pmg_node_model.specs.Holdings.{Get, CallState, NodeState, sealer_of, call_of, answer_in}
+use Rattle.pmg_node_model.specs.Acts.{Request, Act, Reply, signature_of, is_taken, done_as, holds_unless, receives, serves, does, acts}
+use Rattle.pmg_node_model.specs.Holdings.{NodeState, sealer_of, call_of, answer_in}
 use Rattle.pmg_node_model.specs.NodeLaws.{fence_named, NamesCome, TopsCome, TwoStay, NamesStay, TopsRise}
 use Rattle.pmg_node_model.proofs.AfterActs.{after_act}
+use Rattle.pmg_node_model.proofs.CallEnds.{ends_left, asks_left}
 use Rattle.pmg_node_model.proofs.Forgetting.{NamesAfter, same_names, ended_names, known_names, entry_names, not_old_before}
 
 -- the fence that a frame names is so
@@ -39,32 +38,11 @@ NewNames jobs h P (Act.commit p b) = Unit {0}
 NewNames jobs h P (Act.deliver frame) = FrameNames P frame
 
 module _ (jobs : Jobs) (node : ℕ) (h : NodeState) (P : FenceName → Type 0) where
-  still : NamesAfter P h.table h.table
+  abbrev HasNames : NodeState → Type 0
+  HasNames g = NamesAfter P h.table g.table
+
+  still : HasNames h
   still = same_names P h.table
-
-  leave_names : (by : Proc) (c : Option CallState) → NamesAfter P h.table (leaves h by c).left.table
-  leave_names by (Some (CallState.in_fence x)) = still
-  leave_names by (Some (CallState.released x gone)) = still
-  leave_names by (Some (CallState.parked get)) = still
-  leave_names by (Some (CallState.answered get outcome)) = still
-  leave_names by (Some (CallState.refreshing get number)) = still
-  leave_names by (Some (CallState.refreshed get outcome)) = still
-  leave_names by None = still
-
-  take_names : (by : Proc) (c : Option CallState) → NamesAfter P h.table (takes h by c).left.table
-  take_names by (Some (CallState.in_fence x)) = still
-  take_names by (Some (CallState.released x gone)) = still
-  take_names by (Some (CallState.parked get)) = still
-  take_names by (Some (CallState.answered get outcome)) = still
-  take_names by (Some (CallState.refreshing get number)) = still
-  take_names by (Some (CallState.refreshed get outcome)) = still
-  take_names by None = still
-
-  ask_names : (by : Proc) (get : Get) (mode : Mode) (o : Outcome) → NamesAfter P h.table (asks h by get mode o).left.table
-  ask_names by get mode Outcome.parks = still
-  ask_names by get mode (Outcome.found value) = still
-  ask_names by get mode Outcome.absent = still
-  ask_names by get mode Outcome.outside = still
 
   held_names : (b : Bool) (from : ℕ) (p : Proc) (level : ℕ) → NamesAfter P h.table (holds_unless b h from p level).table
   held_names true from p level = still
@@ -87,9 +65,9 @@ module _ (jobs : Jobs) (node : ℕ) (h : NodeState) (P : FenceName → Type 0) w
   request_names : (r : Request) → NewNames jobs h P (Act.request r) → NamesAfter P h.table (serves jobs node h r).left.table
   unfolding serves
   request_names (Request.enter by list collect) its = entry_names P h.table (signature_of jobs by list collect) by (sealer_of h by).level its
-  request_names (Request.leave by) its = leave_names by (call_of h by)
-  request_names (Request.ask by get mode) its = ask_names by get mode (answer_in jobs node h get mode)
-  request_names (Request.take by) its = take_names by (call_of h by)
+  request_names (Request.leave by) its = (ends_left h by HasNames still still (call_of h by)).0
+  request_names (Request.ask by get mode) its = asks_left h by get mode HasNames still still (answer_in jobs node h get mode)
+  request_names (Request.take by) its = (ends_left h by HasNames still still (call_of h by)).1
   request_names (Request.terminate by) its = ended_names P h.table by _
   request_names (Request.define name list) its = still
   request_names (Request.delete name) its = still

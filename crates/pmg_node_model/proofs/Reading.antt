@@ -20,10 +20,10 @@ use Rattle.pmg_node_model.specs.Holdings.{Get, CallState, NodeState, call_of, se
 use Rattle.pmg_node_model.specs.NodeLaws.{AnswersStay, AnsweredHave}
 use Rattle.pmg_node_model.proofs.CauseFacts.{NoCause}
 use Rattle.pmg_node_model.proofs.Growing.{ReadsMore, act_gains}
-use Rattle.pmg_node_model.proofs.Moving.{Moves, StaysOrMoves, does_call}
+use Rattle.pmg_node_model.proofs.Moving.{does_call}
 use Rattle.pmg_node_model.proofs.Saying.{said_grows, same_grows}
 use Rattle.pmg_node_model.proofs.Settling.{Answering, settled_answered}
-use Rattle.pmg_node_model.proofs.AfterActs.{after_act}
+use Rattle.pmg_node_model.proofs.AfterActs.{after_act, called_before}
 
 -- the scripts after an act have grown
 pub grows_unless : (refused : Bool) (scripts : Scripts) (said : Option Said) → Grows scripts (unless_refused refused scripts said)
@@ -107,39 +107,10 @@ not_answered modes.Now n x get outcome e = cc
 not_answered modes.Refresh n x get outcome e = cc
 
 module _ (jobs : Jobs) (id : ℕ) (h : NodeState) (p : Proc) (get : Get) (outcome : Outcome) where
-  answered_still : (a : Act) (c : Option CallState) → StaysOrMoves jobs id h p a c → c ≡ Some (CallState.answered get outcome) → call_of h p ≡ Some (CallState.answered get outcome)
-  answered_still a c (inl same) e = sym same ∙ e
-  answered_still a c (inr (Moves.entering list collect is was now)) e = absurd (elsewhere (sym now ∙ e))
-    where
-      elsewhere : {x : _} → Some (CallState.in_fence x) ≡ Some (CallState.answered get outcome) → ⊥
-      elsewhere z = cc
-  answered_still a c (inr (Moves.parking g mode is was answer now)) e = absurd (elsewhere (sym now ∙ e))
-    where
-      elsewhere : Some (waits_as h.requests g mode) ≡ Some (CallState.answered get outcome) → ⊥
-      elsewhere z = not_answered mode h.requests g get outcome z
-  answered_still a c (inr (Moves.leaving x others is was now)) e = absurd (elsewhere (sym now ∙ e))
-    where
-      elsewhere : None ≡ Some (CallState.answered get outcome) → ⊥
-      elsewhere z = cc
-  answered_still a c (inr (Moves.taking g o is was now)) e = absurd (elsewhere (sym now ∙ e))
-    where
-      elsewhere : None ≡ Some (CallState.answered get outcome) → ⊥
-      elsewhere z = cc
-  answered_still a c (inr (Moves.taking_anew g o is was now)) e = absurd (elsewhere (sym now ∙ e))
-    where
-      elsewhere : None ≡ Some (CallState.answered get outcome) → ⊥
-      elsewhere z = cc
-  answered_still a c (inr (Moves.answering r g number is was its now)) e = absurd (elsewhere (sym now ∙ e))
-    where
-      elsewhere : {o : Outcome} → Some (CallState.refreshed g o) ≡ Some (CallState.answered get outcome) → ⊥
-      elsewhere z = cc
-  answered_still a c (inr (Moves.ending is now)) e = absurd (elsewhere (sym now ∙ e))
-    where
-      elsewhere : None ≡ Some (CallState.answered get outcome) → ⊥
-      elsewhere z = cc
-
   pub does_answer : (a : Act) → NoCause (cause jobs id h a) → call_of (does jobs id h a).left p ≡ Some (CallState.answered get outcome) → call_of h p ≡ Some (CallState.answered get outcome)
-  does_answer a none e = answered_still a (call_of (does jobs id h a).left p) (does_call jobs id h p a none) e
+  does_answer a none e =
+      called_before jobs id h p (CallState.answered get outcome) (λ x z. cc) (λ mode n x z. not_answered mode n x get outcome z) (λ x o z. cc) a (call_of (does jobs id h a).left p)
+      (does_call jobs id h p a none) e
 
 -- who is answered after an act was so before it, or has the answer that there is then
 abbrev pub AnsweredBy : Jobs → ℕ → NodeState → NodeState → Type 0

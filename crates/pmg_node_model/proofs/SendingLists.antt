@@ -1,7 +1,6 @@
 -- Lists of what is sent.
-use Rattle.std.proofs.Common.{◌≡◌, ℕ, ◌<◌, ◌≤◌, zero, suc, ◌+◌, Bool, true, false, List, [], ◌∷◌, Some, None, inl, inr, ◌⊎◌, refl, sym, ap, subst, option_to_list, arith}
+use Rattle.std.proofs.Common.{◌≡◌, ℕ, ◌<◌, Bool, true, false, List, [], ◌∷◌, Some, None, inl, inr, refl, subst, option_to_list}
 use Rattle.std.specs.Prelude.{if◌then◌else◌, nat_lt}
-use Rattle.std.specs.List.{flat_map, range_with_len}
 use Rattle.std.proofs.lemmas.Bool.{ltb-true}
 use Rattle.pmg_value.specs.Lists.{In, Each}
 use Rattle.pmg_value.specs.declared.process.Proc.{Proc}
@@ -14,39 +13,9 @@ use Rattle.pmg_node_model.specs.Holdings.{NodeState, sealer_of}
 use Rattle.pmg_node_model.specs.Sending.{sent, piece_from}
 use Rattle.pmg_node_model.specs.declared.sent.Sent.{Sent}
 
-module _ {A B : Type 0} (f : A → List B) where
-  pub in_flat : (xs : List A) (x : A) (y : B) → In x xs → In y (f x) → In y (flat_map f xs)
-  in_flat [] x y i j = absurd i
-  in_flat (z ∷ zs) x y (inl e) j = in_append_left (f z) (flat_map f zs) y (subst (λ w. In y (f w)) e j)
-  in_flat (z ∷ zs) x y (inr i) j = in_append_right (f z) (flat_map f zs) y (in_flat zs x y i j)
-
-  pub flat_in : (xs : List A) (y : B) → In y (flat_map f xs) → (x : A) × In x xs × In y (f x)
-  flat_in [] y i = absurd i
-  flat_in (z ∷ zs) y i =
-      elim (in_parts (f z) (flat_map f zs) y i) [
-        | inl here ↦ (z, inl refl, here)
-        | inr later ↦ let found = flat_in zs y later in (found.0, inr found.1, found.2)
-      ]
-
 pub each_from : {A : Type 0} (P : A → Type 0) (xs : List A) → ((x : A) → In x xs → P x) → Each P xs
 each_from P [] all = tt
 each_from P (x ∷ xs) all = (all x (inl refl), each_from P xs (λ y i. all y (inr i)))
-
--- the numbers from a on
-pub in_range : (a n k : ℕ) → In k (range_with_len a n) → k < a + n
-in_range a zero k i = absurd i
-in_range a (suc n) k (inl e) = omega (arith, e)
-in_range a (suc n) k (inr i) = let h = in_range (a + 1) n k i in omega (arith, h)
-
-pub range_in : (a n k : ℕ) → a ≤ k → k < a + n → In k (range_with_len a n)
-range_in a zero k low high = absurd (omega (arith, low, high))
-range_in a (suc n) k low high = elim (first_or_later a k low) [ inl e ↦ inl (sym e) | inr less ↦ inr (range_in (a + 1) n k (omega (arith, less)) (omega (arith, high))) ]
-  where
-    first_or_later : (x y : ℕ) → x ≤ y → (x ≡ y) ⊎ (x < y)
-    first_or_later zero zero h = inl refl
-    first_or_later zero (suc y) h = inr (omega arith)
-    first_or_later (suc x) zero h = absurd (omega (arith, h))
-    first_or_later (suc x) (suc y) h = elim (first_or_later x y (omega (arith, h))) [ inl e ↦ inl (ap (λ (n : ℕ). suc n) e) | inr less ↦ inr (omega (arith, less)) ]
 
 -- ---- what goes out
 

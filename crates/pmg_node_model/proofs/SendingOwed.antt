@@ -39,7 +39,7 @@ use Rattle.pmg_node_model.specs.Holdings.{CallState, NodeState, sealer_of, call_
 use Rattle.pmg_node_model.specs.Sending.{sent, own_header_of, reply_anew, ask_anew, TakesPart, asked_by, Owes}
 use Rattle.pmg_node_model.specs.declared.sent.Sent.{Sent}
 use Rattle.pmg_node_model.proofs.KeptBasics.{home_is_node, entry_listed}
-use Rattle.pmg_node_model.proofs.SendingLists.{in_flat, range_in}
+use Rattle.pmg_value.proofs.MadeLists.{in_flat, range_in}
 
 -- What is due covers what an act changed from old to new, and what it asks for.
 pub record Covers (jobs : Jobs) (id : ℕ) (old : NodeState) (a : Act) (new : NodeState) (dues : List ToSend) : Type 0 where

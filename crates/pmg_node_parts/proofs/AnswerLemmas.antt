@@ -41,7 +41,7 @@ use Rattle.pmg_node_parts.specs.declared.call.Completion.{Completion}
 use Rattle.pmg_node_parts.proofs.CallLemmas.{answer_for, all_answered}
 use Rattle.pmg_node_model.proofs.KeptActs.{parked_key}
 use Rattle.pmg_node_model.proofs.KeptBasics.{entry_listed}
-use Rattle.pmg_node_model.proofs.SendingLists.{in_flat, flat_in}
+use Rattle.pmg_value.proofs.MadeLists.{in_flat, in_flat_from}
 
 -- ---- the first answer for a process
 
@@ -101,7 +101,7 @@ module _ (all : Calls) where
 
   parked_there : (q p : Proc) (key : List ℕ) → In (p, key) (all_parked_on all q) → finite.get all p ≡ Some (CallState.parked (get_of q key))
   parked_there q p key i =
-      let row = flat_in (asks_on q) (finite.entries all) (p, key) i in
+      let row = in_flat_from (asks_on q) (finite.entries all) (p, key) i in
       let is = asks_row q p row.0.0 key row.0.1 row.2 in
       ap (finite.get all) is.0 ∙ each_row procs_total all row.0 row.1 ∙ ap Some is.1
 
@@ -126,7 +126,7 @@ module _ (all : Calls) where
 
   waiting_there : (f : FenceName) (p : Proc) → In p (all_waiting_in all f) → finite.get all p ≡ Some (CallState.in_fence f)
   waiting_there f p i =
-      let row = flat_in (waits_in f) (finite.entries all) p i in
+      let row = in_flat_from (waits_in f) (finite.entries all) p i in
       let is = waits_row f p row.0.0 row.0.1 row.2 in
       ap (finite.get all) is.0 ∙ each_row procs_total all row.0 row.1 ∙ ap Some is.1
 
@@ -241,7 +241,7 @@ module _ (jobs : Jobs) (id : ℕ) (h : NodeState) (all : Calls) where
     -- a get that is answered is one of the process's keys, and that is its answer
     got_right : (p : Proc) (s x : CallState) → In (p, x) got → finite.get all p ≡ Some s → x ≡ settle_where jobs id h (is_about q) s
     got_right p s x i e =
-        let ask = flat_in (λ (a : Proc × List ℕ). answered_by a.0 (get_of q a.1) (outcome_with jobs id h.near h.far (get_of q a.1))) (all_parked_on all q) (p, x) i in
+        let ask = in_flat_from (λ (a : Proc × List ℕ). answered_by a.0 (get_of q a.1) (outcome_with jobs id h.near h.far (get_of q a.1))) (all_parked_on all q) (p, x) i in
         let get = get_of q ask.0.1 in
         let row = answered_row p ask.0.0 x get (outcome_with jobs id h.near h.far get) ask.2 in
         let there = parked_there all q ask.0.0 ask.0.1 ask.1 in
@@ -268,7 +268,7 @@ module _ (jobs : Jobs) (id : ℕ) (h : NodeState) (all : Calls) where
 
     freed_right : (p : Proc) (s x : CallState) → In (p, x) freed → finite.get all p ≡ Some s → x ≡ settle_where jobs id h (is_about q) s
     freed_right p s x i e =
-        let row = flat_in (λ (f : FenceName). if set.contains f.signature.participants q then released_in jobs id h.table h.far all f else []) (all_waited all) (p, x) i in
+        let row = in_flat_from (λ (f : FenceName). if set.contains f.signature.participants q then released_in jobs id h.table h.far all f else []) (all_waited all) (p, x) i in
         by_part row.0 (set.contains row.0.signature.participants q) refl row.2
       where
         by_part : (f : FenceName) (b : Bool) → set.contains f.signature.participants q ≡ b → In (p, x) (if b then released_in jobs id h.table h.far all f else [])

@@ -40,7 +40,7 @@ use Rattle.pmg_node_parts.proofs.PickLemmas.{picked, picks, picks_rise, at_picks
 use Rattle.pmg_node_model.specs.Choosing.{waited}
 use Rattle.pmg_node_model.specs.Holdings.{CallState}
 use Rattle.pmg_node_model.proofs.KeptBasics.{entry_listed}
-use Rattle.pmg_node_model.proofs.SendingLists.{in_flat, flat_in}
+use Rattle.pmg_value.proofs.MadeLists.{in_flat, in_flat_from}
 
 -- ---- one more, one less: of gets
 
@@ -519,7 +519,7 @@ module _ (all : Calls) (w : Waiting) (index : IsWaitingIndex all w) where
   named_listed : (f : FenceName) → list_any (same_name f) names ≡ true → finite.contains_key w.fences f ≡ true
   named_listed f named =
       let found = in_from_list_any (same_name f) names named in
-      let row = flat_in (λ (x : Proc × CallState). waited x.1) rows found.0 found.1 in
+      let row = in_flat_from (λ (x : Proc × CallState). waited x.1) rows found.0 found.1 in
       let same : found.0 ≡ f = sym (names_exact f found.0 ((Equal-is _).0 found.2)) in
       let call : finite.get all row.0.0 ≡ Some (CallState.in_fence f) =
       each_row procs_total all row.0 row.1 ∙ ap Some (named_there found.0 row.0.1 row.2 ∙ ap (λ x. CallState.in_fence x) same) in

@@ -1,16 +1,16 @@
 -- What own processes sealed, and what stands under one of them.
-use Rattle.std.proofs.Common.{◌≡◌, Bool, true, false, ◌&&◌, cond, List, [], ◌∷◌, ◌++◌, map, Option, Some, None, is_some, refl, sym, ap, ◌∙◌}
+use Rattle.std.proofs.Common.{◌≡◌, Bool, true, false, ◌&&◌, cond, List, [], ◌∷◌, ◌++◌, map, Option, Some, None, is_some, IsSome, refl, sym, ap, ◌∙◌, MutBor}
 use Rattle.std.specs.List.{list_all}
 use Rattle.std.specs.FinMap as finite
 use Rattle.std.specs.BTreeMap.{is_at}
 use Rattle.std.specs.Cmp.{eq_by_cmp_equiv}
-use Rattle.std.specs.Option.{unwrap_or}
+use Rattle.std.specs.Option.{option_copied_mut, unwrap_or}
 use Rattle.std.proofs.lemmas.Bool.{false≢true}
 use Rattle.pmg_value.specs.declared.process.Proc.{Proc}
 use Rattle.pmg_value.specs.Process.{proc_cmp}
 use Rattle.pmg_value.specs.Rows.{map_of}
 use Rattle.pmg_value.proofs.ProcessOrder.{procs_total, exact_procs}
-use Rattle.pmg_value.proofs.RowLemmas.{at_key, get-map_of, rows_with}
+use Rattle.pmg_value.proofs.RowLemmas.{at_key, found_is, some_found, insert_same, get-map_of, rows_with}
 use Rattle.pmg_commit.specs.Sealed.{Sealed, fresh}
 use Rattle.pmg_node_parts.specs.Sealers.{AllSealed, sealed_by, with_fresh}
 
@@ -31,6 +31,26 @@ module _ (old : List (Proc × Sealed)) (all : AllSealed) (p : Proc) (same : map_
 
   pub put_there : (new : List (Proc × Sealed)) (after : Sealed) → ((q : Proc) → at_key proc_cmp q new ≡ cond (is_at (proc_cmp p) q) (Some after) (at_key proc_cmp q old)) → map_of {R = proc_cmp} new ≡ finite.insert all p after
   put_there new after updates = rows_with procs_total exact_procs (λ (z : Sealed). z) old new p after updates ∙ ap (λ (m : AllSealed). finite.insert m p after) same
+
+-- what is so once what an own process sealed was changed where it stands
+pub record IsResealed (all new : AllSealed) (p : Proc) (was now : Sealed) : Type 0 where
+  pub put : new ≡ finite.insert all p now
+  pub was_there : sealed_by all p ≡ was
+  pub now_there : sealed_by new p ≡ now
+  pub same : now ≡ was → new ≡ all
+
+pub resealed : (old : List (Proc × Sealed)) (all : AllSealed) (p : Proc) → map_of old ≡ all → (o : Option (MutBor Sealed)) (kept : MutBor Sealed) → o ≡ Some kept → option_copied_mut o ≡ at_key proc_cmp p old
+    → (new : List (Proc × Sealed)) (now : Sealed) → (IsSome (at_key proc_cmp p old) → (q : Proc) → at_key proc_cmp q new ≡ cond (is_at (proc_cmp p) q) (Some now) (at_key proc_cmp q old))
+    → IsResealed all (map_of new) p kept.now now
+resealed old all p view o kept some value new now updates =
+    let there = found_is o kept (at_key proc_cmp p old) some value in
+    let put = put_there old all p view new now (updates (some_found there)) in
+    record {
+      put = put;
+      was_there = sealed_there old all p view kept.now there;
+      now_there = ap (λ (m : AllSealed). sealed_by m p) put ∙ sealed-insert all p now;
+      same = λ is. put ∙ insert_same procs_total exact_procs all p now (found old all p view (Some now) (there ∙ ap Some (sym is)));
+    }
 
 -- one more that made no commit
 pub fresh_snoc : (ps : List Proc) (p : Proc) (all : AllSealed) → with_fresh (ps ++ p ∷ []) all ≡ with_fresh ps (finite.insert all p (fresh p))

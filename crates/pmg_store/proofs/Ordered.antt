@@ -1,5 +1,5 @@
 -- A list in the order of its keys that answers as a finite map does is that map's list.
-use Rattle.std.proofs.Common.{List, [], ◌∷◌, ◌≡◌, Bool, true, false, ◌&&◌, cond, map, refl, sym, ap, subst, ◌∙◌}
+use Rattle.std.proofs.Common.{List, [], ◌∷◌, ◌≡◌, true, false, cond, map, refl, sym, ap, subst, ◌∙◌}
 use Rattle.std.specs.Prelude.{Option, Some, None}
 use Rattle.std.specs.Cmp.{IsTotalOrder}
 use Rattle.std.specs.List.Sorted.{IsStrictlySortedBy}
@@ -12,6 +12,7 @@ use Rattle.std.specs.List.{AllByRecursion}
 use Rattle.std.specs.Option.{option_map}
 use Rattle.std.specs.Prelude.{is_some}
 use lib.Dec.{T}
+use Rattle.pmg_value.proofs.SetOrder.{both, parts_of}
 
 module _ {K X : Type 0} {R : K → K → Ordering} (o : IsTotalOrder R) (exact : finite.IsAntisymmetric R) where
   pub entries_are : (m : finite.FinMap R X) (es : List (K × X)) → T (is_sorted R es) → ((q : K) → finite.get m q ≡ find R q es) → finite.entries m ≡ es
@@ -20,14 +21,6 @@ module _ {K X : Type 0} {R : K → K → Ordering} (o : IsTotalOrder R) (exact :
       ∙ finite.entries-from_sorted R es sorted
 
 -- ---- tests and facts of order
-
-both : (a b : Bool) → T a → T b → T (a && b)
-both true b p q = q
-both false b p q = absurd p
-
-parts_of : (a b : Bool) → T (a && b) → T a × T b
-parts_of true b p = (tt, p)
-parts_of false b p = absurd p
 
 abbrev mark : {X : Type 0} → X → Unit {0}
 mark x = tt

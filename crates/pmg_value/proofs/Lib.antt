@@ -3,6 +3,7 @@ pub mod ChainLemmas
 pub mod FlatLemmas
 pub mod FormLemmas
 pub mod ListLemmas
+pub mod MadeLists
 pub mod MapLemmas
 pub mod NameLemmas
 pub mod OrderLemmas

@@ -13,15 +13,15 @@ use Rattle.std.specs.declared.cmp.Ordering.TheVariants.{Less}
 use lib.Dec.{T}
 use Rattle.pmg_value.specs.InOrder.{as_entries, in_order}
 
-both : (a b : Bool) → T a → T b → T (a && b)
+pub both : (a b : Bool) → T a → T b → T (a && b)
 both true b p q = q
 both false b p q = absurd p
 
-parts_of : (a b : Bool) → T (a && b) → T a × T b
+pub parts_of : (a b : Bool) → T (a && b) → T a × T b
 parts_of true b p = (tt, p)
 parts_of false b p = absurd p
 
-less_is : (r : Ordering) → T (is_lt r) → r ≡ Less
+pub less_is : (r : Ordering) → T (is_lt r) → r ≡ Less
 less_is Less p = refl
 less_is r p = absurd p
 
@@ -53,13 +53,13 @@ module _ {K : Type 0} (R : K → K → Ordering) where
   any_mark q (k ∷ ks) = elim (eq_by_cmp R q k) as (λ b. is_some (cond b (Some tt) (find R q (as_entries ks))) ≡ (b || list_any (eq_by_cmp R q) ks)) [ true ↦ refl | false ↦ any_mark q ks ]
 
 -- two marks that are there alike are equal
-units : (a b : Option (Unit {0})) → is_some a ≡ is_some b → a ≡ b
+pub units : (a b : Option (Unit {0})) → is_some a ≡ is_some b → a ≡ b
 units None None e = refl
 units (Some x) (Some y) e = refl
 units None (Some y) e = absurd cc
 units (Some x) None e = absurd cc
 
-some_if : (b : Bool) (x : Option (Unit {0})) → is_some (cond b (Some tt) x) ≡ (b || is_some x)
+pub some_if : (b : Bool) (x : Option (Unit {0})) → is_some (cond b (Some tt) x) ≡ (b || is_some x)
 some_if true x = refl
 some_if false x = refl
 

@@ -22,31 +22,26 @@ use Rattle.pmg_node_parts.proofs.AnswerLemmas.{plain_calls}
 use Rattle.pmg_node.proofs.CommitLemmas.{free_own, free_client, commit_barred, commit_over, commit_free, commit_accepted, commit_seals, client_put, client_sets, level_rises, still_own, own_back}
 use Rattle.pmg_node.proofs.NodeKept.{node_stays}
 use Rattle.pmg_node.proofs.OpenLemmas.{still_open}
-use Rattle.pmg_node.proofs.FailLemmas.{erred_reply, erred_after, erred_sent}
+use Rattle.pmg_node.proofs.FailLemmas.{IsErred, erred}
 use Rattle.pmg_node.proofs.SealedActs.{Seals, IsPublished, now_sealed, published_reply, published_after, published_sent}
 use Rattle.pmg_node.proofs.node.Node.commit_joined.Goals as goal
 
-pub returns-in_err-check_free-clause-reply : goal.returns-in_err-check_free-clause-reply
-returns-in_err-check_free-clause-reply c =
+barred : (c : goal.After-from_residual) → IsErred c.args.self.now (Act.commit c.args.proc.now c.args.batch.now) committed_reply c.from_residual.result c.args.out.now.items
+barred c =
     let p = err_from_is_err_and c.from_residual.result c.from_residual.ensures.1 in
     let s = c.args.self.now in
     let fails = commit_barred s.jobs s.id s.holding c.args.proc.now c.args.batch.now c.in_err-check_free.field-0.0 (sym c.in_err-check_free.ensures) in
-    erred_reply s (Act.commit c.args.proc.now c.args.batch.now) c.in_err-check_free.field-0.0 fails c.from_residual.result (p.1 ∙ ap Err p.2) committed_reply
-    (commit_accepted s c.args.proc.now c.args.batch.now)
+    erred s (Act.commit c.args.proc.now c.args.batch.now) c.in_err-check_free.field-0.0 fails c.from_residual.result (p.1 ∙ ap Err p.2) committed_reply
+    (commit_accepted s c.args.proc.now c.args.batch.now) c.args.out.now.items
+
+pub returns-in_err-check_free-clause-reply : goal.returns-in_err-check_free-clause-reply
+returns-in_err-check_free-clause-reply c = (barred c).reply
 
 pub returns-in_err-check_free-clause-done : goal.returns-in_err-check_free-clause-done
-returns-in_err-check_free-clause-done c =
-    let p = err_from_is_err_and c.from_residual.result c.from_residual.ensures.1 in
-    let s = c.args.self.now in
-    let fails = commit_barred s.jobs s.id s.holding c.args.proc.now c.args.batch.now c.in_err-check_free.field-0.0 (sym c.in_err-check_free.ensures) in
-    erred_after s (Act.commit c.args.proc.now c.args.batch.now) c.in_err-check_free.field-0.0 fails c.from_residual.result (p.1 ∙ ap Err p.2)
+returns-in_err-check_free-clause-done c = (barred c).done
 
 pub returns-in_err-check_free-clause-sent : goal.returns-in_err-check_free-clause-sent
-returns-in_err-check_free-clause-sent c =
-    let p = err_from_is_err_and c.from_residual.result c.from_residual.ensures.1 in
-    let s = c.args.self.now in
-    let fails = commit_barred s.jobs s.id s.holding c.args.proc.now c.args.batch.now c.in_err-check_free.field-0.0 (sym c.in_err-check_free.ensures) in
-    erred_sent s (Act.commit c.args.proc.now c.args.batch.now) c.in_err-check_free.field-0.0 fails c.from_residual.result (p.1 ∙ ap Err p.2) c.args.out.now.items
+returns-in_err-check_free-clause-sent c = (barred c).sent
 
 over : (c : goal.After-from_residual-in_err-before)
     → Fails c.in_err-before.field-0.0 (first_of (cause c.args.self.now.jobs c.args.self.now.id c.args.self.now.holding (Act.commit c.args.proc.now c.args.batch.now)) (tt {0}))
@@ -55,28 +50,24 @@ over c =
     commit_over s.jobs s.id s.holding c.args.proc.now c.args.batch.now c.in_err-before.field-0.0 (sym c.in_ok-check_free.ensures)
     (subst (λ (x : Server). Fails c.in_err-before.field-0.0 (commit_answer (sealer_of x.holding c.args.proc.now) c.args.batch.now)) c.self.view_is c.in_err-before.ensures.before)
 
-pub returns-in_err-before-clause-reply : goal.returns-in_err-before-clause-reply
-returns-in_err-before-clause-reply c =
+full : (c : goal.After-from_residual-in_err-before)
+    → IsErred c.args.self.now (Act.commit c.args.proc.now c.args.batch.now) committed_reply c.from_residual-in_err-before.result c.args.out.now.items
+full c =
     let p = err_from_is_err_and c.from_residual-in_err-before.result c.from_residual-in_err-before.ensures.1 in
     let s = c.args.self.now in
-    erred_reply s (Act.commit c.args.proc.now c.args.batch.now) c.in_err-before.field-0.0 (over c) c.from_residual-in_err-before.result (p.1 ∙ ap Err p.2) committed_reply
-    (commit_accepted s c.args.proc.now c.args.batch.now)
+    erred s (Act.commit c.args.proc.now c.args.batch.now) c.in_err-before.field-0.0 (over c) c.from_residual-in_err-before.result (p.1 ∙ ap Err p.2) committed_reply
+    (commit_accepted s c.args.proc.now c.args.batch.now) c.args.out.now.items
+
+pub returns-in_err-before-clause-reply : goal.returns-in_err-before-clause-reply
+returns-in_err-before-clause-reply c = (full c).reply
 
 pub returns-in_err-before-clause-done : goal.returns-in_err-before-clause-done
-returns-in_err-before-clause-done c =
-    let p = err_from_is_err_and c.from_residual-in_err-before.result c.from_residual-in_err-before.ensures.1 in
-    let s = c.args.self.now in
+returns-in_err-before-clause-done c answered =
     let inside = c.self.inside in
-    λ answered.
-    ap (λ (o : LocalCommits). server_of inside.table inside.id inside.board o inside.calls inside.held inside.marks) c.in_err-before.ensures.err
-    ∙ c.self.view_is
-    ∙ erred_after s (Act.commit c.args.proc.now c.args.batch.now) c.in_err-before.field-0.0 (over c) c.from_residual-in_err-before.result (p.1 ∙ ap Err p.2) answered
+    ap (λ (o : LocalCommits). server_of inside.table inside.id inside.board o inside.calls inside.held inside.marks) c.in_err-before.ensures.err ∙ c.self.view_is ∙ (full c).done answered
 
 pub returns-in_err-before-clause-sent : goal.returns-in_err-before-clause-sent
-returns-in_err-before-clause-sent c =
-    let p = err_from_is_err_and c.from_residual-in_err-before.result c.from_residual-in_err-before.ensures.1 in
-    let s = c.args.self.now in
-    erred_sent s (Act.commit c.args.proc.now c.args.batch.now) c.in_err-before.field-0.0 (over c) c.from_residual-in_err-before.result (p.1 ∙ ap Err p.2) c.args.out.now.items
+returns-in_err-before-clause-sent c = (full c).sent
 
 pub commit-requires-clause-own : goal.commit-requires-clause-own
 commit-requires-clause-own c =

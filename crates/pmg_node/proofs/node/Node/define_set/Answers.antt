@@ -23,7 +23,7 @@ use Rattle.pmg_node_parts.specs.Answered.{ArePlain}
 use Rattle.pmg_node_parts.proofs.AnswerLemmas.{plain_calls}
 use Rattle.pmg_node.proofs.NodeKept.{node_stays}
 use Rattle.pmg_node.proofs.OpenLemmas.{still_open}
-use Rattle.pmg_node.proofs.FailLemmas.{fails_due, erred_reply, erred_after, erred_sent}
+use Rattle.pmg_node.proofs.FailLemmas.{IsErred, fails_due, erred, erred_after, erred_sent}
 use Rattle.pmg_node.proofs.SealedActs.{Seals, IsPublished, published_reply, published_after, published_sent}
 use Rattle.pmg_node.proofs.SettingLemmas.{sets_sealed, sets_rise}
 use Rattle.pmg_node.proofs.DefineLemmas.{IsReady, define_ready, define_over, define_accepted, defined_in, define_seals, own_back}
@@ -65,28 +65,24 @@ over c =
     subst (λ (x : Server). Fails c.in_err-before.field-0.0 (first_of (cause x.jobs x.id x.holding (Act.request (Request.define c.args.name.now c.args.list.now))) (tt {0}))) c.self.view_is
     (define_over s.jobs s.id s.holding c.args.name.now c.args.list.now c.in_ok-members.members.items c.in_err-before.field-0.0 (ready_over c).free (ready_over c).fits c.in_err-before.ensures.before)
 
-pub returns-in_err-before-clause-reply : goal.returns-in_err-before-clause-reply
-returns-in_err-before-clause-reply c =
+full : (c : goal.After-from_residual-in_err-before)
+    → IsErred c.args.self.now (Act.request (Request.define c.args.name.now c.args.list.now)) defined_reply c.from_residual-in_err-before.result c.args.out.now.items
+full c =
     let p = err_from_is_err_and c.from_residual-in_err-before.result c.from_residual-in_err-before.ensures.1 in
     let s = c.args.self.now in
-    erred_reply s (Act.request (Request.define c.args.name.now c.args.list.now)) c.in_err-before.field-0.0 (over c) c.from_residual-in_err-before.result (p.1 ∙ ap Err p.2) defined_reply
-    (define_accepted s c.args.name.now c.args.list.now)
+    erred s (Act.request (Request.define c.args.name.now c.args.list.now)) c.in_err-before.field-0.0 (over c) c.from_residual-in_err-before.result (p.1 ∙ ap Err p.2) defined_reply
+    (define_accepted s c.args.name.now c.args.list.now) c.args.out.now.items
+
+pub returns-in_err-before-clause-reply : goal.returns-in_err-before-clause-reply
+returns-in_err-before-clause-reply c = (full c).reply
 
 pub returns-in_err-before-clause-done : goal.returns-in_err-before-clause-done
-returns-in_err-before-clause-done c =
-    let p = err_from_is_err_and c.from_residual-in_err-before.result c.from_residual-in_err-before.ensures.1 in
-    let s = c.args.self.now in
+returns-in_err-before-clause-done c answered =
     let inside = c.self.inside in
-    λ answered.
-    ap (λ (o : LocalCommits). server_of inside.table inside.id inside.board o inside.calls inside.held inside.marks) c.in_err-before.ensures.err
-    ∙ c.self.view_is
-    ∙ erred_after s (Act.request (Request.define c.args.name.now c.args.list.now)) c.in_err-before.field-0.0 (over c) c.from_residual-in_err-before.result (p.1 ∙ ap Err p.2) answered
+    ap (λ (o : LocalCommits). server_of inside.table inside.id inside.board o inside.calls inside.held inside.marks) c.in_err-before.ensures.err ∙ c.self.view_is ∙ (full c).done answered
 
 pub returns-in_err-before-clause-sent : goal.returns-in_err-before-clause-sent
-returns-in_err-before-clause-sent c =
-    let p = err_from_is_err_and c.from_residual-in_err-before.result c.from_residual-in_err-before.ensures.1 in
-    let s = c.args.self.now in
-    erred_sent s (Act.request (Request.define c.args.name.now c.args.list.now)) c.in_err-before.field-0.0 (over c) c.from_residual-in_err-before.result (p.1 ∙ ap Err p.2) c.args.out.now.items
+returns-in_err-before-clause-sent c = (full c).sent
 
 pub publish_sets-requires-clause-level : goal.publish_sets-requires-clause-level
 publish_sets-requires-clause-level c =
@@ -114,21 +110,7 @@ back c =
     let i = c.self.inside in
     let own = own_back i.own c.define.new.self c.take_sets_back.new.self (define_cause i.own.sets c.args.name.now c.in_ok-members.members.items) _ _ c.in_ok-before.ensures.ok c.take_sets_back.ensures
     c.in_ok-before.ensures.before in
-    λ j. record {
-      jobs = i.table.jobs;
-      id = i.id;
-      holding = record {
-        near = c.in_default.ensures.near_err j;
-        far = c.in_default.ensures.far_err j;
-        sealers = (own j).sealers;
-        sets = (own j).sets;
-        table = i.table.fences;
-        calls = i.calls;
-        held = i.held.held;
-        requests = i.held.anew.last;
-      };
-      marks = c.in_default.ensures.marks_err j;
-    }
+    λ j. server_of i.table i.id (record { near = c.in_default.ensures.near_err j; far = c.in_default.ensures.far_err j }) (own j) i.calls i.held (c.in_default.ensures.marks_err j)
 
 pub invariant_of-self-in_default : goal.invariant_of-self-in_default
 invariant_of-self-in_default c = record { same = c.self.invariant.same; told = c.self.invariant.told; node = subst IsNode (sym (back c)) c.self.invariant.node; replies = c.self.invariant.replies }

@@ -25,32 +25,27 @@ use Rattle.pmg_node_parts.proofs.AnswerLemmas.{plain_calls}
 use Rattle.pmg_node.proofs.DefineLemmas.{own_back}
 use Rattle.pmg_node.proofs.NodeKept.{node_stays}
 use Rattle.pmg_node.proofs.OpenLemmas.{still_open}
-use Rattle.pmg_node.proofs.FailLemmas.{erred_reply, erred_after, erred_sent}
+use Rattle.pmg_node.proofs.FailLemmas.{IsErred, erred}
 use Rattle.pmg_node.proofs.SealedActs.{Seals, IsPublished, published_reply, published_after, published_sent}
 use Rattle.pmg_node.proofs.SettingLemmas.{place_cause, delete_barred, delete_over, delete_free, delete_accepted, delete_seals, sets_sealed, sets_rise}
 use Rattle.pmg_node.proofs.node.Node.delete_set.Goals as goal
 
-pub returns-in_err-check_name-clause-reply : goal.returns-in_err-check_name-clause-reply
-returns-in_err-check_name-clause-reply c =
+barred : (c : goal.After-from_residual) → IsErred c.args.self.now (Act.request (Request.delete c.args.name.now)) defined_reply c.from_residual.result c.args.out.now.items
+barred c =
     let p = err_from_is_err_and c.from_residual.result c.from_residual.ensures.1 in
     let s = c.args.self.now in
     let fails = delete_barred s.jobs s.id s.holding c.args.name.now c.in_err-check_name.field-0.0 (sym c.in_err-check_name.ensures) in
-    erred_reply s (Act.request (Request.delete c.args.name.now)) c.in_err-check_name.field-0.0 fails c.from_residual.result (p.1 ∙ ap Err p.2) defined_reply
-    (delete_accepted s c.args.name.now)
+    erred s (Act.request (Request.delete c.args.name.now)) c.in_err-check_name.field-0.0 fails c.from_residual.result (p.1 ∙ ap Err p.2) defined_reply
+    (delete_accepted s c.args.name.now) c.args.out.now.items
+
+pub returns-in_err-check_name-clause-reply : goal.returns-in_err-check_name-clause-reply
+returns-in_err-check_name-clause-reply c = (barred c).reply
 
 pub returns-in_err-check_name-clause-done : goal.returns-in_err-check_name-clause-done
-returns-in_err-check_name-clause-done c =
-    let p = err_from_is_err_and c.from_residual.result c.from_residual.ensures.1 in
-    let s = c.args.self.now in
-    let fails = delete_barred s.jobs s.id s.holding c.args.name.now c.in_err-check_name.field-0.0 (sym c.in_err-check_name.ensures) in
-    erred_after s (Act.request (Request.delete c.args.name.now)) c.in_err-check_name.field-0.0 fails c.from_residual.result (p.1 ∙ ap Err p.2)
+returns-in_err-check_name-clause-done c = (barred c).done
 
 pub returns-in_err-check_name-clause-sent : goal.returns-in_err-check_name-clause-sent
-returns-in_err-check_name-clause-sent c =
-    let p = err_from_is_err_and c.from_residual.result c.from_residual.ensures.1 in
-    let s = c.args.self.now in
-    let fails = delete_barred s.jobs s.id s.holding c.args.name.now c.in_err-check_name.field-0.0 (sym c.in_err-check_name.ensures) in
-    erred_sent s (Act.request (Request.delete c.args.name.now)) c.in_err-check_name.field-0.0 fails c.from_residual.result (p.1 ∙ ap Err p.2) c.args.out.now.items
+returns-in_err-check_name-clause-sent c = (barred c).sent
 
 over : (c : goal.After-from_residual-in_err-before)
     → Fails c.in_err-before.field-0.0 (first_of (cause c.args.self.now.jobs c.args.self.now.id c.args.self.now.holding (Act.request (Request.delete c.args.name.now))) (tt {0}))
@@ -59,28 +54,24 @@ over c =
     delete_over s.jobs s.id s.holding c.args.name.now c.in_err-before.field-0.0 (sym c.in_ok-check_name.ensures)
     (subst (λ (x : Server). Fails c.in_err-before.field-0.0 (first_of (delete_cause x.holding.sets c.args.name.now) x.holding.sets)) c.self.view_is c.in_err-before.ensures.before)
 
-pub returns-in_err-before-clause-reply : goal.returns-in_err-before-clause-reply
-returns-in_err-before-clause-reply c =
+full : (c : goal.After-from_residual-in_err-before)
+    → IsErred c.args.self.now (Act.request (Request.delete c.args.name.now)) defined_reply c.from_residual-in_err-before.result c.args.out.now.items
+full c =
     let p = err_from_is_err_and c.from_residual-in_err-before.result c.from_residual-in_err-before.ensures.1 in
     let s = c.args.self.now in
-    erred_reply s (Act.request (Request.delete c.args.name.now)) c.in_err-before.field-0.0 (over c) c.from_residual-in_err-before.result (p.1 ∙ ap Err p.2) defined_reply
-    (delete_accepted s c.args.name.now)
+    erred s (Act.request (Request.delete c.args.name.now)) c.in_err-before.field-0.0 (over c) c.from_residual-in_err-before.result (p.1 ∙ ap Err p.2) defined_reply
+    (delete_accepted s c.args.name.now) c.args.out.now.items
+
+pub returns-in_err-before-clause-reply : goal.returns-in_err-before-clause-reply
+returns-in_err-before-clause-reply c = (full c).reply
 
 pub returns-in_err-before-clause-done : goal.returns-in_err-before-clause-done
-returns-in_err-before-clause-done c =
-    let p = err_from_is_err_and c.from_residual-in_err-before.result c.from_residual-in_err-before.ensures.1 in
-    let s = c.args.self.now in
+returns-in_err-before-clause-done c answered =
     let inside = c.self.inside in
-    λ answered.
-    ap (λ (o : LocalCommits). server_of inside.table inside.id inside.board o inside.calls inside.held inside.marks) c.in_err-before.ensures.err
-    ∙ c.self.view_is
-    ∙ erred_after s (Act.request (Request.delete c.args.name.now)) c.in_err-before.field-0.0 (over c) c.from_residual-in_err-before.result (p.1 ∙ ap Err p.2) answered
+    ap (λ (o : LocalCommits). server_of inside.table inside.id inside.board o inside.calls inside.held inside.marks) c.in_err-before.ensures.err ∙ c.self.view_is ∙ (full c).done answered
 
 pub returns-in_err-before-clause-sent : goal.returns-in_err-before-clause-sent
-returns-in_err-before-clause-sent c =
-    let p = err_from_is_err_and c.from_residual-in_err-before.result c.from_residual-in_err-before.ensures.1 in
-    let s = c.args.self.now in
-    erred_sent s (Act.request (Request.delete c.args.name.now)) c.in_err-before.field-0.0 (over c) c.from_residual-in_err-before.result (p.1 ∙ ap Err p.2) c.args.out.now.items
+returns-in_err-before-clause-sent c = (full c).sent
 
 pub publish_sets-requires-clause-level : goal.publish_sets-requires-clause-level
 publish_sets-requires-clause-level c = sets_rise c.self.inside.own c.delete.new.self c.args.name.now no_members c.in_ok-before.ensures.ok c.sets_level-from.result c.sets_level-from.ensures.value
@@ -93,21 +84,7 @@ back : (c : goal.After-take_sets_back)
 back c =
     let i = c.self.inside in
     let own = own_back i.own c.delete.new.self c.take_sets_back.new.self (delete_cause i.own.sets c.args.name.now) _ _ c.in_ok-before.ensures.ok c.take_sets_back.ensures c.in_ok-before.ensures.before in
-    λ j. record {
-      jobs = i.table.jobs;
-      id = i.id;
-      holding = record {
-        near = c.in_default.ensures.near_err j;
-        far = c.in_default.ensures.far_err j;
-        sealers = (own j).sealers;
-        sets = (own j).sets;
-        table = i.table.fences;
-        calls = i.calls;
-        held = i.held.held;
-        requests = i.held.anew.last;
-      };
-      marks = c.in_default.ensures.marks_err j;
-    }
+    λ j. server_of i.table i.id (record { near = c.in_default.ensures.near_err j; far = c.in_default.ensures.far_err j }) (own j) i.calls i.held (c.in_default.ensures.marks_err j)
 
 pub invariant_of-self-in_default : goal.invariant_of-self-in_default
 invariant_of-self-in_default c = record { same = c.self.invariant.same; told = c.self.invariant.told; node = subst IsNode (sym (back c)) c.self.invariant.node; replies = c.self.invariant.replies }

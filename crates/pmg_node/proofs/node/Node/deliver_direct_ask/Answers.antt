@@ -1,5 +1,4 @@
-use Rattle.std.proofs.Common.{◌≡◌, nat_lt, Bool, true, false, List, ◌++◌, Some, sym, ap, subst, append-nil, ◌∙◌}
-use Rattle.pmg_frame.specs.declared.frame.Frame.{Frame}
+use Rattle.std.proofs.Common.{◌≡◌, nat_lt, Bool, true, false, List, ◌++◌, Some, sym, ap, subst, ◌∙◌, rules}
 use Rattle.pmg_frame.specs.declared.frame.Frame.TheVariants as frames
 use Rattle.pmg_dmodex.specs.Levels.{Levels}
 use Rattle.pmg_node_model.specs.Acts.{Act, Done, holds_unless}
@@ -11,37 +10,16 @@ use Rattle.pmg_node_parts.specs.Owns.{sealed_of}
 use Rattle.pmg_node.specs.Servers.{Server, IsNode}
 use Rattle.pmg_node_parts.specs.Telling.{answering_by}
 use Rattle.pmg_node_model.specs.declared.due.ToSend.{ToSend}
-use Rattle.pmg_node_model.specs.declared.sent.Sent.{Sent}
-use Rattle.pmg_node.proofs.FrameLemmas.{below_is, not_below_is, direct_taken, with_marks, waits_for, range_out, ignored_is, ignored_silent, direct_is, direct_sent}
+use Rattle.pmg_node.proofs.FrameLemmas.{below_is, not_below_is, direct_taken, with_marks, waits_for, range_out, ignores, direct_is, direct_sent}
 use Rattle.pmg_node.proofs.NodeKept.{node_stays}
 use Rattle.pmg_node.proofs.OpenLemmas.{still_open}
-use Rattle.pmg_node.proofs.SilentLemmas.{after_is, sent_none}
 use Rattle.pmg_node.proofs.node.Node.deliver_direct_ask.Goals as goal
 
-pub returns-then-not-is_asked-clause-reply : goal.returns-then-not-is_asked-clause-reply
-returns-then-not-is_asked-clause-reply c =
-    let s = c.args.self.now in
-    let a : Frame = frames.DirectAsk c.args.ask.now in
-    let kept = subst IsNode c.self.view_is c.self.invariant.node in
-    let none = direct_taken s.jobs s.id s.holding.table c.args.ask.now ∙ sym c.is_asked.ensures ∙ c.if-not-is_asked.true in
-    ap (λ (d : Done). d.reply) (ignored_is s.jobs s.id s.holding kept.server.settled a none)
-
-pub returns-then-not-is_asked-clause-ok : goal.returns-then-not-is_asked-clause-ok
-returns-then-not-is_asked-clause-ok c =
-    let s = c.args.self.now in
-    let a : Frame = frames.DirectAsk c.args.ask.now in
-    let kept = subst IsNode c.self.view_is c.self.invariant.node in
-    let none = direct_taken s.jobs s.id s.holding.table c.args.ask.now ∙ sym c.is_asked.ensures ∙ c.if-not-is_asked.true in
-    sym (after_is s (Act.deliver a) (ignored_silent s.jobs s.id s.holding kept.server.settled s.marks a none) _ (ignored_is s.jobs s.id s.holding kept.server.settled a none))
-
-pub returns-then-not-is_asked-clause-sent : goal.returns-then-not-is_asked-clause-sent
-returns-then-not-is_asked-clause-sent c =
-    let s = c.args.self.now in
-    let a : Frame = frames.DirectAsk c.args.ask.now in
-    let kept = subst IsNode c.self.view_is c.self.invariant.node in
-    let none = direct_taken s.jobs s.id s.holding.table c.args.ask.now ∙ sym c.is_asked.ensures ∙ c.if-not-is_asked.true in
-    sym (append-nil c.args.out.now.items)
-    ∙ ap (λ (x : List Sent). c.args.out.now.items ++ x) (sym (sent_none s (Act.deliver a) (ignored_silent s.jobs s.id s.holding kept.server.settled s.marks a none)))
+pub returns-then-not-is_asked : goal.returns-then-not-is_asked
+returns-then-not-is_asked c =
+    let none = direct_taken c.args.self.now.jobs c.args.self.now.id c.args.self.now.holding.table c.args.ask.now ∙ sym c.is_asked.ensures ∙ c.if-not-is_asked.true in
+    let its = ignores c.args.self.now (subst IsNode c.self.view_is c.self.invariant.node) (frames.DirectAsk c.args.ask.now) none c.args.out.now.items in
+    record { reply = its.reply; ok = its.ok; sent = its.sent; err = search rules; unsent = search rules }
 
 pub returns-then-level-clause-reply : goal.returns-then-level-clause-reply
 returns-then-level-clause-reply c =

@@ -1,42 +1,22 @@
-use Rattle.std.proofs.Common.{List, ◌++◌, refl, sym, ap, subst, append-nil, ◌∙◌}
-use Rattle.pmg_frame.specs.declared.frame.Frame.{Frame}
+use Rattle.std.proofs.Common.{List, ◌++◌, refl, sym, ap, subst, ◌∙◌, rules}
 use Rattle.pmg_frame.specs.declared.frame.Frame.TheVariants as frames
-use Rattle.pmg_node_model.specs.Acts.{Act, Done}
+use Rattle.pmg_node_model.specs.Acts.{Act}
 use Rattle.pmg_node_model.specs.Choosing.{sends}
 use Rattle.pmg_node.specs.Content.{server_of}
 use Rattle.pmg_node_model.specs.Holdings.{sealer_of}
 use Rattle.pmg_node.specs.Servers.{Server, IsNode}
 use Rattle.pmg_node_model.specs.declared.sent.Sent.{Sent}
-use Rattle.pmg_node.proofs.FrameLemmas.{ignored_is, ignored_silent}
+use Rattle.pmg_node.proofs.FrameLemmas.{ignores}
 use Rattle.pmg_node.proofs.NodeKept.{node_stays}
 use Rattle.pmg_node.proofs.OpenLemmas.{still_open}
 use Rattle.pmg_node.proofs.PieceLemmas.{piece_reply, piece_sent, piece_moved}
-use Rattle.pmg_node.proofs.SilentLemmas.{after_is, sent_none}
 use Rattle.pmg_node.proofs.node.Node.deliver_piece.Goals as goal
 
-pub returns-then-not-is_foreign-clause-reply : goal.returns-then-not-is_foreign-clause-reply
-returns-then-not-is_foreign-clause-reply c =
-    let s = c.args.self.now in
-    let a : Frame = frames.Piece c.args.piece.now in
-    let kept = subst IsNode c.self.view_is c.self.invariant.node in
-    ap (λ (d : Done). d.reply) (ignored_is s.jobs s.id s.holding kept.server.settled a (sym c.is_foreign.ensures ∙ c.if-not-is_foreign.true))
-
-pub returns-then-not-is_foreign-clause-ok : goal.returns-then-not-is_foreign-clause-ok
-returns-then-not-is_foreign-clause-ok c =
-    let s = c.args.self.now in
-    let a : Frame = frames.Piece c.args.piece.now in
-    let kept = subst IsNode c.self.view_is c.self.invariant.node in
+pub returns-then-not-is_foreign : goal.returns-then-not-is_foreign
+returns-then-not-is_foreign c =
     let none = sym c.is_foreign.ensures ∙ c.if-not-is_foreign.true in
-    sym (after_is s (Act.deliver a) (ignored_silent s.jobs s.id s.holding kept.server.settled s.marks a none) _ (ignored_is s.jobs s.id s.holding kept.server.settled a none))
-
-pub returns-then-not-is_foreign-clause-sent : goal.returns-then-not-is_foreign-clause-sent
-returns-then-not-is_foreign-clause-sent c =
-    let s = c.args.self.now in
-    let a : Frame = frames.Piece c.args.piece.now in
-    let kept = subst IsNode c.self.view_is c.self.invariant.node in
-    let none = sym c.is_foreign.ensures ∙ c.if-not-is_foreign.true in
-    sym (append-nil c.args.out.now.items)
-    ∙ ap (λ (x : List Sent). c.args.out.now.items ++ x) (sym (sent_none s (Act.deliver a) (ignored_silent s.jobs s.id s.holding kept.server.settled s.marks a none)))
+    let its = ignores c.args.self.now (subst IsNode c.self.view_is c.self.invariant.node) (frames.Piece c.args.piece.now) none c.args.out.now.items in
+    record { reply = its.reply; ok = its.ok; sent = its.sent; err = search rules; unsent = search rules }
 
 pub invariant_of-self-2 : goal.invariant_of-self-2
 invariant_of-self-2 c =
@@ -56,22 +36,19 @@ invariant_of-self-2 c =
       replies = still_open t s c.self.view_is (Act.deliver (frames.Piece piece)) kept _ moved refl inside.held.anew inside.held.anew refl c.self.invariant.replies;
     }
 
-pub returns-clause-reply : goal.returns-clause-reply
-returns-clause-reply c = piece_reply c.args.self.now c.args.piece.now (sym c.is_foreign.ensures ∙ c.if-not-is_foreign.false)
-
-pub returns-clause-ok : goal.returns-clause-ok
-returns-clause-ok c =
+pub returns : goal.returns
+returns c =
     let s = c.args.self.now in
     let inside = c.self.inside in
     let t : Server = server_of inside.table inside.id inside.board inside.own inside.calls inside.held inside.marks in
     let taken = sym c.is_foreign.ensures ∙ c.if-not-is_foreign.false in
-    piece_moved s t c.args.piece.now c.self.view_is taken c.absorb_far.new.self.near c.absorb_far.new.self.far c.answer.new.self c.hand_out.new.marks c.in_ok-answers.answers.items
-    c.in_ok-dues.dues.items c.absorb_far.ensures.near c.in_default.ensures.far c.answer.ensures c.in_ok-handed.ensures.marks c.in_ok-answers.ensures c.in_ok-dues.ensures
-
-pub returns-clause-sent : goal.returns-clause-sent
-returns-clause-sent c =
-    let s = c.args.self.now in
-    let taken = sym c.is_foreign.ensures ∙ c.if-not-is_foreign.false in
-    c.in_ok-handed.ensures.frames
-    ∙ ap (λ (x : Server). c.args.out.now.items ++ (sends (sealer_of x.holding) x.marks c.in_ok-dues.dues.items).frames) c.self.view_is
-    ∙ ap (λ (fs : List Sent). c.args.out.now.items ++ fs) (sym (piece_sent s c.args.piece.now taken c.in_ok-dues.dues.items c.in_ok-dues.ensures))
+    record {
+      reply = piece_reply s c.args.piece.now taken;
+      ok = piece_moved s t c.args.piece.now c.self.view_is taken c.absorb_far.new.self.near c.absorb_far.new.self.far c.answer.new.self c.hand_out.new.marks c.in_ok-answers.answers.items
+          c.in_ok-dues.dues.items c.absorb_far.ensures.near c.in_default.ensures.far c.answer.ensures c.in_ok-handed.ensures.marks c.in_ok-answers.ensures c.in_ok-dues.ensures;
+      sent = c.in_ok-handed.ensures.frames
+          ∙ ap (λ (x : Server). c.args.out.now.items ++ (sends (sealer_of x.holding) x.marks c.in_ok-dues.dues.items).frames) c.self.view_is
+          ∙ ap (λ (fs : List Sent). c.args.out.now.items ++ fs) (sym (piece_sent s c.args.piece.now taken c.in_ok-dues.dues.items c.in_ok-dues.ensures));
+      err = search rules;
+      unsent = search rules;
+    }

@@ -1,7 +1,6 @@
-use Rattle.std.proofs.Common.{◌≡◌, List, ◌++◌, sym, ap, subst, append-nil, ◌∙◌}
+use Rattle.std.proofs.Common.{◌≡◌, List, ◌++◌, sym, ap, subst, ◌∙◌, rules}
 use Rattle.std.specs.Option.{option_map}
 use Rattle.pmg_frame.specs.Refreshing.{RefreshReply, told_by}
-use Rattle.pmg_frame.specs.declared.frame.Frame.{Frame}
 use Rattle.pmg_frame.specs.declared.frame.Frame.TheVariants as frames
 use Rattle.pmg_dmodex.specs.Refreshes.{Refreshes, answered}
 use Rattle.pmg_dmodex.specs.Requests.{Requests, with_anew}
@@ -18,29 +17,11 @@ use Rattle.pmg_node.proofs.ReplyOpen.{replied_open, last_answered}
 use Rattle.pmg_node.proofs.ReplyTaking.{reply_reply, reply_sent, reply_calls, reply_moved}
 use Rattle.pmg_node.proofs.node.Node.deliver_refresh_reply.Goals as goal
 
-pub returns-then-not-is_replied-clause-reply : goal.returns-then-not-is_replied-clause-reply
-returns-then-not-is_replied-clause-reply c =
-    let s = c.args.self.now in
-    let frame : Frame = frames.RefreshReply c.args.reply.now in
+pub returns-then-not-is_replied : goal.returns-then-not-is_replied
+returns-then-not-is_replied c =
     let none = sym c.is_replied.ensures ∙ c.if-not-is_replied.true in
-    let its = ignores s (subst IsNode c.self.view_is c.self.invariant.node) frame none in
-    its.reply
-
-pub returns-then-not-is_replied-clause-ok : goal.returns-then-not-is_replied-clause-ok
-returns-then-not-is_replied-clause-ok c =
-    let s = c.args.self.now in
-    let frame : Frame = frames.RefreshReply c.args.reply.now in
-    let none = sym c.is_replied.ensures ∙ c.if-not-is_replied.true in
-    let its = ignores s (subst IsNode c.self.view_is c.self.invariant.node) frame none in
-    sym its.left
-
-pub returns-then-not-is_replied-clause-sent : goal.returns-then-not-is_replied-clause-sent
-returns-then-not-is_replied-clause-sent c =
-    let s = c.args.self.now in
-    let frame : Frame = frames.RefreshReply c.args.reply.now in
-    let none = sym c.is_replied.ensures ∙ c.if-not-is_replied.true in
-    let its = ignores s (subst IsNode c.self.view_is c.self.invariant.node) frame none in
-    sym (append-nil c.args.out.now.items) ∙ ap (λ (x : List Sent). c.args.out.now.items ++ x) (sym its.sent)
+    let its = ignores c.args.self.now (subst IsNode c.self.view_is c.self.invariant.node) (frames.RefreshReply c.args.reply.now) none c.args.out.now.items in
+    record { reply = its.reply; ok = its.ok; sent = its.sent; err = search rules; unsent = search rules }
 
 module _ (c : goal.Joined-told-5) where
   abbrev r : RefreshReply
@@ -79,16 +60,16 @@ invariant_of-self-2 c =
           (subst (λ (x : Server). AreOpen x.holding.calls c.self.inside.held.anew) c.self.view_is c.self.invariant.replies));
     }
 
-pub returns-clause-reply : goal.returns-clause-reply
-returns-clause-reply c = reply_reply c.args.self.now c.args.reply.now (sym c.is_replied.ensures ∙ c.if-not-is_replied.false)
-
-pub returns-clause-ok : goal.returns-clause-ok
-returns-clause-ok c = moved c
-
-pub returns-clause-sent : goal.returns-clause-sent
-returns-clause-sent c =
+pub returns : goal.returns
+returns c =
     let s = c.args.self.now in
     let taken = sym c.is_replied.ensures ∙ c.if-not-is_replied.false in
-    c.in_ok-handed.ensures.frames
-    ∙ ap (λ (x : Server). c.args.out.now.items ++ (sends (sealer_of x.holding) x.marks c.in_ok-dues.dues.items).frames) c.self.view_is
-    ∙ ap (λ (fs : List Sent). c.args.out.now.items ++ fs) (sym (reply_sent s c.args.reply.now taken c.in_ok-dues.dues.items c.in_ok-dues.ensures))
+    record {
+      reply = reply_reply s (r c) taken;
+      ok = moved c;
+      sent = c.in_ok-handed.ensures.frames
+          ∙ ap (λ (x : Server). c.args.out.now.items ++ (sends (sealer_of x.holding) x.marks c.in_ok-dues.dues.items).frames) c.self.view_is
+          ∙ ap (λ (fs : List Sent). c.args.out.now.items ++ fs) (sym (reply_sent s (r c) taken c.in_ok-dues.dues.items c.in_ok-dues.ensures));
+      err = search rules;
+      unsent = search rules;
+    }

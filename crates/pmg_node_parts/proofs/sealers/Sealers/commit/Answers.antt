@@ -1,61 +1,25 @@
-use Rattle.std.proofs.Common.{Some, sym, ap, subst, ◌∙◌}
+use Rattle.std.proofs.Common.{sym, ap, subst, ◌∙◌}
 use Rattle.std.specs.FinMap as finite
 use Rattle.std.specs.Prelude.{IfOk}
 use Rattle.std.proofs.lemmas.Result.{on_ok_weaker, on_err_weaker}
 use Rattle.pmg_value.specs.Answers.{Gives}
-use Rattle.pmg_value.specs.Process.{proc_cmp}
-use Rattle.pmg_value.proofs.ProcessOrder.{procs_total, exact_procs}
-use Rattle.pmg_value.proofs.RowLemmas.{at_key, found_is, some_found, insert_same}
 use Rattle.pmg_commit.specs.Sealed.{Sealed, sealed_with, commit_answer}
 use Rattle.pmg_commit.specs.TakenBack.{sealer_back, CanRollBack}
-use Rattle.pmg_node_parts.specs.Sealers.{AllSealed, sealed_by}
-use Rattle.pmg_node_parts.proofs.SealerLemmas.{sealed-insert, found, sealed_there, not_there, put_there}
+use Rattle.pmg_node_parts.specs.Sealers.{sealed_by}
+use Rattle.pmg_node_parts.proofs.SealerLemmas.{resealed, not_there}
 use Rattle.pmg_node_parts.proofs.sealers.Sealers.commit.Goals as goal
 
-pub returns-in-Some-clause-before : goal.returns-in-Some-clause-before
-returns-in-Some-clause-before c =
-    let old = c.self.inside.rows.entries in
-    let p = c.args.proc.now in
-    let there = found_is c.get_mut.result c.in-Some.sealer (at_key proc_cmp p old) c.in-Some.is c.get_mut.ensures.value in
-    let new = c.get_mut.follows.lender c.commit.new.self in
-    let put = put_there old c.args.self.now p c.self.view_is new.entries c.commit.new.self ((c.get_mut.follows.holds c.commit.new.self).3 (some_found there)).0 in
-    let was = sealed_there old c.args.self.now p c.self.view_is c.in-Some.sealer.now there in
-    let is = ap (λ (m : AllSealed). sealed_by m p) put ∙ sealed-insert c.args.self.now p c.commit.new.self in
-    subst (λ (z : Sealed). Gives (λ b. sealer_back z b) c.commit.result (commit_answer (sealed_by c.args.self.now p) c.args.batch.now)) (sym is)
-    (subst (λ (z : Sealed). Gives (λ b. sealer_back c.commit.new.self b) c.commit.result (commit_answer z c.args.batch.now)) (sym was) c.commit.ensures.before)
-
-pub returns-in-Some-clause-fits : goal.returns-in-Some-clause-fits
-returns-in-Some-clause-fits c =
-    let old = c.self.inside.rows.entries in
-    let p = c.args.proc.now in
-    let there = found_is c.get_mut.result c.in-Some.sealer (at_key proc_cmp p old) c.in-Some.is c.get_mut.ensures.value in
-    let new = c.get_mut.follows.lender c.commit.new.self in
-    let put = put_there old c.args.self.now p c.self.view_is new.entries c.commit.new.self ((c.get_mut.follows.holds c.commit.new.self).3 (some_found there)).0 in
-    let was = sealed_there old c.args.self.now p c.self.view_is c.in-Some.sealer.now there in
-    let is = ap (λ (m : AllSealed). sealed_by m p) put ∙ sealed-insert c.args.self.now p c.commit.new.self in
-    subst (λ (z : Sealed). IfOk c.commit.result (λ b. CanRollBack z b)) (sym is) c.commit.ensures.fits
-
-pub returns-in-Some-clause-ok : goal.returns-in-Some-clause-ok
-returns-in-Some-clause-ok c =
-    let old = c.self.inside.rows.entries in
-    let p = c.args.proc.now in
-    let there = found_is c.get_mut.result c.in-Some.sealer (at_key proc_cmp p old) c.in-Some.is c.get_mut.ensures.value in
-    let new = c.get_mut.follows.lender c.commit.new.self in
-    let put = put_there old c.args.self.now p c.self.view_is new.entries c.commit.new.self ((c.get_mut.follows.holds c.commit.new.self).3 (some_found there)).0 in
-    let was = sealed_there old c.args.self.now p c.self.view_is c.in-Some.sealer.now there in
-    on_ok_weaker c.commit.result (λ is. put ∙ ap (finite.insert c.args.self.now p) (is ∙ ap (λ (z : Sealed). sealed_with z c.args.batch.now) (sym was))) c.commit.ensures.ok
-
-pub returns-in-Some-clause-err : goal.returns-in-Some-clause-err
-returns-in-Some-clause-err c =
-    let old = c.self.inside.rows.entries in
-    let p = c.args.proc.now in
-    let there = found_is c.get_mut.result c.in-Some.sealer (at_key proc_cmp p old) c.in-Some.is c.get_mut.ensures.value in
-    let new = c.get_mut.follows.lender c.commit.new.self in
-    let put = put_there old c.args.self.now p c.self.view_is new.entries c.commit.new.self ((c.get_mut.follows.holds c.commit.new.self).3 (some_found there)).0 in
-    let was = sealed_there old c.args.self.now p c.self.view_is c.in-Some.sealer.now there in
-    on_err_weaker c.commit.result
-    (λ is. put ∙ insert_same procs_total exact_procs c.args.self.now p c.commit.new.self (found old c.args.self.now p c.self.view_is (Some c.commit.new.self) (there ∙ ap Some (sym is))))
-    c.commit.ensures.err
+pub returns-in-Some : goal.returns-in-Some
+returns-in-Some c =
+    let its = resealed c.self.inside.rows.entries c.args.self.now c.args.proc.now c.self.view_is c.get_mut.result c.in-Some.sealer c.in-Some.is c.get_mut.ensures.value
+    (c.get_mut.follows.lender c.commit.new.self).entries c.commit.new.self (λ some. ((c.get_mut.follows.holds c.commit.new.self).3 some).0) in
+    record {
+      before = subst (λ (z : Sealed). Gives (λ b. sealer_back z b) c.commit.result (commit_answer (sealed_by c.args.self.now c.args.proc.now) c.args.batch.now)) (sym its.now_there)
+          (subst (λ (z : Sealed). Gives (λ b. sealer_back c.commit.new.self b) c.commit.result (commit_answer z c.args.batch.now)) (sym its.was_there) c.commit.ensures.before);
+      fits = subst (λ (z : Sealed). IfOk c.commit.result (λ b. CanRollBack z b)) (sym its.now_there) c.commit.ensures.fits;
+      ok = on_ok_weaker c.commit.result (λ is. its.put ∙ ap (finite.insert c.args.self.now c.args.proc.now) (is ∙ ap (λ (z : Sealed). sealed_with z c.args.batch.now) (sym its.was_there))) c.commit.ensures.ok;
+      err = on_err_weaker c.commit.result its.same c.commit.ensures.err;
+    }
 
 pub returns-clause-before : goal.returns-clause-before
 returns-clause-before c = not_there c.self.inside.rows.entries c.args.self.now c.args.proc.now c.self.view_is c.requires (sym c.in_default.ensures.value)
