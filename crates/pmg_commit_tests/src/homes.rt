@@ -103,8 +103,14 @@ fn a_registry_refuses_by_itself(rt: HostRuntime) {
     for (asking, who, key, want) in cases {
         assert!(rt; key_cause(&rt, alloc, &registry, asking, who, key) == Some(want));
     }
-    let list = list_of(&rt, alloc, "j/0,pmix.host/0");
-    assert!(rt; cause_of(&rt, registry.expand(&list)) == Some(Refusal::UnknownNamespace));
+    let lists = [
+        ("j/0,pmix.host/0", Refusal::UnknownNamespace),
+        ("j/0,j/2", Refusal::BadParam),
+    ];
+    for (words, want) in lists {
+        let list = list_of(&rt, alloc, words);
+        assert!(rt; cause_of(&rt, registry.expand(&list)) == Some(want));
+    }
 }
 
 // The local rank of the last process of m, and how many processes it has.

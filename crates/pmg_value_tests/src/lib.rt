@@ -5,6 +5,8 @@
 #[cfg(test)]
 mod joins;
 #[cfg(test)]
+mod making;
+#[cfg(test)]
 mod values;
 #[cfg(test)]
 mod writing;

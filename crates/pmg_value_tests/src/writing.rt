@@ -1,11 +1,23 @@
 //! How refusals are displayed, and what a writer holds that fails in mid-stream.
+use crate::making::MEMORY;
 use pmg_value::{Cause, Fault, Refusal, WatchedWriter};
 use std::alloc::Global;
+use std::fmt::Display;
 use std::io;
 use std::io::{ErrorKind, Write};
+use std::process::Abort;
+
+// What these display, each with the text after it.
+fn displayed<T: Display>(rt: &impl Abort, alloc: Global, shown: &[T], after: &str) -> String {
+    let mut text = String::new(alloc);
+    for one in shown {
+        write!(text, "{one}{after}").expect(rt, MEMORY);
+    }
+    text
+}
 
 #[test]
-fn refusals_show_their_numbers_and_names(rt: HostRuntime) -> Result<(), Refusal> {
+fn refusals_show_their_numbers_and_names(rt: HostRuntime) {
     let refusals = [
         Refusal::NoMemory,
         Refusal::BadParam,
@@ -24,19 +36,15 @@ fn refusals_show_their_numbers_and_names(rt: HostRuntime) -> Result<(), Refusal>
         Refusal::Unordered,
         Refusal::Closed,
     ];
-    let mut text = String::new(rt.alloc());
-    for refusal in refusals {
-        write!(text, "{refusal}, ")?;
-    }
     let want = "0 NoMemory, 1 BadParam, 2 NotFound, 3 OutsideScope, 4 UnknownNamespace, 5 NotMine, \
         6 Busy, 7 Terminated, 8 NotAParticipant, 9 TooMany, 10 BadFrame: Hex at 0, 11 Exists, \
         12 Collision, 13 Stale, 14 Unordered, 15 Closed, ";
-    assert_eq!(rt; text.as_str(), want);
-    Ok(())
+    let text = displayed(&rt, rt.alloc(), &refusals, ", ");
+    assert!(rt; text.as_str() == want);
 }
 
 #[test]
-fn causes_show_their_names(rt: HostRuntime) -> Result<(), Refusal> {
+fn causes_show_their_names(rt: HostRuntime) {
     let causes = [
         Cause::Version,
         Cause::Kind,
@@ -62,15 +70,11 @@ fn causes_show_their_names(rt: HostRuntime) -> Result<(), Refusal> {
         Cause::Script,
         Cause::Input,
     ];
-    let mut text = String::new(rt.alloc());
-    for cause in causes {
-        write!(text, "{cause} ")?;
-    }
     let want =
         "Version Kind Length Short Long Name Rank Range Count Key Order Member Number Level Node \
         Tag Bool Text Size Cut Hex Script Input ";
-    assert_eq!(rt; text.as_str(), want);
-    Ok(())
+    let text = displayed(&rt, rt.alloc(), &causes, " ");
+    assert!(rt; text.as_str() == want);
 }
 
 // Fails at one of its calls alone, is interrupted at each third, and else takes at most four bytes.
@@ -113,40 +117,57 @@ const REFUSED: Refusal = Refusal::BadFrame(Fault {
     cause: Cause::Input,
 });
 
-// Whether a writer that fails at this call holds a prefix of the text then, and is not called
-// again; or holds all of the text, if it was not called so often.
-fn stops(alloc: Global, fails_at: usize, kind: ErrorKind) -> Result<bool, Refusal> {
-    let whole = b"10 BadFrame: Input at 18446744073709551615!";
-    let mut writer = WatchedWriter::new(Failing {
-        held: Vec::with_capacity(alloc, 64)?,
+const WHOLE: &[u8] = b"10 BadFrame: Input at 18446744073709551615!";
+
+// Writes the text, and its last byte after a flush: whether each was done.
+fn written(writer: &mut WatchedWriter<Failing>) -> (bool, bool) {
+    let is_written = REFUSED.write_text(writer).is_ok();
+    writer.flush();
+    (is_written, writer.put_text(b"!").is_ok())
+}
+
+// A writer that fails at this call so.
+fn writer_that_fails(
+    rt: &impl Abort,
+    alloc: Global,
+    fails_at: usize,
+    kind: ErrorKind,
+) -> WatchedWriter<Failing> {
+    let held = Vec::with_capacity(alloc, 64).expect(rt, MEMORY);
+    WatchedWriter::new(Failing {
+        held,
         calls: 0,
         fails_at,
         kind,
-    });
-    let is_written = REFUSED.write_text(&mut writer).is_ok();
-    writer.flush();
-    let is_ended = writer.put_text(b"!").is_ok();
-    let is_told = match writer.failure() {
+    })
+}
+
+// Whether the writer told that it failed so.
+fn has_told(writer: &WatchedWriter<Failing>, kind: ErrorKind) -> bool {
+    match writer.failure() {
         Some(failure) => failure.kind() == kind,
         None => false,
-    };
-    let Failing { held, calls, .. } = writer.into_inner();
-    if calls < fails_at {
-        return Ok(is_written && is_ended && held.as_slice() == whole.as_slice());
     }
-    Ok(!is_ended && is_told && calls == fails_at && whole.starts_with(&held))
+}
+
+// Whether a writer that fails at this call holds a prefix of the text then, and is not called
+// again; or holds all of the text, if it was not called so often.
+fn stops(rt: &impl Abort, alloc: Global, fails_at: usize, kind: ErrorKind) -> bool {
+    let mut writer = writer_that_fails(rt, alloc, fails_at, kind);
+    let (is_written, is_ended) = written(&mut writer);
+    let is_told = has_told(&writer, kind);
+    let failing = writer.into_inner();
+    if failing.calls < fails_at {
+        return is_written && is_ended && failing.held.as_slice() == WHOLE;
+    }
+    !is_ended && is_told && failing.calls == fails_at && WHOLE.starts_with(&failing.held)
 }
 
 #[test]
-fn a_writer_that_failed_is_not_called_again(rt: HostRuntime) -> Result<(), Refusal> {
+fn a_writer_that_failed_is_not_called_again(rt: HostRuntime) {
     for fails_at in 1..24 {
-        for kind in [
-            ErrorKind::StorageFull,
-            ErrorKind::WriteZero,
-            ErrorKind::WouldBlock,
-        ] {
-            assert!(rt; stops(rt.alloc(), fails_at, kind)?, "at {fails_at}");
-        }
+        assert!(rt; stops(&rt, rt.alloc(), fails_at, ErrorKind::StorageFull));
+        assert!(rt; stops(&rt, rt.alloc(), fails_at, ErrorKind::WriteZero));
+        assert!(rt; stops(&rt, rt.alloc(), fails_at, ErrorKind::WouldBlock));
     }
-    Ok(())
 }
