@@ -18,8 +18,9 @@ use Rattle.pmg_node_model.proofs.KeptBasics.{act_cases}
 use Rattle.pmg_frame.specs.declared.frame.Frame.{Frame}
 use Rattle.pmg_node.specs.Servers.{Server, reply_to}
 use Rattle.pmg_group_model.specs.Worlds.{Doing, Event, World, cache_of, doing, numbered, said_in}
-use Rattle.pmg_world.specs.Caching.{AllCached, cached_for}
-use Rattle.pmg_world.specs.Keeping.{AreCaches, own_key}
+use Rattle.pmg_caches.specs.Caching.{AllCached, cached_for}
+use Rattle.pmg_caches.specs.OwnKeys.{own_key}
+use Rattle.pmg_world.specs.Keeping.{AreCaches}
 use Rattle.pmg_world.proofs.ClientLemmas.{commit_seals, frame_keeps, request_keeps, unsealed_is}
 use Rattle.pmg_world.proofs.HappenLemmas.{at_node_is, commit_there, frame_there, request_there}
 use Rattle.pmg_journal.specs.Replays.{happening}

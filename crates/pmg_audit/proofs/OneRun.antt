@@ -15,7 +15,7 @@ use Rattle.pmg_node.specs.Servers.{Server}
 use Rattle.pmg_group_model.specs.Worlds.{Happened, cache_of, start}
 use Rattle.pmg_group_model.specs.Worlds.{Run}
 use Rattle.pmg_world.specs.Accounts.{Account, IsAccountLawful, IsRun, LeadsTo}
-use Rattle.pmg_world.specs.Caching.{cached_for}
+use Rattle.pmg_caches.specs.Caching.{cached_for}
 use Rattle.pmg_world.specs.Keeping.{AreCaches, AreNew, IsNodeOf}
 use Rattle.pmg_world.specs.Telling.{happened_of}
 use Rattle.pmg_world.specs.declared.event.LoggedEvent.{LoggedEvent}

@@ -21,9 +21,9 @@ use Rattle.pmg_node_model.specs.Holdings.{NodeState}
 use Rattle.pmg_node_model.specs.declared.sent.Sent.{Sent}
 use Rattle.pmg_node_model.proofs.KeptBasics.{put_other}
 use Rattle.pmg_group_model.specs.Worlds.{Doing, Does, Event, Happened, Run, Step, World, cache_of, reply_or_refusal}
-use Rattle.pmg_world.specs.Caching.{AllCached, cached_for}
+use Rattle.pmg_caches.specs.Caching.{AllCached, cached_for}
 use Rattle.pmg_world.specs.Keeping.{AreCaches}
-use Rattle.pmg_world.proofs.CauseLemmas.{due_free, first_bad}
+use Rattle.pmg_caches.proofs.CauseLemmas.{due_free, first_bad}
 use Rattle.pmg_world.proofs.ClientLemmas.{put_kept}
 use Rattle.pmg_world.proofs.HappenLemmas.{put_is}
 use Rattle.pmg_group_model.proofs.RunLemmas.{next_run, run_none}

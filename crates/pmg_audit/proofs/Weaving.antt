@@ -19,7 +19,7 @@ use Rattle.pmg_node_model.specs.Sending.{NodeStep}
 use Rattle.pmg_node_model.specs.declared.sent.Sent.{Sent}
 use Rattle.pmg_node.specs.Servers.{Server, after, reply_to, sent_by}
 use Rattle.pmg_group_model.specs.Worlds.{Doing, Does, Event, Happened, Run, Step, World, with_holding_at, numbered, said_in}
-use Rattle.pmg_world.specs.Caching.{AllCached, cached_for}
+use Rattle.pmg_caches.specs.Caching.{AllCached, cached_for}
 use Rattle.pmg_world.specs.Keeping.{AreCaches, AreNodes, IsNodeOf}
 use Rattle.pmg_world.proofs.ActLemmas.{act_keeps, act_steps}
 use Rattle.pmg_world.proofs.PutLemmas.{free_at}

@@ -1,46 +1,104 @@
--- A server with the frames of it that wait.
-use Rattle.std.specs.Prelude.{◌≡◌, ◌++◌, List, [], ◌∷◌, Option, Some, None, refl}
+-- A server with its clients' caches, and the frames of it that wait.
+use Rattle.std.specs.Prelude.{◌≡◌, ℕ, ◌++◌, List, [], ◌∷◌, Option, Some, None, Result, refl}
 use Rattle.std.specs.Coded.{Coded, code_by, coded×, coded_list, coded_option}
+use Rattle.std.specs.FinMap as finite
+use Rattle.pmg_value.specs.Rows.{changed_at}
+use Rattle.pmg_value.specs.declared.process.Proc.{Proc}
+use Rattle.pmg_value.specs.declared.refusal.Refusal.{Refusal}
+use Rattle.pmg_scope.specs.Cached.{after_commit, unsealed_of, with_put}
+use Rattle.pmg_scope.specs.declared.scope.Scope.{Scope}
 use Rattle.pmg_commit.specs.Knowledge.{Contribution}
-use Rattle.pmg_node.specs.Joining.{Joins, joins, no_joins}
 use Rattle.pmg_frame.specs.declared.frame.Frame.{Frame}
-use Rattle.pmg_node.specs.Acting.{reply_as}
-use Rattle.pmg_node.specs.Servers.{Server, after, coded_server, reply_to, sent_by}
-use Rattle.pmg_node.specs.declared.act.Reply.{Reply}
-use Rattle.pmg_node_model.specs.Acts.{Act}
-use Rattle.pmg_link.specs.declared.inbox.Inbox.{Inbox}
+use Rattle.pmg_node_model.specs.Acts.{Act, Request}
 use Rattle.pmg_node_model.specs.declared.sent.Sent.{Sent}
+use Rattle.pmg_node.specs.Acting.{reply_as}
+use Rattle.pmg_node.specs.Joining.{Joins, joins, no_joins}
+use Rattle.pmg_node.specs.Servers.{Server, Replies, RepliesAct, after, coded_server, reply_to, sent_by}
+use Rattle.pmg_node.specs.declared.act.Reply.{Reply as GivenReply}
+use Rattle.pmg_group_model.specs.Worlds.{reply_or_refusal}
+use Rattle.pmg_caches.specs.Caching.{AllCached, cached_for, coded_all_cached}
+use Rattle.pmg_caches.specs.OwnKeys.{own_answer, own_key}
+use Rattle.pmg_link.specs.declared.inbox.Inbox.{Inbox}
 
--- a node, the frames of it that wait, the next one first, and what its last act joined
+-- a node, what its clients put, the frames of it that wait, the next one first, and what its last act joined
 pub record Linked : Type 0 where
   pub node : Server
+  pub caches : AllCached
   pub waiting : List Sent
   pub joined : Joins
 
 -- its code, by those of a frame that is sent and of a contribution
 abbrev pub coded_linked : Coded Sent → Coded Contribution → Coded Linked
 coded_linked coded_sent coded_piece =
-    code_by (Server × (List Sent × (Option Contribution × Option Contribution)))
-    (coded× coded_server (coded× (coded_list coded_sent) (coded× (coded_option coded_piece) (coded_option coded_piece))))
-    (λ l. (l.node, (l.waiting, (l.joined.near, l.joined.far))))
-    (λ p. record { node = p.0; waiting = p.1.0; joined = record { near = p.1.1.0; far = p.1.1.1 } }) (λ _. refl)
+    code_by (Server × (AllCached × (List Sent × (Option Contribution × Option Contribution))))
+    (coded× coded_server (coded× coded_all_cached (coded× (coded_list coded_sent) (coded× (coded_option coded_piece) (coded_option coded_piece)))))
+    (λ l. (l.node, (l.caches, (l.waiting, (l.joined.near, l.joined.far)))))
+    (λ p. record { node = p.0; caches = p.1.0; waiting = p.1.1.0; joined = record { near = p.1.1.1.0; far = p.1.1.1.1 } }) (λ _. refl)
 
--- a link of the node: no frame waits, and no act joined anything
+-- a link of the node: nobody put anything, no frame waits, and no act joined anything
 abbrev pub new_link : Server → Linked
-new_link s = record { node = s; waiting = []; joined = no_joins }
+new_link s = record { node = s; caches = finite.empty; waiting = []; joined = no_joins }
+
+-- the link once the node did the act: what it sends waits after the frames that wait
+abbrev pub link_after : Linked → Act → Linked
+link_after l a = record {
+  node = after l.node a;
+  caches = l.caches;
+  waiting = l.waiting ++ sent_by l.node a;
+  joined = joins l.node.jobs l.node.id l.node.holding a;
+}
+
+-- ---- calls of clients
+
+-- the process's client put that value
+abbrev pub link_with_put : Linked → Proc → Scope → List ℕ → List ℕ → Linked
+link_with_put l p scope key value = record {
+  node = l.node;
+  caches = finite.insert l.caches p (with_put (cached_for l.caches p) scope key value);
+  waiting = l.waiting;
+  joined = l.joined;
+}
+
+-- what the node does where the process commits what its client put
+abbrev pub commit_of : Linked → Proc → Act
+commit_of l p = Act.commit p (unsealed_of (cached_for l.caches p))
+
+-- the link once that is committed
+abbrev pub link_committed : Linked → Proc → Linked
+link_committed l p =
+    let done = link_after l (commit_of l p) in
+    record { node = done.node; caches = changed_at l.caches p (after_commit (cached_for l.caches p)); waiting = done.waiting; joined = done.joined }
+
+-- A request is answered so: a get of a key of one's own by what one's client put, any other request by the node.
+abbrev pub RepliesBy : Option (Proc × List ℕ) → Linked → Request → Result GivenReply Refusal → Type 0
+RepliesBy None l r answer = RepliesAct reply_as answer l.node (Act.request r)
+RepliesBy (Some own) l r answer = Replies reply_as answer (reply_or_refusal (own_answer l.node (cached_for l.caches own.0) own.0 own.1))
+
+-- that is how it is answered
+abbrev pub RepliesRequest : Linked → Request → Result GivenReply Refusal → Type 0
+RepliesRequest l r answer = RepliesBy (own_key r) l r answer
+
+-- the link then, which a get of one's own leaves as it was
+abbrev pub after_by : Option (Proc × List ℕ) → Linked → Request → Linked
+after_by None l r = link_after l (Act.request r)
+after_by (Some own) l r = l
+
+-- the link after a request
+abbrev pub after_request : Linked → Request → Linked
+after_request l r = after_by (own_key r) l r
+
+-- ---- frames of other nodes
 
 -- the frame that came first is delivered, with that reply, and waits no more
-pub record DeliversFirst (c d : Inbox) (l m : Linked) (reply : Reply) : Type 0 where
+pub record DeliversFirst (c d : Inbox) (l m : Linked) (reply : GivenReply) : Type 0 where
   pub frame : Frame
   pub first : c.frames.items ≡ frame ∷ d.frames.items
   pub stream : d.stream ≡ c.stream
   pub fault : d.fault ≡ c.fault
   pub replies : reply_to l.node (Act.deliver frame) ≡ reply_as reply
-  pub done : m.node ≡ after l.node (Act.deliver frame)
-  pub sent : m.waiting ≡ l.waiting ++ sent_by l.node (Act.deliver frame)
-  pub joined : m.joined ≡ joins l.node.jobs l.node.id l.node.holding (Act.deliver frame)
+  pub done : m ≡ link_after l (Act.deliver frame)
 
 -- it is, or none waits and nothing is done
-abbrev pub DeliversNext : Inbox → Inbox → Linked → Linked → Option Reply → Type 0
+abbrev pub DeliversNext : Inbox → Inbox → Linked → Linked → Option GivenReply → Type 0
 DeliversNext c d l m None = (c.frames.items ≡ []) × ((d ≡ c) × (m ≡ l))
 DeliversNext c d l m (Some reply) = DeliversFirst c d l m reply

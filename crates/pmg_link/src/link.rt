@@ -1,26 +1,33 @@
-//! A node with the frames of it that wait.
+//! A node with what its clients put, and the frames of it that wait.
 ghost use Rattle.std.specs.Prelude.{◌≡◌, ◌++◌, [], length, Err, IfOk, OnOk, OnErr, IsNone, slice_get};
 ghost use Rattle.std.specs.Option.{option_copied, option_to_list};
+ghost use Rattle.pmg_value.specs.Answers.{Gives};
+ghost use Rattle.pmg_value.specs.CheckOrder.{first_of};
+ghost use Rattle.pmg_value.specs.Spelling.{spelling};
 ghost use Rattle.pmg_value.specs.declared.refusal.Refusal.TheVariants as refusals;
-ghost use Rattle.pmg_node.specs.Acting.{act_of, joins_in, reply_as};
-ghost use Rattle.pmg_node.specs.Joining.{joins, no_joins};
-ghost use Rattle.pmg_node.specs.Servers.{after, reply_to, sent_by, IsAnswered, RepliesAct};
+ghost use Rattle.pmg_node.specs.Acting.{act_of, joins_in, reply_as, request_of};
+ghost use Rattle.pmg_node.specs.Joining.{no_joins};
+ghost use Rattle.pmg_node.specs.Servers.{reply_in, reply_to, IsAnswered, RepliesAct};
 ghost use Rattle.pmg_node_model.specs.Acts.{Act as ModelAct};
-ghost use Rattle.pmg_link.specs.Links.{new_link, DeliversNext};
+ghost use Rattle.pmg_caches.specs.Caching.{cached_for, put_cause_at};
+ghost use Rattle.pmg_link.specs.Links.{after_request, commit_of, link_after, link_committed, link_with_put, new_link, DeliversNext, RepliesRequest};
 
 use crate::inbox::Inbox;
+use pmg_caches::{Caches, own_get, own_key, put_at};
 use pmg_frame::Frame;
-use pmg_node::{Act, Joined, Node, Reply};
+use pmg_node::{Act, Joined, Node, Reply, Request};
 use pmg_node_model::Sent;
-use pmg_value::Refusal;
+use pmg_scope::Scope;
+use pmg_value::{Key, Proc, Refusal, Value};
 use std::alloc::AllocError;
 use std::collections::VecDeque;
 use std::marker::Model;
 
-/// A server with the frames that it sent and nobody took yet, for one who carries frames between servers: acts are handed in, and
-/// frames are taken out, in the order in which they were sent.
+/// A server with what its clients put and the frames that it sent and nobody took yet, for one who carries frames between servers:
+/// calls of clients are handed in, and frames are taken out, in the order in which they were sent.
 pub struct Link {
     node: Node,
+    caches: Caches,
     waiting: VecDeque<Sent>,
     joined: Joined,
 }
@@ -29,6 +36,7 @@ impl Drop for Link {
     fn drop(self) {
         let Link {
             node: _,
+            caches: _,
             waiting: _,
             joined: _,
         } = self;
@@ -45,7 +53,7 @@ impl Model for Link {
 
     ghost coded = { coded_linked sent_row.coded piece_row.coded };
 
-    ghost view = { λ a. record { node = a.node; waiting = a.waiting.items; joined = joins_in a.joined } };
+    ghost view = { λ a. record { node = a.node; caches = a.caches; waiting = a.waiting.items; joined = joins_in a.joined } };
 }
 
 /// What an act that is refused joins.
@@ -59,13 +67,14 @@ fn nothing() -> Joined
 }
 
 impl Link {
-    /// A link of that node: no frame waits, and nothing was joined. It keeps the allocator of the node's registry.
+    /// A link of that node: nobody put anything, no frame waits, and nothing was joined. It keeps the allocator of the node's registry.
     pub fn new(node: Node) -> Link
         ensures { result ≡ new_link node }
     {
         let alloc = node.registry().allocator();
         Link {
             node,
+            caches: Caches::new(alloc),
             waiting: VecDeque::new(alloc),
             joined: nothing(),
         }
@@ -76,10 +85,7 @@ impl Link {
     /// but what was joined, which is nothing then.
     pub fn act(&mut self, act: &Act) -> Result<Reply, Refusal>
         ensures reply { RepliesAct reply_as result self.old.node (act_of act.now) }
-        ensures done { IsAnswered result → self.new.node ≡ after self.old.node (act_of act.now) }
-        ensures sent { IsAnswered result → self.new.waiting ≡ self.old.waiting ++ sent_by self.old.node (act_of act.now) }
-        ensures joined { IsAnswered result
-            → self.new.joined ≡ joins self.old.node.jobs self.old.node.id self.old.node.holding (act_of act.now) }
+        ensures done { IsAnswered result → self.new ≡ link_after self.old (act_of act.now) }
         ensures memory { result ≡ Err refusals.NoMemory → self.new ≡ self.old }
     {
         match self.node.act_into(act, &mut self.waiting) {
@@ -95,14 +101,50 @@ impl Link {
         }
     }
 
+    /// The process puts the value under the key (PMIx Standard 5.0, PMIx_Put). Refused as BadParam where no process may put so or who
+    /// calls is none of its namespace; as UnknownNamespace, NotMine, Terminated and Busy for who calls; as TooMany where its client's
+    /// cache would pass a limit; and as NoMemory. A refused put changes nothing.
+    pub fn put(&mut self, proc: &Proc, scope: Scope, key: Key, value: Value) -> Result<(), Refusal>
+        ensures answer { Gives (λ u. u) result
+            (first_of (put_cause_at self.old.node (cached_for self.old.caches proc.now) proc.now scope key (spelling value)) tt) }
+        ensures ok { OnOk result (self.new ≡ link_with_put self.old proc.now scope key (spelling value)) }
+        ensures err { OnErr result (self.new ≡ self.old) }
+    {
+        put_at(&self.node, &mut self.caches, proc, scope, key, value)
+    }
+
+    /// The process commits what it put since its last commit (PMIx Standard 5.0, PMIx_Commit). Refused as the node refuses the
+    /// commit, and then what it put waits for the next one; and as NoMemory, which changes nothing.
+    pub fn commit(&mut self, proc: &Proc) -> Result<Reply, Refusal>
+        ensures reply { IsAnswered result → reply_to self.old.node (commit_of self.old proc.now) ≡ reply_in reply_as result }
+        ensures done { OnOk result (self.new ≡ link_committed self.old proc.now) }
+        ensures refused { OnErr result (IsAnswered result → self.new ≡ link_after self.old (commit_of self.old proc.now)) }
+        ensures memory { result ≡ Err refusals.NoMemory → self.new ≡ self.old }
+    {
+        let batch = self.caches.unsealed(proc)?;
+        let reply = self.act(&Act::Commit(proc.copy()?, batch))?;
+        self.caches.mark_sealed(proc);
+        Ok(reply)
+    }
+
+    /// A process asks for something, or the one who runs the node. A get of a key of one's own that is none of the standard's is
+    /// answered by what its client put last, committed or not; any other request is the node's. Refused as `act` is.
+    pub fn request(&mut self, request: Request) -> Result<Reply, Refusal>
+        ensures reply { RepliesRequest self.old (request_of request) result }
+        ensures done { IsAnswered result → self.new ≡ after_request self.old (request_of request) }
+        ensures memory { result ≡ Err refusals.NoMemory → self.new ≡ self.old }
+    {
+        match own_key(&request) {
+            Some((proc, key)) => own_get(&self.node, &self.caches, proc, key),
+            None => self.act(&Act::Request(request)),
+        }
+    }
+
     /// A frame of another node is taken or ignored, and the frames that the node sends then are put after those that wait. Where an
     /// allocation fails all is as it was.
     pub fn deliver(&mut self, frame: &Frame) -> Result<Reply, AllocError>
         ensures reply { IfOk result (λ reply. reply_to self.old.node (ModelAct.deliver frame.now) ≡ reply_as reply) }
-        ensures done { OnOk result (self.new.node ≡ after self.old.node (ModelAct.deliver frame.now)) }
-        ensures sent { OnOk result (self.new.waiting ≡ self.old.waiting ++ sent_by self.old.node (ModelAct.deliver frame.now)) }
-        ensures joined { OnOk result (self.new.joined
-            ≡ joins self.old.node.jobs self.old.node.id self.old.node.holding (ModelAct.deliver frame.now)) }
+        ensures done { OnOk result (self.new ≡ link_after self.old (ModelAct.deliver frame.now)) }
         ensures err { OnErr result (self.new ≡ self.old) }
     {
         let acted = self.node.deliver_joined(frame, &mut self.waiting)?;
@@ -131,6 +173,7 @@ impl Link {
         ensures waiting { self.old.waiting ≡ option_to_list result ++ self.new.waiting }
         ensures none { IsNone result → self.old.waiting ≡ [] }
         ensures node { self.new.node ≡ self.old.node }
+        ensures caches { self.new.caches ≡ self.old.caches }
         ensures joined { self.new.joined ≡ self.old.joined }
     {
         self.waiting.pop_front()

@@ -20,7 +20,7 @@ use Rattle.pmg_fence.specs.Rules.{Scripts}
 use Rattle.pmg_scope.specs.Scripts.{last_put}
 use Rattle.pmg_node_model.specs.Acts.{Request, Act, said_by, says, members_of, signature_of}
 use Rattle.pmg_node_model.specs.Fitting.{unless_refused, with_said}
-use Rattle.pmg_world.specs.Caching.{AllCached, cached_for}
+use Rattle.pmg_caches.specs.Caching.{AllCached, cached_for}
 use Rattle.pmg_world.specs.Keeping.{KeepsFor, AreCaches}
 use Rattle.pmg_group_model.specs.Worlds.{cache_from, cache_of}
 use Rattle.pmg_group_model.proofs.Speaking.{cache_fits}

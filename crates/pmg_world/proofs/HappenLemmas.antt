@@ -17,9 +17,10 @@ use Rattle.pmg_node_model.specs.Acts.{Request, Act, Reply, is_misnamed, reply_of
 use Rattle.pmg_node_model.specs.Holdings.{Get, NodeState}
 use Rattle.pmg_node.specs.Servers.{Server}
 use Rattle.pmg_node_model.specs.declared.sent.Sent.{Sent}
-use Rattle.pmg_world.specs.Keeping.{KeepsFor, IsNodeOf, own_key, own_answer}
+use Rattle.pmg_caches.specs.OwnKeys.{own_key, own_answer}
+use Rattle.pmg_world.specs.Keeping.{KeepsFor, IsNodeOf}
 use Rattle.pmg_group_model.specs.Worlds.{World, Event, Doing, doing, requests, own_get, own_cause, is_own, puts, not_there, nth, numbered, delivers, cache_of}
-use Rattle.pmg_world.proofs.CauseLemmas.{first_bad}
+use Rattle.pmg_caches.proofs.CauseLemmas.{first_bad}
 use Rattle.pmg_world.proofs.ClientLemmas.{own_is}
 
 -- ---- frames by their numbers

@@ -18,7 +18,7 @@ use Rattle.pmg_group_model.proofs.ToldScripts.{scripts_are_told}
 use Rattle.pmg_world.specs.declared.event.Event.{Event as ToldEvent}
 use Rattle.pmg_world.specs.declared.event.LoggedEvent.{LoggedEvent}
 use Rattle.pmg_world.specs.declared.group.Group.{Group}
-use Rattle.pmg_world.specs.Caching.{AllCached}
+use Rattle.pmg_caches.specs.Caching.{AllCached}
 use Rattle.pmg_world.proofs.GroupLemmas.{stands_with}
 use Rattle.pmg_group_model.proofs.RunLemmas.{next_run, run_both, run_cut, run_is_lawful, run_more, run_none, run_sends}
 use Rattle.pmg_world.proofs.StartLemmas.{some_server}

@@ -2,7 +2,6 @@ pub mod Deliveries
 pub mod Scenes
 pub mod StageSteps
 pub mod ClientLemmas
-pub mod CauseLemmas
 pub mod ActLemmas
 pub mod GroupLemmas
 pub mod HappenLemmas

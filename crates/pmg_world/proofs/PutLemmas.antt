@@ -13,11 +13,11 @@ use Rattle.pmg_jobinfo.specs.Jobs.{Jobs, home_of}
 use Rattle.pmg_node_model.specs.Acts.{Reply, also, free_cause, is_misnamed, said_by}
 use Rattle.pmg_node_model.specs.Holdings.{NodeState}
 use Rattle.pmg_node.specs.Servers.{Server}
-use Rattle.pmg_world.specs.Caching.{AllCached, cached_for}
+use Rattle.pmg_caches.specs.Caching.{AllCached, cached_for}
 use Rattle.pmg_world.specs.Keeping.{AreCaches, IsNodeOf, Represents}
 use Rattle.pmg_group_model.specs.Worlds.{World, Event, Doing, Does, cache_of, reply_or_refusal}
 use Rattle.pmg_world.specs.declared.group.Group.{Group}
-use Rattle.pmg_world.proofs.CauseLemmas.{due_bad, due_refused, due_free, first_bad, same_error}
+use Rattle.pmg_caches.proofs.CauseLemmas.{cache_err, cache_ok, due_bad, due_refused, due_free, first_bad}
 use Rattle.pmg_world.proofs.ClientLemmas.{put_kept}
 use Rattle.pmg_world.proofs.GroupLemmas.{LeadsOn, refused_stays, stands_with}
 use Rattle.pmg_world.proofs.HappenLemmas.{put_is}
@@ -41,20 +41,6 @@ free_client jobs node h p free = by (is_reserved p.nspace) refl
         bad : is_reserved p.nspace ≡ true → free_cause jobs node h p refusals.BadParam ≡ true
         bad e = (λ i. (e i || is_misnamed jobs p) || false)
     by false e = refl
-
--- what a cache answers a put that is not bad
-abbrev cache_due : {Y : Type 0} → Bool → Bool → Y → Result Y Refusal
-cache_due bad many answer = cond bad (Err refusals.BadParam) (cond many (Err refusals.TooMany) (Ok answer))
-
-cache_err : {X Y : Type 0} (bad many : Bool) (x : X) (y : Y) (e : Refusal) → bad ≡ false → cache_due bad many x ≡ Err e → cond many (Err refusals.TooMany) (Ok y) ≡ Err e
-cache_err true many x y e good is = absurd cc
-cache_err false true x y e good is = same_error refusals.TooMany e is
-cache_err false false x y e good is = absurd cc
-
-cache_ok : {X Y : Type 0} (bad many : Bool) (x z : X) (y : Y) → bad ≡ false → cache_due bad many x ≡ Ok z → ◌≡◌ {A = Result Y Refusal} (cond many (Err refusals.TooMany) (Ok y)) (Ok y)
-cache_ok true many x z y good is = absurd cc
-cache_ok false true x z y good is = absurd cc
-cache_ok false false x z y good is = refl
 
 module _ (g : Group) (w : World) (stands : Represents g w) (p : Proc) (scope : Scope) (key value : List ℕ) where
   abbrev jobs : Jobs

@@ -1,7 +1,5 @@
 -- The worlds that a group of nodes in code stands for, and what an event does to them.
-use Rattle.std.specs.Prelude.{◌≡◌, ℕ, ◌<◌, true, false, List, length, Option, Some, None, Result, slice_index_or, if◌then◌else◌}
-use Rattle.std.specs.FinMap as map
-use Rattle.pmg_value.specs.CheckOrder.{first_of}
+use Rattle.std.specs.Prelude.{◌≡◌, ℕ, ◌<◌, true, false, List, length, Result, slice_index_or}
 use Rattle.pmg_value.specs.Lists.{Each}
 use Rattle.pmg_value.specs.Names.{is_reserved}
 use Rattle.pmg_value.specs.declared.process.Proc.{Proc}
@@ -10,16 +8,15 @@ use Rattle.pmg_scope.specs.Cached.{Cached, no_puts, unsealed_of}
 use Rattle.pmg_scope.specs.Scripts.{Script}
 use Rattle.pmg_jobinfo.specs.Jobs.{Jobs, AreJobs, is_node}
 use Rattle.pmg_fence.specs.Rules.{Scripts}
-use Rattle.pmg_get.specs.Gets.{Outcome, found_or}
 use Rattle.pmg_node.specs.Acting.{reply_as}
-use Rattle.pmg_node_model.specs.Acts.{Request, Reply, reply_of}
+use Rattle.pmg_node_model.specs.Acts.{Reply}
 use Rattle.pmg_node_model.specs.Holdings.{NodeState}
 use Rattle.pmg_node_model.specs.Kept.{IsServer}
 use Rattle.pmg_node.specs.Opening.{new_server}
 use Rattle.pmg_node.specs.Servers.{Server, IsAnswered, reply_in}
 use Rattle.pmg_node.specs.declared.act.Reply.{Reply as GivenReply}
-use Rattle.pmg_world.specs.Caching.{AllCached, cached_for}
-use Rattle.pmg_group_model.specs.Worlds.{World, Event, Step, cache_of, is_own, own_cause}
+use Rattle.pmg_caches.specs.Caching.{AllCached, cached_for}
+use Rattle.pmg_group_model.specs.Worlds.{World, Event, Step, cache_of}
 use Rattle.pmg_world.specs.declared.group.Group.{Group}
 
 -- What is kept for a process is its client's cache; the standard's own processes have none, and no put that is not sealed.
@@ -72,17 +69,6 @@ replied answer = reply_in reply_as answer
 unfoldable pub Happens : Group → Event → Result GivenReply Refusal → Group → Type 0
 Happens old e answer new =
     IsAnswered answer → (new.registry ≡ old.registry) × ((w : World) → Represents old w → (v : World) × Step old.registry w e (replied answer) v × Represents new v)
-
--- ---- gets of one's own keys
-
--- the process and the key, where a process asks for a key of its own that is none of the standard's
-abbrev pub own_key : Request → Option (Proc × List ℕ)
-own_key (Request.ask p get mode) = if is_own p get then Some (p, get.key) else None
-own_key _ = None
-
--- how a process's get of a key of its own is answered, whose client's cache is this
-unfoldable pub own_answer : Server → Cached → Proc → List ℕ → Result Reply Refusal
-own_answer s c p key = first_of (own_cause s.jobs s.id s.holding p) (reply_of (found_or (map.get c.own key) Outcome.absent))
 
 -- ---- a new group
 

@@ -1,6 +1,5 @@
 pub mod ReplyLines
 pub mod Telling
-pub mod Caching
 pub mod Keeping
 pub mod Accounts
 pub mod Asking

@@ -1,27 +1,21 @@
 //! The nodes of a group with their clients: each event is one step of the model.
-ghost use Rattle.std.specs.Prelude.{◌≡◌, ◌<◌, ◌++◌, ◌&&◌, ◌||◌, not, length, Err, Option, Some, IfOk, slice_index_or, slice_set};
-ghost use Rattle.std.specs.Option.{option_map};
-ghost use Rattle.pmg_value.specs.Names.{is_reserved};
+ghost use Rattle.std.specs.Prelude.{◌≡◌, ◌<◌, ◌++◌, ◌&&◌, length, Err, Option, Some, IfOk, slice_index_or, slice_set};
 ghost use Rattle.pmg_value.specs.Spelling.{spelling};
 ghost use Rattle.pmg_value.specs.declared.refusal.Refusal.TheVariants as refusals;
-ghost use Rattle.pmg_scope.specs.Scopes.{reaches};
-ghost use Rattle.pmg_scope.specs.declared.scope.Reach.TheVariants as reach;
 ghost use Rattle.pmg_jobinfo.specs.Jobs.{AreJobs, home_of};
-ghost use Rattle.pmg_jobinfo.specs.Reserved.{is_general};
 ghost use Rattle.pmg_node.specs.Acting.{act_of, reply_as, request_of};
 ghost use Rattle.pmg_node.specs.Servers.{Server, IsAnswered, RepliesAct, after, sent_by};
-ghost use Rattle.pmg_world.specs.Caching.{cached_for};
-ghost use Rattle.pmg_world.specs.Keeping.{AreNew, Happens, IsGroup, IsSame, Represents, own_answer, own_key, replied};
+ghost use Rattle.pmg_world.specs.Keeping.{AreNew, Happens, IsGroup, IsSame, Represents};
 ghost use Rattle.pmg_world.specs.Telling.{event_of};
-ghost use Rattle.pmg_group_model.specs.Worlds.{Event as ModelEvent, reply_or_refusal, start};
+ghost use Rattle.pmg_group_model.specs.Worlds.{Event as ModelEvent, start};
 ghost use Rattle.pmg_world.specs.declared.group.Group.{Group as GroupOf};
 
-use crate::caches::Caches;
 use crate::event::Event;
+use pmg_caches::{Caches, is_bad_put, own_get, own_key};
 use pmg_jobinfo::Registry;
 use pmg_node::{Act, Node, Reply, Request};
 use pmg_node_model::Sent;
-use pmg_scope::{Reach, Scope, includes};
+use pmg_scope::Scope;
 use pmg_value::{Key, NodeId, Proc, Refusal, Value};
 use std::alloc::AllocError;
 use std::collections::VecDeque;
@@ -56,58 +50,6 @@ fn new_nodes(registry: &Registry) -> Result<Vec<Node>, AllocError>
         nodes.push(Node::new(node, registry.copy()?)?)?;
     }
     Ok(nodes)
-}
-
-/// Whether a put of the key is refused whoever puts it.
-fn is_bad_put(scope: Scope, key: &Key) -> bool
-    ensures { result ≡ (not (reaches scope reach.Own) || is_reserved key.now) }
-{
-    !includes(scope, Reach::Own) || key.is_reserved()
-}
-
-/// Whether no particular rank is named.
-fn is_general(proc: &Proc) -> bool
-    ensures { result ≡ is_general proc.now }
-{
-    proc.rank.is_wildcard() || proc.rank.is_undef()
-}
-
-/// The process and the key, where a process asks for a key of its own that is none of the standard's.
-fn own_key(request: &Request) -> Option<(&Proc, &Key)>
-    ensures { option_map (λ own. (own.0.now, own.1.now)) result ≡ own_key (request_of request.now) }
-{
-    match request {
-        Request::Ask(proc, target, key, _) => {
-            if proc.cmp(target).is_eq() && !key.is_reserved() {
-                Some((proc, key))
-            } else {
-                None
-            }
-        }
-        Request::Enter(_, _, _) => None,
-        Request::Leave(_) => None,
-        Request::Take(_) => None,
-        Request::Terminate(_) => None,
-        Request::Define(_, _) => None,
-        Request::Delete(_) => None,
-        Request::Nudge => None,
-    }
-}
-
-/// A process gets a key of its own at the node.
-fn own_get(node: &Node, caches: &Caches, proc: &Proc, key: &Key) -> Result<Reply, Refusal>
-    ensures { IsAnswered result → replied result ≡ reply_or_refusal (own_answer node.now (cached_for caches.now proc.now) proc.now key.now) }
-{
-    if is_general(proc) {
-        return Err(Refusal::BadParam);
-    }
-    if let Err(refusal) = node.check_free(proc) {
-        return Err(refusal);
-    }
-    match caches.own(proc, key) {
-        Some(value) => Ok(Reply::Found(value.copy()?)),
-        None => Err(Refusal::NotFound),
-    }
 }
 
 impl Group {

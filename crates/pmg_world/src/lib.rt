@@ -2,7 +2,6 @@
 #![tactic(auto)]
 
 mod asking;
-mod caches;
 mod delivered;
 mod event;
 mod group;

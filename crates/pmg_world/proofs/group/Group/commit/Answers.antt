@@ -8,7 +8,7 @@ use Rattle.pmg_value.specs.Rows.{changed_at}
 use Rattle.pmg_node_model.specs.Acts.{Act, says}
 use Rattle.pmg_node_model.specs.Fitting.{is_refusal, unless_refused}
 use Rattle.pmg_node.specs.declared.act.Reply.{Reply as GivenReply}
-use Rattle.pmg_world.specs.Caching.{AllCached, cached_for}
+use Rattle.pmg_caches.specs.Caching.{AllCached, cached_for}
 use Rattle.pmg_world.specs.Keeping.{AreCaches, replied}
 use Rattle.pmg_group_model.specs.Worlds.{Doing, Event, cache_of}
 use Rattle.pmg_world.specs.declared.group.Group.{Group}

@@ -5,7 +5,7 @@ use Rattle.pmg_value.specs.declared.refusal.Refusal.TheVariants as refusals
 use Rattle.pmg_node_model.specs.Acts.{Act, says}
 use Rattle.pmg_node_model.specs.Fitting.{is_refusal, unless_refused}
 use Rattle.pmg_node_model.specs.declared.sent.Sent.{Sent}
-use Rattle.pmg_world.specs.Caching.{AllCached}
+use Rattle.pmg_caches.specs.Caching.{AllCached}
 use Rattle.pmg_world.specs.Keeping.{AreCaches, replied}
 use Rattle.pmg_group_model.specs.Worlds.{Doing, Event, numbered}
 use Rattle.pmg_world.proofs.ClientLemmas.{frame_keeps}

@@ -7,11 +7,11 @@ use Rattle.pmg_value.specs.declared.refusal.Refusal.TheVariants as refusals
 use Rattle.pmg_jobinfo.specs.Jobs.{home_of}
 use Rattle.pmg_node.specs.declared.act.Reply.TheVariants as replies
 use Rattle.pmg_scope.specs.Cached.{put_cause, with_put}
-use Rattle.pmg_world.specs.Caching.{AllCached, cached_for}
+use Rattle.pmg_caches.specs.Caching.{AllCached, cached_for}
 use Rattle.pmg_world.specs.Keeping.{Happens}
 use Rattle.pmg_group_model.specs.Worlds.{Event}
 use Rattle.pmg_world.specs.declared.group.Group.{Group}
-use Rattle.pmg_world.proofs.CauseLemmas.{fails_due}
+use Rattle.pmg_caches.proofs.CauseLemmas.{fails_due}
 use Rattle.pmg_world.proofs.GroupLemmas.{happens_by, not_short, short_happens, node_there}
 use Rattle.pmg_world.proofs.PutLemmas.{free_at, put_bad, put_refused, put_full, put_done}
 use Rattle.pmg_world.proofs.group.Group.put.Goals as goal

@@ -6,7 +6,8 @@ use Rattle.pmg_value.specs.declared.refusal.Refusal.TheVariants as refusals
 use Rattle.pmg_node.specs.Acting.{request_of}
 use Rattle.pmg_node_model.specs.Acts.{Act, says}
 use Rattle.pmg_node_model.specs.Fitting.{is_refusal, unless_refused}
-use Rattle.pmg_world.specs.Caching.{AllCached, cached_for}
+use Rattle.pmg_caches.specs.Caching.{AllCached, cached_for}
+use Rattle.pmg_caches.proofs.CauseLemmas.{replied_due}
 use Rattle.pmg_world.specs.Keeping.{AreCaches, replied}
 use Rattle.pmg_group_model.specs.Worlds.{Doing, Event, reply_or_refusal}
 use Rattle.pmg_world.proofs.ClientLemmas.{request_keeps}
@@ -44,7 +45,7 @@ returns-in-Some-clause-step c =
     let of = node_there g w stands index index s refl inside c.index.ensures in
     stays g w stands (Event.request index r) (own_due g.registry w index p key) None (replied c.own_get.result)
     (request_there g.registry w index r (inside_is_node g w stands index inside) ∙ own_is_due g.registry w index r p key own)
-    (c.own_get.ensures is ∙ ap reply_or_refusal (own_answer_is g.registry w index s (cached_for g.caches p) p key of (stands.caches p)))
+    (replied_due c.own_get.result _ c.own_get.ensures is ∙ ap reply_or_refusal (own_answer_is g.registry w index s (cached_for g.caches p) p key of (stands.caches p)))
     (says_nothing (is_refusal (replied c.own_get.result)) w.scripts))
 
 pub returns-in_ok-copy-in-None-clause-step : goal.returns-in_ok-copy-in-None-clause-step

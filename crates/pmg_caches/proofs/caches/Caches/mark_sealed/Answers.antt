@@ -6,10 +6,10 @@ use Rattle.pmg_value.proofs.ProcessOrder.{procs_total, exact_procs}
 use Rattle.pmg_value.proofs.RowLemmas.{at_key, changed_there, changed_nowhere, found_is, some_found}
 use Rattle.pmg_dmodex.proofs.InnerLemmas.{kept_is}
 use Rattle.pmg_scope.specs.Cached.{Cached, after_commit, no_puts}
-use Rattle.pmg_world.specs.Caching.{cached_for}
-use Rattle.pmg_world.proofs.caches.Caches.mark_sealed.Goals as goal
-use Rattle.pmg_world.proofs.caches.Caches.mark_sealed.Goals.{in-Some, in_default}
-use Rattle.pmg_world.specs.contracts.caches.Caches.{the_view}
+use Rattle.pmg_caches.specs.Caching.{cached_for}
+use Rattle.pmg_caches.proofs.caches.Caches.mark_sealed.Goals as goal
+use Rattle.pmg_caches.proofs.caches.Caches.mark_sealed.Goals.{in-Some, in_default}
+use Rattle.pmg_caches.specs.contracts.caches.Caches.{the_view}
 
 pub returns : goal.returns
 returns c =

@@ -11,8 +11,8 @@ use Rattle.pmg_value.proofs.ProcessOrder.{procs_total, exact_procs}
 use Rattle.pmg_value.proofs.RowLemmas.{at_key, found_is, rows_with, some_found}
 use Rattle.pmg_dmodex.proofs.InnerLemmas.{kept_is, put_there, put_same}
 use Rattle.pmg_scope.specs.Cached.{Cached, no_puts, put_cause, with_put}
-use Rattle.pmg_world.specs.Caching.{AllCached, cached_for}
-use Rattle.pmg_world.proofs.caches.Caches.put.Goals as goal
+use Rattle.pmg_caches.specs.Caching.{AllCached, cached_for}
+use Rattle.pmg_caches.proofs.caches.Caches.put.Goals as goal
 
 pub returns-in-Some-clause-answer : goal.returns-in-Some-clause-answer
 returns-in-Some-clause-answer c =

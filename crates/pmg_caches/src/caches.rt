@@ -1,4 +1,4 @@
-//! What the clients of a group put.
+//! What clients put.
 ghost use Rattle.std.specs.Prelude.{◌≡◌, IfOk, OnOk, OnErr};
 ghost use Rattle.std.specs.FinMap as finite;
 ghost use Rattle.std.specs.Option.{option_map};
@@ -7,7 +7,7 @@ ghost use Rattle.pmg_value.specs.CheckOrder.{first_of};
 ghost use Rattle.pmg_value.specs.Rows.{changed_at};
 ghost use Rattle.pmg_value.specs.Spelling.{spelling};
 ghost use Rattle.pmg_scope.specs.Cached.{after_commit, put_cause, unsealed_of, with_put};
-ghost use Rattle.pmg_world.specs.Caching.{cached_for};
+ghost use Rattle.pmg_caches.specs.Caching.{cached_for};
 
 use pmg_scope::{Batch, Cache, Scope};
 use pmg_value::{Key, Proc, Refusal, Value};
@@ -15,16 +15,16 @@ use std::alloc::{AllocError, Global};
 use std::collections::BTreeMap;
 use std::marker::Model;
 
-/// The cache of each client of a group that put something, by its process.
+/// The cache of each client that put something, by its process.
 #[derive(Drop)]
-pub(crate) struct Caches {
+pub struct Caches {
     alloc: Global,
     rows: BTreeMap<Proc, Cache>,
 }
 
 impl Model for Caches {
     ghost use Rattle.pmg_value.specs.Rows.{map_of};
-    ghost use Rattle.pmg_world.specs.Caching.{AllCached, coded_all_cached};
+    ghost use Rattle.pmg_caches.specs.Caching.{AllCached, coded_all_cached};
 
     ghost Value = { AllCached };
 
@@ -35,7 +35,7 @@ impl Model for Caches {
 
 impl Caches {
     /// Nobody put anything. It keeps the allocator.
-    pub(crate) fn new(alloc: Global) -> Caches
+    pub fn new(alloc: Global) -> Caches
         ensures { result ≡ finite.empty }
     {
         Caches {
@@ -52,7 +52,7 @@ impl Caches {
     }
 
     /// What the process itself reads under the key.
-    pub(crate) fn own(&self, proc: &Proc, key: &Key) -> Option<&Value>
+    pub fn own(&self, proc: &Proc, key: &Key) -> Option<&Value>
         ensures { option_map (λ v. spelling v.now) result ≡ finite.get (cached_for self.now proc.now).own key.now }
     {
         match self.get(proc) {
@@ -62,7 +62,7 @@ impl Caches {
     }
 
     /// What no commit of the process sealed.
-    pub(crate) fn unsealed(&self, proc: &Proc) -> Result<Batch, AllocError>
+    pub fn unsealed(&self, proc: &Proc) -> Result<Batch, AllocError>
         ensures { IfOk result (λ b. b ≡ unsealed_of (cached_for self.now proc.now)) }
     {
         match self.get(proc) {
@@ -72,13 +72,7 @@ impl Caches {
     }
 
     /// The process puts the value under the key.
-    pub(crate) fn put(
-        &mut self,
-        proc: &Proc,
-        scope: Scope,
-        key: Key,
-        value: Value,
-    ) -> Result<(), Refusal>
+    pub fn put(&mut self, proc: &Proc, scope: Scope, key: Key, value: Value) -> Result<(), Refusal>
         ensures answer { Gives (λ u. u) result (first_of (put_cause (cached_for self.old proc.now) scope key (spelling value)) tt) }
         ensures ok { OnOk result (self.new ≡ finite.insert self.old proc.now (with_put (cached_for self.old proc.now) scope key (spelling value))) }
         ensures err { OnErr result (self.new ≡ self.old) }
@@ -93,7 +87,7 @@ impl Caches {
     }
 
     /// All that the process put is sealed by a commit.
-    pub(crate) fn mark_sealed(&mut self, proc: &Proc)
+    pub fn mark_sealed(&mut self, proc: &Proc)
         ensures { self.new ≡ changed_at self.old proc.now (after_commit (cached_for self.old proc.now)) }
     {
         if let Some(cache) = self.rows.get_mut(proc) {

@@ -4,7 +4,7 @@ use Rattle.std.specs.Option.{unwrap_or, option_map}
 use Rattle.std.specs.Ordering.{nat_cmp}
 use Rattle.std.specs.Cmp.Lexicographic.{slice_cmp}
 use Rattle.pmg_scope.specs.Cached.{Cached, no_puts}
-use Rattle.pmg_world.proofs.caches.Caches.own.Goals as goal
+use Rattle.pmg_caches.proofs.caches.Caches.own.Goals as goal
 
 pub returns-in-None : goal.returns-in-None
 returns-in-None c =

@@ -1,9 +1,14 @@
 -- The first cause of a call that a client's cache answers, once its caller was judged.
-use Rattle.std.proofs.Common.{◌≡◌, Bool, true, false, ◌||◌, cond, Result, Ok, Err, refl, ap, ◌∙◌}
+use Rattle.std.proofs.Common.{◌≡◌, Bool, true, false, ◌||◌, cond, Result, Ok, Err, refl, sym, ap, subst, ◌∙◌}
 use Rattle.pmg_value.specs.Answers.{Fails}
 use Rattle.pmg_value.specs.CheckOrder.{first_of}
 use Rattle.pmg_value.specs.declared.refusal.Refusal.{Refusal}
 use Rattle.pmg_value.specs.declared.refusal.Refusal.TheVariants as refusals
+use Rattle.pmg_node_model.specs.Acts.{Reply}
+use Rattle.pmg_node.specs.Acting.{reply_as}
+use Rattle.pmg_node.specs.Servers.{IsAnswered, Replies, reply_in}
+use Rattle.pmg_node.specs.declared.act.Reply.{Reply as GivenReply}
+use Rattle.pmg_node.proofs.RefusalLemmas.{refused_as}
 
 -- the five causes of a caller's, before the rest
 abbrev judged : {Y : Type 0} → Bool → Bool → Bool → Bool → Bool → Result Y Refusal → Result Y Refusal
@@ -56,6 +61,38 @@ module _ {Y : Type 0} (b u n t y many : Bool) (answer : Y) where
 
   pub due_free : (bad : Bool) → bad ≡ false → judged b u n t y (Ok (tt {0})) ≡ Ok tt → due_of b u n t y bad many answer ≡ cond many (Err refusals.TooMany) (Ok answer)
   due_free bad good h = (λ i. due_of b u n t y (good i) many answer) ∙ merged b u n t y _ ∙ judged_ok b u n t y tt tt _ h
+
+-- what a cache answers a put that is not bad
+abbrev pub cache_due : {Y : Type 0} → Bool → Bool → Y → Result Y Refusal
+cache_due bad many answer = cond bad (Err refusals.BadParam) (cond many (Err refusals.TooMany) (Ok answer))
+
+pub cache_err : {X Y : Type 0} (bad many : Bool) (x : X) (y : Y) (e : Refusal) → bad ≡ false → cache_due bad many x ≡ Err e → cond many (Err refusals.TooMany) (Ok y) ≡ Err e
+cache_err true many x y e good is = absurd cc
+cache_err false true x y e good is = same_error refusals.TooMany e is
+cache_err false false x y e good is = absurd cc
+
+pub cache_ok : {X Y : Type 0} (bad many : Bool) (x z : X) (y : Y) → bad ≡ false → cache_due bad many x ≡ Ok z → ◌≡◌ {A = Result Y Refusal} (cond many (Err refusals.TooMany) (Ok y)) (Ok y)
+cache_ok true many x z y good is = absurd cc
+cache_ok false true x z y good is = absurd cc
+cache_ok false false x z y good is = refl
+
+-- and it is all that is due of one that is not bad
+pub cache_is : {Y : Type 0} (bad many : Bool) (answer : Y) → bad ≡ false → cache_due bad many answer ≡ cond many (Err refusals.TooMany) (Ok answer)
+cache_is bad many answer good = λ i. cache_due (good i) many answer
+
+-- what is amiss of a caller is told as it is due
+pub judged_fails : {Y : Type 0} (b u n t y : Bool) (e : Refusal) (due : Result Y Refusal) → judged b u n t y (Ok (tt {0})) ≡ Err e → due ≡ Err e → Fails e due
+judged_fails true u n t y e due h is = let same : refusals.BadParam ≡ e = cc in subst (λ (x : Refusal). Fails x due) same (is ∙ ap Err (sym same))
+judged_fails false true n t y e due h is = let same : refusals.UnknownNamespace ≡ e = cc in subst (λ (x : Refusal). Fails x due) same (is ∙ ap Err (sym same))
+judged_fails false false true t y e due h is = let same : refusals.NotMine ≡ e = cc in subst (λ (x : Refusal). Fails x due) same (is ∙ ap Err (sym same))
+judged_fails false false false true y e due h is = let same : refusals.Terminated ≡ e = cc in subst (λ (x : Refusal). Fails x due) same (is ∙ ap Err (sym same))
+judged_fails false false false false true e due h is = let same : refusals.Busy ≡ e = cc in subst (λ (x : Refusal). Fails x due) same (is ∙ ap Err (sym same))
+judged_fails false false false false false e due h is = absurd cc
+
+-- an answer that is none of a failed allocation is the one that is due
+pub replied_due : (answer : Result GivenReply Refusal) (due : Reply) → Replies reply_as answer due → IsAnswered answer → reply_in reply_as answer ≡ due
+replied_due (Ok r) due is told = sym is
+replied_due (Err e) due is told = sym (refused_as GivenReply e due told is)
 
 -- a call of the standard's own processes is refused
 pub first_bad : {Y : Type 0} (cause : Refusal → Bool) (y : Y) → cause refusals.Closed ≡ false → cause refusals.BadParam ≡ true → first_of cause y ≡ Err refusals.BadParam

@@ -1,0 +1,10 @@
+//! What clients put and did not commit yet, and what they get of their own keys.
+#![tactic(auto)]
+
+mod caches;
+mod own;
+mod putting;
+
+pub use caches::Caches;
+pub use own::{own_get, own_key};
+pub use putting::{is_bad_put, put_at};

@@ -1,0 +1,58 @@
+//! What a client gets of its own keys.
+ghost use Rattle.std.specs.Prelude.{◌≡◌};
+ghost use Rattle.std.specs.Option.{option_map};
+ghost use Rattle.pmg_jobinfo.specs.Reserved.{is_general};
+ghost use Rattle.pmg_node.specs.Acting.{reply_as, request_of};
+ghost use Rattle.pmg_node.specs.Servers.{Replies};
+ghost use Rattle.pmg_caches.specs.Caching.{cached_for};
+ghost use Rattle.pmg_caches.specs.OwnKeys.{own_answer, own_key};
+ghost use Rattle.pmg_group_model.specs.Worlds.{reply_or_refusal};
+
+use crate::caches::Caches;
+use pmg_node::{Node, Reply, Request};
+use pmg_value::{Key, Proc, Refusal};
+
+/// Whether no particular rank is named.
+fn is_general(proc: &Proc) -> bool
+    ensures { result ≡ is_general proc.now }
+{
+    proc.rank.is_wildcard() || proc.rank.is_undef()
+}
+
+/// The process and the key, where a process asks for a key of its own that is none of the standard's.
+pub fn own_key(request: &Request) -> Option<(&Proc, &Key)>
+    ensures { option_map (λ own. (own.0.now, own.1.now)) result ≡ own_key (request_of request.now) }
+{
+    match request {
+        Request::Ask(proc, target, key, _) => {
+            if proc.cmp(target).is_eq() && !key.is_reserved() {
+                Some((proc, key))
+            } else {
+                None
+            }
+        }
+        Request::Enter(_, _, _) => None,
+        Request::Leave(_) => None,
+        Request::Take(_) => None,
+        Request::Terminate(_) => None,
+        Request::Define(_, _) => None,
+        Request::Delete(_) => None,
+        Request::Nudge => None,
+    }
+}
+
+/// A process gets a key of its own at the node.
+pub fn own_get(node: &Node, caches: &Caches, proc: &Proc, key: &Key) -> Result<Reply, Refusal>
+    ensures { Replies reply_as result (reply_or_refusal (own_answer node.now (cached_for caches.now proc.now) proc.now key.now)) }
+{
+    if is_general(proc) {
+        return Err(Refusal::BadParam);
+    }
+    if let Err(refusal) = node.check_free(proc) {
+        return Err(refusal);
+    }
+    match caches.own(proc, key) {
+        Some(value) => Ok(Reply::Found(value.copy()?)),
+        None => Err(Refusal::NotFound),
+    }
+}
