@@ -26,7 +26,9 @@ def statuses():
 def files():
     """The examples that are files, and those that the table lists."""
     known = statuses()
-    paths = {tuple(it.split(os.sep)[-2:]): it for it in glob.glob(os.path.join(HERE, "*", "*")) if not it.endswith(".out")}
+    # the folder of a command has rows beside it, and that of the library for C has none
+    found = [it for it in glob.glob(os.path.join(HERE, "*", "*")) if os.path.exists(os.path.dirname(it) + ".rows")]
+    paths = {tuple(it.split(os.sep)[-2:]): it for it in found if not it.endswith(".out")}
     inputs = {(command, os.path.splitext(name)[0]): path for (command, name), path in paths.items()}
     for command, name in sorted(set(inputs) | set(known)):
         data = read(inputs.get((command, name), ""))

@@ -1,0 +1,73 @@
+use Rattle.std.proofs.Common.{◌≡◌, Result, Ok, Err, refl, sym, ap, subst, ◌∙◌}
+use Rattle.pmg_value.specs.CheckOrder.{check_order}
+use Rattle.pmg_value.specs.Spelling.{spelling}
+use Rattle.pmg_value.specs.declared.refusal.Refusal.{Refusal}
+use Rattle.pmg_node.specs.Acting.{request_of}
+use Rattle.pmg_node.specs.Servers.{IsAnswered}
+use Rattle.pmg_node.specs.declared.act.Reply.{Reply as GivenReply}
+use Rattle.pmg_node_model.specs.Acts.{Reply}
+use Rattle.pmg_caches.proofs.CauseLemmas.{fails_due}
+use Rattle.pmg_caches.specs.Caching.{cached_for, put_cause_at}
+use Rattle.pmg_caches.specs.OwnKeys.{own_key}
+use Rattle.pmg_group_model.specs.Worlds.{reply_or_refusal}
+use Rattle.pmg_link.specs.Links.{Linked}
+use Rattle.pmg_daemon.specs.Calls.{after_put, call_after, call_due, proc_call_of, put_due}
+use Rattle.pmg_daemon.specs.declared.call.ProcCall.{ProcCall as GivenCall}
+use Rattle.pmg_daemon.proofs.CallLemmas.{commit_after, first_err, first_ok, request_told}
+use Rattle.pmg_daemon.proofs.call.ProcCall.make.Goals as goal
+
+pub returns-in-Ok-clause-reply : goal.returns-in-Ok-clause-reply
+unfolding call_due
+returns-in-Ok-clause-reply c = λ u.
+    let l = c.args.link.now in
+    let cause = put_cause_at l.node (cached_for l.caches c.in-Put.proc) c.in-Put.proc c.in-Put.scope c.in-Put.key (spelling c.in-Put.value) in
+    ap (λ (s : GivenCall). call_due l (proc_call_of s)) c.in-Put.is ∙ ap reply_or_refusal (first_ok check_order cause (tt {0}) _ Reply.done c.in-Ok.ensures.answer)
+
+pub returns-in-Ok-clause-after : goal.returns-in-Ok-clause-after
+unfolding call_after
+returns-in-Ok-clause-after c = λ u.
+    let l = c.args.link.now in
+    let cause = put_cause_at l.node (cached_for l.caches c.in-Put.proc) c.in-Put.proc c.in-Put.scope c.in-Put.key (spelling c.in-Put.value) in
+    c.in-Ok.ensures.ok
+    ∙ sym (ap (λ (due : Result Reply Refusal). after_put due l c.in-Put.proc c.in-Put.scope c.in-Put.key (spelling c.in-Put.value)) (first_ok check_order cause (tt {0}) _ Reply.done c.in-Ok.ensures.answer))
+    ∙ sym (ap (λ (s : GivenCall). call_after l (proc_call_of s)) c.in-Put.is)
+
+pub returns-in-Put-clause-reply : goal.returns-in-Put-clause-reply
+unfolding call_due
+returns-in-Put-clause-reply c = λ told.
+    let l = c.args.link.now in
+    let cause = put_cause_at l.node (cached_for l.caches c.in-Put.proc) c.in-Put.proc c.in-Put.scope c.in-Put.key (spelling c.in-Put.value) in
+    let due = fails_due c.in-Err.refusal _ c.in-Err.ensures.answer (λ short. subst (λ (e : Refusal). IsAnswered {X = GivenReply} (Err e)) short told) in
+    ap (λ (s : GivenCall). call_due l (proc_call_of s)) c.in-Put.is ∙ ap reply_or_refusal (first_err check_order cause (tt {0}) Reply.done c.in-Err.refusal due)
+
+pub returns-in-Put-clause-after : goal.returns-in-Put-clause-after
+unfolding call_after
+returns-in-Put-clause-after c = λ told.
+    let l = c.args.link.now in
+    let cause = put_cause_at l.node (cached_for l.caches c.in-Put.proc) c.in-Put.proc c.in-Put.scope c.in-Put.key (spelling c.in-Put.value) in
+    let due = fails_due c.in-Err.refusal _ c.in-Err.ensures.answer (λ short. subst (λ (e : Refusal). IsAnswered {X = GivenReply} (Err e)) short told) in
+    c.in-Err.ensures.err
+    ∙ sym (ap (λ (x : Result Reply Refusal). after_put x l c.in-Put.proc c.in-Put.scope c.in-Put.key (spelling c.in-Put.value)) (first_err check_order cause (tt {0}) Reply.done c.in-Err.refusal due))
+    ∙ sym (ap (λ (s : GivenCall). call_after l (proc_call_of s)) c.in-Put.is)
+
+pub returns-in-Commit-clause-reply : goal.returns-in-Commit-clause-reply
+unfolding call_due
+returns-in-Commit-clause-reply c = λ told.
+    ap (λ (s : GivenCall). call_due c.args.link.now (proc_call_of s)) c.in-Commit.is ∙ c.commit.ensures.reply told
+
+pub returns-in-Commit-clause-after : goal.returns-in-Commit-clause-after
+unfolding call_after
+returns-in-Commit-clause-after c = λ told.
+    commit_after c.args.link.now c.commit.new.self c.in-Commit.proc c.commit.result told (c.commit.ensures.reply told) c.commit.ensures.done c.commit.ensures.refused
+    ∙ sym (ap (λ (s : GivenCall). call_after c.args.link.now (proc_call_of s)) c.in-Commit.is)
+
+pub returns-clause-reply : goal.returns-clause-reply
+unfolding call_due
+returns-clause-reply c = λ told.
+    let r = request_of c.in-Request.request in
+    ap (λ (s : GivenCall). call_due c.args.link.now (proc_call_of s)) c.in-Request.is ∙ request_told (own_key r) c.args.link.now r c.request.result c.request.ensures.reply told
+
+pub returns-clause-after : goal.returns-clause-after
+unfolding call_after
+returns-clause-after c = λ told.
+    c.request.ensures.done told ∙ sym (ap (λ (s : GivenCall). call_after c.args.link.now (proc_call_of s)) c.in-Request.is)

@@ -1,0 +1,38 @@
+-- A daemon's node that is opened.
+use Rattle.std.specs.Prelude.{◌≡◌, ◌⊎◌, ℕ, ◌+◌, true, false, List, [], length, Some, None, Ok, Err}
+use Rattle.pmg_value.specs.Lists.{Each}
+use Rattle.pmg_value.specs.Refusals.{number_of}
+use Rattle.pmg_value.specs.declared.refusal.Refusal.{Refusal}
+use Rattle.pmg_value.specs.declared.refusal.Refusal.TheVariants as refusals
+use Rattle.pmg_jobinfo.specs.Jobs.{Jobs, is_node}
+use Rattle.pmg_jobfile.specs.Reading.{GivesJob}
+use Rattle.pmg_node.specs.Opening.{new_server}
+use Rattle.pmg_node.specs.declared.act.Reply.TheVariants as replies
+use Rattle.pmg_link.specs.Links.{new_link}
+use Rattle.pmg_link.specs.declared.inbox.Inbox.{Inbox}
+use Rattle.pmg_daemon.specs.declared.codes.TheConstants.{REFUSED}
+use Rattle.pmg_daemon.specs.declared.daemon.Daemon.{Daemon}
+
+-- nothing came into the inbox yet
+pub record IsNewInbox (i : Inbox) : Type 0 where
+  pub stream : i.stream ≡ Some (record { offset = 0; rest = [] })
+  pub frames : i.frames.items ≡ []
+  pub fault : i.fault ≡ None
+
+-- It is the node of that index in the group that the text describes, and nothing was asked of it yet.
+pub record OpensNode (id : ℕ) (job : List ℕ) (d : Daemon) : Type 0 where
+  pub job_is : GivesJob job (Ok d.link.node.jobs)
+  pub node : is_node d.link.node.jobs id ≡ true
+  pub link : d.link ≡ new_link (new_server d.link.node.jobs id)
+  pub inboxes : length d.inboxes.items ≡ length d.link.node.jobs.nodes
+  pub empty : Each IsNewInbox d.inboxes.items
+  pub list : d.list.items ≡ []
+  pub reply : d.reply ≡ replies.Done
+
+-- None is opened for this refusal: the text's, or the group has no node of that index.
+abbrev pub RefusesToOpen : ℕ → List ℕ → Refusal → Type 0
+RefusesToOpen id job e = GivesJob job (Err e) ⊎ ((e ≡ refusals.BadParam) × ((jobs : Jobs) × (GivesJob job (Ok jobs) × (is_node jobs id ≡ false))))
+
+-- The code tells such a refusal.
+abbrev pub FailsToOpen : ℕ → List ℕ → ℕ → Type 0
+FailsToOpen id job code = (e : Refusal) × ((code ≡ REFUSED + number_of e) × RefusesToOpen id job e)

@@ -1,0 +1,229 @@
+//! What a process asks of its node, read from bytes and numbers.
+ghost use Rattle.std.specs.Prelude.{◌≡◌, Err};
+ghost use Rattle.pmg_value.specs.Spelling.{spelling};
+ghost use Rattle.pmg_value.specs.declared.refusal.Refusal.TheVariants as refusals;
+ghost use Rattle.pmg_node.specs.Acting.{reply_as};
+ghost use Rattle.pmg_node.specs.Servers.{reply_in, IsAnswered};
+ghost use Rattle.pmg_daemon.specs.Arguments.{
+  ReadsArguments,
+  commit_said,
+  define_said,
+  delete_said,
+  end_said,
+  enter_said,
+  get_said,
+  key_said,
+  leave_said,
+  mode_said,
+  proc_said,
+  put_said,
+  scope_said,
+  take_said,
+  value_said,
+};
+ghost use Rattle.pmg_daemon.specs.Calls.{call_after, call_due, proc_call_of};
+
+use pmg_get::Mode;
+use pmg_link::Link;
+use pmg_node::{Reply, Request};
+use pmg_scope::Scope;
+use pmg_value::{Key, Nspace, Proc, Rank, Refusal, Value, copy_all};
+use pmg_wire::value_from_bytes;
+use std::alloc::Global;
+
+/// What a process asks of its node.
+pub(crate) enum ProcCall {
+    /// The process puts the value under the key.
+    Put(Proc, Scope, Key, Value),
+    /// The process commits what it put.
+    Commit(Proc),
+    /// It asks for something else, or the one who runs the node does.
+    Request(Request),
+}
+
+impl Drop for ProcCall {
+    fn drop(self) {
+        match self {
+            ProcCall::Put(_, _, _, _) => {}
+            ProcCall::Commit(_) => {}
+            ProcCall::Request(_) => {}
+        }
+    }
+}
+
+impl ProcCall {
+    /// Makes the call.
+    pub(crate) fn make(self, link: &mut Link) -> Result<Reply, Refusal>
+        ensures reply { IsAnswered result → call_due link.old (proc_call_of self) ≡ reply_in reply_as result }
+        ensures after { IsAnswered result → link.new ≡ call_after link.old (proc_call_of self) }
+        ensures memory { result ≡ Err refusals.NoMemory → link.new ≡ link.old }
+    {
+        match self {
+            ProcCall::Put(proc, scope, key, value) => match link.put(&proc, scope, key, value) {
+                Ok(()) => Ok(Reply::Done),
+                Err(refusal) => Err(refusal),
+            },
+            ProcCall::Commit(proc) => link.commit(&proc),
+            ProcCall::Request(request) => link.request(request),
+        }
+    }
+}
+
+/// The process of that namespace, which may have any name, and that rank. Refused as BadParam where the name is none, and as NoMemory.
+pub(crate) fn proc_said(alloc: Global, nspace: &[u8], rank: u32) -> Result<Proc, Refusal>
+    ensures { ReadsArguments (λ p. p) result (proc_said nspace.now rank) }
+{
+    let nspace = Nspace::read_any(alloc, nspace)?;
+    Ok(Proc::new(nspace, Rank::new(rank)))
+}
+
+/// The key of these bytes.
+pub(crate) fn key_said(alloc: Global, key: &[u8]) -> Result<Key, Refusal>
+    ensures { ReadsArguments (λ k. k) result (key_said key.now) }
+{
+    Key::read_any(alloc, key)
+}
+
+/// The value of these canonical bytes.
+fn value_said(alloc: Global, bytes: &[u8]) -> Result<Value, Refusal>
+    ensures { ReadsArguments spelling result (value_said bytes.now) }
+{
+    value_from_bytes(alloc, bytes)
+}
+
+/// The scope of that number (PMIx Standard 5.0, pmix_scope_t).
+fn scope_said(number: u32) -> Result<Scope, Refusal>
+    ensures { result ≡ scope_said number }
+{
+    match number {
+        0 => Ok(Scope::Undef),
+        1 => Ok(Scope::Local),
+        2 => Ok(Scope::Remote),
+        3 => Ok(Scope::Global),
+        4 => Ok(Scope::Internal),
+        _ => Err(Refusal::BadParam),
+    }
+}
+
+/// How a get of that number waits.
+fn mode_said(number: u32) -> Result<Mode, Refusal>
+    ensures { result ≡ mode_said number }
+{
+    match number {
+        0 => Ok(Mode::Wait),
+        1 => Ok(Mode::Now),
+        2 => Ok(Mode::Refresh),
+        _ => Err(Refusal::BadParam),
+    }
+}
+
+/// A put: of the process, of that scope, of the value of these canonical bytes. Refused as BadParam where a name, the scope or the key is
+/// none, as BadFrame at the first fault of the value, and as NoMemory.
+#[tactic(auto, unfolding(crate::specs::Arguments::put_said))]
+pub(crate) fn put_said(
+    alloc: Global,
+    nspace: &[u8],
+    rank: u32,
+    scope: u32,
+    key: &[u8],
+    value: &[u8],
+) -> Result<ProcCall, Refusal>
+    ensures { ReadsArguments proc_call_of result (put_said nspace.now rank scope key.now value.now) }
+{
+    let proc = proc_said(alloc, nspace, rank)?;
+    let scope = scope_said(scope)?;
+    let key = key_said(alloc, key)?;
+    let value = value_said(alloc, value)?;
+    Ok(ProcCall::Put(proc, scope, key, value))
+}
+
+/// A commit of the process.
+#[tactic(auto, unfolding(crate::specs::Arguments::commit_said))]
+pub(crate) fn commit_said(alloc: Global, nspace: &[u8], rank: u32) -> Result<ProcCall, Refusal>
+    ensures { ReadsArguments proc_call_of result (commit_said nspace.now rank) }
+{
+    let proc = proc_said(alloc, nspace, rank)?;
+    Ok(ProcCall::Commit(proc))
+}
+
+/// The process enters a fence of these processes; whether it collects data.
+#[tactic(auto, unfolding(crate::specs::Arguments::enter_said))]
+pub(crate) fn enter_said(
+    alloc: Global,
+    nspace: &[u8],
+    rank: u32,
+    list: &Vec<Proc>,
+    collect: bool,
+) -> Result<ProcCall, Refusal>
+    ensures { ReadsArguments proc_call_of result (enter_said nspace.now rank list.now.items collect) }
+{
+    let proc = proc_said(alloc, nspace, rank)?;
+    let list = copy_all(list)?;
+    Ok(ProcCall::Request(Request::Enter(proc, list, collect)))
+}
+
+/// The process leaves the fence that it is released from.
+#[tactic(auto, unfolding(crate::specs::Arguments::leave_said))]
+pub(crate) fn leave_said(alloc: Global, nspace: &[u8], rank: u32) -> Result<ProcCall, Refusal>
+    ensures { ReadsArguments proc_call_of result (leave_said nspace.now rank) }
+{
+    let proc = proc_said(alloc, nspace, rank)?;
+    Ok(ProcCall::Request(Request::Leave(proc)))
+}
+
+/// The process gets a key of the target. Refused as BadParam where a name, the key or the mode is none, and as NoMemory.
+#[tactic(auto, unfolding(crate::specs::Arguments::get_said))]
+pub(crate) fn get_said(
+    alloc: Global,
+    nspace: &[u8],
+    rank: u32,
+    target: &[u8],
+    target_rank: u32,
+    key: &[u8],
+    mode: u32,
+) -> Result<ProcCall, Refusal>
+    ensures { ReadsArguments proc_call_of result (get_said nspace.now rank target.now target_rank key.now mode) }
+{
+    let proc = proc_said(alloc, nspace, rank)?;
+    let target = proc_said(alloc, target, target_rank)?;
+    let key = key_said(alloc, key)?;
+    let mode = mode_said(mode)?;
+    Ok(ProcCall::Request(Request::Ask(proc, target, key, mode)))
+}
+
+/// The process takes the answer of the get that it waited for.
+#[tactic(auto, unfolding(crate::specs::Arguments::take_said))]
+pub(crate) fn take_said(alloc: Global, nspace: &[u8], rank: u32) -> Result<ProcCall, Refusal>
+    ensures { ReadsArguments proc_call_of result (take_said nspace.now rank) }
+{
+    let proc = proc_said(alloc, nspace, rank)?;
+    Ok(ProcCall::Request(Request::Take(proc)))
+}
+
+/// The process ends.
+#[tactic(auto, unfolding(crate::specs::Arguments::end_said))]
+pub(crate) fn end_said(alloc: Global, nspace: &[u8], rank: u32) -> Result<ProcCall, Refusal>
+    ensures { ReadsArguments proc_call_of result (end_said nspace.now rank) }
+{
+    let proc = proc_said(alloc, nspace, rank)?;
+    Ok(ProcCall::Request(Request::Terminate(proc)))
+}
+
+/// A set of these processes is defined under the name.
+#[tactic(auto, unfolding(crate::specs::Arguments::define_said))]
+pub(crate) fn define_said(alloc: Global, name: &[u8], list: &Vec<Proc>) -> Result<ProcCall, Refusal>
+    ensures { ReadsArguments proc_call_of result (define_said name.now list.now.items) }
+{
+    let name = key_said(alloc, name)?;
+    let list = copy_all(list)?;
+    Ok(ProcCall::Request(Request::Define(name, list)))
+}
+
+/// The set of that name is deleted.
+#[tactic(auto, unfolding(crate::specs::Arguments::delete_said))]
+pub(crate) fn delete_said(alloc: Global, name: &[u8]) -> Result<ProcCall, Refusal>
+    ensures { ReadsArguments proc_call_of result (delete_said name.now) }
+{
+    let name = key_said(alloc, name)?;
+    Ok(ProcCall::Request(Request::Delete(name)))
+}

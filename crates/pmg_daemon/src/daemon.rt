@@ -1,0 +1,157 @@
+//! A node with all that the program of a daemon needs of it.
+ghost use Rattle.std.specs.Prelude.{◌≡◌, ◌≢◌, [], ◌∷◌, ◌++◌, length, true, Result, IfErr, IfOk, OnErr};
+ghost use Rattle.pmg_value.specs.Lists.{Each};
+ghost use Rattle.pmg_value.specs.declared.refusal.Refusal.{Refusal as RefusalOf};
+ghost use Rattle.pmg_jobinfo.specs.Jobs.{is_node};
+ghost use Rattle.pmg_node.specs.Acting.{reply_as};
+ghost use Rattle.pmg_node.specs.Opening.{new_server};
+ghost use Rattle.pmg_node.specs.Servers.{reply_in};
+ghost use Rattle.pmg_node.specs.declared.act.Reply.TheVariants as replies;
+ghost use Rattle.pmg_link.specs.Links.{new_link};
+ghost use Rattle.pmg_daemon.specs.Arguments.{ReadsArguments};
+ghost use Rattle.pmg_daemon.specs.Calls.{ProcCall as CallModel, proc_call_of};
+ghost use Rattle.pmg_daemon.specs.Codes.{reply_code};
+ghost use Rattle.pmg_daemon.specs.Daemons.{Made, Makes, Names};
+ghost use Rattle.pmg_daemon.specs.Opening.{IsNewInbox, OpensNode, RefusesToOpen};
+
+use crate::call::{ProcCall, proc_said};
+use crate::codes::{DONE, NO_MEMORY, answer_code, refusal_code};
+use pmg_jobfile::Job;
+use pmg_jobinfo::Registry;
+use pmg_link::{Inbox, Link};
+use pmg_node::{Node, Reply};
+use pmg_value::{NodeId, Proc, Refusal};
+use std::alloc::{AllocError, Global};
+
+/// A node with what its clients put, its frames that wait, what came from each other node, the processes that were named for the next
+/// call, and what the last call that was answered replied.
+pub struct Daemon {
+    pub(crate) alloc: Global,
+    pub(crate) link: Link,
+    pub(crate) inboxes: Vec<Inbox>,
+    pub(crate) list: Vec<Proc>,
+    pub(crate) reply: Reply,
+}
+
+impl Drop for Daemon {
+    fn drop(self) {
+        let Daemon {
+            alloc: _,
+            link: _,
+            inboxes: _,
+            list: _,
+            reply: _,
+        } = self;
+    }
+}
+
+/// An empty inbox for each of so many nodes.
+fn new_inboxes(alloc: Global, count: usize) -> Result<Vec<Inbox>, AllocError>
+    ensures count { IfOk result (λ inboxes. length inboxes.items ≡ count) }
+    ensures empty { IfOk result (λ inboxes. Each IsNewInbox inboxes.items) }
+{
+    let mut inboxes = Vec::new(alloc);
+    for _ in 0..count {
+        inboxes.push(Inbox::new(alloc))?;
+    }
+    Ok(inboxes)
+}
+
+impl Daemon {
+    /// A new node of the group, of that index.
+    pub fn new(alloc: Global, id: NodeId, registry: Registry) -> Result<Daemon, AllocError>
+        requires { is_node registry id ≡ true }
+        ensures link { IfOk result (λ d. d.link ≡ new_link (new_server registry id)) }
+        ensures inboxes { IfOk result (λ d. length d.inboxes.items ≡ length registry.nodes) }
+        ensures empty { IfOk result (λ d. Each IsNewInbox d.inboxes.items) }
+        ensures list { IfOk result (λ d. d.list.items ≡ []) }
+        ensures reply { IfOk result (λ d. d.reply ≡ replies.Done) }
+    {
+        let inboxes = new_inboxes(alloc, registry.node_count())?;
+        Ok(Daemon {
+            alloc,
+            link: Link::new(Node::new(id, registry)?),
+            inboxes,
+            list: Vec::new(alloc),
+            reply: Reply::Done,
+        })
+    }
+
+    /// A new node of the group that the text of a job describes (`run` reads the same), of that index. Refused as `Job::read` refuses the
+    /// text, as BadParam where the group has no node of that index, and as NoMemory.
+    pub fn open(alloc: Global, id: u32, job: &[u8]) -> Result<Daemon, Refusal>
+        ensures opened { IfOk result (λ d. OpensNode id job.now d) }
+        ensures refused { IfErr result (λ e. RefusesToOpen id job.now e) }
+    {
+        let job = Job::read(alloc, job)?;
+        if id as usize >= job.registry().node_count() {
+            return Err(Refusal::BadParam);
+        }
+        let registry = job.registry().copy()?;
+        Ok(Daemon::new(alloc, NodeId::from_checked(id), registry)?)
+    }
+
+    /// Makes the call that its arguments say.
+    fn answer(&mut self, call: Result<ProcCall, Refusal>) -> Result<Reply, Refusal>
+        ensures made { (due : Result CallModel RefusalOf) → ReadsArguments proc_call_of call due
+            → Made due self.old.link result self.new.link }
+        ensures inboxes { self.new.inboxes ≡ self.old.inboxes }
+        ensures list { self.new.list ≡ self.old.list }
+        ensures reply { self.new.reply ≡ self.old.reply }
+    {
+        match call {
+            Ok(call) => call.make(&mut self.link),
+            Err(refusal) => Err(refusal),
+        }
+    }
+
+    /// Keeps the reply, and answers the code of what was answered.
+    fn keep(&mut self, answer: Result<Reply, Refusal>) -> u32
+        ensures code { result ≡ reply_code (reply_in reply_as answer) }
+        ensures ok { IfOk answer (λ r. self.new.reply ≡ r) }
+        ensures err { OnErr answer (self.new.reply ≡ self.old.reply) }
+        ensures link { self.new.link ≡ self.old.link }
+        ensures inboxes { self.new.inboxes ≡ self.old.inboxes }
+        ensures list { self.new.list ≡ self.old.list }
+    {
+        let code = answer_code(&answer);
+        if let Ok(reply) = answer {
+            self.reply = reply;
+        }
+        code
+    }
+
+    /// Makes the call that its arguments say, and answers its code; where it is answered, the reply is kept.
+    pub(crate) fn call(&mut self, call: Result<ProcCall, Refusal>) -> u32
+        ensures makes { (due : Result CallModel RefusalOf) → ReadsArguments proc_call_of call due → Makes due self.old result self.new }
+        ensures list { self.new.list ≡ self.old.list }
+    {
+        let answer = self.answer(call);
+        self.keep(answer)
+    }
+
+    /// Names a process for the next fence that is entered or set that is defined, after those that were named.
+    pub fn name(&mut self, nspace: &[u8], rank: u32) -> u32
+        ensures { Names self.old nspace.now rank result self.new }
+    {
+        match proc_said(self.alloc, nspace, rank) {
+            Ok(proc) => self.add(proc),
+            Err(refusal) => refusal_code(&refusal),
+        }
+    }
+
+    /// Names the process.
+    fn add(&mut self, proc: Proc) -> u32
+        ensures done { result ≡ DONE → self.new.list.items ≡ self.old.list.items ++ proc ∷ [] }
+        ensures memory { result ≢ DONE → result ≡ NO_MEMORY }
+        ensures kept { result ≢ DONE → self.new.list.items ≡ self.old.list.items }
+        ensures link { self.new.link ≡ self.old.link }
+        ensures inboxes { self.new.inboxes ≡ self.old.inboxes }
+        ensures reply { self.new.reply ≡ self.old.reply }
+    {
+        match self.list.push(proc) {
+            Ok(()) => DONE,
+            Err(_) => NO_MEMORY,
+        }
+    }
+}

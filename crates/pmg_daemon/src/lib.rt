@@ -1,0 +1,16 @@
+//! A node as the program of a daemon holds it: calls of bytes and numbers, each answered by a code.
+#![tactic(auto)]
+
+mod call;
+mod calls;
+mod codes;
+mod daemon;
+mod filling;
+mod frames;
+mod told;
+
+pub use codes::{
+    DONE, IDLE, IGNORED, NO_MEMORY, REFUSED, TOO_SMALL, WAITS, WRONG_HANDLE, refusal_code,
+    refusal_text,
+};
+pub use daemon::Daemon;

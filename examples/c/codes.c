@@ -1,0 +1,211 @@
+/* Makes each call of the library on two nodes whose frames go over in pieces of three bytes, and looks at its code and at what it tells. It
+ * does so again and again while one allocation fails in turn, every STEP-th (codes STEP): the call that tells of it is made again, and all
+ * has to come out the same. */
+#include "pmixgroup.h"
+
+#include <inttypes.h>
+#include <stdio.h>
+#include <stdlib.h>
+#include <string.h>
+
+#define BYTES(text) (const uint8_t *)(text), strlen(text)
+#define EXPECT(condition) \
+    do { \
+        if (!(condition)) fail(__LINE__, 0); \
+    } while (0)
+/* The call answers that code; where an allocation failed, once it is made again. */
+#define ASK(wanted, call) \
+    do { \
+        uint32_t code_ = (call); \
+        if (code_ == PMIXGROUP_NO_MEMORY) { \
+            told++; \
+            code_ = (call); \
+        } \
+        if (code_ != (wanted)) fail(__LINE__, code_); \
+    } while (0)
+
+static const char JOB[] = "{\"nodes\": [\"n0\", \"n1\"], \"spaces\": [{\"name\": \"j\", \"homes\": [0, 1]}]}";
+
+/* How many allocations were asked for, and which one fails; how many failures calls told. */
+static long asked, failing, told;
+
+void *__real_malloc(size_t size);
+void *__real_realloc(void *block, size_t size);
+
+void *__wrap_malloc(size_t size) { return ++asked == failing ? NULL : __real_malloc(size); }
+void *__wrap_realloc(void *block, size_t size) { return ++asked == failing ? NULL : __real_realloc(block, size); }
+
+static void fail(int line, uint32_t code) {
+    fprintf(stderr, "codes: line %d, code %" PRIu32 ", while allocation %ld failed\n", line, code, failing);
+    exit(1);
+}
+
+static pmixgroup_node zero, one;
+static uint8_t buffer[512];
+static uint64_t number;
+static uint32_t rank;
+static size_t len;
+
+/* All frames of the one node that wait go to the other, which is of that number. */
+static void carry(pmixgroup_node *from, pmixgroup_node *to, uint32_t wanted) {
+    for (;;) {
+        uint32_t node = 9, code = pmixgroup_next(from, &node, buffer, sizeof buffer, &len);
+        if (code == PMIXGROUP_NO_MEMORY) {
+            told++;
+            continue;
+        }
+        if (code == PMIXGROUP_IDLE) return;
+        EXPECT(code == PMIXGROUP_DONE && node == wanted);
+        for (size_t at = 0; at < len; at += 3) {
+            ASK(PMIXGROUP_DONE, pmixgroup_feed(to, 1 - wanted, buffer + at, len - at < 3 ? len - at : 3));
+            while ((code = pmixgroup_deliver(to, 1 - wanted)) != PMIXGROUP_IDLE) {
+                told += code == PMIXGROUP_NO_MEMORY;
+                EXPECT(code == PMIXGROUP_DONE || code == PMIXGROUP_IGNORED || code == PMIXGROUP_NO_MEMORY);
+            }
+        }
+    }
+}
+
+static void flow(void) {
+    for (int round = 0; round < 3; round++) {
+        carry(&zero, &one, 1);
+        carry(&one, &zero, 0);
+    }
+}
+
+/* Handles that hold no node, and groups that have none of that index. */
+static void opening(void) {
+    EXPECT(pmixgroup_nudge(&zero) == PMIXGROUP_WRONG_HANDLE);
+    ASK(PMIXGROUP_BAD_PARAM, pmixgroup_open(&zero, 2, BYTES(JOB)));
+    ASK(PMIXGROUP_BAD_PARAM, pmixgroup_open(&zero, 0, BYTES("{}")));
+    ASK(PMIXGROUP_DONE, pmixgroup_open(&zero, 0, BYTES(JOB)));
+    EXPECT(pmixgroup_open(&zero, 0, BYTES(JOB)) == PMIXGROUP_WRONG_HANDLE);
+    ASK(PMIXGROUP_DONE, pmixgroup_open(&one, 1, BYTES(JOB)));
+}
+
+/* What is refused, by its code, which leaves what it would tell. */
+static void refusals(void) {
+    static const uint8_t byte[] = {9, 1, 1};
+    uint32_t status = 9;
+    number = 7;
+    ASK(PMIXGROUP_BAD_PARAM, pmixgroup_put(&zero, BYTES("j"), 0, 5, BYTES("a"), byte, 2));
+    ASK(PMIXGROUP_BAD_PARAM, pmixgroup_put(&zero, BYTES("j"), 0, 3, BYTES("pmix.a"), byte, 2));
+    ASK(PMIXGROUP_BAD_FRAME, pmixgroup_put(&zero, BYTES("j"), 0, 3, BYTES("a"), byte, 3));
+    ASK(PMIXGROUP_NOT_MINE, pmixgroup_commit(&zero, BYTES("j"), 1, &number));
+    ASK(PMIXGROUP_UNKNOWN_NAMESPACE, pmixgroup_commit(&zero, BYTES("k"), 0, &number));
+    EXPECT(number == 7);
+    ASK(PMIXGROUP_DONE, pmixgroup_status(&zero, BYTES("j"), 0, &status));
+    EXPECT(status == 1);
+    ASK(PMIXGROUP_BAD_PARAM, pmixgroup_feed(&zero, 2, byte, 0));
+    ASK(PMIXGROUP_BAD_PARAM, pmixgroup_deliver(&zero, 2));
+    ASK(PMIXGROUP_DONE, pmixgroup_nudge(&zero));
+    ASK(PMIXGROUP_DONE, pmixgroup_refusal(PMIXGROUP_NOT_MINE, buffer, sizeof buffer, &len));
+    EXPECT(len == 7 && memcmp(buffer, "NotMine", 7) == 0);
+    ASK(PMIXGROUP_IDLE, pmixgroup_refusal(PMIXGROUP_DONE, buffer, sizeof buffer, &len));
+    ASK(PMIXGROUP_IDLE, pmixgroup_value(&zero, buffer, sizeof buffer, &len));
+}
+
+/* A set is defined of the processes that were named, and deleted. */
+static void sets(void) {
+    static const uint8_t members[] = {0x13, 0x10, 0, 0, 0, 1, 1, 'j', 0, 0, 0, 1};
+    ASK(PMIXGROUP_BAD_PARAM, pmixgroup_name(&zero, BYTES(""), 1));
+    ASK(PMIXGROUP_DONE, pmixgroup_name(&zero, BYTES("j"), 1));
+    ASK(PMIXGROUP_DONE, pmixgroup_define(&zero, BYTES("s"), &number));
+    EXPECT(number == 1);
+    ASK(PMIXGROUP_DONE, pmixgroup_members(&zero, BYTES("s"), buffer, sizeof buffer, &len));
+    EXPECT(len == sizeof members && memcmp(buffer, members, len) == 0);
+    ASK(PMIXGROUP_BAD_PARAM, pmixgroup_define(&zero, BYTES("t"), &number));
+    ASK(PMIXGROUP_DONE, pmixgroup_delete(&zero, BYTES("s"), &number));
+    EXPECT(number == 2);
+    ASK(PMIXGROUP_NOT_FOUND, pmixgroup_members(&zero, BYTES("s"), buffer, sizeof buffer, &len));
+}
+
+/* Both enter a fence that collects, and then one gets what the other committed. */
+static void fence(void) {
+    static const uint8_t five[] = {9, 5};
+    ASK(PMIXGROUP_DONE, pmixgroup_put(&zero, BYTES("j"), 0, PMIXGROUP_GLOBAL, BYTES("a"), five, 2));
+    ASK(PMIXGROUP_DONE, pmixgroup_commit(&zero, BYTES("j"), 0, &number));
+    EXPECT(number == 1);
+    ASK(PMIXGROUP_DONE, pmixgroup_name(&zero, BYTES("j"), 1));
+    ASK(PMIXGROUP_DONE, pmixgroup_name(&zero, BYTES("j"), 0));
+    ASK(PMIXGROUP_DONE, pmixgroup_enter(&zero, BYTES("j"), 0, true, &number));
+    ASK(PMIXGROUP_WAITS, pmixgroup_leave(&zero, BYTES("j"), 0, &number));
+    ASK(PMIXGROUP_BUSY, pmixgroup_put(&zero, BYTES("j"), 0, PMIXGROUP_GLOBAL, BYTES("a"), five, 2));
+    ASK(PMIXGROUP_IDLE, pmixgroup_leave(&one, BYTES("j"), 1, &number));
+    ASK(PMIXGROUP_DONE, pmixgroup_enter(&one, BYTES("j"), 1, true, &number));
+    flow();
+    ASK(PMIXGROUP_DONE, pmixgroup_leave(&zero, BYTES("j"), 0, &number));
+    ASK(PMIXGROUP_DONE, pmixgroup_leave(&one, BYTES("j"), 1, &number));
+    EXPECT(number == 1);
+    ASK(PMIXGROUP_IDLE, pmixgroup_gone(&one, 0, buffer, sizeof buffer, &len, &rank));
+    ASK(PMIXGROUP_DONE, pmixgroup_get(&one, BYTES("j"), 1, BYTES("j"), 0, BYTES("a"), PMIXGROUP_NOW));
+}
+
+/* A buffer that is too small for a value says how much it needs, and the value can be asked for again. */
+static void values(void) {
+    memset(buffer, 0xee, sizeof buffer);
+    ASK(PMIXGROUP_TOO_SMALL, pmixgroup_value(&one, buffer, 1, &len));
+    EXPECT(len == 2 && buffer[0] == 0xee);
+    ASK(PMIXGROUP_DONE, pmixgroup_value(&one, buffer, sizeof buffer, &len));
+    EXPECT(len == 2 && buffer[0] == 9 && buffer[1] == 5 && buffer[2] == 0xee);
+    ASK(PMIXGROUP_DONE, pmixgroup_get(&zero, BYTES("j"), 0, BYTES("j"), 0, BYTES("a"), PMIXGROUP_NOW));
+    ASK(PMIXGROUP_DONE, pmixgroup_value(&zero, buffer, sizeof buffer, &len));
+    EXPECT(len == 2 && buffer[1] == 5);
+}
+
+/* A frame that does not fit waits on. A get waits until the other process ends, who is gone from the next fence. */
+static void ends(void) {
+    uint32_t to = 9;
+    ASK(PMIXGROUP_WAITS, pmixgroup_get(&one, BYTES("j"), 1, BYTES("j"), 0, BYTES("b"), PMIXGROUP_WAIT));
+    ASK(PMIXGROUP_TOO_SMALL, pmixgroup_next(&one, &to, buffer, 5, &len));
+    EXPECT(to == 9 && len > 5);
+    ASK(PMIXGROUP_WAITS, pmixgroup_take(&one, BYTES("j"), 1));
+    ASK(PMIXGROUP_DONE, pmixgroup_end(&zero, BYTES("j"), 0, &number));
+    EXPECT(number == 2);
+    flow();
+    ASK(PMIXGROUP_NOT_FOUND, pmixgroup_take(&one, BYTES("j"), 1));
+    ASK(PMIXGROUP_TERMINATED, pmixgroup_commit(&zero, BYTES("j"), 0, &number));
+    ASK(PMIXGROUP_DONE, pmixgroup_enter(&one, BYTES("j"), 1, true, &number));
+    flow();
+    ASK(PMIXGROUP_DONE, pmixgroup_leave(&one, BYTES("j"), 1, &number));
+    EXPECT(number == 2);
+    ASK(PMIXGROUP_DONE, pmixgroup_gone(&one, 0, buffer, sizeof buffer, &len, &rank));
+    EXPECT(len == 1 && buffer[0] == 'j' && rank == 0);
+    ASK(PMIXGROUP_IDLE, pmixgroup_gone(&one, 1, buffer, sizeof buffer, &len, &rank));
+}
+
+/* Bytes that are no frame are told, and no more are taken. */
+static void faults(void) {
+    uint64_t offset = 0;
+    ASK(PMIXGROUP_IDLE, pmixgroup_fault(&zero, 1, &offset, buffer, sizeof buffer, &len));
+    ASK(PMIXGROUP_DONE, pmixgroup_feed(&zero, 1, (const uint8_t *)"\x09\x01\0\0\0\0", 6));
+    ASK(PMIXGROUP_IDLE, pmixgroup_deliver(&zero, 1));
+    ASK(PMIXGROUP_DONE, pmixgroup_fault(&zero, 1, &offset, buffer, sizeof buffer, &len));
+    EXPECT(len == 7 && memcmp(buffer, "Version", 7) == 0 && offset > 0);
+    ASK(PMIXGROUP_CLOSED, pmixgroup_feed(&zero, 1, (const uint8_t *)"\x01", 1));
+}
+
+static void closing(void) {
+    EXPECT(pmixgroup_close(&zero) == PMIXGROUP_DONE && pmixgroup_close(&one) == PMIXGROUP_DONE);
+    EXPECT(pmixgroup_close(&one) == PMIXGROUP_WRONG_HANDLE);
+    EXPECT(pmixgroup_value(&one, buffer, sizeof buffer, &len) == PMIXGROUP_WRONG_HANDLE);
+}
+
+int main(int count, char **words) {
+    long step = count > 1 ? atol(words[1]) : 1, most = 0, runs = 0;
+    for (failing = 0; failing <= most; failing += step, runs++) {
+        asked = told = 0;
+        opening();
+        refusals();
+        sets();
+        fence();
+        values();
+        ends();
+        faults();
+        closing();
+        if (failing == 0) most = asked;
+        EXPECT(told <= (failing > 0));
+    }
+    printf("%ld runs of %ld allocations each, one of which failed\n", runs, most);
+    return 0;
+}
