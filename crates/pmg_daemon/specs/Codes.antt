@@ -1,5 +1,5 @@
 -- What a call answers, as numbers: codes, and what goes into buffers.
-use Rattle.std.specs.Prelude.{◌≡◌, ◌≢◌, ℕ, ◌+◌, ◌==◌, ◌<◌, ◌≤◌, List, ◌++◌, length, Option, Some, None, drop, option_map, if◌then◌else◌}
+use Rattle.std.specs.Prelude.{◌≡◌, ◌≢◌, ◌⊎◌, ℕ, ◌+◌, ◌==◌, ◌<◌, ◌≤◌, List, ◌++◌, length, Option, Some, None, drop, option_map, if◌then◌else◌}
 use Rattle.pmg_value.specs.Refusals.{name_of, number_of}
 use Rattle.pmg_value.specs.declared.refusal.Cause.TheVariants as causes
 use Rattle.pmg_value.specs.declared.refusal.Refusal.{Refusal}
@@ -45,6 +45,7 @@ status_number Status.ended = 6
 -- The bytes go to the front of the buffer, and the rest of it stays; or it is too small, and stays as it was. Either way the length
 -- is theirs. NoMemory leaves both.
 pub record Fills (bytes old : List ℕ) (old_len code : ℕ) (new : List ℕ) (new_len : ℕ) : Type 0 where
+  pub codes : (code ≡ DONE) ⊎ ((code ≡ TOO_SMALL) ⊎ (code ≡ NO_MEMORY))
   pub done : code ≡ DONE → new ≡ bytes ++ drop (length bytes) old
   pub fits : code ≡ DONE → length bytes ≤ length old
   pub small : code ≡ TOO_SMALL → length old < length bytes
