@@ -1,19 +1,18 @@
 -- Calls, what is due of them, and the link then.
-use Rattle.std.proofs.Common.{◌≡◌, ◌≢◌, ◌⊎◌, ℕ, ◌+◌, ◌<◌, ◌≤◌, Bool, true, false, cond, List, [], ◌∷◌, Option, Some, None, Result, Ok, Err, IfOk, OnErr, OnOk, inl, inr, refl, sym, ap, subst, ◌∙◌, arith, lit<}
-use Rattle.pmg_value.specs.Answers.{Fails, Gives}
-use Rattle.pmg_value.specs.CheckOrder.{check_order, first_in, first_of}
+use Rattle.std.proofs.Common.{◌≡◌, ◌≢◌, ◌⊎◌, ℕ, ◌+◌, ◌<◌, Bool, true, false, cond, List, [], ◌∷◌, Option, Some, None, Result, Ok, Err, IfOk, OnErr, OnOk, inl, inr, refl, sym, ap, subst, ◌∙◌, arith, lit<}
+use Rattle.pmg_value.specs.CheckOrder.{first_in}
 use Rattle.pmg_value.specs.Refusals.{number_of}
 use Rattle.pmg_value.specs.declared.process.Proc.{Proc}
 use Rattle.pmg_value.specs.declared.refusal.Refusal.{Refusal}
 use Rattle.pmg_value.specs.declared.refusal.Refusal.TheVariants as refusals
 use Rattle.pmg_node_model.specs.Acts.{Act, Reply, Request}
 use Rattle.pmg_node.specs.Acting.{reply_as}
-use Rattle.pmg_node.specs.Servers.{IsAnswered, RefusesAct, RepliesAct, Server, reply_in, reply_to}
+use Rattle.pmg_node.specs.Servers.{IsAnswered, RefusesAct, Server, reply_in, reply_to}
 use Rattle.pmg_node.specs.declared.act.Reply.{Reply as GivenReply}
 use Rattle.pmg_node.specs.declared.act.Reply.TheVariants as replies
 use Rattle.pmg_caches.proofs.CauseLemmas.{replied_due, same_error}
 use Rattle.pmg_link.specs.Links.{Linked, RepliesBy, commit_of, link_after, link_committed}
-use Rattle.pmg_daemon.specs.Arguments.{FailsArguments, ReadsArguments}
+use Rattle.pmg_daemon.specs.Arguments.{FailsArguments}
 use Rattle.pmg_daemon.specs.Calls.{ProcCall, after_commit_due, call_after, call_due, request_due_by, said_after, said_due}
 use Rattle.pmg_daemon.specs.Codes.{reply_code}
 use Rattle.pmg_daemon.specs.Daemons.{FailsNaming, Made, Makes}

@@ -1,7 +1,6 @@
 -- Items of a list by their index, and codes of what came of frames.
 use Rattle.std.proofs.Common.{◌≡◌, ℕ, zero, suc, ◌<◌, ◌≤◌, nat_lt, false, List, [], ◌∷◌, length, Option, Some, None, refl, sym, ap, arith, lit<, slice_get, slice_index_or, slice_set}
 use Rattle.std.proofs.lemmas.Bool.Decides.{nat_tests}
-use Rattle.pmg_node.specs.Acting.{reply_as}
 use Rattle.pmg_node.specs.declared.act.Reply.{Reply as GivenReply}
 use Rattle.pmg_daemon.specs.Frames.{delivered_code}
 use Rattle.pmg_daemon.specs.declared.codes.TheConstants.{REFUSED}

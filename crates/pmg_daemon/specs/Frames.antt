@@ -1,5 +1,5 @@
 -- What a daemon is handed from other nodes, and what it takes for them.
-use Rattle.std.specs.Prelude.{◌≡◌, ◌≢◌, ◌↔◌, ◌⊎◌, ℕ, ◌+◌, List, [], ◌∷◌, Option, Some, None, Result, Ok, Err, IfErr, IfSome, OnErr, OnOk, slice_get, slice_set}
+use Rattle.std.specs.Prelude.{◌≡◌, ◌≢◌, ◌↔◌, ◌⊎◌, ℕ, ◌+◌, List, [], ◌∷◌, Option, Some, None, Result, Ok, Err, IfErr, IfSome, OnErr, OnOk, slice_set}
 use Rattle.pmg_value.specs.Refusals.{cause_name, number_of}
 use Rattle.pmg_value.specs.declared.refusal.Fault.{Fault}
 use Rattle.pmg_value.specs.declared.refusal.Refusal.{Refusal}
@@ -9,7 +9,7 @@ use Rattle.pmg_frame.specs.Versions.{frame_spelling}
 use Rattle.pmg_node.specs.Acting.{reply_as}
 use Rattle.pmg_node.specs.declared.act.Reply.{Reply as GivenReply}
 use Rattle.pmg_node_model.specs.declared.sent.Sent.{Sent}
-use Rattle.pmg_link.specs.Links.{DeliversNext, Linked}
+use Rattle.pmg_link.specs.Links.{DeliversNext}
 use Rattle.pmg_link.specs.declared.inbox.Inbox.{Inbox}
 use Rattle.pmg_daemon.specs.Codes.{Fills, reply_code}
 use Rattle.pmg_daemon.specs.declared.codes.TheConstants.{DONE, IDLE, NO_MEMORY, REFUSED}

@@ -1,4 +1,4 @@
-use Rattle.std.proofs.Common.{◌≡◌, Result, Ok, Err, refl, sym, ap, subst, ◌∙◌}
+use Rattle.std.proofs.Common.{Result, Err, sym, ap, subst, ◌∙◌}
 use Rattle.pmg_value.specs.CheckOrder.{check_order}
 use Rattle.pmg_value.specs.Spelling.{spelling}
 use Rattle.pmg_value.specs.declared.refusal.Refusal.{Refusal}
@@ -10,8 +10,7 @@ use Rattle.pmg_caches.proofs.CauseLemmas.{fails_due}
 use Rattle.pmg_caches.specs.Caching.{cached_for, put_cause_at}
 use Rattle.pmg_caches.specs.OwnKeys.{own_key}
 use Rattle.pmg_group_model.specs.Worlds.{reply_or_refusal}
-use Rattle.pmg_link.specs.Links.{Linked}
-use Rattle.pmg_daemon.specs.Calls.{after_put, call_after, call_due, proc_call_of, put_due}
+use Rattle.pmg_daemon.specs.Calls.{after_put, call_after, call_due, proc_call_of}
 use Rattle.pmg_daemon.specs.declared.call.ProcCall.{ProcCall as GivenCall}
 use Rattle.pmg_daemon.proofs.CallLemmas.{commit_after, first_err, first_ok, request_told}
 use Rattle.pmg_daemon.proofs.call.ProcCall.make.Goals as goal

@@ -1,6 +1,6 @@
-use Rattle.std.proofs.Common.{◌≡◌, ◌≤◌, length, false, inr, refl, sym, ap, subst, ◌∙◌, arith}
+use Rattle.std.proofs.Common.{◌≡◌, ◌≤◌, length, inr, refl, ap, subst, ◌∙◌, arith}
 use Rattle.std.proofs.lemmas.Bool.Decides.{nat_tests}
-use Rattle.pmg_jobinfo.specs.Jobs.{Jobs, is_node}
+use Rattle.pmg_jobinfo.specs.Jobs.{Jobs}
 use Rattle.pmg_daemon.proofs.FrameLemmas.{out_of}
 use Rattle.pmg_daemon.proofs.daemon.Daemon.open.Goals as goal
 
