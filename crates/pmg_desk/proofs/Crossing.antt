@@ -3,7 +3,6 @@ use denote.Param.Send.{IsSend, IsSync, sendable}
 use denote.Ref.{NamedLft}
 use Rattle.std.proofs.Crossing.{crosses as owners}
 use Rattle.std.proofs.MapsCrossing.{crosses as maps}
-use Rattle.bytes.proofs.shared.Bytes.TheSendSync as Bytes
 use Rattle.pmg_publish.proofs.Crossing.{board_send, history_sync, key_send, nspace_send, nspace_sync, piece_send, proc_send, proc_sync, publisher_send, value_send, viewer_send}
 use Rattle.pmg_value.proofs.array.Array.TheLaws.TheKnot.{crosses as values}
 use Rattle.pmg_value.specs.contracts.blobs.Text as Text
@@ -21,6 +20,7 @@ use Rattle.pmg_frame.specs.contracts.refreshes.RefreshReply as RefreshReply
 use Rattle.pmg_frame.specs.contracts.frame.Frame as Frame
 use Rattle.pmg_node_model.specs.contracts.sent.Sent as Sent
 use Rattle.pmg_commit.specs.contracts.last_puts.SealedPut as SealedPut
+use Rattle.pmg_commit.specs.contracts.piece.PieceEntry as PieceEntry
 use Rattle.pmg_commit.specs.contracts.sealer.Sealer as Sealer
 use Rattle.pmg_fence.specs.contracts.table.Table as Table
 use Rattle.pmg_node_parts.specs.contracts.own.LocalCommits as LocalCommits
@@ -47,16 +47,16 @@ use Rattle.pmg_journal.specs.contracts.notes.ClientLog as ClientLog
 use Rattle.pmg_desk.specs.contracts.client.Client as Client
 
 text_send : IsSend Text.the_row
-text_send = search (Bytes.the_send, sendable, owners) depth 40
+text_send = search (sendable, owners) depth 40
 
 text_sync : IsSync Text.the_row
-text_sync = search (Bytes.the_sync, sendable, owners) depth 40
+text_sync = search (sendable, owners) depth 40
 
 proc_part : IsSend (Proc.the_field).row
 proc_part = search (nspace_send, sendable) depth 40
 
 value_part : IsSend (Value.the_field).row
-value_part = search (values, Bytes.the_send, proc_send, sendable, owners) depth 60 fits 20000
+value_part = search (values, proc_send, sendable, owners) depth 60 fits 20000
 
 registry_send : IsSend Registry.the_row
 registry_send = search (text_send, nspace_send, maps, owners, sendable) depth 60 fits 20000
@@ -88,8 +88,11 @@ commit_ask_send = search (proc_part, sendable) depth 40
 refresh_ask_send : IsSend RefreshAsk.the_row
 refresh_ask_send = search (commit_ask_send, sendable) depth 40
 
+entry_send : IsSend PieceEntry.the_row
+entry_send = search (key_send, value_part, sendable) depth 40
+
 refresh_reply_send : IsSend RefreshReply.the_row
-refresh_reply_send = search (values, value_send, Bytes.the_send, key_send, proc_send, sendable, owners) depth 60 fits 20000
+refresh_reply_send = search (proc_part, entry_send, owners, sendable) depth 40
 
 pub frame_send : IsSend Frame.the_row
 frame_send = search (piece_send, header_send, fence_ask_send, commit_ask_send, refresh_ask_send, refresh_reply_send, sendable) depth 60 fits 20000

@@ -1,9 +1,13 @@
 -- What goes out, one after the other, and a mark that goes with it.
-use Rattle.std.proofs.Common.{◌≡◌, ℕ, List, [], ◌∷◌, ◌++◌, Option, Some, None, is_some, refl, sym, ap, subst, ◌∙◌}
+use Rattle.std.proofs.Common.{◌≡◌, ℕ, Bool, true, false, List, [], ◌∷◌, ◌++◌, Option, Some, None, is_some, refl, sym, ap, subst, ◌∙◌}
+use Rattle.std.specs.Prelude.{Result, Ok, Err, if◌then◌else◌}
 use Rattle.std.specs.Option.{option_to_list}
 use Rattle.std.proofs.lemmas.List.{append_assoc, append-nil}
 use Rattle.pmg_value.specs.declared.process.Proc.{Proc}
+use Rattle.pmg_value.specs.declared.refusal.Refusal.{Refusal}
+use Rattle.pmg_value.specs.declared.refusal.Refusal.TheVariants as refusals
 use Rattle.pmg_commit.specs.Sealed.{Sealed}
+use Rattle.pmg_frame.specs.Fences.{CommitAsk}
 use Rattle.pmg_frame.specs.declared.frame.Frame.{Frame}
 use Rattle.pmg_frame.specs.declared.frame.Frame.TheVariants as frames
 use Rattle.pmg_dmodex.specs.Levels.{Levels, node_level, with_level}
@@ -13,6 +17,15 @@ use Rattle.pmg_node_model.specs.declared.due.ToSend.{ToSend}
 use Rattle.pmg_node_parts.specs.declared.due.MarkUndo.{MarkUndo}
 use Rattle.pmg_node_model.specs.declared.sent.Sent.{Sent}
 use Rattle.pmg_node_parts.proofs.MarkLemmas.{set_back_is, set_stays, back_snoc, each_stays, each_snoc}
+
+-- an ask that was made is the one that was due
+pub ask_made : (may : Bool) (due ask : CommitAsk) → (if may then Ok due else Err refusals.BadParam) ≡ Ok ask → ask ≡ due
+ask_made true due ask is = sym (ap ask_in is)
+  where
+    ask_in : Result CommitAsk Refusal → CommitAsk
+    ask_in (Ok a) = a
+    ask_in (Err e) = due
+ask_made false due ask is = absurd cc
 
 -- one more is sent
 pub sends_marks : (sealer : Proc → Sealed) (m : Levels) (ds : List ToSend) (d : ToSend)

@@ -2,7 +2,6 @@
 use denote.Param.Send.{IsSend, IsSync, sendable}
 use Rattle.std.proofs.Crossing.{crosses as owners}
 use Rattle.std.proofs.MapsCrossing.{crosses as maps}
-use Rattle.bytes.proofs.shared.Bytes.TheSendSync as Bytes
 use Rattle.logbook.proofs.tokens.Seen.TheSendSync as Seen
 use Rattle.logbook.proofs.word.Word.TheSendSync as Word
 use Rattle.atomic_table.proofs.shared.Seat.TheSendSync as Seat
@@ -28,16 +27,16 @@ use Rattle.pmg_publish.specs.contracts.viewer.Viewer as Viewer
 use Rattle.pmg_publish.specs.contracts.publishing.Publisher as Publisher
 
 pub nspace_send : IsSend Nspace.the_row
-nspace_send = search (Bytes.the_send, sendable, owners) depth 40
+nspace_send = search (sendable, owners) depth 40
 
 pub nspace_sync : IsSync Nspace.the_row
-nspace_sync = search (Bytes.the_sync, sendable, owners) depth 40
+nspace_sync = search (sendable, owners) depth 40
 
 pub key_send : IsSend Key.the_row
-key_send = search (Bytes.the_send, sendable, owners) depth 40
+key_send = search (sendable, owners) depth 40
 
 key_sync : IsSync Key.the_row
-key_sync = search (Bytes.the_sync, sendable, owners) depth 40
+key_sync = search (sendable, owners) depth 40
 
 pub proc_send : IsSend Proc.the_row
 proc_send = search (nspace_send, sendable) depth 40
@@ -46,16 +45,16 @@ pub proc_sync : IsSync Proc.the_row
 proc_sync = search (nspace_sync, sendable) depth 40
 
 pub value_send : IsSend Value.the_row
-value_send = search (values, Bytes.the_send, proc_send, sendable, owners) depth 60 fits 20000
+value_send = search (values, proc_send, sendable, owners) depth 60 fits 20000
 
 value_sync : IsSync Value.the_row
-value_sync = search (values, Bytes.the_sync, proc_sync, sendable, owners) depth 60 fits 20000
+value_sync = search (values, proc_sync, sendable, owners) depth 60 fits 20000
 
 stamp_send : IsSend Stamp.the_row
-stamp_send = search (values, value_send, Bytes.the_send, proc_send, sendable, owners) depth 40 fits 20000
+stamp_send = search (values, value_send, proc_send, sendable, owners) depth 40 fits 20000
 
 stamp_sync : IsSync Stamp.the_row
-stamp_sync = search (values, value_sync, Bytes.the_sync, proc_sync, sendable, owners) depth 40 fits 20000
+stamp_sync = search (values, value_sync, proc_sync, sendable, owners) depth 40 fits 20000
 
 track_send : IsSend Track.the_row
 track_send = search (key_send, value_send, stamp_send, maps, sendable, owners) depth 40 fits 5000
@@ -76,7 +75,7 @@ pub board_sync : IsSync (Board.the_field).row
 board_sync = search (store_sync, sendable) depth 40
 
 pub piece_send : IsSend Piece.the_row
-piece_send = search (values, value_send, Bytes.the_send, key_send, proc_send, sendable, owners) depth 60 fits 20000
+piece_send = search (values, value_send, key_send, proc_send, sendable, owners) depth 60 fits 20000
 
 pub history_send : IsSend (History.the_field).row
 history_send = search (Seen.the_send, sendable) depth 40

@@ -1,19 +1,8 @@
--- Names, keys and all that is printable are ASCII, and so UTF-8.
-use Rattle.std.proofs.Common.{ℕ, zero, suc, List, [], ◌∷◌, length, nat_lt, nat_le, ◌&&◌, IsTrue, arith}
-use Rattle.std.specs.Prelude.{IsUtf8, IsAscii}
+-- Names and keys are printable.
+use Rattle.std.proofs.Common.{ℕ, List, [], ◌∷◌, length, nat_lt, nat_le, ◌&&◌, IsTrue, arith}
 use Rattle.std.specs.List.{list_all}
 use Rattle.std.proofs.lemmas.Bool.{and_parts, and_from, le-leb, leb-true}
-use Rattle.std.proofs.lemmas.Str.{IsUtf8-from_ascii}
 use Rattle.pmg_value.specs.Names.{is_graphic, is_printable, is_nspace, is_key}
-
-are_ascii : (bs : List ℕ) → IsTrue (list_all is_printable bs) → IsAscii bs
-are_ascii [] all i = omega arith
-are_ascii (b ∷ bs) all zero = let own = (and_parts (is_printable b) (list_all is_printable bs) all).0 in
-    let low = leb-true b 126 (and_parts (nat_le 32 b) (nat_le b 126) own).1 in omega (arith, low)
-are_ascii (b ∷ bs) all (suc i) = are_ascii bs (and_parts (is_printable b) (list_all is_printable bs) all).1 i
-
-pub printable_is_utf8 : (bs : List ℕ) → IsTrue (list_all is_printable bs) → IsUtf8 bs
-printable_is_utf8 bs all = IsUtf8-from_ascii bs (are_ascii bs all)
 
 graphic_are_printable : (bs : List ℕ) → IsTrue (list_all is_graphic bs) → IsTrue (list_all is_printable bs)
 graphic_are_printable [] all = all

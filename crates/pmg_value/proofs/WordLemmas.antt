@@ -1,6 +1,6 @@
 -- Words are told apart by their fronts.
-use Rattle.std.proofs.Common.{◌≡◌, ℕ, zero, suc, ◌+◌, ◌*◌, ◌<◌, ◌≤◌, Bool, true, false, cond, ◌==◌, nat_lt, nat_le, List, [], ◌∷◌, length, get_or, IsTrue, refl, sym, ap, ◌∙◌, arith}
-use Rattle.std.specs.Prelude.{◌≢◌}
+use Rattle.std.proofs.Common.{◌≡◌, ℕ, zero, suc, ◌+◌, ◌*◌, ◌%◌, ◌<◌, ◌≤◌, Bool, true, false, cond, ◌==◌, nat_lt, nat_le, List, [], ◌∷◌, length, get_or, IsTrue, refl, sym, ap, ◌∙◌, arith}
+use Rattle.std.specs.Prelude.{◌≢◌, drop}
 use Rattle.std.specs.List.{list_all}
 use Rattle.std.specs.declared.cmp.Ordering.{Ordering}
 use Rattle.std.specs.declared.cmp.Ordering.TheVariants.{Less, Equal, Greater}
@@ -8,7 +8,7 @@ use Rattle.std.specs.Ordering.{nat_cmp, ordering_then, is_ne}
 use Rattle.std.specs.Cmp.Lexicographic.{slice_cmp}
 use Rattle.std.proofs.lemmas.Bool.{true≢false, and_parts, leb-true, lt-ltb, le-ltb, ltb-true, ltb-false, eq-eqb, ne_eqb}
 use Rattle.pmg_value.specs.Names.{is_printable}
-use Rattle.pmg_value.specs.Words.{front_from, first_eight}
+use Rattle.pmg_value.specs.Words.{front_from, first_eight, second_eight}
 
 -- each byte is one
 abbrev pub AreBytes : List ℕ → Type 0
@@ -53,14 +53,15 @@ cmp_same : (m n : ℕ) → m ≡ n → nat_cmp m n ≡ Equal
 cmp_same m n same =
     ap (λ b. cond b Less (cond (m == n) Equal Greater)) (le-ltb m n (omega (arith, same))) ∙ ap (λ b. cond b Equal Greater) (eq-eqb m n same)
 
-cmp_suc : (m n : ℕ) → nat_cmp m n ≡ nat_cmp (suc m) (suc n)
-cmp_suc m n = by_order (nat_lt m n) refl (nat_lt n m) refl
+-- what is added to both changes nothing
+cmp_added : (x m n k l : ℕ) → k ≡ x + m → l ≡ x + n → nat_cmp m n ≡ nat_cmp k l
+cmp_added x m n k l left right = by_order (nat_lt m n) refl (nat_lt n m) refl
   where
-    by_order : (t : Bool) → nat_lt m n ≡ t → (u : Bool) → nat_lt n m ≡ u → nat_cmp m n ≡ nat_cmp (suc m) (suc n)
-    by_order true e u f = let lt = ltb-true m n e in cmp_less m n lt ∙ sym (cmp_less (suc m) (suc n) (omega (arith, lt)))
-    by_order false e true f = let lt = ltb-true n m f in cmp_greater m n lt ∙ sym (cmp_greater (suc m) (suc n) (omega (arith, lt)))
+    by_order : (t : Bool) → nat_lt m n ≡ t → (u : Bool) → nat_lt n m ≡ u → nat_cmp m n ≡ nat_cmp k l
+    by_order true e u f = let lt = ltb-true m n e in cmp_less m n lt ∙ sym (cmp_less k l (omega (arith, lt, left, right)))
+    by_order false e true f = let lt = ltb-true n m f in cmp_greater m n lt ∙ sym (cmp_greater k l (omega (arith, lt, left, right)))
     by_order false e false f =
-        let same : m ≡ n = omega (arith, ltb-false m n e, ltb-false n m f) in cmp_same m n same ∙ sym (cmp_same (suc m) (suc n) (ap suc same))
+        let same : m ≡ n = omega (arith, ltb-false m n e, ltb-false n m f) in cmp_same m n same ∙ sym (cmp_same k l (omega (arith, same, left, right)))
 
 -- texts with different fronts compare as these do
 decides : (n x : ℕ) (xs bs : List ℕ) → AreBytes xs → AreBytes bs → (front_from n x xs ≢ front_from n x bs)
@@ -108,7 +109,7 @@ short (suc n) x (a ∷ xs) (b ∷ bs) p q few fewer alike =
         let same : a ≡ b = omega (arith, ltb-false a b e, ltb-false b a f) in
         ap (λ o. ordering_then o (slice_cmp nat_cmp xs bs)) (cmp_same a b same)
         ∙ rest (alike ∙ ap (λ c. front_from n (x * 256 + c) bs) (sym same))
-        ∙ cmp_suc (length xs) (length bs)
+        ∙ cmp_added 1 (length xs) (length bs) (length (a ∷ xs)) (length (b ∷ bs)) (omega arith) (omega arith)
 
 equal_is : (m n : ℕ) → is_ne (nat_cmp m n) ≡ false → m ≡ n
 equal_is m n h = by_order (nat_lt m n) refl (nat_lt n m) refl
@@ -126,18 +127,107 @@ printable_are_bytes (b ∷ bs) all =
     let low = leb-true b 126 (and_parts (nat_le 32 b) (nat_le b 126) parts.0).1 in
     (omega (arith, low), printable_are_bytes bs parts.1)
 
-module _ (a b : List ℕ) (f g : ℕ) (fronts : Ordering)
-    (first : (f ≡ first_eight a) × IsTrue (list_all is_printable a)) (second : (g ≡ first_eight b) × IsTrue (list_all is_printable b))
-    (compared : fronts ≡ nat_cmp f g) where
-  -- words with different fronts compare as these do
-  pub by_fronts : is_ne fronts ≡ true → fronts ≡ slice_cmp nat_cmp a b
-  by_fronts apart =
-      compared ∙ (λ i. nat_cmp (first.0 i) (second.0 i))
-      ∙ sym (decides 8 0 a b (printable_are_bytes a first.1) (printable_are_bytes b second.1)
-      (λ same. true≢false (sym apart ∙ ap is_ne (compared ∙ cmp_same f g (first.0 ∙ same ∙ sym second.0)))))
+-- a printable byte is none of the zeros past the end of a text
+no_zero : (b : ℕ) (bs : List ℕ) → IsTrue (list_all is_printable (b ∷ bs)) → (1 ≤ b) × IsTrue (list_all is_printable bs)
+no_zero b bs all =
+    let parts = and_parts (is_printable b) (list_all is_printable bs) all in
+    let low = leb-true 32 b (and_parts (nat_le 32 b) (nat_le b 126) parts.0).0 in
+    (omega (arith, low), parts.1)
 
-  -- words with equal fronts and no more bytes compare as their lengths do
-  pub by_lengths : is_ne fronts ≡ false → length a ≤ 8 → length b ≤ 8 → nat_cmp (length a) (length b) ≡ slice_cmp nat_cmp a b
-  by_lengths alike few fewer =
-      sym (short 8 0 a b (printable_are_bytes a first.1) (printable_are_bytes b second.1) few fewer
-      (sym first.0 ∙ equal_is f g (sym (ap is_ne compared) ∙ alike) ∙ second.0))
+-- the last of the first bytes
+last_byte : (n x : ℕ) (bs : List ℕ) → AreBytes bs → front_from (suc n) x bs % 256 ≡ get_or bs n 0
+last_byte zero x [] all = omega arith
+last_byte zero x (b ∷ bs) all = omega (arith, all.0)
+last_byte (suc n) x [] all = last_byte n (x * 256) [] tt
+last_byte (suc n) x (b ∷ bs) all = last_byte n (x * 256 + b) bs all.1
+
+-- a text with no byte there is no longer
+is_short : (n : ℕ) (bs : List ℕ) → IsTrue (list_all is_printable bs) → get_or bs n 0 ≡ 0 → length bs ≤ n
+is_short n [] all none = omega arith
+is_short zero (b ∷ bs) all none = absurd (omega (arith, (no_zero b bs all).0, none))
+is_short (suc n) (b ∷ bs) all none = let rest = is_short n bs (no_zero b bs all).1 none in omega (arith, rest)
+
+-- texts with equal fronts, none longer than these, are of one length
+same_length : (n x : ℕ) (xs bs : List ℕ) → IsTrue (list_all is_printable xs) → IsTrue (list_all is_printable bs) → length xs ≤ n → length bs ≤ n
+    → front_from n x xs ≡ front_from n x bs → length xs ≡ length bs
+same_length n x [] [] p q few fewer alike = refl
+same_length zero x [] (b ∷ bs) p q few fewer alike = absurd (omega (arith, fewer))
+same_length zero x (a ∷ xs) bs p q few fewer alike = absurd (omega (arith, few))
+same_length (suc n) x [] (b ∷ bs) p q few fewer alike =
+    absurd (omega (arith, alike, less n (x * 256) (x * 256 + b) [] bs (omega (arith, (no_zero b bs q).0)) tt))
+same_length (suc n) x (a ∷ xs) [] p q few fewer alike =
+    absurd (omega (arith, alike, less n (x * 256) (x * 256 + a) [] xs (omega (arith, (no_zero a xs p).0)) tt))
+same_length (suc n) x (a ∷ xs) (b ∷ bs) p q few fewer alike =
+    by_order (λ same. same_length n (x * 256 + a) xs bs (no_zero a xs p).1 (no_zero b bs q).1 (omega (arith, few)) (omega (arith, fewer))
+    (alike ∙ ap (λ c. front_from n (x * 256 + c) bs) (sym same))) (nat_lt a b) refl (nat_lt b a) refl
+  where
+    by_order : (a ≡ b → length xs ≡ length bs) → (t : Bool) → nat_lt a b ≡ t → (u : Bool) → nat_lt b a ≡ u → length (a ∷ xs) ≡ length (b ∷ bs)
+    by_order rest true e u f =
+        absurd (omega (arith, alike, less n (x * 256 + a) (x * 256 + b) xs bs (omega (arith, ltb-true a b e)) (printable_are_bytes (a ∷ xs) p).1))
+    by_order rest false e true f =
+        absurd (omega (arith, alike, less n (x * 256 + b) (x * 256 + a) bs xs (omega (arith, ltb-true b a f)) (printable_are_bytes (b ∷ bs) q).1))
+    by_order rest false e false f = ap suc (rest (omega (arith, ltb-false a b e, ltb-false b a f)))
+
+-- a number that begins with x, and then has the first eight bytes
+begun : (x : ℕ) (bs : List ℕ) → front_from 8 x bs ≡ x * 18446744073709551616 + first_eight bs
+begun x [] = omega arith
+begun x (a ∷ []) = omega arith
+begun x (a ∷ b ∷ []) = omega arith
+begun x (a ∷ b ∷ c ∷ []) = omega arith
+begun x (a ∷ b ∷ c ∷ d ∷ []) = omega arith
+begun x (a ∷ b ∷ c ∷ d ∷ e ∷ []) = omega arith
+begun x (a ∷ b ∷ c ∷ d ∷ e ∷ f ∷ []) = omega arith
+begun x (a ∷ b ∷ c ∷ d ∷ e ∷ f ∷ g ∷ []) = omega arith
+begun x (a ∷ b ∷ c ∷ d ∷ e ∷ f ∷ g ∷ h ∷ bs) = omega arith
+
+-- the first eight bytes, and then the next ones
+in_two : (x : ℕ) (bs : List ℕ) → front_from 16 x bs ≡ front_from 8 (front_from 8 x bs) (drop 8 bs)
+in_two x [] = refl
+in_two x (a ∷ []) = refl
+in_two x (a ∷ b ∷ []) = refl
+in_two x (a ∷ b ∷ c ∷ []) = refl
+in_two x (a ∷ b ∷ c ∷ d ∷ []) = refl
+in_two x (a ∷ b ∷ c ∷ d ∷ e ∷ []) = refl
+in_two x (a ∷ b ∷ c ∷ d ∷ e ∷ f ∷ []) = refl
+in_two x (a ∷ b ∷ c ∷ d ∷ e ∷ f ∷ g ∷ []) = refl
+in_two x (a ∷ b ∷ c ∷ d ∷ e ∷ f ∷ g ∷ h ∷ bs) = refl
+
+-- the first sixteen bytes, of the two numbers that are kept
+both : (bs : List ℕ) → front_from 16 0 bs ≡ first_eight bs * 18446744073709551616 + second_eight bs
+both bs = in_two 0 bs ∙ begun (first_eight bs) (drop 8 bs)
+
+module _ (a b : List ℕ) (f g s t : ℕ)
+    (first : (f ≡ first_eight a) × (s ≡ second_eight a) × IsTrue (list_all is_printable a))
+    (other : (g ≡ first_eight b) × (t ≡ second_eight b) × IsTrue (list_all is_printable b)) where
+  -- words whose first numbers differ compare as these do
+  pub by_firsts : (firsts : Ordering) → firsts ≡ nat_cmp f g → is_ne firsts ≡ true → firsts ≡ slice_cmp nat_cmp a b
+  by_firsts firsts compared apart =
+      compared ∙ (λ i. nat_cmp (first.0 i) (other.0 i))
+      ∙ sym (decides 8 0 a b (printable_are_bytes a first.2) (printable_are_bytes b other.2)
+      (λ same. true≢false (sym apart ∙ ap is_ne (compared ∙ cmp_same f g (first.0 ∙ same ∙ sym other.0)))))
+
+  -- words whose first numbers are equal and whose second ones differ compare as these do
+  pub by_seconds : (firsts seconds : Ordering) → firsts ≡ nat_cmp f g → is_ne firsts ≡ false → seconds ≡ nat_cmp s t → is_ne seconds ≡ true
+      → seconds ≡ slice_cmp nat_cmp a b
+  by_seconds firsts seconds began alike compared apart =
+      let same : first_eight a ≡ first_eight b = sym first.0 ∙ equal_is f g (sym (ap is_ne began) ∙ alike) ∙ other.0 in
+      compared
+      ∙ (λ i. nat_cmp (first.1 i) (other.1 i))
+      ∙ cmp_added (first_eight a * 18446744073709551616) (second_eight a) (second_eight b) (front_from 16 0 a) (front_from 16 0 b)
+      (both a) (both b ∙ (λ i. sym same i * 18446744073709551616 + second_eight b))
+      ∙ sym (decides 16 0 a b (printable_are_bytes a first.2) (printable_are_bytes b other.2)
+      (λ equal. true≢false (sym apart ∙ ap is_ne (compared ∙ cmp_same s t
+      (omega (arith, sym (both a) ∙ equal ∙ both b, same, first.1, other.1))))))
+
+  -- words whose numbers are equal, and whose second one ends in no byte, are equal
+  pub by_end : (firsts seconds : Ordering) → firsts ≡ nat_cmp f g → is_ne firsts ≡ false → seconds ≡ nat_cmp s t → is_ne seconds ≡ false
+      → s % 256 ≡ 0 → Equal ≡ slice_cmp nat_cmp a b
+  by_end firsts seconds began alike compared even ends =
+      let same : first_eight a ≡ first_eight b = sym first.0 ∙ equal_is f g (sym (ap is_ne began) ∙ alike) ∙ other.0 in
+      let next : second_eight a ≡ second_eight b = sym first.1 ∙ equal_is s t (sym (ap is_ne compared) ∙ even) ∙ other.1 in
+      let all : front_from 16 0 a ≡ front_from 16 0 b = both a ∙ (λ i. same i * 18446744073709551616 + next i) ∙ sym (both b) in
+      let last : front_from 16 0 a % 256 ≡ 0 = omega (arith, both a, first.1, ends) in
+      let few = is_short 15 a first.2 (sym (last_byte 15 0 a (printable_are_bytes a first.2)) ∙ last) in
+      let fewer = is_short 15 b other.2 (sym (last_byte 15 0 b (printable_are_bytes b other.2)) ∙ sym (ap (λ n. n % 256) all) ∙ last) in
+      sym (short 16 0 a b (printable_are_bytes a first.2) (printable_are_bytes b other.2) (omega (arith, few)) (omega (arith, fewer)) all
+      ∙ cmp_same (length a) (length b) (same_length 16 0 a b first.2 other.2 (omega (arith, few)) (omega (arith, fewer)) all))

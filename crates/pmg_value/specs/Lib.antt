@@ -17,6 +17,7 @@ pub mod RefusalText
 pub mod Refusals
 pub mod Rows
 pub mod Signatures
+pub mod SmallBytes
 pub mod Spelling
 pub mod Text
 pub mod Words

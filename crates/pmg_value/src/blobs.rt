@@ -5,7 +5,7 @@ ghost use Rattle.pmg_value.specs.Blobs.{is_zero, is_text, is_blob};
 ghost use Rattle.pmg_value.specs.declared.refusal.Refusal.TheVariants as refusals;
 
 use crate::refusal::Refusal;
-use bytes::Bytes;
+use crate::small_bytes::SmallBytes;
 use std::alloc::{AllocError, Global};
 use std::marker::Model;
 
@@ -13,10 +13,10 @@ use std::marker::Model;
 /// may be.
 pub const MAX_BLOB_LEN: usize = 1_048_571;
 
-/// A string's bytes: at most 1,048,571, none of them zero. A copy shares the bytes.
+/// A string's bytes: at most 1,048,571, none of them zero. At most 22 take no memory, and copies of more share them.
 #[derive(PartialEq, Eq)]
 pub struct Text {
-    bytes: Bytes,
+    bytes: SmallBytes,
 }
 
 impl Drop for Text {
@@ -39,9 +39,9 @@ impl Model for Text {
     ghost inverse = { λ v. record { bytes = v } };
 }
 
-/// A byte object's bytes: at most 1,048,571. A copy shares the bytes.
+/// A byte object's bytes: at most 1,048,571. At most 22 take no memory, and copies of more share them.
 pub struct Octets {
-    bytes: Bytes,
+    bytes: SmallBytes,
 }
 
 impl Drop for Octets {
@@ -97,7 +97,7 @@ impl Text {
         ensures { IfOk result (λ t. t ≡ bytes.now) }
     {
         Ok(Text {
-            bytes: Bytes::copy_from_slice(alloc, bytes)?,
+            bytes: SmallBytes::of(alloc, bytes)?,
         })
     }
 
@@ -106,7 +106,7 @@ impl Text {
         ensures value { result.now ≡ self.now }
         ensures text { IsTrue (is_text result.now) }
     {
-        self.bytes.as_slice()
+        self.bytes.as_bytes()
     }
 
     /// Another handle of the same bytes.
@@ -114,7 +114,7 @@ impl Text {
         ensures { IfOk result (λ t. t ≡ self.now) }
     {
         Ok(Text {
-            bytes: self.bytes.clone()?,
+            bytes: self.bytes.copy()?,
         })
     }
 }
@@ -137,7 +137,7 @@ impl Octets {
         ensures { IfOk result (λ o. o ≡ bytes.now) }
     {
         Ok(Octets {
-            bytes: Bytes::copy_from_slice(alloc, bytes)?,
+            bytes: SmallBytes::of(alloc, bytes)?,
         })
     }
 
@@ -146,7 +146,7 @@ impl Octets {
         ensures value { result.now ≡ self.now }
         ensures blob { IsTrue (is_blob result.now) }
     {
-        self.bytes.as_slice()
+        self.bytes.as_bytes()
     }
 
     /// Another handle of the same bytes.
@@ -154,7 +154,7 @@ impl Octets {
         ensures { IfOk result (λ o. o ≡ self.now) }
     {
         Ok(Octets {
-            bytes: self.bytes.clone()?,
+            bytes: self.bytes.copy()?,
         })
     }
 }

@@ -11,6 +11,7 @@ mod process;
 mod refusal;
 mod refusal_text;
 mod rows;
+mod small_bytes;
 mod value;
 mod value_text;
 mod word;

@@ -7,7 +7,6 @@ ghost use Rattle.pmg_value.specs.declared.refusal.Refusal.TheVariants as refusal
 
 use crate::refusal::Refusal;
 use crate::word::Word;
-use bytes::Bytes;
 use std::alloc::{AllocError, Global};
 use std::marker::Model;
 
@@ -18,7 +17,7 @@ pub const MAX_NSPACE_LEN: usize = 255;
 pub const MAX_KEY_LEN: usize = 511;
 
 /// A namespace's name: 1 to 255 bytes of 0x21 to 0x7E (PMIx Standard 5.0, pmix_nspace_t). Its order is
-/// that of its bytes. A copy shares the bytes.
+/// that of its bytes. One of at most 22 bytes takes no memory, and copies of a longer one share its bytes.
 #[derive(Drop, PartialEq, Eq, PartialOrd, Ord)]
 pub struct Nspace {
     name: Word,
@@ -39,7 +38,7 @@ impl Model for Nspace {
 }
 
 /// A key: 1 to 511 bytes of 0x20 to 0x7E (PMIx Standard 5.0, pmix_key_t). Its order is that of its
-/// bytes. A copy shares the bytes.
+/// bytes. One of at most 22 bytes takes no memory, and copies of a longer one share its bytes.
 #[derive(Drop, PartialEq, Eq, PartialOrd, Ord)]
 pub struct Key {
     text: Word,
@@ -98,7 +97,7 @@ impl Nspace {
         ensures { result ≡ host_name }
     {
         Nspace {
-            name: Word::new(Bytes::from_static(b"pmix.host")),
+            name: Word::short(b"pmix.host"),
         }
     }
 
@@ -131,7 +130,7 @@ impl Nspace {
         ensures { IfOk result (λ n. n ≡ name.now) }
     {
         Ok(Nspace {
-            name: Word::new(Bytes::copy_from_slice(alloc, name)?),
+            name: Word::of(alloc, name)?,
         })
     }
 
@@ -166,7 +165,7 @@ impl Key {
         ensures { result ≡ codes "pmix.term" }
     {
         Key {
-            text: Word::new(Bytes::from_static(b"pmix.term")),
+            text: Word::short(b"pmix.term"),
         }
     }
 
@@ -199,7 +198,7 @@ impl Key {
         ensures { IfOk result (λ k. k ≡ key.now) }
     {
         Ok(Key {
-            text: Word::new(Bytes::copy_from_slice(alloc, key)?),
+            text: Word::of(alloc, key)?,
         })
     }
 

@@ -6,26 +6,36 @@ ghost use Rattle.std.specs.Cmp.Lexicographic.{pointwise, slice_cmp, nat_list_eq_
 ghost use Rattle.std.specs.Cmp.{partial_equiv_from_equiv};
 ghost use Rattle.std.specs.Prelude.{nat_eq};
 ghost use Rattle.pmg_value.specs.Names.{is_printable};
-ghost use Rattle.pmg_value.specs.Words.{first_eight};
+ghost use Rattle.pmg_value.specs.Words.{first_eight, second_eight};
+ghost use Rattle.pmg_value.specs.declared.small_bytes.TheConstants.{MAX_IN_PLACE};
 
-use bytes::{ByteStr, Bytes};
-use std::alloc::AllocError;
+use crate::small_bytes::{MAX_IN_PLACE, SmallBytes};
+use std::alloc::{AllocError, Global};
 use std::cmp::Ordering;
 use std::marker::Model;
 
-/// How many bytes the front of a word has.
-const FRONT: usize = 8;
+/// How many bytes of a word are kept as a number.
+const EIGHT: usize = 8;
 
-/// A text of printable ASCII, whose first bytes are kept beside it as a number, so that most words are told apart without a
-/// look at their bytes. Its order is that of its bytes. A copy shares the bytes.
+/// How many values a byte has. A multiple of it ends in a zero, which no word has.
+const BYTE: u64 = 256;
+
+/// A text of printable ASCII, whose first bytes are kept beside it as two numbers, so that most words are told apart without a
+/// look at their bytes. Its order is that of its bytes. One of at most 22 bytes takes no memory, and copies of a longer one share
+/// its bytes.
 pub(crate) struct Word {
-    front: u64,
-    text: ByteStr,
+    first: u64,
+    second: u64,
+    text: SmallBytes,
 }
 
 impl Drop for Word {
     fn drop(self) {
-        let Word { front: _, text: _ } = self;
+        let Word {
+            first: _,
+            second: _,
+            text: _,
+        } = self;
     }
 }
 
@@ -36,24 +46,38 @@ impl Model for Word {
     ghost Value = { List ℕ };
 
     ghost use Rattle.pmg_value.specs.Names.{is_printable};
-    ghost use Rattle.pmg_value.specs.Words.{first_eight};
+    ghost use Rattle.pmg_value.specs.Words.{first_eight, second_eight};
 
     ghost view = { λ a. a.text };
 
-    ghost invariant = { λ a. (a.front ≡ first_eight a.text) × IsTrue (list_all is_printable a.text) };
+    ghost invariant = { λ a. (a.first ≡ first_eight a.text) × (a.second ≡ second_eight a.text) × IsTrue (list_all is_printable a.text) };
 
-    ghost inverse = { λ v. record { front = first_eight v; text = v } };
+    ghost inverse = { λ v. record { first = first_eight v; second = second_eight v; text = v } };
 }
 
 impl Word {
     /// The word of these bytes.
-    pub fn new(bytes: Bytes) -> Word
-        requires { IsTrue (list_all is_printable bytes) }
-        ensures { result ≡ bytes }
+    pub fn of(alloc: Global, bytes: &[u8]) -> Result<Word, AllocError>
+        requires { IsTrue (list_all is_printable bytes.now) }
+        ensures { IfOk result (λ w. w ≡ bytes.now) }
+    {
+        Ok(Word {
+            first: front_of(bytes),
+            second: second_of(bytes),
+            text: SmallBytes::of(alloc, bytes)?,
+        })
+    }
+
+    /// The word of these bytes, which are few.
+    pub fn short(bytes: &[u8]) -> Word
+        requires printable { IsTrue (list_all is_printable bytes.now) }
+        requires few { length bytes.now ≤ MAX_IN_PLACE }
+        ensures { result ≡ bytes.now }
     {
         Word {
-            front: front_of(bytes.as_slice()),
-            text: ByteStr::from_known_utf8(bytes),
+            first: front_of(bytes),
+            second: second_of(bytes),
+            text: SmallBytes::few(bytes),
         }
     }
 
@@ -61,7 +85,7 @@ impl Word {
     pub fn as_bytes(&self) -> &[u8]
         ensures { result.now ≡ self.now }
     {
-        self.text.as_bytes().as_slice()
+        self.text.as_bytes()
     }
 
     /// Another handle of the same bytes.
@@ -69,8 +93,9 @@ impl Word {
         ensures { IfOk result (λ w. w ≡ self.now) }
     {
         Ok(Word {
-            front: self.front,
-            text: self.text.clone()?,
+            first: self.first,
+            second: self.second,
+            text: self.text.copy()?,
         })
     }
 
@@ -78,15 +103,18 @@ impl Word {
     fn compare(&self, other: &Word) -> Ordering
         ensures { result ≡ slice_cmp nat_cmp self.now other.now }
     {
-        let fronts = self.front.cmp(&other.front);
-        if fronts.is_ne() {
-            return fronts;
+        let firsts = self.first.cmp(&other.first);
+        if firsts.is_ne() {
+            return firsts;
         }
-        let (len, others) = (self.text.len(), other.text.len());
-        if len <= FRONT && others <= FRONT {
-            return len.cmp(&others);
+        let seconds = self.second.cmp(&other.second);
+        if seconds.is_ne() {
+            return seconds;
         }
-        self.text.cmp(&other.text)
+        if self.second % BYTE == 0 {
+            return Ordering::Equal;
+        }
+        self.as_bytes().cmp(other.as_bytes())
     }
 }
 
@@ -143,9 +171,24 @@ fn byte_at(bytes: &[u8], index: usize) -> u64
 fn front_of(bytes: &[u8]) -> u64
     ensures { result ≡ first_eight bytes.now }
 {
+    if bytes.len() >= EIGHT {
+        return u64::from_be_bytes([
+            bytes[0], bytes[1], bytes[2], bytes[3], bytes[4], bytes[5], bytes[6], bytes[7],
+        ]);
+    }
     let first = byte_at(bytes, 0) * 256 + byte_at(bytes, 1);
     let second = byte_at(bytes, 2) * 256 + byte_at(bytes, 3);
     let third = byte_at(bytes, 4) * 256 + byte_at(bytes, 5);
     let fourth = byte_at(bytes, 6) * 256 + byte_at(bytes, 7);
     ((first * 65_536 + second) * 65_536 + third) * 65_536 + fourth
+}
+
+/// The eight bytes after the first eight as a number, with zeros in the place of those that there are not.
+fn second_of(bytes: &[u8]) -> u64
+    ensures { result ≡ second_eight bytes.now }
+{
+    if bytes.len() <= EIGHT {
+        return 0;
+    }
+    front_of(&bytes[EIGHT..])
 }
