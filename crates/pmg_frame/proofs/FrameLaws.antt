@@ -10,7 +10,6 @@ use Rattle.pmg_wire.specs.Reading.{Place, past, front, Read, fault, ◌>>=◌, c
 use Rattle.pmg_wire.proofs.Steps.{place, IfRead, bind_if, check_if, choice_if, done_if, bind_ok, Takes-then, IsBytes-after, IsBytes-take, IsBytes-drop, wide32, number_if, number_again, byte_if, byte_again}
 use Rattle.pmg_frame.specs.declared.frame.Frame.{Frame}
 use Rattle.pmg_frame.specs.declared.frame.Frame.TheVariants as frames
-use Rattle.pmg_frame.specs.Fences.{Header, FenceAsk}
 use Rattle.pmg_frame.specs.Grammar.{IsFrame, IsSpelt, SpellsFrame}
 use Rattle.pmg_frame.specs.Spelling.{header_body, fence_ask_body}
 use Rattle.pmg_frame.specs.RunSpelling.{short_header, short_fence_ask}

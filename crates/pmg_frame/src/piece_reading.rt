@@ -11,6 +11,9 @@ use pmg_value::{Cause, Key, Proc, Refusal};
 use pmg_wire::{Admits, Cursor, get_key, get_proc, get_value};
 use std::alloc::Global;
 
+/// The fewest bytes that an entry takes: the length of a key, a key of one byte, a number, and a value of two bytes.
+const LEAST_ENTRY_SIZE: usize = 13;
+
 // Whether the key is greater than that of the entry before, where there is one.
 fn is_key_after(before: Option<&PieceEntry>, key: &Key) -> bool
     ensures { result ≡ is_after (option_map (λ e. entry_of e.now) before.entry) key.now }
@@ -54,7 +57,8 @@ fn get_entries(
 ) -> Result<Vec<PieceEntry>, Refusal>
     ensures { Reads (λ es. map entry_of es.items) result at.new (many (read_entry from to) count None at.old) }
 {
-    let mut entries = Vec::new(alloc);
+    let most = at.rest().len() / LEAST_ENTRY_SIZE;
+    let mut entries = Vec::with_capacity(alloc, most.min(count as usize))?;
     for _ in 0..count {
         let entry = get_entry(alloc, from, to, entries.last(), at)?;
         entries.push(entry)?;

@@ -32,7 +32,10 @@ pub(crate) fn is_member(registry: &Registry, proc: &Proc) -> bool
 pub(crate) fn is_misnamed(registry: &Registry, proc: &Proc) -> bool
     ensures { result ≡ is_misnamed registry.now proc.now }
 {
-    is_registered(registry, &proc.nspace) && !is_member(registry, proc)
+    match registry.homes(&proc.nspace) {
+        Some(homes) => homes.len() <= proc.rank.number() as usize,
+        None => false,
+    }
 }
 
 /// Whether a caller is misnamed at every node: its namespace begins with `pmix`, or it is none of its namespace.

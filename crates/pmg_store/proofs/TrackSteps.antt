@@ -67,25 +67,25 @@ module _ (old new : BTreeMap Proc (Option Track)) (p : Proc) (w : Option Track) 
       (λ t same. subst (λ o. IfSome (placed o) IsTrack) (sym (put q ∙ ap (λ b. cond b (Some w) (get proc_cmp old q)) t)) is)
       (λ t. subst (λ o. IfSome (placed o) IsTrack) (sym (put_there q t)) (are q))
 
-  -- the place was there
-  module _ (place : Option Track) (there : get proc_cmp old p ≡ Some place) where
-    held_here : held_at old p ≡ held_in place
-    held_here = ap (λ o. held_in (placed o)) there
-
+  -- what was held of the process
+  module _ (place : Option Track) (held_here : held_at old p ≡ held_in place) where
     pub put_same : held_in w ≡ held_in place → (q : Proc) → held_at new q ≡ held_at old q
     put_same is q = put_held q ∙ at_cases p q (cond (is_at (proc_cmp p) q) (held_in w) (held_at old q) ≡ held_at old q)
         (λ t same. ap (λ b. cond b (held_in w) (held_at old q)) t ∙ is ∙ sym held_here ∙ ap (held_at old) same)
         (λ t. ap (λ b. cond b (held_in w) (held_at old q)) t)
 
-    pub put_taken : (before : BTreeMap Proc (Option Track)) → ((q : Proc) → held_at old q ≡ held_at before q) → (x : Core)
-        → held_in w ≡ Some (join_to join_cores (held_in place) x)
-        → (q : Proc) → held_at new q ≡ cond (is_at (proc_cmp p) q) (Some (join_to join_cores (held_at before p) x)) (held_at before q)
-    put_taken before same x is q =
-        put_held q ∙ (λ i. cond (is_at (proc_cmp p) q) ((is ∙ ap (λ o. Some (join_to join_cores o x)) (sym held_here ∙ same p)) i) (same q i))
+    pub put_taken : (x : Core) → held_in w ≡ Some (join_to join_cores (held_in place) x)
+        → (q : Proc) → held_at new q ≡ cond (is_at (proc_cmp p) q) (Some (join_to join_cores (held_at old p) x)) (held_at old q)
+    put_taken x is q =
+        put_held q ∙ (λ i. cond (is_at (proc_cmp p) q) ((is ∙ ap (λ o. Some (join_to join_cores o x)) (sym held_here)) i) (held_at old q))
 
     pub put_joined : (x : Option Core) → held_in w ≡ join_options join_cores (held_in place) x
         → (q : Proc) → held_at new q ≡ cond (is_at (proc_cmp p) q) (join_options join_cores (held_at old p) x) (held_at old q)
     put_joined x is q = put_held q ∙ (λ i. cond (is_at (proc_cmp p) q) ((is ∙ ap (λ o. join_options join_cores o x) (sym held_here)) i) (held_at old q))
+
+-- what is held in a place that is there
+pub held_there : (places : BTreeMap Proc (Option Track)) (p : Proc) (place : Option Track) → get proc_cmp places p ≡ Some place → held_at places p ≡ held_in place
+held_there places p place there = ap (λ o. held_in (placed o)) there
 
 pub track_there : (places : BTreeMap Proc (Option Track)) (p : Proc) (place : Option Track) → AreTracks places → get proc_cmp places p ≡ Some place → IfSome place IsTrack
 track_there places p place are there = subst (λ o. IfSome (placed o) IsTrack) there (are p)

@@ -152,11 +152,36 @@ impl Tracks {
             (held_at self.old.places q)) }
         ensures same { OnErr result ((q : Proc) → held_at self.new.places q ≡ held_at self.old.places q) }
     {
-        make_place(&mut self.places, proc)?;
         match self.places.get_mut(proc) {
             Some(place) => absorb_in(place, self.alloc, from, to, entries),
-            None => unreachable!(),
+            None => self.absorb_first(proc, from, to, entries),
         }
+    }
+
+    /// Takes the commits from+1 to to of the process, of which nothing was taken, and their entries. Where an allocation fails,
+    /// the tracks stay as they are.
+    fn absorb_first(
+        &mut self,
+        proc: &Proc,
+        from: u64,
+        to: u64,
+        entries: Vec<PieceEntry>,
+    ) -> Result<(), AllocError>
+        requires kept { AreTracks self.old.places }
+        requires some { from < to }
+        requires bound { to ≤ MAX_COMMIT }
+        requires first { get proc_cmp self.old.places proc.now ≡ None }
+        ensures kept { AreTracks self.new.places }
+        ensures taken { OnOk result ((q : Proc) → held_at self.new.places q
+            ≡ cond (is_at (proc_cmp proc.now) q)
+            (Some (join_to join_cores (held_at self.old.places proc.now) (core_of (told from to (map entry_of entries.items)))))
+            (held_at self.old.places q)) }
+        ensures same { OnErr result ((q : Proc) → held_at self.new.places q ≡ held_at self.old.places q) }
+    {
+        let mut place = None;
+        absorb_in(&mut place, self.alloc, from, to, entries)?;
+        self.places.insert(proc.copy()?, place)?;
+        Ok(())
     }
 
     /// Makes room for what the track has, of the process.

@@ -10,7 +10,7 @@ use Rattle.pmg_frame.proofs.piece_reading.get_entries.Goals as goal
 
 pub returns-in_err-entry : goal.returns-in_err-entry
 returns-in_err-entry c =
-    let err = err_from_is_err_and c.from_residual.result c.from_residual.ensures.1 in
+    let err = err_from_is_err_and c.from_residual-in_err-entry.result c.from_residual-in_err-entry.ensures.1 in
     let read = read_entry c.args.from c.args.to in
     let front = map entry_of c.loop.entries.items in
     let last = last_seen entry_of c.last.result c.loop.entries.items (rw c.deref.ensures.value at c.last.ensures.value) in

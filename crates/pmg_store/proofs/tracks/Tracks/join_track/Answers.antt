@@ -4,7 +4,7 @@ use Rattle.std.specs.BTreeMap.{get}
 use Rattle.pmg_value.specs.Process.{proc_cmp}
 use Rattle.pmg_value.proofs.RowLemmas.{found_is, some_found}
 use Rattle.pmg_store.specs.Tracks.{held_in, IsRoomFor}
-use Rattle.pmg_store.proofs.TrackSteps.{put_are, put_joined, put_there, track_there}
+use Rattle.pmg_store.proofs.TrackSteps.{held_there, put_are, put_joined, put_there, track_there}
 use Rattle.pmg_store.proofs.tracks.Tracks.join_track.Goals as goal
 
 pub join_in-requires-clause-kept : goal.join_in-requires-clause-kept
@@ -31,7 +31,7 @@ returns-clause-joined c =
     let old = c.args.self.now.places in
     let w = c.join_in.new.place in
     let there = found_is c.get_mut.result c.in-Some.place (get proc_cmp old c.args.proc) c.in-Some.is c.get_mut.ensures.value in
-    put_joined old (c.get_mut.follows.lender w) c.args.proc w ((c.get_mut.follows.holds w).3 (some_found there)).0 c.in-Some.place.now there (held_in (Some c.args.track)) c.join_in.ensures.joined
+    put_joined old (c.get_mut.follows.lender w) c.args.proc w ((c.get_mut.follows.holds w).3 (some_found there)).0 c.in-Some.place.now (held_there old c.args.proc c.in-Some.place.now there) (held_in (Some c.args.track)) c.join_in.ensures.joined
 
 pub returns-clause-stay : goal.returns-clause-stay
 returns-clause-stay c =

@@ -4,7 +4,7 @@ use Rattle.std.proofs.lemmas.Result.{on_ok_weaker}
 use Rattle.pmg_value.specs.Process.{proc_cmp}
 use Rattle.pmg_value.proofs.RowLemmas.{found_is, some_found}
 use Rattle.pmg_store.specs.Tracks.{IsRoomFor}
-use Rattle.pmg_store.proofs.TrackSteps.{alike_held, alike_are, alike_room, put_are, put_same, put_here, put_there, track_there}
+use Rattle.pmg_store.proofs.TrackSteps.{alike_held, alike_are, alike_room, held_there, put_are, put_same, put_here, put_there, track_there}
 use Rattle.pmg_store.proofs.tracks.Tracks.make_room.Goals as goal
 
 pub returns-in_err-make_place-clause-kept : goal.returns-in_err-make_place-clause-kept
@@ -35,7 +35,7 @@ returns-clause-same c q =
     let mid = c.make_place.new.tree in
     let w = c.make_room_in.new.place in
     let there = found_is c.get_mut.result c.in-Some.place (get proc_cmp mid c.args.proc.now) c.in-Some.is c.get_mut.ensures.value in
-    put_same mid (c.get_mut.follows.lender w) c.args.proc.now w ((c.get_mut.follows.holds w).3 (some_found there)).0 c.in-Some.place.now there c.make_room_in.ensures.same q
+    put_same mid (c.get_mut.follows.lender w) c.args.proc.now w ((c.get_mut.follows.holds w).3 (some_found there)).0 c.in-Some.place.now (held_there mid c.args.proc.now c.in-Some.place.now there) c.make_room_in.ensures.same q
     ∙ alike_held c.args.self.now.places mid c.make_place.ensures.same q
 
 pub returns-clause-room : goal.returns-clause-room
