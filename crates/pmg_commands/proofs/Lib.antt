@@ -1,5 +1,6 @@
 pub mod CommandLemmas
 pub mod MergeLemmas
 pub mod TextLemmas
+pub mod LineLemmas
 pub mod RunLemmas
 pub mod ScriptLemmas

@@ -1,16 +1,15 @@
 -- What `hex` decodes is what the digits spell in pairs.
-use Rattle.std.proofs.Common.{arith, ◌-◌, ◌≡◌, inl, inr, ℕ, suc, ◌++◌, ◌<◌, ◌≤◌, append_assoc, append-nil, drop-cons, drop-drop, get_or, subst, take, drop, ◌==◌, Bool, true, false, cond, ◌&&◌, not, ◌+◌, ◌*◌, ◌%◌, List, [], ◌∷◌, length, Option, Some, None, Result, Ok, Err, unwrap_or, refl, sym, ap, ◌∙◌}
+use Rattle.std.proofs.Common.{arith, ◌≡◌, inl, inr, ℕ, suc, ◌++◌, ◌≤◌, subst, ◌==◌, Bool, true, false, cond, ◌&&◌, not, ◌+◌, ◌*◌, ◌%◌, List, [], ◌∷◌, length, Option, Some, None, Result, Ok, Err, unwrap_or, refl, sym, ap, ◌∙◌}
 use Rattle.std.specs.Prelude.{is_some, IsErr}
 use Rattle.std.specs.List.{position, position_or_len, AllPass}
-use Rattle.std.proofs.lemmas.List.{take-append-drop, take_all, drop_all, length-drop}
 use Rattle.std.proofs.lemmas.List.Elements.{All-nil, All-cons}
 use Rattle.std.proofs.lemmas.Bool.{le-ltb, lt-ltb, false≢true, false_from_ne_true, or_cases, eqb-true, cases_lt}
 use Rattle.hex.specs.Hex.{decode_of, decode_pairs, digit_or_error, hex_digit_value, is_hex_digit, ◌>>=◌}
 use Rattle.hex.specs.declared.error.FromHexError.{FromHexError}
-use Rattle.hex.proofs.HexLemmas.{decode_of-even, decode_of-ok, decode_of-digits, decode_pairs-ok}
+use Rattle.hex.proofs.HexLemmas.{decode_of-even, decode_of-digits, decode_pairs-ok}
 use Rattle.pmg_value.specs.declared.refusal.Cause.TheVariants as causes
 use Rattle.pmg_wire.specs.Reading.{fault}
-use Rattle.pmg_commands.specs.Text.{is_white, is_stray, digits_of, paired, unless_stray, decoded, Spells}
+use Rattle.pmg_commands.specs.Text.{is_white, is_stray, digits_of, paired, unless_stray, decoded}
 
 -- one pair, and then the others
 first_pair : (high low : Option ℕ) (c d i : ℕ) (rest : Result (List ℕ) FromHexError) (others bytes : List ℕ) →
@@ -121,7 +120,7 @@ clean_text text bytes even is =
     let found = no_stray text (hex_from_pairs 0 (digits_of text) bytes decodes) in
     rw even (ap (λ place. unless_stray place (digits_of text)) found ∙ ap Ok pairs)
 
--- ---- runs of digits
+-- ---- digits alone
 not_blank : (x : ℕ) → is_hex_digit x ≡ true → is_white x ≡ false
 not_blank x h = false_from_ne_true (is_white x) (λ b. elim (or_cases _ _ b) [
   | inr e ↦ none 10 e refl
@@ -137,11 +136,13 @@ not_blank x h = false_from_ne_true (is_white x) (λ b. elim (or_cases _ _ b) [
     none : (blank : ℕ) → (x == blank) ≡ true → is_hex_digit blank ≡ false → ⊥
     none blank e other = false≢true (sym other ∙ ap is_hex_digit (sym (eqb-true x blank e)) ∙ h)
 
--- the digits of a run, and of what is after it
-digits_run : (run rest : List ℕ) → AllHex run → digits_of (run ++ rest) ≡ run ++ digits_of rest
-digits_run [] rest all = refl
-digits_run (x ∷ xs) rest all =
-    ap (λ b. cond (not b) (x ∷ digits_of (xs ++ rest)) (digits_of (xs ++ rest))) (not_blank x all.0) ∙ ap (λ ds. x ∷ ds) (digits_run xs rest all.1)
+-- digits alone are their own digits
+digits_alone : (digits : List ℕ) → AllHex digits → digits_of digits ≡ digits
+digits_alone [] all = refl
+digits_alone (x ∷ xs) all = ap (λ b. cond (not b) (x ∷ digits_of xs) (digits_of xs)) (not_blank x all.0) ∙ ap (λ ds. x ∷ ds) (digits_alone xs all.1)
+
+pub digits_decoded : (digits bytes : List ℕ) → decode_pairs 0 digits ≡ Ok bytes → digits_of digits ≡ digits
+digits_decoded digits bytes is = digits_alone digits (hex_from_pairs 0 digits bytes is)
 
 ok_is : (a b : List ℕ) → ◌≡◌ {A = Result (List ℕ) FromHexError} (Ok a) (Ok b) → a ≡ b
 ok_is a b h = ap (λ r. or_this r) h
@@ -161,7 +162,7 @@ pair_more (Some h) (Some l) c d i j (Ok tail) others bytes more is next =
     ap (λ r. r >>= λ t. Ok ((h * 16 + l) ∷ t)) (next tail refl) ∙ ap (λ bs. Ok (bs ++ more)) (ok_is ((h * 16 + l) ∷ tail) bytes is)
 
 -- pairs after pairs
-pairs_more : (i j : ℕ) (run digits bytes more : List ℕ) → decode_pairs i run ≡ Ok bytes → ((k : ℕ) → decode_pairs k digits ≡ Ok more)
+pub pairs_more : (i j : ℕ) (run digits bytes more : List ℕ) → decode_pairs i run ≡ Ok bytes → ((k : ℕ) → decode_pairs k digits ≡ Ok more)
     → decode_pairs j (run ++ digits) ≡ Ok (bytes ++ more)
 unfolding decode_pairs
 pairs_more i j [] digits bytes more is rest = rest j ∙ ap (λ bs. Ok (bs ++ more)) (ok_is [] bytes is)
@@ -170,53 +171,12 @@ pairs_more i j (high ∷ low ∷ run) digits bytes more is rest =
     pair_more (hex_digit_value high) (hex_digit_value low) high low i j (decode_pairs (i + 2) run) (decode_pairs (j + 2) (run ++ digits)) bytes more is
     (λ tail is_tail. pairs_more (i + 2) (j + 2) run digits tail more is_tail rest)
 
--- a run, and what is after it
-pub spells_run : (text : List ℕ) (size : ℕ) (bytes more : List ℕ) → decode_of (take size text) ≡ Ok bytes → Spells (drop size text) more → Spells text (bytes ++ more)
-spells_run text size bytes more is rest i =
-    let run = take size text in
-    let pairs : decode_pairs 0 run ≡ Ok bytes = sym (decode_of-even run (decode_of-ok run bytes is).0) ∙ is in
-    ap (λ t. decode_pairs i (digits_of t)) (sym (take-append-drop size text))
-    ∙ ap (decode_pairs i) (digits_run run (drop size text) (hex_from_pairs 0 run bytes pairs))
-    ∙ pairs_more 0 i run (digits_of (drop size text)) bytes more pairs rest
-
--- a blank at the front
-pub spells_blank : (blank : ℕ) (rest more : List ℕ) → is_white blank ≡ true → Spells rest more → Spells (blank ∷ rest) more
-spells_blank blank rest more b spells i = ap (λ t. decode_pairs i (cond (not t) (blank ∷ digits_of rest) (digits_of rest))) b ∙ spells i
-
--- a run, a blank, and what is after it
-pub spells_line : (text : List ℕ) (size : ℕ) (d : ℕ) (bytes more : List ℕ) → size < length text → is_white (get_or text size d) ≡ true → decode_of (take size text) ≡ Ok bytes
-    → Spells (drop (size + 1) text) more → Spells text (bytes ++ more)
-spells_line text size d bytes more within b is rest =
-    let next : size + 1 ≡ suc size = omega arith in
-    spells_run text size bytes more is
-    (subst (λ t. Spells t more) (sym (drop-cons text size d within)) (spells_blank (get_or text size d) (drop (suc size) text) more b (subst (λ n. Spells (drop n text) more) next rest)))
-
-pub spells_none : Spells [] []
-unfolding decode_pairs
-spells_none i = refl
+-- the digits of the text come in pairs, which `hex` decodes to the bytes
+abbrev pub Spells : List ℕ → List ℕ → Type 0
+Spells text bytes = (i : ℕ) → decode_pairs i (digits_of text) ≡ Ok bytes
 
 pub spelled : (text bytes : List ℕ) → Spells text bytes → decoded text ≡ Ok bytes
 spelled text bytes spells =
     let twice = (decode_pairs-ok 0 (digits_of text) bytes (spells 0)).1 in
     let even : length (digits_of text) % 2 ≡ 0 = omega (arith, twice) in
     clean_text text bytes even (decode_of-even (digits_of text) even ∙ spells 0)
-
-drop_more : (text : List ℕ) (at size : ℕ) → drop size (drop at text) ≡ drop (at + size) text
-drop_more text at size = drop-drop size at text ∙ ap (λ n. drop n text) (omega arith)
-
--- a run is taken, and then the next
-pub next_run : (text rest : List ℕ) (at size : ℕ) (bytes block new : List ℕ) → rest ≡ take (length text - at) (drop at text) → new ≡ bytes ++ block → at ≤ length text → size ≤ length rest
-    → ((more : List ℕ) → Spells (drop at text) more → Spells text (bytes ++ more)) → ((more : List ℕ) → Spells (drop size rest) more → Spells rest (block ++ more))
-    → (at + size ≤ length text) × ((more : List ℕ) → Spells (drop (at + size) text) more → Spells text (new ++ more))
-next_run text rest at size bytes block new is_rest is up within before run =
-    let all : rest ≡ drop at text = is_rest ∙ ap (λ n. take n (drop at text)) (sym (length-drop at text)) ∙ take_all (length (drop at text)) (drop at text) (omega arith) in
-    let most : size ≤ length text - at = subst (λ n. size ≤ n) (ap length all ∙ length-drop at text) within in (
-      omega (arith, up, most),
-      λ more next. subst (Spells text) (sym (append_assoc bytes block more) ∙ ap (λ bs. bs ++ more) (sym is))
-          (before (block ++ more) (subst (λ t. Spells t (block ++ more)) all (run more (subst (λ t. Spells t more) (sym (ap (drop size) all ∙ drop_more text at size)) next)))),
-    )
-
--- all runs were taken
-pub all_runs : (text : List ℕ) (at : ℕ) (bytes : List ℕ) → length text ≤ at → ((more : List ℕ) → Spells (drop at text) more → Spells text (bytes ++ more)) → decoded text ≡ Ok bytes
-all_runs text at bytes past before =
-    spelled text bytes (subst (Spells text) (append-nil bytes) (before [] (subst (λ t. Spells t []) (sym (drop_all at text past)) spells_none)))

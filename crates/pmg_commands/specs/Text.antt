@@ -1,8 +1,8 @@
 -- Hexadecimal text.
-use Rattle.std.specs.Prelude.{◌≡◌, ℕ, ◌+◌, ◌*◌, ◌%◌, ◌==◌, Bool, ◌&&◌, ◌||◌, not, List, [], ◌∷◌, length, Option, Some, None, Ok, Err, if◌then◌else◌, unwrap_or}
+use Rattle.std.specs.Prelude.{ℕ, ◌+◌, ◌*◌, ◌%◌, ◌==◌, Bool, ◌&&◌, ◌||◌, not, List, [], ◌∷◌, length, Option, Some, None, Ok, Err, if◌then◌else◌, unwrap_or}
 use Rattle.std.specs.List.{filter, position}
 use Rattle.std.specs.declared.result.Result.{Result}
-use Rattle.hex.specs.Hex.{hex_digit_value, is_hex_digit, decode_pairs}
+use Rattle.hex.specs.Hex.{hex_digit_value, is_hex_digit}
 use Rattle.pmg_value.specs.declared.refusal.Cause.TheVariants as causes
 use Rattle.pmg_value.specs.declared.refusal.Fault.{Fault}
 use Rattle.pmg_wire.specs.Reading.{fault}
@@ -39,7 +39,3 @@ unfoldable pub decoded : List ℕ → Result (List ℕ) Fault
 decoded text =
     if length (digits_of text) % 2 == 1 then Err (fault (length text) causes.Hex)
     else unless_stray (position is_stray text) (digits_of text)
-
--- the digits of the text come in pairs, which `hex` decodes to the bytes
-abbrev pub Spells : List ℕ → List ℕ → Type 0
-Spells text bytes = (i : ℕ) → decode_pairs i (digits_of text) ≡ Ok bytes

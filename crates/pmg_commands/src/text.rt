@@ -1,23 +1,14 @@
 //! Hexadecimal text.
-ghost use Rattle.std.specs.Prelude.{◌≡◌, ◌≤◌, ◌++◌, ℕ, List, length, take, drop, IfOk, IfErr, IfSome, IsErr, MatchOption};
+ghost use Rattle.std.specs.Prelude.{◌≡◌, ◌*◌, length, IfOk, IfErr, IfSome, IsErr, IsTrue, MatchOption};
 ghost use Rattle.std.specs.List.{position};
 ghost use Rattle.pmg_wire.specs.Reading.{FailsReading};
 ghost use Rattle.hex.specs.Hex.{decode_of};
-ghost use Rattle.pmg_commands.specs.Text.{is_white, is_stray, digits_of, decoded, Spells};
+ghost use Rattle.pmg_commands.specs.Text.{is_white, is_stray, digits_of, decoded};
 
+use bstr::ByteSlice;
 use hex::FromHexError;
 use pmg_value::{Cause, Fault, Refusal};
 use std::alloc::{AllocError, Global};
-
-/// The most digits that are decoded at once: those of a line.
-const LINE: usize = 64;
-
-/// A run of digits at the front of a text: the bytes that it spells, and how far it goes with the blank after it.
-#[derive(Drop)]
-struct Run {
-    bytes: Vec<u8>,
-    size: usize,
-}
 
 /// The bytes that hexadecimal text spells, two digits each, in either case. Blanks, tabs, CR and LF are
 /// ignored wherever they stand.
@@ -28,7 +19,7 @@ pub fn decode_text(alloc: Global, text: &[u8]) -> Result<Vec<u8>, Refusal>
     ensures bytes { IfOk result (λ bytes. decoded text.now ≡ Ok bytes.items) }
     ensures fault { IfErr result (λ refusal. FailsReading refusal (decoded text.now)) }
 {
-    match decode_runs(alloc, text)? {
+    match decode_lines(alloc, text)? {
         Some(bytes) => Ok(bytes),
         None => decode_digits(alloc, text),
     }
@@ -64,58 +55,30 @@ fn bytes_of(alloc: Global, digits: &[u8]) -> Result<Option<Vec<u8>>, AllocError>
     }
 }
 
-/// The bytes of a text without a fault whose digits stand in runs of even length; of another text none.
-fn decode_runs(alloc: Global, text: &[u8]) -> Result<Option<Vec<u8>>, AllocError>
+/// The bytes of a text each of whose lines is an even number of digits; of another text none.
+fn decode_lines(alloc: Global, text: &[u8]) -> Result<Option<Vec<u8>>, AllocError>
     ensures { IfOk result (λ found. IfSome found (λ bytes. decoded text.now ≡ Ok bytes.items)) }
 {
-    let mut bytes = Vec::with_capacity(alloc, text.len() / 2)?;
-    let mut at = 0;
-    while at < text.len() {
-        match first_run(alloc, &text[at..])? {
-            Some(run) if run.size > 0 => {
-                bytes.extend_from_slice(&run.bytes)?;
-                at += run.size;
-            }
-            _ => return Ok(None),
+    let mut bytes = vec![in alloc; 0; text.len() / 2]?;
+    let mut end = 0;
+    for line in text.lines() {
+        let start = end;
+        end += line.len() / 2;
+        if line.len() % 2 == 1 || !decode_line(line, &mut bytes[start..end]) {
+            return Ok(None);
         }
     }
+    bytes.truncate(end);
+    bytes.shrink_to_fit();
     Ok(Some(bytes))
 }
 
-/// The first run of digits, or as much of it as a line has; none where the text does not begin with one of even length.
-fn first_run(alloc: Global, text: &[u8]) -> Result<Option<Run>, AllocError>
-    ensures within { IfOk result (λ found. IfSome found (λ run. run.size ≤ length text.now)) }
-    ensures spells { IfOk result (λ found. IfSome found (λ run. (more : List ℕ)
-        → Spells (drop run.size text.now) more → Spells text.now (run.bytes.items ++ more))) }
+/// Decodes digits, two for each of these bytes, and says whether all of them are digits.
+fn decode_line(digits: &[u8], bytes: &mut [u8]) -> bool
+    requires { length digits.now ≡ 2 * length bytes.old }
+    ensures { IsTrue result → decode_of digits.now ≡ Ok bytes.new }
 {
-    let line = text.len().min(LINE);
-    if let Some(bytes) = bytes_of(alloc, &text[..line])? {
-        return Ok(Some(run_of(text, bytes, line)));
-    }
-    let Some(size) = text[..line].iter().position(|byte| is_blank(*byte)) else {
-        return Ok(None);
-    };
-    match bytes_of(alloc, &text[..size])? {
-        Some(bytes) => Ok(Some(run_of(text, bytes, size))),
-        None => Ok(None),
-    }
-}
-
-/// The run of that length at the front of the text, which spells these bytes, with a blank after it.
-fn run_of(text: &[u8], bytes: Vec<u8>, size: usize) -> Run
-    requires within { size ≤ length text.now }
-    requires decodes { decode_of (take size text.now) ≡ Ok bytes.items }
-    ensures within { result.size ≤ length text.now }
-    ensures spells { (more : List ℕ) → Spells (drop result.size text.now) more
-        → Spells text.now (result.bytes.items ++ more) }
-{
-    if size < text.len() && is_blank(text[size]) {
-        return Run {
-            bytes,
-            size: size + 1,
-        };
-    }
-    Run { bytes, size }
+    hex::decode_to_slice(digits, bytes).is_ok()
 }
 
 fn hex_fault(offset: usize) -> Refusal
