@@ -1,0 +1,170 @@
+//! The calls of processes.
+ghost use Rattle.std.specs.Prelude.{◌≡◌, ◌≢◌, ◌++◌, [], ◌∷◌, Ok};
+ghost use Rattle.pmg_daemon.specs.Arguments.{
+  commit_said,
+  define_said,
+  delete_said,
+  end_said,
+  enter_said,
+  get_said,
+  leave_said,
+  nudge_said,
+  put_said,
+  take_said,
+};
+ghost use Rattle.pmg_daemon.specs.Daemons.{Makes, Names, TakesList, TellsNumber};
+ghost use Rattle.pmg_exports.specs.Nodes.{OnNode};
+
+use pmg_daemon::WRONG_HANDLE;
+use pmg_handle::Handle;
+
+/// Names a process for the next fence that is entered or set that is defined (`Daemon::name`).
+pub fn name(node: &mut Handle, nspace: &[u8], rank: u32) -> u32
+    ensures { OnNode node.old.place.value node.new.place.value result (Unit {0})
+        (λ d e. Names d nspace.now rank result e) }
+{
+    let Some(mut daemon) = node.take() else {
+        return WRONG_HANDLE;
+    };
+    let code = daemon.name(nspace, rank);
+    node.put(daemon);
+    code
+}
+
+/// A process puts a value (`Daemon::put`).
+pub fn put(node: &mut Handle, nspace: &[u8], rank: u32, scope: u32, key: &[u8], value: &[u8]) -> u32
+    ensures { OnNode node.old.place.value node.new.place.value result (Unit {0})
+        (λ d e. Makes (put_said nspace.now rank scope key.now value.now) d result e × (e.list ≡ d.list)) }
+{
+    let Some(mut daemon) = node.take() else {
+        return WRONG_HANDLE;
+    };
+    let code = daemon.put(nspace, rank, scope, key, value);
+    node.put(daemon);
+    code
+}
+
+/// A process commits what it put (`Daemon::commit`).
+pub fn commit(node: &mut Handle, nspace: &[u8], rank: u32, number: &mut u64) -> u32
+    ensures { OnNode node.old.place.value node.new.place.value result (number.new ≡ number.old)
+        (λ d e. Makes (commit_said nspace.now rank) d result e × (TellsNumber e result number.old number.new × (e.list ≡ d.list))) }
+{
+    let Some(mut daemon) = node.take() else {
+        return WRONG_HANDLE;
+    };
+    let code = daemon.commit(nspace, rank, number);
+    node.put(daemon);
+    code
+}
+
+/// A process enters a fence (`Daemon::enter`).
+pub fn enter(node: &mut Handle, nspace: &[u8], rank: u32, collect: bool, number: &mut u64) -> u32
+    ensures { OnNode node.old.place.value node.new.place.value result (number.new ≡ number.old)
+        (λ d e. Makes (enter_said nspace.now rank d.list.items collect) d result e × (TellsNumber e result number.old number.new × TakesList d result e)) }
+{
+    let Some(mut daemon) = node.take() else {
+        return WRONG_HANDLE;
+    };
+    let code = daemon.enter(nspace, rank, collect, number);
+    node.put(daemon);
+    code
+}
+
+/// A process leaves a fence (`Daemon::leave`).
+pub fn leave(node: &mut Handle, nspace: &[u8], rank: u32, number: &mut u64) -> u32
+    ensures { OnNode node.old.place.value node.new.place.value result (number.new ≡ number.old)
+        (λ d e. Makes (leave_said nspace.now rank) d result e × (TellsNumber e result number.old number.new × (e.list ≡ d.list))) }
+{
+    let Some(mut daemon) = node.take() else {
+        return WRONG_HANDLE;
+    };
+    let code = daemon.leave(nspace, rank, number);
+    node.put(daemon);
+    code
+}
+
+/// A process gets a key (`Daemon::get`).
+pub fn get(
+    node: &mut Handle,
+    nspace: &[u8],
+    rank: u32,
+    target: &[u8],
+    target_rank: u32,
+    key: &[u8],
+    mode: u32,
+) -> u32
+    ensures { OnNode node.old.place.value node.new.place.value result (Unit {0})
+        (λ d e. Makes (get_said nspace.now rank target.now target_rank key.now mode) d result e × (e.list ≡ d.list)) }
+{
+    let Some(mut daemon) = node.take() else {
+        return WRONG_HANDLE;
+    };
+    let code = daemon.get(nspace, rank, target, target_rank, key, mode);
+    node.put(daemon);
+    code
+}
+
+/// A process takes the answer of its get (`Daemon::take`).
+pub fn take(node: &mut Handle, nspace: &[u8], rank: u32) -> u32
+    ensures { OnNode node.old.place.value node.new.place.value result (Unit {0})
+        (λ d e. Makes (take_said nspace.now rank) d result e × (e.list ≡ d.list)) }
+{
+    let Some(mut daemon) = node.take() else {
+        return WRONG_HANDLE;
+    };
+    let code = daemon.take(nspace, rank);
+    node.put(daemon);
+    code
+}
+
+/// A process ends (`Daemon::end`).
+pub fn end(node: &mut Handle, nspace: &[u8], rank: u32, number: &mut u64) -> u32
+    ensures { OnNode node.old.place.value node.new.place.value result (number.new ≡ number.old)
+        (λ d e. Makes (end_said nspace.now rank) d result e × (TellsNumber e result number.old number.new × (e.list ≡ d.list))) }
+{
+    let Some(mut daemon) = node.take() else {
+        return WRONG_HANDLE;
+    };
+    let code = daemon.end(nspace, rank, number);
+    node.put(daemon);
+    code
+}
+
+/// A process set is defined (`Daemon::define`).
+pub fn define(node: &mut Handle, name: &[u8], number: &mut u64) -> u32
+    ensures { OnNode node.old.place.value node.new.place.value result (number.new ≡ number.old)
+        (λ d e. Makes (define_said name.now d.list.items) d result e × (TellsNumber e result number.old number.new × TakesList d result e)) }
+{
+    let Some(mut daemon) = node.take() else {
+        return WRONG_HANDLE;
+    };
+    let code = daemon.define(name, number);
+    node.put(daemon);
+    code
+}
+
+/// A process set is deleted (`Daemon::delete`).
+pub fn delete(node: &mut Handle, name: &[u8], number: &mut u64) -> u32
+    ensures { OnNode node.old.place.value node.new.place.value result (number.new ≡ number.old)
+        (λ d e. Makes (delete_said name.now) d result e × (TellsNumber e result number.old number.new × (e.list ≡ d.list))) }
+{
+    let Some(mut daemon) = node.take() else {
+        return WRONG_HANDLE;
+    };
+    let code = daemon.delete(name, number);
+    node.put(daemon);
+    code
+}
+
+/// Other nodes are asked again for what is missing (`Daemon::nudge`).
+pub fn nudge(node: &mut Handle) -> u32
+    ensures { OnNode node.old.place.value node.new.place.value result (Unit {0})
+        (λ d e. Makes nudge_said d result e × (e.list ≡ d.list)) }
+{
+    let Some(mut daemon) = node.take() else {
+        return WRONG_HANDLE;
+    };
+    let code = daemon.nudge();
+    node.put(daemon);
+    code
+}

@@ -1,0 +1,65 @@
+//! Bytes of other nodes, and bytes for them.
+ghost use Rattle.std.specs.Prelude.{◌≡◌, slice_get};
+ghost use Rattle.pmg_daemon.specs.Frames.{DeliversFrom, FeedsFrom, TakesNext, TellsFaultFrom};
+ghost use Rattle.pmg_exports.specs.Nodes.{OnNode};
+
+use pmg_daemon::WRONG_HANDLE;
+use pmg_handle::Handle;
+
+/// Takes bytes of another node (`Daemon::feed`).
+pub fn feed(node: &mut Handle, from: u32, bytes: &[u8]) -> u32
+    ensures { OnNode node.old.place.value node.new.place.value result (Unit {0})
+        (λ d e. FeedsFrom (slice_get d.inboxes.items from) d from bytes.now result e) }
+{
+    let Some(mut daemon) = node.take() else {
+        return WRONG_HANDLE;
+    };
+    let code = daemon.feed(from, bytes);
+    node.put(daemon);
+    code
+}
+
+/// Delivers the next frame of another node (`Daemon::deliver`).
+pub fn deliver(node: &mut Handle, from: u32) -> u32
+    ensures { OnNode node.old.place.value node.new.place.value result (Unit {0})
+        (λ d e. DeliversFrom (slice_get d.inboxes.items from) d from result e) }
+{
+    let Some(mut daemon) = node.take() else {
+        return WRONG_HANDLE;
+    };
+    let code = daemon.deliver(from);
+    node.put(daemon);
+    code
+}
+
+/// Takes the next frame for another node (`Daemon::next`).
+pub fn next(node: &mut Handle, to: &mut u32, buffer: &mut [u8], len: &mut usize) -> u32
+    ensures { OnNode node.old.place.value node.new.place.value result ((to.new ≡ to.old) × ((buffer.new ≡ buffer.old) × (len.new ≡ len.old)))
+        (λ d e. TakesNext (slice_get d.link.waiting 0) d to.old buffer.old len.old result e to.new buffer.new len.new) }
+{
+    let Some(mut daemon) = node.take() else {
+        return WRONG_HANDLE;
+    };
+    let code = daemon.next(to, buffer, len);
+    node.put(daemon);
+    code
+}
+
+/// Tells the fault in the bytes of another node (`Daemon::fault`).
+pub fn fault(
+    node: &mut Handle,
+    from: u32,
+    offset: &mut u64,
+    buffer: &mut [u8],
+    len: &mut usize,
+) -> u32
+    ensures { OnNode node.old.place.value node.new.place.value result ((offset.new ≡ offset.old) × ((buffer.new ≡ buffer.old) × (len.new ≡ len.old)))
+        (λ d e. (e ≡ d) × TellsFaultFrom (slice_get d.inboxes.items from) offset.old buffer.old len.old result offset.new buffer.new len.new) }
+{
+    let Some(mut daemon) = node.take() else {
+        return WRONG_HANDLE;
+    };
+    let code = daemon.fault(from, offset, buffer, len);
+    node.put(daemon);
+    code
+}
