@@ -134,6 +134,7 @@ piece 43=00 44=02: Tag at 43
 piece 44=02: Bool at 44
 piece 5=26 ..44: Short at 44
 pair 34=62 47=61: Order at 45
+pair 47=61: Order at 45
 header 9=40 10=02: Node at 6
 header 10=02 18=00: Bool at 10
 header 18=00 22=00: Number at 11

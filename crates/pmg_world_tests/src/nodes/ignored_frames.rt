@@ -149,6 +149,24 @@ const ROWS: &[Row] = &[
             WAITING_STILL,
         ],
     ),
+    // Of the fences of one signature those below the greatest instance and the one before are forgotten.
+    (
+        "forgotten_fences_are_ignored",
+        2,
+        &[0, 1],
+        &[
+            "\
+1 fence 0 plain 3 j0,j1
+ taken
+1 fence 0 plain 1 j0,j1
+ ignored
+1 header 0 plain 1 j0,j1 j0 entered 0
+ ignored
+1 fence 0 plain 2 j0,j1
+ taken
+",
+        ],
+    ),
     // The like of these at the nodes that they concern.
     (
         "frames_that_concern_a_node_are_taken",
