@@ -44,17 +44,22 @@ fn get<R: Wait>(
     }
 }
 
-// A client of process 0 asks for the number of process 2, and then takes an answer, though nothing is left to be taken.
+// The client asks for the number of that process, and then takes an answer, though nothing is left to be taken.
+fn find_of<R: Wait>(rt: &R, client: &mut Client<'_>, target: &Proc, name: &Key) -> Found {
+    let number = number_in(again!(get(rt, client, target, name))?);
+    match again!(client.take(rt))? {
+        Taking::Idle => Ok((number, client.transcript().calls.len())),
+        Taking::Found(_) | Taking::Waiting => Err(Refusal::Unordered),
+    }
+}
+
+// A client of process 0 asks for the number of process 2.
 fn find<R: Wait>(rt: &R, alloc: Global, desk: &Desk) -> Found {
     let first = again!(process(alloc, 0))?;
     let target = again!(process(alloc, 2))?;
     let name = again!(key(alloc, b"a"))?;
     let mut client = again!(desk.client(rt, &first))?;
-    let value = again!(get(rt, &mut client, &target, &name))?;
-    match again!(client.take(rt))? {
-        Taking::Idle => Ok((number_in(value), client.transcript().calls.len())),
-        Taking::Found(_) | Taking::Waiting => Err(Refusal::Unordered),
-    }
+    find_of(rt, &mut client, &target, &name)
 }
 
 // The same. Where that fails the desk is closed, so that nobody waits.
@@ -68,21 +73,22 @@ fn find_or_close<R: Wait + AllocGlobal>(rt: &R, desk: &Desk) -> Found {
 
 // The node is told that process 2 committed a number.
 fn tell_number<R: Wait>(rt: &R, alloc: Global, desk: &Desk) -> Result<Delivery, Refusal> {
-    let mut entries = Vec::with_capacity(alloc, 1)?;
-    entries.push(PieceEntry {
+    let entry = PieceEntry {
         key: key(alloc, b"a")?,
         number: 1,
         value: Value::U32(7),
-    })?;
+    };
+    let mut entries = Vec::new(alloc);
+    entries.push(entry)?;
     let piece = Piece::new(process(alloc, 2)?, 0, 1, entries)?;
     desk.deliver(rt, Frame::Piece(piece))
 }
 
 // The same, once the node asks for it.
 fn tell_asked<R: Wait>(rt: &R, alloc: Global, desk: &Desk) -> Result<(), Refusal> {
-    let asks = again!(desk.take_frames(rt))?;
+    let asks = again!(desk.take_frames(rt))?.len();
     match again!(tell_number(rt, alloc, desk))? {
-        Delivery::Taken if asks.len() == 1 => Ok(()),
+        Delivery::Taken if asks == 1 => Ok(()),
         _ => Err(Refusal::Unordered),
     }
 }

@@ -3,7 +3,11 @@ use pmg_desk::Desk;
 use pmg_jobinfo::Registry;
 use pmg_value::{Key, NodeId, Nspace, Proc, Rank, Refusal, Value};
 use std::alloc::Global;
+use std::process::Abort;
 use std::sync::Wait;
+
+/// A test gives up where a call of it fails, and says this word and the error.
+pub(crate) const MEMORY: &str = "memory";
 
 /// The process of namespace j and that rank.
 pub(crate) fn process(alloc: Global, rank: u32) -> Result<Proc, Refusal> {
@@ -13,6 +17,16 @@ pub(crate) fn process(alloc: Global, rank: u32) -> Result<Proc, Refusal> {
 /// The key of that name.
 pub(crate) fn key(alloc: Global, name: &[u8]) -> Result<Key, Refusal> {
     Key::read(alloc, name)
+}
+
+/// The process of namespace j and that rank, which a test has or gives up.
+pub(crate) fn proc_of(rt: &impl Abort, alloc: Global, rank: u32) -> Proc {
+    process(alloc, rank).expect(rt, MEMORY)
+}
+
+/// The key of that name, which a test has or gives up.
+pub(crate) fn key_of(rt: &impl Abort, alloc: Global, name: &[u8]) -> Key {
+    key(alloc, name).expect(rt, MEMORY)
 }
 
 /// The number that the value is, if it is one.
@@ -33,14 +47,17 @@ pub(crate) fn check_memory(refusals: &[Option<Refusal>]) -> Result<(), Refusal> 
     Ok(())
 }
 
+/// Requires that a call was refused so. A test gives up where it was refused as NoMemory.
+pub(crate) fn assert_refused(rt: &impl Abort, refusal: Option<Refusal>, wanted: Refusal) {
+    check_memory(&[refusal]).expect(rt, MEMORY);
+    assert!(rt; refusal == Some(wanted));
+}
+
 // Nodes n0 and n1, and namespace j, whose processes 0 and 1 are at home at node 0, and 2 at node 1.
 fn registry(alloc: Global) -> Result<Registry, Refusal> {
+    let homes = [NodeId::new(0)?, NodeId::new(0)?, NodeId::new(1)?];
     let names: [&[u8]; 2] = [b"n0", b"n1"];
     let mut registry = Registry::new(alloc, &names)?;
-    let mut homes = Vec::new(alloc);
-    homes.push(NodeId::new(0)?)?;
-    homes.push(NodeId::new(0)?)?;
-    homes.push(NodeId::new(1)?)?;
     registry.register(Nspace::read(alloc, b"j")?, &homes)?;
     Ok(registry)
 }

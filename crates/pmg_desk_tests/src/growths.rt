@@ -1,9 +1,10 @@
 //! What calls leave where an allocation fails. With ample memory each of them succeeds; a run shows the rest in which some allocation
 //! fails.
-use crate::group::{desk, key, number_in, process};
+use crate::group::{MEMORY, desk, key, number_in, process};
 use pmg_desk::{Client, Desk};
+use pmg_node::Release;
 use pmg_scope::Scope;
-use pmg_value::{Refusal, Value};
+use pmg_value::{Key, Proc, Refusal, Value};
 use std::alloc::Global;
 use std::process::Abort;
 use std::sync::Wait;
@@ -47,63 +48,95 @@ fn put_seven(alloc: Global, client: &mut Client<'_>) -> Result<(), Refusal> {
     client.put(Scope::Global, key(alloc, b"a")?, Value::U32(7))
 }
 
+fn put(alloc: Global, client: &mut Client<'_>, seen: &mut Seen) -> Result<(), Refusal> {
+    again_by!(client, seen, put_seven(alloc, client))
+}
+
+fn commit<R: Wait>(rt: &R, client: &mut Client<'_>, seen: &mut Seen) -> Result<u64, Refusal> {
+    again_by!(client, seen, client.commit(rt))
+}
+
+fn enter<R: Wait>(
+    rt: &R,
+    client: &mut Client<'_>,
+    all: &[Proc],
+    seen: &mut Seen,
+) -> Result<u64, Refusal> {
+    again_by!(client, seen, client.enter(rt, all, true))
+}
+
+fn leave<R: Wait>(rt: &R, client: &mut Client<'_>, seen: &mut Seen) -> Result<Release, Refusal> {
+    again_by!(client, seen, client.leave(rt))
+}
+
+fn get<R: Wait>(
+    rt: &R,
+    client: &mut Client<'_>,
+    target: &Proc,
+    name: &Key,
+    seen: &mut Seen,
+) -> Result<Value, Refusal> {
+    again_by!(client, seen, client.get(rt, target, name))
+}
+
 // One client puts a number, commits it, and meets the other in a fence, who gets it.
 fn exchange<R: Wait>(
     rt: &R,
     alloc: Global,
+    all: &[Proc; 2],
+    name: &Key,
     one: &mut Client<'_>,
     two: &mut Client<'_>,
     seen: &mut Seen,
-) -> Result<Value, Refusal> {
-    let all = [again!(process(alloc, 0))?, again!(process(alloc, 1))?];
-    let name = again!(key(alloc, b"a"))?;
-    again_by!(one, seen, put_seven(alloc, one))?;
-    seen.committed = again_by!(one, seen, one.commit(rt))?;
-    again_by!(two, seen, two.commit(rt))?;
-    again_by!(one, seen, one.enter(rt, &all, true))?;
-    again_by!(two, seen, two.enter(rt, &all, true))?;
-    again_by!(one, seen, one.leave(rt))?;
-    again_by!(two, seen, two.leave(rt))?;
-    again_by!(two, seen, two.get(rt, &all[0], &name))
+) -> Result<Option<u32>, Refusal> {
+    put(alloc, one, seen)?;
+    seen.committed = commit(rt, one, seen)?;
+    commit(rt, two, seen)?;
+    enter(rt, one, all, seen)?;
+    enter(rt, two, all, seen)?;
+    leave(rt, one, seen)?;
+    leave(rt, two, seen)?;
+    Ok(number_in(get(rt, two, &all[0], name, seen)?))
 }
 
 // What the exchange at the desk ends with, the commits that the other client reads then, and what it is answered who is no process of
 // the node.
-fn end_of_exchange<R: Wait>(
+fn end_of_exchange<R: Wait + Abort>(
     rt: &R,
     alloc: Global,
     desk: &Desk,
     seen: &mut Seen,
-) -> Result<(Result<Value, Refusal>, u64, Option<Refusal>), Refusal> {
-    let (first, second) = (again!(process(alloc, 0))?, again!(process(alloc, 1))?);
-    let stranger = again!(process(alloc, 2))?;
-    let mut one = again!(desk.client(rt, &first))?;
-    let mut two = again!(desk.client(rt, &second))?;
-    let ended = exchange(rt, alloc, &mut one, &mut two, seen);
-    let level = again!(two.level_now(&first))?;
-    Ok((ended, level, again!(desk.client(rt, &stranger)).err()))
+) -> (Result<Option<u32>, Refusal>, u64, Option<Refusal>) {
+    let first = again!(process(alloc, 0)).expect(rt, MEMORY);
+    let second = again!(process(alloc, 1)).expect(rt, MEMORY);
+    let all = [first, second];
+    let stranger = again!(process(alloc, 2)).expect(rt, MEMORY);
+    let name = again!(key(alloc, b"a")).expect(rt, MEMORY);
+    let mut one = again!(desk.client(rt, &all[0])).expect(rt, MEMORY);
+    let mut two = again!(desk.client(rt, &all[1])).expect(rt, MEMORY);
+    let ended = exchange(rt, alloc, &all, &name, &mut one, &mut two, seen);
+    let level = again!(two.level_now(&all[0])).expect(rt, MEMORY);
+    (ended, level, again!(desk.client(rt, &stranger)).err())
 }
 
 #[test]
-fn a_call_whose_allocation_fails_leaves_nothing(rt: HostRuntime) -> Result<(), Refusal> {
+fn a_call_whose_allocation_fails_leaves_nothing(rt: HostRuntime) {
     let alloc = rt.alloc();
-    let desk = again!(desk(&rt, alloc, 0))?;
+    let desk = again!(desk(&rt, alloc, 0)).expect(&rt, MEMORY);
     let mut seen = Seen {
         has_failed: false,
         committed: 0,
     };
-    let told = end_of_exchange(&rt, alloc, &desk, &mut seen);
+    let (ended, level, late) = end_of_exchange(&rt, alloc, &desk, &mut seen);
     desk.into_journal(&rt);
-    let (ended, level, late) = told?;
     assert!(rt; level == seen.committed);
     match ended {
-        Ok(value) => assert!(rt;
-            number_in(value) == Some(7) && level == 1 && late == Some(Refusal::NotMine)
+        Ok(number) => assert!(rt;
+            number == Some(7) && level == 1 && late == Some(Refusal::NotMine)
         ),
         // the node was given up, after the act
         Err(refusal) => assert!(rt;
             seen.has_failed && refusal == Refusal::Closed && late == Some(Refusal::Closed)
         ),
     }
-    Ok(())
 }

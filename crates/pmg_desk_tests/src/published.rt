@@ -3,10 +3,12 @@
 ghost use Rattle.pmg_publish.specs.declared.opening.TheConstants.{MAX_VIEWERS};
 ghost use Rattle.std.specs.Prelude.{◌≡◌, ◌≤◌, IfOk};
 
+use crate::group::{MEMORY, key, key_of, proc_of, process};
 use pmg_commit::{Piece, PieceEntry};
 use pmg_publish::{Publisher, Viewer, publisher};
-use pmg_value::{Key, Nspace, Proc, Rank, Refusal, Value};
+use pmg_value::{Key, Proc, Refusal, Value};
 use std::alloc::Global;
+use std::process::Abort;
 use std::sync::Wait;
 use std::thread::{Threads, join};
 
@@ -26,26 +28,19 @@ macro_rules! again {
     };
 }
 
-fn proc(alloc: Global) -> Result<Proc, Refusal> {
-    let nspace = again!(Nspace::read(alloc, b"j"))?;
-    Ok(Proc::new(nspace, Rank::new(0)))
-}
-
-fn key(alloc: Global) -> Result<Key, Refusal> {
-    again!(Key::read(alloc, b"a"))
-}
-
 // The next commit of the process j 0 after that number, with the value under the key.
-fn piece_of(alloc: Global, from: u32, key: Key, value: Value) -> Result<Piece, Refusal> {
-    let mut entries = again!(Vec::with_capacity(alloc, 1))?;
+fn piece_of(rt: &impl Abort, alloc: Global, from: u32, key: Key, value: Value) -> Piece {
     let number = u64::from(from) + 1;
-    entries.push(PieceEntry { key, number, value })?;
-    Piece::new(proc(alloc)?, u64::from(from), number, entries)
+    let mut entries = Vec::with_capacity(alloc, 1).expect(rt, MEMORY);
+    let entry = PieceEntry { key, number, value };
+    entries.push(entry).expect(rt, MEMORY);
+    let proc = proc_of(rt, alloc, 0);
+    Piece::new(proc, u64::from(from), number, entries).expect(rt, MEMORY)
 }
 
 // The same with a number under the key a.
-fn piece(alloc: Global, from: u32, value: u32) -> Result<Piece, Refusal> {
-    piece_of(alloc, from, key(alloc)?, Value::U32(value))
+fn piece(rt: &impl Abort, alloc: Global, from: u32, value: u32) -> Piece {
+    piece_of(rt, alloc, from, key_of(rt, alloc, b"a"), Value::U32(value))
 }
 
 // A publisher and its only viewer.
@@ -72,55 +67,56 @@ fn number_in(value: Option<Value>) -> Option<u32> {
 
 // What is read under the key a: the numbers near and far, and whether the process has ended there.
 fn read_a(
+    rt: &impl Abort,
     alloc: Global,
     viewer: &mut Viewer,
-) -> Result<(Option<u32>, Option<u32>, bool, bool), Refusal> {
-    let proc = proc(alloc)?;
-    let key = key(alloc)?;
-    let sight = again!(viewer.read(&proc, &key))?;
-    Ok((
+) -> (Option<u32>, Option<u32>, bool, bool) {
+    let proc = proc_of(rt, alloc, 0);
+    let key = key_of(rt, alloc, b"a");
+    let sight = again!(viewer.read(&proc, &key)).expect(rt, MEMORY);
+    (
         number_in(sight.near),
         number_in(sight.far),
         sight.near_ended,
         sight.far_ended,
-    ))
+    )
 }
 
-// Publishes 1 near and 2 far, and then the end of the process far, and reads after each.
-fn read_both<R: Wait>(
-    rt: &R,
-    alloc: Global,
-    publisher: &mut Publisher,
-    viewer: &mut Viewer,
-) -> Result<[(Option<u32>, Option<u32>, bool, bool); 2], Refusal> {
-    let (near, far) = ([piece(alloc, 0, 1)?], [piece(alloc, 0, 2)?]);
-    let end = [piece_of(alloc, 1, Key::of_termination(), Value::Bool(true))?];
-    publisher.publish(rt, &near, &far)?;
-    let first = read_a(alloc, viewer)?;
-    publisher.publish(rt, &[], &end)?;
-    Ok([first, read_a(alloc, viewer)?])
+// Publishes 1 near and 2 far.
+fn publish_both<R: Wait + Abort>(rt: &R, alloc: Global, publisher: &mut Publisher) {
+    let near = [piece(rt, alloc, 0, 1)];
+    let far = [piece(rt, alloc, 0, 2)];
+    publisher.publish(rt, &near, &far).expect(rt, MEMORY);
+}
+
+// Publishes the end of the process far.
+fn publish_end<R: Wait + Abort>(rt: &R, alloc: Global, publisher: &mut Publisher) {
+    let key = Key::of_termination();
+    let end = [piece_of(rt, alloc, 1, key, Value::Bool(true))];
+    publisher.publish(rt, &[], &end).expect(rt, MEMORY);
 }
 
 #[test]
-fn both_stores_are_read(rt: HostRuntime) -> Result<(), Refusal> {
+fn both_stores_are_read(rt: HostRuntime) {
     let alloc = rt.alloc();
-    let (mut publisher, mut viewer) = open_with_viewer(&rt, alloc)?;
-    let read = read_both(&rt, alloc, &mut publisher, &mut viewer);
+    let (mut publisher, mut viewer) = open_with_viewer(&rt, alloc).expect(&rt, MEMORY);
+    publish_both(&rt, alloc, &mut publisher);
+    let read = read_a(&rt, alloc, &mut viewer);
+    assert!(rt; read == (Some(1), Some(2), false, false));
+    publish_end(&rt, alloc, &mut publisher);
+    let read = read_a(&rt, alloc, &mut viewer);
+    assert!(rt; read == (Some(1), Some(2), false, true));
     publisher.close(&rt);
-    let [first, second] = read?;
-    assert!(rt; first == (Some(1), Some(2), false, false));
-    assert!(rt; second == (Some(1), Some(2), false, true));
-    Ok(())
 }
 
 // How many of so many viewers there are, and how many of them read what is published, each twice.
-fn count_readers<R: Wait>(rt: &R, alloc: Global, count: usize) -> Result<(usize, usize), Refusal>
+fn count_readers<R: Wait + Abort>(rt: &R, alloc: Global, count: usize) -> (usize, usize)
     requires { count ≤ MAX_VIEWERS }
 {
-    let proc = proc(alloc)?;
-    let pieces = [piece(alloc, 0, 1)?];
-    let (mut publisher, mut viewers) = publisher(rt, alloc, count)?;
-    let published = publisher.publish(rt, &[], &pieces);
+    let proc = proc_of(rt, alloc, 0);
+    let pieces = [piece(rt, alloc, 0, 1)];
+    let (mut publisher, mut viewers) = publisher(rt, alloc, count).expect(rt, MEMORY);
+    publisher.publish(rt, &[], &pieces).expect(rt, MEMORY);
     let mut readers = 0_usize;
     for viewer in viewers.iter_mut() {
         if viewer.level(&proc) == Ok(1) && viewer.level(&proc) == Ok(1) {
@@ -128,35 +124,35 @@ fn count_readers<R: Wait>(rt: &R, alloc: Global, count: usize) -> Result<(usize,
         }
     }
     publisher.close(rt);
-    published?;
-    Ok((viewers.len(), readers))
+    (viewers.len(), readers)
 }
 
 #[test]
-fn there_are_as_many_viewers_as_asked_for(rt: HostRuntime) -> Result<(), Refusal> {
+fn there_are_as_many_viewers_as_asked_for(rt: HostRuntime) {
     for count in [0, 3, 65_536] {
-        assert!(rt; count_readers(&rt, rt.alloc(), count)? == (count, count));
+        assert!(rt; count_readers(&rt, rt.alloc(), count) == (count, count));
     }
-    Ok(())
 }
 
 // Publishes one commit after another, in which the number under the key is that of the commit.
-fn publish_all<R: Wait>(rt: &R, alloc: Global, publisher: &mut Publisher) -> Result<(), Refusal> {
+fn publish_all<R: Wait + Abort>(
+    rt: &R,
+    alloc: Global,
+    publisher: &mut Publisher,
+) -> Result<(), Refusal> {
     for from in 0..COMMITS {
-        let pieces = [piece(alloc, from, from + 1)?];
+        let pieces = [piece(rt, alloc, from, from + 1)];
         publisher.publish(rt, &[], &pieces)?;
     }
     Ok(())
 }
 
 // Reads until the last commit is seen: how often it read. A read that falls behind the one before is Unordered.
-fn read_all(alloc: Global, mut viewer: Viewer) -> Result<u32, Refusal> {
-    let proc = proc(alloc)?;
-    let key = key(alloc)?;
+fn read_on(viewer: &mut Viewer, proc: &Proc, key: &Key) -> Result<u32, Refusal> {
     let mut last = 0;
     for reads in 1..READS {
-        let level = viewer.level(&proc)?;
-        let number = u64::from(number_in(viewer.read(&proc, &key)?.far).unwrap_or(0));
+        let level = viewer.level(proc)?;
+        let number = u64::from(number_in(viewer.read(proc, key)?.far).unwrap_or(0));
         if level < last || number < level {
             return Err(Refusal::Unordered);
         }
@@ -168,54 +164,57 @@ fn read_all(alloc: Global, mut viewer: Viewer) -> Result<u32, Refusal> {
     Err(Refusal::NotFound)
 }
 
+// The same by a viewer of its own.
+fn read_all(alloc: Global, mut viewer: Viewer) -> Result<u32, Refusal> {
+    let proc = process(alloc, 0)?;
+    let key = key(alloc, b"a")?;
+    read_on(&mut viewer, &proc, &key)
+}
+
 #[test]
-fn reads_never_fall_back(rt: HostRuntime) -> Result<(), Refusal> {
+fn reads_never_fall_back(rt: HostRuntime) {
     let alloc = rt.alloc();
-    let (mut publisher, viewer) = open_with_viewer(&rt, alloc)?;
+    let (mut publisher, viewer) = open_with_viewer(&rt, alloc).expect(&rt, MEMORY);
     let (published, reads) = join(
         &rt,
         || publish_all(&rt, alloc, &mut publisher),
         || read_all(alloc, viewer),
     );
     publisher.close(&rt);
-    published?;
-    assert!(rt; 0 < reads?);
-    Ok(())
+    published.expect(&rt, MEMORY);
+    assert!(rt; 0 < reads.expect(&rt, MEMORY));
 }
 
 // Publishes up to five commits, and lets the viewer know of each: how many were published, and whether the publisher is
 // closed after the first refusal.
-fn publish_some<R: Wait>(
+fn publish_some<R: Wait + Abort>(
     rt: &R,
     alloc: Global,
     publisher: &mut Publisher,
     viewer: &mut Viewer,
-) -> Result<(u64, bool), Refusal>
+) -> (u64, bool)
     requires { viewer.old.book ≡ publisher.old.book }
 {
     for from in 0..5 {
-        let pieces = [piece(alloc, from, from + 1)?];
+        let pieces = [piece(rt, alloc, from, from + 1)];
         if publisher.publish(rt, &[], &pieces).is_err() {
             let closed = publisher.publish(rt, &[], &pieces) == Err(Refusal::Closed);
-            return Ok((u64::from(from), closed));
+            return (u64::from(from), closed);
         }
         viewer.learn(&publisher.tell());
     }
-    Ok((5, true))
+    (5, true)
 }
 
 #[test]
-fn what_was_published_stands(rt: HostRuntime) -> Result<(), Refusal> {
+fn what_was_published_stands(rt: HostRuntime) {
     let alloc = rt.alloc();
-    let proc = proc(alloc)?;
-    let (mut publisher, mut viewer) = open_with_viewer(&rt, alloc)?;
-    let published = publish_some(&rt, alloc, &mut publisher, &mut viewer);
+    let proc = proc_of(&rt, alloc, 0);
+    let (mut publisher, mut viewer) = open_with_viewer(&rt, alloc).expect(&rt, MEMORY);
+    let (count, closed) = publish_some(&rt, alloc, &mut publisher, &mut viewer);
     let level = viewer.level(&proc);
     publisher.close(&rt);
-    let after = viewer.level(&proc);
-    let (count, closed) = published?;
     assert!(rt; closed);
     assert!(rt; level == Ok(count));
-    assert!(rt; after == Err(Refusal::Closed));
-    Ok(())
+    assert!(rt; viewer.level(&proc) == Err(Refusal::Closed));
 }

@@ -1,9 +1,9 @@
 //! A get that asks anew: it finds a commit that its node does not know. The test hands the frames across.
-use crate::group::{check_memory, desk, key, number_in, process};
+use crate::calls::put_number;
+use crate::group::{MEMORY, check_memory, desk, key, number_in, process};
 use crate::sets::hand_over;
 use pmg_desk::{Client, Desk};
-use pmg_scope::Scope;
-use pmg_value::{Refusal, Value};
+use pmg_value::{Key, Proc, Refusal};
 use std::alloc::Global;
 use std::process::Abort;
 use std::sync::Wait;
@@ -17,15 +17,21 @@ type Found = Result<[Option<u32>; 4], Refusal>;
 // How many frames were taken at node 1, at node 0, and again at each.
 type Handed = Result<[u64; 4], Refusal>;
 
+// The client gets the number of that process.
+fn find_of<R: Wait>(rt: &R, client: &mut Client<'_>, target: &Proc, name: &Key) -> Found {
+    let first = number_in(client.get(rt, target, name)?);
+    let next = number_in(client.get(rt, target, name)?);
+    let anew = number_in(client.get_refresh(rt, target, name)?);
+    let read = number_in(client.get_now(target, name)?);
+    Ok([first, next, anew, read])
+}
+
 // A client of process 0 gets the number of process 2.
 fn find<R: Wait>(rt: &R, alloc: Global, zero: &Desk) -> Found {
+    let name = key(alloc, b"a")?;
+    let target = process(alloc, 2)?;
     let mut client = zero.client(rt, &process(alloc, 0)?)?;
-    let (target, name) = (process(alloc, 2)?, key(alloc, b"a")?);
-    let first = number_in(client.get(rt, &target, &name)?);
-    let next = number_in(client.get(rt, &target, &name)?);
-    let anew = number_in(client.get_refresh(rt, &target, &name)?);
-    let read = number_in(client.get_now(&target, &name)?);
-    Ok([first, next, anew, read])
+    find_of(rt, &mut client, &target, &name)
 }
 
 // The same. Where that fails the desks are closed, so that nobody waits.
@@ -36,17 +42,6 @@ fn find_or_close<R: Wait + AllocGlobal>(rt: &R, zero: &Desk, one: &Desk) -> Foun
         one.close(rt);
     }
     found
-}
-
-// The client puts the number, for all, and commits it.
-fn put_number<R: Wait>(
-    rt: &R,
-    alloc: Global,
-    client: &mut Client<'_>,
-    number: u32,
-) -> Result<u64, Refusal> {
-    client.put(Scope::Global, key(alloc, b"a")?, Value::U32(number))?;
-    client.commit(rt)
 }
 
 // The frames go to node 1 and back, for each get that waits. The client commits another number once the first get was replied to, and
@@ -104,21 +99,13 @@ fn put_and_find<R: Threads + Wait + AllocGlobal + Sync>(
 }
 
 #[test]
-fn a_get_that_asks_anew_finds_the_last_commit(rt: HostRuntime) -> Result<(), Refusal> {
-    let alloc = rt.alloc();
-    let zero = desk(&rt, alloc, 0)?;
-    let answers = match desk(&rt, alloc, 1) {
-        Ok(one) => {
-            let answers = put_and_find(&rt, &zero, &one);
-            one.into_journal(&rt);
-            answers
-        }
-        Err(refusal) => Err(refusal),
-    };
+fn a_get_that_asks_anew_finds_the_last_commit(rt: HostRuntime) {
+    let zero = desk(&rt, rt.alloc(), 0).expect(&rt, MEMORY);
+    let one = desk(&rt, rt.alloc(), 1).expect(&rt, MEMORY);
+    let (found, handed) = put_and_find(&rt, &zero, &one).expect(&rt, MEMORY);
+    one.into_journal(&rt);
     zero.into_journal(&rt);
-    let (found, handed) = answers?;
-    check_memory(&[found.err(), handed.err()])?;
+    check_memory(&[found.err(), handed.err()]).expect(&rt, MEMORY);
     assert!(rt; found == Ok([Some(7), Some(7), Some(8), Some(8)]));
     assert!(rt; handed == Ok([1, 1, 1, 1]));
-    Ok(())
 }

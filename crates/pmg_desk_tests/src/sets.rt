@@ -1,8 +1,8 @@
 //! Process sets at desks, and the frames that carry them to another node.
-use crate::group::{check_memory, desk, key, process};
+use crate::group::{MEMORY, assert_refused, desk, key_of, proc_of};
 use pmg_desk::Desk;
 use pmg_node::Delivery;
-use pmg_value::Refusal;
+use pmg_value::{Key, Proc, Refusal};
 use std::alloc::Global;
 use std::process::Abort;
 use std::sync::Wait;
@@ -19,81 +19,55 @@ pub(crate) fn hand_over<R: Wait>(rt: &R, from: &Desk, to: &Desk) -> Result<u64, 
     Ok(taken)
 }
 
-// Whether both nodes tell the same of all processes, and something.
-fn is_same<R: Wait>(rt: &R, zero: &Desk, one: &Desk) -> Result<bool, Refusal> {
-    let dump = zero.far_dump(rt)?;
-    Ok(!dump.is_empty() && dump == one.far_dump(rt)?)
+// Requires that node 1 takes one frame, and both nodes tell the same of all processes then, and something.
+fn assert_spread<R: Wait + Abort>(rt: &R, zero: &Desk, one: &Desk) {
+    assert!(rt; hand_over(rt, zero, one).expect(rt, MEMORY) == 1);
+    let told = zero.far_dump(rt).expect(rt, MEMORY);
+    assert!(rt; !told.is_empty());
+    let known = one.far_dump(rt).expect(rt, MEMORY);
+    assert!(rt; told == known);
 }
 
-// What is refused of sets at a node other than 0, and of a set that is there.
-fn refused_sets<R: Wait>(
-    rt: &R,
-    alloc: Global,
-    zero: &Desk,
-    one: &Desk,
-) -> Result<[Option<Refusal>; 3], Refusal> {
-    let members = [process(alloc, 0)?, process(alloc, 2)?];
-    let name = key(alloc, b"s")?;
-    Ok([
-        zero.define_set(rt, &name, &members).err(),
-        one.define_set(rt, &name, &members).err(),
-        one.delete_set(rt, &name).err(),
-    ])
+// Requires that a set is defined at node 0 and deleted there, by changes of these numbers, and that node 1 comes to know both.
+fn assert_changes<R: Wait + Abort>(rt: &R, zero: &Desk, one: &Desk, name: &Key, members: &[Proc]) {
+    assert!(rt; zero.define_set(rt, name, members).expect(rt, MEMORY) == 1);
+    assert_spread(rt, zero, one);
+    assert!(rt; zero.delete_set(rt, name).expect(rt, MEMORY) == 2);
+    assert_spread(rt, zero, one);
+    zero.nudge(rt).expect(rt, MEMORY);
 }
 
-// A set is defined and deleted at node 0, each handed to node 1: the numbers of the changes, and whether both nodes told the same after
-// each.
-fn changed_sets<R: Wait>(
-    rt: &R,
-    alloc: Global,
-    zero: &Desk,
-    one: &Desk,
-) -> Result<([u64; 2], [bool; 2]), Refusal> {
-    let name = key(alloc, b"s")?;
-    let defined = zero.define_set(rt, &name, &[process(alloc, 0)?, process(alloc, 2)?])?;
-    let first = hand_over(rt, zero, one)? == 1 && is_same(rt, zero, one)?;
-    let deleted = zero.delete_set(rt, &name)?;
-    let second = hand_over(rt, zero, one)? == 1 && is_same(rt, zero, one)?;
-    zero.nudge(rt)?;
-    Ok(([defined, deleted], [first, second]))
+// Requires what is refused of a set that is there, and at a node other than 0.
+fn assert_refusals<R: Wait + Abort>(rt: &R, zero: &Desk, one: &Desk, name: &Key, members: &[Proc]) {
+    assert_refused(
+        rt,
+        zero.define_set(rt, name, members).err(),
+        Refusal::Exists,
+    );
+    assert_refused(
+        rt,
+        one.define_set(rt, name, members).err(),
+        Refusal::NotMine,
+    );
+    assert_refused(rt, one.delete_set(rt, name).err(), Refusal::NotMine);
 }
 
-// Both of it.
-fn spread<R: Wait>(
-    rt: &R,
-    alloc: Global,
-    zero: &Desk,
-    one: &Desk,
-) -> Result<(([u64; 2], [bool; 2]), [Option<Refusal>; 3]), Refusal> {
-    let changed = changed_sets(rt, alloc, zero, one)?;
-    zero.define_set(rt, &key(alloc, b"s")?, &[process(alloc, 1)?])?;
-    Ok((changed, refused_sets(rt, alloc, zero, one)?))
+// All of it, of a set of processes 0 and 2, and of one of the same name of process 1.
+fn assert_sets<R: Wait + Abort>(rt: &R, alloc: Global, zero: &Desk, one: &Desk) {
+    let name = key_of(rt, alloc, b"s");
+    let members = [proc_of(rt, alloc, 0), proc_of(rt, alloc, 2)];
+    assert_changes(rt, zero, one, &name, &members);
+    let others = [proc_of(rt, alloc, 1)];
+    zero.define_set(rt, &name, &others).expect(rt, MEMORY);
+    assert_refusals(rt, zero, one, &name, &members);
 }
 
 #[test]
-fn sets_spread_to_the_other_node(rt: HostRuntime) -> Result<(), Refusal> {
+fn sets_spread_to_the_other_node(rt: HostRuntime) {
     let alloc = rt.alloc();
-    let zero = desk(&rt, alloc, 0)?;
-    let one = match desk(&rt, alloc, 1) {
-        Ok(one) => one,
-        Err(refusal) => {
-            zero.into_journal(&rt);
-            return Err(refusal);
-        }
-    };
-    let told = spread(&rt, alloc, &zero, &one);
+    let zero = desk(&rt, alloc, 0).expect(&rt, MEMORY);
+    let one = desk(&rt, alloc, 1).expect(&rt, MEMORY);
+    assert_sets(&rt, alloc, &zero, &one);
     zero.into_journal(&rt);
     one.into_journal(&rt);
-    let (changed, refused) = told?;
-    check_memory(&refused)?;
-    assert!(rt; changed == ([1, 2], [true, true]));
-    assert!(rt;
-        refused
-            == [
-                Some(Refusal::Exists),
-                Some(Refusal::NotMine),
-                Some(Refusal::NotMine)
-            ]
-    );
-    Ok(())
 }

@@ -1,10 +1,10 @@
 //! Clients that wait in threads of their own.
-use crate::group::{desk, key, number_in, process};
+use crate::calls::put_number;
+use crate::group::{MEMORY, desk, key, number_in, process};
 use pmg_desk::{Client, Desk};
 use pmg_journal::Journal;
 use pmg_node::{Release, Reply};
-use pmg_scope::Scope;
-use pmg_value::{Refusal, Value};
+use pmg_value::Refusal;
 use std::alloc::Global;
 use std::process::Abort;
 use std::sync::Wait;
@@ -35,8 +35,9 @@ fn waits_in_vain<R: Threads + Wait + Sync>(
     alloc: Global,
     desk: &Desk,
 ) -> Result<Option<Refusal>, Refusal> {
-    let mut client = desk.client(rt, &process(alloc, 0)?)?;
-    client.enter(rt, &[process(alloc, 0)?, process(alloc, 1)?], true)?;
+    let all = [process(alloc, 0)?, process(alloc, 1)?];
+    let mut client = desk.client(rt, &all[0])?;
+    client.enter(rt, &all, true)?;
     match leave_closed(rt, desk, client) {
         None | Some(Err(Refusal::NoMemory)) => Err(Refusal::NoMemory),
         Some(Err(refusal)) => Ok(Some(refusal)),
@@ -45,13 +46,12 @@ fn waits_in_vain<R: Threads + Wait + Sync>(
 }
 
 #[test]
-fn who_waits_at_a_desk_that_is_closed_is_told_so(rt: HostRuntime) -> Result<(), Refusal> {
+fn who_waits_at_a_desk_that_is_closed_is_told_so(rt: HostRuntime) {
     let alloc = rt.alloc();
-    let desk = desk(&rt, alloc, 0)?;
-    let answer = waits_in_vain(&rt, alloc, &desk);
+    let desk = desk(&rt, alloc, 0).expect(&rt, MEMORY);
+    let answer = waits_in_vain(&rt, alloc, &desk).expect(&rt, MEMORY);
     desk.into_journal(&rt);
-    assert!(rt; answer? == Some(Refusal::Closed));
-    Ok(())
+    assert!(rt; answer == Some(Refusal::Closed));
 }
 
 // What a client is answered that asks for the number of process 1.
@@ -59,15 +59,14 @@ fn get_number<R: Wait + AllocGlobal>(
     rt: &R,
     mut client: Client<'_>,
 ) -> Result<Option<u32>, Refusal> {
-    let alloc = rt.alloc();
-    let value = client.get(rt, &process(alloc, 1)?, &key(alloc, b"a")?)?;
-    Ok(number_in(value))
+    let target = process(rt.alloc(), 1)?;
+    let name = key(rt.alloc(), b"a")?;
+    Ok(number_in(client.get(rt, &target, &name)?))
 }
 
 // A client puts a number, for all, and commits it.
-fn put_number<R: Wait + AllocGlobal>(rt: &R, mut client: Client<'_>) -> Result<u64, Refusal> {
-    client.put(Scope::Global, key(rt.alloc(), b"a")?, Value::U32(7))?;
-    client.commit(rt)
+fn put_seven<R: Wait + AllocGlobal>(rt: &R, mut client: Client<'_>) -> Result<u64, Refusal> {
+    put_number(rt, rt.alloc(), &mut client, 7)
 }
 
 // What the one client is answered that asks, while the other puts so long after. Where that fails the desk is closed, so that nobody
@@ -85,7 +84,7 @@ fn get_while_put<R: Threads + Wait + Clock + AllocGlobal + Sync>(
         move |scope| -> Option<Result<Option<u32>, Refusal>> {
             let waits = scope.spawn(move || get_number(rt, asks)).ok()?;
             thread::sleep(rt, pause);
-            let put = put_number(rt, puts);
+            let put = put_seven(rt, puts);
             if put.is_err() {
                 desk.close(rt);
             }
@@ -128,10 +127,10 @@ fn has_parked(journal: &Journal) -> bool {
 fn a_get_that_waits_is_answered(rt: HostRuntime) -> Result<(), Refusal> {
     let alloc = rt.alloc();
     for pause in 1..100 {
-        let desk = desk(&rt, alloc, 0)?;
+        let desk = desk(&rt, alloc, 0).expect(&rt, MEMORY);
         let answer = ask_and_put(&rt, alloc, &desk, Duration::from_millis(pause));
+        assert!(rt; answer.expect(&rt, MEMORY) == Some(7));
         let journal = desk.into_journal(&rt);
-        assert!(rt; answer? == Some(7));
         if has_parked(&journal) {
             return Ok(());
         }
