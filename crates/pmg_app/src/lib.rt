@@ -25,7 +25,7 @@ use pmg_launch::Program;
 use pmg_store::{Failure, MOST_READS, WatchedReader};
 use pmg_value::{Refusal, WatchedWriter};
 use std::io;
-use std::io::{BufReader, BufWriter, ErrorKind, Read, Write};
+use std::io::{BufRead, BufReader, BufWriter, ErrorKind, Write};
 use std::rt::Env;
 use std::sync::Wait;
 use std::thread::Threads;
@@ -53,7 +53,7 @@ pub fn run(
 }
 
 /// Carries out what was chosen, and answers the status. A job's processes run these programs.
-pub fn carry_out<T: AllocGlobal + Threads + Wait + Clock + Sync, R: Read, W: Write>(
+pub fn carry_out<T: AllocGlobal + Threads + Wait + Clock + Sync, R: BufRead, W: Write>(
     rt: &T,
     chosen: Chosen,
     programs: Vec<Box<dyn Program>>,

@@ -1,9 +1,12 @@
 //! What no clause says of `dump` and `merge`: what readers and writers that fail leave.
-use crate::running::{FailingWriter, check_written, run_failing, run_into, run_on, status_of};
+use crate::running::{
+    FailingWriter, MEMORY, check_written, run_failing, run_into, run_on, status_of,
+};
 use pmg_commands::Chosen;
 use pmg_store::WatchedReader;
 use pmg_value::WatchedWriter;
 use std::io;
+use std::io::BufReader;
 use std::process::Abort;
 use std::sync::Wait;
 use std::thread::Threads;
@@ -14,7 +17,8 @@ const ONE_CONTRIBUTION: &[u8] =
 
 #[test]
 fn input_without_end_is_refused(rt: HostRuntime) {
-    let mut reader = WatchedReader::new(io::repeat(b' '));
+    let reader = BufReader::new(rt.alloc(), io::repeat(b' ')).expect(&rt, MEMORY);
+    let mut reader = WatchedReader::new(reader);
     let mut writer = WatchedWriter::new(Vec::new(rt.alloc()));
     let status = status_of(&rt, Chosen::Dump, &mut reader, &mut writer);
     let printed = writer.into_inner();

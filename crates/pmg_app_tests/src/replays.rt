@@ -10,27 +10,27 @@ const SHORT: &str = "nodes n0\nspace j 0\nend j 0";
 
 const SHORT_REPLIES: &str = "ok\nok\nended 1\n";
 
-// Requires that a reader that fails at that read is told as a read fault behind that.
+// Requires that a reader that fails as it gives its bytes for that time, at most ten, is told as a read fault behind that, once it was
+// read so often.
 fn assert_read_fault<T: AllocGlobal + Threads + Wait + Clock + Sync + Abort>(
     rt: &T,
     fails_at: usize,
+    often: usize,
     want: &str,
 ) {
     let (status, reads, printed) = run_failing(rt, Chosen::Replay, SHORT.as_bytes(), fails_at);
     assert!(rt; printed.as_slice() == want.as_bytes());
     assert!(rt; status == 1);
-    assert!(rt; reads == fails_at);
+    assert!(rt; reads == often);
 }
 
 #[test]
 fn a_read_fault_is_told_after_the_replies_of_whole_lines(rt: HostRuntime) {
-    assert_read_fault(&rt, 1, "read fault\n");
-    assert_read_fault(&rt, 9, "read fault\n");
-    assert_read_fault(&rt, 10, "ok\nread fault\n");
-    assert_read_fault(&rt, 19, "ok\nread fault\n");
-    assert_read_fault(&rt, 20, "ok\nok\nread fault\n");
-    assert_read_fault(&rt, 27, "ok\nok\nread fault\n");
-    let (status, _, printed) = run_failing(&rt, Chosen::Replay, SHORT.as_bytes(), 28);
+    assert_read_fault(&rt, 1, 1, "read fault\n");
+    assert_read_fault(&rt, 2, 3, "ok\nread fault\n");
+    assert_read_fault(&rt, 3, 5, "ok\nok\nread fault\n");
+    assert_read_fault(&rt, 4, 6, "ok\nok\nread fault\n");
+    let (status, _, printed) = run_failing(&rt, Chosen::Replay, SHORT.as_bytes(), 5);
     assert!(rt; printed.as_slice() == SHORT_REPLIES.as_bytes());
     assert!(rt; status == 0);
 }

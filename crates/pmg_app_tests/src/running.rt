@@ -5,7 +5,7 @@ use pmg_commands::Chosen;
 use pmg_store::WatchedReader;
 use pmg_value::{Refusal, WatchedWriter};
 use std::alloc::Global;
-use std::io::{ErrorKind, Read, Write};
+use std::io::{BufRead, BufReader, ErrorKind, Read, Write};
 use std::process::Abort;
 use std::sync::Wait;
 use std::thread::Threads;
@@ -120,12 +120,11 @@ fn ends_with_no_memory(held: &[u8]) -> bool {
 }
 
 /// The status that the command ends with, for this reader and this writer.
-pub(crate) fn status_of<T: AllocGlobal + Threads + Wait + Clock + Sync + Abort, R: Read, W: Write>(
-    rt: &T,
-    chosen: Chosen,
-    reader: &mut WatchedReader<R>,
-    writer: &mut WatchedWriter<W>,
-) -> u8 {
+pub(crate) fn status_of<
+    T: AllocGlobal + Threads + Wait + Clock + Sync + Abort,
+    R: BufRead,
+    W: Write,
+>(rt: &T, chosen: Chosen, reader: &mut WatchedReader<R>, writer: &mut WatchedWriter<W>) -> u8 {
     let status = carry_out(rt, chosen, Vec::new(rt.alloc()), reader, writer);
     give_up_where(rt, lacks_memory(status, writer));
     status
@@ -163,11 +162,12 @@ pub(crate) fn run_failing<T: AllocGlobal + Threads + Wait + Clock + Sync + Abort
     text: &[u8],
     fails_at: usize,
 ) -> (u8, usize, Vec<u8>) {
-    let mut reader = WatchedReader::new(FailingReader {
+    let reader = FailingReader {
         text,
         reads: 0,
         fails_at,
-    });
+    };
+    let mut reader = WatchedReader::new(BufReader::new(rt.alloc(), reader).expect(rt, MEMORY));
     let mut writer = WatchedWriter::new(Vec::new(rt.alloc()));
     let status = status_of(rt, chosen, &mut reader, &mut writer);
     (status, reader.reads(), writer.into_inner())

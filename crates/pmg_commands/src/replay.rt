@@ -10,7 +10,7 @@ use pmg_store::{Failure, MOST_READS, WatchedReader};
 use pmg_value::WatchedWriter;
 use pmg_world::replay;
 use std::alloc::Global;
-use std::io::{Read, Write};
+use std::io::{BufRead, Write};
 
 /// Reads a script line by line, does each line and prints its reply, and answers the status.
 ///
@@ -18,7 +18,7 @@ use std::io::{Read, Write};
 /// is none, a script that is too long, a read fault and a write fault, 3 where an allocation failed. A fault of the script,
 /// a read fault and an allocation that failed print a line after the replies; where the writer fails, nothing more is
 /// printed.
-pub fn run_replay<R: Read, W: Write>(
+pub fn run_replay<R: BufRead, W: Write>(
     alloc: Global,
     reader: &mut WatchedReader<R>,
     writer: &mut WatchedWriter<W>,

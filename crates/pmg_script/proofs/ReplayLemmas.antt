@@ -9,7 +9,7 @@ use Rattle.pmg_value.specs.Written.{AppendsFront}
 use Rattle.pmg_value.proofs.WrittenLemmas.{appends_nothing, appends_then}
 use Rattle.pmg_store.specs.declared.failure.Failure.{Failure}
 use Rattle.pmg_store.specs.declared.failure.Failure.TheVariants.{Refused, Read, Write}
-use Rattle.std.specs.Prelude.{IfSome}
+use Rattle.std.specs.Prelude.{IfSome, OnSome}
 use Rattle.pmg_script.specs.declared.lines.LineFault.{LineFault}
 use Rattle.pmg_script.specs.declared.lines.LineFault.TheVariants as faults
 use Rattle.pmg_script.specs.Lines.{content}
@@ -23,7 +23,7 @@ not_true : (b : Bool) → not b ≡ true → b ≡ false
 not_true true h = absurd (false≢true h)
 not_true false h = refl
 
-one_line : (body rest : List ℕ) → IsUnended body → lines ((body ++ 10 ∷ []) ++ rest) ≡ (body ++ 10 ∷ []) ∷ lines rest
+pub one_line : (body rest : List ℕ) → IsUnended body → lines ((body ++ 10 ∷ []) ++ rest) ≡ (body ++ 10 ∷ []) ∷ lines rest
 unfolding lines
 one_line [] rest unended = refl
 one_line (b ∷ bs) rest unended =
@@ -31,7 +31,7 @@ one_line (b ∷ bs) rest unended =
     let next = lines ((bs ++ 10 ∷ []) ++ rest) in
     ap (λ t. cond t ((b ∷ []) ∷ next) (onto b next)) (not_true (is_end b) parts.0) ∙ ap (onto b) (one_line bs rest parts.1)
 
-last_line : (b : ℕ) (bs : List ℕ) → IsUnended (b ∷ bs) → lines (b ∷ bs) ≡ (b ∷ bs) ∷ []
+pub last_line : (b : ℕ) (bs : List ℕ) → IsUnended (b ∷ bs) → lines (b ∷ bs) ≡ (b ∷ bs) ∷ []
 unfolding lines
 last_line b [] unended =
     let parts = and_parts (not (is_end b)) true unended in
@@ -41,7 +41,7 @@ last_line b (c ∷ cs) unended =
     let next = lines (c ∷ cs) in
     ap (λ t. cond t ((b ∷ []) ∷ next) (onto b next)) (not_true (is_end b) parts.0) ∙ ap (onto b) (last_line c cs parts.1)
 
-no_lines : lines [] ≡ []
+pub no_lines : lines [] ≡ []
 unfolding lines
 no_lines = refl
 
@@ -69,8 +69,8 @@ record IsNext (rest line : List ℕ) : Type 0 where
   others : List (List ℕ)
   cut : lines rest ≡ line ∷ others
 
-at_end : (left : Option (List ℕ)) (after : List ℕ) → left ≡ Some after → IsAtEnd left → after ≡ []
-at_end left after is end = subst IsAtEnd is end
+at_end : (left new : Option (List ℕ)) (rest after : List ℕ) → left ≡ Some rest → new ≡ Some after → OnSome left (IsAtEnd new) → after ≡ []
+at_end left new rest after was is end = subst IsAtEnd is (subst (λ l. OnSome l (IsAtEnd new)) was end)
 
 next_of : (start : ℕ) (left new : Option (List ℕ)) (rest line : List ℕ) (ended : Bool) → left ≡ Some rest → NextLine start left new line (Ok ended) → 0 < length line → IsNext rest line
 next_of start left new rest line true is next some =
@@ -83,7 +83,7 @@ next_of start left new rest line true is next some =
 next_of start left new rest [] false is next some = absurd (omega (arith, some))
 next_of start left new rest (b ∷ bs) false is next some =
     let after = left_after left new rest (b ∷ bs) is next.1.0 in
-    let nothing = at_end new after.after after.is_left next.1.1 in
+    let nothing = at_end left new rest after.after is after.is_left next.1.1 in
     record { others = []; cut = ap lines (after.parts ∙ ap (λ l. (b ∷ bs) ++ l) nothing ∙ append-nil (b ∷ bs)) ∙ last_line b bs next.0 }
 
 read_so_far : (text : List ℕ) (done : List (List ℕ)) (rest part : List ℕ) (left new : Option (List ℕ)) → text ≡ joined_lines done ++ rest → left ≡ Some rest → Consumes left new part
@@ -131,7 +131,7 @@ module _ {S : Type 0} (plays : S → List ℕ → List ℕ → S → Type 0) (st
       no_whole line whole empty = omega (arith, ap length (sym whole.ends ∙ empty), length-append whole.body (10 ∷ []))
   ends_empty start text left new first wrote state offset line false g next empty =
       let rest = left_after left new g.rest line g.is_left next.1.0 in
-      let nothing = at_end new rest.after rest.is_left next.1.1 in
+      let nothing = at_end left new g.rest rest.after g.is_left rest.is_left next.1.1 in
       record {
         done = g.done;
         others = [];
@@ -153,7 +153,7 @@ module _ {S : Type 0} (plays : S → List ℕ → List ℕ → S → Type 0) (st
   ends_last start text left new first wrote written state offset [] answer after g next some played wrote_it live = absurd (omega (arith, some))
   ends_last start text left new first wrote written state offset (b ∷ bs) answer after g next some played wrote_it live =
       let rest = left_after left new g.rest (b ∷ bs) g.is_left next.1.0 in
-      let nothing = at_end new rest.after rest.is_left next.1.1 in
+      let nothing = at_end left new g.rest rest.after g.is_left rest.is_left next.1.1 in
       let cut = ap lines (rest.parts ∙ ap (λ l. (b ∷ bs) ++ l) nothing ∙ append-nil (b ∷ bs)) ∙ last_line b bs next.0 in
       record {
         done = g.done ++ (b ∷ bs) ∷ [];

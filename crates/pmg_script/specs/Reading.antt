@@ -1,5 +1,5 @@
 -- Reading a script line by line.
-use Rattle.std.specs.Prelude.{◌≡◌, ℕ, ◌+◌, ◌≤◌, ◌==◌, Bool, true, false, not, List, [], ◌∷◌, ◌++◌, length, Result, Ok, Err, Option, if◌then◌else◌}
+use Rattle.std.specs.Prelude.{◌≡◌, ℕ, ◌+◌, ◌≤◌, ◌==◌, Bool, true, false, not, List, [], ◌∷◌, ◌++◌, length, Result, Ok, Err, Option, OnSome, if◌then◌else◌}
 use Rattle.std.specs.Io.KnownBytes.{Consumes, IsAtEnd}
 use Rattle.std.specs.List.{list_all}
 use Rattle.pmg_value.specs.declared.refusal.Refusal.TheVariants.{NoMemory, BadFrame}
@@ -49,7 +49,7 @@ NoLine start old new line _ = ⊥
 -- its LF; or the last line, which has none.
 abbrev pub NextLine : ℕ → Option (List ℕ) → Option (List ℕ) → List ℕ → Result Bool Failure → Type 0
 NextLine start old new line (Ok true) = IsWhole line × Consumes old new line
-NextLine start old new line (Ok false) = IsUnended line × (Consumes old new line × IsAtEnd new)
+NextLine start old new line (Ok false) = IsUnended line × (Consumes old new line × OnSome old (IsAtEnd new))
 NextLine start old new line (Err e) = NoLine start old new line e
 
 -- one read a byte, and one more unless a line ended

@@ -11,7 +11,7 @@ use crate::reading::next_line;
 use pmg_store::{Failure, INPUT_LIMIT, MOST_READS, WatchedReader};
 use pmg_value::{Cause, Refusal, WatchedWriter};
 use std::alloc::Global;
-use std::io::{Read, Write};
+use std::io::{BufRead, Write};
 
 /// How a script ended that was no fault.
 #[derive(Clone, Copy, Debug, PartialEq, Eq)]
@@ -63,7 +63,7 @@ fn failure_of(fault: LineFault, offset: usize) -> Failure
 }
 
 /// Does the next line, which begins at this byte of the script, and writes its reply. The line is read into this list.
-fn turn<P: Player, R: Read, W: Write>(
+fn turn<P: Player, R: BufRead, W: Write>(
     reader: &mut WatchedReader<R>,
     offset: &mut usize,
     line: &mut Vec<u8>,
@@ -104,7 +104,7 @@ fn turn<P: Player, R: Read, W: Write>(
 ///
 /// A reply is written before the next line is read. A line that is none ends the script, as `BadFrame` with the cause Script at its first
 /// byte; so does the limit of `INPUT_LIMIT` bytes, once the lines before it are done. The reader is read at most 67,108,865 times.
-pub fn play_script<P: Player, R: Read, W: Write>(
+pub fn play_script<P: Player, R: BufRead, W: Write>(
     alloc: Global,
     reader: &mut WatchedReader<R>,
     player: &mut P,

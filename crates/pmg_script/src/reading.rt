@@ -6,13 +6,13 @@ ghost use Rattle.pmg_script.specs.Reading.{NextLine, CountsReads};
 
 use crate::lines::LF;
 use pmg_store::{Failure, INPUT_LIMIT, MOST_READS, WatchedReader, too_long};
-use std::io::Read;
+use std::io::BufRead;
 
 /// Reads the next line of a script, which begins at this byte of it, and says whether an LF ends it; the LF stays in the line.
 ///
 /// A script of more than `INPUT_LIMIT` bytes is refused as `BadFrame` with the cause Input at the limit. Any error of the reader is a
 /// read fault. The line then holds what was read of it.
-pub fn next_line<R: Read>(
+pub fn next_line<R: BufRead>(
     reader: &mut WatchedReader<R>,
     start: usize,
     line: &mut Vec<u8>,
@@ -26,16 +26,15 @@ pub fn next_line<R: Read>(
     ensures failed { IsSome reader.new.failure → IsSome reader.old.failure ⊎ (result
         ≡ Err failures.Read) }
 {
-    let mut byte = [0u8; 1];
     for _ in start..MOST_READS {
-        if reader.read(&mut byte)? == 0 {
+        if reader.read_through(LF, MOST_READS - start - line.len(), line)? == 0 {
             return Ok(false);
         }
-        if start + line.len() == INPUT_LIMIT {
+        if start + line.len() > INPUT_LIMIT {
+            line.pop();
             return Err(too_long());
         }
-        line.push(byte[0])?;
-        if byte[0] == LF {
+        if line[line.len() - 1] == LF {
             return Ok(true);
         }
     }

@@ -1,8 +1,8 @@
 //! Input read whole, up to a limit.
-ghost use Rattle.std.specs.Prelude.{◌≡◌, ◌≢◌, ◌<◌, ◌≤◌, ◌+◌, ◌-◌, ◌^◌, min, ◌⊎◌, IfErr, IfSome, IsNone, IsSome, OnErr, OnOk, is_some, length};
+ghost use Rattle.std.specs.Prelude.{◌≡◌, ◌≢◌, ◌<◌, ◌≤◌, ◌+◌, ◌-◌, ◌^◌, min, ◌⊎◌, IfErr, IfOk, IfSome, IsNone, IsSome, OnErr, OnOk, OnSome, is_some, length, take};
 ghost use Rattle.std.specs.Option.{option_copied};
-ghost use Rattle.std.specs.Io.{ReadsAtMost};
-ghost use Rattle.std.specs.Io.KnownBytes.{ReadConsumes};
+ghost use Rattle.std.specs.Io.{ReadsAtMost, StartsWith, StopsAt, appended_bytes};
+ghost use Rattle.std.specs.Io.KnownBytes.{Consumes, IsAtEnd, ReadConsumes};
 ghost use Rattle.pmg_store.specs.Input.{input_of, too_much_input};
 ghost use Rattle.pmg_store.specs.Outcomes.{GivesInput, or_failure};
 
@@ -10,7 +10,7 @@ use crate::failure::Failure;
 use pmg_value::{Cause, Fault, Refusal};
 use std::alloc::Global;
 use std::io;
-use std::io::Read;
+use std::io::{BufRead, Read};
 use thiserror::Error;
 
 /// The most bytes of input that are read: 64 MiB.
@@ -69,7 +69,7 @@ impl<R: Read> WatchedReader<R> {
         self.failure.as_ref()
     }
 
-    /// Reads once. The one place that reads.
+    /// Reads once.
     pub fn read(&mut self, chunk: &mut [u8]) -> Result<usize, ReadFault>
         ensures counted { self.new.reads ≡ min (self.old.reads + 1) (2 ^ 64 - 1) }
         ensures bound { ReadsAtMost result chunk.new }
@@ -86,6 +86,56 @@ impl<R: Read> WatchedReader<R> {
                 Err(ReadFault)
             }
         }
+    }
+}
+
+impl<R: BufRead> WatchedReader<R> {
+    /// Reads once, no more than the reader shows: appends its bytes up to and including the first such byte to the list, at most so
+    /// many, and says how many; none at the end. Nothing after them is taken from the reader.
+    pub fn read_through(
+        &mut self,
+        byte: u8,
+        most: usize,
+        list: &mut Vec<u8>,
+    ) -> Result<usize, Failure>
+        requires some { 0 < most }
+        ensures counted { self.new.reads ≡ min (self.old.reads + 1) (2 ^ 64 - 1) }
+        ensures appends { StartsWith list.new.items list.old.items }
+        ensures bytes { Consumes (R.remaining self.old.reader) (R.remaining self.new.reader)
+            (appended_bytes list.old.items list.new.items) }
+        ensures stops { StopsAt (appended_bytes list.old.items list.new.items) byte }
+        ensures count { IfOk result (λ n. length list.new.items ≡ length list.old.items + n) }
+        ensures most { IfOk result (λ n. n ≤ most) }
+        ensures end { result ≡ Ok 0 → OnSome (R.remaining self.old.reader) (IsAtEnd (R.remaining self.new.reader)) }
+        ensures none { IfErr result (λ e. list.new.items ≡ list.old.items) }
+        ensures cause { IfErr result (λ e. (e ≡ Failure.Read) ⊎ (e ≡ Failure.Refused Refusal.NoMemory)) }
+        ensures read_fault { IfErr result (λ e. e ≡ Failure.Read → IsSome self.new.failure) }
+        ensures failed { (result ≡ Err Failure.Read) ⊎ (self.new.failure ≡ self.old.failure) }
+    {
+        self.reads = self.reads.saturating_add(1);
+        let shown = match self.reader.fill_buf() {
+            Ok(shown) => shown,
+            Err(error) => {
+                self.failure = Some(error);
+                return Err(Failure::Read);
+            }
+        };
+        let count = len_through(shown, byte).min(most);
+        list.extend_from_slice(&shown[..count])?;
+        self.reader.consume(count);
+        Ok(count)
+    }
+}
+
+/// How many bytes stand up to and including the first such byte, or all.
+fn len_through(bytes: &[u8], byte: u8) -> usize
+    ensures within { result ≤ length bytes.now }
+    ensures some { 0 < length bytes.now → 0 < result }
+    ensures before { StopsAt (take result bytes.now) byte }
+{
+    match bytes.iter().position(|it| *it == byte) {
+        Some(at) => at + 1,
+        None => bytes.len(),
     }
 }
 

@@ -21,7 +21,7 @@ use pmg_script::{Ended, Line, LineFault, Player, play_script, read_line};
 use pmg_store::{Failure, WatchedReader};
 use pmg_value::{Nspace, Refusal, WatchedWriter, is_nspace_name};
 use std::alloc::{AllocError, Global};
-use std::io::{Read, Write};
+use std::io::{BufRead, Write};
 use std::marker::Model;
 
 /// What does the lines of a script: a group of nodes, once they are named.
@@ -196,7 +196,7 @@ impl Player for Stage {
 /// The first line that says something names the nodes; where they are refused, the script is over. Namespaces come next, and then
 /// what happens. What a line of no form, and one out of its order, is refused as, and what more than `INPUT_LIMIT` bytes are, is said
 /// at `play_script`.
-pub fn replay<R: Read, W: Write>(
+pub fn replay<R: BufRead, W: Write>(
     alloc: Global,
     reader: &mut WatchedReader<R>,
     writer: &mut WatchedWriter<W>,

@@ -8,7 +8,7 @@ use pmg_store::{Failure, WatchedReader};
 use pmg_value::{Refusal, WatchedWriter};
 use pmg_world::replay;
 use std::alloc::Global;
-use std::io::{ErrorKind, Read};
+use std::io::{BufRead, BufReader, ErrorKind};
 use std::process::Abort;
 
 const NO_MEMORY: Failure = Failure::Refused(Refusal::NoMemory);
@@ -44,7 +44,7 @@ struct Outcome {
 }
 
 // What comes of a script, of whose replies so many bytes can be written, one by one.
-fn play<R: Read + Drop>(rt: &impl Abort, alloc: Global, reader: R, writes: usize) -> Outcome {
+fn play<R: BufRead + Drop>(rt: &impl Abort, alloc: Global, reader: R, writes: usize) -> Outcome {
     let held = Vec::with_capacity(alloc, ROOM).expect(rt, MEMORY);
     let mut reader = WatchedReader::new(reader);
     let mut writer = WatchedWriter::new(FailingWriter {
@@ -105,6 +105,7 @@ fn replies_before_a_read_fault_stay(rt: HostRuntime) {
             fails_at,
             fault: ErrorKind::Other,
         };
+        let reader = BufReader::new(rt.alloc(), reader).expect(&rt, MEMORY);
         let played = play(&rt, rt.alloc(), reader, usize::MAX);
         let told = told_before(fails_at.saturating_sub(1));
         let before = replies.get(..told).unwrap_or(b"");

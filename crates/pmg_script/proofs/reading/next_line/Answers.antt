@@ -1,34 +1,62 @@
-use Rattle.std.proofs.Common.{◌≡◌, ◌+◌, ◌≤◌, ℕ, List, [], ◌∷◌, Option, length, take, get_or, arith, rules, refl, subst}
-use Rattle.std.specs.Io.KnownBytes.{Consumes}
-use Rattle.std.proofs.KnownBytes.{Consumes-trans}
-use Rattle.std.proofs.lemmas.List.{take_all}
+use Rattle.std.proofs.Common.{◌≡◌, ◌-◌, ◌<◌, ◌+◌, length, take, get_or, arith, rules, refl, sym, ap, subst, ◌∙◌}
+use Rattle.std.proofs.lemmas.Result.{err_from_is_err_and}
 use Rattle.pmg_store.specs.declared.input.TheConstants.{INPUT_LIMIT}
-use Rattle.pmg_script.specs.Reading.{IsUnended, IsPastLimit}
+use Rattle.pmg_script.specs.Reading.{IsUnended}
+use Rattle.pmg_script.proofs.ReadingLemmas.{goes_on, is_past_limit, is_whole, no_line_read, nothing_more, read_on, stops_on, unended_of}
 use Rattle.pmg_script.proofs.reading.next_line.Goals as goal
 
-one_byte : (chunk : List ℕ) (n : ℕ) → 1 ≤ n → length chunk ≡ 1 → take n chunk ≡ get_or chunk 0 0 ∷ []
-one_byte [] n some is = absurd (omega (arith, is))
-one_byte (x ∷ []) n some is = take_all n (x ∷ []) (omega (arith, some))
-one_byte (x ∷ y ∷ ys) n some is = absurd (omega (arith, is))
+pub returns-in_err-read_through-clause-line : goal.returns-in_err-read_through-clause-line
+returns-in_err-read_through-clause-line g c =
+    let err = err_from_is_err_and c.from_residual.result c.from_residual.ensures.1 in
+    rw (err.1, err.2) (no_line_read c.args.start (g.R.Read.remaining c.args.reader.now.reader) (g.R.Read.remaining c.loop.reader.reader)
+    (g.R.Read.remaining c.read_through.new.self.reader) c.loop.line.items c.read_through.new.list.items _ c.in_err-read_through.ensures.cause c.in_err-read_through.ensures.none
+    c.loop.invariant.unended c.loop.invariant.read c.in_err-read_through.ensures.bytes)
 
--- a byte past the limit
-past_limit : (start : ℕ) (old mid new : Option (List ℕ)) (line chunk : List ℕ) (n : ℕ) → start + length line ≡ INPUT_LIMIT → IsUnended line → 1 ≤ n → length chunk ≡ 1
-    → Consumes old mid line → Consumes mid new (take n chunk) → IsPastLimit start old new line
-past_limit start old mid new line chunk n limit unended some one first second = record {
-  limit = limit;
-  unended = unended;
-  byte = get_or chunk 0 0;
-  read = Consumes-trans old mid new line (get_or chunk 0 0 ∷ []) first (subst (λ bytes. Consumes mid new bytes) (one_byte chunk n some one) second);
-}
-
-pub returns-then-start-len-eq-INPUT_LIMIT-clause-line :
-    goal.returns-then-start-len-eq-INPUT_LIMIT-clause-line
-returns-then-start-len-eq-INPUT_LIMIT-clause-line g c =
-    let some : 1 ≤ c.in_ok-read.field-0 = omega (arith, c.if-branch-eq0.false) in
-    let limit : c.args.start + length c.loop.line.items ≡ INPUT_LIMIT = omega (arith, c.if-start-len-eq-INPUT_LIMIT.true, c.len.ensures) in
-    rw c.too_long.ensures (
-      refl,
-      past_limit c.args.start (g.R.Read.remaining c.args.reader.now.reader) (g.R.Read.remaining c.loop.reader.reader)
-          (g.R.Read.remaining c.read.new.self.reader) c.loop.line.items c.read.new.chunk c.in_ok-read.field-0 limit c.loop.invariant.unended some (search rules)
-          c.loop.invariant.read c.in_ok-read.ensures.bytes.0,
+pub returns-then-branch-eq0-clause-line : goal.returns-then-branch-eq0-clause-line
+returns-then-branch-eq0-clause-line g c =
+    let same = nothing_more c.loop.line.items c.read_through.new.list.items c.in_ok-read_through.ensures.appends (omega (arith, c.in_ok-read_through.ensures.count, c.if-branch-eq0.true)) in (
+      subst IsUnended (sym same) (unended_of c.loop.line.items c.loop.invariant.unended),
+      (
+        read_on (g.R.Read.remaining c.args.reader.now.reader) (g.R.Read.remaining c.loop.reader.reader) (g.R.Read.remaining c.read_through.new.self.reader) c.loop.line.items
+            c.read_through.new.list.items c.in_ok-read_through.ensures.appends c.loop.invariant.read c.in_ok-read_through.ensures.bytes,
+        search rules,
+      ),
     )
+
+pub returns-then-start-len-gt-INPUT_LIMIT-clause-line :
+    goal.returns-then-start-len-gt-INPUT_LIMIT-clause-line
+returns-then-start-len-gt-INPUT_LIMIT-clause-line g c =
+    let stops = stops_on c.loop.line.items c.read_through.new.list.items c.in_ok-read_through.ensures.appends c.loop.invariant.unended c.in_ok-read_through.ensures.stops in
+    let read = read_on (g.R.Read.remaining c.args.reader.now.reader) (g.R.Read.remaining c.loop.reader.reader) (g.R.Read.remaining c.read_through.new.self.reader) c.loop.line.items
+    c.read_through.new.list.items c.in_ok-read_through.ensures.appends c.loop.invariant.read c.in_ok-read_through.ensures.bytes in
+    let cut : c.pop.new.self.items ≡ take (length c.read_through.new.list.items - 1) c.read_through.new.list.items = search rules in
+    let some : 0 < length c.read_through.new.list.items = search rules in
+    let limit : c.args.start + length c.pop.new.self.items ≡ INPUT_LIMIT = search rules in
+    rw c.too_long.ensures (refl, is_past_limit c.args.start _ _ c.read_through.new.list.items c.pop.new.self.items some cut limit stops read)
+
+pub returns-then-index-eq-LF-clause-line : goal.returns-then-index-eq-LF-clause-line
+returns-then-index-eq-LF-clause-line g c =
+    let stops = stops_on c.loop.line.items c.read_through.new.list.items c.in_ok-read_through.ensures.appends c.loop.invariant.unended c.in_ok-read_through.ensures.stops in
+    let some : 0 < length c.read_through.new.list.items = search rules in
+    let size : c.len-in-loop-2.result ≡ length c.read_through.new.list.items = search rules in
+    let at = c.index.ensures ∙ ap (λ n. get_or c.read_through.new.list.items (n - 1) c.index.result.now) size in (
+      is_whole c.read_through.new.list.items c.index.result.now some at c.if-index-eq-LF.true stops,
+      read_on (g.R.Read.remaining c.args.reader.now.reader) (g.R.Read.remaining c.loop.reader.reader) (g.R.Read.remaining c.read_through.new.self.reader) c.loop.line.items
+          c.read_through.new.list.items c.in_ok-read_through.ensures.appends c.loop.invariant.read c.in_ok-read_through.ensures.bytes,
+    )
+
+pub loop-preserved : goal.loop-preserved
+loop-preserved g c =
+    let stops = stops_on c.loop.line.items c.read_through.new.list.items c.in_ok-read_through.ensures.appends c.loop.invariant.unended c.in_ok-read_through.ensures.stops in
+    let some : 0 < length c.read_through.new.list.items = search rules in
+    let size : c.len-in-loop-2.result ≡ length c.read_through.new.list.items = search rules in
+    let at = c.index.ensures ∙ ap (λ n. get_or c.read_through.new.list.items (n - 1) c.index.result.now) size in
+    record {
+      failure = search rules;
+      reads = search rules;
+      count = search rules;
+      within = search rules;
+      unended = goes_on c.read_through.new.list.items c.index.result.now some at c.if-index-eq-LF.false stops;
+      read = read_on (g.R.Read.remaining c.args.reader.now.reader) (g.R.Read.remaining c.loop.reader.reader) (g.R.Read.remaining c.read_through.new.self.reader) c.loop.line.items
+          c.read_through.new.list.items c.in_ok-read_through.ensures.appends c.loop.invariant.read c.in_ok-read_through.ensures.bytes;
+    }
