@@ -42,7 +42,7 @@ none_found has_cause is = elim (by_causes has_cause (tt {0})) [ inl found ↦ ab
 host_is_reserved : (p : Proc) → is_host p ≡ true → is_reserved p.nspace ≡ true
 host_is_reserved p e = let kept : is_reserved host_name ≡ true = refl in ap is_reserved ((bytes_eq-Decides p.nspace host_name).0 (and_parts _ _ e).0) ∙ kept
 
-not_host : (p : Proc) (b : Bool) → is_host p ≡ b → is_reserved p.nspace ≡ false → is_host p ≡ false
+pub not_host : (p : Proc) (b : Bool) → is_host p ≡ b → is_reserved p.nspace ≡ false → is_host p ≡ false
 not_host p true e named = absurd (false≢true (sym named ∙ host_is_reserved p e))
 not_host p false e named = e
 

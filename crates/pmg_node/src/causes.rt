@@ -50,14 +50,11 @@ impl Node {
     pub fn check_caller(&self, proc: &Proc) -> Result<(), Refusal>
         ensures { result ≡ first_of (caller_cause self.now.jobs self.now.id self.now.holding proc.now) tt }
     {
-        let registry = self.table.registry();
-        if is_bad_caller(registry, proc) {
+        if proc.nspace.is_reserved() {
             return Err(Refusal::BadParam);
         }
-        if !is_registered(registry, &proc.nspace) {
-            return Err(Refusal::UnknownNamespace);
-        }
-        if !registry.is_home(self.id, proc) {
+        let home = self.table.registry().home(proc)?;
+        if home != self.id {
             return Err(Refusal::NotMine);
         }
         if self.own.has_ended(proc) {
