@@ -3,6 +3,7 @@ ghost use Rattle.std.specs.Prelude.{◌≡◌, ◌<◌, ◌++◌, ◌&&◌, leng
 ghost use Rattle.pmg_value.specs.Spelling.{spelling};
 ghost use Rattle.pmg_value.specs.declared.refusal.Refusal.TheVariants as refusals;
 ghost use Rattle.pmg_jobinfo.specs.Jobs.{AreJobs, home_of};
+ghost use Rattle.pmg_node_model.specs.Acts.{Act as ModelAct};
 ghost use Rattle.pmg_node.specs.Acting.{act_of, reply_as, request_of};
 ghost use Rattle.pmg_node.specs.Servers.{Server, IsAnswered, RepliesAct, after, sent_by};
 ghost use Rattle.pmg_world.specs.Keeping.{AreNew, Happens, IsGroup, IsSame, Represents};
@@ -85,6 +86,21 @@ impl Group {
         }
     }
 
+    /// This is asked for at the node of that index; the frames that it sends are sent.
+    fn request_at(&mut self, index: usize, request: &Request) -> Result<Reply, Refusal>
+        requires { index < length self.old.nodes.items }
+        ensures reply { (d : Server) → RepliesAct reply_as result (slice_index_or self.old.nodes.items index d) (ModelAct.request (request_of request.now)) }
+        ensures nodes { (d : Server) → IsAnswered result
+            → self.new.nodes.items ≡ slice_set self.old.nodes.items index (after (slice_index_or self.old.nodes.items index d) (ModelAct.request (request_of request.now))) }
+        ensures sent { (d : Server) → IsAnswered result
+            → self.new.sent.items ≡ self.old.sent.items ++ sent_by (slice_index_or self.old.nodes.items index d) (ModelAct.request (request_of request.now)) }
+        ensures registry { self.new.registry ≡ self.old.registry }
+        ensures caches { self.new.caches ≡ self.old.caches }
+        ensures memory { result ≡ Err refusals.NoMemory → IsSame self.old self.new }
+    {
+        self.nodes[index].request(request, &mut self.sent)
+    }
+
     /// The index of the process's home.
     fn home_of(&self, proc: &Proc) -> usize
         requires { IsGroup self.now }
@@ -143,7 +159,7 @@ impl Group {
         }
         match own_key(request) {
             Some((proc, key)) => own_get(&self.nodes[index as usize], &self.caches, proc, key),
-            None => self.act_at(index as usize, &Act::Request(request.copy()?)),
+            None => self.request_at(index as usize, request),
         }
     }
 

@@ -1,7 +1,6 @@
 use Rattle.std.proofs.Common.{◌<◌, ◌≤◌, length, None, Err, refl, sym, ap, subst, ◌∙◌, arith}
 use Rattle.std.specs.Option.{option_map}
 use Rattle.std.proofs.lemmas.Bool.Decides.{nat_tests}
-use Rattle.std.proofs.lemmas.Result.{err_from_is_err_and}
 use Rattle.pmg_value.specs.declared.refusal.Refusal.TheVariants as refusals
 use Rattle.pmg_node.specs.Acting.{request_of}
 use Rattle.pmg_node_model.specs.Acts.{Act, says}
@@ -9,9 +8,9 @@ use Rattle.pmg_node_model.specs.Fitting.{is_refusal, unless_refused}
 use Rattle.pmg_caches.specs.Caching.{AllCached, cached_for}
 use Rattle.pmg_caches.proofs.CauseLemmas.{replied_due}
 use Rattle.pmg_world.specs.Keeping.{AreCaches, replied}
-use Rattle.pmg_group_model.specs.Worlds.{Doing, Event, reply_or_refusal}
+use Rattle.pmg_group_model.specs.Worlds.{Event, reply_or_refusal}
 use Rattle.pmg_world.proofs.ClientLemmas.{request_keeps}
-use Rattle.pmg_world.proofs.GroupLemmas.{acts_on, happens_by, inside_is_node, node_there, outside_is_none, refused_stays, says_nothing, short_happens, stays}
+use Rattle.pmg_world.proofs.GroupLemmas.{acts_on, happens_by, inside_is_node, node_there, outside_is_none, refused_stays, says_nothing, stays}
 use Rattle.pmg_world.proofs.HappenLemmas.{at_node_is, own_answer_is, own_due, own_is_due, request_nowhere, request_there}
 use Rattle.pmg_world.proofs.StartLemmas.{some_server}
 use Rattle.pmg_world.proofs.group.Group.request.Goals as goal
@@ -24,11 +23,6 @@ returns-then-index-len-clause-step c =
     happens_by g (Event.request c.args.index r) (Err refusals.BadParam) g refl
     (λ is w stands. refused_stays g w stands (Event.request c.args.index r) (Err refusals.BadParam) _ refusals.BadParam
     (request_nowhere g.registry w c.args.index r (outside_is_none g w stands c.args.index past)) refl)
-
-pub returns-in_err-copy-in-None-clause-step : goal.returns-in_err-copy-in-None-clause-step
-returns-in_err-copy-in-None-clause-step c =
-    let p = err_from_is_err_and c.from_residual.result c.from_residual.ensures.1 in
-    short_happens c.args.self.now _ c.from_residual.result _ (p.1 ∙ ap Err p.2)
 
 pub returns-in-Some-clause-step : goal.returns-in-Some-clause-step
 returns-in-Some-clause-step c =
@@ -48,22 +42,21 @@ returns-in-Some-clause-step c =
     (replied_due c.own_get.result _ c.own_get.ensures is ∙ ap reply_or_refusal (own_answer_is g.registry w index s (cached_for g.caches p) p key of (stands.caches p)))
     (says_nothing (is_refusal (replied c.own_get.result)) w.scripts))
 
-pub returns-in_ok-copy-in-None-clause-step : goal.returns-in_ok-copy-in-None-clause-step
-returns-in_ok-copy-in-None-clause-step c =
+pub returns-in-None-clause-step : goal.returns-in-None-clause-step
+returns-in-None-clause-step c =
     let g = c.args.self.now in
     let r = request_of c.args.request.now in
     let index = c.args.index in
     let d = some_server g.registry in
-    let answer = c.act_at.result in
-    let new = c.act_at.new.self in
-    let done = c.act_at.ensures in
-    let copy = request_of c.in_ok-copy-in-None.field-0 in
+    let answer = c.request_at.result in
+    let new = c.request_at.new.self in
+    let done = c.request_at.ensures in
     let inside : index < length g.nodes.items = grind (arith, nat_tests, c.if-index-len.false, c.len.ensures) in
     let none = sym c.own_key.ensures ∙ ap (option_map (λ own. (own.0.now, own.1.now))) c.in-None.is in
     happens_by g (Event.request index r) answer new done.registry
     (λ is w stands.
-    acts_on g new w stands (Event.request index r) index d (Act.request copy) answer
+    acts_on g new w stands (Event.request index r) index d (Act.request r) answer
     (record { inside = inside; is = is; reply = done.reply d; nodes = done.nodes d is; sent = done.sent d is; jobs = done.registry })
-    (request_there g.registry w index r (inside_is_node g w stands index inside) ∙ at_node_is g.registry w index r none ∙ ap (λ x. Doing.at_node index (Act.request x)) (sym c.in_ok-copy-in-None.ensures))
-    (subst (λ (x : AllCached). AreCaches x (unless_refused (is_refusal (replied answer)) w.scripts (says g.registry (Act.request copy)))) (sym done.caches)
-    (request_keeps g.caches w.scripts stands.caches g.registry (is_refusal (replied answer)) copy)))
+    (request_there g.registry w index r (inside_is_node g w stands index inside) ∙ at_node_is g.registry w index r none)
+    (subst (λ (x : AllCached). AreCaches x (unless_refused (is_refusal (replied answer)) w.scripts (says g.registry (Act.request r)))) (sym done.caches)
+    (request_keeps g.caches w.scripts stands.caches g.registry (is_refusal (replied answer)) r)))
