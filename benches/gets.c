@@ -17,11 +17,11 @@ static void done(uint32_t code) {
 }
 
 int main(void) {
-    static const char job[] = "{\"nodes\": [\"n0\"], \"spaces\": [{\"name\": \"j\", \"homes\": [0,0,0,0,0,0,0,0,0,0,0,0,0,0,0,0,0,0,0,0,0,0,0,0,0,0,0,0,0,0,0,0]}]}";
+    static const char group[] = "nodes n0\nspace j 0 0 0 0 0 0 0 0 0 0 0 0 0 0 0 0 0 0 0 0 0 0 0 0 0 0 0 0 0 0 0 0\n";
     pmixgroup_node node = PMIXGROUP_NODE_INIT;
     uint64_t count = 0, number = 0, sum = 0;
     if (scanf("%" SCNu64, &count) != 1) return 2;
-    done(pmixgroup_open(&node, 0, BYTES(job)));
+    done(pmixgroup_open(&node, 0, BYTES(group)));
     for (uint32_t rank = 0; rank < PROCS; rank++) {
         uint8_t value[] = {9, (uint8_t)rank};
         done(pmixgroup_put(&node, BYTES("j"), rank, PMIXGROUP_GLOBAL, BYTES("addr"), value, sizeof value));

@@ -5,14 +5,14 @@
  * below is proved to do what its contract says (crates/pmixgroup_c), for a caller who keeps the duties of this page.
  *
  *     pmixgroup_node node = PMIXGROUP_NODE_INIT;
- *     const char *job = "{\"nodes\": [\"n0\", \"n1\"], \"spaces\": [{\"name\": \"j\", \"homes\": [0, 1]}]}";
+ *     const char *group = "nodes n0 n1\nspace j 0 1\n";                               // process j 0 at node 0, j 1 at node 1
  *     uint8_t frame[1 << 16], value[64];
  *     const uint8_t five[] = {9, 5};                                  // the value 5: its tag, then its byte (docs/FORMATS.md)
  *     uint64_t number;
  *     uint32_t to;
  *     size_t len;
  *
- *     if (pmixgroup_open(&node, 0, BYTES(job)) != PMIXGROUP_DONE) abort();           // node 0 of the group
+ *     if (pmixgroup_open(&node, 0, BYTES(group)) != PMIXGROUP_DONE) abort();         // node 0 of the group
  *     pmixgroup_put(&node, BYTES("j"), 0, PMIXGROUP_GLOBAL, BYTES("a"), five, 2);    // process j 0 puts 5 under the key a
  *     pmixgroup_commit(&node, BYTES("j"), 0, &number);                               // number is 1: its first commit
  *     pmixgroup_enter(&node, BYTES("j"), 0, true, &number);                          // a fence of all of j, which collects data
@@ -100,10 +100,12 @@ typedef struct pmixgroup_node {
 #define PMIXGROUP_RANK_UNDEF UINT32_MAX
 #define PMIXGROUP_RANK_WILDCARD (UINT32_MAX - 1)
 
-/* Opens node `id` (0, 1, ..) of the group that the text of a job describes, as `pmixgroup run` reads it: at most 8 nodes and 32
- * processes. Refused as BAD_PARAM where the text describes no job or the group has no such node, as EXISTS where a namespace is named
- * twice, as TOO_MANY past a limit. */
-uint32_t pmixgroup_open(pmixgroup_node *node, uint32_t id, const uint8_t *job, size_t job_len);
+/* Opens node `id` (0, 1, ..) of the group that a text describes: a line `nodes NAME ..` with the names of the nodes, then for each
+ * namespace a line `space NAMESPACE NODE ..` with the home of ranks 0, 1, ..; words stand apart by one blank, and LF ends a line. At most
+ * 64 nodes, 16 namespaces and 4,096 ranks in each. Each node of a group is opened with the same text. Refused as BAD_PARAM where the
+ * text has another line or a name that is none, and where the group has no such node; as EXISTS where a namespace is named twice; as
+ * TOO_MANY past a limit. */
+uint32_t pmixgroup_open(pmixgroup_node *node, uint32_t id, const uint8_t *group, size_t group_len);
 
 /* Closes the node. */
 uint32_t pmixgroup_close(pmixgroup_node *node);

@@ -24,7 +24,7 @@
         if (code_ != (wanted)) fail(__LINE__, code_); \
     } while (0)
 
-static const char JOB[] = "{\"nodes\": [\"n0\", \"n1\"], \"spaces\": [{\"name\": \"j\", \"homes\": [0, 1]}]}";
+static const char GROUP[] = "nodes n0 n1\nspace j 0 1\n";
 
 /* How many allocations were asked for, and which one fails; how many failures calls told. */
 static long asked, failing, told;
@@ -76,11 +76,35 @@ static void flow(void) {
 /* Handles that hold no node, and groups that have none of that index. */
 static void opening(void) {
     EXPECT(pmixgroup_nudge(&zero) == PMIXGROUP_WRONG_HANDLE);
-    ASK(PMIXGROUP_BAD_PARAM, pmixgroup_open(&zero, 2, BYTES(JOB)));
-    ASK(PMIXGROUP_BAD_PARAM, pmixgroup_open(&zero, 0, BYTES("{}")));
-    ASK(PMIXGROUP_DONE, pmixgroup_open(&zero, 0, BYTES(JOB)));
-    EXPECT(pmixgroup_open(&zero, 0, BYTES(JOB)) == PMIXGROUP_WRONG_HANDLE);
-    ASK(PMIXGROUP_DONE, pmixgroup_open(&one, 1, BYTES(JOB)));
+    ASK(PMIXGROUP_BAD_PARAM, pmixgroup_open(&zero, 2, BYTES(GROUP)));
+    ASK(PMIXGROUP_BAD_PARAM, pmixgroup_open(&zero, 0, BYTES("")));
+    ASK(PMIXGROUP_BAD_PARAM, pmixgroup_open(&zero, 0, BYTES("space j 0\nnodes n0\n")));
+    ASK(PMIXGROUP_BAD_PARAM, pmixgroup_open(&zero, 0, BYTES("nodes n0\nspace j 1\n")));
+    ASK(PMIXGROUP_BAD_PARAM, pmixgroup_open(&zero, 0, BYTES("nodes n0\ncommit j 0\n")));
+    ASK(PMIXGROUP_EXISTS, pmixgroup_open(&zero, 0, BYTES("nodes n0\nspace j 0\nspace j 0\n")));
+    ASK(PMIXGROUP_DONE, pmixgroup_open(&zero, 0, BYTES("nodes n0\r\n\nspace j 0")));
+    EXPECT(pmixgroup_close(&zero) == PMIXGROUP_DONE);
+    ASK(PMIXGROUP_DONE, pmixgroup_open(&zero, 0, BYTES(GROUP)));
+    EXPECT(pmixgroup_open(&zero, 0, BYTES(GROUP)) == PMIXGROUP_WRONG_HANDLE);
+    ASK(PMIXGROUP_DONE, pmixgroup_open(&one, 1, BYTES(GROUP)));
+}
+
+/* The largest group: each of 64 nodes is home to one rank of 64. One node more is too many. */
+static void largest(void) {
+    static char text[1 << 14];
+    size_t at = (size_t)sprintf(text, "nodes");
+    for (int node = 0; node < 64; node++) at += (size_t)sprintf(text + at, " n%d", node);
+    size_t nodes = at;
+    at += (size_t)sprintf(text + at, "\nspace j");
+    for (int ranks = 0; ranks < 4096; ranks++) at += (size_t)sprintf(text + at, " %d", ranks % 64);
+    EXPECT(pmixgroup_open(&zero, 63, BYTES(text)) == PMIXGROUP_DONE);
+    EXPECT(pmixgroup_put(&zero, BYTES("j"), 4095, PMIXGROUP_GLOBAL, BYTES("a"), (const uint8_t *)"\x09\x07", 2) == PMIXGROUP_DONE);
+    EXPECT(pmixgroup_commit(&zero, BYTES("j"), 4095, &number) == PMIXGROUP_DONE && number == 1);
+    EXPECT(pmixgroup_get(&zero, BYTES("j"), 63, BYTES("j"), 4095, BYTES("a"), PMIXGROUP_NOW) == PMIXGROUP_DONE);
+    EXPECT(pmixgroup_value(&zero, buffer, sizeof buffer, &len) == PMIXGROUP_DONE && len == 2 && buffer[1] == 7);
+    EXPECT(pmixgroup_close(&zero) == PMIXGROUP_DONE);
+    sprintf(text + nodes, " n64\n");
+    EXPECT(pmixgroup_open(&zero, 0, BYTES(text)) == PMIXGROUP_TOO_MANY);
 }
 
 /* What is refused, by its code, which leaves what it would tell. */
@@ -193,6 +217,7 @@ static void closing(void) {
 
 int main(int count, char **words) {
     long step = count > 1 ? atol(words[1]) : 1, most = 0, runs = 0;
+    largest();
     for (failing = 0; failing <= most; failing += step, runs++) {
         asked = told = 0;
         opening();

@@ -14,7 +14,8 @@
 #define NODES 2
 #define PIECE 7
 
-static const char JOB[] = "{\"nodes\": [\"n0\", \"n1\"], \"spaces\": [{\"name\": \"j\", \"homes\": [0, 0, 1, 1]}]}";
+/* The first lines of the script. */
+static const char GROUP[] = "nodes n0 n1\nspace j 0 0 1 1\n";
 
 static pmixgroup_node nodes[NODES] = {PMIXGROUP_NODE_INIT, PMIXGROUP_NODE_INIT};
 static int sockets[NODES];
@@ -131,7 +132,7 @@ static void flow(void) {
 int main(void) {
     if (socketpair(AF_UNIX, SOCK_STREAM, 0, sockets) != 0) fail("no sockets");
     for (uint32_t id = 0; id < NODES; id++)
-        if (pmixgroup_open(&nodes[id], id, BYTES(JOB)) != PMIXGROUP_DONE) fail("no node");
+        if (pmixgroup_open(&nodes[id], id, BYTES(GROUP)) != PMIXGROUP_DONE) fail("no node");
     printf("ok\nok\n");
 
     for (uint32_t rank = 0; rank < 4; rank++) {

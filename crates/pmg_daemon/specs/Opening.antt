@@ -5,7 +5,7 @@ use Rattle.pmg_value.specs.Refusals.{number_of}
 use Rattle.pmg_value.specs.declared.refusal.Refusal.{Refusal}
 use Rattle.pmg_value.specs.declared.refusal.Refusal.TheVariants as refusals
 use Rattle.pmg_jobinfo.specs.Jobs.{Jobs, is_node}
-use Rattle.pmg_jobfile.specs.Reading.{GivesJob}
+use Rattle.pmg_grouptext.specs.Groups.{ReadsGroup, group_in}
 use Rattle.pmg_node.specs.Opening.{new_server}
 use Rattle.pmg_node.specs.declared.act.Reply.TheVariants as replies
 use Rattle.pmg_link.specs.Links.{new_link}
@@ -20,8 +20,8 @@ pub record IsNewInbox (i : Inbox) : Type 0 where
   pub fault : i.fault ≡ None
 
 -- It is the node of that index in the group that the text describes, and nothing was asked of it yet.
-pub record OpensNode (id : ℕ) (job : List ℕ) (d : Daemon) : Type 0 where
-  pub job_is : GivesJob job (Ok d.link.node.jobs)
+pub record OpensNode (id : ℕ) (group : List ℕ) (d : Daemon) : Type 0 where
+  pub group_is : group_in group ≡ Ok d.link.node.jobs
   pub node : is_node d.link.node.jobs id ≡ true
   pub link : d.link ≡ new_link (new_server d.link.node.jobs id)
   pub inboxes : length d.inboxes.items ≡ length d.link.node.jobs.nodes
@@ -31,8 +31,9 @@ pub record OpensNode (id : ℕ) (job : List ℕ) (d : Daemon) : Type 0 where
 
 -- None is opened for this refusal: the text's, or the group has no node of that index.
 abbrev pub RefusesToOpen : ℕ → List ℕ → Refusal → Type 0
-RefusesToOpen id job e = GivesJob job (Err e) ⊎ ((e ≡ refusals.BadParam) × ((jobs : Jobs) × (GivesJob job (Ok jobs) × (is_node jobs id ≡ false))))
+RefusesToOpen id group e =
+    ReadsGroup (λ (jobs : Jobs). jobs) (Err e) (group_in group) ⊎ ((e ≡ refusals.BadParam) × ((jobs : Jobs) × ((group_in group ≡ Ok jobs) × (is_node jobs id ≡ false))))
 
 -- The code tells such a refusal.
 abbrev pub FailsToOpen : ℕ → List ℕ → ℕ → Type 0
-FailsToOpen id job code = (e : Refusal) × ((code ≡ REFUSED + number_of e) × RefusesToOpen id job e)
+FailsToOpen id group code = (e : Refusal) × ((code ≡ REFUSED + number_of e) × RefusesToOpen id group e)

@@ -16,7 +16,7 @@ ghost use Rattle.pmg_daemon.specs.Opening.{IsNewInbox, OpensNode, RefusesToOpen}
 
 use crate::call::{ProcCall, proc_said};
 use crate::codes::{DONE, NO_MEMORY, answer_code, refusal_code};
-use pmg_jobfile::Job;
+use pmg_grouptext::read_group;
 use pmg_jobinfo::Registry;
 use pmg_link::{Inbox, Link};
 use pmg_node::{Node, Reply};
@@ -77,17 +77,16 @@ impl Daemon {
         })
     }
 
-    /// A new node of the group that the text of a job describes (`run` reads the same), of that index. Refused as `Job::read` refuses the
-    /// text, as BadParam where the group has no node of that index, and as NoMemory.
-    pub fn open(alloc: Global, id: u32, job: &[u8]) -> Result<Daemon, Refusal>
-        ensures opened { IfOk result (λ d. OpensNode id job.now d) }
-        ensures refused { IfErr result (λ e. RefusesToOpen id job.now e) }
+    /// A new node, of that index, of the group that a text describes (the first lines of a script describe the same). Refused as
+    /// `read_group` refuses the text, as BadParam where the group has no node of that index, and as NoMemory.
+    pub fn open(alloc: Global, id: u32, group: &[u8]) -> Result<Daemon, Refusal>
+        ensures opened { IfOk result (λ d. OpensNode id group.now d) }
+        ensures refused { IfErr result (λ e. RefusesToOpen id group.now e) }
     {
-        let job = Job::read(alloc, job)?;
-        if id as usize >= job.registry().node_count() {
+        let registry = read_group(alloc, group)?;
+        if id as usize >= registry.node_count() {
             return Err(Refusal::BadParam);
         }
-        let registry = job.registry().copy()?;
         Ok(Daemon::new(alloc, NodeId::from_checked(id), registry)?)
     }
 

@@ -9,19 +9,19 @@ use pmg_daemon::{DONE, Daemon, NO_MEMORY, WRONG_HANDLE, refusal_code, refusal_te
 use pmg_handle::Handle;
 use std::alloc::Global;
 
-/// Opens a node in a handle that holds none: that of the index, in the group that the text of a job describes (`Daemon::open`).
-pub fn open(node: &mut Handle, alloc: Global, id: u32, job: &[u8]) -> u32
-    ensures opened { result ≡ DONE → IfSome node.new.place.value (λ d. OpensNode id job.now d) }
+/// Opens a node in a handle that holds none: that of the index, in the group that a text describes (`Daemon::open`).
+pub fn open(node: &mut Handle, alloc: Global, id: u32, group: &[u8]) -> u32
+    ensures opened { result ≡ DONE → IfSome node.new.place.value (λ d. OpensNode id group.now d) }
     ensures held { result ≡ DONE → IsSome node.new.place.value }
     ensures empty { result ≡ DONE → IsNone node.old.place.value }
     ensures wrong { IsSome node.old.place.value → result ≡ WRONG_HANDLE }
-    ensures refused { result ≢ DONE → IsNone node.old.place.value → FailsToOpen id job.now result }
+    ensures refused { result ≢ DONE → IsNone node.old.place.value → FailsToOpen id group.now result }
     ensures kept { result ≢ DONE → node.new ≡ node.old }
 {
     if node.full {
         return WRONG_HANDLE;
     }
-    let daemon = match Daemon::open(alloc, id, job) {
+    let daemon = match Daemon::open(alloc, id, group) {
         Ok(daemon) => daemon,
         Err(refusal) => return refusal_code(&refusal),
     };

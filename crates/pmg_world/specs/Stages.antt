@@ -1,8 +1,7 @@
 -- What a script does: each line's reply, and what there is after it.
-use Rattle.std.specs.Prelude.{◌≡◌, ℕ, Bool, true, false, not, List, [], ◌∷◌, ◌++◌, length, map, slice_get, Option, Some, None, Result, Ok, Err, if◌then◌else◌}
+use Rattle.std.specs.Prelude.{◌≡◌, ℕ, Bool, true, false, List, [], ◌∷◌, ◌++◌, length, map, slice_get, Option, Some, None, Result, Ok, Err, if◌then◌else◌}
 use Rattle.std.specs.List.{filter_map}
 use Rattle.pmg_value.specs.CheckOrder.{first_of}
-use Rattle.pmg_value.specs.Names.{is_nspace}
 use Rattle.pmg_value.specs.Plain.{Plain}
 use Rattle.pmg_value.specs.declared.process.Proc.{Proc}
 use Rattle.pmg_value.specs.declared.refusal.Fault.{Fault}
@@ -12,11 +11,12 @@ use Rattle.pmg_value.specs.declared.value.Value.{Value}
 use Rattle.pmg_value.specs.declared.value.Value.TheVariants as values
 use Rattle.pmg_wire.specs.Fields.{whole_value}
 use Rattle.pmg_store.specs.Dump.{dump}
-use Rattle.pmg_jobinfo.specs.Jobs.{Jobs, is_node, opened, registered}
-use Rattle.pmg_jobinfo.specs.Refusing.{new_cause, register_cause}
-use Rattle.pmg_node_model.specs.Acts.{Request, Reply, also}
+use Rattle.pmg_jobinfo.specs.Jobs.{Jobs, is_node, opened}
+use Rattle.pmg_jobinfo.specs.Refusing.{new_cause}
+use Rattle.pmg_node_model.specs.Acts.{Request, Reply}
 use Rattle.pmg_node.specs.Members.{known_members_cause, members_known}
 use Rattle.pmg_node.specs.Servers.{Server}
+use Rattle.pmg_grouptext.specs.Groups.{with_named_space}
 use Rattle.pmg_world.specs.Accounts.{Account, GoesOn, IsRun, IsAccountLawful}
 use Rattle.pmg_world.specs.Asking.{Asked, line_asks}
 use Rattle.pmg_world.specs.Delivering.{undelivered}
@@ -116,15 +116,6 @@ Performs w (Asked.dump node) text v = (text ≡ dump_at (server_at w node)) × (
 abbrev pub Opens : Result Jobs Refusal → List ℕ → Phase → Type 0
 Opens (Ok jobs) text v = (text ≡ ok_line) × (v ≡ phases.Registering jobs)
 Opens (Err e) text v = (text ≡ refused_line e) × (v ≡ phases.Over)
-
--- the namespace has no name
-abbrev pub unnamed_cause : List ℕ → Refusal → Bool
-unnamed_cause nspace refusals.BadParam = not (is_nspace nspace)
-unnamed_cause nspace _ = false
-
--- the jobs with the namespace, or why it is not registered
-unfoldable pub with_named_space : Jobs → List ℕ → List ℕ → Result Jobs Refusal
-with_named_space jobs nspace homes = first_of (also (unnamed_cause nspace) (register_cause jobs nspace homes)) (registered jobs nspace homes)
 
 -- the namespace is registered; a refusal changes nothing
 abbrev pub Registers : Jobs → Result Jobs Refusal → List ℕ → Phase → Type 0

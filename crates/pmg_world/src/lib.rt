@@ -5,7 +5,6 @@ mod asking;
 mod delivered;
 mod event;
 mod group;
-mod nodes;
 mod phase;
 mod reply_lines;
 mod scene;

@@ -5,21 +5,21 @@ ghost use Rattle.pmg_store.specs.declared.input.TheConstants.{MOST_READS};
 ghost use Rattle.pmg_value.specs.declared.refusal.Refusal.TheVariants as refusals;
 ghost use Rattle.pmg_script.specs.Replays.{Replayed};
 ghost use Rattle.pmg_script.specs.Scripts.{line_of, texts};
-ghost use Rattle.pmg_world.specs.Stages.{OpensAt, PlaysLine, RegistersAt, Runs, RunsAt, StopsLine, AsksNothing, is_over, ok_line, refused_line, with_named_space};
+ghost use Rattle.pmg_world.specs.Stages.{OpensAt, PlaysLine, RegistersAt, Runs, RunsAt, StopsLine, AsksNothing, is_over, ok_line, refused_line};
 ghost use Rattle.pmg_script.specs.declared.lines.LineFault.TheVariants as faults;
 ghost use Rattle.pmg_world.specs.declared.phase.Phase.{Phase as AnyPhase};
 ghost use Rattle.pmg_world.specs.declared.phase.Phase.TheVariants as phases;
 
 use crate::asking::ask;
-use crate::nodes::nodes_of;
 use crate::phase::Phase;
 use crate::reply_lines::{refusal_line, reply_line};
 use crate::scene::Scene;
+use pmg_grouptext::register_space;
 use pmg_jobinfo::Registry;
 use pmg_node::Reply;
 use pmg_script::{Ended, Line, LineFault, Player, play_script, read_line};
 use pmg_store::{Failure, WatchedReader};
-use pmg_value::{Nspace, Refusal, WatchedWriter, is_nspace_name};
+use pmg_value::{Refusal, WatchedWriter};
 use std::alloc::{AllocError, Global};
 use std::io::{BufRead, Write};
 use std::marker::Model;
@@ -59,24 +59,6 @@ fn line_of_refusal(alloc: Global, refusal: Refusal) -> Result<Vec<u8>, LineFault
         Refusal::NoMemory => Err(LineFault::NoMemory),
         other => Ok(refusal_line(alloc, &other)?),
     }
-}
-
-/// Registers the namespace, with the homes of its ranks.
-fn register_space(
-    alloc: Global,
-    registry: &mut Registry,
-    nspace: &[u8],
-    homes: &[u64],
-) -> Result<(), Refusal>
-    ensures ok { OnOk result (with_named_space registry.old nspace.now homes.now ≡ Ok registry.new) }
-    ensures refused { IfErr result (λ e. e ≢ refusals.NoMemory → with_named_space registry.old nspace.now homes.now ≡ Err e) }
-    ensures err { OnErr result (registry.new ≡ registry.old) }
-{
-    if !is_nspace_name(nspace) {
-        return Err(Refusal::BadParam);
-    }
-    let homes = nodes_of(alloc, registry, homes)?;
-    registry.register(Nspace::from_name(alloc, nspace)?, &homes)
 }
 
 /// Registers the namespace, and answers with the line of that.

@@ -8,17 +8,17 @@ ghost use Rattle.pmg_daemon.specs.declared.codes.TheConstants.{DONE, WRONG_HANDL
 use pmg_handle::Handle;
 use std::alloc::Global;
 
-/// Opens a node in a handle that holds none: that of the index, in the group that the text of a job describes (`Daemon::open`).
+/// Opens a node in a handle that holds none: that of the index, in the group that a text describes (`Daemon::open`).
 #[unsafe(no_mangle)]
-pub extern "C" fn pmixgroup_open(node: &mut Handle, alloc: Global, id: u32, job: &[u8]) -> u32
-    ensures opened { result ≡ DONE → IfSome node.new.place.value (λ d. OpensNode id job.now d) }
+pub extern "C" fn pmixgroup_open(node: &mut Handle, alloc: Global, id: u32, group: &[u8]) -> u32
+    ensures opened { result ≡ DONE → IfSome node.new.place.value (λ d. OpensNode id group.now d) }
     ensures held { result ≡ DONE → IsSome node.new.place.value }
     ensures empty { result ≡ DONE → IsNone node.old.place.value }
     ensures wrong { IsSome node.old.place.value → result ≡ WRONG_HANDLE }
-    ensures refused { result ≢ DONE → IsNone node.old.place.value → FailsToOpen id job.now result }
+    ensures refused { result ≢ DONE → IsNone node.old.place.value → FailsToOpen id group.now result }
     ensures kept { result ≢ DONE → node.new ≡ node.old }
 {
-    pmg_exports::open(node, alloc, id, job)
+    pmg_exports::open(node, alloc, id, group)
 }
 
 /// Closes the node that the handle holds.

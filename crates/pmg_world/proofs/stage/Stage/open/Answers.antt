@@ -3,7 +3,8 @@ use Rattle.pmg_value.specs.CheckOrder.{first_of}
 use Rattle.pmg_jobinfo.specs.Jobs.{opened}
 use Rattle.pmg_jobinfo.specs.Refusing.{new_cause}
 use Rattle.pmg_script.specs.Scripts.{texts}
-use Rattle.pmg_world.proofs.StageSteps.{opens_there, refused_there, not_fresh, refuses}
+use Rattle.pmg_world.proofs.StageSteps.{opens_there, refused_there, not_fresh}
+use Rattle.pmg_grouptext.proofs.SpaceLemmas.{refuses}
 use Rattle.pmg_world.proofs.stage.Stage.open.Goals as goal
 
 pub returns-in_default : goal.returns-in_default

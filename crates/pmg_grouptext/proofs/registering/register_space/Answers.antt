@@ -3,9 +3,9 @@ use Rattle.std.specs.Prelude.{◌≢◌, IfErr, OnOk}
 use Rattle.std.proofs.lemmas.Result.{err_from_is_err_and}
 use Rattle.pmg_value.specs.Names.{is_nspace}
 use Rattle.pmg_value.specs.declared.refusal.Refusal.TheVariants as refusals
-use Rattle.pmg_world.specs.Stages.{with_named_space}
-use Rattle.pmg_world.proofs.StageSteps.{unnamed_space, unknown_home, space_done, space_refused}
-use Rattle.pmg_world.proofs.stage.register_space.Goals as goal
+use Rattle.pmg_grouptext.specs.Groups.{with_named_space}
+use Rattle.pmg_grouptext.proofs.SpaceLemmas.{unnamed_space, unknown_home, space_done, space_refused}
+use Rattle.pmg_grouptext.proofs.registering.register_space.Goals as goal
 
 pub returns-then-not-is_nspace_name-clause-refused :
     goal.returns-then-not-is_nspace_name-clause-refused

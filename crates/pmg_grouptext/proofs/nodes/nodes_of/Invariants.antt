@@ -1,7 +1,7 @@
 use Rattle.std.proofs.Common.{◌≡◌, drop, take}
 use Rattle.std.specs.List.{list_all}
 use Rattle.pmg_jobinfo.specs.Jobs.{is_node}
-use Rattle.pmg_world.proofs.nodes.nodes_of.Given as goal
+use Rattle.pmg_grouptext.proofs.nodes.nodes_of.Given as goal
 
 -- the nodes so far; it is for the others to say whether all are there
 abbrev pub invariant-loop-index : goal.invariant-loop-index

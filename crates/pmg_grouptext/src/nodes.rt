@@ -1,4 +1,4 @@
-//! Nodes that a script names by numbers of any size.
+//! Nodes that a text names by numbers of any size.
 ghost use Rattle.std.specs.Prelude.{◌≡◌, ◌<◌, ◌≢◌, Some, None, Err, IfOk, IfErr, false, if◌then◌else◌};
 ghost use Rattle.std.specs.List.{list_all};
 ghost use Rattle.pmg_value.specs.declared.refusal.Refusal.TheVariants as refusals;
@@ -9,7 +9,7 @@ use pmg_value::{NodeId, Refusal};
 use std::alloc::Global;
 
 /// The node of that index, if the group has one.
-pub(crate) fn node_id(registry: &Registry, index: u64) -> Option<NodeId>
+pub fn node_id(registry: &Registry, index: u64) -> Option<NodeId>
     ensures { result ≡ (if is_node registry.now index then Some index else None) }
 {
     if index >= registry.node_count() as u64 {

@@ -1,0 +1,10 @@
+//! A group as text: the names of its nodes and its namespaces, as the first lines of a script say them.
+#![tactic(auto)]
+
+mod group;
+mod nodes;
+mod registering;
+
+pub use group::read_group;
+pub use nodes::node_id;
+pub use registering::register_space;
