@@ -407,10 +407,14 @@ impl Table {
         if self.is_old(name) {
             return false;
         }
+        // Ranks mostly come in rising order, so the last participant is asked first.
         let fence = self.fence(name.signature(), name.instance());
-        let whole = self.is_whole(name.signature(), fence);
-        for proc in name.signature().participants() {
-            let Some(entry) = self.standing_in(fence, whole, proc) else {
+        let procs = name.signature().participants();
+        let mut left = procs.len();
+        while left > 0 {
+            left -= 1;
+            let proc = &procs[left];
+            let Some(entry) = self.standing_in(fence, true, proc) else {
                 return false;
             };
             if !name.signature().collect() {
