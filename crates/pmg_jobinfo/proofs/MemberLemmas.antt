@@ -1,13 +1,14 @@
 -- Sets of processes: one more process, all that are meant, and a set's items.
-use Rattle.std.proofs.Common.{◌≡◌, ℕ, ◌+◌, ◌<◌, ◌≤◌, List, [], ◌∷◌, ◌++◌, Bool, true, false, cond, ◌||◌, map, length, get_or, drop, drop-cons, add-one, refl, sym, ap, ◌∙◌}
+use Rattle.std.proofs.Common.{◌≡◌, ℕ, zero, suc, arith, ◌+◌, ◌<◌, ◌≤◌, List, [], ◌∷◌, ◌++◌, Bool, true, false, cond, ◌||◌, map, length, get_or, drop, drop-cons, add-one, append-nil, refl, sym, ap, ◌∙◌}
 use Rattle.std.specs.Prelude.{◌&&◌, if◌then◌else◌}
 use Rattle.std.specs.BTreeMap.{is_at}
-use Rattle.std.specs.Cmp.{Equal-is, eq_by_cmp_equiv}
+use Rattle.std.specs.Cmp.{Equal-is, eq_by_cmp_equiv, nat_cmp_is}
+use Rattle.std.specs.Cmp.Lexicographic.{nat_list_cmp_total}
 use Rattle.std.specs.declared.cmp.Ordering.{Ordering}
 use Rattle.std.specs.declared.cmp.Ordering.TheVariants.{Less}
-use Rattle.std.specs.List.{AllByRecursion, list_any, flat_map}
+use Rattle.std.specs.List.{AllByRecursion, list_any, flat_map, range_with_len}
 use Rattle.std.specs.List.Sorted.{IsStrictlySortedBy}
-use Rattle.std.specs.Ordering.{eq_by_cmp, is_eq, is_lt}
+use Rattle.std.specs.Ordering.{eq_by_cmp, is_eq, is_lt, nat_cmp, ordering_then}
 use Rattle.std.specs.FinSet as set
 use Rattle.std.proofs.lemmas.Cmp.{tied_itself}
 use Rattle.std.proofs.lemmas.List.{drop_all, map-append}
@@ -64,14 +65,18 @@ module _ {A B : Type 0} (p : B → Bool) (f : A → List B) where
 
 -- ---- the processes of a namespace
 
-abbrev process : List ℕ → ℕ → Proc
+abbrev pub process : List ℕ → ℕ → Proc
 process name rank = record { nspace = name; rank = rank }
+
+pub nobody : (name : List ℕ) → members name 0 ≡ []
+unfolding members
+nobody name = refl
 
 pub members_none : (p : Proc → Bool) (name : List ℕ) → list_any p (members name 0) ≡ false
 unfolding members
 members_none p name = refl
 
-members_more : (name : List ℕ) (n : ℕ) → members name (n + 1) ≡ members name n ++ process name n ∷ []
+pub members_more : (name : List ℕ) (n : ℕ) → members name (n + 1) ≡ members name n ++ process name n ∷ []
 unfolding members
 members_more name n = ap (map (process name)) (ranks_more n) ∙ map-append (process name) (ranks n) (n ∷ [])
 
@@ -123,6 +128,42 @@ pub chain_rising : (ps : List Proc) → IsStrictlySortedBy proc_cmp ps → is_ch
 unfolding IsStrictlySortedBy
 chain_rising [] sorted = refl
 chain_rising (p ∷ ps) sorted = leads_rising p ps sorted.0 sorted.1
+
+-- ---- one item alone
+
+one_alone : {A : Type 0} (xs : List A) (x : A) → 1 ≤ length xs → length xs < 2 → x ≡ get_or xs 0 x → xs ≡ x ∷ []
+one_alone [] x some few is = absurd (omega arith)
+one_alone (y ∷ []) x some few is = ap (λ z. z ∷ []) (sym is)
+one_alone (y ∷ z ∷ zs) x some few is = absurd (omega arith)
+
+pub expansion_alone : (jobs : Jobs) (list : List Proc) (p : Proc) (procs : List Proc) → 1 ≤ length list → length list < 2 → p ≡ get_or list 0 p → procs ≡ meant jobs p
+    → expansion jobs list ≡ set.from_list procs
+unfolding expansion
+expansion_alone jobs list p procs some few is made =
+    ap (λ ps. set.from_list (flat_map (meant jobs) ps)) (one_alone list p some few is)
+    ∙ ap (λ ps. set.from_list ps) (append-nil (meant jobs p) ∙ sym made)
+
+-- a rank comes before the next
+rank_before : (name : List ℕ) (n : ℕ) → is_before (process name n) (process name (n + 1)) ≡ true
+rank_before name n =
+    ap (λ (o : Ordering). is_lt (ordering_then o (nat_cmp n (n + 1)))) (tied_itself nat_list_cmp_total name)
+    ∙ ap is_lt (sym (nat_cmp_is n (n + 1) Less (omega arith)))
+
+ranks_rise : (name : List ℕ) (n count : ℕ) → leads is_before (process name n) (map (process name) (range_with_len (n + 1) count)) ≡ true
+ranks_rise name n zero = refl
+ranks_rise name n (suc count) = ap (λ b. b && leads is_before (process name (n + 1)) (map (process name) (range_with_len (n + 1 + 1) count))) (rank_before name n) ∙ ranks_rise name (n + 1) count
+
+members_rise : (name : List ℕ) (count : ℕ) → is_chain is_before (members name count) ≡ true
+unfolding members
+members_rise name zero = refl
+members_rise name (suc count) = ranks_rise name 0 count
+
+pub alone_rises : (jobs : Jobs) (p : Proc) (procs : List Proc) → procs ≡ meant jobs p → is_chain is_before procs ≡ true
+alone_rises jobs p procs made = ap (is_chain is_before) made ∙ by_rank (is_all p)
+  where
+    by_rank : (all : Bool) → is_chain is_before (cond all (members p.nspace (size_of jobs p.nspace)) (p ∷ [])) ≡ true
+    by_rank true = members_rise p.nspace (size_of jobs p.nspace)
+    by_rank false = refl
 
 -- a set to which a process was added
 pub put_is : (p q : Proc) (new old : Bool) → new ≡ cond (is_at (proc_cmp p) q) true old → new ≡ (eq_by_cmp proc_cmp q p || old)

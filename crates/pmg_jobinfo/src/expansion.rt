@@ -34,6 +34,10 @@ impl Registry {
         if self.has_unknown(list) {
             return Err(Refusal::UnknownNamespace);
         }
+        // Most lists are one item: a whole namespace, whose ranks rise as they stand.
+        if let [proc] = list {
+            return Ok(self.meant_alone(proc)?);
+        }
         let named = set_of(self.allocator(), list)?;
         let all = self.meant_by(&named)?;
         Ok(in_order(self.allocator(), all)?)
@@ -75,6 +79,18 @@ impl Registry {
             }
         }
         false
+    }
+
+    /// The processes that this one stands for, rising.
+    fn meant_alone(&self, proc: &Proc) -> Result<Vec<Proc>, AllocError>
+        ensures { IfOk result (λ procs. procs.items ≡ meant self.now proc.now) }
+    {
+        if proc.rank.is_wildcard() {
+            return members_of(self.allocator(), &proc.nspace, self.count(&proc.nspace));
+        }
+        let mut alone = Vec::new(self.allocator());
+        alone.push(proc.copy()?)?;
+        Ok(alone)
     }
 
     /// The set of the processes that these stand for.
@@ -138,6 +154,17 @@ fn add_members(all: &mut BTreeSet<Proc>, nspace: &Nspace, count: u32) -> Result<
         add(all, Proc::new(nspace.copy()?, Rank::new(rank)))?;
     }
     Ok(())
+}
+
+/// So many processes of the namespace, from rank 0.
+fn members_of(alloc: Global, nspace: &Nspace, count: u32) -> Result<Vec<Proc>, AllocError>
+    ensures { IfOk result (λ procs. procs.items ≡ members nspace.now count) }
+{
+    let mut procs = Vec::with_capacity(alloc, count as usize)?;
+    for rank in 0..count {
+        procs.push(Proc::new(nspace.copy()?, Rank::new(rank)))?;
+    }
+    Ok(procs)
 }
 
 /// The processes of the set, rising.
