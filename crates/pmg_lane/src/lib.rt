@@ -9,6 +9,6 @@ mod track;
 
 pub use entries::Stamp;
 pub use lane::{Lane, copies_of};
-pub use places::{make_place, pop_place};
+pub use places::{is_past_all, make_place, pop_place};
 pub use readings::{level_alone, read_alone};
 pub use track::Track;

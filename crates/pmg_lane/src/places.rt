@@ -1,11 +1,21 @@
 //! Places in a tree, which are made before they are filled: to make one takes memory, and to fill it takes none.
-ghost use Rattle.std.specs.Prelude.{◌≡◌, ◌<◌, Some, None, cond, OnOk, IfSome, IfNone};
+ghost use Rattle.std.specs.Prelude.{◌≡◌, ◌<◌, Some, None, cond, IsTrue, OnOk, IfSome, IfNone};
 ghost use Rattle.std.specs.BTreeMap.{get, is_at, btree_map_len, IsUnchanged};
 ghost use Rattle.pmg_lane.specs.Places.{there_at, HasPlace};
 
 use pmg_join::Element;
 use std::alloc::{AllocError, Global};
 use std::collections::BTreeMap;
+
+/// Whether the key lies past all others, which shows at the last one: keys mostly come rising, and then none has to be looked up.
+pub fn is_past_all<K: Element, V: Drop>(tree: &BTreeMap<K, Option<V>, Global>, key: &K) -> bool
+    ensures { IsTrue result → get K.cmp tree.now key.now ≡ None }
+{
+    match tree.last_key_value() {
+        Some((last, _)) => last.cmp(key).is_lt(),
+        None => true,
+    }
+}
 
 /// Makes an empty place for the key, where there is none.
 pub fn make_place<K: Element, V: Drop>(
@@ -16,7 +26,7 @@ pub fn make_place<K: Element, V: Drop>(
     ensures place { OnOk result (HasPlace K.cmp tree.new key.now) }
     ensures stay { (q : K) → HasPlace K.cmp tree.old q → HasPlace K.cmp tree.new q }
 {
-    if !tree.contains_key(key) {
+    if is_past_all(tree, key) || !tree.contains_key(key) {
         tree.insert(key.copy()?, None)?;
     }
     Ok(())
@@ -31,7 +41,7 @@ pub fn put_place<K: Element, V: Drop>(
     ensures place { OnOk result (HasPlace K.cmp tree.new key) }
     ensures stay { (q : K) → HasPlace K.cmp tree.old q → HasPlace K.cmp tree.new q }
 {
-    if !tree.contains_key(&key) {
+    if is_past_all(tree, &key) || !tree.contains_key(&key) {
         tree.insert(key, None)?;
     }
     Ok(())

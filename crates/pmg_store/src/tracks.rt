@@ -15,7 +15,7 @@ ghost use Rattle.pmg_store.specs.Tracks.{held_in, held_at, AreTracks, IsRoomFor,
 ghost use Rattle.pmg_commit.specs.declared.piece.TheConstants.{MAX_COMMIT};
 
 use pmg_commit::PieceEntry;
-use pmg_lane::{Track, make_place, pop_place};
+use pmg_lane::{Track, is_past_all, make_place, pop_place};
 use pmg_value::Proc;
 use std::alloc::{AllocError, Global};
 use std::collections::BTreeMap;
@@ -152,6 +152,9 @@ impl Tracks {
             (held_at self.old.places q)) }
         ensures same { OnErr result ((q : Proc) → held_at self.new.places q ≡ held_at self.old.places q) }
     {
+        if is_past_all(&self.places, proc) {
+            return self.absorb_first(proc, from, to, entries);
+        }
         match self.places.get_mut(proc) {
             Some(place) => absorb_in(place, self.alloc, from, to, entries),
             None => self.absorb_first(proc, from, to, entries),
