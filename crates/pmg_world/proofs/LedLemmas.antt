@@ -166,6 +166,10 @@ pub adds_one : (old : List LoggedEvent) (e : ToldEvent) (t : LoggedEvent) (new :
 unfolding Adds
 adds_one old e t new is same = (t ∷ [], is, ap (λ x. x ∷ []) same)
 
+pub adds_alike : (old new : List LoggedEvent) (e f : ToldEvent) → Adds old (e ∷ []) new → event_of e ≡ event_of f → Adds old (f ∷ []) new
+unfolding Adds
+adds_alike old new e f added same = (added.0, added.1, added.2 ∙ ap (λ x. x ∷ []) same)
+
 pub adds_more : (old mid new : List LoggedEvent) (es : List ToldEvent) (e : ToldEvent) → Adds old es mid → Adds mid (e ∷ []) new → Adds old (es ++ e ∷ []) new
 unfolding Adds
 adds_more old mid new es e one other = (

@@ -20,6 +20,7 @@ use pmg_value::{Key, Nspace, Proc, Value, is_key_text, is_nspace_name};
 use std::alloc::{AllocError, Global};
 
 /// What a line asks of the world.
+#[derive(Drop)]
 pub(crate) enum Asked {
     /// This happens.
     Event(Event),
@@ -31,18 +32,6 @@ pub(crate) enum Asked {
     Members(u64, Key),
     /// The node's dump is told.
     Dump(u64),
-}
-
-impl Drop for Asked {
-    fn drop(self) {
-        match self {
-            Asked::Event(_) => {}
-            Asked::Unnamed => {}
-            Asked::Flow => {}
-            Asked::Members(_, _) => {}
-            Asked::Dump(_) => {}
-        }
-    }
 }
 
 /// Whether the process's namespace has a name.

@@ -2,7 +2,8 @@
 ghost use Rattle.std.specs.Prelude.{◌≡◌, ◌++◌, Bool, codes, decimal, IfOk, OnOk};
 ghost use Rattle.std.specs.List.{flat_map};
 ghost use Rattle.pmg_value.specs.RefusalText.{refusal_text};
-ghost use Rattle.pmg_value.specs.Spelling.{spelling};
+ghost use Rattle.pmg_value.specs.Spelling.{spelling, IsValue};
+ghost use Rattle.pmg_value.specs.Text.{text_of};
 ghost use Rattle.pmg_wire.specs.Fields.{whole_value};
 ghost use Rattle.pmg_node.specs.Acting.{reply_as};
 ghost use Rattle.pmg_node_model.specs.Acts.{Reply as ModelReply};
@@ -35,18 +36,17 @@ pub fn reply_line(
 pub fn refusal_line(alloc: Global, refusal: &Refusal) -> Result<Vec<u8>, AllocError>
     ensures { IfOk result (λ line. (deletes : Bool) → line.items ≡ reply_line deletes (ModelReply.refused refusal.now)) }
 {
-    let mut line = line_of(alloc, b"refused ")?;
-    let text = refusal_text(alloc, refusal)?;
-    line.extend_from_slice(&text)?;
+    let words = line_of(alloc, b"refused ")?;
+    let mut line = with_refusal(words, refusal)?;
     end_line(&mut line)?;
     Ok(line)
 }
 
-/// The text of a refusal.
-fn refusal_text(alloc: Global, refusal: &Refusal) -> Result<Vec<u8>, AllocError>
-    ensures { IfOk result (λ text. text.items ≡ refusal_text refusal.now) }
+/// A line with the text of a refusal behind it.
+fn with_refusal(line: Vec<u8>, refusal: &Refusal) -> Result<Vec<u8>, AllocError>
+    ensures { IfOk result (λ text. text.items ≡ line.items ++ refusal_text refusal.now) }
 {
-    let mut writer = WatchedWriter::new(Vec::new(alloc));
+    let mut writer = WatchedWriter::new(line);
     match refusal.write_text(&mut writer) {
         Ok(()) => Ok(writer.into_inner()),
         Err(WriteFault) => Err(AllocError),
@@ -123,11 +123,22 @@ fn released_line(alloc: Global, instance: u64, gone: &[Proc]) -> Result<Vec<u8>,
 fn found_line(alloc: Global, value: &Value) -> Result<Vec<u8>, AllocError>
     ensures { IfOk result (λ line. line.items ≡ codes "found " ++ (found_text (whole_value (spelling value.now)) ++ codes "\n")) }
 {
-    let mut line = line_of(alloc, b"found ")?;
-    let text = value.to_text(alloc)?;
-    line.extend_from_slice(&text)?;
+    let words = line_of(alloc, b"found ")?;
+    let mut line = with_value(words, value)?;
     end_line(&mut line)?;
     Ok(line)
+}
+
+/// A line with the text of a value behind it.
+fn with_value(line: Vec<u8>, value: &Value) -> Result<Vec<u8>, AllocError>
+    ensures text { IfOk result (λ text. text.items ≡ line.items ++ text_of value.now) }
+    ensures is { OnOk result (IsValue value.now) }
+{
+    let mut writer = WatchedWriter::new(line);
+    match value.write_text(&mut writer) {
+        Ok(()) => Ok(writer.into_inner()),
+        Err(WriteFault) => Err(AllocError),
+    }
 }
 
 /// The line that says how many frames were delivered.

@@ -123,25 +123,26 @@ impl Scene {
 
     /// What is asked of the world is done, and answered with the text of its reply.
     #[tactic(auto, unfolding(crate::specs::Stages::Performs))]
-    pub(crate) fn perform(&mut self, alloc: Global, asked: &Asked) -> Result<Vec<u8>, AllocError>
-        ensures { IfOk result (λ text. Performs self.old (asked_of asked.now) text.items self.new) }
+    pub(crate) fn perform(&mut self, alloc: Global, asked: Asked) -> Result<Vec<u8>, AllocError>
+        ensures { IfOk result (λ text. Performs self.old (asked_of asked) text.items self.new) }
     {
         match asked {
             Asked::Event(event) => self.happen(alloc, event),
             Asked::Unnamed => refusal_line(alloc, &Refusal::BadParam),
             Asked::Flow => self.flow(alloc),
-            Asked::Members(node, name) => self.members(alloc, *node, name),
-            Asked::Dump(node) => self.dump(alloc, *node),
+            Asked::Members(node, name) => self.members(alloc, node, &name),
+            Asked::Dump(node) => self.dump(alloc, node),
         }
     }
 
     /// The event happens, and is answered with the line of its reply.
-    fn happen(&mut self, alloc: Global, event: &Event) -> Result<Vec<u8>, AllocError>
-        ensures { IfOk result (λ text. AnswersLine self.old (event_of event.now) text.items self.new) }
+    fn happen(&mut self, alloc: Global, event: Event) -> Result<Vec<u8>, AllocError>
+        ensures { IfOk result (λ text. AnswersLine self.old (event_of event) text.items self.new) }
     {
+        let deletes = is_deletion(&event);
         self.world.step(event)?;
         match self.world.events().last() {
-            Some(told) => reply_line(alloc, is_deletion(event), &told.answer),
+            Some(told) => reply_line(alloc, deletes, &told.answer),
             None => unreachable!(),
         }
     }

@@ -84,7 +84,7 @@ fn run_line(alloc: Global, scene: &mut Scene, line: Line<'_>) -> Result<Vec<u8>,
     ensures malformed { result ≡ Err faults.Malformed → AsksNothing scene.old (line_of line.entry) }
 {
     let asked = ask(alloc, scene.registry(), line)?;
-    let text = scene.perform(alloc, &asked)?;
+    let text = scene.perform(alloc, asked)?;
     Ok(text)
 }
 

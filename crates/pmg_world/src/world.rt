@@ -106,16 +106,15 @@ impl World {
     }
 
     /// What happens next; its answer is the last of `events`. Where an allocation fails, nothing happened.
-    pub fn step(&mut self, event: &Event) -> Result<(), AllocError>
+    pub fn step(&mut self, event: Event) -> Result<(), AllocError>
         ensures jobs { self.new.jobs ≡ self.old.jobs }
-        ensures told { OnOk result (Adds self.old.told (event.now ∷ []) self.new.told) }
+        ensures told { OnOk result (Adds self.old.told (event ∷ []) self.new.told) }
         ensures err { OnErr result (self.new ≡ self.old) }
         ensures goes_on { GoesOn self.old self.new }
         ensures run { IsRun self.new }
         ensures lawful { IsAccountLawful self.new }
     {
         self.told.reserve(1)?;
-        let event = event.copy()?;
         let answer = self.group.happen(&event);
         if is_short(&answer) {
             return Err(AllocError);
@@ -140,7 +139,10 @@ impl World {
             return Err(RunFailed { done: 0 });
         }
         for done in 0..events.len() {
-            if let Err(AllocError) = self.step(&events[done]) {
+            let Ok(event) = events[done].copy() else {
+                return Err(RunFailed { done });
+            };
+            if let Err(AllocError) = self.step(event) {
                 return Err(RunFailed { done });
             }
         }

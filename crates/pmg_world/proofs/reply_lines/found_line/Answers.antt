@@ -13,8 +13,7 @@ found_is v is = sym (ap found_text (whole_only (spelling v) v (record { text = r
 
 pub returns : goal.returns
 returns c =
-    let text = c.deref.ensures.value ∙ c.in_ok-text.ensures.text ∙ found_is c.args.value.now c.in_ok-text.ensures.is in
-    let line = c.in_ok-extend_from_slice.ensures.items ∙ ap (λ bytes. c.in_ok-line.line.items ++ bytes) text in
-    let words = ap (λ bytes. bytes ++ found_text (whole_value (spelling c.args.value.now))) c.in_ok-line.ensures in
-    c.in_ok-end_line.ensures ∙ ap (λ bytes. bytes ++ codes "\n") (line ∙ words)
+    let words = ap (λ bytes. bytes ++ text_of c.args.value.now) c.in_ok-words.ensures in
+    let text = ap (λ bytes. codes "found " ++ bytes) (found_is c.args.value.now c.in_ok-line.ensures.is) in
+    c.in_ok-end_line.ensures ∙ ap (λ bytes. bytes ++ codes "\n") (c.in_ok-line.ensures.text ∙ words ∙ text)
     ∙ append_assoc (codes "found ") (found_text (whole_value (spelling c.args.value.now))) (codes "\n")

@@ -21,10 +21,10 @@ invariant_of-self-2 c = noted_after c.self.inside.world.told c.step.new.self.tol
 
 pub returns : goal.returns
 returns c =
-    IfOk-weaker c.reply_line.result (λ text. text.items ≡ reply_line c.is_deletion.result (reply_in reply_as c.in-Some.told.now.answer))
-    (λ text. AnswersLine c.args.self.now (event_of c.args.event.now) text.items c.step.new.self)
+    IfOk-weaker c.reply_line.result (λ text. text.items ≡ reply_line c.is_deletion-deletes.result (reply_in reply_as c.in-Some.told.now.answer))
+    (λ text. AnswersLine c.args.self.now (event_of c.args.event) text.items c.step.new.self)
     (λ text line.
-    subst (λ (w : Account). AnswersLine w (event_of c.args.event.now) text.items c.step.new.self) c.self.view_is
-    (answers_one c.self.inside.world c.step.new.self c.args.event.now c.in-Some.told.now text.items c.is_deletion.result c.in_ok-step.ensures.jobs c.in_ok-step.ensures.told
-    c.in_ok-step.ensures.goes_on c.in_ok-step.ensures.run c.in_ok-step.ensures.lawful (c.in-Some.ensures.value ∙ ap (λ (xs : List LoggedEvent). slice_get xs (length xs - 1)) c.events.ensures) c.is_deletion.ensures line))
+    subst (λ (w : Account). AnswersLine w (event_of c.args.event) text.items c.step.new.self) c.self.view_is
+    (answers_one c.self.inside.world c.step.new.self c.args.event c.in-Some.told.now text.items c.is_deletion-deletes.result c.in_ok-step.ensures.jobs c.in_ok-step.ensures.told
+    c.in_ok-step.ensures.goes_on c.in_ok-step.ensures.run c.in_ok-step.ensures.lawful (c.in-Some.ensures.value ∙ ap (λ (xs : List LoggedEvent). slice_get xs (length xs - 1)) c.events.ensures) c.is_deletion-deletes.ensures line))
     c.reply_line.ensures

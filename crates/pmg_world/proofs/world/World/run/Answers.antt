@@ -4,7 +4,7 @@ use Rattle.pmg_world.specs.Accounts.{Account, Adds, GoesOn, IsAccountLawful, IsL
 use Rattle.pmg_world.specs.declared.event.LoggedEvent.{LoggedEvent}
 use Rattle.pmg_world.specs.declared.group.Group.{Group}
 use Rattle.pmg_world.specs.declared.event.Event.{Event as ToldEvent}
-use Rattle.pmg_world.proofs.LedLemmas.{adds_next, adds_none, goes_on_more, goes_on_same, led_kept, led_run}
+use Rattle.pmg_world.proofs.LedLemmas.{adds_alike, adds_next, adds_none, goes_on_more, goes_on_same, led_kept, led_run}
 use Rattle.pmg_world.proofs.world.World.run.Goals as goal
 
 -- a world with room for more is the world that it was
@@ -51,11 +51,12 @@ returns-then-is_err-clause-lawful c = kept_still c.self.inside.group c.self.insi
 
 pub loop-done-preserved : goal.loop-done-preserved
 loop-done-preserved c = (
-  adds_next c.args.self.now.told c.loop-done.self.told c.step.new.self.told c.args.events.now _ c.loop-done.done _ c.loop-done-test.true c.index-events-done.is (add-one c.loop-done.done) c.loop-done.invariant.0 c.in_default.ensures.told,
-  c.in_default.ensures.jobs ∙ c.loop-done.invariant.1,
-  c.in_default.ensures.run,
-  c.in_default.ensures.lawful,
-  goes_on_more c.args.self.now c.loop-done.self c.step.new.self c.loop-done.invariant.1 c.loop-done.invariant.4 c.in_default.ensures.goes_on,
+  adds_next c.args.self.now.told c.loop-done.self.told c.step.new.self.told c.args.events.now _ c.loop-done.done _ c.loop-done-test.true c.index-events-done.is (add-one c.loop-done.done) c.loop-done.invariant.0
+      (adds_alike c.loop-done.self.told c.step.new.self.told c.in-Ok.event c.index-events-done.result c.in_default-step.ensures.told c.in-Ok.ensures),
+  c.in_default-step.ensures.jobs ∙ c.loop-done.invariant.1,
+  c.in_default-step.ensures.run,
+  c.in_default-step.ensures.lawful,
+  goes_on_more c.args.self.now c.loop-done.self c.step.new.self c.loop-done.invariant.1 c.loop-done.invariant.4 c.in_default-step.ensures.goes_on,
 )
 
 pub returns-in-Err-clause-done : goal.returns-in-Err-clause-done

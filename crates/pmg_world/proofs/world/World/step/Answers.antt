@@ -17,19 +17,6 @@ pub returns-in_err-reserve-clause-goes_on : goal.returns-in_err-reserve-clause-g
 returns-in_err-reserve-clause-goes_on c =
     goes_on_same c.args.self.now (account_of c.self.inside.group c.reserve.new.self.items) (ap (account_of c.self.inside.group) c.reserve.ensures.items ∙ c.self.view_is)
 
-pub invariant_of-self-in_err-event : goal.invariant_of-self-in_err-event
-invariant_of-self-in_err-event c = subst (IsLed c.self.inside.group) (sym c.reserve.ensures.items) c.self.invariant
-
-pub returns-in_err-event-clause-run : goal.returns-in_err-event-clause-run
-returns-in_err-event-clause-run c = led_run c.self.inside.group c.reserve.new.self.items (subst (IsLed c.self.inside.group) (sym c.reserve.ensures.items) c.self.invariant)
-
-pub returns-in_err-event-clause-lawful : goal.returns-in_err-event-clause-lawful
-returns-in_err-event-clause-lawful c = led_kept c.self.inside.group c.reserve.new.self.items (subst (IsLed c.self.inside.group) (sym c.reserve.ensures.items) c.self.invariant)
-
-pub returns-in_err-event-clause-goes_on : goal.returns-in_err-event-clause-goes_on
-returns-in_err-event-clause-goes_on c =
-    goes_on_same c.args.self.now (account_of c.self.inside.group c.reserve.new.self.items) (ap (account_of c.self.inside.group) c.reserve.ensures.items ∙ c.self.view_is)
-
 pub happen-answer-requires : goal.happen-answer-requires
 happen-answer-requires c = led_group c.self.inside.group c.reserve.new.self.items (subst (IsLed c.self.inside.group) (sym c.reserve.ensures.items) c.self.invariant)
 
@@ -67,7 +54,7 @@ returns-then-is_short-clause-goes_on c =
 -- the event, with its answer, is told
 led_after : (c : goal.In-Ok) → IsLed c.happen-answer.new.self c.push.new.self.items
 led_after c =
-    let t : LoggedEvent = record { event = c.in_ok-event.event; answer = c.happen-answer.result } in
+    let t : LoggedEvent = record { event = c.args.event; answer = c.happen-answer.result } in
     subst (IsLed c.happen-answer.new.self) (sym c.in-Ok.ensures.items)
     (led_more c.self.inside.group c.happen-answer.new.self c.reserve.new.self.items t c.happen-answer.result (subst (IsLed c.self.inside.group) (sym c.reserve.ensures.items) c.self.invariant)
     (c.is_short.ensures.answered c.if-is_short.false) refl c.happen-answer.ensures.step)
@@ -77,15 +64,15 @@ invariant_of-self-2 c = led_after c
 
 pub returns-clause-jobs : goal.returns-clause-jobs
 returns-clause-jobs c =
-    let t : LoggedEvent = record { event = c.in_ok-event.event; answer = c.happen-answer.result } in
+    let t : LoggedEvent = record { event = c.args.event; answer = c.happen-answer.result } in
     happens_jobs c.self.inside.group c.reserve.new.self.items t c.happen-answer.result c.happen-answer.new.self (c.is_short.ensures.answered c.if-is_short.false) c.happen-answer.ensures.step
     ∙ ap (λ (a : Account). a.jobs) c.self.view_is
 
 pub returns-clause-told : goal.returns-clause-told
 returns-clause-told c =
-    let t : LoggedEvent = record { event = c.in_ok-event.event; answer = c.happen-answer.result } in
-    adds_one c.args.self.now.told c.args.event.now t c.push.new.self.items
-    (c.in-Ok.ensures.items ∙ ap (λ (l : List LoggedEvent). l ++ t ∷ []) (c.reserve.ensures.items ∙ ap (λ (a : Account). a.told) c.self.view_is)) c.in_ok-event.ensures
+    let t : LoggedEvent = record { event = c.args.event; answer = c.happen-answer.result } in
+    adds_one c.args.self.now.told c.args.event t c.push.new.self.items
+    (c.in-Ok.ensures.items ∙ ap (λ (l : List LoggedEvent). l ++ t ∷ []) (c.reserve.ensures.items ∙ ap (λ (a : Account). a.told) c.self.view_is)) refl
 
 pub returns-clause-run : goal.returns-clause-run
 returns-clause-run c = led_run c.happen-answer.new.self c.push.new.self.items (led_after c)
@@ -95,7 +82,7 @@ returns-clause-lawful c = led_kept c.happen-answer.new.self c.push.new.self.item
 
 pub returns-clause-goes_on : goal.returns-clause-goes_on
 returns-clause-goes_on c =
-    let t : LoggedEvent = record { event = c.in_ok-event.event; answer = c.happen-answer.result } in
+    let t : LoggedEvent = record { event = c.args.event; answer = c.happen-answer.result } in
     let on =
     led_goes_on c.self.inside.group c.happen-answer.new.self c.reserve.new.self.items t c.happen-answer.result (subst (IsLed c.self.inside.group) (sym c.reserve.ensures.items) c.self.invariant)
     (c.is_short.ensures.answered c.if-is_short.false) refl c.happen-answer.ensures.step in
