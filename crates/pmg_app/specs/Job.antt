@@ -10,8 +10,8 @@ use Rattle.pmg_store.specs.declared.failure.Failure.{Failure}
 use Rattle.pmg_store.specs.declared.failure.Failure.TheVariants.{Refused}
 use Rattle.pmg_audit.specs.RunDumps.{dump_due}
 use Rattle.pmg_world.specs.Accounts.{Account}
-use Rattle.pmg_launch.specs.declared.program.Outcome.{Outcome}
-use Rattle.pmg_launch.specs.declared.program.Report.{Report}
+use Rattle.pmg_launch.specs.declared.launch.Outcome.{Outcome}
+use Rattle.pmg_threads.specs.declared.program.Report.{Report}
 use Rattle.pmg_commands.specs.Output.{Output, IsStatus, failure_output}
 
 -- the client's program answered no refusal

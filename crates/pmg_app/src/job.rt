@@ -4,7 +4,7 @@ ghost use Rattle.std.specs.List.{list_all};
 ghost use Rattle.pmg_value.specs.Written.{Writes};
 ghost use Rattle.pmg_store.specs.declared.failure.Failure.{Failure as AnyFailure};
 ghost use Rattle.pmg_store.specs.declared.failure.Failure.TheVariants as failures;
-ghost use Rattle.pmg_launch.specs.declared.program.Outcome.{Outcome as AnyOutcome};
+ghost use Rattle.pmg_launch.specs.declared.launch.Outcome.{Outcome as AnyOutcome};
 ghost use Rattle.pmg_app.specs.Job.{IsJobStatus, audit_line, audit_output, audited_text, far_text, is_audit_fault, is_done, job_failure, job_output, outcome_status, outcome_text, reports_text};
 ghost use Rattle.pmg_commands.specs.Output.{IsStatus, Prints, TellsReadFault};
 

@@ -2,30 +2,26 @@
 //! script or a job says. Each command of the program is a function over a reader and a writer, which answers the status.
 #![tactic(auto)]
 
-ghost use Rattle.std.specs.Prelude.{◌≡◌, ◌≢◌, ◌≤◌, ◌+◌, ◌⊎◌, ◌↔◌, ℕ, IfOk, IfSome, IsNone, IsTrue, Result};
-ghost use Rattle.std.specs.IoError.{error_kind};
-ghost use Rattle.pmg_value.specs.declared.refusal.Refusal.TheVariants.{NoMemory};
-ghost use Rattle.pmg_launch.specs.declared.program.Outcome.{Outcome};
+ghost use Rattle.std.specs.Prelude.{◌≡◌, ◌≤◌, ◌+◌, ◌⊎◌, ℕ, IfOk, IfSome, IsNone, IsTrue, Result};
+ghost use Rattle.pmg_launch.specs.declared.launch.Outcome.{Outcome};
 ghost use Rattle.pmg_store.specs.declared.failure.Failure.{Failure as Failed};
-ghost use Rattle.pmg_store.specs.declared.failure.Failure.TheVariants.{Refused};
 ghost use Rattle.pmg_commands.specs.CommandLine.{HasStatus};
 ghost use Rattle.pmg_commands.specs.Dump.{dump_output};
 ghost use Rattle.pmg_app.specs.Job.{job_output};
 ghost use Rattle.pmg_commands.specs.Merge.{merge_output};
-ghost use Rattle.pmg_commands.specs.Output.{failure_output, Prints, PrintsDue, TellsReadFault};
-ghost use Rattle.pmg_commands.specs.Replay.{PrintsReplies};
+ghost use Rattle.pmg_commands.specs.Output.{Prints, PrintsDue, TellsReadFault};
+ghost use Rattle.pmg_replay.specs.Replay.{PrintsReplies};
 
 mod job;
 
 pub use job::run_job;
-use pmg_commands::{
-    Chosen, FAILED, USAGE_FAULT, conclude, read_command_line, run_dump, run_merge, run_replay,
-};
+use pmg_commands::{Chosen, read_command_line, run_dump, run_merge, tell_failures};
 use pmg_launch::Program;
-use pmg_store::{Failure, MOST_READS, WatchedReader};
-use pmg_value::{Refusal, WatchedWriter};
+use pmg_replay::run_replay;
+use pmg_store::{MOST_READS, WatchedReader};
+use pmg_value::WatchedWriter;
 use std::io;
-use std::io::{BufRead, BufReader, BufWriter, ErrorKind, Write};
+use std::io::{BufRead, BufReader, BufWriter, Write};
 use std::rt::Env;
 use std::sync::Wait;
 use std::thread::Threads;
@@ -43,12 +39,7 @@ pub fn run(
     let mut reader = WatchedReader::new(BufReader::new(rt.alloc(), rt.reader())?);
     let mut writer = WatchedWriter::new(BufWriter::new(rt.alloc(), io::writer(rt))?);
     let status = carry_out(rt, chosen, programs, &mut reader, &mut writer);
-    if let Some(error) = reader.failure() {
-        let _ = eprintln!(rt; "pmixgroup: standard input: {error}");
-    }
-    if let Some(error) = writer.failure() {
-        let _ = eprintln!(rt; "pmixgroup: standard output: {error}");
-    }
+    tell_failures(rt, &reader, &writer);
     Ok(status)
 }
 
@@ -88,25 +79,5 @@ pub fn carry_out<T: AllocGlobal + Threads + Wait + Clock + Sync, R: BufRead, W: 
         Chosen::Replay => run_replay(alloc, reader, writer),
         Chosen::Run => run_job(rt, alloc, programs, reader, writer),
         Chosen::Shown(status) => status,
-    }
-}
-
-/// Tells of what fails before a command starts, which is an allocation, an argument that is no text, or standard output, and
-/// answers the status.
-pub fn end_with<W: Write>(rt: &impl Eprint, writer: &mut WatchedWriter<W>, error: &io::Error) -> u8
-    ensures usage { (result ≡ 2) ↔ (error_kind error.now ≡ ErrorKind.InvalidData) }
-    ensures memory { error_kind error.now ≡ ErrorKind.OutOfMemory
-        → Prints (W.contents writer.old.writer) (W.contents writer.new.writer) writer.new.failure
-        result (failure_output (Refused NoMemory)) }
-    ensures other { error_kind error.now ≢ ErrorKind.OutOfMemory → error_kind error.now ≢ ErrorKind.InvalidData → result ≡ 1 }
-    ensures bound { result ≤ 3 }
-{
-    match error.kind() {
-        ErrorKind::OutOfMemory => conclude(writer, Err(Failure::Refused(Refusal::NoMemory))),
-        ErrorKind::InvalidData => {
-            let _ = eprintln!(rt; "error: an argument is not UTF-8");
-            USAGE_FAULT
-        }
-        _ => FAILED,
     }
 }

@@ -1,15 +1,12 @@
-//! What fences, reads, jobs, audits and headers cost: each line on standard input is a number and, if it is not of fences, what is done so often.
+//! What fences, reads and headers cost: each line on standard input is a number and, if it is not of fences, what is done so often.
 #![tactic(auto)]
 
-mod audits;
 mod calls;
 mod fences;
 mod headers;
-mod jobs;
 mod reads;
 
 use crate::headers::Way;
-use pmg_launch::{Exchange, Program};
 use pmg_value::Refusal;
 use std::alloc::Global;
 use std::io;
@@ -22,8 +19,6 @@ enum Work {
     Reads,
     LockedReads,
     ReadsOfClient,
-    Jobs,
-    Audits,
     Headers(Way, u8),
 }
 
@@ -35,8 +30,6 @@ impl Work {
             Work::Reads => "reads of 100 processes without a lock",
             Work::LockedReads => "reads of 100 processes under a lock",
             Work::ReadsOfClient => "reads of 100 processes by a client",
-            Work::Jobs => "jobs of 8 nodes and 32 clients",
-            Work::Audits => "events of 4 nodes audited",
             Work::Headers(Way::Written, _) => "headers of 4095 ranks written",
             Work::Headers(Way::Read, _) => "headers of 4095 ranks read",
             Work::Headers(Way::Delivered, _) => "headers of 4095 ranks delivered",
@@ -49,15 +42,7 @@ fn main(rt: HostRuntime) -> io::Result<()> {
     for line in rt.lines(alloc) {
         let line = line?;
         let (work, number) = work_of(line.as_str());
-        let mut ended = times_done(&rt, alloc, work, number);
-        for _ in 0..jobs_in(work, number) {
-            let mut programs: Vec<Box<dyn Program>> = Vec::new(alloc);
-            for _ in 0..jobs::CLIENTS {
-                programs.push(Box::new(alloc, Exchange::new(rt, alloc))?)?;
-            }
-            ended = jobs::run_one(&rt, alloc, programs, ended);
-        }
-        match ended {
+        match times_done(&rt, alloc, work, number) {
             Ok(count) => println!(rt; "{count} {}", work.name())?,
             Err(refusal) => println!(rt; "{refusal}")?,
         }
@@ -75,12 +60,6 @@ fn work_of(line: &str) -> (Work, &str) {
     }
     if let Some(number) = line.strip_suffix(" now") {
         return (Work::ReadsOfClient, number);
-    }
-    if let Some(number) = line.strip_suffix(" jobs") {
-        return (Work::Jobs, number);
-    }
-    if let Some(number) = line.strip_suffix(" events") {
-        return (Work::Audits, number);
     }
     match line.split_once(" headers ") {
         Some((number, how)) => (headers_of(how), number),
@@ -104,15 +83,7 @@ fn headers_of(how: &str) -> Work {
     Work::Headers(Way::Delivered, version)
 }
 
-/// How many jobs are to be run.
-fn jobs_in(work: Work, text: &str) -> u64 {
-    match work {
-        Work::Jobs => text.parse::<u64>().unwrap_or(0),
-        _ => 0,
-    }
-}
-
-/// How often it was done: as often as the text says, or not at all where it is no number. Of jobs none is run here.
+/// How often it was done: as often as the text says, or not at all where it is no number.
 fn times_done<R: Wait>(rt: &R, alloc: Global, work: Work, text: &str) -> Result<u64, Refusal> {
     let Ok(count) = text.parse::<u64>() else {
         return Err(Refusal::BadParam);
@@ -122,8 +93,6 @@ fn times_done<R: Wait>(rt: &R, alloc: Global, work: Work, text: &str) -> Result<
         Work::Reads => reads::read_published(rt, alloc, count),
         Work::LockedReads => reads::read_locked(rt, alloc, count),
         Work::ReadsOfClient => calls::read_now(rt, alloc, count),
-        Work::Jobs => Ok(0),
-        Work::Audits => audits::audit_rounds(alloc, count),
         Work::Headers(way, version) => headers::run(alloc, way, version, count),
     }
 }

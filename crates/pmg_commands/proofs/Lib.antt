@@ -3,4 +3,3 @@ pub mod MergeLemmas
 pub mod TextLemmas
 pub mod LineLemmas
 pub mod RunLemmas
-pub mod ScriptLemmas

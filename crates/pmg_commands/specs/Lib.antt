@@ -2,5 +2,4 @@ pub mod CommandLine
 pub mod Dump
 pub mod Merge
 pub mod Output
-pub mod Replay
 pub mod Text

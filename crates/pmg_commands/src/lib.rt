@@ -1,17 +1,18 @@
-//! What the program does without threads: its commands `dump`, `merge` and `replay`, its command line, and how a command ends.
+//! What the programs share: the command line, and how a command and a program end; and the commands `dump` and `merge`, which
+//! need stores alone.
 #![tactic(auto)]
 
 mod command;
 mod dump;
+mod ending;
 mod merge;
-mod replay;
 mod reporting;
 mod status;
 mod text;
 
 pub use command::{Chosen, choose, read_command_line};
 pub use dump::run_dump;
+pub use ending::{end_with, tell_failures};
 pub use merge::run_merge;
-pub use replay::run_replay;
 pub use reporting::{conclude, finish};
 pub use status::{AUDIT_FAULT, DONE, FAILED, NO_MEMORY, USAGE_FAULT};

@@ -1,7 +1,8 @@
 //! `pmixgroup`: the servers of a PMIx group, as text: what their frames tell, and what they do as a script or a job says.
 #![tactic(auto)]
 
-use pmg_app::{end_with, run};
+use pmg_app::run;
+use pmg_commands::end_with;
 use pmg_jobfile::MAX_JOB_PROCS;
 use pmg_launch::{Exchange, Program};
 use pmg_value::WatchedWriter;

@@ -1,7 +1,7 @@
 use Rattle.std.proofs.Common.{take}
 use Rattle.std.specs.List.{flat_map}
 use Rattle.std.specs.Io.KnownBytes.{Appends}
-use Rattle.pmg_launch.specs.declared.program.Report.{Report}
+use Rattle.pmg_threads.specs.declared.program.Report.{Report}
 use Rattle.pmg_app.proofs.job.write_reports.Given as goal
 
 -- what was written so far are the texts of the first reports

@@ -1,0 +1,268 @@
+//! A job is run: its desks, the threads of its links and of its clients.
+ghost use Rattle.std.specs.Prelude.{◌≡◌, length};
+
+use crate::desks::{close_desks, end_desks, is_one_closed, open_desks};
+use crate::links::{Ends, Links, deliver_frames, link_desks, nudge_desk, send_frames};
+use crate::program::{Ended, Program, Report, Reported, Unaudited};
+use crate::shortage::Shortage;
+use pmg_desk::{Client, Desk, Unended};
+use pmg_jobfile::Job;
+use pmg_jobinfo::Registry;
+use pmg_journal::Transcript;
+use pmg_value::{Proc, Refusal};
+use std::alloc::Global;
+use std::sync::Wait;
+use std::thread;
+use std::thread::Threads;
+use std::time::Clock;
+
+/// What the thread of one client has to do.
+#[derive(Drop)]
+struct Work<'d> {
+    program: Box<dyn Program>,
+    client: Client<'d>,
+    report: Report,
+}
+
+/// Runs the job over such links, with these programs for its processes, which rise by namespace and rank: a thread a client, two a
+/// node for the links, and one a node that asks other nodes again, where the links say so. Once all clients have ended, what they
+/// report is told, and what an audit needs: the journals of the nodes and the transcripts of the clients. Refused as BadParam where
+/// the number of programs is not that of the processes; as NoMemory where an allocation failed that a desk cannot go on without, or
+/// a thread cannot be started; and as Closed where a desk was closed for another cause before all clients had ended.
+pub fn run_unaudited<R: Threads + Wait + Clock + Sync>(
+    rt: &R,
+    job: Job,
+    programs: Vec<Box<dyn Program>>,
+    links: Links,
+) -> Result<Unaudited, Refusal> {
+    let procs = job.procs()?;
+    if programs.len() != procs.len() {
+        return Err(Refusal::BadParam);
+    }
+    let registry = job.registry();
+    let alloc = registry.allocator();
+    let desks = open_desks(rt, registry)?;
+    let ended = run_group(rt, registry, &desks, &procs, programs, links);
+    let journals = end_desks(rt, alloc, desks);
+    let Reported {
+        reports,
+        transcripts,
+        is_cut: _,
+    } = ended?;
+    Ok(Unaudited {
+        reports,
+        journals: journals?,
+        transcripts,
+    })
+}
+
+/// Runs the job on its desks.
+fn run_group<R: Threads + Wait + Clock + Sync>(
+    rt: &R,
+    registry: &Registry,
+    desks: &[Desk],
+    procs: &[Proc],
+    programs: Vec<Box<dyn Program>>,
+    links: Links,
+) -> Result<Reported, Refusal>
+    requires { length desks.now ≡ length registry.now.nodes }
+{
+    let alloc = registry.allocator();
+    let work = share_out(rt, registry, desks, procs, programs)?;
+    let ends = link_desks(alloc, desks, links)?;
+    run_threads(rt, alloc, desks, procs, ends, links.nudges, work)
+}
+
+/// The work of each client, by process.
+fn share_out<'d, R: Wait>(
+    rt: &R,
+    registry: &Registry,
+    desks: &'d [Desk],
+    procs: &[Proc],
+    programs: Vec<Box<dyn Program>>,
+) -> Result<Vec<Work<'d>>, Refusal>
+    requires { length desks.now ≡ length registry.now.nodes }
+{
+    let mut work = Vec::with_capacity(registry.allocator(), procs.len())?;
+    for (proc, program) in procs.iter().zip(programs) {
+        work.push(work_of(rt, registry, desks, proc, program)?)?;
+    }
+    Ok(work)
+}
+
+/// The work of the process's client, which runs the program.
+fn work_of<'d, R: Wait>(
+    rt: &R,
+    registry: &Registry,
+    desks: &'d [Desk],
+    proc: &Proc,
+    program: Box<dyn Program>,
+) -> Result<Work<'d>, Refusal>
+    requires { length desks.now ≡ length registry.now.nodes }
+{
+    let home = registry.home(proc)?;
+    let report = Report {
+        proc: proc.copy()?,
+        text: Vec::new(registry.allocator()),
+        answer: Ok(()),
+    };
+    let client = desks[home.index() as usize].client(rt, proc)?;
+    Ok(Work {
+        program,
+        client,
+        report,
+    })
+}
+
+/// Starts the threads of the links, runs the clients, and closes the desks, so that the links end.
+fn run_threads<R: Threads + Wait + Clock + Sync>(
+    rt: &R,
+    alloc: Global,
+    desks: &[Desk],
+    procs: &[Proc],
+    ends: Vec<Ends<'_>>,
+    nudges: u32,
+    work: Vec<Work<'_>>,
+) -> Result<Reported, Refusal> {
+    let shortage = Shortage::new();
+    let noted = &shortage;
+    let reported = thread::scope(
+        thread::scope_env(),
+        rt,
+        move |scope| -> Result<Reported, Refusal> {
+            let mut all_started = true;
+            for one in ends {
+                let Ends { desk, to, from } = one;
+                let sends = scope
+                    .spawn(move || send_frames(rt, desks, noted, desk, to))
+                    .is_ok();
+                let delivers = scope
+                    .spawn(move || deliver_frames(rt, desks, noted, desk, &from))
+                    .is_ok();
+                let asks = nudges == 0
+                    || scope
+                        .spawn(move || nudge_desk(rt, desks, noted, desk, nudges))
+                        .is_ok();
+                all_started = all_started && sends && delivers && asks;
+            }
+            let reported = if all_started {
+                run_clients(rt, alloc, desks, procs, work)
+            } else {
+                Err(Refusal::NoMemory)
+            };
+            close_desks(rt, desks);
+            reported
+        },
+    )?;
+    judge(reported, shortage.is_noted(rt))
+}
+
+/// Runs the clients, a thread each, and sees whether a desk was closed meanwhile.
+fn run_clients<R: Threads + Wait + Sync>(
+    rt: &R,
+    alloc: Global,
+    desks: &[Desk],
+    procs: &[Proc],
+    work: Vec<Work<'_>>,
+) -> Result<Reported, Refusal> {
+    let mut reported = tell_clients(rt, alloc, desks, procs, work)?;
+    reported.is_cut = is_one_closed(rt, desks);
+    Ok(reported)
+}
+
+/// What was reported, where no desk was closed before all clients had ended. Else NoMemory where an allocation failed in a call of a
+/// client, or in one of the links, which is known once these have ended; and Closed where a desk was closed for another cause.
+fn judge(reported: Reported, is_noted: bool) -> Result<Reported, Refusal> {
+    if !reported.is_cut {
+        return Ok(reported);
+    }
+    if is_noted || is_short(&reported.reports) {
+        return Err(Refusal::NoMemory);
+    }
+    Err(Refusal::Closed)
+}
+
+/// What the clients report and what they called, once all have ended. Where a thread cannot be started every desk is closed.
+fn tell_clients<R: Threads + Wait + Sync>(
+    rt: &R,
+    alloc: Global,
+    desks: &[Desk],
+    procs: &[Proc],
+    work: Vec<Work<'_>>,
+) -> Result<Reported, Refusal> {
+    thread::scope(
+        thread::scope_env(),
+        rt,
+        move |scope| -> Result<Reported, Refusal> {
+            let mut threads = Vec::new(alloc);
+            for one in work {
+                let Work {
+                    program,
+                    client,
+                    report,
+                } = one;
+                let started = scope.spawn(move || run_client(
+                    rt, desks, procs, program, client, report,
+                ));
+                let is_started = match started {
+                    Ok(thread) => threads.push(thread).is_ok(),
+                    Err(_) => false,
+                };
+                if !is_started {
+                    close_desks(rt, desks);
+                    return Err(Refusal::NoMemory);
+                }
+            }
+            let mut reported = Reported::new(alloc);
+            for thread in threads {
+                reported.push(thread.join(rt))?;
+            }
+            Ok(reported)
+        },
+    )
+}
+
+/// Whether an allocation failed in a call of a client.
+fn is_short(reports: &[Report]) -> bool {
+    reports
+        .iter()
+        .any(|report| report.answer == Err(Refusal::NoMemory))
+}
+
+/// Runs the program of one client. Where it answers a refusal the client is terminated.
+fn run_client<R: Wait>(
+    rt: &R,
+    desks: &[Desk],
+    procs: &[Proc],
+    mut program: Box<dyn Program>,
+    mut client: Client<'_>,
+    mut report: Report,
+) -> Ended {
+    report.answer = program.run(&mut client, procs, &mut report.text);
+    let transcript = if report.answer.is_err() {
+        terminate(rt, desks, client, &mut report)
+    } else {
+        client.into_transcript()
+    };
+    Ended { report, transcript }
+}
+
+/// Terminates the client; where that is refused, every desk is closed, and the report tells of an allocation that failed.
+fn terminate<R: Wait>(
+    rt: &R,
+    desks: &[Desk],
+    client: Client<'_>,
+    report: &mut Report,
+) -> Transcript {
+    match client.terminate(rt) {
+        Ok(transcript) => transcript,
+        Err(unended) => {
+            close_desks(rt, desks);
+            let Unended { refusal, client } = unended;
+            if refusal == Refusal::NoMemory {
+                report.answer = Err(refusal);
+            }
+            client.into_transcript()
+        }
+    }
+}
