@@ -129,7 +129,7 @@ fn count_readers<R: Wait + Abort>(rt: &R, alloc: Global, count: usize) -> (usize
 
 #[test]
 fn there_are_as_many_viewers_as_asked_for(rt: HostRuntime) {
-    for count in [0, 3, 65_536] {
+    for count in [0, 3, 16_384] {
         assert!(rt; count_readers(&rt, rt.alloc(), count) == (count, count));
     }
 }

@@ -98,7 +98,12 @@ fn put_members(rt: &impl Abort, text: &mut Vec<u8>, node: &Node, name: &str, all
 // What the node has to tell to other nodes.
 fn dump_lines(rt: &impl Abort, alloc: Global, node: &Node) -> Vec<u8> {
     let mut writer = WatchedWriter::new(Vec::new(alloc));
-    node.board().far().dump(&mut writer).expect(rt, MEMORY);
+    // A list fails to take a text where memory runs out, and nowhere else.
+    let dumped = match node.board().far().dump(&mut writer) {
+        Ok(()) => Ok(()),
+        Err(_) => Err(Refusal::NoMemory),
+    };
+    dumped.expect(rt, MEMORY);
     writer.into_inner()
 }
 
