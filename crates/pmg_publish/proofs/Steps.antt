@@ -1,5 +1,5 @@
 -- Each step at the board keeps the rule.
-use Rattle.std.proofs.Common.{◌≡◌, ℕ, ◌≢◌, true, List, [], ◌∷◌, ◌++◌, fold, set, refl, ap, sym, ◌∙◌, subst, ⊎_elim}
+use Rattle.std.proofs.Common.{◌≡◌, ℕ, ◌≢◌, List, [], ◌∷◌, ◌++◌, fold, set, refl, ap, sym, ◌∙◌, subst, ⊎_elim}
 use Rattle.std.specs.List.{flat_map}
 use Rattle.std.proofs.lemmas.List.{append-nil}
 use Rattle.std.proofs.lemmas.Grind.{flat_map-append}
@@ -16,7 +16,7 @@ use Rattle.pmg_publish.specs.declared.counting.Publication.{Publication}
 use Rattle.pmg_publish.specs.declared.rule.Known.{Known}
 use Rattle.pmg_publish.specs.declared.shown.Shown.{Shown}
 use Rattle.pmg_publish.specs.declared.shown.Update.{Update}
-use Rattle.pmg_publish.specs.Publications.{Publications, publication, near_of, far_of}
+use Rattle.pmg_publish.specs.Publications.{publication, near_of, far_of}
 use Rattle.pmg_publish.specs.Boards.{IsMade, applied}
 use Rattle.pmg_publish.specs.Rule.{unnamed, knowing, KnowsPrefix, KeepsShown, Sees}
 use Rattle.pmg_publish.proofs.Prefixes.{prefix_self, prefix_trans}

@@ -1,4 +1,0 @@
-use Rattle.pmg_launch.proofs.desks.end_desks.Given as goal
-
-abbrev pub decreases-loop-desk : goal.decreases-loop-desk
-decreases-loop-desk g l = goal.left-loop-desk g l
