@@ -1,6 +1,6 @@
 //! What a job prints, and what it ends with, where a client is refused.
 use crate::programs::Refused;
-use crate::running::{MEMORY, give_up_where};
+use crate::words::{MEMORY, give_up_where};
 use pmg_app::run_job;
 use pmg_launch::{Exchange, Program};
 use pmg_store::WatchedReader;

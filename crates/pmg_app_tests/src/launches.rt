@@ -1,6 +1,6 @@
 //! Jobs that are run, with reports found by hand.
 use crate::programs::{Fencing, Meeting, Refreshing, Refused, Reporting, number_in, push_line};
-use crate::running::{MEMORY, give_up_where};
+use crate::words::{MEMORY, give_up_where};
 use pmg_audit::Run;
 use pmg_jobfile::Job;
 use pmg_launch::{Exchange, Links, Outcome, Program, Report, run, run_linked};

@@ -1,9 +1,7 @@
-//! Tests of jobs and of the program's commands, from without: how threads run jobs, and what the commands print and end with where a
-//! reader or a writer fails. What they print for a text is shown by the examples.
+//! Tests of jobs, from without: how threads run them, and what the program prints of one. What commands print for a text is shown by
+//! the examples, and what they print and end with where a reader or a writer fails by `hostile/run`.
 #![tactic(auto)]
 
-#[cfg(test)]
-mod commands;
 #[cfg(test)]
 mod jobs;
 #[cfg(test)]
@@ -11,6 +9,4 @@ mod launches;
 #[cfg(test)]
 mod programs;
 #[cfg(test)]
-mod replays;
-#[cfg(test)]
-mod running;
+mod words;

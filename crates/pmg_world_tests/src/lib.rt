@@ -1,18 +1,10 @@
-//! Tests of nodes, scripts and worlds, from without: by acts, lines and events that are written by
-//! hand.
+//! Tests of nodes and worlds, from without: by acts and events that are written by hand. What scripts are replied is shown by the
+//! examples, and what is written where a reader or a writer fails by `hostile/run`.
 //!
 //! A test in which an allocation fails passes, or ends with NoMemory, and with nothing else.
 #![tactic(auto)]
 
 #[cfg(test)]
-mod calls;
-#[cfg(test)]
-mod failing;
-#[cfg(test)]
 mod nodes;
-#[cfg(test)]
-mod playing;
-#[cfg(test)]
-mod scripts;
 #[cfg(test)]
 mod worlds;
