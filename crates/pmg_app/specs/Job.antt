@@ -22,6 +22,7 @@ is_done r = is_ok r.answer
 unfoldable pub reports_text : List Report → List ℕ
 reports_text reports = flat_map (λ r. r.text.items) reports
 
+-- the text; nothing, where there is a failure
 abbrev pub text_due : Result (List ℕ) Failure → List ℕ
 text_due (Ok text) = text
 text_due (Err failure) = []
@@ -53,6 +54,7 @@ is_audit_fault e = false
 unfoldable pub audit_line : Refusal → List ℕ
 audit_line e = codes "audit fault " ++ refusal_text e ++ codes "\n"
 
+-- what is printed where an audit found the fault, with status 4
 abbrev pub audit_output : Refusal → Output
 audit_output e = record { status = 4; printed = audit_line e }
 

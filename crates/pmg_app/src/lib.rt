@@ -10,16 +10,17 @@ ghost use Rattle.pmg_commands.specs.Dump.{dump_output};
 ghost use Rattle.pmg_app.specs.Job.{job_output};
 ghost use Rattle.pmg_commands.specs.Merge.{merge_output};
 ghost use Rattle.pmg_commands.specs.Output.{Prints, PrintsDue, TellsReadFault};
-ghost use Rattle.pmg_replay.specs.Replay.{PrintsReplies};
+ghost use Rattle.pmg_app.specs.Replay.{PrintsReplies};
 
 mod job;
+mod replay;
 
 pub use job::run_job;
 use pmg_commands::{Chosen, read_command_line, run_dump, run_merge, tell_failures};
 use pmg_launch::Program;
-use pmg_replay::run_replay;
 use pmg_store::{MOST_READS, WatchedReader};
 use pmg_value::WatchedWriter;
+pub use replay::run_replay;
 use std::io;
 use std::io::{BufRead, BufReader, BufWriter, Write};
 use std::rt::Env;

@@ -41,6 +41,7 @@ abbrev pub IsSaidBy : Server → (Proc → List Due) → Option Proc → Happeni
 IsSaidBy s rest None e = Unit {0}
 IsSaidBy s rest (Some p) e = (home_of s.jobs p ≡ s.id) × BeginsWith s p (rest p) e
 
+-- the events that are said after the first
 abbrev pub tail_of : List Due → List Due
 tail_of [] = []
 tail_of (d ∷ ds) = ds

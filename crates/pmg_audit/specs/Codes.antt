@@ -13,12 +13,15 @@ use Rattle.pmg_audit.specs.declared.moves.Move.{Move as KeptMove}
 use Rattle.pmg_audit.specs.declared.moves.Put.{Put as KeptPut}
 use Rattle.pmg_audit.specs.declared.moves.Saying.{Saying}
 
+-- a put, as code holds it
 abbrev pub audited_put : KeptPut → Put
 audited_put x = due_put x.scope x.key (spelling x.value)
 
+-- an event that a client says it made, as code holds it
 abbrev pub audited_due : KeptDue → Due
 audited_due d = made_due (map audited_put d.puts.items) (act_of d.act) (reply_in reply_as d.answer)
 
+-- a move, as code holds it
 abbrev pub move_in : KeptMove → Move
 move_in m = record { puts = map audited_put m.puts.items; act = act_of m.act; reply = reply_in reply_as m.answer; frames = m.frames.items }
 

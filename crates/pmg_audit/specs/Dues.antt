@@ -23,6 +23,7 @@ pub record Due : Type 0 where
   pub act : Act
   pub reply : Reply
 
+-- an event that a client says it made: after these puts, the act with its reply
 abbrev pub made_due : List Put → Act → Reply → Due
 made_due puts act reply = record { puts = puts; act = act; reply = reply }
 
@@ -34,6 +35,7 @@ due_event d = happening d.act d.reply
 abbrev pub due_in : Move → Due
 due_in m = made_due m.puts m.act m.reply
 
+-- a put of the value under the key, with that scope
 abbrev pub due_put : Scope → List ℕ → List ℕ → Put
 due_put scope key value = record { scope = scope; key = key; value = value }
 
@@ -43,6 +45,7 @@ act_by p c (Calling.put scope key value) = None
 act_by p c Calling.commit = Some (Act.commit p (unsealed_of c))
 act_by p c (Calling.request r) = if is_own_ask (Act.request r) then None else Some (Act.request r)
 
+-- the act of a call, unless it is passed over
 abbrev pub act_said : Proc → Cached → Noted → Option Act
 act_said p c n = if is_passed n.reply then None else act_by p c n.call
 
@@ -51,6 +54,7 @@ abbrev pub put_by_call : List Put → Calling → Reply → List Put
 put_by_call puts (Calling.put scope key value) Reply.done = puts ++ due_put scope key value ∷ []
 put_by_call puts call reply = puts
 
+-- the event that the act is, after these puts and with that reply; none where there is no act
 abbrev pub due_of : List Put → Reply → Option Act → List Due
 due_of puts reply None = []
 due_of puts reply (Some a) = made_due puts a reply ∷ []

@@ -32,6 +32,7 @@ event_in m = happening m.act m.reply
 
 -- ---- who calls
 
+-- the process that makes the request; none where sets are changed, or other nodes are asked again
 abbrev pub caller_in : Request → Option Proc
 caller_in (Request.enter p list collect) = Some p
 caller_in (Request.leave p) = Some p
@@ -48,6 +49,7 @@ caller_of (Act.request r) = caller_in r
 caller_of (Act.commit p b) = Some p
 caller_of (Act.deliver frame) = None
 
+-- the process is the one that calls
 abbrev pub is_caller : Proc → Option Proc → Bool
 is_caller p None = false
 is_caller p (Some q) = same_proc p q
@@ -63,6 +65,7 @@ is_own_ask _ = false
 
 -- ---- what is put
 
+-- the cache, once all of these are put
 abbrev pub put_all : Cached → List Put → Cached
 put_all c [] = c
 put_all c (x ∷ xs) = put_all (with_put c x.scope x.key x.value) xs

@@ -23,6 +23,7 @@ unfoldable pub Goes : (ℕ → List Move) → List Sent → List ℕ → Type 0
 Goes js frames [] = (n : ℕ) → js n ≡ []
 Goes js frames (n ∷ order) = (m : Move) × (rest : List Move) × (js n ≡ m ∷ rest) × MayGo n m.act frames × Goes (put_rest js n rest) (frames ++ m.frames) order
 
+-- the moves; none, where there is no such node
 abbrev pub list_or_none : Option (List Move) → List Move
 list_or_none None = []
 list_or_none (Some ms) = ms
@@ -37,6 +38,7 @@ rests all done n = drop (slice_index done n) (moves_at all n)
 
 -- ---- what is told
 
+-- the event with its reply
 abbrev pub event_happened : Event → Reply → Happened
 event_happened event reply = record { event = event; reply = reply }
 
@@ -46,9 +48,11 @@ IsEventOf frames n (Act.commit p b) e = e ≡ Event.commit n p
 IsEventOf frames n (Act.request r) e = e ≡ Event.request n r
 IsEventOf frames n (Act.deliver frame) e = (i : ℕ) × (e ≡ Event.deliver i) × (numbered frames i ≡ Some (sent n frame))
 
+-- a put of the process, as an event with its reply
 abbrev pub put_told : Proc → Put → Happened
 put_told p x = event_happened (Event.put p x.scope x.key x.value) Reply.done
 
+-- the puts of the process that calls, as such events; none, where no process calls
 abbrev pub puts_told : Option Proc → List Put → List Happened
 puts_told None puts = []
 puts_told (Some p) puts = map (put_told p) puts

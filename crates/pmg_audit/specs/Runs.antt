@@ -33,6 +33,7 @@ place_of scripts frames (Event.commit node p) r = Some (node, happening (Act.com
 place_of scripts frames (Event.request node q) r = Some (node, happening (Act.request q) r)
 place_of scripts frames (Event.deliver i) r = option_map (λ s. (s.to, happening (Act.deliver s.frame) r)) (numbered frames i)
 
+-- what happened at the node, with this in front where it happened there
 abbrev pub with_place : ℕ → Option (ℕ × Happening) → List Happening → List Happening
 with_place n None es = es
 with_place n (Some x) es = if n == x.0 then x.1 ∷ es else es
@@ -89,6 +90,7 @@ pub record AreEnds (jobs : Jobs) (all : List (List Move)) (nodes : List Server) 
 
 -- ---- one run
 
+-- a world in code of these jobs, nodes, frames and events
 abbrev pub account_by : Jobs → List Server → List Sent → List LoggedEvent → Account
 account_by jobs nodes frames told = record { jobs = jobs; nodes = nodes; sent = frames; told = told }
 

@@ -38,5 +38,6 @@ pub record AreNumbers (frames : List Sent) (rows : List (Key × ℕ)) : Type 0 w
   pub found : (key : Key) (i : ℕ) → number_under rows key ≡ Some i → (s : Sent) × (numbered frames i ≡ Some s) × IsKeyOf key s
   pub all : (key : Key) (s : Sent) → In s frames → IsKeyOf key s → IsSome (number_under rows key)
 
+-- so it is of the frames and the numbers that code holds
 abbrev pub AreNumbered : Sends → Type 0
 AreNumbered a = AreNumbers a.frames.items a.numbers.entries

@@ -24,6 +24,7 @@ pub record Span : Type 0 where
   pub start : ℕ
   pub end : ℕ
 
+-- the text stands from start to end
 abbrev pub span : ℕ → ℕ → Span
 span start end = record { start = start; end = end }
 

@@ -14,6 +14,7 @@ use Rattle.pmg_commit.specs.Cores.{Core, core_of, join_cores, coded_core}
 abbrev pub Data : Type 0
 Data = map.FinMap proc_cmp Core
 
+-- the code of such data
 abbrev pub coded_data : Coded Data
 coded_data = map.code coded_proc coded_core
 

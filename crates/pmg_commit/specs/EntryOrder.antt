@@ -22,15 +22,19 @@ exact_entries e f h =
     let triple = exact_pairs (slice_cmp nat_cmp) (λ (x y : ℕ × List ℕ). ordering_then (nat_cmp x.0 y.0) (slice_cmp nat_cmp x.1 y.1)) exact_bytes rest (e.key, (e.number, e.bytes)) (f.key, (f.number, f.bytes)) h in
     ap (λ (t : List ℕ × (ℕ × List ℕ)). record { key = t.0; number = t.1.0; bytes = t.1.1 }) triple
 
+-- the bytes a are less than the bytes b
 abbrev pub Below : List ℕ → List ℕ → Type 0
 Below a b = slice_cmp nat_cmp a b ≡ Less
 
+-- what `is_later` tests: f is of a greater number than e, or of the same number with the greater bytes
 abbrev pub Later : Entry → Entry → Type 0
 Later e f = (e.number < f.number) ⊎ ((e.number ≡ f.number) × Below e.bytes f.bytes)
 
+-- what `is_readable` tests: e is an entry of the key, and its number is no greater than the level
 abbrev pub Readable : ℕ → List ℕ → Entry → Type 0
 Readable level key e = (key ≡ e.key) × (e.number ≤ level)
 
+-- what `is_superseded` tests: f is of e's key and later, and of a number up to the level or e's own
 abbrev pub Superseded : ℕ → Entry → Entry → Type 0
 Superseded level e f = ((e.key ≡ f.key) × Later e f) × ((f.number ≤ level) ⊎ (e.number ≡ f.number))
 

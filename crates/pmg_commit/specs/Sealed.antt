@@ -26,6 +26,7 @@ pub record Stamp : Type 0 where
 abbrev pub Stamps : Type 0
 Stamps = KeyMap Stamp
 
+-- the code of stamps
 abbrev pub coded_stamps : Coded Stamps
 coded_stamps =
     finite.code (coded_list coded_ℕ)
@@ -40,6 +41,7 @@ pub record Sealed : Type 0 where
   pub near : Stamps
   pub far : Stamps
 
+-- what a process sealed, as a tuple
 abbrev pub coded_sealed : Coded Sealed
 coded_sealed =
     code_by (Proc × (ℕ × (Bool × (Stamps × Stamps)))) (coded× coded_proc (coded× coded_ℕ (coded× coded_bool (coded× coded_stamps coded_stamps))))
@@ -92,6 +94,7 @@ end_of z = if z.ended then z else ended_with z
 abbrev pub stamp_size : List ℕ × Stamp → ℕ
 stamp_size e = row_size (e.0, e.1.bytes)
 
+-- what stamps count for
 abbrev pub stamps_size : Stamps → ℕ
 stamps_size m = sum_by stamp_size (finite.entries m)
 
@@ -118,6 +121,7 @@ stamps_for z reach.Own = finite.empty
 stamps_for z reach.Near = z.near
 stamps_for z reach.Far = z.far
 
+-- a stamp under its key, as an entry
 abbrev pub stamped_entry : List ℕ × Stamp → Entry
 stamped_entry e = record { key = e.0; number = e.1.number; bytes = e.1.bytes }
 

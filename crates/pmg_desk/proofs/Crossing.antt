@@ -35,7 +35,7 @@ use Rattle.pmg_node.specs.contracts.act.Reply as Reply
 use Rattle.pmg_scope.specs.contracts.batch.Batch as Batch
 use Rattle.pmg_scope.specs.contracts.cache.Cache as Cache
 use Rattle.pmg_publish.specs.contracts.viewer.Version as Version
-use Rattle.pmg_exclusive.proofs.Exclusive.TheSendSync as Lonely
+use Rattle.pmg_desk.proofs.exclusive.Exclusive.TheSendSync as Lonely
 use Rattle.counted_slot.proofs.Counted.TheSendSync as Counted
 use Rattle.pmg_journal.specs.contracts.journal.Event as Event
 use Rattle.pmg_journal.specs.contracts.journal.Journal as Journal

@@ -23,6 +23,7 @@ pub record Client : Type 0 where
   pub viewer : Publications
   pub transcript : Transcript
 
+-- a client as a tuple, by the codes of what a viewer knows and of a transcript
 abbrev pub coded_client : Coded Publications → Coded Transcript → Coded Client
 coded_client viewer transcript =
     code_by (Jobs × (ℕ × (Publications × Transcript))) (coded× coded_jobs (coded× coded_ℕ (coded× viewer transcript))) (λ c. (c.jobs, (c.node, (c.viewer, c.transcript))))

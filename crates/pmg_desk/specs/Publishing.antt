@@ -14,6 +14,7 @@ abbrev pub publications_of : Option Contribution → Option Contribution → Lis
 publications_of None None = []
 publications_of near far = publication (option_to_list near) (option_to_list far) ∷ []
 
+-- what an act joins, as one publication; none where it joins nothing
 abbrev pub published_of : Joins → List Publication
 published_of j = publications_of j.near j.far
 

@@ -52,6 +52,7 @@ IsDueOrClosed (Err refusals.NoMemory) due = Unit {0}
 IsDueOrClosed (Err refusals.Closed) due = Unit {0}
 IsDueOrClosed (Err e) due = due ≡ Reply.refused e
 
+-- what is read, once causes were looked for: the refusal, or what is due by what the viewer knows afterwards
 abbrev pub ReadsNow : Client → Client → Get → Result Value Refusal → Result Unit Refusal → Type 0
 ReadsNow c d get result (Err e) = result ≡ Err e
 ReadsNow c d get result (Ok _) = IsDueOrClosed result (reply_of (resolve (seen_by c (near_of d.viewer.log) (far_of d.viewer.log) get) modes.Now))
@@ -69,6 +70,7 @@ got_in (Reply.found value) = Ok value
 got_in (Reply.refused e) = Err e
 got_in r = Err refusals.NotFound
 
+-- what comes of a get, with the value as its canonical bytes
 abbrev pub got_as : Result Value Refusal → Result (List ℕ) Refusal
 got_as (Ok value) = Ok (spelling value)
 got_as (Err e) = Err e

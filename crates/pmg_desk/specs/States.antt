@@ -54,6 +54,7 @@ pub record MovesOn (s : Server) (a : Act) (answer : Result Reply Refusal) (es : 
   pub outbox : out' ≡ out ++ sent_by s (act_of a)
   pub published : log' ≡ log ++ published_by s (act_of a)
 
+-- The same of a desk that may have no node: without one no act is done.
 abbrev pub StateGoesOn : Option Server → Act → Result Reply Refusal → List Happening → List Sent → List Publication → Option Server → List Happening → List Sent
     → List Publication → Type 0
 StateGoesOn None a answer es out log left es' out' log' = ⊥

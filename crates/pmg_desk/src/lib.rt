@@ -3,6 +3,7 @@
 
 mod client;
 mod desk;
+mod exclusive;
 pub mod laws;
 mod lock;
 mod reading;

@@ -5,9 +5,9 @@ ghost use Rattle.pmg_desk.specs.Places.{LiesAt};
 ghost use Rattle.pmg_jobinfo.specs.Jobs.{is_node};
 ghost use Rattle.pmg_node_model.specs.Kept.{IsOwn};
 
+use crate::exclusive::Exclusive;
 use crate::state::State;
 use counted_slot::{Counted, Fits};
-use pmg_exclusive::Exclusive;
 use pmg_jobinfo::Registry;
 use pmg_node::Status;
 use pmg_publish::{Version, Viewer};

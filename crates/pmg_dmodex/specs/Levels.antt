@@ -16,9 +16,11 @@ NodeLevels = finite.FinMap nat_cmp ℕ
 abbrev pub Levels : Type 0
 Levels = finite.FinMap proc_cmp NodeLevels
 
+-- the code of levels by node
 abbrev pub coded_node_levels : Coded NodeLevels
 coded_node_levels = finite.code coded_ℕ coded_ℕ
 
+-- the code of levels by process
 abbrev pub coded_levels : Coded Levels
 coded_levels = finite.code coded_proc coded_node_levels
 

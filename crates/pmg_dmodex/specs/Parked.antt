@@ -14,9 +14,11 @@ Askers = finite.FinMap proc_cmp (List ℕ)
 abbrev pub Parked : Type 0
 Parked = finite.FinMap proc_cmp Askers
 
+-- the code of keys by asker
 abbrev pub coded_askers : Coded Askers
 coded_askers = finite.code coded_proc (coded_list coded_ℕ)
 
+-- the code of parked gets
 abbrev pub coded_parked : Coded Parked
 coded_parked = finite.code coded_proc coded_askers
 

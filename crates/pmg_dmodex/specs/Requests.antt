@@ -20,6 +20,7 @@ coded_requests =
     code_by (finite.FinMap proc_cmp ℕ × (Levels × Refreshes)) (coded× (finite.code coded_proc coded_ℕ) (coded× coded_levels coded_refreshes))
     (λ r. (r.asked, (r.held, r.anew))) (λ p. record { asked = p.0; held = p.1.0; anew = p.1.1 }) (λ _. refl)
 
+-- nothing was asked for, and no node waits
 abbrev pub no_requests : Requests
 no_requests = record { asked = finite.empty; held = finite.empty; anew = no_refreshes }
 

@@ -4,7 +4,7 @@ ghost use Rattle.std.specs.FinMap as finite;
 ghost use Rattle.std.specs.Option.{option_map};
 ghost use Rattle.pmg_dmodex.specs.Parked.{awaited, parked_on, parking, unparked};
 
-use pmg_value::{Copied, Key, Proc, copy_rows};
+use pmg_value::{Key, Proc};
 use std::alloc::{AllocError, Global};
 use std::collections::BTreeMap;
 use std::marker::Model;
@@ -70,15 +70,6 @@ impl Askers {
             gets.push((asker.copy()?, key.copy()?))?;
         }
         Ok(gets)
-    }
-}
-
-impl Copied for Askers {
-    fn copy(&self) -> Result<Askers, AllocError> {
-        Ok(Askers {
-            alloc: self.alloc,
-            rows: copy_rows(self.alloc, &self.rows)?,
-        })
     }
 }
 
@@ -162,15 +153,5 @@ impl Parked {
         if let Some(askers) = self.rows.get_mut(target) {
             askers.remove(asker);
         }
-    }
-
-    /// Others of the same meaning, with the same allocator.
-    pub fn copy(&self) -> Result<Parked, AllocError>
-        ensures { IfOk result (λ copy. copy ≡ self.now) }
-    {
-        Ok(Parked {
-            alloc: self.alloc,
-            rows: copy_rows(self.alloc, &self.rows)?,
-        })
     }
 }

@@ -79,6 +79,7 @@ entered_by t g p level = forgotten (noted_entry t g p level) g
 abbrev pub ended_by : Fences → Proc → ℕ → Fences
 ended_by t p level = record { series = t.series; ends = finite.insert t.ends p level }
 
+-- what a node's first header lists: one that came before, or else this one
 abbrev pub first_locals : Option (List Local) → List Local → List Local
 first_locals None locals = locals
 first_locals (Some first) locals = first
@@ -97,6 +98,7 @@ with_header t h = with_fence t h.name (fence_told (fence_at t h.name) h.node h.l
 unfoldable pub present : Jobs → ℕ → Fences → FenceName → Option (List Local)
 present jobs node t f = if has_name t f then own_header jobs node t f else None
 
+-- the node's header of the fence, where there was none before and there is one now
 abbrev pub newly : ℕ → FenceName → Option (List Local) → Option (List Local) → List Header
 newly node f (Some before) now = []
 newly node f None None = []

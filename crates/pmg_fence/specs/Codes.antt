@@ -12,6 +12,7 @@ use Rattle.pmg_frame.specs.declared.local.Local.{Local}
 use Rattle.pmg_jobinfo.specs.Jobs.{Jobs, coded_jobs}
 use Rattle.pmg_fence.specs.Tables.{Numbers, Fence, Series, Fences}
 
+-- the code of numbers by process
 abbrev pub coded_numbers : Coded Numbers
 coded_numbers = finite.code coded_proc coded_ℕ
 
@@ -19,9 +20,11 @@ coded_numbers = finite.code coded_proc coded_ℕ
 abbrev pub Headers : Type 0
 Headers = finite.FinMap nat_cmp (List Local)
 
+-- the code of headers by node
 abbrev pub coded_headers : Coded Headers
 coded_headers = finite.code coded_ℕ (coded_list coded_local)
 
+-- what is known of a fence, as a pair
 abbrev pub coded_fence : Coded Fence
 coded_fence = code_by (Numbers × Headers) (coded× coded_numbers coded_headers) (λ f. (f.levels, f.headers)) (λ p. record { levels = p.0; headers = p.1 }) (λ _. refl)
 
@@ -29,9 +32,11 @@ coded_fence = code_by (Numbers × Headers) (coded× coded_numbers coded_headers)
 abbrev pub Instances : Type 0
 Instances = finite.FinMap nat_cmp Fence
 
+-- the code of fences by instance
 abbrev pub coded_instances : Coded Instances
 coded_instances = finite.code coded_ℕ coded_fence
 
+-- a series as a tuple
 abbrev pub coded_series : Coded Series
 coded_series =
     code_by (Numbers × (Instances × ℕ)) (coded× coded_numbers (coded× coded_instances coded_ℕ)) (λ s. (s.counts, (s.fences, s.top))) (λ p. record { counts = p.0; fences = p.1.0; top = p.1.1 }) (λ _. refl)
@@ -40,6 +45,7 @@ coded_series =
 abbrev pub AllSeries : Type 0
 AllSeries = finite.FinMap signature_cmp Series
 
+-- the code of series by signature
 abbrev pub coded_all_series : Coded AllSeries
 coded_all_series = finite.code coded_signature coded_series
 
@@ -47,6 +53,7 @@ coded_all_series = finite.code coded_signature coded_series
 abbrev pub Owns : Type 0
 Owns = finite.FinMap signature_cmp (List Proc)
 
+-- the code of own participants by signature
 abbrev pub coded_owns : Coded Owns
 coded_owns = finite.code coded_signature (coded_list coded_proc)
 
@@ -54,6 +61,7 @@ coded_owns = finite.code coded_signature (coded_list coded_proc)
 abbrev pub Signatures : Type 0
 Signatures = set.FinSet signature_cmp
 
+-- the code of a set of signatures
 abbrev pub coded_signatures : Coded Signatures
 coded_signatures = set.code coded_signature
 
@@ -61,9 +69,11 @@ coded_signatures = set.code coded_signature
 abbrev pub Index : Type 0
 Index = finite.FinMap proc_cmp Signatures
 
+-- the code of signatures by process
 abbrev pub coded_index : Coded Index
 coded_index = finite.code coded_proc coded_signatures
 
+-- what a node keeps of fences, as a pair
 abbrev pub coded_fences : Coded Fences
 coded_fences = code_by (AllSeries × Numbers) (coded× coded_all_series coded_numbers) (λ t. (t.series, t.ends)) (λ p. record { series = p.0; ends = p.1 }) (λ _. refl)
 
@@ -75,6 +85,7 @@ pub record Known : Type 0 where
   pub fences : Fences
   pub waiting : List Header
 
+-- what a table holds, as a tuple
 abbrev pub coded_known : Coded Known
 coded_known =
     code_by (Jobs × (ℕ × (Fences × List Header))) (coded× coded_jobs (coded× coded_ℕ (coded× coded_fences (coded_list coded_header))))

@@ -14,9 +14,11 @@ use Rattle.pmg_frame.specs.declared.local.State.TheVariants as states
 use Rattle.pmg_jobinfo.specs.Jobs.{Jobs, home_of}
 use Rattle.pmg_fence.specs.declared.entry.Entry.{Entry}
 
+-- the processes are one
 abbrev pub same_proc : Proc → Proc → Bool
 same_proc = eq_by_cmp proc_cmp
 
+-- the signatures are one
 abbrev pub same_signature : Signature → Signature → Bool
 same_signature = eq_by_cmp signature_cmp
 
@@ -68,6 +70,7 @@ locals_of jobs f node = filter (λ p. home_of jobs p == node) (participants_of f
 abbrev pub local_of : Proc → Entry → Local
 local_of p e = record { proc = p; state = e.state; level = e.level }
 
+-- what is told of the process, in front of what is told of others; nothing, while either is missing
 abbrev pub with_line : Proc → Option Entry → Option (List Local) → Option (List Local)
 with_line p None others = None
 with_line p (Some e) None = None

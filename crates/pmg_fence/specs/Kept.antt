@@ -19,6 +19,7 @@ use Rattle.pmg_fence.specs.Codes.{Instances, AllSeries, Known, Owns, Signatures,
 use Rattle.pmg_fence.specs.Changes.{greater_of, fence_placed, with_counts, forgotten, fence_entered, fence_told, present, newly}
 use Rattle.pmg_jobinfo.specs.Jobs.{Jobs, home_of}
 
+-- what is known of the fence, once it has changed so
 abbrev pub fence_changed : Fence → Change → Fence
 fence_changed fence changes.Learned = fence
 fence_changed fence (changes.Entered p level) = fence_entered fence p level
@@ -30,6 +31,7 @@ counts_changed counts k changes.Learned = counts
 counts_changed counts k (changes.Entered p level) = finite.insert counts p k
 counts_changed counts k (changes.Told h) = counts
 
+-- what is known of the fence of that instance, nothing where it is not kept
 abbrev pub fence_in : Instances → ℕ → Fence
 fence_in fences k = unwrap_or (finite.get fences k) no_fence
 
@@ -50,6 +52,7 @@ unfoldable pub series_changed : Series → ℕ → Change → Series
 series_changed s k change =
     if nat_lt (suc k) s.top then series_counted s (counts_changed s.counts k change) else series_placed s k change (counts_changed s.counts k change)
 
+-- the series of the signature, an empty one where it has none
 abbrev pub series_in : AllSeries → Signature → Series
 series_in all g = unwrap_or (finite.get all g) no_series
 
@@ -105,6 +108,7 @@ newly_told k f l = if is_old k.fences f then [] else told_with k f l
 abbrev pub changed_with : Known → FenceName → Change → Option Local → Known
 changed_with k f change l = record { jobs = k.jobs; node = k.node; fences = noted_by k.fences f change; waiting = k.waiting ++ newly_told k f l }
 
+-- what a table holds: these jobs and this node, these series and ends, and these headers that wait
 abbrev pub known_of : Jobs → ℕ → AllSeries → Numbers → List Header → Known
 known_of jobs node series ends waiting = record { jobs = jobs; node = node; fences = record { series = series; ends = ends }; waiting = waiting }
 

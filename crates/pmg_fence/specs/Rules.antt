@@ -37,10 +37,11 @@ Grows scripts grown = (q : Proc) → (later : Script) × (grown q ≡ scripts q 
 
 -- ---- entries and headers, as scripts grow
 
--- an entry is final, and so is a header
+-- an entry is final
 abbrev pub EntryStays : Type 0
 EntryStays = (s later : Script) (f : FenceName) (e : Entry) → entry s f ≡ Some e → entry (s ++ later) f ≡ Some e
 
+-- a header is final
 abbrev pub HeaderStays : Type 0
 HeaderStays =
     (jobs : Jobs) (scripts grown : Scripts) (f : FenceName) (node : ℕ) (ls : List Local) → Grows scripts grown
@@ -56,12 +57,13 @@ with_call scripts p call = λ q. if same_proc q p then scripts q ++ call ∷ [] 
 abbrev pub NewFits : Type 0
 NewFits = (jobs : Jobs) (node : ℕ) → FitsTable jobs node (λ _. []) no_fences
 
--- puts and commits are nothing to fences
+-- a put is nothing to fences
 abbrev pub PutFits : Type 0
 PutFits =
     (jobs : Jobs) (node : ℕ) (scripts : Scripts) (t : Fences) (p : Proc) (scope : Scope) (key value : List ℕ) → has_end (scripts p) ≡ false
     → FitsTable jobs node scripts t → FitsTable jobs node (with_call scripts p (Call.put scope key value)) t
 
+-- a commit is nothing to fences
 abbrev pub CommitFits : Type 0
 CommitFits =
     (jobs : Jobs) (node : ℕ) (scripts : Scripts) (t : Fences) (p : Proc) → has_end (scripts p) ≡ false
@@ -97,11 +99,12 @@ HeaderFits =
 
 -- ---- what a table that fits says
 
--- of a fence that is not old its own header is the one that the scripts say, and so is each header that it has
+-- of a fence that is not old its own header is the one that the scripts say
 abbrev pub OwnHeaderIsTrue : Type 0
 OwnHeaderIsTrue =
     (jobs : Jobs) (node : ℕ) (scripts : Scripts) (t : Fences) (f : FenceName) → FitsTable jobs node scripts t → is_old t f ≡ false → own_header jobs node t f ≡ header_of jobs scripts f node
 
+-- of a fence that is not old each header that the node has is the one that the scripts say
 abbrev pub HeadersAreTrue : Type 0
 HeadersAreTrue =
     (jobs : Jobs) (node : ℕ) (scripts : Scripts) (t : Fences) (f : FenceName) (other : ℕ) (ls : List Local) → FitsTable jobs node scripts t → is_old t f ≡ false
@@ -117,19 +120,21 @@ ToldIsTrue =
 abbrev pub Keeps : Jobs → ℕ → Fences → Fences → FenceName → Type 0
 Keeps jobs node old new f = is_old new f ≡ false → (other : ℕ) (ls : List Local) → header_at jobs node old f other ≡ Some ls → header_at jobs node new f other ≡ Some ls
 
--- a learned name and a header that comes change no header that is there, not even one that its node sent before
+-- a learned name changes no header that is there
 abbrev pub LearnKeeps : Type 0
 LearnKeeps = (jobs : Jobs) (node : ℕ) (t : Fences) (g f : FenceName) → Keeps jobs node t (learned t g) f
 
+-- a header that comes changes no header that is there, not even one that its node sent before
 abbrev pub HeaderKeeps : Type 0
 HeaderKeeps = (jobs : Jobs) (node : ℕ) (t : Fences) (h : Header) (f : FenceName) → Keeps jobs node t (with_header t h) f
 
--- nor do an entry and an end, where the table fits
+-- nor does an entry, where the table fits
 abbrev pub EnterKeeps : Type 0
 EnterKeeps =
     (jobs : Jobs) (node : ℕ) (scripts : Scripts) (t : Fences) (p : Proc) (g : Signature) (f : FenceName) → home_of jobs p ≡ node → has_end (scripts p) ≡ false
     → FitsTable jobs node scripts t → Keeps jobs node t (entered_by t g p (commits (scripts p))) f
 
+-- nor does an end, where the table fits
 abbrev pub EndKeeps : Type 0
 EndKeeps =
     (jobs : Jobs) (node : ℕ) (scripts : Scripts) (t : Fences) (p : Proc) (f : FenceName) → home_of jobs p ≡ node → has_end (scripts p) ≡ false

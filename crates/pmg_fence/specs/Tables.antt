@@ -35,18 +35,23 @@ pub record Fences : Type 0 where
   pub series : finite.FinMap signature_cmp Series
   pub ends : Numbers
 
+-- nothing is known of the fence
 abbrev pub no_fence : Fence
 no_fence = record { levels = finite.empty; headers = finite.empty }
 
+-- no fence of the signature was learned or entered
 abbrev pub no_series : Series
 no_series = record { counts = finite.empty; fences = finite.empty; top = 0 }
 
+-- no fence's name is kept, and no own process ended
 abbrev pub no_fences : Fences
 no_fences = record { series = finite.empty; ends = finite.empty }
 
+-- the name of the fence of that signature and instance
 abbrev pub fence_of : Signature → ℕ → FenceName
 fence_of g k = record { signature = g; instance = k }
 
+-- the series of the signature, an empty one where it has none
 unfoldable pub series_at : Fences → Signature → Series
 series_at t g = unwrap_or (finite.get t.series g) no_series
 
@@ -58,6 +63,7 @@ has_name t f = finite.contains_key (series_at t f.signature).fences f.instance
 unfoldable pub is_old : Fences → FenceName → Bool
 is_old t f = nat_lt (suc f.instance) (series_at t f.signature).top
 
+-- what is known of the fence, nothing where its name is not kept
 unfoldable pub fence_at : Fences → FenceName → Fence
 fence_at t f = unwrap_or (finite.get (series_at t f.signature).fences f.instance) no_fence
 
@@ -90,6 +96,7 @@ entry_in q (Some ls) = option_map (λ (l : Local). record { state = l.state; lev
 unfoldable pub told_of : Jobs → ℕ → Fences → FenceName → Proc → Option Entry
 told_of jobs node t f q = entry_in q (header_at jobs node t f (home_of jobs q))
 
+-- a participant is told of, and where data is collected, its commits are known up to the level that is told
 abbrev pub is_covered : Bool → ℕ → Option Entry → Bool
 is_covered collect level None = false
 is_covered collect level (Some e) = not collect || nat_le e.level level
@@ -100,6 +107,7 @@ unfoldable pub is_ready : Jobs → ℕ → Fences → FenceName → (Proc → �
 is_ready jobs node t f level =
     not (is_old t f) && list_all (λ q. is_covered f.signature.collect (level q) (told_of jobs node t f q)) (participants_of f)
 
+-- a participant that stands so to the fence is gone
 abbrev pub says_gone : Option Entry → Bool
 says_gone None = false
 says_gone (Some e) = is_gone e.state

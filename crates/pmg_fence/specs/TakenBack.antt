@@ -39,6 +39,7 @@ abbrev pub counts_back : Numbers → Option NumberUndo → Numbers
 counts_back m None = m
 counts_back m (Some before) = number_back m before
 
+-- the series as it was: its counts, what was known of the instance, and the greatest instance
 abbrev pub series_back : Series → ℕ → SeriesUndo → Series
 series_back s k before = record { counts = counts_back s.counts before.count; fences = instances_back s.fences k before.fence; top = before.top }
 
@@ -51,6 +52,7 @@ all_series_back m g k (Some before) = changed_at m g (series_back (series_in m g
 abbrev pub fences_back : Fences → FenceName → Option SeriesUndo → Fences
 fences_back t f before = record { series = all_series_back t.series f.signature f.instance before; ends = t.ends }
 
+-- what was known of the fences, before one of them changed or a process ended
 abbrev pub change_back : Fences → ChangeBefore → Fences
 change_back t (change_befores.Fence f before) = fences_back t f before
 change_back t (change_befores.End before) = record { series = t.series; ends = number_back t.ends before }

@@ -31,10 +31,11 @@ pub record AreParticipants (ps : List Proc) : Type 0 where
   pub some : 1 ≤ length ps
   pub few : length ps ≤ MAX_PARTICIPANTS
 
--- signatures and names as tuples
+-- a signature as a pair
 abbrev pub coded_signature : Coded Signature
 coded_signature = code_by (set.FinSet proc_cmp × Bool) (coded× (set.code coded_proc) coded_bool) (λ s. (s.participants, s.collect)) (λ p. record { participants = p.0; collect = p.1 }) (λ _. refl)
 
+-- a fence's name as a pair
 abbrev pub coded_name : Coded FenceName
 coded_name = code_by (Signature × ℕ) (coded× coded_signature coded_ℕ) (λ f. (f.signature, f.instance)) (λ p. record { signature = p.0; instance = p.1 }) (λ _. refl)
 
@@ -48,6 +49,7 @@ pub record NameFields : Type 0 where
   pub number : ℕ
   pub list : List Proc
 
+-- such fields: whether the fence collects data, its instance, and its participants
 abbrev pub name_fields : Bool → ℕ → List Proc → NameFields
 name_fields collect number list = record { collect = collect; number = number; list = list }
 
@@ -79,6 +81,7 @@ pub record Header : Type 0 where
   pub name : FenceName
   pub locals : List Local
 
+-- the node's header of the fence, with these locals
 abbrev pub header : ℕ → FenceName → List Local → Header
 header node name locals = record { node = node; name = name; locals = locals }
 
@@ -96,13 +99,14 @@ pub state_of-is_gone : (s : State) → state_of (is_gone s) ≡ s
 state_of-is_gone states.Entered = refl
 state_of-is_gone states.Gone = refl
 
--- locals and headers as tuples
+-- a local as a tuple
 abbrev pub coded_local : Coded Local
 coded_local =
     code_by (Proc × (Bool × ℕ)) (coded× coded_proc (coded× coded_bool coded_ℕ)) (λ l. (l.proc, (is_gone l.state, l.level)))
     (λ p. record { proc = p.0; state = state_of p.1.0; level = p.1.1 })
     (λ l. ap (λ (s : State). record { proc = l.proc; state = s; level = l.level }) (state_of-is_gone l.state))
 
+-- a header as a tuple
 abbrev pub coded_header : Coded Header
 coded_header =
     code_by (ℕ × (FenceName × List Local)) (coded× coded_ℕ (coded× coded_name (coded_list coded_local))) (λ h. (h.node, (h.name, h.locals)))
@@ -131,6 +135,7 @@ pub record FenceAsk : Type 0 where
 abbrev pub coded_fence_ask : Coded FenceAsk
 coded_fence_ask = code_by (ℕ × FenceName) (coded× coded_ℕ coded_name) (λ a. (a.node, a.name)) (λ p. record { node = p.0; name = p.1 }) (λ _. refl)
 
+-- the node asks for a header of the fence
 abbrev pub fence_ask : ℕ → FenceName → FenceAsk
 fence_ask node name = record { node = node; name = name }
 
@@ -140,6 +145,7 @@ pub record CommitAsk : Type 0 where
   pub proc : Proc
   pub level : ℕ
 
+-- the node asks for the process's commits after that level
 abbrev pub commit_ask : ℕ → Proc → ℕ → CommitAsk
 commit_ask node proc level = record { node = node; proc = proc; level = level }
 

@@ -13,6 +13,7 @@ pub record RefreshAsk : Type 0 where
   pub request : ℕ
   pub ask : CommitAsk
 
+-- the ask for commits, under the request's number
 abbrev pub refresh_ask : ℕ → CommitAsk → RefreshAsk
 refresh_ask request ask = record { request = request; ask = ask }
 
@@ -22,6 +23,7 @@ pub record RefreshReply : Type 0 where
   pub request : ℕ
   pub told : Contribution
 
+-- the reply to the node, under the request's number, that tells what the process sealed
 abbrev pub refresh_reply : ℕ → ℕ → Contribution → RefreshReply
 refresh_reply node request told = record { node = node; request = request; told = told }
 

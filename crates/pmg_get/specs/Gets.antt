@@ -12,6 +12,7 @@ pub data Seen : Type 0 where
   local : Option (List ℕ) → Option (List ℕ) → Bool → Seen
   remote : Option (List ℕ) → Bool → Seen
 
+-- What a get comes to: a value; that none is seen; one whose scope leaves out who asks; or that the get parks.
 pub data Outcome : Type 0 where
   found : List ℕ → Outcome
   absent : Outcome

@@ -14,12 +14,14 @@ use Rattle.pmg_get.specs.declared.answer.Answer.TheVariants as answers
 abbrev pub bytes_of : Option (Bor Value) → Option (List ℕ)
 bytes_of = option_map (λ v. spelling v.now)
 
+-- what a view shows, with values as their canonical bytes
 abbrev pub seen_in : View → Seen
 seen_in (views.Reserved value) = Seen.reserved (bytes_of value)
 seen_in (views.Own value) = Seen.own (bytes_of value)
 seen_in (views.Near near far term) = Seen.local (bytes_of near) (bytes_of far) term
 seen_in (views.Far far term) = Seen.remote (bytes_of far) term
 
+-- what an answer tells, with a value as its canonical bytes
 abbrev pub outcome_of : Answer → Outcome
 outcome_of (answers.Found value) = Outcome.found (spelling value.now)
 outcome_of answers.NotFound = Outcome.absent

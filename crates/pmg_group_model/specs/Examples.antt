@@ -40,10 +40,11 @@ its_key = record { target = j0; key = codes "a" }
 abbrev pub its_value : List ℕ
 its_value = 9 ∷ 1 ∷ []
 
--- the two nodes
+-- the first of the two nodes
 abbrev pub first_node : ℕ
 first_node = 0
 
+-- the second of the two nodes
 abbrev pub second_node : ℕ
 second_node = 1
 

@@ -71,6 +71,7 @@ abbrev pub wanted_after : Proc → Event → Reply → Option Wanted → Option 
 wanted_after p (Event.request node request) r before = wanted_by p request r before
 wanted_after p _ r before = before
 
+-- a get that was answered so
 abbrev pub answer_as : Get → Mode → Outcome → Answer
 answer_as get mode outcome = record { get = get; mode = mode; outcome = outcome }
 
@@ -90,6 +91,7 @@ abbrev pub answer_by : Proc → Proc → Event → Reply → Option Wanted → O
 answer_by p q (Event.request node request) r before = answer_of p q request r before
 answer_by p q _ r before = None
 
+-- the answer in front of the others, if there is one
 abbrev pub with_answer : Option Answer → List Answer → List Answer
 with_answer None others = others
 with_answer (Some a) others = a ∷ others
@@ -130,6 +132,7 @@ pub record Good (jobs : Jobs) (w : World) : Type 0 where
   pub freed : (node : ℕ) → FreedRight w.scripts (w.nodes node)
   pub kept : (node : ℕ) → HasTwo (w.nodes node).table
 
+-- Each world that a run from the start leads to is good.
 abbrev pub AlwaysGood : Type 0
 AlwaysGood = (jobs : Jobs) → AreJobs jobs → (xs : List Happened) (w : World) → Run jobs (start jobs) xs w → Good jobs w
 

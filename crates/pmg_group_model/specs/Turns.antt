@@ -56,6 +56,8 @@ ArePast scripts h p =
 abbrev pub IsInTurn : Scripts → Proc → Type 0
 IsInTurn scripts p = (g : Signature) (k : ℕ) → 0 < k → k < enters (scripts p) g → IsOver scripts (fence_of g k)
 
+-- What holds after every step: nodes and frames name only fences that were entered; and of those of one signature that
+-- a process entered each is over, but the last need not be while the process is in it, or once it has ended.
 pub record Turned (jobs : Jobs) (w : World) : Type 0 where
   pub named : (node : ℕ) → AreNamed w.scripts (w.nodes node)
   pub past : (p : Proc) → ArePast w.scripts (w.nodes (home_of jobs p)) p

@@ -23,6 +23,7 @@ use Rattle.pmg_node_model.specs.declared.sent.Sent.{Sent}
 
 -- ---- a client's cache
 
+-- what the client's cache holds after these calls, where it held this before
 abbrev pub cache_from : Cached → Script → Cached
 cache_from c [] = c
 cache_from c (Call.put scope key value ∷ cs) = cache_from (with_put c scope key value) cs
@@ -64,6 +65,7 @@ pub data Doing : Type 0 where
 abbrev pub not_there : Doing
 not_there = Doing.by_cache (Err refusals.BadParam) None
 
+-- what is done at the node, if there is such a node
 abbrev pub if_node : Jobs → ℕ → Doing → Doing
 if_node jobs node doing = if is_node jobs node then doing else not_there
 
@@ -85,10 +87,12 @@ own_get jobs w node p key mode =
 abbrev pub is_own : Proc → Get → Bool
 is_own p get = same_proc p get.target && not (is_reserved get.key)
 
+-- what a request is: a get of a key of one's own is answered by the cache; any other is an act of the node
 abbrev pub requests : Jobs → World → ℕ → Request → Doing
 requests jobs w node (Request.ask p get mode) = if is_own p get then own_get jobs w node p get.key mode else Doing.at_node node (Act.request (Request.ask p get mode))
 requests jobs w node r = Doing.at_node node (Act.request r)
 
+-- the item of that number, from 0
 abbrev pub nth : {A : Type 0} → List A → ℕ → Option A
 nth [] i = None
 nth (x ∷ xs) zero = Some x
@@ -99,6 +103,7 @@ abbrev pub numbered : {A : Type 0} → List A → ℕ → Option A
 numbered xs zero = None
 numbered xs (suc i) = nth xs i
 
+-- what a delivery is: an act of the node that the frame was sent to, if there is such a frame
 abbrev pub delivers : Option Sent → Doing
 delivers None = not_there
 delivers (Some s) = Doing.at_node s.to (Act.deliver s.frame)
@@ -110,6 +115,7 @@ puts jobs w p scope key value =
     (first_of (also (free_cause jobs (home_of jobs p) (w.nodes (home_of jobs p)) p) (put_cause (cache_of (w.scripts p)) scope key value)) Reply.done)
     (said_by p (Call.put scope key value ∷ []))
 
+-- what an event is in that world
 unfoldable pub doing : Jobs → World → Event → Doing
 doing jobs w (Event.put p scope key value) = puts jobs w p scope key value
 doing jobs w (Event.commit node p) = if_node jobs node (Doing.at_node node (Act.commit p (unsealed_of (cache_of (w.scripts p)))))
@@ -118,6 +124,7 @@ doing jobs w (Event.deliver i) = delivers (numbered w.sent i)
 
 -- ---- steps
 
+-- what each node holds, where that one holds this
 abbrev pub with_holding_at : (ℕ → NodeState) → ℕ → NodeState → ℕ → NodeState
 with_holding_at nodes node h m = if m == node then h else nodes m
 
@@ -128,6 +135,7 @@ pub record ActStep (jobs : Jobs) (w : World) (node : ℕ) (a : Act) (r : Reply) 
   pub step : NodeStep jobs node (w.nodes node) a r new out
   pub left : v ≡ record { scripts = unless_refused (is_refusal r) w.scripts (says jobs a); nodes = with_holding_at w.nodes node new; sent = w.sent ++ out }
 
+-- the answer as a reply
 abbrev pub reply_or_refusal : Result Reply Refusal → Reply
 reply_or_refusal (Ok r) = r
 reply_or_refusal (Err e) = Reply.refused e
@@ -137,6 +145,7 @@ pub record CacheStep (w : World) (answer : Result Reply Refusal) (said : Option 
   pub replied : r ≡ reply_or_refusal answer
   pub left : v ≡ record { scripts = unless_refused (is_refusal r) w.scripts said; nodes = w.nodes; sent = w.sent }
 
+-- what is done is replied so, and leads to this world
 abbrev pub Does : Jobs → World → Doing → Reply → World → Type 0
 Does jobs w (Doing.at_node node a) r v = ActStep jobs w node a r v
 Does jobs w (Doing.by_cache answer said) r v = CacheStep w answer said r v

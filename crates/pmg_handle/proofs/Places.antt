@@ -31,10 +31,10 @@ use Rattle.std.proofs.alloc.Global.TheLaws as heap_laws
 use Rattle.std.specs.contracts.impls.GlobalAllocator.TheImpl.{ghosts}
 use Rattle.std_alloc.specs.Box.Ownership.{box_owns}
 use Rattle.std_alloc.proofs.ResultValues.{and_tt}
-use Rattle.pmg_loose.proofs.Values.{both}
-use Rattle.pmg_loose.specs.contracts.Loose as loose
+use Rattle.pmg_handle.proofs.Values.{both}
+use Rattle.pmg_handle.specs.contracts.loose.Loose as loose
 use Rattle.pmg_daemon.specs.contracts.daemon.Daemon as held
-use Rattle.pmg_loose.specs.BoxedAt.{boxed_at}
+use Rattle.pmg_handle.specs.BoxedAt.{boxed_at}
 use Rattle.pmg_handle.specs.contracts.place.Place as place
 
 abbrev pub R : RattleType

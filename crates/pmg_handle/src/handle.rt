@@ -2,9 +2,9 @@
 ghost use Rattle.std.specs.Prelude.{◌≡◌, is_some, IsNone, Some, None, box_value, if◌then◌else◌, option_map};
 ghost use Rattle.pmg_daemon.specs.declared.codes.TheConstants.{DONE, WRONG_HANDLE};
 
+use crate::loose::Loose;
 use crate::place::Place;
 use pmg_daemon::{DONE, Daemon, WRONG_HANDLE};
-use pmg_loose::Loose;
 use std::alloc::Global;
 use std::mem;
 

@@ -2,7 +2,9 @@
 #![tactic(auto)]
 
 mod handle;
+mod loose;
 mod place;
 
 pub use handle::Handle;
+pub use loose::Loose;
 pub use place::Place;

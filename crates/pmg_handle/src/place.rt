@@ -4,8 +4,8 @@ ghost use Rattle.std.specs.Coded.{coded_option};
 ghost use Rattle.pmg_daemon.specs.declared.daemon.Daemon.{Daemon as Held};
 ghost use Rattle.pmg_daemon.specs.contracts.daemon.Daemon.{the_row};
 
+use crate::loose::Loose;
 use pmg_daemon::Daemon;
-use pmg_loose::Loose;
 use std::alloc::Global;
 use std::marker::Model;
 use std::ptr::null_mut;
@@ -21,7 +21,7 @@ pub struct Place {
 
 impl Model for Place {
     ghost use Rattle.pmg_daemon.specs.contracts.daemon.Daemon.{the_row};
-    ghost use Rattle.pmg_loose.specs.BoxedAt.{boxed_at};
+    ghost use Rattle.pmg_handle.specs.BoxedAt.{boxed_at};
 
     ghost also_owns = { λ p. boxed_at the_row p.alloc p.at p.value };
 }

@@ -15,6 +15,7 @@ use Rattle.pmg_journal.specs.Replays.{Happening, IsReplay, happening}
 abbrev pub happened : Act → Result Reply Refusal → Happening
 happened act answer = happening (act_of act) (reply_in reply_as answer)
 
+-- an event of a journal, as what happened
 abbrev pub happening_of : Event → Happening
 happening_of e = happened e.act e.answer
 

@@ -9,6 +9,7 @@ pub record Happening : Type 0 where
   pub act : Act
   pub reply : Reply
 
+-- what happened: that act, with that reply
 abbrev pub happening : Act → Reply → Happening
 happening act reply = record { act = act; reply = reply }
 

@@ -19,6 +19,7 @@ pub data Calling : Type 0 where
   commit : Calling
   request : Request → Calling
 
+-- the call is a put
 abbrev pub is_put : Calling → Bool
 is_put (Calling.put scope key value) = true
 is_put Calling.commit = false
@@ -29,14 +30,17 @@ pub record Noted : Type 0 where
   pub call : Calling
   pub reply : Reply
 
+-- the call with that reply
 abbrev pub noted : Calling → Reply → Noted
 noted call reply = record { call = call; reply = reply }
 
+-- what is called, as code names it
 abbrev pub calling_of : Call → Calling
 calling_of (calls.Put scope key value) = Calling.put scope key (spelling value)
 calling_of calls.Commit = Calling.commit
 calling_of (calls.Request r) = Calling.request (request_of r)
 
+-- a call with its reply, as code names it
 abbrev pub noted_of : Called → Noted
 noted_of c = noted (calling_of c.call) (reply_in reply_as c.answer)
 
@@ -46,10 +50,12 @@ noted_in t = map noted_of t.calls.items
 
 -- ---- what the client put
 
+-- the cache after a put that was replied so: with it, where it is done
 abbrev pub put_by : Cached → Scope → List ℕ → List ℕ → Reply → Cached
 put_by c scope key value Reply.done = with_put c scope key value
 put_by c scope key value _ = c
 
+-- the cache after a commit that was replied so: all of it is sealed, where the commit was made
 abbrev pub commit_by : Cached → Reply → Cached
 commit_by c (Reply.committed number) = after_commit c
 commit_by c _ = c
@@ -83,6 +89,7 @@ waits_by w (Calling.put scope key value) reply = w
 waits_by w Calling.commit reply = w
 waits_by w (Calling.request r) reply = waits_reply w reply
 
+-- whether a call of the client waits, after these calls with their replies
 abbrev pub waits_after : Bool → List Noted → Bool
 waits_after w [] = w
 waits_after w (n ∷ ns) = waits_after (waits_by w n.call n.reply) ns

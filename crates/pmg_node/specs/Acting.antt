@@ -17,6 +17,7 @@ use Rattle.pmg_node.specs.declared.act.Act.TheVariants as asked
 use Rattle.pmg_node.specs.declared.act.Reply.{Reply as GivenReply}
 use Rattle.pmg_node.specs.declared.act.Reply.TheVariants as replies
 
+-- a request, as code names it
 abbrev pub request_of : AskedRequest → Request
 request_of (requests.Enter p list collect) = Request.enter p list.items collect
 request_of (requests.Leave p) = Request.leave p
@@ -52,6 +53,7 @@ reply_as (replies.Defined number) = Reply.defined number
 abbrev pub acted_reply : Acted → Reply
 acted_reply acted = reply_as acted.reply
 
+-- what an act joined, as code names it
 abbrev pub joins_in : Joined → Joins
 joins_in joined = record { near = joined.near; far = joined.far }
 

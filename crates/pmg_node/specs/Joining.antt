@@ -17,6 +17,7 @@ pub record Joins : Type 0 where
   pub near : Option Contribution
   pub far : Option Contribution
 
+-- nothing is joined
 abbrev pub no_joins : Joins
 no_joins = record { near = None; far = None }
 
@@ -24,6 +25,7 @@ no_joins = record { near = None; far = None }
 abbrev pub seal_joins : Sealed → ℕ → Joins
 seal_joins z from = record { near = Some (piece_at z from reach.Near); far = Some (piece_at z from reach.Far) }
 
+-- what a request joins that took the node from old to new
 abbrev pub request_joins : NodeState → Request → NodeState → Joins
 request_joins old (Request.enter p list collect) new = no_joins
 request_joins old (Request.leave p) new = no_joins
@@ -34,6 +36,7 @@ request_joins old (Request.define name list) new = seal_joins (sealer_of new hos
 request_joins old (Request.delete name) new = seal_joins (sealer_of new host) (sealer_of old host).level
 request_joins old Request.nudge new = no_joins
 
+-- what a frame joins that is taken
 abbrev pub frame_joins : Frame → Joins
 frame_joins (frames.Piece c) = record { near = None; far = Some c }
 frame_joins (frames.Header hd) = no_joins
@@ -43,6 +46,7 @@ frame_joins (frames.DirectAsk a) = no_joins
 frame_joins (frames.RefreshAsk a) = no_joins
 frame_joins (frames.RefreshReply r) = record { near = None; far = told_by r }
 
+-- what an act joins that took the node from old to new
 abbrev pub act_joins : NodeState → Act → NodeState → Joins
 act_joins old (Act.request r) new = request_joins old r new
 act_joins old (Act.commit p b) new = seal_joins (sealer_of new p) (sealer_of old p).level

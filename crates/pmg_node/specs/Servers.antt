@@ -25,18 +25,21 @@ pub record Server : Type 0 where
   pub holding : NodeState
   pub marks : Levels
 
+-- a node as a tuple
 abbrev pub coded_server : Coded Server
 coded_server =
     code_by (Jobs × (ℕ × (NodeState × Levels))) (coded× coded_jobs (coded× coded_ℕ (coded× coded_holding coded_levels))) (λ s. (s.jobs, (s.id, (s.holding, s.marks))))
     (λ p. record { jobs = p.0; id = p.1.0; holding = p.1.1.0; marks = p.1.1.1 }) (λ _. refl)
 
--- what it replies to an act, what it sends, and what it is then
+-- what a node replies to an act
 abbrev pub reply_to : Server → Act → Reply
 reply_to s a = (acts s.jobs s.id s.holding a).reply
 
+-- what it sends by the act
 abbrev pub sent_by : Server → Act → List Sent
 sent_by s a = (chosen s.jobs s.id s.holding s.marks a).frames
 
+-- what it is after the act
 abbrev pub after : Server → Act → Server
 after s a = record { jobs = s.jobs; id = s.id; holding = (acts s.jobs s.id s.holding a).left; marks = (chosen s.jobs s.id s.holding s.marks a).marks }
 

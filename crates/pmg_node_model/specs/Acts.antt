@@ -56,6 +56,7 @@ pub data Act : Type 0 where
   commit : Proc → Unsealed → Act
   deliver : Frame → Act
 
+-- what a node replies to an act: a refusal, or else what came of the act
 pub data Reply : Type 0 where
   refused : Refusal → Reply
   done : Reply
@@ -73,9 +74,11 @@ pub data Reply : Type 0 where
 
 -- ---- where a call has a cause to be refused; the causes are looked for in the order of all calls
 
+-- there is a cause to refuse where either has one
 abbrev pub also : (Refusal → Bool) → (Refusal → Bool) → Refusal → Bool
 also one other e = one e || other e
 
+-- there is no cause to refuse
 abbrev pub no_cause : Refusal → Bool
 no_cause e = false
 
@@ -115,6 +118,7 @@ abbrev pub list_of : Proc → List Proc → List Proc
 list_of p [] = record { nspace = p.nspace; rank = wildcard } ∷ []
 list_of p (q ∷ qs) = q ∷ qs
 
+-- the signature of the fence that the process enters with this list
 abbrev pub signature_of : Jobs → Proc → List Proc → Bool → Signature
 signature_of jobs p list collect = record { participants = expansion jobs (list_of p list); collect = collect }
 
@@ -158,10 +162,12 @@ abbrev pub set_cause : Sealed → List ℕ → List Proc → List Proc → Refus
 set_cause z name list members refusals.BadParam = is_reserved name || (length list == 0)
 set_cause z name list members e = define_cause z name members e
 
+-- a set's name: none of the standard's
 abbrev pub name_cause : List ℕ → Refusal → Bool
 name_cause name refusals.BadParam = is_reserved name
 name_cause name _ = false
 
+-- where a request has a cause to be refused
 unfoldable pub request_cause : Jobs → ℕ → NodeState → Request → Refusal → Bool
 request_cause jobs id h (Request.enter p list collect) =
     also (free_cause jobs id h p) (also (list_cause jobs (list_of p list)) (signature_cause h (signature_of jobs p list collect) p))
@@ -174,6 +180,7 @@ request_cause jobs id h (Request.define name list) =
 request_cause jobs id h (Request.delete name) = also (node_cause id) (also (name_cause name) (delete_cause h.sets name))
 request_cause jobs id h Request.nudge = no_cause
 
+-- where an act has a cause to be refused; the delivery of a frame has none
 unfoldable pub cause : Jobs → ℕ → NodeState → Act → Refusal → Bool
 cause jobs id h (Act.request r) = request_cause jobs id h r
 cause jobs id h (Act.commit p b) = also (free_cause jobs id h p) (seal_cause (sealer_of h p) b)
@@ -211,10 +218,12 @@ is_taken jobs id table (frames.RefreshReply r) = (r.node == id) && is_known jobs
 
 -- ---- what is replied, and what is held then
 
+-- what comes of an act: its reply, and what the node holds then
 pub record Done : Type 0 where
   pub reply : Reply
   pub left : NodeState
 
+-- the act is replied so, and the node holds this then
 abbrev pub done_as : Reply → NodeState → Done
 done_as reply left = record { reply = reply; left = left }
 
@@ -286,6 +295,7 @@ ends_as h p z = done_as (Reply.ended z.level) (uncalled (with_table (sealing h p
 abbrev pub changes_as : NodeState → Sealed → Done
 changes_as h z = done_as (Reply.defined z.level) (sealing h host z)
 
+-- what comes of a request that is not refused
 unfoldable pub serves : Jobs → ℕ → NodeState → Request → Done
 serves jobs id h (Request.enter p list collect) = enters_fence h p (signature_of jobs p list collect)
 serves jobs id h (Request.leave p) = leaves h p (call_of h p)
@@ -311,6 +321,7 @@ receives jobs id h (frames.DirectAsk a) = holds_unless (nat_lt a.level (sealer_o
 receives jobs id h (frames.RefreshAsk a) = h
 receives jobs id h (frames.RefreshReply r) = with_reply jobs id (with_far h (joined h.far (told_by r))) r.request r.told.proc
 
+-- what comes of an act that is not refused, before the calls that wait are settled
 unfoldable pub does : Jobs → ℕ → NodeState → Act → Done
 does jobs id h (Act.request r) = serves jobs id h r
 does jobs id h (Act.commit p b) = commits_as h p (sealed_with (sealer_of h p) b)
@@ -327,13 +338,16 @@ acts jobs id h a = over jobs id h (first_of (cause jobs id h a) (does jobs id h 
 
 -- ---- the calls that an act adds to a script, unless it is refused
 
+-- a process, and calls that are added to its script
 pub record Said : Type 0 where
   pub proc : Proc
   pub calls : List Call
 
+-- the process makes these calls
 abbrev pub said_by : Proc → List Call → Option Said
 said_by p calls = Some (record { proc = p; calls = calls })
 
+-- what an act adds to a script, unless it is refused
 unfoldable pub says : Jobs → Act → Option Said
 says jobs (Act.request (Request.enter p list collect)) = said_by p (Call.enter (signature_of jobs p list collect) ∷ [])
 says jobs (Act.request (Request.leave p)) = None
@@ -348,6 +362,7 @@ says jobs (Act.deliver frame) = None
 
 -- ---- how a process stands, which is no act
 
+-- how a process stands at a node: not at home there; in no call; in a fence or a get, and how far; or ended
 pub data Status : Type 0 where
   stranger : Status
   idle : Status
@@ -357,6 +372,7 @@ pub data Status : Type 0 where
   answered : Status
   ended : Status
 
+-- how a process stands that has not ended, by the call that it is in
 abbrev pub status_by : Option CallState → Status
 status_by None = Status.idle
 status_by (Some (CallState.in_fence f)) = Status.in_fence
@@ -366,6 +382,7 @@ status_by (Some (CallState.answered get outcome)) = Status.answered
 status_by (Some (CallState.refreshing get number)) = Status.parked
 status_by (Some (CallState.refreshed get outcome)) = Status.answered
 
+-- how the process stands at the node
 unfoldable pub status_of : Jobs → ℕ → NodeState → Proc → Status
 status_of jobs id h p =
     if is_member jobs p && (home_of jobs p == id) then (if (sealer_of h p).ended then Status.ended else status_by (call_of h p)) else Status.stranger

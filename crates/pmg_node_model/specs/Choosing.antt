@@ -80,6 +80,7 @@ abbrev pub asking_anew : Jobs → ℕ → NodeState → Proc → ℕ → List To
 asking_anew jobs id h q number =
     if home_of jobs q == id then [] else sendings.Whole (sent (home_of jobs q) (frames.RefreshAsk (ask_anew id h q number))) ∷ []
 
+-- for a get that waits, the home of its target, where that is another node, is asked, be it anew
 abbrev pub asking_for : Jobs → ℕ → NodeState → Option CallState → List ToSend
 asking_for jobs id h (Some (CallState.parked get)) = asking_home jobs id h get.target
 asking_for jobs id h (Some (CallState.refreshing get number)) = asking_anew jobs id h get.target number
@@ -100,6 +101,7 @@ asking_risen jobs id old new q = if nat_lt (level_at old.far q) (level_at new.fa
 
 -- ---- what is sent at a nudge
 
+-- the fence that the call is in, where it is not released
 abbrev pub waited : CallState → List FenceName
 waited (CallState.in_fence f) = f ∷ []
 waited _ = []
@@ -113,6 +115,7 @@ abbrev pub asking_headers : Jobs → ℕ → NodeState → FenceName → List To
 asking_headers jobs id h f =
     map (λ m. sendings.Whole (sent m (frames.FenceAsk (fence_ask id f)))) (filter (λ m. is_none (header_at jobs id h.table f m)) (peers_in jobs id f))
 
+-- what is told of a participant names commits past the level
 abbrev pub is_behind : ℕ → Option Entry → Bool
 is_behind level None = false
 is_behind level (Some e) = nat_lt level e.level
@@ -123,6 +126,7 @@ asking_ranges jobs id h f =
     map (λ q. sendings.Whole (sent (home_of jobs q) (frames.RangeAsk (commit_ask id q (level_at h.far q)))))
     (filter (λ q. not (home_of jobs q == id) && is_behind (level_at h.far q) (told_of jobs id h.table f q)) (participants_of f))
 
+-- a fence's missing headers are asked for, and where it collects data, the missing commits that headers name
 abbrev pub asking_fence : Jobs → ℕ → NodeState → FenceName → List ToSend
 asking_fence jobs id h f = asking_headers jobs id h f ++ (if f.signature.collect then asking_ranges jobs id h f else [])
 
@@ -130,6 +134,7 @@ asking_fence jobs id h f = asking_headers jobs id h f ++ (if f.signature.collect
 abbrev pub asking_sets : ℕ → NodeState → List ToSend
 asking_sets id h = if id == 0 then [] else sendings.Whole (sent 0 (frames.RangeAsk (commit_ask id host (level_at h.far host)))) ∷ []
 
+-- what own processes wait for is asked for again, and so are changes of the process sets
 abbrev pub nudging : Jobs → ℕ → NodeState → List ToSend
 nudging jobs id h =
     flat_map (asking_fence jobs id h) (waited_in h) ++ (flat_map (λ e. asking_for jobs id h (Some e.1)) (finite.entries h.calls) ++ asking_sets id h)
@@ -140,6 +145,7 @@ nudging jobs id h =
 abbrev pub spreading : Jobs → ℕ → NodeState → NodeState → List ToSend
 spreading jobs id old new = settling old new host ++ map (λ m. piece_due new host m 0) (peers jobs id)
 
+-- what is due once the request took the node from old to new
 unfoldable pub due_by_request : Jobs → ℕ → NodeState → Request → NodeState → List ToSend
 due_by_request jobs id old (Request.enter p list collect) new =
     flat_map (announcing jobs id) (news jobs id old.table new.table (next_name old.table (signature_of jobs p list collect) p))
@@ -152,6 +158,7 @@ due_by_request jobs id old (Request.define name list) new = spreading jobs id ol
 due_by_request jobs id old (Request.delete name) new = spreading jobs id old new
 due_by_request jobs id old Request.nudge new = nudging jobs id new
 
+-- what is due once the frame took the node from old to new
 unfoldable pub due_by_frame : Jobs → ℕ → NodeState → Frame → NodeState → List ToSend
 due_by_frame jobs id old (frames.Piece c) new = asking_risen jobs id old new c.proc
 due_by_frame jobs id old (frames.Header hd) new = flat_map (announcing jobs id) (news jobs id old.table new.table hd.name)
@@ -170,6 +177,7 @@ due_by jobs id old (Act.deliver frame) new = due_by_frame jobs id old frame new
 
 -- ---- marks: to which level each node was sent an own process's commits, or said that it knows them
 
+-- the mark of the process at the node, 0 where there is none
 abbrev pub mark_of : Levels → ℕ → Proc → ℕ
 mark_of marks node p = unwrap_or (mark_at marks p node) 0
 
@@ -183,6 +191,7 @@ marked_by marks to (frames.DirectAsk a) = marks
 marked_by marks to (frames.RefreshAsk a) = marks
 marked_by marks to (frames.RefreshReply r) = with_level marks r.told.proc to r.told.to
 
+-- the marks, once the frame is sent
 abbrev pub marked : Levels → Sent → Levels
 marked marks s = marked_by marks s.to s.frame
 
@@ -196,6 +205,7 @@ abbrev pub named_by : Act → Option CommitAsk
 named_by (Act.deliver (frames.RefreshAsk a)) = Some a.ask
 named_by a = asked_by a
 
+-- the marks, once the act came: where it asks for commits, it says what its node knows
 unfoldable pub marked_by_act : Levels → Act → Levels
 marked_by_act marks a = asked_marks marks (named_by a)
 
@@ -210,6 +220,7 @@ frame_for sealer marks (sendings.Whole s) = Some s
 frame_for sealer marks (sendings.Rest node p) =
     if nat_lt (mark_of marks node p) (sealer p).level then Some (sent node (frames.Piece (piece_at (sealer p) (mark_of marks node p) reach.Far))) else None
 
+-- the marks, once the frame is sent, if there is one
 abbrev pub marked_if : Levels → Option Sent → Levels
 marked_if marks None = marks
 marked_if marks (Some s) = marked marks s

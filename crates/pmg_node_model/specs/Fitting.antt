@@ -28,6 +28,7 @@ abbrev pub with_said : Scripts → Option Said → Scripts
 with_said scripts None = scripts
 with_said scripts (Some said) = λ q. if same_proc q said.proc then scripts q ++ said.calls else scripts q
 
+-- the reply is a refusal
 abbrev pub is_refusal : Reply → Bool
 is_refusal (Reply.refused e) = true
 is_refusal _ = false
@@ -38,6 +39,7 @@ unless_refused refused scripts said = if refused then scripts else with_said scr
 
 -- ---- the fence that a process is in
 
+-- the signature that was entered later, where there is one, else the earlier
 abbrev pub later_signature : Signature → Option Signature → Option Signature
 later_signature g None = Some g
 later_signature g (Some h) = Some h

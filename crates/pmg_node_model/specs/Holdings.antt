@@ -71,6 +71,7 @@ new_holding jobs id = record {
 unfoldable pub sealer_in : Sealed → finite.FinMap proc_cmp Sealed → Proc → Sealed
 sealer_in sets sealers p = if is_host p then sets else unwrap_or (finite.get sealers p) (fresh p)
 
+-- what the process sealed, as the node holds it
 abbrev pub sealer_of : NodeState → Proc → Sealed
 sealer_of h p = sealer_in h.sets h.sealers p
 
@@ -105,12 +106,15 @@ joined d (Some c) = absorbed d c
 abbrev pub with_far : NodeState → Data → NodeState
 with_far h far = record { near = h.near; far = far; sealers = h.sealers; sets = h.sets; table = h.table; calls = h.calls; held = h.held; requests = h.requests }
 
+-- what is known of fences is now this
 abbrev pub with_table : NodeState → Fences → NodeState
 with_table h table = record { near = h.near; far = h.far; sealers = h.sealers; sets = h.sets; table = table; calls = h.calls; held = h.held; requests = h.requests }
 
+-- the calls that own processes are in are now these
 abbrev pub with_calls : NodeState → finite.FinMap proc_cmp CallState → NodeState
 with_calls h calls = record { near = h.near; far = h.far; sealers = h.sealers; sets = h.sets; table = h.table; calls = calls; held = h.held; requests = h.requests }
 
+-- the nodes that wait for a process's next commit are now these
 abbrev pub with_held : NodeState → Levels → NodeState
 with_held h held = record { near = h.near; far = h.far; sealers = h.sealers; sets = h.sets; table = h.table; calls = h.calls; held = held; requests = h.requests }
 
@@ -118,9 +122,11 @@ with_held h held = record { near = h.near; far = h.far; sealers = h.sealers; set
 abbrev pub with_requests : NodeState → ℕ → NodeState
 with_requests h requests = record { near = h.near; far = h.far; sealers = h.sealers; sets = h.sets; table = h.table; calls = h.calls; held = h.held; requests = requests }
 
+-- the process is now in that call
 abbrev pub called : NodeState → Proc → CallState → NodeState
 called h p standing = with_calls h (finite.insert h.calls p standing)
 
+-- the process is now in no call
 abbrev pub uncalled : NodeState → Proc → NodeState
 uncalled h p = with_calls h (finite.remove h.calls p)
 
@@ -128,6 +134,7 @@ uncalled h p = with_calls h (finite.remove h.calls p)
 abbrev pub sealers_with : NodeState → Proc → Sealed → finite.FinMap proc_cmp Sealed
 sealers_with h p z = if is_host p then h.sealers else finite.insert h.sealers p z
 
+-- the sets are now these, where the process stands for the group's host
 abbrev pub sets_with : NodeState → Proc → Sealed → Sealed
 sets_with h p z = if is_host p then z else h.sets
 
@@ -163,6 +170,7 @@ abbrev pub released_by : Bool → FenceName → List Proc → CallState
 released_by true f gone = CallState.released f gone
 released_by false f gone = CallState.in_fence f
 
+-- the call, once its process is released or its get answered, where that can be
 abbrev pub settle : Jobs → ℕ → NodeState → CallState → CallState
 settle jobs id h (CallState.in_fence f) = released_by (is_ready_at jobs id h f) f (gone_by jobs id h.table f)
 settle jobs id h (CallState.released f gone) = CallState.released f gone

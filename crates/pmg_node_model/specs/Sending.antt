@@ -21,6 +21,7 @@ use Rattle.pmg_node_model.specs.Acts.{Request, Act, Reply, is_peer, is_taken, ac
 use Rattle.pmg_node_model.specs.Holdings.{Get, CallState, NodeState, sealer_of, call_of}
 use Rattle.pmg_node_model.specs.declared.sent.Sent.{Sent}
 
+-- the frame is sent to that node
 abbrev pub sent : ℕ → Frame → Sent
 sent to frame = record { to = to; frame = frame }
 

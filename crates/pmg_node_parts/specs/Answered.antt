@@ -61,6 +61,7 @@ answered_by p get Outcome.outside = (p, CallState.answered get Outcome.outside) 
 abbrev pub gets_answered : Jobs → ℕ → Data → Data → Proc → List (Proc × List ℕ) → List (Proc × CallState)
 gets_answered jobs id near far target asks = flat_map (λ e. answered_by e.0 (get_of target e.1) (outcome_with jobs id near far (get_of target e.1))) asks
 
+-- the get waits still
 abbrev pub still_waits : Outcome → Bool
 still_waits Outcome.parks = true
 still_waits (Outcome.found value) = false

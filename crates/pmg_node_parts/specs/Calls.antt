@@ -25,11 +25,13 @@ use Rattle.pmg_node_parts.specs.declared.call.Found.TheVariants as founds
 
 -- ---- what a call is
 
+-- what a get that waited is answered, with the value as its canonical bytes
 abbrev pub found_outcome : Found → Outcome
 found_outcome (founds.Value value) = Outcome.found (spelling value)
 found_outcome founds.NotFound = Outcome.absent
 found_outcome founds.OutsideScope = Outcome.outside
 
+-- a get of that key of the target
 abbrev pub get_of : Proc → List ℕ → Get
 get_of target key = record { target = target; key = key }
 
@@ -80,6 +82,7 @@ key_on q (CallState.answered get outcome) = None
 key_on q (CallState.refreshing get number) = None
 key_on q (CallState.refreshed get outcome) = None
 
+-- who is in the call, and the key, where its get waits for a key of the process
 abbrev pub asks_on : Proc → Proc × CallState → List (Proc × List ℕ)
 asks_on q e = option_to_list (option_map (λ key. (e.0, key)) (key_on q e.1))
 
@@ -100,6 +103,7 @@ ask_of (CallState.refreshed get outcome) = None
 abbrev pub all_asks : Calls → List (Proc × Option ℕ)
 all_asks all = flat_map (λ e. option_to_list (ask_of e.1)) (finite.entries all)
 
+-- the call is in the fence and not released
 abbrev pub is_waiting_in : FenceName → CallState → Bool
 is_waiting_in f (CallState.in_fence g) = eq_by_cmp name_cmp f g
 is_waiting_in f (CallState.released g gone) = false
@@ -108,6 +112,7 @@ is_waiting_in f (CallState.answered get outcome) = false
 is_waiting_in f (CallState.refreshing get number) = false
 is_waiting_in f (CallState.refreshed get outcome) = false
 
+-- who is in the call, where that is in the fence and not released
 abbrev pub waits_in : FenceName → Proc × CallState → List Proc
 waits_in f e = if is_waiting_in f e.1 then e.0 ∷ [] else []
 

@@ -33,12 +33,15 @@ outcome_back Outcome.absent = refl
 outcome_back Outcome.outside = refl
 outcome_back Outcome.parks = refl
 
+-- an outcome as the value that is found, or a number where none is
 abbrev pub coded_outcome : Coded Outcome
 coded_outcome = code_by (List ℕ ⊎ ℕ) (coded⊎ (coded_list coded_ℕ) coded_ℕ) outcome_to outcome_from outcome_back
 
+-- a get as a pair
 abbrev pub coded_get : Coded Get
 coded_get = code_by (Proc × List ℕ) (coded× coded_proc (coded_list coded_ℕ)) (λ g. (g.target, g.key)) (λ p. record { target = p.0; key = p.1 }) (λ _. refl)
 
+-- what codes the call that a process is in: a sum with one part for each kind of call
 abbrev pub StandingCode : Type 0
 StandingCode = ((FenceName ⊎ (FenceName × List Proc)) ⊎ (Get ⊎ (Get × Outcome))) ⊎ ((Get × ℕ) ⊎ (Get × Outcome))
 
@@ -66,6 +69,7 @@ standing_back (CallState.answered get outcome) = refl
 standing_back (CallState.refreshing get number) = refl
 standing_back (CallState.refreshed get outcome) = refl
 
+-- the call that a process is in, as such a sum
 abbrev pub coded_standing : Coded CallState
 coded_standing =
     code_by StandingCode
@@ -77,9 +81,11 @@ coded_standing =
 abbrev pub Calls : Type 0
 Calls = finite.FinMap proc_cmp CallState
 
+-- the code of calls by process
 abbrev pub coded_calls : Coded Calls
 coded_calls = finite.code coded_proc coded_standing
 
+-- what a node holds, as a tuple
 abbrev pub coded_holding : Coded NodeState
 coded_holding =
     code_by (Data × (Data × (AllSealed × (Sealed × (Fences × (Calls × (Levels × ℕ)))))))

@@ -36,6 +36,7 @@ abbrev pub node_zeros : Levels → Proc → List ℕ → Levels
 node_zeros marks p [] = marks
 node_zeros marks p (n ∷ ns) = node_zeros (with_level marks p n 0) p ns
 
+-- the marks, with that of each of these processes at each of these nodes at 0
 abbrev pub zeros : Levels → List Proc → List ℕ → Levels
 zeros marks [] nodes = marks
 zeros marks (p ∷ ps) nodes = zeros (node_zeros marks p nodes) ps nodes

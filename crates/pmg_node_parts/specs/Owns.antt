@@ -12,9 +12,11 @@ pub record LocalCommits : Type 0 where
   pub sealers : AllSealed
   pub sets : Sealed
 
+-- what own processes and the group's host sealed, as a pair
 abbrev pub coded_own : Coded LocalCommits
 coded_own = code_by (AllSealed × Sealed) (coded× coded_all_sealed coded_sealed) (λ o. (o.sealers, o.sets)) (λ p. record { sealers = p.0; sets = p.1 }) (λ _. refl)
 
+-- what the process sealed: the sets, where it stands for the group's host
 abbrev pub sealed_of : LocalCommits → Proc → Sealed
 sealed_of own p = sealer_in own.sets own.sealers p
 

@@ -12,6 +12,7 @@ use Rattle.pmg_commit.specs.Sealed.{Sealed, coded_sealed, fresh}
 abbrev pub AllSealed : Type 0
 AllSealed = finite.FinMap proc_cmp Sealed
 
+-- the code of what processes sealed, by process
 abbrev pub coded_all_sealed : Coded AllSealed
 coded_all_sealed = finite.code coded_proc coded_sealed
 

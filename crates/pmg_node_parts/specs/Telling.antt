@@ -22,6 +22,7 @@ pieces_by node locals = map (λ l. sendings.Rest node l.proc) locals
 abbrev pub telling_by : Header → ℕ → List ToSend
 telling_by hd node = sendings.Whole (sent node (frames.Header hd)) ∷ (if hd.name.signature.collect then pieces_by node hd.locals else [])
 
+-- to each other node of the fence goes the header, and where data is collected, the commits of those listed
 abbrev pub announcing_by : Jobs → ℕ → Header → List ToSend
 announcing_by jobs id hd = flat_map (telling_by hd) (peers_in jobs id hd.name)
 
@@ -29,6 +30,7 @@ announcing_by jobs id hd = flat_map (telling_by hd) (peers_in jobs id hd.name)
 abbrev pub piece_by : (Proc → Sealed) → Proc → ℕ → ℕ → ToSend
 piece_by sealer p node from = sendings.Whole (sent node (frames.Piece (piece_at (sealer p) from reach.Far)))
 
+-- to each other node goes one piece of all that the process sealed
 abbrev pub spread_by : Jobs → ℕ → (Proc → Sealed) → Proc → List ToSend
 spread_by jobs id sealer p = map (λ m. piece_by sealer p m 0) (peers jobs id)
 

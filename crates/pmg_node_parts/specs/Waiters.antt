@@ -14,6 +14,7 @@ use Rattle.pmg_frame.specs.Fences.{coded_name}
 abbrev pub Procs : Type 0
 Procs = set.FinSet proc_cmp
 
+-- the code of a set of processes
 abbrev pub coded_procs : Coded Procs
 coded_procs = set.code coded_proc
 
@@ -21,6 +22,7 @@ coded_procs = set.code coded_proc
 abbrev pub Waiters : Type 0
 Waiters = finite.FinMap name_cmp Procs
 
+-- the code of waiting processes by fence
 abbrev pub coded_waiters : Coded Waiters
 coded_waiters = finite.code coded_name coded_procs
 

@@ -21,6 +21,7 @@ use Rattle.pmg_scope.specs.declared.sizes.TheConstants.{MAX_CACHE_SIZE, MAX_KEYS
 abbrev pub Table : Type 0
 Table = map.FinMap (slice_cmp nat_cmp) (List ℕ)
 
+-- the code of a table
 abbrev pub coded_table : Coded Table
 coded_table = map.code (coded_list coded_ℕ) (coded_list coded_ℕ)
 
@@ -42,6 +43,7 @@ pub record Cached : Type 0 where
   pub near : Table
   pub far : Table
 
+-- a cache as a tuple
 abbrev pub coded_cached : Coded Cached
 coded_cached =
     code_by (Table × (Table × Table)) (coded× coded_table (coded× coded_table coded_table)) (λ c. (c.own, (c.near, c.far))) (λ p. record { own = p.0; near = p.1.0; far = p.1.1 })
@@ -56,6 +58,7 @@ pub record Unsealed : Type 0 where
   pub near : Table
   pub far : Table
 
+-- what no commit sealed, as a pair
 abbrev pub coded_unsealed : Coded Unsealed
 coded_unsealed = code_by (Table × Table) (coded× coded_table coded_table) (λ c. (c.near, c.far)) (λ p. record { near = p.0; far = p.1 }) (λ _. refl)
 

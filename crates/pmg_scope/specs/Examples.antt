@@ -31,6 +31,7 @@ EachScope =
 abbrev pub two_values : Script
 two_values = Call.put scopes.Local (codes "addr") (u8_of 1) ∷ Call.put scopes.Remote (codes "addr") (u8_of 2) ∷ Call.commit ∷ []
 
+-- others on the node see the one, and those on other nodes the other
 abbrev pub TwoValues : Type 0
 TwoValues = (value_at two_values 1 reach.Near (codes "addr") ≡ Some (u8_of 1)) × (value_at two_values 1 reach.Far (codes "addr") ≡ Some (u8_of 2))
 
@@ -38,6 +39,7 @@ TwoValues = (value_at two_values 1 reach.Near (codes "addr") ≡ Some (u8_of 1))
 abbrev pub put_again : Script
 put_again = Call.put scopes.Global (codes "a") (u8_of 1) ∷ Call.commit ∷ Call.put scopes.Global (codes "a") (u8_of 2) ∷ Call.commit ∷ []
 
+-- those on other nodes see nothing before a commit, and after each commit what it sealed
 abbrev pub PutAgain : Type 0
 PutAgain =
     (value_at put_again 0 reach.Far (codes "a") ≡ None)
@@ -48,6 +50,7 @@ PutAgain =
 abbrev pub lost_put : Script
 lost_put = Call.put scopes.Global (codes "a") (u8_of 5) ∷ Call.commit ∷ Call.put scopes.Global (codes "a") (u8_of 6) ∷ Call.terminate ∷ []
 
+-- the end is the second commit: `pmix.term` is seen from it on, and the value that the first one sealed stays
 abbrev pub LostPut : Type 0
 LostPut =
     (commits lost_put ≡ 2)

@@ -19,13 +19,15 @@ pub data Call : Type 0 where
 abbrev pub Script : Type 0
 Script = List Call
 
--- what is put at the end, by which others learn of it: the key `pmix.term`, true, for all
+-- the key under which others learn that a process ended
 abbrev pub term_key : List ℕ
 term_key = codes "pmix.term"
 
+-- what is put at the end, by which others learn of it: the key `pmix.term`, true, for all
 abbrev pub term_put : Call
 term_put = Call.put scopes.Global term_key (1 ∷ 1 ∷ [])
 
+-- an end is among the calls
 abbrev pub has_end : Script → Bool
 has_end [] = false
 has_end (Call.put scope key value ∷ cs) = has_end cs
@@ -53,6 +55,7 @@ ended (Call.terminate ∷ cs) = term_put ∷ Call.commit ∷ []
 abbrev pub sealed : Script → Script
 sealed s = if has_end s then ended s else s
 
+-- how many commits are among the calls
 abbrev pub count_commits : Script → ℕ
 count_commits [] = 0
 count_commits (Call.put scope key value ∷ cs) = count_commits cs

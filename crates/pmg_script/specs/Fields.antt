@@ -27,6 +27,7 @@ bounded number = min number 18446744073709551615
 unfoldable pub number_in : List ℕ → Option ℕ
 number_in word = if list_all is_ascii_digit word then Some (bounded (decimal_value word)) else None
 
+-- a number of 32 bits, as a rank
 abbrev pub as_rank : ℕ → Option ℕ
 as_rank number = if nat_le number undef then Some number else None
 

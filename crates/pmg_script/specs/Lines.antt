@@ -17,6 +17,7 @@ content line =
 
 -- ---- words
 
+-- the byte is a blank
 abbrev pub is_blank : ℕ → Bool
 is_blank byte = byte == 32
 
@@ -30,6 +31,7 @@ abbrev pub parted : List ℕ → Option ℕ → List ℕ × Left
 parted text None = (text, None)
 parted text (Some at) = (take at text, Some (drop (suc at) text))
 
+-- the word and what is left after it, unless the word is empty
 abbrev pub unless_empty : List ℕ × Left → Option (List ℕ × Left)
 unless_empty part = if length part.0 == 0 then None else Some part
 
@@ -43,6 +45,7 @@ abbrev pub read_end : Left → Option (Unit {0})
 read_end None = Some tt
 read_end (Some text) = None
 
+-- the word is empty
 abbrev pub is_empty : List ℕ → Bool
 is_empty word = length word == 0
 

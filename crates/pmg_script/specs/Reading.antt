@@ -8,6 +8,7 @@ use Rattle.pmg_store.specs.declared.failure.Failure.{Failure}
 use Rattle.pmg_store.specs.declared.failure.Failure.TheVariants.{Refused, Read}
 use Rattle.pmg_store.specs.declared.input.TheConstants.{INPUT_LIMIT}
 
+-- the byte is LF, which ends a line
 abbrev pub is_end : ℕ → Bool
 is_end byte = byte == 10
 

@@ -33,6 +33,7 @@ pub data Line : Type 0 where
   members : ℕ → List ℕ → Line
   dump : ℕ → Line
 
+-- the bytes of words that are lent
 abbrev pub texts : List (Bor (List ℕ)) → List (List ℕ)
 texts words = map (λ word. word.now) words
 

@@ -20,6 +20,7 @@ pub record Account : Type 0 where
   pub sent : List Sent
   pub told : List LoggedEvent
 
+-- a world in code as a tuple, by the codes of a frame that is sent and of an event with its answer
 abbrev pub coded_account : Coded Sent → Coded LoggedEvent → Coded Account
 coded_account coded_sent coded_told =
     code_by (Jobs × (List Server × (List Sent × List LoggedEvent))) (coded× coded_jobs (coded× (coded_list coded_server) (coded× (coded_list coded_sent) (coded_list coded_told))))

@@ -34,6 +34,7 @@ asked_of (asked.Dump node) = Asked.dump node
 abbrev pub has_named_nspace : Proc → Bool
 has_named_nspace p = is_nspace p.nspace
 
+-- the namespace of each process has a name
 abbrev pub are_named : List Proc → Bool
 are_named ps = list_all has_named_nspace ps
 

@@ -34,6 +34,7 @@ use Rattle.pmg_world.specs.declared.phase.Phase.TheVariants as phases
 abbrev pub ok_line : List ℕ
 ok_line = reply_line false Reply.done
 
+-- the line of a refusal
 abbrev pub refused_line : Refusal → List ℕ
 refused_line e = reply_line false (Reply.refused e)
 
@@ -83,6 +84,7 @@ proc_element _ = None
 abbrev pub proc_elements : List Plain → List Proc
 proc_elements plains = filter_map proc_element plains
 
+-- the processes of an array; none, where the value is no array or was not read
 abbrev pub procs_in_value : Result Value Fault → List Proc
 procs_in_value (Ok (values.Array a)) = proc_elements a.plains
 procs_in_value _ = []
@@ -174,6 +176,7 @@ Plays s (Line.nodes names) text v = OpensAt s names text v
 Plays s (Line.space nspace homes) text v = RegistersAt s nspace homes text v
 Plays s line text v = RunsAt s line text v
 
+-- what a line does that says this; where it has no form that lines have, nothing is what it does
 abbrev pub PlaysSaid : Phase → Option Line → List ℕ → Phase → Type 0
 PlaysSaid s None text v = ⊥
 PlaysSaid s (Some line) text v = Plays s line text v

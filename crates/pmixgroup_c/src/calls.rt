@@ -13,8 +13,9 @@ ghost use Rattle.pmg_daemon.specs.Arguments.{
   take_said,
 };
 ghost use Rattle.pmg_daemon.specs.Daemons.{Makes, Names, TakesList, TellsNumber};
-ghost use Rattle.pmg_exports.specs.Nodes.{OnNode};
+ghost use Rattle.pmixgroup_c.specs.Nodes.{OnNode};
 
+use pmg_daemon::WRONG_HANDLE;
 use pmg_handle::Handle;
 
 /// Names a process for the next fence that is entered or set that is defined (`Daemon::name`).
@@ -23,7 +24,12 @@ pub extern "C" fn pmixgroup_name(node: &mut Handle, nspace: &[u8], rank: u32) ->
     ensures { OnNode node.old.place.value node.new.place.value result (Unit {0})
         (λ d e. Names d nspace.now rank result e) }
 {
-    pmg_exports::name(node, nspace, rank)
+    let Some(mut daemon) = node.take() else {
+        return WRONG_HANDLE;
+    };
+    let code = daemon.name(nspace, rank);
+    node.put(daemon);
+    code
 }
 
 /// A process puts a value (`Daemon::put`).
@@ -39,7 +45,12 @@ pub extern "C" fn pmixgroup_put(
     ensures { OnNode node.old.place.value node.new.place.value result (Unit {0})
         (λ d e. Makes (put_said nspace.now rank scope key.now value.now) d result e × (e.list ≡ d.list)) }
 {
-    pmg_exports::put(node, nspace, rank, scope, key, value)
+    let Some(mut daemon) = node.take() else {
+        return WRONG_HANDLE;
+    };
+    let code = daemon.put(nspace, rank, scope, key, value);
+    node.put(daemon);
+    code
 }
 
 /// A process commits what it put (`Daemon::commit`).
@@ -53,7 +64,12 @@ pub extern "C" fn pmixgroup_commit(
     ensures { OnNode node.old.place.value node.new.place.value result (number.new ≡ number.old)
         (λ d e. Makes (commit_said nspace.now rank) d result e × (TellsNumber e result number.old number.new × (e.list ≡ d.list))) }
 {
-    pmg_exports::commit(node, nspace, rank, number)
+    let Some(mut daemon) = node.take() else {
+        return WRONG_HANDLE;
+    };
+    let code = daemon.commit(nspace, rank, number);
+    node.put(daemon);
+    code
 }
 
 /// A process enters a fence (`Daemon::enter`).
@@ -68,7 +84,12 @@ pub extern "C" fn pmixgroup_enter(
     ensures { OnNode node.old.place.value node.new.place.value result (number.new ≡ number.old)
         (λ d e. Makes (enter_said nspace.now rank d.list.items collect) d result e × (TellsNumber e result number.old number.new × TakesList d result e)) }
 {
-    pmg_exports::enter(node, nspace, rank, collect, number)
+    let Some(mut daemon) = node.take() else {
+        return WRONG_HANDLE;
+    };
+    let code = daemon.enter(nspace, rank, collect, number);
+    node.put(daemon);
+    code
 }
 
 /// A process leaves a fence (`Daemon::leave`).
@@ -82,7 +103,12 @@ pub extern "C" fn pmixgroup_leave(
     ensures { OnNode node.old.place.value node.new.place.value result (number.new ≡ number.old)
         (λ d e. Makes (leave_said nspace.now rank) d result e × (TellsNumber e result number.old number.new × (e.list ≡ d.list))) }
 {
-    pmg_exports::leave(node, nspace, rank, number)
+    let Some(mut daemon) = node.take() else {
+        return WRONG_HANDLE;
+    };
+    let code = daemon.leave(nspace, rank, number);
+    node.put(daemon);
+    code
 }
 
 /// A process gets a key (`Daemon::get`).
@@ -99,7 +125,12 @@ pub extern "C" fn pmixgroup_get(
     ensures { OnNode node.old.place.value node.new.place.value result (Unit {0})
         (λ d e. Makes (get_said nspace.now rank target.now target_rank key.now mode) d result e × (e.list ≡ d.list)) }
 {
-    pmg_exports::get(node, nspace, rank, target, target_rank, key, mode)
+    let Some(mut daemon) = node.take() else {
+        return WRONG_HANDLE;
+    };
+    let code = daemon.get(nspace, rank, target, target_rank, key, mode);
+    node.put(daemon);
+    code
 }
 
 /// A process takes the answer of its get (`Daemon::take`).
@@ -108,7 +139,12 @@ pub extern "C" fn pmixgroup_take(node: &mut Handle, nspace: &[u8], rank: u32) ->
     ensures { OnNode node.old.place.value node.new.place.value result (Unit {0})
         (λ d e. Makes (take_said nspace.now rank) d result e × (e.list ≡ d.list)) }
 {
-    pmg_exports::take(node, nspace, rank)
+    let Some(mut daemon) = node.take() else {
+        return WRONG_HANDLE;
+    };
+    let code = daemon.take(nspace, rank);
+    node.put(daemon);
+    code
 }
 
 /// A process ends (`Daemon::end`).
@@ -122,7 +158,12 @@ pub extern "C" fn pmixgroup_end(
     ensures { OnNode node.old.place.value node.new.place.value result (number.new ≡ number.old)
         (λ d e. Makes (end_said nspace.now rank) d result e × (TellsNumber e result number.old number.new × (e.list ≡ d.list))) }
 {
-    pmg_exports::end(node, nspace, rank, number)
+    let Some(mut daemon) = node.take() else {
+        return WRONG_HANDLE;
+    };
+    let code = daemon.end(nspace, rank, number);
+    node.put(daemon);
+    code
 }
 
 /// A process set is defined (`Daemon::define`).
@@ -131,7 +172,12 @@ pub extern "C" fn pmixgroup_define(node: &mut Handle, name: &[u8], number: &mut 
     ensures { OnNode node.old.place.value node.new.place.value result (number.new ≡ number.old)
         (λ d e. Makes (define_said name.now d.list.items) d result e × (TellsNumber e result number.old number.new × TakesList d result e)) }
 {
-    pmg_exports::define(node, name, number)
+    let Some(mut daemon) = node.take() else {
+        return WRONG_HANDLE;
+    };
+    let code = daemon.define(name, number);
+    node.put(daemon);
+    code
 }
 
 /// A process set is deleted (`Daemon::delete`).
@@ -140,7 +186,12 @@ pub extern "C" fn pmixgroup_delete(node: &mut Handle, name: &[u8], number: &mut 
     ensures { OnNode node.old.place.value node.new.place.value result (number.new ≡ number.old)
         (λ d e. Makes (delete_said name.now) d result e × (TellsNumber e result number.old number.new × (e.list ≡ d.list))) }
 {
-    pmg_exports::delete(node, name, number)
+    let Some(mut daemon) = node.take() else {
+        return WRONG_HANDLE;
+    };
+    let code = daemon.delete(name, number);
+    node.put(daemon);
+    code
 }
 
 /// Other nodes are asked again for what is missing (`Daemon::nudge`).
@@ -149,5 +200,10 @@ pub extern "C" fn pmixgroup_nudge(node: &mut Handle) -> u32
     ensures { OnNode node.old.place.value node.new.place.value result (Unit {0})
         (λ d e. Makes nudge_said d result e × (e.list ≡ d.list)) }
 {
-    pmg_exports::nudge(node)
+    let Some(mut daemon) = node.take() else {
+        return WRONG_HANDLE;
+    };
+    let code = daemon.nudge();
+    node.put(daemon);
+    code
 }

@@ -1,8 +1,9 @@
 //! Bytes of other nodes, and bytes for them.
 ghost use Rattle.std.specs.Prelude.{◌≡◌, slice_get};
 ghost use Rattle.pmg_daemon.specs.Frames.{DeliversFrom, FeedsFrom, TakesNext, TellsFaultFrom};
-ghost use Rattle.pmg_exports.specs.Nodes.{OnNode};
+ghost use Rattle.pmixgroup_c.specs.Nodes.{OnNode};
 
+use pmg_daemon::WRONG_HANDLE;
 use pmg_handle::Handle;
 
 /// Takes bytes of another node (`Daemon::feed`).
@@ -11,7 +12,12 @@ pub extern "C" fn pmixgroup_feed(node: &mut Handle, from: u32, bytes: &[u8]) -> 
     ensures { OnNode node.old.place.value node.new.place.value result (Unit {0})
         (λ d e. FeedsFrom (slice_get d.inboxes.items from) d from bytes.now result e) }
 {
-    pmg_exports::feed(node, from, bytes)
+    let Some(mut daemon) = node.take() else {
+        return WRONG_HANDLE;
+    };
+    let code = daemon.feed(from, bytes);
+    node.put(daemon);
+    code
 }
 
 /// Delivers the next frame of another node (`Daemon::deliver`).
@@ -20,7 +26,12 @@ pub extern "C" fn pmixgroup_deliver(node: &mut Handle, from: u32) -> u32
     ensures { OnNode node.old.place.value node.new.place.value result (Unit {0})
         (λ d e. DeliversFrom (slice_get d.inboxes.items from) d from result e) }
 {
-    pmg_exports::deliver(node, from)
+    let Some(mut daemon) = node.take() else {
+        return WRONG_HANDLE;
+    };
+    let code = daemon.deliver(from);
+    node.put(daemon);
+    code
 }
 
 /// Takes the next frame for another node (`Daemon::next`).
@@ -34,7 +45,12 @@ pub extern "C" fn pmixgroup_next(
     ensures { OnNode node.old.place.value node.new.place.value result ((to.new ≡ to.old) × ((buffer.new ≡ buffer.old) × (len.new ≡ len.old)))
         (λ d e. TakesNext (slice_get d.link.waiting 0) d to.old buffer.old len.old result e to.new buffer.new len.new) }
 {
-    pmg_exports::next(node, to, buffer, len)
+    let Some(mut daemon) = node.take() else {
+        return WRONG_HANDLE;
+    };
+    let code = daemon.next(to, buffer, len);
+    node.put(daemon);
+    code
 }
 
 /// Tells the fault in the bytes of another node (`Daemon::fault`).
@@ -49,5 +65,10 @@ pub extern "C" fn pmixgroup_fault(
     ensures { OnNode node.old.place.value node.new.place.value result ((offset.new ≡ offset.old) × ((buffer.new ≡ buffer.old) × (len.new ≡ len.old)))
         (λ d e. (e ≡ d) × TellsFaultFrom (slice_get d.inboxes.items from) offset.old buffer.old len.old result offset.new buffer.new len.new) }
 {
-    pmg_exports::fault(node, from, offset, buffer, len)
+    let Some(mut daemon) = node.take() else {
+        return WRONG_HANDLE;
+    };
+    let code = daemon.fault(from, offset, buffer, len);
+    node.put(daemon);
+    code
 }

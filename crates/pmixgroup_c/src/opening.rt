@@ -5,6 +5,7 @@ ghost use Rattle.pmg_daemon.specs.Daemons.{FillsIfTold};
 ghost use Rattle.pmg_daemon.specs.Opening.{FailsToOpen, OpensNode};
 ghost use Rattle.pmg_daemon.specs.declared.codes.TheConstants.{DONE, WRONG_HANDLE};
 
+use pmg_daemon::{DONE, Daemon, NO_MEMORY, WRONG_HANDLE, refusal_code, refusal_text};
 use pmg_handle::Handle;
 use std::alloc::Global;
 
@@ -18,7 +19,20 @@ pub extern "C" fn pmixgroup_open(node: &mut Handle, alloc: Global, id: u32, grou
     ensures refused { result ≢ DONE → IsNone node.old.place.value → FailsToOpen id group.now result }
     ensures kept { result ≢ DONE → node.new ≡ node.old }
 {
-    pmg_exports::open(node, alloc, id, group)
+    if node.full {
+        return WRONG_HANDLE;
+    }
+    let daemon = match Daemon::open(alloc, id, group) {
+        Ok(daemon) => daemon,
+        Err(refusal) => return refusal_code(&refusal),
+    };
+    match Box::new(alloc, daemon) {
+        Ok(daemon) => {
+            node.put(daemon);
+            DONE
+        }
+        Err(_) => NO_MEMORY,
+    }
 }
 
 /// Closes the node that the handle holds.
@@ -27,7 +41,7 @@ pub extern "C" fn pmixgroup_close(node: &mut Handle) -> u32
     ensures code { result ≡ (if is_some node.old.place.value then DONE else WRONG_HANDLE) }
     ensures closed { IsNone node.new.place.value }
 {
-    pmg_exports::close(node)
+    node.close()
 }
 
 /// The name of the refusal of that code goes into the buffer (`refusal_text`). Idle where the code is none of a refusal's.
@@ -35,5 +49,5 @@ pub extern "C" fn pmixgroup_close(node: &mut Handle) -> u32
 pub extern "C" fn pmixgroup_refusal(code: u32, buffer: &mut [u8], len: &mut usize) -> u32
     ensures { FillsIfTold (refusal_named code) buffer.old len.old result buffer.new len.new }
 {
-    pmg_exports::refusal(code, buffer, len)
+    refusal_text(code, buffer, len)
 }

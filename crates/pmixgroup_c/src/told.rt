@@ -2,8 +2,9 @@
 ghost use Rattle.std.specs.Prelude.{◌≡◌};
 ghost use Rattle.pmg_node.specs.Acting.{reply_as};
 ghost use Rattle.pmg_daemon.specs.Daemons.{FillsIfTold, TellsMembers, TellsProc, TellsStatus, gone_at, members_said, status_said, value_told};
-ghost use Rattle.pmg_exports.specs.Nodes.{OnNode};
+ghost use Rattle.pmixgroup_c.specs.Nodes.{OnNode};
 
+use pmg_daemon::WRONG_HANDLE;
 use pmg_handle::Handle;
 
 /// Tells the value of the last reply (`Daemon::value`).
@@ -12,7 +13,12 @@ pub extern "C" fn pmixgroup_value(node: &mut Handle, buffer: &mut [u8], len: &mu
     ensures { OnNode node.old.place.value node.new.place.value result ((buffer.new ≡ buffer.old) × (len.new ≡ len.old))
         (λ d e. (e ≡ d) × FillsIfTold (value_told (reply_as d.reply)) buffer.old len.old result buffer.new len.new) }
 {
-    pmg_exports::value(node, buffer, len)
+    let Some(daemon) = node.take() else {
+        return WRONG_HANDLE;
+    };
+    let code = daemon.value(buffer, len);
+    node.put(daemon);
+    code
 }
 
 /// Tells who was gone from the fence of the last reply (`Daemon::gone`).
@@ -27,7 +33,12 @@ pub extern "C" fn pmixgroup_gone(
     ensures { OnNode node.old.place.value node.new.place.value result ((buffer.new ≡ buffer.old) × ((len.new ≡ len.old) × (rank.new ≡ rank.old)))
         (λ d e. (e ≡ d) × TellsProc (gone_at (reply_as d.reply) index) buffer.old len.old rank.old result buffer.new len.new rank.new) }
 {
-    pmg_exports::gone(node, index, buffer, len, rank)
+    let Some(daemon) = node.take() else {
+        return WRONG_HANDLE;
+    };
+    let code = daemon.gone(index, buffer, len, rank);
+    node.put(daemon);
+    code
 }
 
 /// Tells the members of a process set (`Daemon::members`).
@@ -41,7 +52,12 @@ pub extern "C" fn pmixgroup_members(
     ensures { OnNode node.old.place.value node.new.place.value result ((buffer.new ≡ buffer.old) × (len.new ≡ len.old))
         (λ d e. (e ≡ d) × TellsMembers (members_said d.link name.now) buffer.old len.old result buffer.new len.new) }
 {
-    pmg_exports::members(node, name, buffer, len)
+    let Some(daemon) = node.take() else {
+        return WRONG_HANDLE;
+    };
+    let code = daemon.members(name, buffer, len);
+    node.put(daemon);
+    code
 }
 
 /// Tells how a process stands (`Daemon::status`).
@@ -55,5 +71,10 @@ pub extern "C" fn pmixgroup_status(
     ensures { OnNode node.old.place.value node.new.place.value result (status.new ≡ status.old)
         (λ d e. (e ≡ d) × TellsStatus (status_said d.link nspace.now rank) status.old result status.new) }
 {
-    pmg_exports::status(node, nspace, rank, status)
+    let Some(daemon) = node.take() else {
+        return WRONG_HANDLE;
+    };
+    let code = daemon.status(nspace, rank, status);
+    node.put(daemon);
+    code
 }

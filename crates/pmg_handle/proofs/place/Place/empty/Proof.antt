@@ -19,7 +19,7 @@ use denote.Param.{layout}
 use denote.Triple.Walked.{Stays, stay_dropped, walk_of, Goes-dropped}
 use Rattle.core.proofs.cell.Inside.{one}
 use Rattle.std.proofs.raw_atomic.Walks.{proved_at, leaves}
-use Rattle.pmg_loose.proofs.Values.{both}
+use Rattle.pmg_handle.proofs.Values.{both}
 use Rattle.pmg_handle.proofs.Places.{R, Z, LZ, place_good, place_empty}
 use Rattle.pmg_handle.specs.contracts.place.Place.empty as f
 use Rattle.pmg_handle.proofs.place.Place.empty.Statement.{statement}

@@ -21,7 +21,7 @@ use denote.Triple.Walked.{Stays, stay_dropped, walk_of}
 use Rattle.core.proofs.alloc.Calls.{Goes-blank}
 use Rattle.std.proofs.raw_atomic.Walks.{proved_at, leaves}
 use Rattle.std.specs.contracts.impls.GlobalAllocator.TheImpl.{ghosts}
-use Rattle.pmg_loose.proofs.Values.{both, loose_good, loose_out}
+use Rattle.pmg_handle.proofs.Values.{both, loose_good, loose_out}
 use Rattle.pmg_handle.proofs.Places.{R, Z, LZ, Loose, fields, place_good, place_with}
 use Rattle.pmg_handle.specs.contracts.place.Place.with as f
 use Rattle.pmg_handle.proofs.place.Place.with.Statement.{statement}

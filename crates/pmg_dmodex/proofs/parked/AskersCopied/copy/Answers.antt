@@ -1,7 +1,0 @@
-use Rattle.std.proofs.Common.{ℕ, List, ◌∙◌}
-use Rattle.pmg_value.proofs.ProcessOrder.{procs_total, exact_procs}
-use Rattle.pmg_value.proofs.RowLemmas.{same_rows}
-use Rattle.pmg_dmodex.proofs.parked.AskersCopied.copy.Goals as goal
-
-pub returns : goal.returns
-returns c = same_rows procs_total exact_procs (λ (key : List ℕ). key) c.in_ok-copy_rows.field-0.entries c.self.inside.rows.entries c.in_ok-copy_rows.ensures ∙ c.self.view_is

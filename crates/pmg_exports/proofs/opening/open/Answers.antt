@@ -1,6 +1,0 @@
-use Rattle.std.proofs.Common.{inl, refl}
-use Rattle.pmg_value.specs.declared.refusal.Refusal.TheVariants as refusals
-use Rattle.pmg_exports.proofs.opening.open.Goals as goal
-
-pub returns-clause-refused : goal.returns-clause-refused
-returns-clause-refused c = λ failed empty. (refusals.NoMemory, (refl, inl tt))
