@@ -1,4 +1,4 @@
-//! Tests of published stores, desks and clients, from without.
+//! Tests of desks and clients, from without.
 #![tactic(auto)]
 
 #[cfg(test)]
@@ -9,8 +9,6 @@ mod calls;
 mod group;
 #[cfg(test)]
 mod growths;
-#[cfg(test)]
-mod published;
 #[cfg(test)]
 mod refreshing;
 #[cfg(test)]

@@ -3,7 +3,7 @@
 ghost use Rattle.pmg_publish.specs.declared.opening.TheConstants.{MAX_VIEWERS};
 ghost use Rattle.std.specs.Prelude.{◌≡◌, ◌≤◌, IfOk};
 
-use crate::group::{MEMORY, key, key_of, proc_of, process};
+use crate::making::{MEMORY, key, process};
 use pmg_commit::{Piece, PieceEntry};
 use pmg_publish::{Publisher, Viewer, publisher};
 use pmg_value::{Key, Proc, Refusal, Value};
@@ -34,13 +34,19 @@ fn piece_of(rt: &impl Abort, alloc: Global, from: u32, key: Key, value: Value) -
     let mut entries = Vec::with_capacity(alloc, 1).expect(rt, MEMORY);
     let entry = PieceEntry { key, number, value };
     entries.push(entry).expect(rt, MEMORY);
-    let proc = proc_of(rt, alloc, 0);
+    let proc = process(alloc).expect(rt, MEMORY);
     Piece::new(proc, u64::from(from), number, entries).expect(rt, MEMORY)
 }
 
 // The same with a number under the key a.
 fn piece(rt: &impl Abort, alloc: Global, from: u32, value: u32) -> Piece {
-    piece_of(rt, alloc, from, key_of(rt, alloc, b"a"), Value::U32(value))
+    piece_of(
+        rt,
+        alloc,
+        from,
+        key(alloc).expect(rt, MEMORY),
+        Value::U32(value),
+    )
 }
 
 // A publisher and its only viewer.
@@ -71,8 +77,8 @@ fn read_a(
     alloc: Global,
     viewer: &mut Viewer,
 ) -> (Option<u32>, Option<u32>, bool, bool) {
-    let proc = proc_of(rt, alloc, 0);
-    let key = key_of(rt, alloc, b"a");
+    let proc = process(alloc).expect(rt, MEMORY);
+    let key = key(alloc).expect(rt, MEMORY);
     let sight = again!(viewer.read(&proc, &key)).expect(rt, MEMORY);
     (
         number_in(sight.near),
@@ -113,7 +119,7 @@ fn both_stores_are_read(rt: HostRuntime) {
 fn count_readers<R: Wait + Abort>(rt: &R, alloc: Global, count: usize) -> (usize, usize)
     requires { count ≤ MAX_VIEWERS }
 {
-    let proc = proc_of(rt, alloc, 0);
+    let proc = process(alloc).expect(rt, MEMORY);
     let pieces = [piece(rt, alloc, 0, 1)];
     let (mut publisher, mut viewers) = publisher(rt, alloc, count).expect(rt, MEMORY);
     publisher.publish(rt, &[], &pieces).expect(rt, MEMORY);
@@ -166,8 +172,8 @@ fn read_on(viewer: &mut Viewer, proc: &Proc, key: &Key) -> Result<u32, Refusal> 
 
 // The same by a viewer of its own.
 fn read_all(alloc: Global, mut viewer: Viewer) -> Result<u32, Refusal> {
-    let proc = process(alloc, 0)?;
-    let key = key(alloc, b"a")?;
+    let proc = process(alloc)?;
+    let key = key(alloc)?;
     read_on(&mut viewer, &proc, &key)
 }
 
@@ -209,7 +215,7 @@ fn publish_some<R: Wait + Abort>(
 #[test]
 fn what_was_published_stands(rt: HostRuntime) {
     let alloc = rt.alloc();
-    let proc = proc_of(&rt, alloc, 0);
+    let proc = process(alloc).expect(&rt, MEMORY);
     let (mut publisher, mut viewer) = open_with_viewer(&rt, alloc).expect(&rt, MEMORY);
     let (count, closed) = publish_some(&rt, alloc, &mut publisher, &mut viewer);
     let level = viewer.level(&proc);

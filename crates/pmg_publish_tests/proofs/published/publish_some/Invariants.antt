@@ -1,5 +1,5 @@
 use Rattle.std.proofs.Common.{◌≡◌}
-use Rattle.pmg_desk_tests.proofs.published.publish_some.Given as goal
+use Rattle.pmg_publish_tests.proofs.published.publish_some.Given as goal
 
 abbrev pub invariant-loop-from : goal.invariant-loop-from
 invariant-loop-from g l = l.viewer.book ≡ l.publisher.book

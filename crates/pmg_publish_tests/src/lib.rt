@@ -1,0 +1,7 @@
+//! Tests of published stores, from without.
+#![tactic(auto)]
+
+#[cfg(test)]
+mod making;
+#[cfg(test)]
+mod published;
