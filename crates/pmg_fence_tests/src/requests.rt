@@ -1,5 +1,5 @@
-//! What the program does not ask of requests and marks: what was asked at most, and that copies go on by themselves. All else is shown
-//! by examples of gets that wait, and of gets that ask anew.
+//! What the program does not ask of requests and marks: what was asked at most, and that copies go on by themselves. What it does ask is
+//! run by examples of gets that wait, and of gets that ask anew.
 use crate::making::{MEMORY, process};
 use pmg_dmodex::{Marks, Pending};
 use pmg_value::NodeId;

@@ -47,7 +47,7 @@ IsDelivery Reply.taken = Unit {0}
 IsDelivery Reply.ignored = Unit {0}
 IsDelivery _ = ⊥
 
--- a reply to a nudge: that it is done
+-- the reply that it is done, as to a nudge or a put
 abbrev pub IsDone : Reply → Type 0
 IsDone Reply.done = Unit {0}
 IsDone _ = ⊥
