@@ -46,22 +46,27 @@ pub silent : (p : Proc) (t : Track) → level_of t ≡ 0 → known_text p (known
 unfolding known_text
 silent p t e = rw (level_known t ∙ e) refl
 
+-- the line of a process is the first of its lines
+pub first_told : (p : Proc) (t : Track) (n : ℕ) → n ≡ level_of t → 0 < n → known_text p (known_by t) ≡ proc_line p n ++ flat_map key_line (finite.entries (reads_of (known_by t)))
+unfolding known_text
+first_told p t n at some =
+    let here : level (known_by t).numbers ≡ n = level_known t ∙ sym at in
+    rw (here, lt-ltb 0 n some) refl
+
 -- the lines of a process
 pub told_text : (p : Proc) (t : Track) (n : ℕ) → IsTrack t → n ≡ level_of t → 0 < n → IsOrdered (slice_cmp nat_cmp) t.entries.reads
     → known_text p (known_by t) ≡ proc_line p n ++ flat_map key_line (lines_of t.entries.reads.entries)
-unfolding known_text
 told_text p t n is at some ordered =
     let k = known_by t in
     let es = t.entries.reads.entries in
-    let here : level k.numbers ≡ n = level_known t ∙ sym at in
     let answers : (q : List ℕ) → finite.get (reads_of k) q ≡ find (slice_cmp nat_cmp) q (lines_of es) = λ q.
     get-reads_of k q
     ∙ read_known t is q
     ∙ bytes_of q (there_at (slice_cmp nat_cmp) t.entries.reads q)
     ∙ sym (find-filled (slice_cmp nat_cmp) (λ (s : Stamp). spelling s.value) exact_bytes es ordered q) in
     let sorted = sorted_from (slice_cmp nat_cmp) (lines_of es) (sorted_filled (slice_cmp nat_cmp) (λ (s : Stamp). spelling s.value) es ordered) in
-    let list : finite.entries (reads_of k) ≡ lines_of es = entries_are nat_list_cmp_total (finite.slice_cmp-IsAntisymmetric finite.nat_cmp-IsAntisymmetric) (reads_of k) (lines_of es) sorted answers in
-    rw (here, lt-ltb 0 n some, list) refl
+    first_told p t n at some
+    ∙ ap (λ lines. proc_line p n ++ flat_map key_line lines) (entries_are nat_list_cmp_total (finite.slice_cmp-IsAntisymmetric finite.nat_cmp-IsAntisymmetric) (reads_of k) (lines_of es) sorted answers)
 
 -- ---- all processes
 -- the tracks in their order are the data's entries

@@ -1,104 +1,124 @@
-//! The text of what a store holds.
-ghost use Rattle.std.specs.Prelude.{◌≡◌, ◌++◌, decimal, OnOk, IfOk};
+//! The text of what a store holds, written with no memory of its own.
+ghost use Rattle.std.specs.Prelude.{◌++◌, codes, OnErr, IsSome};
 ghost use Rattle.std.specs.List.{flat_map};
 ghost use Rattle.std.specs.Ordering.{nat_cmp};
 ghost use Rattle.std.specs.Cmp.Lexicographic.{slice_cmp};
 ghost use Rattle.std.specs.BTreeMap.{IsOrdered};
 ghost use Rattle.pmg_value.specs.Process.{proc_cmp};
 ghost use Rattle.pmg_value.specs.Spelling.{spelling};
+ghost use Rattle.pmg_value.specs.Written.{Writes};
 ghost use Rattle.pmg_lane.specs.Lanes.{known_by, IsTrack};
 ghost use Rattle.pmg_store.specs.Dump.{value_text, key_line, proc_line, known_text, dump};
 ghost use Rattle.pmg_store.specs.Tables.{lines_of, place_text};
 ghost use Rattle.pmg_store.specs.Tracks.{data_in, AreTracks};
 
 use pmg_lane::{Stamp, Track};
-use pmg_value::{Key, Proc, Value, push_number};
-use std::alloc::{AllocError, Global};
+use pmg_value::{Key, Proc, Value, WatchedWriter, WriteFault};
+use std::alloc::Global;
 use std::collections::BTreeMap;
+use std::io::Write;
 
-fn push_value(text: &mut Vec<u8>, value: &Value) -> Result<(), AllocError>
-    ensures { OnOk result (text.new.items ≡ text.old.items ++ value_text (spelling value.now)) }
+// A value's text after two blanks, as its canonical bytes tell it.
+fn put_value<W: Write>(writer: &mut WatchedWriter<W>, value: &Value) -> Result<(), WriteFault>
+    ensures text { Writes (W.contents writer.old.writer) (W.contents writer.new.writer)
+        result (codes "  " ++ value_text (spelling value.now)) }
+    ensures failed { OnErr result (IsSome writer.new.failure) }
 {
-    let written = value.to_text(*text.allocator())?;
-    text.extend_from_slice(&written)
+    value.write_indented(writer)
 }
 
-fn push_key_line(text: &mut Vec<u8>, key: &Key, value: &Value) -> Result<(), AllocError>
-    ensures { OnOk result (text.new.items ≡ text.old.items ++ key_line (key.now, spelling value.now)) }
+fn put_key_line<W: Write>(
+    writer: &mut WatchedWriter<W>,
+    key: &Key,
+    value: &Value,
+) -> Result<(), WriteFault>
+    ensures text { Writes (W.contents writer.old.writer) (W.contents writer.new.writer)
+        result (key_line (key.now, spelling value.now)) }
+    ensures failed { OnErr result (IsSome writer.new.failure) }
 {
-    text.extend_from_slice(b"  ")?;
-    push_value(text, value)?;
-    text.extend_from_slice(b" ")?;
-    text.extend_from_slice(key.as_bytes())?;
-    text.extend_from_slice(b"\n")
+    put_value(writer, value)?;
+    writer.put_texts(b" ", key.as_bytes(), b"\n")
 }
 
-fn push_key_lines(
-    text: &mut Vec<u8>,
+fn put_key_lines<W: Write>(
+    writer: &mut WatchedWriter<W>,
     reads: &BTreeMap<Key, Option<Stamp>, Global>,
-) -> Result<(), AllocError>
-    ensures lines { OnOk result (text.new.items ≡ text.old.items ++ flat_map key_line (lines_of reads.now.entries)) }
+) -> Result<(), WriteFault>
+    ensures lines { Writes (W.contents writer.old.writer) (W.contents writer.new.writer)
+        result (flat_map key_line (lines_of reads.now.entries)) }
+    ensures failed { OnErr result (IsSome writer.new.failure) }
     ensures ordered { IsOrdered (slice_cmp nat_cmp) reads.now }
 {
     for (key, place) in reads.iter() {
         if let Some(there) = place {
-            push_key_line(text, key, &there.value)?;
+            put_key_line(writer, key, &there.value)?;
         }
     }
     Ok(())
 }
 
-fn push_proc_line(text: &mut Vec<u8>, proc: &Proc, level: u64) -> Result<(), AllocError>
-    ensures { OnOk result (text.new.items ≡ text.old.items ++ proc_line proc.now level) }
+fn put_proc_line<W: Write>(
+    writer: &mut WatchedWriter<W>,
+    proc: &Proc,
+    level: u64,
+) -> Result<(), WriteFault>
+    ensures text { Writes (W.contents writer.old.writer) (W.contents writer.new.writer)
+        result (proc_line proc.now level) }
+    ensures failed { OnErr result (IsSome writer.new.failure) }
 {
-    text.extend_from_slice(b"proc ")?;
-    text.extend_from_slice(proc.nspace.as_bytes())?;
-    text.extend_from_slice(b" ")?;
-    push_number(text, u64::from(proc.rank.number()))?;
-    text.extend_from_slice(b" level ")?;
-    push_number(text, level)?;
-    text.extend_from_slice(b"\n")
+    writer.put_texts(b"proc ", proc.nspace.as_bytes(), b" ")?;
+    writer.put_number(u64::from(proc.rank.number()))?;
+    writer.put_number_between(b" level ", level, b"\n")
 }
 
 // The lines of the process, of which the track knows.
-fn push_proc(text: &mut Vec<u8>, proc: &Proc, track: &Track) -> Result<(), AllocError>
+fn put_proc<W: Write>(
+    writer: &mut WatchedWriter<W>,
+    proc: &Proc,
+    track: &Track,
+) -> Result<(), WriteFault>
     requires { IsTrack track.now }
-    ensures { OnOk result (text.new.items ≡ text.old.items ++ known_text proc.now (known_by track.now)) }
+    ensures text { Writes (W.contents writer.old.writer) (W.contents writer.new.writer)
+        result (known_text proc.now (known_by track.now)) }
+    ensures failed { OnErr result (IsSome writer.new.failure) }
 {
     let level = track.level();
     if level == 0 {
         return Ok(());
     }
-    push_proc_line(text, proc, level)?;
-    push_key_lines(text, track.reads())
+    put_proc_line(writer, proc, level)?;
+    put_key_lines(writer, track.reads())
 }
 
 // The lines of the processes, of which the tracks know.
-fn push_procs(
-    text: &mut Vec<u8>,
+fn put_procs<W: Write>(
+    writer: &mut WatchedWriter<W>,
     places: &BTreeMap<Proc, Option<Track>, Global>,
-) -> Result<(), AllocError>
+) -> Result<(), WriteFault>
     requires { AreTracks places.now }
-    ensures lines { OnOk result (text.new.items ≡ text.old.items ++ flat_map place_text places.now.entries) }
+    ensures lines { Writes (W.contents writer.old.writer) (W.contents writer.new.writer)
+        result (flat_map place_text places.now.entries) }
+    ensures failed { OnErr result (IsSome writer.new.failure) }
     ensures ordered { IsOrdered proc_cmp places.now }
 {
     for (proc, place) in places.iter() {
         if let Some(track) = place {
-            push_proc(text, proc, track)?;
+            put_proc(writer, proc, track)?;
         }
     }
     Ok(())
 }
 
-/// The dump of what the tracks know. It takes time in proportion to what they hold.
-pub fn dump_of_tracks(
-    alloc: Global,
+/// Writes the dump of what the tracks know, in time in proportion to what they hold. Where the writer fails, a prefix of it was
+/// written.
+pub fn dump_tracks<W: Write>(
+    writer: &mut WatchedWriter<W>,
     places: &BTreeMap<Proc, Option<Track>, Global>,
-) -> Result<Vec<u8>, AllocError>
+) -> Result<(), WriteFault>
     requires { AreTracks places.now }
-    ensures { IfOk result (λ text. text.items ≡ dump (data_in places.now)) }
+    ensures text { Writes (W.contents writer.old.writer) (W.contents writer.new.writer)
+        result (dump (data_in places.now)) }
+    ensures failed { OnErr result (IsSome writer.new.failure) }
 {
-    let mut text = Vec::new(alloc);
-    push_procs(&mut text, places)?;
-    Ok(text)
+    put_procs(writer, places)
 }

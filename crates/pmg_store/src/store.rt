@@ -9,7 +9,7 @@ ghost use Rattle.pmg_store.specs.Outcomes.{Dumps};
 ghost use Rattle.pmg_store.specs.Pieces.{data_of, is_of};
 ghost use Rattle.pmg_commit.specs.declared.piece.TheConstants.{MAX_COMMIT};
 
-use crate::dump::dump_of_tracks;
+use crate::dump::dump_tracks;
 use crate::failure::Failure;
 use crate::tracks::Tracks;
 use pmg_commit::Piece;
@@ -237,16 +237,15 @@ impl Store {
     }
 
     /// Writes the dump: for each process of level 1 or more, by namespace and rank, a line with its level; then
-    /// for each key that reads, by its bytes, a line with the value's text and the key. Refused as NoMemory with
-    /// nothing written; where the writer fails, a prefix of the dump was written.
+    /// for each key that reads, by its bytes, a line with the value's text and the key. It takes no memory of its own;
+    /// where the writer fails, a prefix of the dump was written.
     pub fn dump<W: Write>(&self, writer: &mut WatchedWriter<W>) -> Result<(), Failure>
         ensures dumps { Dumps (W.contents writer.old.writer) (W.contents writer.new.writer)
             result (Ok (dump self.now)) }
         ensures write_fault { IfErr result (λ e. e ≡ Failure.Write → IsSome writer.new.failure) }
         ensures no_read_fault { IfErr result (λ e. e ≢ Failure.Read) }
     {
-        let text = dump_of_tracks(self.tracks.allocator(), self.tracks.places())?;
-        writer.put_text(&text)?;
+        dump_tracks(writer, self.tracks.places())?;
         Ok(())
     }
 

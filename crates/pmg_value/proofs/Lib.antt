@@ -1,7 +1,10 @@
 pub mod ArrayLemmas
+pub mod BlobLemmas
 pub mod ChainLemmas
+pub mod EightLemmas
 pub mod FlatLemmas
 pub mod FormLemmas
+pub mod HexDigits
 pub mod ListLemmas
 pub mod MadeLists
 pub mod MapLemmas
@@ -16,3 +19,4 @@ pub mod SortedLists
 pub mod TextLemmas
 pub mod WordLemmas
 pub mod WrittenLemmas
+pub mod WrittenParts

@@ -1,12 +1,13 @@
 -- A text that is written in parts: what the calls for the parts did, the call for the whole did.
 -- The premises on the last part stand first, so that `search` finds the writer between two parts.
-use Rattle.std.proofs.Common.{◌≡◌, ℕ, List, [], ◌+◌, ◌-◌, ◌++◌, length, length-drop, take, drop, arith, rules, ◌∙◌, ap, sym, subst, append_assoc, None, Some, min}
+use Rattle.std.proofs.Common.{◌≡◌, ℕ, List, [], ◌+◌, ◌-◌, ◌++◌, length, length-drop, take, drop, refl, arith, rules, ◌∙◌, ap, sym, subst, append_assoc, None, Some, min}
 use Rattle.std.specs.Prelude.{OnOk}
 use Rattle.std.specs.declared.option.Option.{Option}
 use Rattle.std.specs.declared.result.Result.{Result}
 use Rattle.std.specs.Io.KnownBytes.{Appends, Keeps}
 use Rattle.std.proofs.Math.Seq.{take-add, take-append-add}
 use Rattle.std.proofs.lemmas.Grind.{common_steps}
+use Rattle.std.proofs.lemmas.List.{take-append-drop}
 use Rattle.std.proofs.lemmas.Result.{on_ok_weaker}
 use Rattle.pmg_value.specs.Written.{AppendsFront, Writes}
 
@@ -84,3 +85,10 @@ two_parts result old mid new a b c d is_c is_d second first =
 pub first_part : {T E : Type 0} (result : Result T E) (old new : Option (List ℕ)) (a c d : List ℕ) → a ≡ c → AppendsFront old new a → OnOk result ⊥ → Writes old new result (c ++ d)
 first_part result old new a c d is front failed =
     (subst (AppendsFront old new) (ap (λ (t : List ℕ). t ++ d) is) (front_of_first d front), on_ok_weaker result (λ never. absurd never) failed)
+
+-- some of a text, and then the rest of it
+pub rest_written : {T E : Type 0} (result : Result T E) (old mid new : Option (List ℕ)) (text rest : List ℕ) (taken : ℕ) → rest ≡ take (length text - taken) (drop taken text) →
+    Appends old mid (take taken text) → Writes mid new result rest → Writes old new result text
+rest_written result old mid new text rest taken is first second =
+    let whole = take-append-drop taken text in
+    rw (← whole) (two_parts result old mid new (take taken text) rest (take taken text) (drop taken text) refl (is ∙ take_rest text taken) second first)

@@ -20,5 +20,6 @@ pub mod Signatures
 pub mod SmallBytes
 pub mod Spelling
 pub mod Text
+pub mod Within
 pub mod Words
 pub mod Written

@@ -6,6 +6,7 @@ ghost use Rattle.pmg_value.specs.declared.refusal.Refusal.TheVariants as refusal
 
 use crate::refusal::Refusal;
 use crate::small_bytes::SmallBytes;
+use crate::within::all_within;
 use std::alloc::{AllocError, Global};
 use std::marker::Model;
 
@@ -69,6 +70,9 @@ pub fn first_zero(bytes: &[u8]) -> Option<usize>
     ensures value { result ≡ position is_zero bytes.now }
     ensures bound { IfSome result (λ i. i < length bytes.now) }
 {
+    if all_within(1, u8::MAX, bytes) {
+        return None;
+    }
     bytes.iter().position(|b| *b == 0)
 }
 

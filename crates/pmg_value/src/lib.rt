@@ -14,6 +14,7 @@ mod rows;
 mod small_bytes;
 mod value;
 mod value_text;
+mod within;
 mod word;
 mod written;
 

@@ -1,11 +1,11 @@
-ghost use Rattle.std.specs.Prelude.{◌≡◌, ◌&&◌, not, codes, length, IsTrue, IfOk, if◌then◌else◌};
-ghost use Rattle.std.specs.List.{list_all};
-ghost use Rattle.pmg_value.specs.Names.{is_graphic, is_printable, is_nspace, is_key, is_reserved};
+ghost use Rattle.std.specs.Prelude.{◌≡◌, ◌&&◌, not, codes, IsTrue, IfOk, if◌then◌else◌};
+ghost use Rattle.pmg_value.specs.Names.{is_nspace, is_key, is_reserved};
 ghost use Rattle.pmg_value.specs.Answers.{Gives};
 ghost use Rattle.pmg_value.specs.Process.{host_name};
 ghost use Rattle.pmg_value.specs.declared.refusal.Refusal.TheVariants as refusals;
 
 use crate::refusal::Refusal;
+use crate::within::all_within;
 use crate::word::Word;
 use std::alloc::{AllocError, Global};
 use std::marker::Model;
@@ -58,30 +58,18 @@ impl Model for Key {
     ghost inverse = { λ v. record { text = v } };
 }
 
-fn all_graphic(name: &[u8]) -> bool
-    ensures { result ≡ list_all is_graphic name.now }
-{
-    name.iter().all(|b| 0x21 <= *b && *b <= 0x7E)
-}
-
-fn all_printable(key: &[u8]) -> bool
-    ensures { result ≡ list_all is_printable key.now }
-{
-    key.iter().all(|b| 0x20 <= *b && *b <= 0x7E)
-}
-
 /// Whether the bytes are a namespace's name: 1 to 255 bytes of 0x21 to 0x7E.
 pub fn is_nspace_name(name: &[u8]) -> bool
     ensures { result ≡ is_nspace name.now }
 {
-    0 < name.len() && name.len() <= MAX_NSPACE_LEN && all_graphic(name)
+    0 < name.len() && name.len() <= MAX_NSPACE_LEN && all_within(0x21, 0x7E, name)
 }
 
 /// Whether the bytes are a key: 1 to 511 bytes of 0x20 to 0x7E.
 pub fn is_key_text(key: &[u8]) -> bool
     ensures { result ≡ is_key key.now }
 {
-    0 < key.len() && key.len() <= MAX_KEY_LEN && all_printable(key)
+    0 < key.len() && key.len() <= MAX_KEY_LEN && all_within(0x20, 0x7E, key)
 }
 
 /// Whether a name or a key begins with `pmix`, as those do that the standard keeps.

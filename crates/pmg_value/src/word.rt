@@ -57,6 +57,7 @@ impl Model for Word {
 
 impl Word {
     /// The word of these bytes.
+    #[inline(always)]
     pub fn of(alloc: Global, bytes: &[u8]) -> Result<Word, AllocError>
         requires { IsTrue (list_all is_printable bytes.now) }
         ensures { IfOk result (λ w. w ≡ bytes.now) }

@@ -2,18 +2,25 @@
 //!
 //! Where a writer fails, what it took before is a prefix of the text: nothing out of order, nothing else.
 ghost use Rattle.std.specs.Prelude.{◌≡◌, ◌<◌, ◌≤◌, ◌++◌, decimal, length, IfOk, OnOk, OnErr, IsSome, IsNone, IsTrue, is_some};
-ghost use Rattle.std.specs.Char.{digit_char};
 ghost use Rattle.std.specs.Fmt.{signed_decimal};
 ghost use Rattle.std.specs.Option.{option_copied};
 ghost use Rattle.std.specs.Io.KnownBytes.{Keeps, WriteAppends};
 ghost use Rattle.pmg_value.specs.Written.{Writes};
-ghost use Rattle.pmg_value.specs.Hex.{hex_byte, hex_text};
+ghost use Rattle.pmg_value.specs.Hex.{hex_text};
+ghost use Rattle.pmg_value.specs.declared.written.TheConstants.{HEX_PIECE};
 
+use arrayvec::ArrayVec;
 use itoa::Buffer;
 use std::alloc::AllocError;
 use std::io;
 use std::io::{ErrorKind, Write};
 use thiserror::Error;
+
+/// How many bytes of short texts are written at once.
+const SHORT_LEN: usize = 32;
+
+/// How many bytes are written in hexadecimal at once.
+const HEX_PIECE: usize = 32;
 
 /// The writer failed: why, its `WatchedWriter` knows.
 #[derive(Clone, Copy, Debug, PartialEq, Eq, Error)]
@@ -75,6 +82,7 @@ impl<W: Write> WatchedWriter<W> {
 
     /// Writes once, and says how many bytes were taken: none where the write was interrupted. The one place that
     /// writes.
+    #[inline(always)]
     fn write(&mut self, text: &[u8]) -> Result<usize, WriteFault>
         ensures bound { IfOk result (λ taken. taken ≤ length text.now) }
         ensures bytes { WriteAppends (W.contents self.old.writer) (W.contents self.new.writer)
@@ -110,8 +118,56 @@ impl<W: Write> WatchedWriter<W> {
             return Err(WriteFault);
         }
         self.is_flushed = false;
+        if text.is_empty() {
+            return Ok(());
+        }
+        let taken = self.write(text)?;
+        if taken == text.len() {
+            return Ok(());
+        }
+        self.put_rest(&text[taken..])
+    }
+
+    /// Writes three texts one after another, at once where they are short.
+    #[inline(always)]
+    pub fn put_texts(&mut self, first: &[u8], second: &[u8], third: &[u8]) -> Result<(), WriteFault>
+        ensures text { Writes (W.contents self.old.writer) (W.contents self.new.writer)
+            result (first.now ++ (second.now ++ third.now)) }
+        ensures failed { OnErr result (IsSome self.new.failure) }
+    {
+        let mut together: ArrayVec<u8, SHORT_LEN> = ArrayVec::new();
+        if together.try_extend_from_slice(first).is_ok()
+            && together.try_extend_from_slice(second).is_ok()
+            && together.try_extend_from_slice(third).is_ok()
+        {
+            return self.put_text(together.as_slice());
+        }
+        self.put_each(first, second, third)
+    }
+
+    /// Writes three texts one after another.
+    fn put_each(&mut self, first: &[u8], second: &[u8], third: &[u8]) -> Result<(), WriteFault>
+        ensures text { Writes (W.contents self.old.writer) (W.contents self.new.writer)
+            result (first.now ++ (second.now ++ third.now)) }
+        ensures failed { OnErr result (IsSome self.new.failure) }
+    {
+        self.put_text(first)?;
+        self.put_text(second)?;
+        self.put_text(third)
+    }
+
+    /// Writes what is left of a text of which some was written, as `put_text` writes.
+    #[cold]
+    #[inline(never)]
+    fn put_rest(&mut self, text: &[u8]) -> Result<(), WriteFault>
+        requires { IsNone self.old.failure }
+        ensures text { Writes (W.contents self.old.writer) (W.contents self.new.writer)
+            result text.now }
+        ensures failed { OnErr result (IsSome self.new.failure) }
+        ensures ok { OnOk result (IsNone self.new.failure) }
+    {
         let mut done = 0;
-        for _ in 0..u64::MAX {
+        for _ in 1..u64::MAX {
             if done == text.len() {
                 return Ok(());
             }
@@ -147,6 +203,22 @@ impl<W: Write> WatchedWriter<W> {
         self.put_text(buffer.format(number).as_bytes())
     }
 
+    /// Writes `number` in decimal between two texts, as `put_texts` writes.
+    #[inline(always)]
+    pub fn put_number_between(
+        &mut self,
+        before: &[u8],
+        number: u64,
+        after: &[u8],
+    ) -> Result<(), WriteFault>
+        ensures text { Writes (W.contents self.old.writer) (W.contents self.new.writer)
+            result (before.now ++ (decimal number ++ after.now)) }
+        ensures failed { OnErr result (IsSome self.new.failure) }
+    {
+        let mut buffer = Buffer::new();
+        self.put_texts(before, buffer.format(number).as_bytes(), after)
+    }
+
     /// Writes `integer` in decimal, `-` before its digits where it is negative, as `put_text` writes.
     pub fn put_signed(&mut self, integer: i64) -> Result<(), WriteFault>
         ensures text { Writes (W.contents self.old.writer) (W.contents self.new.writer) result
@@ -157,25 +229,34 @@ impl<W: Write> WatchedWriter<W> {
         self.put_text(buffer.format(integer).as_bytes())
     }
 
-    /// Writes a byte in two lower hexadecimal digits, as `put_text` writes.
-    fn put_byte(&mut self, byte: u8) -> Result<(), WriteFault>
-        ensures text { Writes (W.contents self.old.writer) (W.contents self.new.writer)
-            result (hex_byte byte) }
-        ensures failed { OnErr result (IsSome self.new.failure) }
-    {
-        self.put_text(&[hex_digit(byte / 16), hex_digit(byte % 16)])
-    }
-
     /// Writes bytes in lower hexadecimal, two digits a byte, as `put_text` writes.
     pub fn put_hex(&mut self, bytes: &[u8]) -> Result<(), WriteFault>
         ensures text { Writes (W.contents self.old.writer) (W.contents self.new.writer)
             result (hex_text bytes.now) }
         ensures failed { OnErr result (IsSome self.new.failure) }
     {
-        for byte in bytes {
-            self.put_byte(*byte)?;
+        let mut rest = bytes;
+        while rest.len() > HEX_PIECE {
+            let (piece, others) = rest.split_at(HEX_PIECE);
+            self.put_hex_piece(piece)?;
+            rest = others;
         }
-        Ok(())
+        self.put_hex_piece(rest)
+    }
+
+    /// Writes a few bytes in lower hexadecimal, all at once.
+    fn put_hex_piece(&mut self, bytes: &[u8]) -> Result<(), WriteFault>
+        requires { length bytes.now ≤ HEX_PIECE }
+        ensures text { Writes (W.contents self.old.writer) (W.contents self.new.writer)
+            result (hex_text bytes.now) }
+        ensures failed { OnErr result (IsSome self.new.failure) }
+    {
+        let mut room = [0; 2 * HEX_PIECE];
+        let digits = &mut room[..2 * bytes.len()];
+        let Ok(()) = hex::encode_to_slice(bytes, digits) else {
+            unreachable!()
+        };
+        self.put_text(digits)
     }
 }
 
@@ -185,16 +266,4 @@ pub fn push_number(text: &mut Vec<u8>, number: u64) -> Result<(), AllocError>
 {
     let mut buffer = Buffer::new();
     text.extend_from_slice(buffer.format(number).as_bytes())
-}
-
-/// A lower hexadecimal digit.
-fn hex_digit(digit: u8) -> u8
-    requires { digit < 16 }
-    ensures { result ≡ digit_char digit }
-{
-    if digit < 10 {
-        b'0' + digit
-    } else {
-        b'a' - 10 + digit
-    }
 }

@@ -1,5 +1,6 @@
 -- A value whose bytes were passed over is read from these bytes alone.
-use Rattle.std.proofs.Common.{◌≡◌, ℕ, ◌+◌, ◌-◌, ◌<◌, ◌≤◌, true, ◌&&◌, nat_lt, nat_le, List, [], ◌++◌, length, take, Ok, IsTrue, sym, ap, subst, ◌∙◌, arith}
+use Rattle.std.proofs.Common.{◌≡◌, ℕ, suc, ◌+◌, ◌-◌, ◌<◌, ◌≤◌, true, ◌&&◌, nat_lt, nat_le, List, [], ◌∷◌, ◌++◌, length, get_or, take, Ok, Err, IsTrue, refl, sym, ap, subst, ◌∙◌, arith}
+use Rattle.std.specs.declared.result.Result.{Result}
 use Rattle.std.proofs.lemmas.List.{length-append, length-take, take_at, append-nil}
 use Rattle.std.proofs.lemmas.Bool.{and_from, le-leb, lt-ltb}
 use Rattle.pmg_value.specs.declared.refusal.Refusal.{Refusal}
@@ -7,11 +8,11 @@ use Rattle.pmg_value.specs.declared.refusal.Refusal.TheVariants as refusals
 use Rattle.pmg_value.specs.declared.value.Value.{Value}
 use Rattle.pmg_value.specs.Spelling.{Form, form, value_of, form_body}
 use Rattle.pmg_value.proofs.FormLemmas.{value_of-form}
-use Rattle.pmg_wire.specs.Fields.{passed, read_value_body, read_value}
-use Rattle.pmg_wire.specs.Reading.{Place, Read, front, byte_at, IsBytes, Takes, FailsReading}
+use Rattle.pmg_wire.specs.Fields.{made, passed, read_plain, read_value_body, read_value}
+use Rattle.pmg_wire.specs.Reading.{Place, Read, past, front, byte_at, IsBytes, Takes, FailsReading, Reads}
 use Rattle.pmg_wire.proofs.ArrayLaws.{TakesBody, body_if, body_again}
 use Rattle.pmg_wire.proofs.Passing.{was_passed}
-use Rattle.pmg_wire.proofs.Steps.{place, byte_if}
+use Rattle.pmg_wire.proofs.Steps.{place, byte_if, byte_again}
 
 -- a body that was passed over
 pub record IsPassed (tag : ℕ) (at behind : Place) : Type 0 where
@@ -120,3 +121,38 @@ fails_whole at tag after behind e due h failed =
     no_fault refusals.NoMemory x f = tt
     no_fault (refusals.BadFrame d) x f = absurd cc
     no_fault e x f = absurd f
+
+-- ---- a value that cannot be too long
+
+rest_fits : (at : Place) (tag : ℕ) (after : Place) → byte_at at ≡ Ok (tag, after) → IsBytes at.rest → IsBytes after.rest
+rest_fits at tag after e fits = λ i. subst (λ bytes. get_or bytes (suc i) 0 < 256) ((byte_if at).holds tag after e).takes.parts (fits (suc i))
+
+short_value : (at : Place) (tag : ℕ) (after : Place) (result : Result Value Refusal) (behind : Place) → byte_at at ≡ Ok (tag, after) → 0 < tag → tag < 20
+    → IsBytes at.rest → length after.rest ≤ 1048575 → Reads form result behind (read_value_body tag after) → Reads (λ v. v) result behind (read_value at)
+unfolding read_value
+short_value at tag after (Ok v) behind first above below fits short read =
+    let tag_is = and_from (nat_lt 0 tag) (nat_lt tag 20) (lt-ltb 0 tag above) (lt-ltb tag 20 below) in
+    let passed : IsPassed tag after behind = record { form = form v; read = read; took = (body_if tag after (rest_fits at tag after first fits)).holds (form v) behind read } in
+    let size : nat_le (behind.offset - at.offset) 1048576 ≡ true = le-leb _ _ (omega (arith, tag_len at tag after first, (reaches tag after behind passed).within, short)) in
+    rw (first, tag_is, read, size) (ap (λ (w : Value). Ok (w, behind)) (value_of-form v))
+short_value at tag after (Err refusals.NoMemory) behind first above below fits short failed = tt
+short_value at tag after (Err (refusals.BadFrame f)) behind first above below fits short failed =
+    let tag_is = and_from (nat_lt 0 tag) (nat_lt tag 20) (lt-ltb 0 tag above) (lt-ltb tag 20 below) in
+    rw (first, tag_is, failed) refl
+short_value at tag after (Err e) behind first above below fits short failed = absurd failed
+
+first_tag : (o : ℕ) (rest : List ℕ) (tag : ℕ) (after : Place) → 0 < length rest → tag ≡ get_or rest 0 0 → after ≡ past (place o rest) 1 → byte_at (place o rest) ≡ Ok (tag, after)
+first_tag o [] tag after some is on = absurd (omega arith)
+first_tag o (n ∷ ns) tag after some is on = rw (is, on) (byte_again o n ns)
+
+plain_body_is : (tag : ℕ) (after : Place) → tag < 19 → read_value_body tag after ≡ made Form.plain (read_plain tag after)
+unfolding read_value_body
+plain_body_is tag after below = grind arith
+
+-- where the first byte is the tag of no array, and no more bytes are left than a value may have, the value is what its tag and its body are
+pub quick_value : (at after : Place) (tag : ℕ) (result : Result Value Refusal) (behind : Place) → 0 < length at.rest → tag ≡ get_or at.rest 0 0 → after ≡ past at 1 → 0 < tag → tag < 19
+    → IsBytes at.rest → length at.rest ≤ 1048576 → Reads form result behind (made Form.plain (read_plain tag after)) → Reads (λ v. v) result behind (read_value at)
+quick_value at after tag result behind some is on above below fits few read =
+    let first = first_tag at.offset at.rest tag after some is on in
+    let short : length after.rest ≤ 1048575 = omega (arith, length-append (tag ∷ []) after.rest, ap length ((byte_if at).holds tag after first).takes.parts, few) in
+    short_value at tag after result behind first above (omega (arith, below)) fits short (rw (plain_body_is tag after below) read)

@@ -1,5 +1,6 @@
-//! Reading values. A value is read in two passes: the first finds the first fault and where the value ends,
-//! and takes no memory; the second builds the value from its bytes, all of which are there.
+//! Reading values. An array, and a value that could be too long, are read in two passes: the first finds the first
+//! fault and where the value ends, and takes no memory; the second builds the value from its bytes, all of which are
+//! there. Any other value is built at once.
 ghost use Rattle.std.specs.Prelude.{◌≡◌, ◌-◌, ◌≤◌, None, length, IfOk, IsTrue, OnErr};
 ghost use Rattle.pmg_value.specs.Spelling.{Form, form, are_plain, plains_of};
 ghost use Rattle.pmg_wire.specs.Grammar.{SpellsValue, IsWholeValue};
@@ -45,6 +46,7 @@ fn any_proc_of(alloc: Global, at: &mut Cursor<'_>) -> Result<Proc, Refusal>
 }
 
 // The value with this tag whose body is here. It is no array, and no longer than a value may be.
+#[inline(always)]
 #[tactic(auto, unfolding(crate::specs::Fields::read_plain))]
 fn plain_of(alloc: Global, tag: u8, at: &mut Cursor<'_>) -> Result<Value, Refusal>
     requires { length at.old.rest ≤ MAX_VALUE_SIZE - 1 }
@@ -123,8 +125,10 @@ fn body_of(alloc: Global, tag: u8, at: &mut Cursor<'_>) -> Result<Value, Refusal
 }
 
 // A value: what is wrong with it and where it ends first, and then its parts.
+#[cold]
+#[inline(never)]
 #[tactic(auto, unfolding(crate::specs::Fields::read_value))]
-fn value_of(alloc: Global, at: &mut Cursor<'_>) -> Result<Value, Refusal>
+fn value_in_passes(alloc: Global, at: &mut Cursor<'_>) -> Result<Value, Refusal>
     ensures { Reads (λ v. v) result at.new (read_value at.old) }
 {
     let start = at.offset();
@@ -143,6 +147,23 @@ fn value_of(alloc: Global, at: &mut Cursor<'_>) -> Result<Value, Refusal>
     Ok(value)
 }
 
+// A value. One of a kind that is no array's, which cannot be too long, is built at once.
+fn value_of(alloc: Global, at: &mut Cursor<'_>) -> Result<Value, Refusal>
+    ensures { Reads (λ v. v) result at.new (read_value at.old) }
+{
+    // No effect at run time: the proof reads here that what is left are bytes.
+    let _start = at.offset();
+    let rest = at.rest();
+    let Some(tag) = rest.first() else {
+        return value_in_passes(alloc, at);
+    };
+    if *tag == 0 || *tag >= ARRAY_TAG || rest.len() > MAX_VALUE_SIZE {
+        return value_in_passes(alloc, at);
+    }
+    at.skip(1);
+    plain_of(alloc, *tag, at)
+}
+
 /// Reads a value: its tag, and a body of the tag's form. Refused as BadFrame at the first fault: Short,
 /// Tag, Bool, Name, Text, and at its end Size; and as NoMemory. A refusal leaves the cursor where it was.
 pub fn get_value(alloc: Global, at: &mut Cursor<'_>) -> Result<Value, Refusal>
@@ -151,10 +172,14 @@ pub fn get_value(alloc: Global, at: &mut Cursor<'_>) -> Result<Value, Refusal>
     ensures first_fault { Reads (λ v. v) result at.new (read_value at.old) }
     ensures err { OnErr result (at.new ≡ at.old) }
 {
-    let mut ahead = at.fork();
-    let value = value_of(alloc, &mut ahead)?;
-    *at = ahead;
-    Ok(value)
+    let start = at.fork();
+    match value_of(alloc, at) {
+        Ok(value) => Ok(value),
+        Err(refusal) => {
+            *at = start;
+            Err(refusal)
+        }
+    }
 }
 
 /// Reads bytes that are one value and nothing after it. Refused as BadFrame at the first fault, counted from

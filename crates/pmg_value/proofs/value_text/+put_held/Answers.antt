@@ -1,32 +1,34 @@
-use Rattle.std.proofs.Common.{rules, arith, codes, false, ◌++◌, ◌<◌, ◌≤◌, length, refl, ap, subst, ◌∙◌}
+use Rattle.std.proofs.Common.{rules, arith, codes, false, ◌++◌, ◌<◌, ◌≤◌, length, refl, ap, subst, append_assoc, ◌∙◌}
 use Rattle.std.specs.List.{join_by}
 use Rattle.std.specs.Io.KnownBytes.{Appends}
 use Rattle.std.proofs.lemmas.List.{length-map}
 use Rattle.pmg_value.specs.Elements.{Elements}
 use Rattle.pmg_value.specs.Plain.{Plain, kind_name, plain_text}
 use Rattle.pmg_value.specs.Spelling.{form, plain_of, plains_of}
-use Rattle.pmg_value.specs.Written.{AppendsFront}
+use Rattle.pmg_value.specs.Written.{AppendsFront, Writes}
 use Rattle.pmg_value.proofs.WrittenLemmas.{first_part, two_parts, front_of_all}
 use Rattle.pmg_value.proofs.FlatLemmas.{flat_front, flat_more, flat_all}
 use Rattle.pmg_value.proofs.TextLemmas.{text_is, first_plain, item_at}
 use Rattle.pmg_value.proofs.value_text.+put_held.Goals as goal
 
-pub put_array-returns-in_err-put_text-clause-text : goal.put_array-returns-in_err-put_text-clause-text
-put_array-returns-in_err-put_text-clause-text g t c = first_part _ _ _ _ _ _ (c.kind_name.ensures ∙ ap kind_name c.tag.ensures) c.in_err-put_text.ensures.text.0 (search rules)
+pub put_array-returns-in_err-put_text_after-clause-text : goal.put_array-returns-in_err-put_text_after-clause-text
+put_array-returns-in_err-put_text_after-clause-text g t c =
+    rw (← append_assoc c.args.before.now (kind_name c.args.array.now.tag) (codes "[" ++ (join_by plain_text (codes ",") c.args.array.now.plains ++ codes "]"))) (first_part _ _ _ _ _ _ (ap (λ name. c.args.before.now ++ name) (c.kind_name.ensures ∙ ap kind_name c.tag.ensures)) c.in_err-put_text_after.ensures.text.0 (search rules))
 
-pub put_array-returns-in_err-put_text-2-clause-text : goal.put_array-returns-in_err-put_text-2-clause-text
-put_array-returns-in_err-put_text-2-clause-text g t c =
-    two_parts _ _ _ _ _ _ _ _ (c.kind_name.ensures ∙ ap kind_name c.tag.ensures) refl (first_part _ _ _ _ _ _ refl c.in_err-put_text-2.ensures.text.0 (search rules)) c.in_ok-put_text.ensures.text.1
+pub put_array-returns-in_err-put_text-clause-text : goal.put_array-returns-in_err-put_text-clause-text
+put_array-returns-in_err-put_text-clause-text g t c =
+    rw (← append_assoc c.args.before.now (kind_name c.args.array.now.tag) (codes "[" ++ (join_by plain_text (codes ",") c.args.array.now.plains ++ codes "]"))) (two_parts _ _ _ _ _ _ _ _ (ap (λ name. c.args.before.now ++ name) (c.kind_name.ensures ∙ ap kind_name c.tag.ensures)) refl
+    (first_part _ _ _ _ _ _ refl c.in_err-put_text.ensures.text.0 (search rules)) c.in_ok-put_text_after.ensures.text.1)
 
 pub put_array-returns-in_err-put_items-clause-text : goal.put_array-returns-in_err-put_items-clause-text
 put_array-returns-in_err-put_items-clause-text g t c =
-    two_parts _ _ _ _ _ _ _ _ (c.kind_name.ensures ∙ ap kind_name c.tag.ensures) refl
-    (two_parts _ _ _ _ _ _ _ _ refl refl (first_part _ _ _ _ _ _ (ap (λ (e : Elements). join_by plain_text (codes ",") e.plains) c.items-items.ensures.items) c.in_err-put_items.ensures.text.0 (search rules)) c.in_ok-put_text-2.ensures.text.1) c.in_ok-put_text.ensures.text.1
+    rw (← append_assoc c.args.before.now (kind_name c.args.array.now.tag) (codes "[" ++ (join_by plain_text (codes ",") c.args.array.now.plains ++ codes "]"))) (two_parts _ _ _ _ _ _ _ _ (ap (λ name. c.args.before.now ++ name) (c.kind_name.ensures ∙ ap kind_name c.tag.ensures)) refl
+    (two_parts _ _ _ _ _ _ _ _ refl refl (first_part _ _ _ _ _ _ (ap (λ (e : Elements). join_by plain_text (codes ",") e.plains) c.items-items.ensures.items) c.in_err-put_items.ensures.text.0 (search rules)) c.in_ok-put_text.ensures.text.1) c.in_ok-put_text_after.ensures.text.1)
 
 pub put_array-returns-clause-text : goal.put_array-returns-clause-text
 put_array-returns-clause-text g t c =
-    two_parts _ _ _ _ _ _ _ _ (c.kind_name.ensures ∙ ap kind_name c.tag.ensures) refl
-    (two_parts _ _ _ _ _ _ _ _ refl refl (two_parts _ _ _ _ _ _ _ _ (ap (λ (e : Elements). join_by plain_text (codes ",") e.plains) c.items-items.ensures.items) refl c.put_text-3.ensures.text c.in_ok-put_items.ensures.text.1) c.in_ok-put_text-2.ensures.text.1) c.in_ok-put_text.ensures.text.1
+    rw (← append_assoc c.args.before.now (kind_name c.args.array.now.tag) (codes "[" ++ (join_by plain_text (codes ",") c.args.array.now.plains ++ codes "]"))) (two_parts _ _ _ _ _ _ _ _ (ap (λ name. c.args.before.now ++ name) (c.kind_name.ensures ∙ ap kind_name c.tag.ensures)) refl
+    (two_parts _ _ _ _ _ _ _ _ refl refl (two_parts _ _ _ _ _ _ _ _ (ap (λ (e : Elements). join_by plain_text (codes ",") e.plains) c.items-items.ensures.items) refl c.put_text-2.ensures.text c.in_ok-put_items.ensures.text.1) c.in_ok-put_text.ensures.text.1) c.in_ok-put_text_after.ensures.text.1)
 
 pub put_items-returns-in_err-put_held-clause-text : goal.put_items-returns-in_err-put_held-clause-text
 put_items-returns-in_err-put_held-clause-text g t c =
@@ -38,11 +40,8 @@ put_items-returns-clause-text g t c =
     let plain = first_plain _ _ _ c.in-Some.ensures.cases.0 c.requires in
     rw (c.in-Some.ensures.cases.0) (two_parts _ _ _ _ _ _ _ _ (text_is (form c.in-Some.first.now) plain) refl c.put_others.ensures.text c.in_ok-put_held.ensures.text.1)
 
-pub put_next-returns-in_err-put_text-clause-text : goal.put_next-returns-in_err-put_text-clause-text
-put_next-returns-in_err-put_text-clause-text g t c = first_part _ _ _ _ _ (plain_text (plain_of (form c.args.item.now))) refl c.in_err-put_text.ensures.text.0 (search rules)
-
 pub put_next-returns-clause-text : goal.put_next-returns-clause-text
-put_next-returns-clause-text g t c = two_parts _ _ _ _ _ _ _ _ refl (text_is (form c.args.item.now) c.requires) c.put_held.ensures.text c.in_ok-put_text.ensures.text.1
+put_next-returns-clause-text g t c = subst (Writes _ _ _) (ap (λ held. codes "," ++ held) (text_is (form c.args.item.now) c.requires)) c.put_held.ensures.text
 
 pub put_others-returns-in_err-put_next-clause-text : goal.put_others-returns-in_err-put_next-clause-text
 put_others-returns-in_err-put_next-clause-text g t c =

@@ -1,15 +1,11 @@
-use Rattle.std.proofs.Common.{rules, refl, ap, ◌∙◌}
+use Rattle.std.proofs.Common.{codes, ◌++◌, ap, append_assoc, ◌∙◌}
 use Rattle.pmg_value.specs.Plain.{kind_name}
-use Rattle.pmg_value.proofs.WrittenLemmas.{first_part, two_parts}
+use Rattle.pmg_value.specs.Spelling.{form, tag_of}
+use Rattle.pmg_value.specs.Text.{form_text}
 use Rattle.pmg_value.proofs.value.Value.write_text.Goals as goal
-
-pub returns-in_err-put_text-clause-text : goal.returns-in_err-put_text-clause-text
-returns-in_err-put_text-clause-text g c = first_part _ _ _ _ _ _ (c.kind_name.ensures ∙ ap kind_name c.tag.ensures) c.in_err-put_text.ensures.text.0 (search rules)
-
-pub returns-in_err-put_text-2-clause-text : goal.returns-in_err-put_text-2-clause-text
-returns-in_err-put_text-2-clause-text g c =
-    two_parts _ _ _ _ _ _ _ _ (c.kind_name.ensures ∙ ap kind_name c.tag.ensures) refl (first_part _ _ _ _ _ _ refl c.in_err-put_text-2.ensures.text.0 (search rules)) c.in_ok-put_text.ensures.text.1
 
 pub returns-clause-text : goal.returns-clause-text
 returns-clause-text g c =
-    two_parts _ _ _ _ _ _ _ _ (c.kind_name.ensures ∙ ap kind_name c.tag.ensures) refl (two_parts _ _ _ _ _ _ _ _ refl refl c.put_held.ensures.text c.in_ok-put_text-2.ensures.text.1) c.in_ok-put_text.ensures.text.1
+    let v = c.args.self.now in
+    let prefix = c.kind_prefix.ensures ∙ ap (λ tag. kind_name tag ++ codes ":") c.tag.ensures in
+    rw (← append_assoc (kind_name (tag_of v)) (codes ":") (form_text (form v)), ← prefix) c.put_held.ensures.text

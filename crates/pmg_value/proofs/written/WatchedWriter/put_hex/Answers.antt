@@ -1,16 +1,18 @@
-use Rattle.std.proofs.Common.{rules, arith}
-use Rattle.pmg_value.specs.Hex.{hex_byte}
-use Rattle.pmg_value.proofs.WrittenLemmas.{front_of_all}
-use Rattle.pmg_value.proofs.FlatLemmas.{flat_front, flat_all}
+use Rattle.std.proofs.Common.{rules}
+use Rattle.pmg_value.specs.declared.written.TheConstants.{HEX_PIECE}
+use Rattle.pmg_value.proofs.HexDigits.{text_of_pieces}
+use Rattle.pmg_value.proofs.WrittenParts.{more_written, front_written, last_written}
 use Rattle.pmg_value.proofs.written.WatchedWriter.put_hex.Goals as goal
 
-pub returns-in_err-put_byte-clause-text : goal.returns-in_err-put_byte-clause-text
-returns-in_err-put_byte-clause-text g c = (
-  flat_front hex_byte _ _ _ c.args.bytes.now c.loop-byte.byte-index 0 (omega (arith, c.loop-byte-test.true)) c.in_err-put_byte.ensures.text.0 c.loop-byte.invariant,
-  search rules,
-)
+pub loop-rest-preserved : goal.loop-rest-preserved
+loop-rest-preserved g c =
+    let parts = text_of_pieces c.loop-rest.rest.now c.split_at.result.0.now c.split_at.result.1.now HEX_PIECE c.split_at.ensures.front c.split_at.ensures.back in
+    more_written _ _ _ _ _ _ _ parts c.loop-rest.invariant c.in_ok-put_hex_piece.ensures.text.1
+
+pub returns-in_err-put_hex_piece-clause-text : goal.returns-in_err-put_hex_piece-clause-text
+returns-in_err-put_hex_piece-clause-text g c =
+    let parts = text_of_pieces c.loop-rest.rest.now c.split_at.result.0.now c.split_at.result.1.now HEX_PIECE c.split_at.ensures.front c.split_at.ensures.back in
+    (front_written _ _ _ _ _ _ _ parts c.loop-rest.invariant c.in_err-put_hex_piece.ensures.text.0, search rules)
 
 pub returns-clause-text : goal.returns-clause-text
-returns-clause-text g c =
-    let all = flat_all hex_byte _ _ c.args.bytes.now c.loop-byte.byte-index (omega (arith, c.loop-byte-test.false)) c.loop-byte.invariant in
-    (front_of_all _ _ _ all, all)
+returns-clause-text g c = last_written _ _ _ _ _ _ c.loop-rest.invariant c.put_hex_piece-2.ensures.text

@@ -1,7 +1,7 @@
 use Rattle.std.proofs.Common.{◌≤◌, length, take}
 use Rattle.std.specs.Prelude.{IsNone}
 use Rattle.std.specs.Io.KnownBytes.{Appends}
-use Rattle.pmg_value.proofs.written.WatchedWriter.put_text.Given as goal
+use Rattle.pmg_value.proofs.written.WatchedWriter.put_rest.Given as goal
 
 -- what was written so far is the text's first `done` bytes
 abbrev pub invariant-loop : goal.invariant-loop
