@@ -97,8 +97,8 @@ fn answer_of(
     ensures node { OnOk result (node.new ≡ after node.old (act_of act.now)) }
     ensures sent { OnOk result (frames.new.items ≡ frames.old.items ++ sent_by node.old (act_of act.now)) }
 {
-    match node.act_into(act, frames) {
-        Ok(acted) => Ok(Ok(acted.reply)),
+    match node.act(act, frames) {
+        Ok(reply) => Ok(Ok(reply)),
         Err(Refusal::NoMemory) => Err(AllocError),
         Err(refusal) => Ok(Err(refusal)),
     }

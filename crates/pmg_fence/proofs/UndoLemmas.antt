@@ -1,5 +1,5 @@
 -- What a table keeps beside stays right where a change is taken back.
-use Rattle.std.proofs.Common.{◌≡◌, ℕ, zero, suc, Bool, true, false, cond, List, [], length, take, Option, Some, is_some, refl, sym, ap, ◌∙◌, subst}
+use Rattle.std.proofs.Common.{◌≡◌, ℕ, zero, suc, Bool, true, false, cond, List, [], length, take, Option, Some, is_some, refl, sym, ap, ◌∙◌, subst, Bor}
 use Rattle.std.specs.FinMap as finite
 use Rattle.std.proofs.Math.Seq.{take-append_seam}
 use Rattle.pmg_value.specs.Signatures.{Signature, FenceName}
@@ -48,12 +48,12 @@ note_fits old new owns before f change l was is back = λ others kept.
       ends = was.ends;
     })
 
-pub note_back : (old new : Known) (f kept : FenceName) (g : Signature) (i : ℕ) (change : Change) (l : Option Local) (n : ℕ) (before : Option SeriesUndo)
-    → kept ≡ f → g ≡ f.signature → i ≡ f.instance → n ≡ length old.waiting → new ≡ changed_with old (fence_of g i) change l
+pub note_back : (old new : Known) (f : FenceName) (kept : Bor FenceName) (g : Signature) (i : ℕ) (change : Change) (l : Option Local) (n : ℕ) (before : Option SeriesUndo)
+    → kept.now ≡ f → g ≡ f.signature → i ≡ f.instance → n ≡ length old.waiting → new ≡ changed_with old (fence_of g i) change l
     → fences_back new.fences (fence_of g i) before ≡ old.fences → table_back new (record { waiting = n; change = change_befores.Fence kept before }) ≡ old
 note_back old new f kept g i change l n before copied same number many is back =
-    let name : kept ≡ fence_of g i = copied ∙ (λ j. fence_of (sym same j) (sym number j)) in
-    let fences : fences_back new.fences kept before ≡ old.fences = ap (λ x. fences_back new.fences x before) name ∙ back in
+    let name : kept.now ≡ fence_of g i = copied ∙ (λ j. fence_of (sym same j) (sym number j)) in
+    let fences : fences_back new.fences kept.now before ≡ old.fences = ap (λ x. fences_back new.fences x before) name ∙ back in
     let waiting : take n new.waiting ≡ old.waiting =
     (λ j. take (many j) ((is j).waiting)) ∙ take-append_seam old.waiting (newly_told old (fence_of g i) l) in
     λ j. record { jobs = (is j).jobs; node = (is j).node; fences = fences j; waiting = waiting j }

@@ -54,7 +54,7 @@ fences_back t f before = record { series = all_series_back t.series f.signature 
 
 -- what was known of the fences, before one of them changed or a process ended
 abbrev pub change_back : Fences → ChangeBefore → Fences
-change_back t (change_befores.Fence f before) = fences_back t f before
+change_back t (change_befores.Fence f before) = fences_back t f.now before
 change_back t (change_befores.End before) = record { series = t.series; ends = number_back t.ends before }
 
 -- The table as it was. Of the headers that wait, only as many are left as waited then: where nothing waited, none.

@@ -131,18 +131,18 @@ fn copy_headers(headers: &VecDeque<Header>) -> Result<VecDeque<Header>, AllocErr
 /// What a table was before a change, by which that can be taken back: how many headers waited, and what was known of the
 /// fence or of the process.
 #[derive(Drop)]
-pub struct TableUndo {
+pub struct TableUndo<'a> {
     waiting: usize,
-    change: ChangeBefore,
+    change: ChangeBefore<'a>,
 }
 
 /// What was known of a fence, of whose signature there may have been none, or of a process's end.
-enum ChangeBefore {
-    Fence(FenceName, Option<SeriesUndo>),
+enum ChangeBefore<'a> {
+    Fence(&'a FenceName, Option<SeriesUndo>),
     End(NumberUndo),
 }
 
-impl Drop for ChangeBefore {
+impl<'a> Drop for ChangeBefore<'a> {
     fn drop(self) {
         match self {
             ChangeBefore::Fence(_, _) => {}

@@ -78,6 +78,7 @@ impl Registry {
     }
 
     /// The homes of the namespace's ranks, if it is registered.
+    #[inline]
     pub fn homes(&self, nspace: &Nspace) -> Option<&[NodeId]>
         ensures value { option_map (λ h. h.now) result ≡ finite.get self.now.spaces nspace.now }
         ensures space { IfSome result (λ h. IsSpace (length self.now.nodes) nspace.now h.now) }

@@ -68,6 +68,13 @@ SameAnswer view joins (Err e) (Err f) = e ≡ f
 SameAnswer view joins (Ok x) (Err f) = ⊥
 SameAnswer view joins (Err e) (Ok acted) = ⊥
 
+-- the same answer, as a reply
+abbrev pub SameReply : {X : Type 0} → (X → Reply) → Result X Refusal → Result GivenReply Refusal → Type 0
+SameReply view (Ok x) (Ok reply) = view x ≡ reply_as reply
+SameReply view (Err e) (Err f) = e ≡ f
+SameReply view (Ok x) (Err f) = ⊥
+SameReply view (Err e) (Ok reply) = ⊥
+
 -- where nothing is joined
 abbrev pub joins_none : {X : Type 0} → X → Joins
 joins_none x = no_joins

@@ -1,7 +1,7 @@
 //! One call for all acts of a node.
 ghost use Rattle.std.specs.Prelude.{◌≡◌, ◌++◌, Some, Err, IfOk, OnOk, OnErr};
 ghost use Rattle.pmg_value.specs.declared.refusal.Refusal.TheVariants as refusals;
-ghost use Rattle.pmg_node.specs.Acting.{act_of, acted_reply, commit_joins, delivery_joins, joins_in, joins_none, request_of, reply_as, SameAnswer};
+ghost use Rattle.pmg_node.specs.Acting.{act_of, acted_reply, commit_joins, delivery_joins, joins_in, joins_none, request_of, reply_as, SameAnswer, SameReply};
 ghost use Rattle.pmg_node.specs.Joining.{frame_joins, joins, no_joins};
 ghost use Rattle.pmg_node_model.specs.Acts.{Act as ModelAct, Reply as ModelReply};
 ghost use Rattle.pmg_node.specs.Replies.{asked_reply, committed_reply, defined_reply, delivery_reply, ended_reply, release_reply, taking_reply};
@@ -74,12 +74,22 @@ fn as_released(answer: Result<Release, Refusal>) -> Result<Acted, Refusal>
 }
 
 /// What a process that asks for a key is told, as a reply.
+fn reply_of_asked(answer: Result<Asked, Refusal>) -> Result<Reply, Refusal>
+    ensures { SameReply asked_reply answer result }
+{
+    match answer {
+        Ok(Asked::Found(value)) => Ok(Reply::Found(value)),
+        Ok(Asked::Parked) => Ok(Reply::Parked),
+        Err(refusal) => Err(refusal),
+    }
+}
+
+/// The same, with what is joined: nothing.
 fn as_asked(answer: Result<Asked, Refusal>) -> Result<Acted, Refusal>
     ensures { SameAnswer asked_reply joins_none answer result }
 {
-    match answer {
-        Ok(Asked::Found(value)) => Ok(reply_alone(Reply::Found(value))),
-        Ok(Asked::Parked) => Ok(reply_alone(Reply::Parked)),
+    match reply_of_asked(answer) {
+        Ok(reply) => Ok(reply_alone(reply)),
         Err(refusal) => Err(refusal),
     }
 }
@@ -131,6 +141,16 @@ fn as_defined(answer: Result<Committed, Refusal>) -> Result<Acted, Refusal>
 }
 
 /// What becomes of a frame, as a reply.
+fn reply_of_delivery(delivery: Delivery) -> Reply
+    ensures { reply_as result ≡ delivery_reply delivery }
+{
+    match delivery {
+        Delivery::Taken => Reply::Taken,
+        Delivery::Ignored => Reply::Ignored,
+    }
+}
+
+/// The same, with what is joined.
 fn as_delivered(delivery: Delivery, joined: Joined) -> Acted
     ensures reply { acted_reply result ≡ delivery_reply delivery }
     ensures joined { joins_in result.joined ≡ delivery_joins delivery (joins_in joined) }
@@ -246,8 +266,9 @@ impl Node {
         }
     }
 
-    /// Answers a request of a process at home at the node, or of the one who runs it.
-    pub fn request(&mut self, request: &Request, out: &mut VecDeque<Sent>) -> Result<Reply, Refusal>
+    /// Answers a request, with the reply alone. What is joined takes room, so this is a call of its own.
+    #[inline(never)]
+    fn serve_alone(&mut self, request: &Request, out: &mut VecDeque<Sent>) -> Result<Reply, Refusal>
         ensures reply { RepliesAct reply_as result self.old (ModelAct.request (request_of request.now)) }
         ensures done { IsAnswered result → self.new ≡ after self.old (ModelAct.request (request_of request.now)) }
         ensures sent { IsAnswered result → out.new.items ≡ out.old.items ++ sent_by self.old (ModelAct.request (request_of request.now)) }
@@ -257,6 +278,37 @@ impl Node {
         match self.serve(request, out) {
             Ok(acted) => Ok(acted.reply),
             Err(refusal) => Err(refusal),
+        }
+    }
+
+    /// Answers a request of a process at home at the node, or of the one who runs it.
+    pub fn request(&mut self, request: &Request, out: &mut VecDeque<Sent>) -> Result<Reply, Refusal>
+        ensures reply { RepliesAct reply_as result self.old (ModelAct.request (request_of request.now)) }
+        ensures done { IsAnswered result → self.new ≡ after self.old (ModelAct.request (request_of request.now)) }
+        ensures sent { IsAnswered result → out.new.items ≡ out.old.items ++ sent_by self.old (ModelAct.request (request_of request.now)) }
+        ensures memory { result ≡ Err refusals.NoMemory → self.new ≡ self.old }
+        ensures unsent { result ≡ Err refusals.NoMemory → out.new.items ≡ out.old.items }
+    {
+        match request {
+            Request::Ask(proc, target, key, mode) => {
+                reply_of_asked(self.ask(proc, target, key, *mode, out))
+            }
+            _ => self.serve_alone(request, out),
+        }
+    }
+
+    /// Does what is asked, as `act_into` does it, with the reply alone.
+    pub fn act(&mut self, act: &Act, out: &mut VecDeque<Sent>) -> Result<Reply, Refusal>
+        ensures reply { RepliesAct reply_as result self.old (act_of act.now) }
+        ensures done { IsAnswered result → self.new ≡ after self.old (act_of act.now) }
+        ensures sent { IsAnswered result → out.new.items ≡ out.old.items ++ sent_by self.old (act_of act.now) }
+        ensures memory { result ≡ Err refusals.NoMemory → self.new ≡ self.old }
+        ensures unsent { result ≡ Err refusals.NoMemory → out.new.items ≡ out.old.items }
+    {
+        match act {
+            Act::Request(request) => self.request(request, out),
+            Act::Commit(proc, batch) => Ok(Reply::Committed(self.commit(proc, batch, out)?)),
+            Act::Deliver(frame) => Ok(reply_of_delivery(self.deliver(frame, out)?)),
         }
     }
 }

@@ -17,6 +17,17 @@ pub fn is_registered(registry: &Registry, nspace: &Nspace) -> bool
     registry.homes(nspace).is_some()
 }
 
+/// Whether the process's namespace is registered, and whether the process is none of it then.
+pub(crate) fn look_up(registry: &Registry, proc: &Proc) -> (bool, bool)
+    ensures registered { result.0 ≡ is_registered registry.now proc.now.nspace }
+    ensures misnamed { result.1 ≡ is_misnamed registry.now proc.now }
+{
+    match registry.homes(&proc.nspace) {
+        Some(homes) => (true, homes.len() <= proc.rank.number() as usize),
+        None => (false, false),
+    }
+}
+
 /// Whether the process is one of its namespace, which is registered.
 pub(crate) fn is_member(registry: &Registry, proc: &Proc) -> bool
     ensures value { result ≡ is_member registry.now proc.now }

@@ -39,7 +39,7 @@ fn end_fences(
     id: NodeId,
     proc: &Proc,
     level: u64,
-) -> Result<(TableUndo, Vec<ToSend>), AllocError>
+) -> Result<(TableUndo<'static>, Vec<ToSend>), AllocError>
     requires node { table.old.node ≡ id }
     requires waiting { table.old.waiting ≡ [] }
     requires level { level ≤ MAX_COMMIT }
@@ -65,7 +65,7 @@ fn end_fences(
 #[derive(Drop)]
 struct EndBefore {
     sealer: Option<SealerUndo>,
-    table: TableUndo,
+    table: TableUndo<'static>,
 }
 
 /// The own process's end is taken back, if it had not ended before.

@@ -3,9 +3,10 @@ ghost use Rattle.std.specs.Prelude.{◌≡◌, false};
 ghost use Rattle.pmg_value.specs.Names.{is_reserved};
 ghost use Rattle.pmg_value.specs.declared.refusal.Refusal.TheVariants as refusals;
 ghost use Rattle.pmg_commit.specs.Data.{read_at};
+ghost use Rattle.pmg_jobinfo.specs.Jobs.{Jobs};
 ghost use Rattle.pmg_jobinfo.specs.Reserved.{is_general};
 ghost use Rattle.pmg_get.specs.Views.{outcome_of, seen_in};
-ghost use Rattle.pmg_node_model.specs.Acts.{target_cause};
+ghost use Rattle.pmg_node_model.specs.Acts.{is_misnamed, target_cause};
 ghost use Rattle.pmg_node_parts.specs.Calls.{get_of};
 ghost use Rattle.pmg_node_model.specs.Holdings.{answer_in, seen_of};
 
@@ -23,17 +24,24 @@ fn is_general(proc: &Proc) -> bool
     proc.rank.is_wildcard() || proc.rank.is_undef()
 }
 
-/// Whether a get may not ask for a key of the target, whatever is registered.
-pub fn is_bad_target(registry: &Registry, proc: &Proc, target: &Proc, key: &Key) -> bool
-    ensures { result ≡ target_cause registry.now proc.now (get_of target.now key.now) refusals.BadParam }
+/// Whether a get may not ask for a key of the target, which is misnamed or is not.
+pub(crate) fn is_bad_get(proc: &Proc, target: &Proc, key: &Key, misnamed: bool) -> bool
+    ensures { (jobs : Jobs) → misnamed ≡ is_misnamed jobs target.now → result ≡ target_cause jobs proc.now (get_of target.now key.now) refusals.BadParam }
 {
     if target.nspace.is_reserved() {
         return true;
     }
     if key.is_reserved() {
-        return !is_general(target) && is_misnamed(registry, target);
+        return !is_general(target) && misnamed;
     }
-    is_general(target) || proc.cmp(target).is_eq() || is_misnamed(registry, target)
+    is_general(target) || proc.cmp(target).is_eq() || misnamed
+}
+
+/// Whether a get may not ask for a key of the target, whatever is registered.
+pub fn is_bad_target(registry: &Registry, proc: &Proc, target: &Proc, key: &Key) -> bool
+    ensures { result ≡ target_cause registry.now proc.now (get_of target.now key.now) refusals.BadParam }
+{
+    is_bad_get(proc, target, key, is_misnamed(registry, target))
 }
 
 impl Node {

@@ -16,8 +16,8 @@ ghost use Rattle.pmg_node_model.specs.Kept.{IsSettled};
 ghost use Rattle.pmg_node.specs.Replies.{asked_reply};
 ghost use Rattle.pmg_node.specs.Servers.{reply_to, sent_by, after, Replies, IsAnswered};
 
-use crate::causes::{is_bad_caller, is_registered};
-use crate::getting::is_bad_target;
+use crate::causes::{is_bad_caller, look_up};
+use crate::getting::is_bad_get;
 use crate::node::Node;
 use pmg_get::{Answer, Mode};
 use pmg_node_model::Sent;
@@ -55,10 +55,11 @@ impl Node {
         ensures settled { IsSettled self.now.jobs self.now.id self.now.holding }
     {
         let registry = self.table.registry();
-        if is_bad_target(registry, proc, target, key) {
+        let (known, misnamed) = look_up(registry, target);
+        if is_bad_get(proc, target, key, misnamed) {
             return Err(Refusal::BadParam);
         }
-        if is_registered(registry, &target.nspace) {
+        if known {
             return self.check_free(proc);
         }
         if is_bad_caller(registry, proc) {

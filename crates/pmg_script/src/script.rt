@@ -68,40 +68,24 @@ pub fn read_line<'a>(alloc: Global, text: &'a [u8]) -> Result<Line<'a>, LineFaul
 fn read_rest<'a>(alloc: Global, word: &[u8], words: &mut Words<'a>) -> Result<Line<'a>, LineFault>
     ensures { ReadsAllWords line_of result (said_with word.now words.old) }
 {
-    if word == b"put".as_slice() {
-        read_put(alloc, words)
-    } else if word == b"commit".as_slice() {
-        read_commit(words)
-    } else if word == b"enter".as_slice() {
-        read_enter(alloc, words)
-    } else if word == b"leave".as_slice() {
-        read_leave(words)
-    } else if word == b"get".as_slice() {
-        read_get(words)
-    } else if word == b"take".as_slice() {
-        read_take(words)
-    } else if word == b"end".as_slice() {
-        read_end(words)
-    } else if word == b"deliver".as_slice() {
-        read_deliver(words)
-    } else if word == b"flow".as_slice() {
-        read_flow(words)
-    } else if word == b"nudge".as_slice() {
-        read_nudge(words)
-    } else if word == b"define".as_slice() {
-        read_define(alloc, words)
-    } else if word == b"delete".as_slice() {
-        read_delete(words)
-    } else if word == b"members".as_slice() {
-        read_members(words)
-    } else if word == b"dump".as_slice() {
-        read_dump(words)
-    } else if word == b"nodes".as_slice() {
-        read_nodes(alloc, words)
-    } else if word == b"space".as_slice() {
-        read_space(alloc, words)
-    } else {
-        Err(LineFault::Malformed)
+    match word {
+        _ if word == b"put".as_slice() => read_put(alloc, words),
+        _ if word == b"commit".as_slice() => read_commit(words),
+        _ if word == b"enter".as_slice() => read_enter(alloc, words),
+        _ if word == b"leave".as_slice() => read_leave(words),
+        _ if word == b"get".as_slice() => read_get(words),
+        _ if word == b"take".as_slice() => read_take(words),
+        _ if word == b"end".as_slice() => read_end(words),
+        _ if word == b"deliver".as_slice() => read_deliver(words),
+        _ if word == b"flow".as_slice() => read_flow(words),
+        _ if word == b"nudge".as_slice() => read_nudge(words),
+        _ if word == b"define".as_slice() => read_define(alloc, words),
+        _ if word == b"delete".as_slice() => read_delete(words),
+        _ if word == b"members".as_slice() => read_members(words),
+        _ if word == b"dump".as_slice() => read_dump(words),
+        _ if word == b"nodes".as_slice() => read_nodes(alloc, words),
+        _ if word == b"space".as_slice() => read_space(alloc, words),
+        _ => Err(LineFault::Malformed),
     }
 }
 

@@ -1,5 +1,5 @@
 //! What a line of a script asks of the world, where the names in it are judged.
-ghost use Rattle.std.specs.Prelude.{◌≡◌, ◌&&◌, IfOk, IsTrue, if◌then◌else◌};
+ghost use Rattle.std.specs.Prelude.{◌≡◌, ◌&&◌, IfOk, IsTrue, Some, if◌then◌else◌};
 ghost use Rattle.pmg_value.specs.Names.{is_key};
 ghost use Rattle.pmg_value.specs.Spelling.{spelling};
 ghost use Rattle.pmg_jobinfo.specs.Jobs.{home_of};
@@ -91,9 +91,8 @@ fn ask_put(
     scope: Scope,
     value: Value,
     key: &[u8],
-) -> Result<Asked, AllocError>
-    ensures { IfOk result (λ a. asked_of a
-        ≡ if_named (has_named_nspace proc.now && is_key key.now) (ModelEvent.put proc.now scope key.now (spelling value))) }
+) -> Result<Asked, LineFault>
+    ensures { ReadsAllWords asked_of result (Some (if_named (has_named_nspace proc.now && is_key key.now) (ModelEvent.put proc.now scope key.now (spelling value)))) }
 {
     if !is_named(proc) || !is_key_text(key) {
         return Ok(Asked::Unnamed);
@@ -104,9 +103,8 @@ fn ask_put(
 }
 
 /// `commit NS RANK`
-fn ask_commit(alloc: Global, registry: &Registry, proc: &Named<'_>) -> Result<Asked, AllocError>
-    ensures { IfOk result (λ a. asked_of a
-        ≡ if_named (has_named_nspace proc.now) (ModelEvent.commit (home_of registry.now proc.now) proc.now)) }
+fn ask_commit(alloc: Global, registry: &Registry, proc: &Named<'_>) -> Result<Asked, LineFault>
+    ensures { ReadsAllWords asked_of result (Some (if_named (has_named_nspace proc.now) (ModelEvent.commit (home_of registry.now proc.now) proc.now))) }
 {
     if !is_named(proc) {
         return Ok(Asked::Unnamed);
@@ -122,9 +120,8 @@ fn ask_enter(
     proc: &Named<'_>,
     collect: bool,
     list: &[Named<'_>],
-) -> Result<Asked, AllocError>
-    ensures { IfOk result (λ a. asked_of a
-        ≡ if_named (has_named_nspace proc.now && are_named list.now) (at_home registry.now proc.now (ModelRequest.enter proc.now list.now collect))) }
+) -> Result<Asked, LineFault>
+    ensures { ReadsAllWords asked_of result (Some (if_named (has_named_nspace proc.now && are_named list.now) (at_home registry.now proc.now (ModelRequest.enter proc.now list.now collect)))) }
 {
     if !is_named(proc) || !are_named(list) {
         return Ok(Asked::Unnamed);
@@ -137,9 +134,8 @@ fn ask_enter(
 }
 
 /// `leave NS RANK`
-fn ask_leave(alloc: Global, registry: &Registry, proc: &Named<'_>) -> Result<Asked, AllocError>
-    ensures { IfOk result (λ a. asked_of a
-        ≡ if_named (has_named_nspace proc.now) (at_home registry.now proc.now (ModelRequest.leave proc.now))) }
+fn ask_leave(alloc: Global, registry: &Registry, proc: &Named<'_>) -> Result<Asked, LineFault>
+    ensures { ReadsAllWords asked_of result (Some (if_named (has_named_nspace proc.now) (at_home registry.now proc.now (ModelRequest.leave proc.now)))) }
 {
     if !is_named(proc) {
         return Ok(Asked::Unnamed);
@@ -157,9 +153,8 @@ fn ask_get(
     mode: Mode,
     target: &Named<'_>,
     key: &[u8],
-) -> Result<Asked, AllocError>
-    ensures { IfOk result (λ a. asked_of a
-        ≡ if_named (has_named_nspace proc.now && has_named_nspace target.now && is_key key.now) (at_home registry.now proc.now (ModelRequest.ask proc.now (get_of target.now key.now) mode))) }
+) -> Result<Asked, LineFault>
+    ensures { ReadsAllWords asked_of result (Some (if_named (has_named_nspace proc.now && has_named_nspace target.now && is_key key.now) (at_home registry.now proc.now (ModelRequest.ask proc.now (get_of target.now key.now) mode)))) }
 {
     if !is_named(proc) || !is_named(target) || !is_key_text(key) {
         return Ok(Asked::Unnamed);
@@ -173,9 +168,8 @@ fn ask_get(
 }
 
 /// `take NS RANK`
-fn ask_take(alloc: Global, registry: &Registry, proc: &Named<'_>) -> Result<Asked, AllocError>
-    ensures { IfOk result (λ a. asked_of a
-        ≡ if_named (has_named_nspace proc.now) (at_home registry.now proc.now (ModelRequest.take proc.now))) }
+fn ask_take(alloc: Global, registry: &Registry, proc: &Named<'_>) -> Result<Asked, LineFault>
+    ensures { ReadsAllWords asked_of result (Some (if_named (has_named_nspace proc.now) (at_home registry.now proc.now (ModelRequest.take proc.now)))) }
 {
     if !is_named(proc) {
         return Ok(Asked::Unnamed);
@@ -186,9 +180,8 @@ fn ask_take(alloc: Global, registry: &Registry, proc: &Named<'_>) -> Result<Aske
 }
 
 /// `end NS RANK`
-fn ask_end(alloc: Global, registry: &Registry, proc: &Named<'_>) -> Result<Asked, AllocError>
-    ensures { IfOk result (λ a. asked_of a
-        ≡ if_named (has_named_nspace proc.now) (at_home registry.now proc.now (ModelRequest.terminate proc.now))) }
+fn ask_end(alloc: Global, registry: &Registry, proc: &Named<'_>) -> Result<Asked, LineFault>
+    ensures { ReadsAllWords asked_of result (Some (if_named (has_named_nspace proc.now) (at_home registry.now proc.now (ModelRequest.terminate proc.now)))) }
 {
     if !is_named(proc) {
         return Ok(Asked::Unnamed);
@@ -199,9 +192,8 @@ fn ask_end(alloc: Global, registry: &Registry, proc: &Named<'_>) -> Result<Asked
 }
 
 /// `define M`, so many pairs `NS RANK`, `NAME`
-fn ask_define(alloc: Global, list: &[Named<'_>], name: &[u8]) -> Result<Asked, AllocError>
-    ensures { IfOk result (λ a. asked_of a
-        ≡ if_named (are_named list.now && is_key name.now) (ModelEvent.request sets_node (ModelRequest.define name.now list.now))) }
+fn ask_define(alloc: Global, list: &[Named<'_>], name: &[u8]) -> Result<Asked, LineFault>
+    ensures { ReadsAllWords asked_of result (Some (if_named (are_named list.now && is_key name.now) (ModelEvent.request sets_node (ModelRequest.define name.now list.now)))) }
 {
     if !are_named(list) || !is_key_text(name) {
         return Ok(Asked::Unnamed);
@@ -212,8 +204,8 @@ fn ask_define(alloc: Global, list: &[Named<'_>], name: &[u8]) -> Result<Asked, A
 }
 
 /// `delete NAME`
-fn ask_delete(alloc: Global, name: &[u8]) -> Result<Asked, AllocError>
-    ensures { IfOk result (λ a. asked_of a ≡ if_named (is_key name.now) (ModelEvent.request sets_node (ModelRequest.delete name.now))) }
+fn ask_delete(alloc: Global, name: &[u8]) -> Result<Asked, LineFault>
+    ensures { ReadsAllWords asked_of result (Some (if_named (is_key name.now) (ModelEvent.request sets_node (ModelRequest.delete name.now)))) }
 {
     if !is_key_text(name) {
         return Ok(Asked::Unnamed);
@@ -223,8 +215,8 @@ fn ask_delete(alloc: Global, name: &[u8]) -> Result<Asked, AllocError>
 }
 
 /// `members NODE NAME`
-fn ask_members(alloc: Global, node: u64, name: &[u8]) -> Result<Asked, AllocError>
-    ensures { IfOk result (λ a. asked_of a ≡ (if is_key name.now then ModelAsked.members node name.now else ModelAsked.unnamed)) }
+fn ask_members(alloc: Global, node: u64, name: &[u8]) -> Result<Asked, LineFault>
+    ensures { ReadsAllWords asked_of result (Some (if is_key name.now then ModelAsked.members node name.now else ModelAsked.unnamed)) }
 {
     if !is_key_text(name) {
         return Ok(Asked::Unnamed);
@@ -238,21 +230,21 @@ pub(crate) fn ask(alloc: Global, registry: &Registry, line: Line<'_>) -> Result<
     ensures { ReadsAllWords asked_of result (line_asks registry.now (line_of line.entry)) }
 {
     match line {
-        Line::Put(proc, scope, value, key) => Ok(ask_put(alloc, &proc, scope, value, key)?),
-        Line::Commit(proc) => Ok(ask_commit(alloc, registry, &proc)?),
-        Line::Enter(proc, collect, list) => Ok(ask_enter(alloc, registry, &proc, collect, &list)?),
-        Line::Leave(proc) => Ok(ask_leave(alloc, registry, &proc)?),
+        Line::Put(proc, scope, value, key) => ask_put(alloc, &proc, scope, value, key),
+        Line::Commit(proc) => ask_commit(alloc, registry, &proc),
+        Line::Enter(proc, collect, list) => ask_enter(alloc, registry, &proc, collect, &list),
+        Line::Leave(proc) => ask_leave(alloc, registry, &proc),
         Line::Get(proc, mode, target, key) => {
-            Ok(ask_get(alloc, registry, &proc, mode, &target, key)?)
+            ask_get(alloc, registry, &proc, mode, &target, key)
         }
-        Line::Take(proc) => Ok(ask_take(alloc, registry, &proc)?),
-        Line::End(proc) => Ok(ask_end(alloc, registry, &proc)?),
-        Line::Define(list, name) => Ok(ask_define(alloc, &list, name)?),
-        Line::Delete(name) => Ok(ask_delete(alloc, name)?),
+        Line::Take(proc) => ask_take(alloc, registry, &proc),
+        Line::End(proc) => ask_end(alloc, registry, &proc),
+        Line::Define(list, name) => ask_define(alloc, &list, name),
+        Line::Delete(name) => ask_delete(alloc, name),
         Line::Deliver(frame) => Ok(Asked::Event(Event::Deliver(frame))),
         Line::Flow => Ok(Asked::Flow),
         Line::Nudge(node) => Ok(Asked::Event(Event::Request(node, Request::Nudge))),
-        Line::Members(node, name) => Ok(ask_members(alloc, node, name)?),
+        Line::Members(node, name) => ask_members(alloc, node, name),
         Line::Dump(node) => Ok(Asked::Dump(node)),
         Line::Nothing | Line::Nodes(_) | Line::Space(_, _) => Err(LineFault::Malformed),
     }

@@ -80,10 +80,7 @@ impl Group {
         ensures caches { self.new.caches ≡ self.old.caches }
         ensures memory { result ≡ Err refusals.NoMemory → IsSame self.old self.new }
     {
-        match self.nodes[index].act_into(act, &mut self.sent) {
-            Ok(acted) => Ok(acted.reply),
-            Err(refusal) => Err(refusal),
-        }
+        self.nodes[index].act(act, &mut self.sent)
     }
 
     /// This is asked for at the node of that index; the frames that it sends are sent.

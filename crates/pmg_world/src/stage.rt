@@ -4,6 +4,7 @@ ghost use Rattle.pmg_store.specs.declared.failure.Failure.TheVariants as failure
 ghost use Rattle.pmg_store.specs.declared.input.TheConstants.{MOST_READS};
 ghost use Rattle.pmg_value.specs.declared.refusal.Refusal.TheVariants as refusals;
 ghost use Rattle.pmg_script.specs.Replays.{Replayed};
+ghost use Rattle.pmg_world.specs.Accounts.{Account};
 ghost use Rattle.pmg_script.specs.Scripts.{line_of, texts};
 ghost use Rattle.pmg_world.specs.Stages.{OpensAt, PlaysLine, RegistersAt, Runs, RunsAt, StopsLine, AsksNothing, is_over, ok_line, refused_line};
 ghost use Rattle.pmg_script.specs.declared.lines.LineFault.TheVariants as faults;
@@ -131,6 +132,22 @@ impl Stage {
         }
     }
 
+    /// Starts the world, and does the first line that asks something of it. A call of its own, since a world that is made takes room.
+    #[inline(never)]
+    fn start(&mut self, line: Line<'_>) -> Result<Vec<u8>, LineFault>
+        requires { (w : Account) → self.old ≡ phases.Running w → ⊥ }
+        ensures ok { IfOk result (λ text. RunsAt self.old (line_of line.entry) text.items self.new) }
+        ensures malformed { result ≡ Err faults.Malformed → (text : List ℕ) (v : AnyPhase) → RunsAt self.old (line_of line.entry) text v → ⊥ }
+    {
+        let Phase::Registering(registry) = &self.phase else {
+            return Err(LineFault::Malformed);
+        };
+        let mut scene = Scene::new(self.alloc, registry)?;
+        let text = run_line(self.alloc, &mut scene, line)?;
+        self.phase = Phase::Running(scene);
+        Ok(text)
+    }
+
     /// Does a line that asks something of the world, and starts it where it does not run.
     fn run(&mut self, line: Line<'_>) -> Result<Vec<u8>, LineFault>
         ensures ok { IfOk result (λ text. RunsAt self.old (line_of line.entry) text.items self.new) }
@@ -138,13 +155,7 @@ impl Stage {
     {
         match &mut self.phase {
             Phase::Running(scene) => run_line(self.alloc, scene, line),
-            Phase::Registering(registry) => {
-                let mut scene = Scene::new(self.alloc, registry)?;
-                let text = run_line(self.alloc, &mut scene, line)?;
-                self.phase = Phase::Running(scene);
-                Ok(text)
-            }
-            _ => Err(LineFault::Malformed),
+            _ => self.start(line),
         }
     }
 }

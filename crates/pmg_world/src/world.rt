@@ -119,10 +119,8 @@ impl World {
         if is_short(&answer) {
             return Err(AllocError);
         }
-        match self.told.push(LoggedEvent { event, answer }) {
-            Ok(()) => Ok(()),
-            Err(_) => unreachable!(),
-        }
+        self.told.push_reserved(LoggedEvent { event, answer });
+        Ok(())
     }
 
     /// These events happen, one after another. Where an allocation fails, it is told how many of them happened.

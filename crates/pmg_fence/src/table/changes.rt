@@ -32,25 +32,28 @@ impl Table {
     /// entry has to be the process's next of the signature. Where this completes the node's header, that waits to be taken. Of an
     /// old fence an entry is counted, and nothing else is kept. Nothing is forgotten yet: that is a call of its own, `forget`,
     /// which cannot be taken back.
-    pub fn note(&mut self, name: &FenceName, change: Change) -> Result<TableUndo, AllocError>
+    pub fn note<'a>(
+        &mut self,
+        name: &'a FenceName,
+        change: Change,
+    ) -> Result<TableUndo<'a>, AllocError>
         requires { CanChange self.old.fences name.now change }
         ensures before { IfOk result (λ b. table_back self.new b ≡ self.old) }
         ensures fits { IfOk result (λ b. CanRollTableBack self.new b) }
         ensures ok { OnOk result (self.new ≡ fence_changed_at self.old name.now (noted_by self.old.fences name.now change)) }
         ensures err { OnErr result (self.new ≡ self.old) }
     {
-        let kept = name.copy()?;
         let line = line_of(&change)?;
         let waiting = self.waiting.len();
         let before = self.change(name.signature(), name.instance(), line.as_ref(), change)?;
         Ok(TableUndo {
             waiting,
-            change: ChangeBefore::Fence(kept, before),
+            change: ChangeBefore::Fence(name, before),
         })
     }
 
     /// The process ends, as `gone` tells, and what there was before is told, by which it can be taken back.
-    pub fn end(&mut self, proc: &Proc, level: u64) -> Result<TableUndo, AllocError>
+    pub fn end(&mut self, proc: &Proc, level: u64) -> Result<TableUndo<'static>, AllocError>
         requires { level ≤ MAX_COMMIT }
         ensures before { IfOk result (λ b. table_back self.new b ≡ self.old) }
         ensures fits { IfOk result (λ b. CanRollTableBack self.new b) }
@@ -80,9 +83,9 @@ impl Table {
 
     /// Takes a change back, by what there was before; of the own headers that wait, only so many are left as waited then. It
     /// takes no memory.
-    pub fn rollback(&mut self, before: TableUndo)
+    pub fn rollback(&mut self, before: TableUndo<'_>)
         requires { CanRollTableBack self.old before }
-        ensures { self.new ≡ table_back self.old before }
+        ensures { self.new ≡ table_back self.old before.entry }
     {
         self.waiting.truncate(before.waiting);
         match &before.change {

@@ -1,9 +1,7 @@
 //! What is taken back: a table says of two fences what it said before the change.
-ghost use Rattle.pmg_fence.specs.TakenBack.{CanRollTableBack};
-
 use super::{Meeting, table};
 use crate::making::{MEMORY, process};
-use pmg_fence::{Change, Table, TableUndo};
+use pmg_fence::{Change, Table};
 use pmg_frame::{FenceName, Header};
 use pmg_value::NodeId;
 use std::process::Abort;
@@ -51,31 +49,24 @@ pub(super) fn waiting(rt: &impl Abort, table: &Table) -> u64 {
     table.copy().expect(rt, MEMORY).take_headers().len() as u64
 }
 
-fn note_entry(rt: &impl Abort, table: &mut Table, meeting: Meeting, rank: u32) -> TableUndo
-    ensures { CanRollTableBack table.new result }
-{
+// What is seen with the entry, and once it is taken back.
+fn enters_and_back(rt: &impl Abort, table: &mut Table, meeting: Meeting) -> [Seen; 2] {
     let signature = meeting.signature(rt);
-    let proc = process(rt, meeting.alloc, rank);
+    let proc = process(rt, meeting.alloc, 0);
     let count = table.count(&signature, &proc);
     assert!(rt; count < 10);
     let name = FenceName::from_checked(signature, count + 1);
-    table
+    let before = table
         .note(&name, Change::Entered(proc, 1))
-        .expect(rt, MEMORY)
-}
-
-// What is seen with the entry, and once it is taken back.
-fn enters_and_back(rt: &impl Abort, table: &mut Table, meeting: Meeting) -> [Seen; 2] {
-    let before = note_entry(rt, table, meeting, 0);
+        .expect(rt, MEMORY);
     let there = look_at(rt, table, meeting);
     table.rollback(before);
     [there, look_at(rt, table, meeting)]
 }
 
 fn learns_and_back(rt: &impl Abort, table: &mut Table, meeting: Meeting) -> [Seen; 2] {
-    let before = table
-        .note(&meeting.name(rt, 2), Change::Learned)
-        .expect(rt, MEMORY);
+    let name = meeting.name(rt, 2);
+    let before = table.note(&name, Change::Learned).expect(rt, MEMORY);
     let there = look_at(rt, table, meeting);
     table.rollback(before);
     [there, look_at(rt, table, meeting)]
@@ -87,9 +78,8 @@ fn is_told_and_back(
     meeting: Meeting,
     header: Header,
 ) -> [Seen; 2] {
-    let before = table
-        .note(&meeting.name(rt, 1), Change::Told(header))
-        .expect(rt, MEMORY);
+    let name = meeting.name(rt, 1);
+    let before = table.note(&name, Change::Told(header)).expect(rt, MEMORY);
     let there = look_at(rt, table, meeting);
     table.rollback(before);
     [there, look_at(rt, table, meeting)]

@@ -119,9 +119,8 @@ fn an_entry_into_an_old_instance_is_counted(rt: HostRuntime) {
 
 // Which fences are old where the fourth is noted, and which are there; and the same once that is taken back.
 fn notes_and_back(rt: &impl Abort, table: &mut Table, meeting: Meeting) -> [[bool; 4]; 4] {
-    let before = table
-        .note(&meeting.name(rt, 4), Change::Learned)
-        .expect(rt, MEMORY);
+    let name = meeting.name(rt, 4);
+    let before = table.note(&name, Change::Learned).expect(rt, MEMORY);
     let old = olds(rt, table, meeting);
     let there = names(rt, table, meeting);
     table.rollback(before);

@@ -7,39 +7,39 @@ use Rattle.pmg_node.specs.Servers.{Server, IsNode}
 use Rattle.pmg_node.proofs.AskLemmas.{ask_bad, ask_known}
 use Rattle.pmg_node.proofs.node.Node.check_target.Goals as goal
 
-pub returns-then-is_bad_target-clause-value : goal.returns-then-is_bad_target-clause-value
-returns-then-is_bad_target-clause-value c =
+pub returns-then-is_bad_get-clause-value : goal.returns-then-is_bad_get-clause-value
+returns-then-is_bad_get-clause-value c =
     let s = c.args.self.now in
     let get = get_of c.args.target.now c.args.key.now in
     let bad : target_cause s.jobs c.args.proc.now get refusals.BadParam ≡ true =
     ap (λ (x : Server). target_cause x.jobs c.args.proc.now get refusals.BadParam) (sym c.self.view_is)
     ∙ ap (λ (j : Jobs). target_cause j c.args.proc.now get refusals.BadParam) (sym c.registry-registry.ensures)
-    ∙ sym c.is_bad_target.ensures
-    ∙ c.if-is_bad_target.true in
+    ∙ sym (c.is_bad_get.ensures c.registry-registry.result.now c.look_up-known.ensures.misnamed)
+    ∙ c.if-is_bad_get.true in
     sym (ask_bad s.jobs s.id s.holding c.args.proc.now get bad)
 
-pub returns-then-is_bad_target-clause-settled : goal.returns-then-is_bad_target-clause-settled
-returns-then-is_bad_target-clause-settled c = (subst IsNode c.self.view_is c.self.invariant.node).server.settled
+pub returns-then-is_bad_get-clause-settled : goal.returns-then-is_bad_get-clause-settled
+returns-then-is_bad_get-clause-settled c = (subst IsNode c.self.view_is c.self.invariant.node).server.settled
 
-pub returns-then-is_registered-clause-value : goal.returns-then-is_registered-clause-value
-returns-then-is_registered-clause-value c =
+pub returns-then-known-clause-value : goal.returns-then-known-clause-value
+returns-then-known-clause-value c =
     let s = c.args.self.now in
     let space = c.args.target.now.nspace in
     let known : is_registered s.jobs space ≡ true =
     ap (λ (x : Server). is_registered x.jobs space) (sym c.self.view_is)
     ∙ ap (λ (j : Jobs). is_registered j space) (sym c.registry-registry.ensures)
-    ∙ sym c.is_registered.ensures
-    ∙ c.if-is_registered.true in
+    ∙ sym c.look_up-known.ensures.registered
+    ∙ c.if-known.true in
     let get = get_of c.args.target.now c.args.key.now in
     let good : target_cause s.jobs c.args.proc.now get refusals.BadParam ≡ false =
     ap (λ (x : Server). target_cause x.jobs c.args.proc.now get refusals.BadParam) (sym c.self.view_is)
     ∙ ap (λ (j : Jobs). target_cause j c.args.proc.now get refusals.BadParam) (sym c.registry-registry.ensures)
-    ∙ sym c.is_bad_target.ensures
-    ∙ c.if-is_bad_target.false in
+    ∙ sym (c.is_bad_get.ensures c.registry-registry.result.now c.look_up-known.ensures.misnamed)
+    ∙ c.if-is_bad_get.false in
     c.check_free.ensures ∙ sym (ask_known s.jobs s.id s.holding c.args.proc.now get good known)
 
-pub returns-then-is_registered-clause-settled : goal.returns-then-is_registered-clause-settled
-returns-then-is_registered-clause-settled c = (subst IsNode c.self.view_is c.self.invariant.node).server.settled
+pub returns-then-known-clause-settled : goal.returns-then-known-clause-settled
+returns-then-known-clause-settled c = (subst IsNode c.self.view_is c.self.invariant.node).server.settled
 
 pub returns-then-is_bad_caller-clause-settled : goal.returns-then-is_bad_caller-clause-settled
 returns-then-is_bad_caller-clause-settled c = (subst IsNode c.self.view_is c.self.invariant.node).server.settled

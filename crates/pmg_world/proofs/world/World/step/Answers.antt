@@ -52,10 +52,10 @@ returns-then-is_short-clause-goes_on c =
     ∙ ap (account_of c.self.inside.group) c.reserve.ensures.items ∙ c.self.view_is)
 
 -- the event, with its answer, is told
-led_after : (c : goal.In-Ok) → IsLed c.happen-answer.new.self c.push.new.self.items
+led_after : (c : goal.After-push_reserved) → IsLed c.happen-answer.new.self c.push_reserved.new.self.items
 led_after c =
     let t : LoggedEvent = record { event = c.args.event; answer = c.happen-answer.result } in
-    subst (IsLed c.happen-answer.new.self) (sym c.in-Ok.ensures.items)
+    subst (IsLed c.happen-answer.new.self) (sym c.push_reserved.ensures.items)
     (led_more c.self.inside.group c.happen-answer.new.self c.reserve.new.self.items t c.happen-answer.result (subst (IsLed c.self.inside.group) (sym c.reserve.ensures.items) c.self.invariant)
     (c.is_short.ensures.answered c.if-is_short.false) refl c.happen-answer.ensures.step)
 
@@ -71,14 +71,14 @@ returns-clause-jobs c =
 pub returns-clause-told : goal.returns-clause-told
 returns-clause-told c =
     let t : LoggedEvent = record { event = c.args.event; answer = c.happen-answer.result } in
-    adds_one c.args.self.now.told c.args.event t c.push.new.self.items
-    (c.in-Ok.ensures.items ∙ ap (λ (l : List LoggedEvent). l ++ t ∷ []) (c.reserve.ensures.items ∙ ap (λ (a : Account). a.told) c.self.view_is)) refl
+    adds_one c.args.self.now.told c.args.event t c.push_reserved.new.self.items
+    (c.push_reserved.ensures.items ∙ ap (λ (l : List LoggedEvent). l ++ t ∷ []) (c.reserve.ensures.items ∙ ap (λ (a : Account). a.told) c.self.view_is)) refl
 
 pub returns-clause-run : goal.returns-clause-run
-returns-clause-run c = led_run c.happen-answer.new.self c.push.new.self.items (led_after c)
+returns-clause-run c = led_run c.happen-answer.new.self c.push_reserved.new.self.items (led_after c)
 
 pub returns-clause-lawful : goal.returns-clause-lawful
-returns-clause-lawful c = led_kept c.happen-answer.new.self c.push.new.self.items (led_after c)
+returns-clause-lawful c = led_kept c.happen-answer.new.self c.push_reserved.new.self.items (led_after c)
 
 pub returns-clause-goes_on : goal.returns-clause-goes_on
 returns-clause-goes_on c =
@@ -87,5 +87,5 @@ returns-clause-goes_on c =
     led_goes_on c.self.inside.group c.happen-answer.new.self c.reserve.new.self.items t c.happen-answer.result (subst (IsLed c.self.inside.group) (sym c.reserve.ensures.items) c.self.invariant)
     (c.is_short.ensures.answered c.if-is_short.false) refl c.happen-answer.ensures.step in
     let same = ap (account_of c.self.inside.group) c.reserve.ensures.items ∙ c.self.view_is in
-    subst (λ (a : Account). GoesOn a (account_of c.happen-answer.new.self c.push.new.self.items)) same
-    (subst (λ (l : List LoggedEvent). GoesOn (account_of c.self.inside.group c.reserve.new.self.items) (account_of c.happen-answer.new.self l)) (sym c.in-Ok.ensures.items) on)
+    subst (λ (a : Account). GoesOn a (account_of c.happen-answer.new.self c.push_reserved.new.self.items)) same
+    (subst (λ (l : List LoggedEvent). GoesOn (account_of c.self.inside.group c.reserve.new.self.items) (account_of c.happen-answer.new.self l)) (sym c.push_reserved.ensures.items) on)
