@@ -7,6 +7,7 @@ pub mod Joining
 pub mod PieceFacts
 pub mod ReadLaws
 pub mod Rules
+pub mod SameEntries
 pub mod SealerFacts
 pub mod SealerLaws
 pub mod StampLemmas

@@ -1,7 +1,7 @@
 -- Entries: what a commit left under a key, and which of two counts.
-use Rattle.std.specs.Prelude.{ℕ, Bool, ◌&&◌, ◌||◌, ◌==◌, nat_lt, nat_le, List, Option, Some, None, if◌then◌else◌, refl}
-use Rattle.std.specs.Ordering.{nat_cmp, ordering_then, is_lt}
-use Rattle.std.specs.Cmp.Lexicographic.{slice_cmp}
+use Rattle.std.specs.Prelude.{ℕ, Bool, ◌&&◌, ◌||◌, ◌==◌, nat_eq, nat_lt, nat_le, List, Option, Some, None, if◌then◌else◌, refl}
+use Rattle.std.specs.Ordering.{nat_cmp, ordering_then, is_eq, is_lt}
+use Rattle.std.specs.Cmp.Lexicographic.{slice_cmp, pointwise}
 use Rattle.std.specs.Str.{bytes_eq}
 use Rattle.std.specs.declared.cmp.Ordering.{Ordering}
 use Rattle.std.specs.Coded.{Coded, code_by, coded×, coded_list, coded_ℕ}
@@ -22,6 +22,10 @@ abbrev pub coded_entry : Coded Entry
 coded_entry =
     code_by (List ℕ × (ℕ × List ℕ)) (coded× (coded_list coded_ℕ) (coded× coded_ℕ (coded_list coded_ℕ))) (λ e. (e.key, (e.number, e.bytes)))
     (λ t. record { key = t.0; number = t.1.0; bytes = t.1.1 }) (λ _. refl)
+
+-- the entries are one
+abbrev pub is_same_entry : Entry → Entry → Bool
+is_same_entry e f = pointwise nat_eq e.key f.key && (e.number == f.number && is_eq (slice_cmp nat_cmp e.bytes f.bytes))
 
 -- f is later than e: of a greater number, or of the same number with the greater bytes
 abbrev pub is_later : Entry → Entry → Bool

@@ -120,7 +120,7 @@ impl Model for Piece {
 }
 
 /// Whether the keys rise strictly.
-fn are_keys_rising(entries: &[PieceEntry]) -> bool
+pub fn are_keys_rising(entries: &[PieceEntry]) -> bool
     ensures { result ≡ is_chain is_key_rising (map entry_of entries.now) }
 {
     for i in 1..entries.len() {
@@ -132,7 +132,7 @@ fn are_keys_rising(entries: &[PieceEntry]) -> bool
 }
 
 /// Whether each entry is of one of the commits from+1 to to.
-fn are_numbered(from: u64, to: u64, entries: &[PieceEntry]) -> bool
+pub fn are_numbered(from: u64, to: u64, entries: &[PieceEntry]) -> bool
     ensures { result ≡ list_all (is_numbered from to) (map entry_of entries.now) }
 {
     for entry in entries {

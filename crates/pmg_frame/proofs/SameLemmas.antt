@@ -1,20 +1,20 @@
 -- The tests of sameness decide whether what two frames say is one.
 use Rattle.std.proofs.Common.{◌≡◌, ℕ, ◌==◌, ◌&&◌, nat_eq, List, refl, ap, ◌∙◌}
 use Rattle.std.specs.Bool.{Decides}
-use Rattle.std.specs.Cmp.Lexicographic.{slice_cmp, nat_list_cmp_total, pointwise, pointwise_decides, bytes_decides}
-use Rattle.std.specs.Ordering.{nat_cmp, is_eq, eq_by_cmp}
+use Rattle.std.specs.Cmp.Lexicographic.{pointwise, pointwise_decides, bytes_decides}
+use Rattle.std.specs.Ordering.{eq_by_cmp}
 use Rattle.std.proofs.lemmas.Bool.Decides.{Decides-eqb, Decides-and, Decides-like}
-use Rattle.std.proofs.lemmas.Map.Lookups.{exact_bytes}
 use Rattle.pmg_value.proofs.SameLemmas.{by_cmp}
 use Rattle.pmg_value.specs.Signatures.{FenceName}
 use Rattle.pmg_value.specs.Process.{is_same_proc}
 use Rattle.pmg_value.specs.declared.process.Proc.{Proc}
-use Rattle.pmg_commit.specs.Entries.{Entry}
+use Rattle.pmg_commit.specs.Entries.{Entry, is_same_entry}
+use Rattle.pmg_commit.proofs.SameEntries.{same_entries}
 use Rattle.pmg_commit.specs.Knowledge.{Contribution}
 use Rattle.pmg_frame.specs.FenceOrder.{name_cmp, name_total}
 use Rattle.pmg_frame.specs.Fences.{Header, FenceAsk}
 use Rattle.pmg_frame.specs.Refreshing.{RefreshReply}
-use Rattle.pmg_frame.specs.Sameness.{is_same_entry, is_same_piece, is_same_header, is_same_fence_ask, is_same_refresh_reply}
+use Rattle.pmg_frame.specs.Sameness.{is_same_piece, is_same_header, is_same_fence_ask, is_same_refresh_reply}
 use Rattle.pmg_frame.specs.contracts.local.LocalPartialEq.TheImpl as local_tests
 use Rattle.pmg_frame.specs.contracts.local.StatePartialEq.TheImpl as state_tests
 use Rattle.pmg_frame.specs.declared.local.Local.{Local}
@@ -29,17 +29,6 @@ same_procs p q =
     ap (λ (n : List ℕ). record { nspace = n; rank = p.rank }) h.0 ∙ ap (λ (r : ℕ). record { nspace = q.nspace; rank = r }) h.1 in
     Decides-like _ forth (λ e. (ap (λ (x : Proc). x.nspace) e, ap (λ (x : Proc). x.rank) e))
     (Decides-and (pointwise nat_eq p.nspace q.nspace) (nat_eq p.rank q.rank) (bytes_decides p.nspace q.nspace) (Decides-eqb p.rank q.rank))
-
-pub same_entries : (e f : Entry) → Decides (is_same_entry e f) (e ≡ f)
-same_entries e f =
-    let forth : (e.key ≡ f.key) × ((e.number ≡ f.number) × (e.bytes ≡ f.bytes)) → e ≡ f = λ h.
-    ap (λ (k : List ℕ). record { key = k; number = e.number; bytes = e.bytes }) h.0
-    ∙ ap (λ (n : ℕ). record { key = f.key; number = n; bytes = e.bytes }) h.1.0
-    ∙ ap (λ (b : List ℕ). record { key = f.key; number = f.number; bytes = b }) h.1.1 in
-    Decides-like _ forth (λ x. (ap (λ (z : Entry). z.key) x, (ap (λ (z : Entry). z.number) x, ap (λ (z : Entry). z.bytes) x)))
-    (Decides-and (pointwise nat_eq e.key f.key) (e.number == f.number && is_eq (slice_cmp nat_cmp e.bytes f.bytes)) (bytes_decides e.key f.key)
-    (Decides-and (e.number == f.number) (is_eq (slice_cmp nat_cmp e.bytes f.bytes)) (Decides-eqb e.number f.number)
-    (by_cmp (slice_cmp nat_cmp) nat_list_cmp_total exact_bytes e.bytes f.bytes)))
 
 pub same_pieces : (c d : Contribution) → Decides (is_same_piece c d) (c ≡ d)
 same_pieces c d =

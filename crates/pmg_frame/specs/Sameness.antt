@@ -1,18 +1,14 @@
 -- Whether what two frames say is one, field by field.
-use Rattle.std.specs.Prelude.{Bool, ◌&&◌, ◌==◌, nat_eq}
-use Rattle.std.specs.Cmp.Lexicographic.{slice_cmp, pointwise}
-use Rattle.std.specs.Ordering.{nat_cmp, is_eq, eq_by_cmp}
+use Rattle.std.specs.Prelude.{Bool, ◌&&◌, ◌==◌}
+use Rattle.std.specs.Cmp.Lexicographic.{pointwise}
+use Rattle.std.specs.Ordering.{eq_by_cmp}
 use Rattle.pmg_value.specs.Process.{is_same_proc}
-use Rattle.pmg_commit.specs.Entries.{Entry}
+use Rattle.pmg_commit.specs.Entries.{is_same_entry}
 use Rattle.pmg_commit.specs.Knowledge.{Contribution}
 use Rattle.pmg_frame.specs.FenceOrder.{name_cmp}
 use Rattle.pmg_frame.specs.Fences.{Header, FenceAsk, CommitAsk}
 use Rattle.pmg_frame.specs.Refreshing.{RefreshAsk, RefreshReply}
 use Rattle.pmg_frame.specs.contracts.local.LocalPartialEq.TheImpl as local_tests
-
--- the entries are one
-abbrev pub is_same_entry : Entry → Entry → Bool
-is_same_entry e f = pointwise nat_eq e.key f.key && (e.number == f.number && is_eq (slice_cmp nat_cmp e.bytes f.bytes))
 
 -- the contributions are one
 abbrev pub is_same_piece : Contribution → Contribution → Bool

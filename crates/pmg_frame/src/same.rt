@@ -1,35 +1,11 @@
 //! Whether two frames are one: they say the same.
-ghost use Rattle.std.specs.Prelude.{◌≡◌, map};
-ghost use Rattle.std.specs.Cmp.Lexicographic.{pointwise};
-ghost use Rattle.pmg_commit.specs.Pieces.{entry_of};
-ghost use Rattle.pmg_frame.specs.Sameness.{is_same_entry, is_same_piece, is_same_header, is_same_fence_ask, is_same_commit_ask, is_same_refresh_ask, is_same_refresh_reply};
+ghost use Rattle.std.specs.Prelude.{◌≡◌};
+ghost use Rattle.pmg_frame.specs.Sameness.{is_same_piece, is_same_header, is_same_fence_ask, is_same_commit_ask, is_same_refresh_ask, is_same_refresh_reply};
 
 use crate::asks::{CommitAsk, FenceAsk};
 use crate::header::Header;
 use crate::refreshes::{RefreshAsk, RefreshReply};
-use pmg_commit::{Piece, PieceEntry};
-
-/// Whether the entries are one.
-fn is_same_entry(entry: &PieceEntry, other: &PieceEntry) -> bool
-    ensures { result ≡ is_same_entry (entry_of entry.now) (entry_of other.now) }
-{
-    entry.key == other.key && entry.number == other.number && entry.value.cmp(&other.value).is_eq()
-}
-
-/// Whether the entries are one, each with each.
-fn are_same_entries(entries: &[PieceEntry], others: &[PieceEntry]) -> bool
-    ensures { result ≡ pointwise is_same_entry (map entry_of entries.now) (map entry_of others.now) }
-{
-    if entries.len() != others.len() {
-        return false;
-    }
-    for i in 0..entries.len() {
-        if !is_same_entry(&entries[i], &others[i]) {
-            return false;
-        }
-    }
-    true
-}
+use pmg_commit::{Piece, are_same_entries};
 
 /// Whether the contributions are one.
 pub fn is_same_piece(piece: &Piece, other: &Piece) -> bool

@@ -1,6 +1,6 @@
 -- What is known by what is kept.
-use Rattle.std.proofs.Common.{arith, ℕ, List, [], ◌∷◌, ◌≡◌, ◌<◌, ◌≤◌, inl, inr, refl, sym, ap, ◌∙◌, subst}
-use Rattle.std.specs.Prelude.{Option, Some, None, IfSome, IsSome}
+use Rattle.std.proofs.Common.{ℕ, List, [], ◌∷◌, ◌++◌, ◌≡◌, inl, inr, refl, sym, ap, ◌∙◌, subst}
+use Rattle.std.specs.Prelude.{Option, Some, None, IsSome}
 use Rattle.std.specs.Option.{option_map, option_to_list}
 use Rattle.std.specs.List.{flat_map}
 use Rattle.std.specs.Cmp.Lexicographic.{slice_cmp}
@@ -10,18 +10,19 @@ use Rattle.std.proofs.lemmas.Map.Lookups.{exact_bytes}
 use Rattle.pmg_value.specs.Lists.{In}
 use Rattle.pmg_value.proofs.ListLemmas.{in_parts, in_append_left, in_append_right}
 use Rattle.pmg_value.proofs.RowLemmas.{key_there}
-use Rattle.pmg_value.proofs.SetLemmas.{in_from_list, from_list_in, same_members}
+use Rattle.pmg_value.proofs.SetLemmas.{in_from_list, from_list_in}
 use Rattle.pmg_commit.specs.Entries.{Entry}
-use Rattle.pmg_commit.specs.EntryOrder.{entries_total, exact_entries, Superseded, superseded_itself}
+use Rattle.pmg_commit.specs.EntryOrder.{entries_total, exact_entries}
 use Rattle.pmg_commit.specs.Levels.{level}
-use Rattle.pmg_commit.specs.Knowledge.{core}
-use Rattle.pmg_commit.specs.CoreLaws.{Has, same_knowledge, core_keeps, kept_in_core, numbers-core}
+use Rattle.pmg_commit.specs.CoreLaws.{Has}
 use Rattle.pmg_lane.specs.Places.{placed}
-use Rattle.pmg_lane.specs.Entries.{late_cmp, read_under, late_at, entry_under, late_entry, HasEntry, ReadsWithin, LatePast, late_list, entries_list}
-use Rattle.pmg_lane.specs.Lanes.{known_by, level_of}
+use Rattle.pmg_lane.specs.Entries.{late_cmp, read_under, late_at, entry_under, late_entry, HasEntry, late_list, entries_list}
+use Rattle.pmg_lane.specs.Merged.{merged_knowledge, merged_level}
+use Rattle.pmg_lane.specs.Waiting.{IsStocked, waiting_list}
+use Rattle.pmg_lane.proofs.Waits.{listed_waits, waits_listed}
 use Rattle.pmg_lane.specs.declared.entries.Entries.{Entries}
-use Rattle.pmg_lane.specs.declared.track.Track.{Track}
-use Rattle.pmg_lane.proofs.Settling.{exact_late, key_read, key_late, some_is}
+use Rattle.pmg_lane.specs.declared.merged.Merged.{Merged}
+use Rattle.pmg_lane.proofs.Settling.{exact_late, key_read, key_late}
 
 -- ---- entries in a list
 of_option : {A : Type 0} (x : A) (o : Option A) → In x (option_to_list o) → o ≡ Some x
@@ -73,46 +74,20 @@ entries_in a e (inl h) =
     (options_in (read_under a) (keys a.reads) e e.key (key_there exact_bytes a.reads.entries e.key (has_place (entry_under e.key) (get (slice_cmp nat_cmp) a.reads e.key) e h)) h)
 entries_in a e (inr h) = in_append_right (flat_map (λ key. option_to_list (read_under a key)) (keys a.reads)) _ e (late_listed a e h)
 
-pub has_holds : (t : Track) (e : Entry) → Has (known_by t) e → HasEntry t.entries e
-unfolding known_by
-has_holds t e h = in_entries t.entries e (in_from_list entries_total exact_entries (entries_list t.entries) e h)
+pub has_holds : (t : Merged) (e : Entry) → Has (merged_knowledge t) e → IsStocked t.entries t.waiting.lists e
+unfolding merged_knowledge
+has_holds t e h = elim (in_parts (entries_list t.entries) (waiting_list t.waiting.lists) e (in_from_list entries_total exact_entries (entries_list t.entries ++ waiting_list t.waiting.lists) e h)) [
+  | inl kept ↦ inl (in_entries t.entries e kept)
+  | inr waits ↦ inr (listed_waits t.waiting.lists e waits)
+]
 
-pub holds_has : (t : Track) (e : Entry) → HasEntry t.entries e → Has (known_by t) e
-unfolding known_by
-holds_has t e h = from_list_in entries_total exact_entries (entries_list t.entries) e (entries_in t.entries e h)
+pub holds_has : (t : Merged) (e : Entry) → IsStocked t.entries t.waiting.lists e → Has (merged_knowledge t) e
+unfolding merged_knowledge
+holds_has t e h = from_list_in entries_total exact_entries (entries_list t.entries ++ waiting_list t.waiting.lists) e (elim h [
+  | inl kept ↦ in_append_left (entries_list t.entries) (waiting_list t.waiting.lists) e (entries_in t.entries e kept)
+  | inr waits ↦ in_append_right (entries_list t.entries) (waiting_list t.waiting.lists) e (waits_listed t.waiting.lists e waits)
+])
 
-pub level_known : (t : Track) → level (known_by t).numbers ≡ level_of t
-unfolding known_by level_of
+pub level_known : (t : Merged) → level (merged_knowledge t).numbers ≡ merged_level t
+unfolding merged_knowledge merged_level
 level_known t = refl
-
--- ---- the core
--- no entry of those that are read up to the level and late past it is superseded
-pub none_superseded :
-    (a : Entries) (level : ℕ) → ReadsWithin level a → LatePast level a → (e f : Entry) → HasEntry a e → HasEntry a f → Superseded level e f → ⊥
-none_superseded a level within past e f (inl r) (inl s) sup =
-    superseded_itself level e (subst (Superseded level e) (some_is (sym s ∙ ap (read_under a) (sym sup.0.0) ∙ r)) sup)
-none_superseded a level within past e f (inl r) (inr s) sup =
-    let up : e.number ≤ level = subst (λ o. IfSome o (λ e. e.number ≤ level)) r (within e.key) in
-    let over : level < f.number = subst (λ o. IfSome o (λ _. level < f.number)) s (past (f.number, f.key)) in
-    elim sup.1 [ inl le ↦ omega (arith, le, over) | inr eq ↦ omega (arith, eq, up, over) ]
-none_superseded a level within past e f (inr r) (inl s) sup =
-    let over : level < e.number = subst (λ o. IfSome o (λ _. level < e.number)) r (past (e.number, e.key)) in
-    let up : f.number ≤ level = subst (λ o. IfSome o (λ e. e.number ≤ level)) s (within f.key) in
-    elim sup.0.1 [ inl less ↦ omega (arith, less, up, over) | inr eq ↦ omega (arith, eq.0, up, over) ]
-none_superseded a level within past e f (inr r) (inr s) sup =
-    let over : level < f.number = subst (λ o. IfSome o (λ _. level < f.number)) s (past (f.number, f.key)) in
-    elim sup.1 [
-      | inl le ↦ omega (arith, le, over)
-      | inr eq ↦ superseded_itself level e (subst (Superseded level e) (some_is (sym s ∙ ap (late_at a) (λ i. (sym eq i, sym sup.0.0 i)) ∙ r)) sup)
-    ]
-
-pub is_core_of : (t : Track) → ReadsWithin (level_of t) t.entries → LatePast (level_of t) t.entries → core (known_by t) ≡ known_by t
-is_core_of t within past =
-    same_knowledge (core (known_by t)) (known_by t) (numbers-core (known_by t))
-    (same_members entries_total exact_entries (core (known_by t)).entries (known_by t).entries
-    (λ e h. (core_keeps (known_by t) e h).0)
-    (λ e h. kept_in_core (known_by t) e (
-      h,
-      λ f has sup.
-          none_superseded t.entries (level_of t) within past e f (has_holds t e h) (has_holds t f has) (subst (λ n. Superseded n e f) (level_known t) sup),
-    )))

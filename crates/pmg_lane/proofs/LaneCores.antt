@@ -5,12 +5,12 @@ use Rattle.pmg_commit.specs.Entries.{Entry}
 use Rattle.pmg_commit.specs.Levels.{level}
 use Rattle.pmg_commit.specs.Knowledge.{Contribution, Knowledge, nothing, union, core, knowledge_of, numbers_between}
 use Rattle.pmg_commit.specs.Cores.{Core, core_of, join_cores, same_core}
-use Rattle.pmg_commit.specs.CoreLaws.{numbers-core}
+use Rattle.pmg_commit.specs.CoreLaws.{numbers-core, core-union_left}
 use Rattle.pmg_commit.proofs.Joining.{core_of_union, union_nothing, core-nothing}
-use Rattle.pmg_lane.specs.Lanes.{known_by, level_of, told}
+use Rattle.pmg_lane.specs.Lanes.{known_by, level_of}
+use Rattle.pmg_lane.specs.Merged.{told}
 use Rattle.pmg_lane.specs.declared.track.Track.{Track}
-use Rattle.pmg_lane.proofs.Knowing.{level_known}
-use Rattle.pmg_lane.proofs.Tracking.{told_numbers}
+use Rattle.pmg_lane.proofs.Merging.{told_numbers}
 
 -- what is known of two is the join of their cores
 pub joined : (k l both : Knowledge) → core both ≡ core (union k l) → core_of both ≡ join_cores (core_of k) (core_of l)
@@ -32,7 +32,7 @@ pub level_together : (k : Knowledge) (from to : ℕ) (es : List Entry) → level
 level_together k from to es = sym (ap level (numbers-core (union k (told from to es))) ∙ ap (λ s. level (set.union k.numbers s)) (told_numbers from to es))
 
 pub level_in : (t : Track) → level_of t ≡ level (core (known_by t)).numbers
-level_in t = sym (ap level (numbers-core (known_by t)) ∙ level_known t)
+level_in t = sym (ap level (numbers-core (known_by t)))
 
 pub nothing_joined : (a : Core) → join_cores (core_of nothing) a ≡ a
 nothing_joined a =
@@ -41,3 +41,11 @@ nothing_joined a =
 
 pub taken_in : (t : Track) (n : ℕ) → set.contains (known_by t).numbers n ≡ set.contains (core (known_by t)).numbers n
 taken_in t n = ap (λ s. set.contains s n) (sym (numbers-core (known_by t)))
+
+-- what is known of two, of which one is known by its core
+pub joined_after : (k m l both : Knowledge) → core m ≡ core k → core both ≡ core (union m l) → core both ≡ core (union k l)
+joined_after k m l both same is = is ∙ sym (core-union_left m l) ∙ ap (λ k. core (union k l)) same ∙ core-union_left k l
+
+-- what is known from a contribution alone
+pub alone : (none more all : Knowledge) → none ≡ nothing → core all ≡ core (union none more) → core all ≡ core more
+alone none more all is taken = taken ∙ ap (λ k. core (union k more)) is ∙ ap core (union_nothing more)

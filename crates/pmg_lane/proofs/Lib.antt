@@ -1,8 +1,11 @@
 pub mod Settling
 pub mod Promoting
 pub mod Knowing
-pub mod Tracking
+pub mod Merging
 pub mod Listing
 pub mod Moving
 pub mod Reading
 pub mod LaneCores
+pub mod Waits
+pub mod WaitReading
+pub mod Singles

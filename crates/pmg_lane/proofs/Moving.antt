@@ -85,6 +85,9 @@ none_made R make m none q e h = not_some (sym (ap (λ o. option_map (make q) (pl
 pub has_stays : (a b : Entries) (reach number : ℕ) (key : List ℕ) → PlacesStay a b → HasPlaces a reach number key → HasPlaces b reach number key
 has_stays a b reach number key stay has = (λ up. stay.0 key (has.0 up), λ past. stay.1 (number, key) (has.1 past))
 
+pub stay_trans : (a b c : Entries) → PlacesStay a b → PlacesStay b c → PlacesStay a c
+stay_trans a b c s t = (λ key h. t.0 key (s.0 key h), λ place h. t.1 place (s.1 place h))
+
 -- places stay where nothing changes
 pub places_itself : (a : Entries) → PlacesStay a a
 places_itself a = (λ key h. h, λ place h. h)
@@ -95,6 +98,7 @@ pub record Moves (level : ℕ) (a other b left : Entries) : Type 0 where
   pub settles : Settles level a (HasEntry other) b (HasEntry left)
   pub within : ReadsWithin level b
   pub late : LateFrom level a b
+  pub stay : PlacesStay a b
   pub places : (e : Entry) → HasEntry left e → HasPlaces b level e.number e.key
   pub was : (e : Entry) → HasEntry left e → HasEntry other e
 
@@ -116,6 +120,7 @@ module _ {level : ℕ} {a other b left : Entries} (moves : Moves level a other b
     };
     within = moves.within;
     late = moves.late;
+    stay = moves.stay;
     places = λ e h. moves.places e (rest_was e h);
     was = λ e h. moves.was e (rest_was e h);
   }
@@ -133,6 +138,7 @@ module _ {level : ℕ} {a other b left : Entries} (moves : Moves level a other b
         (λ e h. elim ((taken e).0 h) [ inl here ↦ inl (some_is (sym here ∙ ap (option_map (entry_under key)) is)) | inr r ↦ inr r ]);
     within = within;
     late = late_trans level a b c moves.late late;
+    stay = stay_trans a b c moves.stay stay;
     places = λ e h. has_stays b c level e.number e.key stay (moves.places e (rest_was e h));
     was = λ e h. moves.was e (rest_was e h);
   }

@@ -25,16 +25,18 @@ use Rattle.pmg_commit.proofs.Rules.{numbers_are_between}
 use Rattle.pmg_commit.proofs.ReadLaws.{IsBest, best_of_all, best_read, read_best}
 use Rattle.pmg_lane.specs.Places.{there_at}
 use Rattle.pmg_lane.specs.Entries.{late_cmp, late_entry, read_under, late_at, late_list}
-use Rattle.pmg_lane.specs.Lanes.{known_by, level_of, told, IsTrack, level_joined}
+use Rattle.pmg_lane.specs.Merged.{merged_knowledge, merged_level, told, IsMerged, level_joined}
+use Rattle.pmg_lane.specs.Waiting.{IsStocked, waiting_list}
+use Rattle.pmg_lane.proofs.Waits.{listed_waits, waits_listed}
 use Rattle.pmg_lane.specs.declared.entries.Entries.{Entries}
-use Rattle.pmg_lane.specs.declared.track.Track.{Track}
+use Rattle.pmg_lane.specs.declared.merged.Merged.{Merged}
 use Rattle.pmg_lane.proofs.Promoting.{number_first}
 use Rattle.pmg_lane.proofs.Settling.{key_read}
 use Rattle.pmg_lane.proofs.Knowing.{has_holds, holds_has, level_known, list_read, read_listed, list_late, late_listed}
-use Rattle.pmg_lane.proofs.Tracking.{numbers_is, has_told, told_has, told_numbers}
+use Rattle.pmg_lane.proofs.Merging.{numbers_is, has_told, told_has, told_numbers}
 
 -- ---- one entry more, and late entries past the level
-not_read : (level : ℕ) (key : List ℕ) (e : Entry) → level < e.number → is_readable level key e ≡ false
+pub not_read : (level : ℕ) (key : List ℕ) (e : Entry) → level < e.number → is_readable level key e ≡ false
 not_read level key e over = false_from_ne_true _ (λ h. let up = ((is_readable-Decides level key e).0 h).1 in absurd (omega (arith, over, up)))
 
 pub passed : (level : ℕ) (key : List ℕ) (o : Option Entry) (e : Entry) → is_readable level key e ≡ false → best_of_two level key o e ≡ o
@@ -100,94 +102,112 @@ none_seen a level key o place places at =
 
 -- ---- levels
 pub level_with_more :
-    (t : Track) (from to n : ℕ) → ((i : ℕ) → 0 < i → i ≤ n → Covers t.taken.ends i ⊎ Between from to i)
-    → (Covers t.taken.ends (suc n) ⊎ Between from to (suc n) → ⊥) → n ≡ level (set.union (known_by t).numbers (numbers_between from to))
+    (t : Merged) (from to n : ℕ) → ((i : ℕ) → 0 < i → i ≤ n → Covers t.taken.ends i ⊎ Between from to i)
+    → (Covers t.taken.ends (suc n) ⊎ Between from to (suc n) → ⊥) → n ≡ level (set.union (merged_knowledge t).numbers (numbers_between from to))
 level_with_more t from to n reached no_more =
-    let all = set.union (known_by t).numbers (numbers_between from to) in
+    let all = set.union (merged_knowledge t).numbers (numbers_between from to) in
     let next : n + 1 ≡ suc n = omega arith in
     level_unique all n (
       λ i some up. (decides i).1 (reached i some up),
       false_from_ne_true (set.contains all (n + 1)) (λ h. no_more ((decides (suc n)).0 (ap (set.contains all) (sym next) ∙ h))),
     )
   where
-    decides : (i : ℕ) → Decides (set.contains (set.union (known_by t).numbers (numbers_between from to)) i) (Covers t.taken.ends i ⊎ Between from to i)
+    decides : (i : ℕ) → Decides (set.contains (set.union (merged_knowledge t).numbers (numbers_between from to)) i) (Covers t.taken.ends i ⊎ Between from to i)
     decides i =
         subst (λ b. Decides b (Covers t.taken.ends i ⊎ Between from to i))
-        (sym (set.contains-union nat_cmp_total (known_by t).numbers (numbers_between from to) i
+        (sym (set.contains-union nat_cmp_total (merged_knowledge t).numbers (numbers_between from to) i
         ∙ (λ k. set.contains (numbers_is t k) i || numbers_are_between from to i k)))
         (Decides-or _ _ (set_of-Decides t.taken.ends i) (is_between-Decides from to i))
 
 pub level_with_joined :
-    (t o : Track) (n : ℕ) → ((i : ℕ) → 0 < i → i ≤ n → Covers t.taken.ends i ⊎ Covers o.taken.ends i)
+    (t o : Merged) (n : ℕ) → ((i : ℕ) → 0 < i → i ≤ n → Covers t.taken.ends i ⊎ Covers o.taken.ends i)
     → (Covers t.taken.ends (suc n) ⊎ Covers o.taken.ends (suc n) → ⊥) → n ≡ level_joined t o
 level_with_joined t o n reached no_more =
-    let all = set.union (known_by t).numbers (known_by o).numbers in
+    let all = set.union (merged_knowledge t).numbers (merged_knowledge o).numbers in
     let next : n + 1 ≡ suc n = omega arith in
     level_unique all n (
       λ i some up. (decides i).1 (reached i some up),
       false_from_ne_true (set.contains all (n + 1)) (λ h. no_more ((decides (suc n)).0 (ap (set.contains all) (sym next) ∙ h))),
     )
   where
-    decides : (i : ℕ) → Decides (set.contains (set.union (known_by t).numbers (known_by o).numbers) i) (Covers t.taken.ends i ⊎ Covers o.taken.ends i)
+    decides : (i : ℕ) → Decides (set.contains (set.union (merged_knowledge t).numbers (merged_knowledge o).numbers) i) (Covers t.taken.ends i ⊎ Covers o.taken.ends i)
     decides i =
         subst (λ b. Decides b (Covers t.taken.ends i ⊎ Covers o.taken.ends i))
-        (sym (set.contains-union nat_cmp_total (known_by t).numbers (known_by o).numbers i
+        (sym (set.contains-union nat_cmp_total (merged_knowledge t).numbers (merged_knowledge o).numbers i
         ∙ (λ k. set.contains (numbers_is t k) i || set.contains (numbers_is o k) i)))
         (Decides-or _ _ (set_of-Decides t.taken.ends i) (set_of-Decides o.taken.ends i))
 
-pub level_within : (t : Track) (from to n : ℕ) → IsTrack t → to ≤ 4294967295 → ((i : ℕ) → 0 < i → i ≤ n → Covers t.taken.ends i ⊎ Between from to i) → n ≤ 4294967295
+pub level_within : (t : Merged) (from to n : ℕ) → IsMerged t → to ≤ 4294967295 → ((i : ℕ) → 0 < i → i ≤ n → Covers t.taken.ends i ⊎ Between from to i) → n ≤ 4294967295
 level_within t from to n is bound reached = elim (cases_lt 0 n) [
   | inr none ↦ omega (arith, none)
   | inl some ↦ elim (reached n some (omega arith)) [ inl there ↦ is.bound n there | inr b ↦ omega (arith, b.1, bound) ]
 ]
 
 -- ---- what is read once more commits are taken too
-best_now : (t : Track) (key : List ℕ) (n : ℕ) → IsTrack t → level_of t ≤ n → IsBest n key (option_to_list (read_under t.entries key)) (read_under t.entries key)
+best_now : (t : Merged) (key : List ℕ) (n : ℕ) → IsMerged t → merged_level t ≤ n → IsBest n key (option_to_list (read_under t.entries key)) (read_under t.entries key)
 best_now t key n is up = go (read_under t.entries key) refl
   where
     go : (o : Option Entry) → read_under t.entries key ≡ o → IsBest n key (option_to_list o) o
     go None at = λ f i r. absurd i
     go (Some e) at =
-        let low : e.number ≤ level_of t = subst (λ o. IfSome o (λ e. e.number ≤ level_of t)) at (is.within key) in (
+        let low : e.number ≤ merged_level t = subst (λ o. IfSome o (λ e. e.number ≤ merged_level t)) at (is.within key) in (
           inl refl,
           (key_read t.entries key e at, omega (arith, low, up)),
           λ f i r l. elim i [ inl same ↦ later_itself e (subst (Later e) same l) | inr none ↦ none ],
         )
 
--- the entries that may be read under the key
-abbrev candidates : Entries → List ℕ → List Entry → List Entry
-candidates a key es = (option_to_list (read_under a key) ++ late_list a) ++ es
+-- the entries of a track that may be read under the key
+abbrev candidates_in : Merged → List ℕ → List Entry
+candidates_in t key = (option_to_list (read_under t.entries key) ++ late_list t.entries) ++ waiting_list t.waiting.lists
 
-module _ (t : Track) (from to : ℕ) (key : List ℕ) (es : List Entry) where
-  there : (n : ℕ) (e : Entry) → Has (union (known_by t) (told from to es)) e → Readable n key e → In e (candidates t.entries key es)
-  there n e h r = elim (has_union (known_by t) (told from to es) e h) [
-    | inr more ↦ in_append_right (option_to_list (read_under t.entries key) ++ late_list t.entries) es e (has_told from to es e more)
-    | inl old ↦ in_append_left (option_to_list (read_under t.entries key) ++ late_list t.entries) es e (elim (has_holds t e old) [
-      | inl at ↦ in_append_left (option_to_list (read_under t.entries key)) (late_list t.entries) e (read_listed t.entries key e (ap (read_under t.entries) r.0 ∙ at))
-      | inr at ↦ in_append_right (option_to_list (read_under t.entries key)) (late_list t.entries) e (late_listed t.entries e at)
+-- the entries that may be read under the key
+abbrev candidates : Merged → List ℕ → List Entry → List Entry
+candidates t key es = candidates_in t key ++ es
+
+module _ (t : Merged) (key : List ℕ) where
+  in_candidates : (n : ℕ) (e : Entry) → IsStocked t.entries t.waiting.lists e → Readable n key e → In e (candidates_in t key)
+  in_candidates n e (inl (inl at)) r =
+      in_append_left (option_to_list (read_under t.entries key) ++ late_list t.entries) (waiting_list t.waiting.lists) e
+      (in_append_left (option_to_list (read_under t.entries key)) (late_list t.entries) e (read_listed t.entries key e (ap (read_under t.entries) r.0 ∙ at)))
+  in_candidates n e (inl (inr at)) r =
+      in_append_left (option_to_list (read_under t.entries key) ++ late_list t.entries) (waiting_list t.waiting.lists) e
+      (in_append_right (option_to_list (read_under t.entries key)) (late_list t.entries) e (late_listed t.entries e at))
+  in_candidates n e (inr w) r =
+      in_append_right (option_to_list (read_under t.entries key) ++ late_list t.entries) (waiting_list t.waiting.lists) e (waits_listed t.waiting.lists e w)
+
+  candidates_stocked : (e : Entry) → In e (candidates_in t key) → IsStocked t.entries t.waiting.lists e
+  candidates_stocked e i = elim (in_parts (option_to_list (read_under t.entries key) ++ late_list t.entries) (waiting_list t.waiting.lists) e i) [
+    | inr w ↦ inr (listed_waits t.waiting.lists e w)
+    | inl kept ↦ inl (elim (in_parts (option_to_list (read_under t.entries key)) (late_list t.entries) e kept) [
+      | inl at ↦ list_read t.entries key e at
+      | inr at ↦ list_late t.entries e at
     ])
   ]
 
-  back : (e : Entry) → In e (candidates t.entries key es) → Has (union (known_by t) (told from to es)) e
-  back e i = elim (in_parts (option_to_list (read_under t.entries key) ++ late_list t.entries) es e i) [
-    | inr more ↦ union_has_right (known_by t) (told from to es) e (told_has from to es e more)
-    | inl old ↦ union_has_left (known_by t) (told from to es) e (holds_has t e (elim (in_parts (option_to_list (read_under t.entries key)) (late_list t.entries) e old) [
-      | inl at ↦ list_read t.entries key e at
-      | inr at ↦ list_late t.entries e at
-    ]))
+module _ (t : Merged) (from to : ℕ) (key : List ℕ) (es : List Entry) where
+  there : (n : ℕ) (e : Entry) → Has (union (merged_knowledge t) (told from to es)) e → Readable n key e → In e (candidates t key es)
+  there n e h r = elim (has_union (merged_knowledge t) (told from to es) e h) [
+    | inr more ↦ in_append_right (candidates_in t key) es e (has_told from to es e more)
+    | inl old ↦ in_append_left (candidates_in t key) es e (in_candidates t key n e (has_holds t e old) r)
   ]
 
-  pub read_more : (n : ℕ) (o : Option Entry) → IsTrack t → n ≡ level (set.union (known_by t).numbers (numbers_between from to))
-      → o ≡ fold (best_of_two n key) (fold (best_of_two n key) (read_under t.entries key) (late_list t.entries)) es
-      → option_map (λ e. e.bytes) o ≡ read (union (known_by t) (told from to es)) key
+  back : (e : Entry) → In e (candidates t key es) → Has (union (merged_knowledge t) (told from to es)) e
+  back e i = elim (in_parts (candidates_in t key) es e i) [
+    | inr more ↦ union_has_right (merged_knowledge t) (told from to es) e (told_has from to es e more)
+    | inl old ↦ union_has_left (merged_knowledge t) (told from to es) e (holds_has t e (candidates_stocked t key e old))
+  ]
+
+  pub read_more : (n : ℕ) (o : Option Entry) → IsMerged t → n ≡ level (set.union (merged_knowledge t).numbers (numbers_between from to))
+      → o ≡ fold (best_of_two n key) (fold (best_of_two n key) (fold (best_of_two n key) (read_under t.entries key) (late_list t.entries)) (waiting_list t.waiting.lists)) es
+      → option_map (λ e. e.bytes) o ≡ read (union (merged_knowledge t) (told from to es)) key
   read_more n o is at best =
-      let k = union (known_by t) (told from to es) in
-      let levels : n ≡ level k.numbers = at ∙ ap (λ s. level (set.union (known_by t).numbers s)) (sym (told_numbers from to es)) in
-      let up : level_of t ≤ n = subst (λ m. level_of t ≤ m) (sym levels) (subst (λ m. m ≤ level k.numbers) (level_known t) (level-union (known_by t) (told from to es))) in
-      best_read k key (candidates t.entries key es) (there (level k.numbers)) back o
-      (subst (λ m. IsBest m key (candidates t.entries key es) o) levels
-      (subst (IsBest n key (candidates t.entries key es)) (sym best)
-      (best_of_all n key _ es _ (best_of_all n key _ (late_list t.entries) _ (best_now t key n is up)))))
+      let k = union (merged_knowledge t) (told from to es) in
+      let levels : n ≡ level k.numbers = at ∙ ap (λ s. level (set.union (merged_knowledge t).numbers s)) (sym (told_numbers from to es)) in
+      let up : merged_level t ≤ n = subst (λ m. merged_level t ≤ m) (sym levels) (subst (λ m. m ≤ level k.numbers) (level_known t) (level-union (merged_knowledge t) (told from to es))) in
+      best_read k key (candidates t key es) (there (level k.numbers)) back o
+      (subst (λ m. IsBest m key (candidates t key es) o) levels
+      (subst (IsBest n key (candidates t key es)) (sym best)
+      (best_of_all n key _ es _ (best_of_all n key _ (waiting_list t.waiting.lists) _ (best_of_all n key _ (late_list t.entries) _ (best_now t key n is up))))))
 
 -- ---- what is read where nothing else was taken
 pub level_alone : (from to : ℕ) → from ≡ 0 → to ≡ level (numbers_between from to)

@@ -1,5 +1,7 @@
 pub mod Entries
 pub mod Joining
 pub mod Lanes
+pub mod Merged
 pub mod Places
 pub mod Readings
+pub mod Waiting

@@ -226,6 +226,7 @@ impl Entries {
         ensures settles { Settles level self.old (λ e. In e (map entry_of entries.items)) self.new NoneLeft }
         ensures within { ReadsWithin level self.new }
         ensures late { LateFrom level self.old self.new }
+        ensures stay { PlacesStay self.old self.new }
     {
         for entry in entries {
             let PieceEntry { key, number, value } = entry;
@@ -337,6 +338,7 @@ impl Entries {
         ensures settles { Settles level self.old (HasEntry other) self.new NoneLeft }
         ensures within { ReadsWithin level self.new }
         ensures late { LateFrom level self.old self.new }
+        ensures stay { PlacesStay self.old self.new }
     {
         while let Some((key, place)) = other.pop() {
             if let Some(there) = place {

@@ -53,7 +53,8 @@ impl Lane {
         ensures err { OnErr result (self.new ≡ self.old) }
     {
         let entries = copies_of(self.alloc, piece.entries())?;
-        self.track.absorb(piece.from(), piece.to(), entries)
+        self.track
+            .absorb(self.alloc, piece.from(), piece.to(), entries)
     }
 
     /// Takes all that the other lane has taken. It takes time in proportion to what the other one holds and to the late
@@ -64,7 +65,7 @@ impl Lane {
         ensures err { OnErr result (self.new ≡ self.old) }
         ensures handed_back { IfErr result (λ e. e.value ≡ other) }
     {
-        if let Err(_) = self.track.make_rooms(&other.track) {
+        if let Err(_) = self.track.make_rooms(self.alloc, &other.track) {
             return Err(AllocFailed { value: other });
         }
         let Lane { track, .. } = other;

@@ -26,10 +26,7 @@ pub fn make_place<K: Element, V: Drop>(
     ensures place { OnOk result (HasPlace K.cmp tree.new key.now) }
     ensures stay { (q : K) → HasPlace K.cmp tree.old q → HasPlace K.cmp tree.new q }
 {
-    if is_past_all(tree, key) || !tree.contains_key(key) {
-        tree.insert(key.copy()?, None)?;
-    }
-    Ok(())
+    put_place(tree, key.copy()?)
 }
 
 /// Makes an empty place under the key, where there is none.
@@ -41,9 +38,7 @@ pub fn put_place<K: Element, V: Drop>(
     ensures place { OnOk result (HasPlace K.cmp tree.new key) }
     ensures stay { (q : K) → HasPlace K.cmp tree.old q → HasPlace K.cmp tree.new q }
 {
-    if is_past_all(tree, &key) || !tree.contains_key(&key) {
-        tree.insert(key, None)?;
-    }
+    tree.entry(key)?.or_insert(None);
     Ok(())
 }
 

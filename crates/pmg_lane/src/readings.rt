@@ -1,5 +1,5 @@
 //! What is read under a key, as more entries are seen.
-ghost use Rattle.std.specs.Prelude.{◌≡◌, ◌≤◌, ℕ, List, map, if◌then◌else◌};
+ghost use Rattle.std.specs.Prelude.{◌≡◌, ◌==◌, ◌≤◌, ℕ, List, map, if◌then◌else◌};
 ghost use Rattle.std.specs.List.{fold};
 ghost use Rattle.std.specs.Option.{option_map};
 ghost use Rattle.pmg_value.specs.Spelling.{spelling};
@@ -7,7 +7,7 @@ ghost use Rattle.pmg_commit.specs.Entries.{best_of_two, is_later, is_readable};
 ghost use Rattle.pmg_commit.specs.Levels.{level};
 ghost use Rattle.pmg_commit.specs.Knowledge.{read, numbers_between};
 ghost use Rattle.pmg_commit.specs.Pieces.{entry_of};
-ghost use Rattle.pmg_lane.specs.Lanes.{told};
+ghost use Rattle.pmg_lane.specs.Merged.{told};
 ghost use Rattle.pmg_lane.specs.Readings.{seen_entry};
 
 use pmg_commit::PieceEntry;
@@ -92,6 +92,7 @@ pub fn best_with<'a>(
 /// The level where no commits but those from+1 to to were taken.
 pub fn level_alone(from: u64, to: u64) -> u64
     ensures value { result ≡ level (numbers_between from to) }
+    ensures is { result ≡ (if from == 0 then to else 0) }
     ensures bound { result ≤ to }
 {
     if from == 0 { to } else { 0 }

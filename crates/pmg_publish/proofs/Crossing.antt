@@ -15,7 +15,10 @@ use Rattle.pmg_value.specs.contracts.names.Key as Key
 use Rattle.pmg_value.specs.contracts.process.Proc as Proc
 use Rattle.pmg_value.specs.contracts.value.Value as Value
 use Rattle.pmg_commit.specs.contracts.piece.Piece as Piece
+use Rattle.pmg_commit.specs.contracts.piece.PieceEntry as PieceEntry
 use Rattle.pmg_lane.specs.contracts.entries.Stamp as Stamp
+use Rattle.pmg_lane.specs.contracts.merged.Merged as Merged
+use Rattle.pmg_lane.specs.contracts.single.Single as Single
 use Rattle.pmg_lane.specs.contracts.track.Track as Track
 use Rattle.pmg_store.specs.contracts.store.Store as Store
 use Rattle.pmg_store.specs.contracts.board.Board as Board
@@ -56,11 +59,29 @@ stamp_send = search (values, value_send, proc_send, sendable, owners) depth 40 f
 stamp_sync : IsSync Stamp.the_row
 stamp_sync = search (values, value_sync, proc_sync, sendable, owners) depth 40 fits 20000
 
+entry_send : IsSend PieceEntry.the_row
+entry_send = search (values, value_send, key_send, sendable, owners) depth 40 fits 20000
+
+entry_sync : IsSync PieceEntry.the_row
+entry_sync = search (values, value_sync, key_sync, sendable, owners) depth 40 fits 20000
+
+merged_send : IsSend Merged.the_row
+merged_send = search (key_send, value_send, stamp_send, entry_send, maps, sendable, owners) depth 40 fits 5000
+
+merged_sync : IsSync Merged.the_row
+merged_sync = search (key_sync, value_sync, stamp_sync, entry_sync, maps, sendable, owners) depth 40 fits 5000
+
+single_send : IsSend Single.the_row
+single_send = search (entry_send, sendable, owners) depth 40
+
+single_sync : IsSync Single.the_row
+single_sync = search (entry_sync, sendable, owners) depth 40
+
 track_send : IsSend Track.the_row
-track_send = search (key_send, value_send, stamp_send, maps, sendable, owners) depth 40 fits 5000
+track_send = search (single_send, merged_send, entry_send, key_send, value_send, stamp_send, maps, sendable, owners) depth 60 fits 20000
 
 track_sync : IsSync Track.the_row
-track_sync = search (key_sync, value_sync, stamp_sync, maps, sendable, owners) depth 40 fits 5000
+track_sync = search (single_sync, merged_sync, entry_sync, key_sync, value_sync, stamp_sync, maps, sendable, owners) depth 60 fits 20000
 
 store_send : IsSend Store.the_row
 store_send = search (proc_send, track_send, maps, owners, sendable) depth 40

@@ -1,6 +1,6 @@
 -- What the dump of tracks is made of.
-use Rattle.std.proofs.Common.{ℕ, ◌<◌, List, [], ◌∷◌, ◌++◌, ◌≡◌, map, refl, sym, ap, subst, ◌∙◌}
-use Rattle.std.specs.Prelude.{Option, Some, None, IfSome}
+use Rattle.std.proofs.Common.{ℕ, ◌<◌, List, [], ◌∷◌, ◌++◌, ◌≡◌, map, refl, sym, ap, ◌∙◌}
+use Rattle.std.specs.Prelude.{Option, Some, None, nat_lt, if◌then◌else◌}
 use Rattle.std.specs.Option.{option_map}
 use Rattle.std.specs.List.{flat_map, AllByRecursion}
 use Rattle.std.specs.Ordering.{nat_cmp}
@@ -20,16 +20,21 @@ use Rattle.pmg_commit.specs.Cores.{Core}
 use Rattle.pmg_commit.specs.Data.{known, knowledge_in}
 use Rattle.pmg_commit.specs.Entries.{Entry}
 use Rattle.pmg_commit.specs.Levels.{level}
+use Rattle.pmg_commit.specs.Knowledge.{Knowledge, core}
+use Rattle.pmg_commit.specs.CoreLaws.{numbers-core}
+use Rattle.pmg_commit.proofs.ReadLaws.{read-core}
 use Rattle.pmg_lane.specs.Entries.{entry_under}
-use Rattle.pmg_lane.specs.Lanes.{known_by, level_of, IsTrack}
+use Rattle.pmg_lane.specs.Lanes.{known_by, level_of}
 use Rattle.pmg_lane.specs.Places.{placed, there_at}
 use Rattle.pmg_lane.specs.declared.entries.Stamp.{Stamp}
+use Rattle.pmg_lane.specs.Merged.{merged_knowledge, IsMerged}
+use Rattle.pmg_lane.specs.declared.merged.Merged.{Merged}
 use Rattle.pmg_lane.specs.declared.track.Track.{Track}
-use Rattle.pmg_lane.proofs.Knowing.{level_known}
-use Rattle.pmg_lane.proofs.Tracking.{read_known}
+use Rattle.pmg_lane.specs.declared.track.Track.TheVariants as tracks
+use Rattle.pmg_lane.proofs.Merging.{read_known}
 use Rattle.pmg_store.specs.Dump.{key_line, proc_line, reads_of, known_text, dump}
 use Rattle.pmg_store.specs.Tables.{filled_before, filled, lines_of, track_text, place_text, tracked_procs}
-use Rattle.pmg_store.specs.Tracks.{core_in, held_in, data_in, AreTracks}
+use Rattle.pmg_store.specs.Tracks.{core_in, held_in, data_in}
 use Rattle.pmg_store.proofs.Filled.{find-filled, sorted_filled}
 use Rattle.pmg_store.proofs.Ordered.{entries_are, sorted_from}
 use Rattle.pmg_store.proofs.ReadTable.{get-reads_of}
@@ -44,20 +49,20 @@ bytes_of q (Some s) = refl
 -- a process of level 0 has no lines
 pub silent : (p : Proc) (t : Track) → level_of t ≡ 0 → known_text p (known_by t) ≡ []
 unfolding known_text
-silent p t e = rw (level_known t ∙ e) refl
+silent p t e = rw e refl
 
 -- the line of a process is the first of its lines
 pub first_told : (p : Proc) (t : Track) (n : ℕ) → n ≡ level_of t → 0 < n → known_text p (known_by t) ≡ proc_line p n ++ flat_map key_line (finite.entries (reads_of (known_by t)))
 unfolding known_text
 first_told p t n at some =
-    let here : level (known_by t).numbers ≡ n = level_known t ∙ sym at in
+    let here : level (known_by t).numbers ≡ n = sym at in
     rw (here, lt-ltb 0 n some) refl
 
 -- the lines of a process
-pub told_text : (p : Proc) (t : Track) (n : ℕ) → IsTrack t → n ≡ level_of t → 0 < n → IsOrdered (slice_cmp nat_cmp) t.entries.reads
-    → known_text p (known_by t) ≡ proc_line p n ++ flat_map key_line (lines_of t.entries.reads.entries)
+pub told_text : (p : Proc) (t : Merged) (n : ℕ) → IsMerged t → n ≡ level_of (tracks.Merged t) → 0 < n → IsOrdered (slice_cmp nat_cmp) t.entries.reads
+    → known_text p (merged_knowledge t) ≡ proc_line p n ++ flat_map key_line (lines_of t.entries.reads.entries)
 told_text p t n is at some ordered =
-    let k = known_by t in
+    let k = merged_knowledge t in
     let es = t.entries.reads.entries in
     let answers : (q : List ℕ) → finite.get (reads_of k) q ≡ find (slice_cmp nat_cmp) q (lines_of es) = λ q.
     get-reads_of k q
@@ -65,8 +70,20 @@ told_text p t n is at some ordered =
     ∙ bytes_of q (there_at (slice_cmp nat_cmp) t.entries.reads q)
     ∙ sym (find-filled (slice_cmp nat_cmp) (λ (s : Stamp). spelling s.value) exact_bytes es ordered q) in
     let sorted = sorted_from (slice_cmp nat_cmp) (lines_of es) (sorted_filled (slice_cmp nat_cmp) (λ (s : Stamp). spelling s.value) es ordered) in
-    first_told p t n at some
+    first_told p (tracks.Merged t) n at some
     ∙ ap (λ lines. proc_line p n ++ flat_map key_line lines) (entries_are nat_list_cmp_total (finite.slice_cmp-IsAntisymmetric finite.nat_cmp-IsAntisymmetric) (reads_of k) (lines_of es) sorted answers)
+
+-- the lines of a process of that level, of which that is read
+abbrev lines_with : Proc → ℕ → finite.FinMap (slice_cmp nat_cmp) (List ℕ) → List ℕ
+lines_with p n reads = if nat_lt 0 n then proc_line p n ++ flat_map key_line (finite.entries reads) else []
+
+-- a core has the lines of the knowledge
+core_text : (p : Proc) (k : Knowledge) → known_text p (core k) ≡ known_text p k
+unfolding known_text
+core_text p k =
+    let table : reads_of (core k) ≡ reads_of k = finite.same_map nat_list_cmp_total exact_bytes (reads_of (core k)) (reads_of k) (λ q.
+    get-reads_of (core k) q ∙ read-core k q ∙ sym (get-reads_of k q)) in
+    λ i. lines_with p (level (numbers-core k i)) (table i)
 
 -- ---- all processes
 -- the tracks in their order are the data's entries
@@ -79,19 +96,18 @@ entries_in places ordered =
 pub keys_in : (places : BTreeMap Proc (Option Track)) → IsOrdered proc_cmp places → tracked_procs places.entries ≡ finite.keys (data_in places)
 keys_in places ordered = ap (λ rows. map (λ (e : Proc × Core). e.0) rows) (sym (entries_in places ordered))
 
-module _ (places : BTreeMap Proc (Option Track)) (are : AreTracks places) where
+module _ (places : BTreeMap Proc (Option Track)) where
   -- what is known of the process of a track
-  known_of_track : (p : Proc) (t : Track) → get proc_cmp places p ≡ Some (Some t) → known (data_in places) p ≡ known_by t
-  known_of_track p t there =
-      known_in places p
-      ∙ ap (λ o. knowledge_in (held_in (placed o))) there
-      ∙ (subst (λ o. IfSome (placed o) IsTrack) there (are p)).is_core
+  known_of_track : (p : Proc) (t : Track) → get proc_cmp places p ≡ Some (Some t) → known (data_in places) p ≡ core (known_by t)
+  known_of_track p t there = known_in places p ∙ ap (λ o. knowledge_in (held_in (placed o))) there
 
   place_lines : (p : Proc) (place : Option Track) (es : List (Proc × Option Track)) → get proc_cmp places p ≡ Some place
       → flat_map (λ p. known_text p (known (data_in places) p)) (map (λ e. e.0) (filled_before core_in p place (filled core_in es)))
       ≡ track_text p place ++ flat_map (λ p. known_text p (known (data_in places) p)) (map (λ e. e.0) (filled core_in es))
   place_lines p None es there = refl
-  place_lines p (Some t) es there = ap (λ k. known_text p k ++ flat_map (λ p. known_text p (known (data_in places) p)) (map (λ e. e.0) (filled core_in es))) (known_of_track p t there)
+  place_lines p (Some t) es there =
+      ap (λ k. known_text p k ++ flat_map (λ p. known_text p (known (data_in places) p)) (map (λ e. e.0) (filled core_in es))) (known_of_track p t there)
+      ∙ ap (λ text. text ++ flat_map (λ p. known_text p (known (data_in places) p)) (map (λ e. e.0) (filled core_in es))) (core_text p (known_by t))
 
   -- the lines of those whose places are in the tree
   lines_of_those :

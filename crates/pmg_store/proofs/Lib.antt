@@ -15,3 +15,4 @@ pub mod TrackSteps
 pub mod ToldLemmas
 pub mod HonestDataLaws
 pub mod HonestPieces
+pub mod SingleText

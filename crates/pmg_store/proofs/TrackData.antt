@@ -20,7 +20,7 @@ use Rattle.pmg_value.proofs.MapLemmas.{get-join_maps}
 use Rattle.pmg_value.proofs.ProcessOrder.{procs_total, exact_procs}
 use Rattle.pmg_value.proofs.RowLemmas.{key_there}
 use Rattle.pmg_commit.specs.Cores.{Core, core_of, join_cores}
-use Rattle.pmg_commit.specs.CoreLaws.{numbers-core}
+use Rattle.pmg_commit.specs.CoreLaws.{numbers-core, core-union_left}
 use Rattle.pmg_commit.specs.Data.{Data, join_data, absorbed, of_contribution, known, knowledge_in, level_at, read_at}
 use Rattle.pmg_commit.specs.Knowledge.{Contribution, Knowledge, nothing, union, core, knowledge_of, read}
 use Rattle.pmg_commit.specs.Entries.{entry_cmp}
@@ -28,7 +28,7 @@ use Rattle.pmg_commit.specs.Levels.{level}
 use Rattle.pmg_commit.specs.LevelLaws.{level_unique}
 use Rattle.pmg_commit.proofs.Joining.{unions_comm, union_nothing, core-union_right, known_together, known_of_one}
 use Rattle.pmg_commit.proofs.ReadLaws.{read_none, read-core}
-use Rattle.pmg_lane.specs.Lanes.{known_by, IsTrack}
+use Rattle.pmg_lane.specs.Lanes.{known_by}
 use Rattle.pmg_lane.specs.Places.{placed, there_at}
 use Rattle.pmg_lane.specs.declared.track.Track.{Track}
 use Rattle.pmg_store.specs.Tracks.{held_in, held_at, row_at, data_in}
@@ -146,8 +146,15 @@ nothing_in places none = finite.same_map procs_total exact_procs (data_in places
 
 -- ---- what is known of a process
 module _ (places : BTreeMap Proc (Option Track)) (p : Proc) where
-  pub known_there : (t : Track) → IsTrack t → Some t ≡ there_at proc_cmp places p → known_by t ≡ known (data_in places) p
-  known_there t is there = sym (known_in places p ∙ ap (λ o. knowledge_in (held_in o)) (sym there) ∙ is.is_core)
+  pub known_there : (t : Track) → Some t ≡ there_at proc_cmp places p → core (known_by t) ≡ known (data_in places) p
+  known_there t there = sym (known_in places p ∙ ap (λ o. knowledge_in (held_in o)) (sym there))
+
+  -- a core has the numbers of the knowledge, and reads the same
+  pub numbers_there : (t : Track) → Some t ≡ there_at proc_cmp places p → (known_by t).numbers ≡ (known (data_in places) p).numbers
+  numbers_there t there = sym (numbers-core (known_by t)) ∙ ap (λ k. k.numbers) (known_there t there)
+
+  pub read_there : (t : Track) (key : List ℕ) → Some t ≡ there_at proc_cmp places p → read (known_by t) key ≡ read (known (data_in places) p) key
+  read_there t key there = sym (read-core (known_by t) key) ∙ ap (λ k. read k key) (known_there t there)
 
   pub known_none : None ≡ there_at proc_cmp places p → nothing ≡ known (data_in places) p
   known_none there = sym (known_in places p ∙ ap (λ o. knowledge_in (held_in o)) (sym there))
@@ -174,16 +181,20 @@ module _ (d : Data) (c : Contribution) (p : Proc) where
   read_past key other = sym (read-core (known d p) key) ∙ ap (λ k. read k key) (sym (known_past other))
 
   -- of its process, what was known and what it tells
-  module _ (k m : Knowledge) (is : k ≡ known d p) (told : m ≡ knowledge_of c) (same : eq_by_cmp proc_cmp p c.proc ≡ true) where
+  module _ (k m : Knowledge) (is : core k ≡ known d p) (told : m ≡ knowledge_of c) (same : eq_by_cmp proc_cmp p c.proc ≡ true) where
     pub level_here : level (union k m).numbers ≡ level_at (absorbed d c) p
     level_here =
-        (λ i. level (union (is i) (told i)).numbers)
+        ap (λ s. level (set.union s m.numbers)) (sym (numbers-core k))
+        ∙ (λ i. level (union (is i) (told i)).numbers)
         ∙ sym (ap level (numbers-core (union (known d p) (knowledge_of c))))
         ∙ ap (λ k. level k.numbers) (sym (known_here same))
 
     pub read_here : (key : List ℕ) → read (union k m) key ≡ read_at (absorbed d c) p key
     read_here key =
-        (λ i. read (union (is i) (told i)) key)
+        sym (read-core (union k m) key)
+        ∙ ap (λ k. read k key) (sym (core-union_left k m))
+        ∙ read-core (union (core k) m) key
+        ∙ (λ i. read (union (is i) (told i)) key)
         ∙ sym (read-core (union (known d p) (knowledge_of c)) key)
         ∙ ap (λ k. read k key) (sym (known_here same))
 

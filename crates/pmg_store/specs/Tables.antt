@@ -2,6 +2,7 @@
 use Rattle.std.specs.Prelude.{ℕ, List, [], ◌∷◌, map, Option, Some, None}
 use Rattle.pmg_value.specs.declared.process.Proc.{Proc}
 use Rattle.pmg_value.specs.Spelling.{spelling}
+use Rattle.pmg_commit.specs.declared.piece.PieceEntry.{PieceEntry}
 use Rattle.pmg_lane.specs.Lanes.{known_by}
 use Rattle.pmg_lane.specs.declared.entries.Stamp.{Stamp}
 use Rattle.pmg_lane.specs.declared.track.Track.{Track}
@@ -21,6 +22,10 @@ filled f (place ∷ places) = filled_before f place.0 place.1 (filled f places)
 -- the keys, with the canonical bytes of the values
 abbrev pub lines_of : List (List ℕ × Option Stamp) → List (List ℕ × List ℕ)
 lines_of places = filled (λ s. spelling s.value) places
+
+-- the keys of entries, with the canonical bytes of their values
+abbrev pub rows_told : List PieceEntry → List (List ℕ × List ℕ)
+rows_told entries = map (λ e. (e.key, spelling e.value)) entries
 
 -- the lines of a process, if there is a track
 abbrev pub track_text : Proc → Option Track → List ℕ

@@ -9,10 +9,11 @@ ghost use Rattle.pmg_value.specs.Spelling.{spelling};
 ghost use Rattle.pmg_value.specs.Written.{Writes};
 ghost use Rattle.pmg_lane.specs.Lanes.{known_by, IsTrack};
 ghost use Rattle.pmg_store.specs.Dump.{value_text, key_line, proc_line, known_text, dump};
-ghost use Rattle.pmg_store.specs.Tables.{lines_of, place_text};
+ghost use Rattle.pmg_store.specs.Tables.{lines_of, place_text, rows_told};
 ghost use Rattle.pmg_store.specs.Tracks.{data_in, AreTracks};
 
-use pmg_lane::{Stamp, Track};
+use pmg_commit::PieceEntry;
+use pmg_lane::{Reads, Stamp, Track};
 use pmg_value::{Key, Proc, Value, WatchedWriter, WriteFault};
 use std::alloc::Global;
 use std::collections::BTreeMap;
@@ -57,6 +58,20 @@ fn put_key_lines<W: Write>(
     Ok(())
 }
 
+fn put_entry_lines<W: Write>(
+    writer: &mut WatchedWriter<W>,
+    entries: &[PieceEntry],
+) -> Result<(), WriteFault>
+    ensures lines { Writes (W.contents writer.old.writer) (W.contents writer.new.writer)
+        result (flat_map key_line (rows_told entries.now)) }
+    ensures failed { OnErr result (IsSome writer.new.failure) }
+{
+    for entry in entries {
+        put_key_line(writer, &entry.key, &entry.value)?;
+    }
+    Ok(())
+}
+
 fn put_proc_line<W: Write>(
     writer: &mut WatchedWriter<W>,
     proc: &Proc,
@@ -87,7 +102,10 @@ fn put_proc<W: Write>(
         return Ok(());
     }
     put_proc_line(writer, proc, level)?;
-    put_key_lines(writer, track.reads())
+    match track.reads() {
+        Reads::Few(entries) => put_entry_lines(writer, entries),
+        Reads::Many(reads) => put_key_lines(writer, reads),
+    }
 }
 
 // The lines of the processes, of which the tracks know.

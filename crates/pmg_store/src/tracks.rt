@@ -7,7 +7,8 @@ ghost use Rattle.pmg_value.specs.Maps.{join_options, join_to};
 ghost use Rattle.pmg_value.specs.Process.{proc_cmp};
 ghost use Rattle.pmg_commit.specs.Cores.{core_of, join_cores};
 ghost use Rattle.pmg_commit.specs.Pieces.{entry_of};
-ghost use Rattle.pmg_lane.specs.Lanes.{told, IsTrack};
+ghost use Rattle.pmg_lane.specs.Lanes.{IsTrack};
+ghost use Rattle.pmg_lane.specs.Merged.{told};
 ghost use Rattle.pmg_lane.specs.declared.track.Track.{Track};
 ghost use Rattle.pmg_lane.specs.Places.{there_at};
 ghost use Rattle.pmg_store.specs.Tables.{tracked_procs};
@@ -45,25 +46,23 @@ fn absorb_in(
     ensures same { OnErr result (held_in place.new ≡ held_in place.old) }
 {
     match place {
-        Some(track) => track.absorb(from, to, entries),
+        Some(track) => track.absorb(alloc, from, to, entries),
         None => {
-            let mut track = Track::new(alloc);
-            track.absorb(from, to, entries)?;
-            *place = Some(track);
+            *place = Some(Track::of(alloc, from, to, entries)?);
             Ok(())
         }
     }
 }
 
 /// Makes room in the place for all that the track has.
-fn make_room_in(place: &mut Option<Track>, track: &Track) -> Result<(), AllocError>
+fn make_room_in(place: &mut Option<Track>, alloc: Global, track: &Track) -> Result<(), AllocError>
     requires { IfSome place.old IsTrack }
     ensures kept { IfSome place.new IsTrack }
     ensures same { held_in place.new ≡ held_in place.old }
     ensures room { OnOk result (IsRoomFor track.now (Some place.new)) }
 {
     match place {
-        Some(there) => there.make_rooms(track),
+        Some(there) => there.make_rooms(alloc, track),
         None => Ok(()),
     }
 }
@@ -198,7 +197,7 @@ impl Tracks {
     {
         make_place(&mut self.places, proc)?;
         match self.places.get_mut(proc) {
-            Some(place) => make_room_in(place, track),
+            Some(place) => make_room_in(place, self.alloc, track),
             None => unreachable!(),
         }
     }

@@ -1,12 +1,8 @@
-use Rattle.std.proofs.Common.{◌<◌, rules, refl, sym, subst, ◌∙◌, arith, ap}
-use Rattle.std.specs.BTreeMap.{IsOrdered}
-use Rattle.std.specs.Cmp.Lexicographic.{slice_cmp}
-use Rattle.std.specs.Ordering.{nat_cmp}
-use Rattle.std.specs.List.{flat_map}
+use Rattle.std.proofs.Common.{◌<◌, rules, refl, sym, ◌∙◌, arith}
 use Rattle.pmg_value.proofs.WrittenLemmas.{appends_nothing, first_part, front_of_all, two_parts}
-use Rattle.pmg_store.specs.Dump.{key_line}
-use Rattle.pmg_store.specs.Tables.{lines_of}
-use Rattle.pmg_store.proofs.DumpLemmas.{silent, first_told, told_text}
+use Rattle.pmg_lane.specs.declared.track.Reads.TheVariants as reads
+use Rattle.pmg_store.proofs.DumpLemmas.{silent, first_told}
+use Rattle.pmg_store.proofs.SingleText.{shown_text}
 use Rattle.pmg_store.proofs.dump.put_proc.Goals as goal
 
 pub returns-then-level-eq0-clause-text : goal.returns-then-level-eq0-clause-text
@@ -20,10 +16,16 @@ returns-in_err-put_proc_line-clause-text g c =
     let some : 0 < n = omega arith in
     rw (first_told c.args.proc.now c.args.track.now n c.level-level.ensures.value some) (first_part _ _ _ _ _ _ refl c.in_err-put_proc_line.ensures.text.0 (search rules))
 
-pub returns-clause-text : goal.returns-clause-text
-returns-clause-text g c =
+pub returns-in-Few-clause-text : goal.returns-in-Few-clause-text
+returns-in-Few-clause-text g c =
     let n = c.level-level.result in
-    let t = c.args.track.now in
     let some : 0 < n = omega arith in
-    let told = told_text c.args.proc.now t n c.requires c.level-level.ensures.value some (subst (IsOrdered (slice_cmp nat_cmp)) c.reads.ensures c.put_key_lines.ensures.ordered) in
-    rw told (two_parts _ _ _ _ _ _ _ _ refl (ap (λ reads. flat_map key_line (lines_of reads.entries)) c.reads.ensures) c.put_key_lines.ensures.lines c.in_ok-put_proc_line.ensures.text.1)
+    let told = shown_text c.args.proc.now c.args.track.now (reads.Few c.in-Few.entries) n c.requires c.in-Few.ensures c.level-level.ensures.value some tt in
+    rw told (two_parts _ _ _ _ _ _ _ _ refl refl c.put_entry_lines.ensures.lines c.in_ok-put_proc_line.ensures.text.1)
+
+pub returns-in-Many-clause-text : goal.returns-in-Many-clause-text
+returns-in-Many-clause-text g c =
+    let n = c.level-level.result in
+    let some : 0 < n = omega arith in
+    let told = shown_text c.args.proc.now c.args.track.now (reads.Many c.in-Many.reads) n c.requires c.in-Many.ensures c.level-level.ensures.value some c.put_key_lines.ensures.ordered in
+    rw told (two_parts _ _ _ _ _ _ _ _ refl refl c.put_key_lines.ensures.lines c.in_ok-put_proc_line.ensures.text.1)

@@ -3,7 +3,7 @@ use Rattle.std.specs.Vec.Iter.{into_iter_items}
 use Rattle.pmg_value.specs.Lists.{In}
 use Rattle.pmg_commit.specs.Pieces.{entry_of}
 use Rattle.pmg_lane.proofs.Settling.{settles_next, late_trans, in_map, map_step, in_first, in_rest}
-use Rattle.pmg_lane.proofs.Moving.{has_stays}
+use Rattle.pmg_lane.proofs.Moving.{has_stays, stay_trans}
 use Rattle.pmg_lane.proofs.entries.Entries.put_all.Goals as goal
 
 pub loop-entry-preserved : goal.loop-entry-preserved
@@ -22,4 +22,5 @@ loop-entry-preserved c =
       late_trans level c.args.self.now a b inv.2 put.late,
       λ e i. has_stays a b level e.number e.key put.stay (inv.3 e (in_rest e entry _ _ step i)),
       λ e i. inv.4 e (in_rest e entry _ _ step i),
+      stay_trans c.args.self.now a b inv.5 put.stay,
     )

@@ -2,7 +2,8 @@ use Rattle.std.proofs.Common.{map, sym, ap, ◌∙◌}
 use Rattle.pmg_commit.specs.Pieces.{entry_of}
 use Rattle.pmg_commit.specs.Knowledge.{union, read}
 use Rattle.pmg_commit.proofs.ReadLaws.{read-core}
-use Rattle.pmg_lane.specs.Lanes.{known_by, told}
+use Rattle.pmg_lane.specs.Lanes.{known_by}
+use Rattle.pmg_lane.specs.Merged.{told}
 use Rattle.pmg_lane.proofs.LaneCores.{told_is, known_with}
 use Rattle.pmg_lane.proofs.lane.Lane.read_with.Goals as goal
 

@@ -1,16 +1,14 @@
-use Rattle.std.proofs.Common.{sym, ap, ◌∙◌}
+use Rattle.std.proofs.Common.{ap, ◌∙◌}
 use Rattle.pmg_commit.specs.Levels.{level}
 use Rattle.pmg_commit.specs.Data.{level_at}
-use Rattle.pmg_lane.proofs.Knowing.{level_known}
-use Rattle.pmg_store.proofs.TrackData.{known_there, known_none, level-nothing}
+use Rattle.pmg_store.proofs.TrackData.{numbers_there, known_none, level-nothing}
 use Rattle.pmg_store.proofs.store.Store.level.Goals as goal
 
 pub returns-in-Some-clause-value : goal.returns-in-Some-clause-value
 returns-in-Some-clause-value c =
     let t = c.in-Some.track.now in
     c.level.ensures.value
-    ∙ sym (level_known t)
-    ∙ ap (λ k. level k.numbers) (known_there c.self.inside.tracks.places c.args.proc.now t c.in-Some.ensures.kept c.in-Some.ensures.there)
+    ∙ ap level (numbers_there c.self.inside.tracks.places c.args.proc.now t c.in-Some.ensures.there)
     ∙ ap (λ d. level_at d c.args.proc.now) c.self.view_is
 
 pub returns-in-None-clause-value : goal.returns-in-None-clause-value

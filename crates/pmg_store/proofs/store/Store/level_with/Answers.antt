@@ -3,9 +3,10 @@ use Rattle.std.specs.FinSet as set
 use Rattle.pmg_commit.specs.Data.{known}
 use Rattle.pmg_commit.specs.Levels.{level}
 use Rattle.pmg_commit.specs.Knowledge.{nothing}
-use Rattle.pmg_commit.proofs.Joining.{union_nothing}
-use Rattle.pmg_lane.specs.Lanes.{known_by, told}
-use Rattle.pmg_lane.proofs.Tracking.{told_numbers}
+use Rattle.pmg_commit.proofs.Joining.{core-nothing, union_nothing}
+use Rattle.pmg_lane.specs.Lanes.{known_by}
+use Rattle.pmg_lane.specs.Merged.{told}
+use Rattle.pmg_lane.proofs.Merging.{told_numbers}
 use Rattle.pmg_lane.proofs.LaneCores.{told_is}
 use Rattle.pmg_store.proofs.TrackData.{known_there, known_none, level_past, level_here}
 use Rattle.pmg_store.proofs.store.Store.level_with.Goals as goal
@@ -25,7 +26,7 @@ returns-in-Some-clause-value c =
     c.level_with.ensures.value
     ∙ ap (λ s. level (set.union k.numbers s)) (sym (told_numbers c.from.result c.to.result piece.entries))
     ∙ level_here c.args.self.now piece p k told_by
-    (known_there c.self.inside.tracks.places p c.in-Some.track.now c.in-Some.ensures.kept c.in-Some.ensures.there ∙ ap (λ d. known d p) c.self.view_is)
+    (known_there c.self.inside.tracks.places p c.in-Some.track.now c.in-Some.ensures.there ∙ ap (λ d. known d p) c.self.view_is)
     (told_is piece c.from.result c.to.result piece.entries c.from.ensures.value c.to.ensures.value refl)
     (sym c.is_of.ensures ∙ c.if-not-is_of.false)
 
@@ -38,6 +39,6 @@ returns-in-None-clause-value c =
     ∙ ap level (sym (told_numbers c.from-in-None.result c.to-in-None.result piece.entries))
     ∙ ap (λ k. level k.numbers) (sym (union_nothing told_by))
     ∙ level_here c.args.self.now piece p nothing told_by
-    (known_none c.self.inside.tracks.places p c.in-None.ensures.there ∙ ap (λ d. known d p) c.self.view_is)
+    (core-nothing ∙ known_none c.self.inside.tracks.places p c.in-None.ensures.there ∙ ap (λ d. known d p) c.self.view_is)
     (told_is piece c.from-in-None.result c.to-in-None.result piece.entries c.from-in-None.ensures.value c.to-in-None.ensures.value refl)
     (sym c.is_of.ensures ∙ c.if-not-is_of.false)

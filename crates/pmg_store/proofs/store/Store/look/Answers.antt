@@ -5,13 +5,13 @@ use Rattle.pmg_scope.specs.Scripts.{term_key}
 use Rattle.pmg_commit.specs.Data.{read_at}
 use Rattle.pmg_commit.specs.Knowledge.{read}
 use Rattle.pmg_lane.specs.Lanes.{known_by}
-use Rattle.pmg_store.proofs.TrackData.{known_there, known_none, read-nothing, is_read_alike}
+use Rattle.pmg_store.proofs.TrackData.{read_there, known_none, read-nothing, is_read_alike}
 use Rattle.pmg_store.proofs.store.Store.look.Goals as goal
 
 pub returns-in-Some-clause-value : goal.returns-in-Some-clause-value
 returns-in-Some-clause-value c =
     c.read-value.ensures
-    ∙ ap (λ k. read k c.args.key.now) (known_there c.self.inside.tracks.places c.args.proc.now c.in-Some.track.now c.in-Some.ensures.kept c.in-Some.ensures.there)
+    ∙ read_there c.self.inside.tracks.places c.args.proc.now c.in-Some.track.now c.args.key.now c.in-Some.ensures.there
     ∙ ap (λ d. read_at d c.args.proc.now c.args.key.now) c.self.view_is
 
 pub returns-in-Some-clause-ended : goal.returns-in-Some-clause-ended
@@ -20,7 +20,7 @@ returns-in-Some-clause-ended c =
     c.is_some.ensures
     ∙ is_read_alike _ (read (known_by track) c.of_termination.result) (λ v. spelling v.now) c.read-term.ensures
     ∙ ap (λ key. is_some (read (known_by track) key)) c.of_termination.ensures
-    ∙ ap (λ k. is_some (read k term_key)) (known_there c.self.inside.tracks.places c.args.proc.now track c.in-Some.ensures.kept c.in-Some.ensures.there)
+    ∙ ap is_some (read_there c.self.inside.tracks.places c.args.proc.now track term_key c.in-Some.ensures.there)
     ∙ ap (λ d. is_some (read_at d c.args.proc.now term_key)) c.self.view_is
 
 pub returns-in-None-clause-value : goal.returns-in-None-clause-value

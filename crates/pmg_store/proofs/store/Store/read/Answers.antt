@@ -1,13 +1,13 @@
 use Rattle.std.proofs.Common.{sym, ap, ◌∙◌}
 use Rattle.pmg_commit.specs.Data.{read_at}
 use Rattle.pmg_commit.specs.Knowledge.{read}
-use Rattle.pmg_store.proofs.TrackData.{known_there, known_none, read-nothing}
+use Rattle.pmg_store.proofs.TrackData.{read_there, known_none, read-nothing}
 use Rattle.pmg_store.proofs.store.Store.read.Goals as goal
 
 pub returns-in-Some : goal.returns-in-Some
 returns-in-Some c =
     c.read.ensures
-    ∙ ap (λ k. read k c.args.key.now) (known_there c.self.inside.tracks.places c.args.proc.now c.in-Some.track.now c.in-Some.ensures.kept c.in-Some.ensures.there)
+    ∙ read_there c.self.inside.tracks.places c.args.proc.now c.in-Some.track.now c.args.key.now c.in-Some.ensures.there
     ∙ ap (λ d. read_at d c.args.proc.now c.args.key.now) c.self.view_is
 
 pub returns-in-None : goal.returns-in-None

@@ -2,8 +2,9 @@ use Rattle.std.proofs.Common.{map, sym, ap, ◌∙◌}
 use Rattle.pmg_commit.specs.Data.{known}
 use Rattle.pmg_commit.specs.Pieces.{entry_of}
 use Rattle.pmg_commit.specs.Knowledge.{nothing, read}
-use Rattle.pmg_commit.proofs.Joining.{union_nothing}
-use Rattle.pmg_lane.specs.Lanes.{known_by, told}
+use Rattle.pmg_commit.proofs.Joining.{core-nothing, union_nothing}
+use Rattle.pmg_lane.specs.Lanes.{known_by}
+use Rattle.pmg_lane.specs.Merged.{told}
 use Rattle.pmg_lane.proofs.LaneCores.{told_is}
 use Rattle.pmg_store.proofs.TrackData.{known_there, known_none, read_past, read_here}
 use Rattle.pmg_store.proofs.store.Store.read_with.Goals as goal
@@ -21,7 +22,7 @@ returns-in-Some c =
     let es = map entry_of c.entries.result.now in
     c.read_with.ensures
     ∙ read_here c.args.self.now piece p (known_by c.in-Some.track.now) (told c.from.result c.to.result es)
-    (known_there c.self.inside.tracks.places p c.in-Some.track.now c.in-Some.ensures.kept c.in-Some.ensures.there ∙ ap (λ d. known d p) c.self.view_is)
+    (known_there c.self.inside.tracks.places p c.in-Some.track.now c.in-Some.ensures.there ∙ ap (λ d. known d p) c.self.view_is)
     (told_is piece c.from.result c.to.result es c.from.ensures.value c.to.ensures.value c.entries.ensures)
     (sym c.is_of.ensures ∙ c.if-not-is_of.false)
     c.args.key.now
@@ -35,7 +36,7 @@ returns-in-None c =
     c.read_alone.ensures
     ∙ ap (λ k. read k c.args.key.now) (sym (union_nothing told_by))
     ∙ read_here c.args.self.now piece p nothing told_by
-    (known_none c.self.inside.tracks.places p c.in-None.ensures.there ∙ ap (λ d. known d p) c.self.view_is)
+    (core-nothing ∙ known_none c.self.inside.tracks.places p c.in-None.ensures.there ∙ ap (λ d. known d p) c.self.view_is)
     (told_is piece c.from-in-None.result c.to-in-None.result es c.from-in-None.ensures.value c.to-in-None.ensures.value c.entries-in-None.ensures)
     (sym c.is_of.ensures ∙ c.if-not-is_of.false)
     c.args.key.now

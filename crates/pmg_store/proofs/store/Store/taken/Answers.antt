@@ -2,13 +2,13 @@ use Rattle.std.proofs.Common.{sym, ap, ◌∙◌}
 use Rattle.std.specs.FinSet as set
 use Rattle.std.specs.Ordering.{nat_cmp}
 use Rattle.pmg_commit.specs.Data.{taken_at}
-use Rattle.pmg_store.proofs.TrackData.{known_there, known_none}
+use Rattle.pmg_store.proofs.TrackData.{numbers_there, known_none}
 use Rattle.pmg_store.proofs.store.Store.taken.Goals as goal
 
 pub returns-in-Some : goal.returns-in-Some
 returns-in-Some c =
     c.taken.ensures
-    ∙ ap (λ k. set.contains k.numbers c.args.n) (known_there c.self.inside.tracks.places c.args.proc.now c.in-Some.track.now c.in-Some.ensures.kept c.in-Some.ensures.there)
+    ∙ ap (λ s. set.contains s c.args.n) (numbers_there c.self.inside.tracks.places c.args.proc.now c.in-Some.track.now c.in-Some.ensures.there)
     ∙ ap (λ d. taken_at d c.args.proc.now c.args.n) c.self.view_is
 
 pub returns-in-None : goal.returns-in-None

@@ -5,7 +5,7 @@ use Rattle.pmg_value.specs.Process.{proc_cmp}
 use Rattle.pmg_value.proofs.RowLemmas.{found_is, some_found}
 use Rattle.pmg_commit.specs.Cores.{core_of}
 use Rattle.pmg_commit.specs.Pieces.{entry_of}
-use Rattle.pmg_lane.specs.Lanes.{told}
+use Rattle.pmg_lane.specs.Merged.{told}
 use Rattle.pmg_store.proofs.TrackSteps.{held_there, put_are, put_same, put_taken, track_there}
 use Rattle.pmg_store.proofs.tracks.Tracks.absorb.Goals as goal
 

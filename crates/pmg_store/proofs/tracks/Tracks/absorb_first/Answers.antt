@@ -6,7 +6,7 @@ use Rattle.pmg_value.specs.Maps.{join_to}
 use Rattle.pmg_value.specs.Process.{proc_cmp}
 use Rattle.pmg_commit.specs.Cores.{core_of, join_cores}
 use Rattle.pmg_commit.specs.Pieces.{entry_of}
-use Rattle.pmg_lane.specs.Lanes.{told}
+use Rattle.pmg_lane.specs.Merged.{told}
 use Rattle.pmg_lane.specs.Places.{placed}
 use Rattle.pmg_store.specs.Tracks.{held_at, held_in}
 use Rattle.pmg_store.proofs.TrackSteps.{put_are, put_taken}
