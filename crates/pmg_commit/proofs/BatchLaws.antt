@@ -14,6 +14,7 @@ use Rattle.pmg_scope.specs.declared.scope.Reach.TheVariants as reach
 use Rattle.pmg_scope.specs.Cached.{Table, Unsealed}
 use Rattle.pmg_scope.specs.Scripts.{Call, Script, count_commits, later_of, put_of, last_put}
 use Rattle.pmg_scope.specs.Sealing.{part, next_part}
+use Rattle.pmg_scope.proofs.CacheLaws.{next_appended}
 use Rattle.pmg_scope.proofs.SealingLaws.{none_earlier, later_assoc}
 use Rattle.pmg_commit.specs.SealerRules.{AnyBatchFits, batch_puts}
 use Rattle.pmg_commit.proofs.SealerLaws.{not_again, others_sorted}
@@ -27,34 +28,17 @@ put_all scope rows = map (λ e. Call.put scope e.0 e.1) rows
 
 -- ---- puts after a script
 
-count_puts : (s : Script) (scope : Scope) (rows : Rows) → count_commits (s ++ put_all scope rows) ≡ count_commits s
-count_puts [] scope [] = refl
-count_puts [] scope (e ∷ rows) = count_puts [] scope rows
-count_puts (Call.put sc key value ∷ cs) scope rows = count_puts cs scope rows
-count_puts (Call.commit ∷ cs) scope rows = ap suc (count_puts cs scope rows)
-count_puts (Call.enter f ∷ cs) scope rows = count_puts cs scope rows
-count_puts (Call.terminate ∷ cs) scope rows = count_puts cs scope rows
+no_commits_put : (scope : Scope) (rows : Rows) → count_commits (put_all scope rows) ≡ 0
+no_commits_put scope [] = refl
+no_commits_put scope (e ∷ rows) = no_commits_put scope rows
 
 part_of_puts : (scope : Scope) (rows : Rows) → part zero (put_all scope rows) ≡ put_all scope rows
 unfolding part
 part_of_puts scope [] = refl
 part_of_puts scope (e ∷ rows) = ap (λ (ds : Script). Call.put scope e.0 e.1 ∷ ds) (part_of_puts scope rows)
 
-part_puts : (s : Script) (scope : Scope) (rows : Rows) (n : ℕ) → n ≡ count_commits s → part n (s ++ put_all scope rows) ≡ part n s ++ put_all scope rows
-unfolding part
-part_puts [] scope rows zero h = part_of_puts scope rows
-part_puts [] scope rows (suc n) h = absurd (omega (arith, h))
-part_puts (Call.put sc key value ∷ cs) scope rows zero h = ap (λ (ds : Script). Call.put sc key value ∷ ds) (part_puts cs scope rows zero h)
-part_puts (Call.put sc key value ∷ cs) scope rows (suc n) h = part_puts cs scope rows (suc n) h
-part_puts (Call.commit ∷ cs) scope rows zero h = absurd (omega (arith, h))
-part_puts (Call.commit ∷ cs) scope rows (suc n) h = part_puts cs scope rows n (omega (arith, h))
-part_puts (Call.enter f ∷ cs) scope rows zero h = ap (λ (ds : Script). Call.enter f ∷ ds) (part_puts cs scope rows zero h)
-part_puts (Call.enter f ∷ cs) scope rows (suc n) h = part_puts cs scope rows (suc n) h
-part_puts (Call.terminate ∷ cs) scope rows zero h = ap (λ (ds : Script). Call.terminate ∷ ds) (part_puts cs scope rows zero h)
-part_puts (Call.terminate ∷ cs) scope rows (suc n) h = part_puts cs scope rows (suc n) h
-
 next_puts : (s : Script) (scope : Scope) (rows : Rows) → next_part (s ++ put_all scope rows) ≡ next_part s ++ put_all scope rows
-next_puts s scope rows = ap (λ (n : ℕ). part n (s ++ put_all scope rows)) (count_puts s scope rows) ∙ part_puts s scope rows (count_commits s) refl
+next_puts s scope rows = next_appended s (put_all scope rows) (no_commits_put scope rows) (part_of_puts scope rows)
 
 last_put_both : (r : Reach) (k : List ℕ) (xs ys : Script) → last_put r k (xs ++ ys) ≡ later_of (last_put r k ys) (last_put r k xs)
 last_put_both r k [] ys = sym (none_earlier (last_put r k ys))

@@ -97,11 +97,11 @@ pub struct Piece {
 
 impl Drop for Piece {
     fn drop(self) {
-        let Piece {
-            proc: _,
-            from: _,
-            to: _,
-            entries: _,
+        let Self {
+            proc,
+            from,
+            to,
+            entries,
         } = self;
     }
 }

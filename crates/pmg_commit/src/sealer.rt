@@ -46,13 +46,13 @@ pub struct Sealer {
 
 impl Drop for Sealer {
     fn drop(self) {
-        let Sealer {
-            alloc: _,
-            proc: _,
-            level: _,
-            ended: _,
-            near: _,
-            far: _,
+        let Self {
+            alloc,
+            proc,
+            level,
+            ended,
+            near,
+            far,
         } = self;
     }
 }

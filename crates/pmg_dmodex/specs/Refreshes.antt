@@ -6,15 +6,23 @@ use Rattle.std.specs.Coded.{Coded, code_by, coded×, coded_ℕ}
 use Rattle.pmg_value.specs.declared.process.Proc.{Proc}
 use Rattle.pmg_value.specs.Process.{proc_cmp, coded_proc}
 
+-- who asks, and for whose commits, by the number of the request
+abbrev pub Numbered : Type 0
+Numbered = finite.FinMap nat_cmp (Proc × Proc)
+
+-- the code of requests by number
+abbrev pub coded_numbered : Coded Numbered
+coded_numbered = finite.code coded_ℕ (coded× coded_proc coded_proc)
+
 -- The number of the last request that was given one; and of each that is not answered who asks, and for whose commits.
 pub record Refreshes : Type 0 where
   pub last : ℕ
-  pub waiting : finite.FinMap nat_cmp (Proc × Proc)
+  pub waiting : Numbered
 
 -- such requests as a pair
 abbrev pub coded_refreshes : Coded Refreshes
 coded_refreshes =
-    code_by (ℕ × finite.FinMap nat_cmp (Proc × Proc)) (coded× coded_ℕ (finite.code coded_ℕ (coded× coded_proc coded_proc))) (λ r. (r.last, r.waiting))
+    code_by (ℕ × Numbered) (coded× coded_ℕ coded_numbered) (λ r. (r.last, r.waiting))
     (λ p. record { last = p.0; waiting = p.1 }) (λ _. refl)
 
 -- none was made

@@ -7,17 +7,25 @@ use Rattle.pmg_value.specs.Process.{proc_cmp, coded_proc}
 use Rattle.pmg_dmodex.specs.Levels.{Levels, coded_levels, levels_of, node_level, with_level, below, without_below}
 use Rattle.pmg_dmodex.specs.Refreshes.{Refreshes, coded_refreshes, no_refreshes}
 
+-- the level at which each of some processes' homes was asked for its commits
+abbrev pub Asked : Type 0
+Asked = finite.FinMap proc_cmp ℕ
+
+-- the code of levels at which homes were asked
+abbrev pub coded_asked : Coded Asked
+coded_asked = finite.code coded_proc coded_ℕ
+
 -- The level that was named last when a process's home was asked for its commits; the nodes that wait for a process's
 -- commits, each with the level that it knows; and the requests for commits that are asked for anew.
 pub record Requests : Type 0 where
-  pub asked : finite.FinMap proc_cmp ℕ
+  pub asked : Asked
   pub held : Levels
   pub anew : Refreshes
 
 -- requests as pairs
 abbrev pub coded_requests : Coded Requests
 coded_requests =
-    code_by (finite.FinMap proc_cmp ℕ × (Levels × Refreshes)) (coded× (finite.code coded_proc coded_ℕ) (coded× coded_levels coded_refreshes))
+    code_by (Asked × (Levels × Refreshes)) (coded× coded_asked (coded× coded_levels coded_refreshes))
     (λ r. (r.asked, (r.held, r.anew))) (λ p. record { asked = p.0; held = p.1.0; anew = p.1.1 }) (λ _. refl)
 
 -- nothing was asked for, and no node waits

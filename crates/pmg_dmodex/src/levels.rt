@@ -1,10 +1,9 @@
 //! Levels by node, and by process and node.
 ghost use Rattle.std.specs.Prelude.{◌≡◌, None, IfOk, OnOk, OnErr};
 ghost use Rattle.std.specs.FinMap as finite;
-ghost use Rattle.std.specs.Option.{option_map};
 ghost use Rattle.pmg_dmodex.specs.Levels.{below, node_level, levels_of, not_below, with_level, without_below};
 
-use pmg_value::{Copied, NodeId, Proc, copy_rows};
+use pmg_value::{Copied, Growable, NodeId, Proc, copy_rows, grow_row};
 use std::alloc::{AllocError, Global};
 use std::collections::BTreeMap;
 use std::marker::Model;
@@ -28,8 +27,8 @@ impl Model for NodeLevels {
 }
 
 impl NodeLevels {
-    /// No levels. It keeps the allocator.
-    fn new(alloc: Global) -> NodeLevels
+    /// No levels. They keep the allocator.
+    pub fn new(alloc: Global) -> NodeLevels
         ensures { result ≡ finite.empty }
     {
         NodeLevels {
@@ -43,16 +42,6 @@ impl NodeLevels {
         ensures { result ≡ finite.get self.now node }
     {
         self.rows.get(&node).copied()
-    }
-
-    /// Sets the node's level.
-    fn set(&mut self, node: NodeId, level: u64) -> Result<(), AllocError>
-        ensures ok { OnOk result (self.new ≡ finite.insert self.old node level) }
-        ensures err { OnErr result (self.new ≡ self.old) }
-        ensures absent { OnErr result (finite.get self.old node ≡ None) }
-    {
-        self.rows.insert(node, level)?;
-        Ok(())
     }
 
     /// The nodes whose level is below that one, with their levels, by node.
@@ -73,6 +62,24 @@ impl NodeLevels {
         ensures { self.new ≡ not_below level self.old }
     {
         self.rows.retain(|_, held| *held >= level);
+    }
+}
+
+impl Growable for NodeLevels {
+    ghost use Rattle.std.specs.Prelude.{◌≡◌, None};
+    ghost use Rattle.std.specs.FinMap as finite;
+
+    type Part = (NodeId, u64);
+
+    ghost grown = { λ m part. finite.insert m part.0 part.1 };
+
+    ghost MayFail = { λ m part. finite.get m part.0 ≡ None };
+
+    /// Sets the node's level.
+    fn grow(&mut self, part: (NodeId, u64)) -> Result<(), AllocError> {
+        let (node, level) = part;
+        self.rows.insert(node, level)?;
+        Ok(())
     }
 }
 
@@ -114,18 +121,11 @@ impl Levels {
         }
     }
 
-    /// The process's levels by node, where it has any.
-    fn of(&self, proc: &Proc) -> Option<&NodeLevels>
-        ensures { option_map (λ levels. levels.now) result ≡ finite.get self.now proc.now }
-    {
-        self.rows.get(proc)
-    }
-
     /// The process's level at the node.
     pub fn get(&self, proc: &Proc, node: NodeId) -> Option<u64>
         ensures { result ≡ node_level self.now proc.now node }
     {
-        match self.of(proc) {
+        match self.rows.get(proc) {
             Some(levels) => levels.get(node),
             None => None,
         }
@@ -138,20 +138,15 @@ impl Levels {
         ensures err { OnErr result (self.new ≡ self.old) }
         ensures absent { OnErr result (node_level self.old proc.now node ≡ None) }
     {
-        if let Some(levels) = self.rows.get_mut(proc) {
-            return levels.set(node, level);
-        }
-        let mut levels = NodeLevels::new(self.alloc);
-        levels.set(node, level)?;
-        self.rows.insert(proc.copy()?, levels)?;
-        Ok(())
+        let none = NodeLevels::new(self.alloc);
+        grow_row(&mut self.rows, proc, none, (node, level))
     }
 
     /// The nodes at which the process's level is below that one, with their levels, by node.
     pub fn below(&self, proc: &Proc, level: u64) -> Result<Vec<(NodeId, u64)>, AllocError>
         ensures { IfOk result (λ pairs. pairs.items ≡ below level (levels_of self.now proc.now)) }
     {
-        match self.of(proc) {
+        match self.rows.get(proc) {
             Some(levels) => levels.below(level),
             None => Ok(Vec::new(self.alloc)),
         }

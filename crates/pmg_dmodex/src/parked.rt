@@ -4,14 +4,14 @@ ghost use Rattle.std.specs.FinMap as finite;
 ghost use Rattle.std.specs.Option.{option_map};
 ghost use Rattle.pmg_dmodex.specs.Parked.{awaited, parked_on, parking, unparked};
 
-use pmg_value::{Key, Proc};
+use pmg_value::{Growable, Key, Proc, grow_row};
 use std::alloc::{AllocError, Global};
 use std::collections::BTreeMap;
 use std::marker::Model;
 
 /// The keys that some processes ask for, one each.
 #[derive(Drop)]
-struct Askers {
+pub struct Askers {
     alloc: Global,
     rows: BTreeMap<Proc, Key>,
 }
@@ -29,7 +29,7 @@ impl Model for Askers {
 
 impl Askers {
     /// Nobody asks. It keeps the allocator.
-    fn new(alloc: Global) -> Askers
+    pub fn new(alloc: Global) -> Askers
         ensures { result ≡ finite.empty }
     {
         Askers {
@@ -43,15 +43,6 @@ impl Askers {
         ensures { option_map (λ key. key.now) result ≡ finite.get self.now asker.now }
     {
         self.rows.get(asker)
-    }
-
-    /// Sets the key that the process asks for.
-    fn set(&mut self, asker: Proc, key: Key) -> Result<(), AllocError>
-        ensures ok { OnOk result (self.new ≡ finite.insert self.old asker key) }
-        ensures err { OnErr result (self.new ≡ self.old) }
-    {
-        let _ = self.rows.insert(asker, key)?;
-        Ok(())
     }
 
     /// The process asks no longer.
@@ -70,6 +61,23 @@ impl Askers {
             gets.push((asker.copy()?, key.copy()?))?;
         }
         Ok(gets)
+    }
+}
+
+impl Growable for Askers {
+    ghost use Rattle.std.specs.FinMap as finite;
+
+    type Part = (Proc, Key);
+
+    ghost grown = { λ m part. finite.insert m part.0 part.1 };
+
+    ghost MayFail = { λ _ _. Unit {0} };
+
+    /// Sets the key that the process asks for.
+    fn grow(&mut self, part: (Proc, Key)) -> Result<(), AllocError> {
+        let (asker, key) = part;
+        let _ = self.rows.insert(asker, key)?;
+        Ok(())
     }
 }
 
@@ -103,18 +111,11 @@ impl Parked {
         }
     }
 
-    /// Who asks for a key of the target, where somebody did.
-    fn of(&self, target: &Proc) -> Option<&Askers>
-        ensures { option_map (λ askers. askers.now) result ≡ finite.get self.now target.now }
-    {
-        self.rows.get(target)
-    }
-
     /// The key of the target that the asking process waits for.
     pub fn get(&self, target: &Proc, asker: &Proc) -> Option<&Key>
         ensures { option_map (λ key. key.now) result ≡ awaited self.now target.now asker.now }
     {
-        match self.of(target) {
+        match self.rows.get(target) {
             Some(askers) => askers.get(asker),
             None => None,
         }
@@ -127,20 +128,15 @@ impl Parked {
         ensures err { OnErr result (self.new ≡ self.old) }
     {
         let (asker, key) = (asker.copy()?, key.copy()?);
-        if let Some(askers) = self.rows.get_mut(target) {
-            return askers.set(asker, key);
-        }
-        let mut askers = Askers::new(self.alloc);
-        askers.set(asker, key)?;
-        let _ = self.rows.insert(target.copy()?, askers)?;
-        Ok(())
+        let nobody = Askers::new(self.alloc);
+        grow_row(&mut self.rows, target, nobody, (asker, key))
     }
 
     /// The gets that wait for a key of the target: who asks, and for which key, by who asks.
     pub fn on(&self, target: &Proc) -> Result<Vec<(Proc, Key)>, AllocError>
         ensures { IfOk result (λ gets. gets.items ≡ parked_on self.now target.now) }
     {
-        match self.of(target) {
+        match self.rows.get(target) {
             Some(askers) => askers.list(),
             None => Ok(Vec::new(self.alloc)),
         }

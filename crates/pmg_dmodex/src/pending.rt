@@ -15,30 +15,29 @@ use std::marker::Model;
 
 /// The level at which each process's home was asked for its commits.
 #[derive(Drop)]
-struct Asked {
+pub struct Asked {
+    alloc: Global,
     rows: BTreeMap<Proc, u64>,
 }
 
 impl Model for Asked {
-    ghost use Rattle.std.specs.Prelude.{ℕ};
-    ghost use Rattle.std.specs.FinMap as finite;
-    ghost use Rattle.std.specs.Coded.{coded_ℕ};
-    ghost use Rattle.pmg_value.specs.Process.{proc_cmp, coded_proc};
     ghost use Rattle.pmg_value.specs.Rows.{map_of};
+    ghost use Rattle.pmg_dmodex.specs.Requests.{Asked, coded_asked};
 
-    ghost Value = { finite.FinMap proc_cmp ℕ };
+    ghost Value = { Asked };
 
-    ghost coded = { finite.code coded_proc coded_ℕ };
+    ghost coded = { coded_asked };
 
     ghost view = { λ a. map_of a.rows.entries };
 }
 
 impl Asked {
-    /// Nobody was asked.
-    fn new(alloc: Global) -> Asked
+    /// Nobody was asked. It keeps the allocator.
+    pub fn new(alloc: Global) -> Asked
         ensures { result ≡ finite.empty }
     {
         Asked {
+            alloc,
             rows: BTreeMap::new(alloc),
         }
     }
@@ -66,12 +65,13 @@ impl Asked {
         self.rows.remove(proc);
     }
 
-    /// A copy, equal to this one.
-    fn copy(&self, alloc: Global) -> Result<Asked, AllocError>
+    /// Another one of the same meaning, with the same allocator.
+    fn copy(&self) -> Result<Asked, AllocError>
         ensures { IfOk result (λ copy. copy ≡ self.now) }
     {
         Ok(Asked {
-            rows: copy_rows(alloc, &self.rows)?,
+            alloc: self.alloc,
+            rows: copy_rows(self.alloc, &self.rows)?,
         })
     }
 }
@@ -80,7 +80,6 @@ impl Asked {
 /// until a process of this node has commits past the level that they know, and its own of gets that ask anew, under
 /// numbers.
 pub struct Pending {
-    alloc: Global,
     asked: Asked,
     held: Levels,
     anew: Refreshes,
@@ -88,12 +87,7 @@ pub struct Pending {
 
 impl Drop for Pending {
     fn drop(self) {
-        let Pending {
-            alloc: _,
-            asked: _,
-            held: _,
-            anew: _,
-        } = self;
+        let Self { asked, held, anew } = self;
     }
 }
 
@@ -113,7 +107,6 @@ impl Pending {
         ensures { result ≡ no_requests }
     {
         Pending {
-            alloc,
             asked: Asked::new(alloc),
             held: Levels::new(alloc),
             anew: Refreshes::new(alloc),
@@ -212,8 +205,7 @@ impl Pending {
         ensures { IfOk result (λ copy. copy ≡ self.now) }
     {
         Ok(Pending {
-            alloc: self.alloc,
-            asked: self.asked.copy(self.alloc)?,
+            asked: self.asked.copy()?,
             held: self.held.copy()?,
             anew: self.anew.copy()?,
         })

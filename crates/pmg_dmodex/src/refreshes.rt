@@ -10,46 +10,47 @@ use std::alloc::{AllocError, Global};
 use std::collections::BTreeMap;
 use std::marker::Model;
 
+/// Who asks, and for whose commits.
+type AskerAndTarget = (Proc, Proc);
+
 /// Who asks, and for whose commits, by the number of the request.
 #[derive(Drop)]
-struct Numbered {
-    rows: BTreeMap<u64, (Proc, Proc)>,
+pub struct Numbered {
+    alloc: Global,
+    rows: BTreeMap<u64, AskerAndTarget>,
 }
 
 impl Model for Numbered {
-    ghost use Rattle.std.specs.FinMap as finite;
-    ghost use Rattle.std.specs.Ordering.{nat_cmp};
-    ghost use Rattle.std.specs.Coded.{coded_ℕ, coded×};
-    ghost use Rattle.pmg_value.specs.declared.process.Proc.{Proc};
-    ghost use Rattle.pmg_value.specs.Process.{coded_proc};
     ghost use Rattle.pmg_value.specs.Rows.{map_of};
+    ghost use Rattle.pmg_dmodex.specs.Refreshes.{Numbered, coded_numbered};
 
-    ghost Value = { finite.FinMap nat_cmp (Proc × Proc) };
+    ghost Value = { Numbered };
 
-    ghost coded = { finite.code coded_ℕ (coded× coded_proc coded_proc) };
+    ghost coded = { coded_numbered };
 
     ghost view = { λ a. map_of a.rows.entries };
 }
 
 impl Numbered {
-    /// No requests.
-    fn new(alloc: Global) -> Numbered
+    /// No requests. It keeps the allocator.
+    pub fn new(alloc: Global) -> Numbered
         ensures { result ≡ finite.empty }
     {
         Numbered {
+            alloc,
             rows: BTreeMap::new(alloc),
         }
     }
 
     /// The request of the number.
-    fn get(&self, number: u64) -> Option<&(Proc, Proc)>
+    fn get(&self, number: u64) -> Option<&AskerAndTarget>
         ensures { option_map (λ asked. asked.now) result ≡ finite.get self.now number }
     {
         self.rows.get(&number)
     }
 
     /// Sets the request of the number.
-    fn set(&mut self, number: u64, asked: (Proc, Proc)) -> Result<(), AllocError>
+    fn set(&mut self, number: u64, asked: AskerAndTarget) -> Result<(), AllocError>
         ensures ok { OnOk result (self.new ≡ finite.insert self.old number asked) }
         ensures err { OnErr result (self.new ≡ self.old) }
     {
@@ -58,25 +59,26 @@ impl Numbered {
     }
 
     /// Takes the request of the number out.
-    fn remove(&mut self, number: u64) -> Option<(Proc, Proc)>
+    fn remove(&mut self, number: u64) -> Option<AskerAndTarget>
         ensures asked { result ≡ finite.get self.old number }
         ensures left { self.new ≡ finite.remove self.old number }
     {
         self.rows.remove(&number)
     }
 
-    /// A copy, equal to this one.
-    fn copy(&self, alloc: Global) -> Result<Numbered, AllocError>
+    /// Others of the same meaning, with the same allocator.
+    fn copy(&self) -> Result<Numbered, AllocError>
         ensures { IfOk result (λ copy. copy ≡ self.now) }
     {
         Ok(Numbered {
-            rows: copy_rows(alloc, &self.rows)?,
+            alloc: self.alloc,
+            rows: copy_rows(self.alloc, &self.rows)?,
         })
     }
 }
 
 /// Who asks, where it is for commits of the target.
-fn asker_for<'a>(asked: &'a (Proc, Proc), target: &Proc) -> Option<&'a Proc>
+fn asker_for<'a>(asked: &'a AskerAndTarget, target: &Proc) -> Option<&'a Proc>
     ensures { option_map (λ asker. asker.now) result ≡ asker_for target.now (Some asked.now) }
 {
     if asked.1 == *target {
@@ -87,20 +89,10 @@ fn asker_for<'a>(asked: &'a (Proc, Proc), target: &Proc) -> Option<&'a Proc>
 
 /// The requests of a node for commits that its processes ask for anew, under the numbers 1, 2, .. (PMIx Standard 5.0,
 /// PMIX_GET_REFRESH_CACHE).
+#[derive(Drop)]
 pub struct Refreshes {
-    alloc: Global,
     last: u64,
     waiting: Numbered,
-}
-
-impl Drop for Refreshes {
-    fn drop(self) {
-        let Refreshes {
-            alloc: _,
-            last: _,
-            waiting: _,
-        } = self;
-    }
 }
 
 impl Model for Refreshes {
@@ -119,7 +111,6 @@ impl Refreshes {
         ensures { result ≡ no_refreshes }
     {
         Refreshes {
-            alloc,
             last: 0,
             waiting: Numbered::new(alloc),
         }
@@ -174,9 +165,8 @@ impl Refreshes {
         ensures { IfOk result (λ copy. copy ≡ self.now) }
     {
         Ok(Refreshes {
-            alloc: self.alloc,
             last: self.last,
-            waiting: self.waiting.copy(self.alloc)?,
+            waiting: self.waiting.copy()?,
         })
     }
 }

@@ -10,17 +10,12 @@ use std::alloc::Global;
 use std::marker::Model;
 
 /// A namespace of a job: its name, and the node of each of its processes, by rank.
+#[derive(Drop)]
 pub struct Space {
     /// Its name.
     pub name: Nspace,
     /// The homes of its processes, by rank.
     pub homes: Vec<NodeId>,
-}
-
-impl Drop for Space {
-    fn drop(self) {
-        let Space { name: _, homes: _ } = self;
-    }
 }
 
 impl Model for Space {

@@ -10,6 +10,7 @@ use Rattle.std.specs.List.{AllByRecursion, list_any, flat_map, range_with_len}
 use Rattle.std.specs.List.Sorted.{IsStrictlySortedBy}
 use Rattle.std.specs.Ordering.{eq_by_cmp, is_eq, is_lt, nat_cmp, ordering_then}
 use Rattle.std.specs.FinSet as set
+use Rattle.std.proofs.Math.Bool.{or-false}
 use Rattle.std.proofs.lemmas.Cmp.{tied_itself}
 use Rattle.std.proofs.lemmas.List.{drop_all, map-append}
 use Rattle.pmg_value.specs.declared.process.Proc.{Proc}
@@ -29,10 +30,6 @@ swapped true true rest = refl
 swapped true false rest = refl
 swapped false old rest = refl
 
-or_nothing : (b : Bool) → (b || false) ≡ b
-or_nothing true = refl
-or_nothing false = refl
-
 module _ {A : Type 0} (p : A → Bool) where
   pub one_added : (left rest : List A) (x : A) (old new all : Bool) → left ≡ x ∷ rest → new ≡ (p x || old) → (old || list_any p left) ≡ all → (new || list_any p rest) ≡ all
   one_added left rest x old new all next put so_far =
@@ -45,7 +42,7 @@ module _ {A : Type 0} (p : A → Bool) where
       (drop-cons xs i x lt ∙ (λ j. sym is j ∷ drop (sym (add-one i) j) xs)) put so_far
 
   pub all_added : (left : List A) (found all : Bool) → left ≡ [] → (found || list_any p left) ≡ all → found ≡ all
-  all_added left found all none so_far = sym (or_nothing found) ∙ ap (λ ys. found || list_any p ys) (sym none) ∙ so_far
+  all_added left found all none so_far = sym (or-false found) ∙ ap (λ ys. found || list_any p ys) (sym none) ∙ so_far
 
   pub all_added_at : (xs : List A) (i : ℕ) (found : Bool) → length xs ≤ i → (found || list_any p (drop i xs)) ≡ list_any p xs → found ≡ list_any p xs
   all_added_at xs i found past so_far = all_added (drop i xs) found (list_any p xs) (drop_all i xs past) so_far
@@ -175,7 +172,7 @@ put_is p q new old put =
 
 pub one_meant : (jobs : Jobs) (p q : Proc) (new old : Bool) → is_all p ≡ false → new ≡ (eq_by_cmp proc_cmp q p || old) → new ≡ (list_any (eq_by_cmp proc_cmp q) (meant jobs p) || old)
 one_meant jobs p q new old one put =
-    put ∙ ap (λ b. b || old) (sym (or_nothing (eq_by_cmp proc_cmp q p)))
+    put ∙ ap (λ b. b || old) (sym (or-false (eq_by_cmp proc_cmp q p)))
     ∙ ap (λ b. list_any (eq_by_cmp proc_cmp q) (if b then members p.nspace (size_of jobs p.nspace) else p ∷ []) || old) (sym one)
 
 pub all_meant : (jobs : Jobs) (p q : Proc) (new old : Bool) → is_all p ≡ true → new ≡ (list_any (eq_by_cmp proc_cmp q) (members p.nspace (size_of jobs p.nspace)) || old)

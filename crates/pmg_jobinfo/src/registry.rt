@@ -31,18 +31,10 @@ pub const MAX_RANKS: usize = 4_096;
 /// The nodes of a group, the namespaces that are registered with it, and the home of each of their processes
 /// (PMIx Standard 5.0, PMIx_server_register_nspace). A look-up takes about the logarithm of the number of
 /// namespaces, whatever the rank.
+#[derive(Drop)]
 pub struct Registry {
     nodes: Vec<Text>,
     spaces: BTreeMap<Nspace, Homes>,
-}
-
-impl Drop for Registry {
-    fn drop(self) {
-        let Registry {
-            nodes: _,
-            spaces: _,
-        } = self;
-    }
 }
 
 impl Model for Registry {

@@ -127,6 +127,14 @@ max_is a b = elim (cases_lt a b) [
 ]
 
 -- ---- what is put in
+
+-- the ranges before and after the numbers above the one, up to the other, are put in
+pub record AreFilledIn (m0 m2 : BTreeMap ℕ ℕ) (from to : ℕ) : Type 0 where
+  pub apart : AreApart m2
+  pub kept : LieIn m0 m2
+  pub added : Spans m2 from to
+  pub no_more : (k : ℕ) → Covers m2 k → Covers m0 k ⊎ Between from to k
+
 -- m0 is the tree before, m1 without the ranges that the new one reaches, m2 with the first of them as long as all
 module _ (m0 m1 m2 : BTreeMap ℕ ℕ) (from to start end last : ℕ) (apart : AreApart m0) (some : from < to)
     (first : HasRange m0 start end) (before : start ≤ from) (reaches : from ≤ end)
@@ -187,6 +195,10 @@ module _ (m0 m1 m2 : BTreeMap ℕ ℕ) (from to start end last : ℕ) (apart : A
       ]
     ]
   ]
+
+  -- all that there is to know of the ranges then
+  pub filled : AreFilledIn m0 m2 from to
+  filled = record { apart = filled_apart; kept = filled_kept; added = filled_added; no_more = filled_no_more }
 
 -- ---- what is there
 pub spans_have :

@@ -1,5 +1,6 @@
 -- Elements put one by one into a set.
 use Rattle.std.proofs.Common.{◌≡◌, Bool, true, false, cond, ◌||◌, List, [], ◌∷◌, refl, sym, ap, ◌∙◌}
+use Rattle.std.proofs.Math.Bool.{or-false}
 use Rattle.std.specs.Cmp.{IsTotalOrder, eq_by_cmp_equiv}
 use Rattle.std.specs.List.{list_any}
 use Rattle.std.specs.Ordering.{eq_by_cmp}
@@ -33,10 +34,6 @@ module _ {K : Type 0} {R : K → K → Ordering} (o : IsTotalOrder R) where
   or_swap true false c = refl
   or_swap false b c = refl
 
-  or_false : (a : Bool) → (a || false) ≡ a
-  or_false true = refl
-  or_false false = refl
-
   -- two sets together: at first, with one more of the keys put, and at the end
   pub union_first : (s t : BTreeSet K) (q : K) → (set.contains (set_in R s) q || list_any (eq_by_cmp R q) t.keys) ≡ set.contains (set.union (set_in R s) (set_in R t)) q
   union_first s t q = ap (λ b. set.contains (set_in R s) q || b) (sym (contains-set_in t q)) ∙ sym (set.contains-union o (set_in R s) (set_in R t) q)
@@ -45,4 +42,4 @@ module _ {K : Type 0} {R : K → K → Ordering} (o : IsTotalOrder R) where
   union_next s k ks q = ap (λ b. b || list_any (eq_by_cmp R q) ks) (set.contains-insert o s k q) ∙ or_swap (eq_by_cmp R q k) (set.contains s q) (list_any (eq_by_cmp R q) ks)
 
   pub union_last : IsAntisymmetric R → (s t : set.FinSet R) → ((q : K) → (set.contains s q || list_any (eq_by_cmp R q) []) ≡ set.contains t q) → s ≡ t
-  union_last exact s t h = set.same_set o exact s t (λ q. sym (or_false (set.contains s q)) ∙ h q)
+  union_last exact s t h = set.same_set o exact s t (λ q. sym (or-false (set.contains s q)) ∙ h q)

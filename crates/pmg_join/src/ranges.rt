@@ -41,24 +41,14 @@ fn last_up_to(ends: &BTreeMap<u64, u64>, n: u64) -> Option<Span>
     ensures none { IfNone result ((from to : ℕ) → HasRange ends.now from to → n < from) }
 {
     match last_of(ends) {
-        Some(last) if n < last.from => search_up_to(ends, n),
+        Some(last) if n < last.from => match ends.range(..=n).next_back() {
+            Some((from, to)) => Some(Span {
+                from: *from,
+                to: *to,
+            }),
+            None => None,
+        },
         last => last,
-    }
-}
-
-/// Of the ranges that begin at the number or before it, the last, found from the number.
-fn search_up_to(ends: &BTreeMap<u64, u64>, n: u64) -> Option<Span>
-    ensures there { IfSome result (λ s. HasRange ends.now s.from s.to) }
-    ensures before { IfSome result (λ s. s.from ≤ n) }
-    ensures last { IfSome result (λ s. (from to : ℕ) → HasRange ends.now from to → from ≤ n → from ≤ s.from) }
-    ensures none { IfNone result ((from to : ℕ) → HasRange ends.now from to → n < from) }
-{
-    match ends.range(..=n).next_back() {
-        Some((from, to)) => Some(Span {
-            from: *from,
-            to: *to,
-        }),
-        None => None,
     }
 }
 
@@ -72,25 +62,14 @@ fn first_within(ends: &BTreeMap<u64, u64>, start: u64, top: u64) -> Option<Span>
     ensures none { IfNone result ((from to : ℕ) → HasRange ends.now from to → start ≤ from → top < from) }
 {
     match last_of(ends) {
-        Some(last) if start <= last.from => search_within(ends, start, top),
+        Some(last) if start <= last.from => match ends.range(start..=top).next() {
+            Some((from, to)) => Some(Span {
+                from: *from,
+                to: *to,
+            }),
+            None => None,
+        },
         _ => None,
-    }
-}
-
-/// Of the ranges that begin at one number or past it, up to another, the first, found from the one number.
-fn search_within(ends: &BTreeMap<u64, u64>, start: u64, top: u64) -> Option<Span>
-    requires { start ≤ top }
-    ensures there { IfSome result (λ s. HasRange ends.now s.from s.to) }
-    ensures past { IfSome result (λ s. start ≤ s.from) }
-    ensures up_to { IfSome result (λ s. s.from ≤ top) }
-    ensures none { IfNone result ((from to : ℕ) → HasRange ends.now from to → start ≤ from → top < from) }
-{
-    match ends.range(start..=top).next() {
-        Some((from, to)) => Some(Span {
-            from: *from,
-            to: *to,
-        }),
-        None => None,
     }
 }
 

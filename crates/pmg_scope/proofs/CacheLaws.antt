@@ -49,35 +49,40 @@ is_commit Call.commit = true
 is_commit (Call.enter f) = false
 is_commit Call.terminate = false
 
-count_push : (s : Script) (c : Call) → is_commit c ≡ false → count_commits (s ++ c ∷ []) ≡ count_commits s
-unfolding is_commit
-count_push [] (Call.put scope key value) e = refl
-count_push [] Call.commit e = absurd cc
-count_push [] (Call.enter f) e = refl
-count_push [] Call.terminate e = refl
-count_push (Call.put scope key value ∷ cs) c e = count_push cs c e
-count_push (Call.commit ∷ cs) c e = ap suc (count_push cs c e)
-count_push (Call.enter f ∷ cs) c e = count_push cs c e
-count_push (Call.terminate ∷ cs) c e = count_push cs c e
+-- calls of which none is a commit, after a script
+count_appended : (s t : Script) → count_commits t ≡ 0 → count_commits (s ++ t) ≡ count_commits s
+count_appended [] t none = none
+count_appended (Call.put scope key value ∷ cs) t none = count_appended cs t none
+count_appended (Call.commit ∷ cs) t none = ap suc (count_appended cs t none)
+count_appended (Call.enter f ∷ cs) t none = count_appended cs t none
+count_appended (Call.terminate ∷ cs) t none = count_appended cs t none
 
-part_push : (s : Script) (c : Call) → is_commit c ≡ false → (n : ℕ) → n ≡ count_commits s → part n (s ++ c ∷ []) ≡ part n s ++ c ∷ []
+part_appended : (s t : Script) → part zero t ≡ t → (n : ℕ) → n ≡ count_commits s → part n (s ++ t) ≡ part n s ++ t
+unfolding part
+part_appended [] t all zero h = all
+part_appended [] t all (suc n) h = absurd (omega (arith, h))
+part_appended (Call.put scope key value ∷ cs) t all zero h = ap (λ (ds : Script). Call.put scope key value ∷ ds) (part_appended cs t all zero h)
+part_appended (Call.put scope key value ∷ cs) t all (suc n) h = part_appended cs t all (suc n) h
+part_appended (Call.commit ∷ cs) t all zero h = absurd (omega (arith, h))
+part_appended (Call.commit ∷ cs) t all (suc n) h = part_appended cs t all n (omega (arith, h))
+part_appended (Call.enter f ∷ cs) t all zero h = ap (λ (ds : Script). Call.enter f ∷ ds) (part_appended cs t all zero h)
+part_appended (Call.enter f ∷ cs) t all (suc n) h = part_appended cs t all (suc n) h
+part_appended (Call.terminate ∷ cs) t all zero h = ap (λ (ds : Script). Call.terminate ∷ ds) (part_appended cs t all zero h)
+part_appended (Call.terminate ∷ cs) t all (suc n) h = part_appended cs t all (suc n) h
+
+-- the next commit seals them too
+pub next_appended : (s t : Script) → count_commits t ≡ 0 → part zero t ≡ t → next_part (s ++ t) ≡ next_part s ++ t
+next_appended s t none all = ap (λ (n : ℕ). part n (s ++ t)) (count_appended s t none) ∙ part_appended s t all (count_commits s) refl
+
+alone_sealed : (c : Call) → is_commit c ≡ false → (count_commits (c ∷ []) ≡ 0) × (part zero (c ∷ []) ≡ c ∷ [])
 unfolding part is_commit
-part_push [] (Call.put scope key value) e zero h = refl
-part_push [] Call.commit e zero h = absurd cc
-part_push [] (Call.enter f) e zero h = refl
-part_push [] Call.terminate e zero h = refl
-part_push [] c e (suc n) h = absurd (omega (arith, h))
-part_push (Call.put scope key value ∷ cs) c e zero h = ap (λ (ds : Script). Call.put scope key value ∷ ds) (part_push cs c e zero h)
-part_push (Call.put scope key value ∷ cs) c e (suc n) h = part_push cs c e (suc n) h
-part_push (Call.commit ∷ cs) c e zero h = absurd (omega (arith, h))
-part_push (Call.commit ∷ cs) c e (suc n) h = part_push cs c e n (omega (arith, h))
-part_push (Call.enter f ∷ cs) c e zero h = ap (λ (ds : Script). Call.enter f ∷ ds) (part_push cs c e zero h)
-part_push (Call.enter f ∷ cs) c e (suc n) h = part_push cs c e (suc n) h
-part_push (Call.terminate ∷ cs) c e zero h = ap (λ (ds : Script). Call.terminate ∷ ds) (part_push cs c e zero h)
-part_push (Call.terminate ∷ cs) c e (suc n) h = part_push cs c e (suc n) h
+alone_sealed (Call.put scope key value) e = (refl, refl)
+alone_sealed Call.commit e = absurd cc
+alone_sealed (Call.enter f) e = (refl, refl)
+alone_sealed Call.terminate e = (refl, refl)
 
 next_push : (s : Script) (c : Call) → is_commit c ≡ false → next_part (s ++ c ∷ []) ≡ next_part s ++ c ∷ []
-next_push s c e = ap (λ (n : ℕ). part n (s ++ c ∷ [])) (count_push s c e) ∙ part_push s c e (count_commits s) refl
+next_push s c e = next_appended s (c ∷ []) (alone_sealed c e).0 (alone_sealed c e).1
 
 count_commit : (s : Script) → count_commits (s ++ Call.commit ∷ []) ≡ suc (count_commits s)
 count_commit [] = refl

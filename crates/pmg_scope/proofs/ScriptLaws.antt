@@ -85,6 +85,10 @@ by_end s {P} yes_end no_end = choose (has_end s) refl
     choose true e = yes_end e
     choose false e = no_end e
 
+-- what is made of the calls up to an end stays where it stays of all calls, and of those up to an end that comes later
+pub still_by_end : {A : Type 0} (f : Script → A) (s t : Script) → (has_end s ≡ false → f (ended (s ++ t)) ≡ f s) → (has_end s ≡ false → f (s ++ t) ≡ f s) → f (sealed (s ++ t)) ≡ f (sealed s)
+still_by_end f s t later none = by_end s (λ e. ap f (sealed_still s t e)) (λ e. by_end (s ++ t) (λ x. rw (e, x) (later e)) (λ x. rw (e, x) (none e)))
+
 pub commits_never_fall : CommitsNeverFall
 commits_never_fall s t = by_end s
     (λ e. omega (arith, ap count_commits (sealed_still s t e)))
@@ -98,11 +102,8 @@ open_commits s e = rw e refl
 
 prefix_still : (s t : Script) (n : ℕ) → n ≤ commits s → prefix (s ++ t) n ≡ prefix s n
 prefix_still s t zero le = refl
-prefix_still s t (suc i) le = by_end s
-    (λ e. ap (before i) (sealed_still s t e))
-    (λ e. by_end (s ++ t)
-    (λ f. rw (e, f) (before_ended s t i e (omega (arith, le, open_commits s e))))
-    (λ f. rw (e, f) (before_more s t i (omega (arith, le, open_commits s e)))))
+prefix_still s t (suc i) le =
+    still_by_end (before i) s t (λ e. before_ended s t i e (omega (arith, le, open_commits s e))) (λ e. before_more s t i (omega (arith, le, open_commits s e)))
 
 pub past_values_stay : PastValuesStay
 unfolding value_at

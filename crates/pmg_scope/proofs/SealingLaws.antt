@@ -6,7 +6,7 @@ use Rattle.pmg_scope.specs.declared.scope.Reach.{Reach}
 use Rattle.pmg_scope.specs.Scripts.{Call, Script, has_end, ended, sealed, count_commits, commits, before, later_of, put_of, last_put, value_at}
 use Rattle.pmg_scope.specs.Sealing.{part, part_of, IsSealed, NoneSealed}
 use Rattle.pmg_scope.specs.Rules.{SealedIsValue, NoneIsNoValue, PastSealsStay}
-use Rattle.pmg_scope.proofs.ScriptLaws.{by_end, sealed_still, has_commit_first, open_commits}
+use Rattle.pmg_scope.proofs.ScriptLaws.{still_by_end, has_commit_first, open_commits}
 
 -- ---- parts stay
 
@@ -38,11 +38,8 @@ part_ended (Call.terminate ∷ cs) t i e lt = absurd cc
 pub part_still : (s t : Script) (j : ℕ) → j ≤ commits s → part_of (s ++ t) j ≡ part_of s j
 unfolding part_of
 part_still s t zero le = refl
-part_still s t (suc i) le = by_end s
-    (λ e. ap (part i) (sealed_still s t e))
-    (λ e. by_end (s ++ t)
-    (λ f. rw (e, f) (part_ended s t i e (omega (arith, le, open_commits s e))))
-    (λ f. rw (e, f) (part_more s t i (omega (arith, le, open_commits s e)))))
+part_still s t (suc i) le =
+    still_by_end (part i) s t (λ e. part_ended s t i e (omega (arith, le, open_commits s e))) (λ e. part_more s t i (omega (arith, le, open_commits s e)))
 
 -- ---- reads, part by part
 

@@ -19,7 +19,7 @@ pub struct Batch {
 
 impl Drop for Batch {
     fn drop(self) {
-        let Batch { near: _, far: _ } = self;
+        let Self { near, far } = self;
     }
 }
 

@@ -25,10 +25,10 @@ pub struct Cache {
 
 impl Drop for Cache {
     fn drop(self) {
-        let Cache {
-            alloc: _,
-            tables: _,
-            sizes: _,
+        let Self {
+            alloc,
+            tables,
+            sizes,
         } = self;
     }
 }

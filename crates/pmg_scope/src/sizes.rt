@@ -3,6 +3,7 @@ ghost use Rattle.std.specs.FinMap as map;
 ghost use Rattle.pmg_value.specs.Spelling.{spelling};
 ghost use Rattle.pmg_scope.specs.Cached.{put_if, with_put, row_size, table_size, is_within, is_cache};
 ghost use Rattle.pmg_scope.specs.Rows.{counted_at, cached_of, AreSizes};
+ghost use Rattle.pmg_scope.specs.Scopes.{reaches};
 ghost use Rattle.pmg_value.specs.declared.value.TheConstants.{MAX_VALUE_SIZE};
 ghost use Rattle.pmg_scope.specs.declared.sizes.TheConstants.{MAX_ENTRY_SIZE};
 
@@ -68,15 +69,22 @@ fn size_put(table: &Table, size: usize, key: &Key, value: &Value) -> usize
     size + row_size(key, value) - counted_at(table, key)
 }
 
-/// What the table counts for once the value is put, where the put is seen there; none if the table would pass its
-/// limits. It counts for `size` now.
-fn size_with(table: &Table, size: usize, seen: bool, key: &Key, value: &Value) -> Option<usize>
+/// What the table of the reach counts for once the value is put, where the put is seen at the reach; none if the table would
+/// pass its limits. It counts for `size` now.
+fn size_with(
+    table: &Table,
+    size: usize,
+    scope: Scope,
+    reach: Reach,
+    key: &Key,
+    value: &Value,
+) -> Option<usize>
     requires counted { size ≡ table_size table.now }
     requires limits { IsTrue (is_within table.now) }
-    ensures { result ≡ (if is_within (put_if seen table.now key.now (spelling value.now))
-        then Some (table_size (put_if seen table.now key.now (spelling value.now))) else None) }
+    ensures { result ≡ (if is_within (put_if (reaches scope reach) table.now key.now (spelling value.now))
+        then Some (table_size (put_if (reaches scope reach) table.now key.now (spelling value.now))) else None) }
 {
-    if !seen {
+    if !includes(scope, reach) {
         return Some(size);
     }
     let size = size_put(table, size, key, value);
@@ -103,27 +111,9 @@ impl Sizes {
         ensures within { is_some result ≡ is_cache (with_put (cached_of tables.now) scope key.now (spelling value.now)) }
         ensures sizes { IfSome result (λ s. AreSizes s (with_put (cached_of tables.now) scope key.now (spelling value.now))) }
     {
-        let own = size_with(
-            &tables.own,
-            self.own,
-            includes(scope, Reach::Own),
-            key,
-            value,
-        )?;
-        let near = size_with(
-            &tables.near,
-            self.near,
-            includes(scope, Reach::Near),
-            key,
-            value,
-        )?;
-        let far = size_with(
-            &tables.far,
-            self.far,
-            includes(scope, Reach::Far),
-            key,
-            value,
-        )?;
+        let own = size_with(&tables.own, self.own, scope, Reach::Own, key, value)?;
+        let near = size_with(&tables.near, self.near, scope, Reach::Near, key, value)?;
+        let far = size_with(&tables.far, self.far, scope, Reach::Far, key, value)?;
         Some(Sizes { own, near, far })
     }
 }

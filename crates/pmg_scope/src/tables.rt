@@ -19,11 +19,7 @@ pub struct Tables {
 
 impl Drop for Tables {
     fn drop(self) {
-        let Tables {
-            own: _,
-            near: _,
-            far: _,
-        } = self;
+        let Self { own, near, far } = self;
     }
 }
 

@@ -250,6 +250,36 @@ module _ {K V : Type 0} {R : K → K → Ordering} (o : IsTotalOrder R) where
   pub entries-map_of : (rows : List (K × V)) → AreRising R rows → finite.entries (map_of {R = R} rows) ≡ rows
   entries-map_of rows rising = entries_rising o (λ v. v) rows rising ∙ same_list rows
 
+-- ---- rows that are the whole map, and what stands under a key of it
+
+module _ {K X : Type 0} {R : K → K → Ordering} (o : IsTotalOrder R) (exact : IsAntisymmetric R) (entries : List (K × X)) (whole : finite.FinMap R X) (k : K) (same : map_of entries ≡ whole) where
+  -- what is kept under the key is what the whole has
+  pub kept_is : (there : Option X) → at_key R k entries ≡ there → finite.get whole k ≡ there
+  kept_is there e = ap (λ (m : finite.FinMap R X). finite.get m k) (sym same) ∙ get-map_of o entries k ∙ e
+
+  -- another in the place of what is kept there
+  pub put_there : (new : List (K × X)) (after : X) → ((q : K) → at_key R q new ≡ cond (is_at (R k) q) (Some after) (at_key R q entries)) → map_of {R = R} new ≡ finite.insert whole k after
+  put_there new after updates = rows_with o exact (λ (x : X). x) entries new k after updates ∙ ap (λ (m : finite.FinMap R X). finite.insert m k after) same
+
+  -- the same in its place
+  pub put_same : (new : List (K × X)) (there after : X) → at_key R k entries ≡ Some there → after ≡ there
+      → ((q : K) → at_key R q new ≡ cond (is_at (R k) q) (Some after) (at_key R q entries)) → map_of {R = R} new ≡ whole
+  put_same new there after at is updates = put_there new after updates ∙ insert_same o exact whole k after (kept_is (Some there) at ∙ ap Some (sym is))
+
+  -- what a `get_mut` found is what the whole has
+  pub found_there : (found : Option (MutBor X)) (kept : MutBor X) → found ≡ Some kept → option_copied_mut found ≡ at_key R k entries → finite.get whole k ≡ Some kept.now
+  found_there found kept some value = kept_is (Some kept.now) (found_is found kept (at_key R k entries) some value)
+
+  -- another in the place of what a `get_mut` found
+  pub put_found : (found : Option (MutBor X)) (kept : MutBor X) (new : List (K × X)) (after : X) → found ≡ Some kept → option_copied_mut found ≡ at_key R k entries
+      → (IsSome (at_key R k entries) → (q : K) → at_key R q new ≡ cond (is_at (R k) q) (Some after) (at_key R q entries)) → map_of {R = R} new ≡ finite.insert whole k after
+  put_found found kept new after some value updates =
+      put_there new after (updates (some_found (found_is found kept (at_key R k entries) some value)))
+
+  -- as the whole had them, where they answer alike
+  pub kept_whole : (new : List (K × X)) → ((q : K) → at_key R q new ≡ at_key R q entries) → map_of {R = R} new ≡ whole
+  kept_whole new alike = same_rows o exact (λ (x : X). x) new entries alike ∙ same
+
 -- ---- rows that are copied one by one
 
 -- what the copies have at the key, once what is left of the rows is put too

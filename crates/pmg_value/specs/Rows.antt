@@ -5,6 +5,7 @@ use Rattle.std.specs.BTreeMap.{is_at}
 use Rattle.std.specs.FinMap as finite
 use Rattle.std.specs.List.Sorted.{IsStrictlySortedBy}
 use Rattle.std.specs.Map.{keys_of}
+use Rattle.std.specs.Option.{unwrap_or}
 
 module _ {K V : Type 0} {R : K → K → Ordering} where
   -- the rows as a map, where f says what a value means
@@ -29,6 +30,11 @@ module _ {K X : Type 0} {R : K → K → Ordering} where
 abbrev pub back_at : {K V : Type 0} → (K → K → Ordering) → K → Option V → (K → Option V) → K → Option V
 back_at R key None at q = if is_at (R key) q then None else at q
 back_at R key (Some v) at q = if is_some (at key) && is_at (R key) q then Some v else at q
+
+-- what stands under q, where `at` tells what stands under each key, once the part was taken in by what is under the key, or by the
+-- first one where nothing is
+abbrev pub grown_at : {K V P : Type 0} → (K → K → Ordering) → V → (V → P → V) → K → P → (K → Option V) → K → Option V
+grown_at R first grown key part at q = if is_at (R key) q then Some (grown (unwrap_or (at key) first) part) else at q
 
 -- the keys of the rows rise
 abbrev pub AreRising : {K V : Type 0} → (K → K → Ordering) → List (K × V) → Type 0

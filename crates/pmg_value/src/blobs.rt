@@ -22,7 +22,7 @@ pub struct Text {
 
 impl Drop for Text {
     fn drop(self) {
-        let Text { bytes: _ } = self;
+        let Self { bytes } = self;
     }
 }
 
@@ -47,7 +47,7 @@ pub struct Octets {
 
 impl Drop for Octets {
     fn drop(self) {
-        let Octets { bytes: _ } = self;
+        let Self { bytes } = self;
     }
 }
 

@@ -28,6 +28,6 @@ pub use names::{
 pub use parts::Parts;
 pub use process::{HOST_NAME, MAX_NODE, MAX_RANK, NodeId, Proc, Rank};
 pub use refusal::{Cause, Fault, Refusal};
-pub use rows::put_back;
+pub use rows::{Growable, grow_row, put_back};
 pub use value::{MAX_VALUE_SIZE, Value};
 pub use written::{WatchedWriter, WriteFault, push_number};

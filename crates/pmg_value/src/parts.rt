@@ -27,11 +27,11 @@ pub struct Parts<'a> {
 
 impl Drop for Parts<'_> {
     fn drop(self) {
-        let Parts {
-            head: _,
-            middle: _,
-            end: _,
-            items: _,
+        let Self {
+            head,
+            middle,
+            end,
+            items,
         } = self;
     }
 }

@@ -82,7 +82,7 @@ pub struct Proc {
 
 impl Drop for Proc {
     fn drop(self) {
-        let Proc { nspace: _, rank: _ } = self;
+        let Self { nspace, rank } = self;
     }
 }
 

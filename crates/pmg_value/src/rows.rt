@@ -1,10 +1,49 @@
-//! Rows of keys and values whose change is taken back.
-ghost use Rattle.std.specs.Prelude.{◌≡◌};
+//! Rows of keys and values that change, and whose change is taken back.
+ghost use Rattle.std.specs.Prelude.{◌≡◌, OnOk, OnErr};
 ghost use Rattle.std.specs.BTreeMap.{get};
-ghost use Rattle.pmg_value.specs.Rows.{back_at};
+ghost use Rattle.std.specs.Option.{unwrap_or};
+ghost use Rattle.pmg_value.specs.Rows.{back_at, grown_at};
 
+use crate::copied::Copied;
+use std::alloc::AllocError;
 use std::collections::BTreeMap;
 use std::mem;
+
+/// What takes in one part after another, where memory allows: `MayFail` says where taking a part in may need some.
+pub trait Growable: Drop {
+    type Part: Drop;
+
+    ghost grown: { Self → Self.Part → Self };
+
+    ghost MayFail: { Self → Self.Part → Type 0 };
+
+    /// Takes the part in. Where an allocation fails, nothing changes.
+    fn grow(&mut self, part: Self::Part) -> Result<(), AllocError>
+        ensures ok { OnOk result (self.new ≡ grown self.old part) }
+        ensures err { OnErr result (self.new ≡ self.old) }
+        ensures may_fail { OnErr result (MayFail self.old part) };
+}
+
+/// What is under the key takes the part in; where nothing is, the first one does, and is put there. Where an allocation
+/// fails, the rows stay as they are.
+pub fn grow_row<K: Ord + Copied, V: Growable>(
+    rows: &mut BTreeMap<K, V>,
+    key: &K,
+    mut first: V,
+    part: V::Part,
+) -> Result<(), AllocError>
+    requires { V.MayFail first part }
+    ensures ok { OnOk result ((q : K) → get K.cmp rows.new q ≡ grown_at K.cmp first V.grown key.now part (get K.cmp rows.old) q) }
+    ensures err { OnErr result ((q : K) → get K.cmp rows.new q ≡ get K.cmp rows.old q) }
+    ensures may_fail { OnErr result (V.MayFail (unwrap_or (get K.cmp rows.old key.now) first) part) }
+{
+    if let Some(row) = rows.get_mut(key) {
+        return row.grow(part);
+    }
+    first.grow(part)?;
+    let _ = rows.insert(key.copy()?, first)?;
+    Ok(())
+}
 
 /// Puts back what was under the key before it was changed there: nothing, or a value in the place of the one that is
 /// there. It takes no memory.

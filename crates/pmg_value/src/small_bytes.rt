@@ -84,7 +84,7 @@ pub(crate) struct SmallBytes {
 
 impl Drop for SmallBytes {
     fn drop(self) {
-        let SmallBytes { place: _ } = self;
+        let Self { place } = self;
     }
 }
 

@@ -31,10 +31,10 @@ pub(crate) struct Word {
 
 impl Drop for Word {
     fn drop(self) {
-        let Word {
-            first: _,
-            second: _,
-            text: _,
+        let Self {
+            first,
+            second,
+            text,
         } = self;
     }
 }

@@ -1,27 +1,12 @@
-use Rattle.std.proofs.Common.{sym, ap, ◌∙◌}
-use Rattle.pmg_value.specs.Process.{proc_cmp}
+use Rattle.std.proofs.Common.{ap, ◌∙◌}
 use Rattle.pmg_value.specs.Rows.{map_of}
-use Rattle.pmg_value.proofs.RowLemmas.{at_key, found_is, some_found}
 use Rattle.pmg_dmodex.specs.Levels.{not_below}
-use Rattle.pmg_dmodex.proofs.InnerLemmas.{kept_is, put_there, changed_there, changed_none}
+use Rattle.pmg_dmodex.proofs.InnerLemmas.{changed_found, changed_none}
 use Rattle.pmg_dmodex.proofs.levels.Levels.drop_below.Goals as goal
 use Rattle.pmg_dmodex.proofs.levels.Levels.drop_below.Goals.{in-Some, in_default}
 
 pub returns : goal.returns
-returns c =
-    let old = c.self.inside.rows.entries in
-    let p = c.args.proc.now in
-    elim c.match-get_mut.branch [
-      | in-Some w ↦
-          let there = found_is c.get_mut.result w.in-Some.levels (at_key proc_cmp p old) w.in-Some.is c.get_mut.ensures.value in
-          let updates = ((c.get_mut.follows.holds w.drop_below.new.self).3 (some_found there)).0 in
-          ap (λ a. map_of a.rows.entries) w.self-inside-is
-          ∙ changed_there c.args.self.now p (not_below c.args.level) w.in-Some.levels.now w.drop_below.new.self (map_of (c.get_mut.follows.lender w.drop_below.new.self).entries)
-          (kept_is old c.args.self.now p c.self.view_is _ there) w.drop_below.ensures
-          (put_there old c.args.self.now p c.self.view_is (c.get_mut.follows.lender w.drop_below.new.self).entries w.drop_below.new.self updates)
-      | in_default w ↦
-          ap (λ a. map_of a.rows.entries) w.self-inside-is
-          ∙ ap (λ a. map_of a.entries) c.get_mut.follows.holds-at-none
-          ∙ c.self.view_is
-          ∙ changed_none c.args.self.now p (not_below c.args.level) (kept_is old c.args.self.now p c.self.view_is _ (sym w.in_default.ensures.value))
-    ]
+returns c = elim c.match-get_mut.branch [
+  | in-Some w ↦ ap (λ a. map_of a.rows.entries) w.self-inside-is ∙ changed_found c.self.inside.rows.entries c.args.self.now c.args.proc.now c.self.view_is (not_below c.args.level) c.get_mut.result w.in-Some.levels w.drop_below.new.self (c.get_mut.follows.lender w.drop_below.new.self).entries w.in-Some.is c.get_mut.ensures.value w.drop_below.ensures (λ some. ((c.get_mut.follows.holds w.drop_below.new.self).3 some).0)
+  | in_default w ↦ ap (λ a. map_of a.rows.entries) w.self-inside-is ∙ ap (λ a. map_of a.entries) c.get_mut.follows.holds-at-none ∙ changed_none c.self.inside.rows.entries c.args.self.now c.args.proc.now c.self.view_is (not_below c.args.level) w.in_default.ensures.value
+]

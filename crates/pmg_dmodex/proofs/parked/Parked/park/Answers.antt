@@ -1,44 +1,21 @@
-use Rattle.std.proofs.Common.{ap, ◌∙◌, sym}
+use Rattle.std.proofs.Common.{◌∙◌}
 use Rattle.std.specs.FinMap as finite
 use Rattle.std.proofs.lemmas.Result.{on_ok_weaker, on_err_weaker}
-use Rattle.pmg_value.specs.Process.{proc_cmp}
-use Rattle.pmg_value.specs.Rows.{map_of}
 use Rattle.pmg_value.proofs.ProcessOrder.{procs_total, exact_procs}
-use Rattle.pmg_value.proofs.RowLemmas.{at_key, found_is, some_found, rows_with}
-use Rattle.pmg_dmodex.specs.Parked.{Askers}
-use Rattle.pmg_dmodex.proofs.InnerLemmas.{kept_is, put_there, put_same, set_there, set_first}
+use Rattle.pmg_value.proofs.RowLemmas.{kept_whole}
+use Rattle.pmg_dmodex.specs.Parked.{askers_of}
+use Rattle.pmg_dmodex.proofs.InnerLemmas.{grown_there}
 use Rattle.pmg_dmodex.proofs.parked.Parked.park.Goals as goal
-
-pub returns-in-Some-clause-ok : goal.returns-in-Some-clause-ok
-returns-in-Some-clause-ok c =
-    let old = c.self.inside.rows.entries in
-    let p = c.args.target.now in
-    let new = c.get_mut.follows.lender c.set.new.self in
-    let there = found_is c.get_mut.result c.in-Some.askers (at_key proc_cmp p old) c.in-Some.is c.get_mut.ensures.value in
-    let updates = ((c.get_mut.follows.holds c.set.new.self).3 (some_found there)).0 in
-    on_ok_weaker c.set.result
-    (λ is. set_there c.args.self.now p c.args.asker.now c.args.key.now c.in-Some.askers.now c.set.new.self (map_of new.entries) (kept_is old c.args.self.now p c.self.view_is _ there)
-    (is ∙ (λ i. finite.insert c.in-Some.askers.now (c.in_ok-asker.ensures i) (c.in_ok-key.ensures i)))
-    (put_there old c.args.self.now p c.self.view_is new.entries c.set.new.self updates))
-    c.set.ensures.ok
-
-pub returns-in-Some-clause-err : goal.returns-in-Some-clause-err
-returns-in-Some-clause-err c =
-    let old = c.self.inside.rows.entries in
-    let p = c.args.target.now in
-    let there = found_is c.get_mut.result c.in-Some.askers (at_key proc_cmp p old) c.in-Some.is c.get_mut.ensures.value in
-    let updates = ((c.get_mut.follows.holds c.set.new.self).3 (some_found there)).0 in
-    on_err_weaker c.set.result
-    (λ is. put_same old c.args.self.now p c.self.view_is (c.get_mut.follows.lender c.set.new.self).entries c.in-Some.askers.now c.set.new.self there is updates)
-    c.set.ensures.err
 
 pub returns-clause-ok : goal.returns-clause-ok
 returns-clause-ok c =
-    let old = c.self.inside.rows.entries in
-    let p = c.args.target.now in
-    let first = c.set-2.new.self in
-    set_first c.args.self.now p c.args.asker.now c.args.key.now first (map_of c.insert.new.self.entries) (kept_is old c.args.self.now p c.self.view_is _ (sym c.in_default.ensures.value))
-    (c.in_ok-set.ensures.ok ∙ (λ i. finite.insert (c.new-askers.ensures i) (c.in_ok-asker.ensures i) (c.in_ok-key.ensures i)))
-    (rows_with procs_total exact_procs (λ (m : Askers). m) c.get_mut.follows.lender-at-none.entries c.insert.new.self.entries c.in_ok-copy.field-0 first c.in_ok-insert.ensures.updates.0
-    ∙ ap (λ a. finite.insert (map_of a.entries) c.in_ok-copy.field-0 first) c.get_mut.follows.holds-at-none
-    ∙ (λ i. finite.insert (c.self.view_is i) (c.in_ok-copy.ensures i) first))
+    let whole = c.args.self.now in
+    let target = c.args.target.now in
+    on_ok_weaker c.grow_row.result (λ updates.
+    grown_there c.self.inside.rows.entries whole target c.self.view_is c.in_ok-asker.asker c.in_ok-key.key c.new-nobody.result c.grow_row.new.rows.entries c.new-nobody.ensures updates
+    ∙ (λ i. finite.insert whole target (finite.insert (askers_of whole target) (c.in_ok-asker.ensures i) (c.in_ok-key.ensures i)))) c.grow_row.ensures.ok
+
+pub returns-clause-err : goal.returns-clause-err
+returns-clause-err c =
+    on_err_weaker c.grow_row.result
+    (kept_whole procs_total exact_procs c.self.inside.rows.entries c.args.self.now c.args.target.now c.self.view_is c.grow_row.new.rows.entries) c.grow_row.ensures.err

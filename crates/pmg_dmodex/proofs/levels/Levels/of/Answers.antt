@@ -1,7 +1,0 @@
-use Rattle.pmg_value.proofs.ProcessOrder.{procs_total}
-use Rattle.pmg_value.proofs.RowLemmas.{read_rows}
-use Rattle.pmg_dmodex.specs.Levels.{NodeLevels}
-use Rattle.pmg_dmodex.proofs.levels.Levels.of.Goals as goal
-
-pub returns : goal.returns
-returns c = read_rows procs_total (λ (levels : NodeLevels). levels) c.self.inside.rows.entries c.args.self.now c.args.proc.now c.get.result c.self.view_is c.get.ensures.value
