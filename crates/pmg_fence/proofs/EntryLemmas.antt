@@ -73,18 +73,26 @@ enters_idle (Call.terminate ∷ cs) call g i = refl
 
 -- ---- the levels at which it entered
 
-pub level_idle : (s : Script) (call : Call) (g : Signature) (k : ℕ) → Idle call → level_before (s ++ call ∷ []) g k ≡ level_before s g k
+-- where nothing more counts, neither as an entry nor behind an end
+level_same : (s t : Script) → (has_end s ≡ false → (g : Signature) (k : ℕ) → level_before t g k ≡ None) → (g : Signature) (k : ℕ) → level_before (s ++ t) g k ≡ level_before s g k
 unfolding level_before
-level_idle [] (Call.put scope key value) g k i = refl
-level_idle [] Call.commit g k i = refl
-level_idle [] Call.terminate g k i = refl
-level_idle [] (Call.enter h) g k i = elim i [ ]
-level_idle (Call.put scope key value ∷ cs) call g k i = level_idle cs call g k i
-level_idle (Call.commit ∷ cs) call g k i = ap (option_map suc) (level_idle cs call g k i)
-level_idle (Call.enter h ∷ cs) call g zero i = refl
-level_idle (Call.enter h ∷ cs) call g (suc k) i =
-    (λ j. cond (same_signature g h) (cond (k == 0) (Some 0) (level_idle cs call g k i j)) (level_idle cs call g (suc k) i j))
-level_idle (Call.terminate ∷ cs) call g k i = refl
+level_same [] t none g k = none refl g k
+level_same (Call.put scope key value ∷ cs) t none g k = level_same cs t none g k
+level_same (Call.commit ∷ cs) t none g k = ap (option_map suc) (level_same cs t none g k)
+level_same (Call.enter h ∷ cs) t none g zero = refl
+level_same (Call.enter h ∷ cs) t none g (suc k) =
+    (λ j. cond (same_signature g h) (cond (k == 0) (Some 0) (level_same cs t none g k j)) (level_same cs t none g (suc k) j))
+level_same (Call.terminate ∷ cs) t none g k = refl
+
+level_alone : (call : Call) → Idle call → (g : Signature) (k : ℕ) → level_before (call ∷ []) g k ≡ None
+unfolding level_before
+level_alone (Call.put scope key value) i g k = refl
+level_alone Call.commit i g k = refl
+level_alone Call.terminate i g k = refl
+level_alone (Call.enter h) i g k = elim i [ ]
+
+pub level_idle : (s : Script) (call : Call) (g : Signature) (k : ℕ) → Idle call → level_before (s ++ call ∷ []) g k ≡ level_before s g k
+level_idle s call g k i = level_same s (call ∷ []) (λ live. level_alone call i) g k
 
 -- the next entry is at the level
 pub level_entered : (s : Script) (g : Signature) → has_end s ≡ false → level_before (s ++ Call.enter g ∷ []) g (suc (enters s g)) ≡ Some (count_commits s)
@@ -155,14 +163,10 @@ level_stays (Call.terminate ∷ cs) t g k l h = absurd cc
 
 -- nothing counts after an end
 pub level_still : (s t : Script) (g : Signature) (k : ℕ) → has_end s ≡ true → level_before (s ++ t) g k ≡ level_before s g k
-unfolding level_before
-level_still [] t g k e = absurd cc
-level_still (Call.put scope key value ∷ cs) t g k e = level_still cs t g k e
-level_still (Call.commit ∷ cs) t g k e = ap (option_map suc) (level_still cs t g k e)
-level_still (Call.enter i ∷ cs) t g zero e = refl
-level_still (Call.enter i ∷ cs) t g (suc k) e =
-    (λ j. cond (same_signature g i) (cond (k == 0) (Some 0) (level_still cs t g k e j)) (level_still cs t g (suc k) e j))
-level_still (Call.terminate ∷ cs) t g k e = refl
+level_still s t g k e = level_same s t (λ live. absurd (apart (sym e ∙ live))) g k
+  where
+    apart : true ≡ false → ⊥
+    apart z = cc
 
 pub end_still : (s t : Script) → has_end s ≡ true → level_at_end (s ++ t) ≡ level_at_end s
 end_still s t e = (λ i. cond (has_end_more s t e i) (Some (end_is_last s t e i)) None) ∙ ap (λ b. cond b (Some (commits s)) None) (sym e)

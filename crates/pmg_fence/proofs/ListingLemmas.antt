@@ -65,9 +65,6 @@ one_listed index new g p before after is more each q i = by_place (in_parts befo
 
 -- ---- the signatures of a tree
 
-pub known_row : (rows : List (Proc × Signatures)) (m : Index) (p : Proc) (x : Signatures) → rows_of (λ s. s) rows ≡ m → at_key proc_cmp p rows ≡ Some x → finite.get m p ≡ Some x
-known_row rows m p x same e = get_at procs_total exact_procs (λ s. s) rows m p same ∙ same_option (at_key proc_cmp p rows) ∙ e
-
 pub no_row : (rows : List (Proc × Signatures)) (m : Index) (p : Proc) → rows_of (λ s. s) rows ≡ m → None ≡ at_key proc_cmp p rows → finite.get m p ≡ None
 no_row rows m p same e = get_at procs_total exact_procs (λ s. s) rows m p same ∙ same_option (at_key proc_cmp p rows) ∙ sym e
 

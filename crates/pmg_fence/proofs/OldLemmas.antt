@@ -317,19 +317,20 @@ module _ (t : Fences) (f : FenceName) (fence : Fence) where
   other_name : (x : FenceName) → is_old t f ≡ true → is_old t x ≡ false → same_name x f ≡ false
   other_name x old young = apart_names t x f young old
 
-  pub fence-with : (x : FenceName) → is_old (with_fence t f fence) x ≡ false → fence_at (with_fence t f fence) x ≡ cond (same_name x f) fence (fence_at t x)
-  fence-with x young = by_old (is_old t f) refl young
+  -- what is looked up of a fence that is not old
+  look-with : {A : Type 0} (look : Fences → FenceName → A) (now : A) (x : FenceName) → (is_old placing x ≡ false → look (forgotten placing f.signature) x ≡ look placing x)
+      → look placing x ≡ cond (same_name x f) now (look t x) → is_old (with_fence t f fence) x ≡ false → look (with_fence t f fence) x ≡ cond (same_name x f) now (look t x)
+  look-with look now x stays placed young = by_old (is_old t f) refl young
     where
-      by_old : (b : Bool) → is_old t f ≡ b → is_old (cond b t (forgotten placing f.signature)) x ≡ false → fence_at (cond b t (forgotten placing f.signature)) x ≡ cond (same_name x f) fence (fence_at t x)
-      by_old true old e = ap (λ c. cond c fence (fence_at t x)) (sym (other_name x old e))
-      by_old false old e = fence-forgotten placing f.signature x (sym (old-forgotten placing f.signature x) ∙ e) ∙ fence-placed t f fence (series_at t f.signature).counts x
+      by_old : (b : Bool) → is_old t f ≡ b → is_old (cond b t (forgotten placing f.signature)) x ≡ false → look (cond b t (forgotten placing f.signature)) x ≡ cond (same_name x f) now (look t x)
+      by_old true old e = ap (λ c. cond c now (look t x)) (sym (other_name x old e))
+      by_old false old e = stays (sym (old-forgotten placing f.signature x) ∙ e) ∙ placed
+
+  pub fence-with : (x : FenceName) → is_old (with_fence t f fence) x ≡ false → fence_at (with_fence t f fence) x ≡ cond (same_name x f) fence (fence_at t x)
+  fence-with x = look-with fence_at fence x (fence-forgotten placing f.signature x) (fence-placed t f fence (series_at t f.signature).counts x)
 
   pub name-with : (x : FenceName) → is_old (with_fence t f fence) x ≡ false → has_name (with_fence t f fence) x ≡ cond (same_name x f) true (has_name t x)
-  name-with x young = by_old (is_old t f) refl young
-    where
-      by_old : (b : Bool) → is_old t f ≡ b → is_old (cond b t (forgotten placing f.signature)) x ≡ false → has_name (cond b t (forgotten placing f.signature)) x ≡ cond (same_name x f) true (has_name t x)
-      by_old true old e = ap (λ c. cond c true (has_name t x)) (sym (other_name x old e))
-      by_old false old e = name-forgotten placing f.signature x (sym (old-forgotten placing f.signature x) ∙ e) ∙ name-placed t f fence (series_at t f.signature).counts x
+  name-with x = look-with has_name true x (name-forgotten placing f.signature x) (name-placed t f fence (series_at t f.signature).counts x)
 
   -- a name that is there then was there, or is the fence's own
   pub name_with : (x : FenceName) → has_name (with_fence t f fence) x ≡ true → cond (same_name x f) true (has_name t x) ≡ true
@@ -379,19 +380,20 @@ module _ (t : Fences) (g : Signature) (p : Proc) (level : ℕ) where
       by_old true e = sym (old-counts t g (counts_entered t g p) x) ∙ e
       by_old false e = old-placed t next its (counts_entered t g p) x e
 
-  pub fence-noted : (x : FenceName) → is_old t x ≡ false → fence_at (noted_entry t g p level) x ≡ cond (same_name x next) its (fence_at t x)
-  fence-noted x young = by_old (is_old t next) refl
+  -- what is looked up of a fence that was not old
+  look-noted : {A : Type 0} (look : Fences → FenceName → A) (now : A) (x : FenceName) → look (with_counts t g (counts_entered t g p)) x ≡ look t x
+      → look (fence_placed t next its (counts_entered t g p)) x ≡ cond (same_name x next) now (look t x) → is_old t x ≡ false → look (noted_entry t g p level) x ≡ cond (same_name x next) now (look t x)
+  look-noted look now x counted placed young = by_old (is_old t next) refl
     where
-      by_old : (b : Bool) → is_old t next ≡ b → fence_at (cond b (with_counts t g (counts_entered t g p)) (fence_placed t next its (counts_entered t g p))) x ≡ cond (same_name x next) its (fence_at t x)
-      by_old true old = fence-counts t g (counts_entered t g p) x ∙ ap (λ c. cond c its (fence_at t x)) (sym (apart_names t x next young old))
-      by_old false old = fence-placed t next its (counts_entered t g p) x
+      by_old : (b : Bool) → is_old t next ≡ b → look (cond b (with_counts t g (counts_entered t g p)) (fence_placed t next its (counts_entered t g p))) x ≡ cond (same_name x next) now (look t x)
+      by_old true old = counted ∙ ap (λ c. cond c now (look t x)) (sym (apart_names t x next young old))
+      by_old false old = placed
+
+  pub fence-noted : (x : FenceName) → is_old t x ≡ false → fence_at (noted_entry t g p level) x ≡ cond (same_name x next) its (fence_at t x)
+  fence-noted x = look-noted fence_at its x (fence-counts t g (counts_entered t g p) x) (fence-placed t next its (counts_entered t g p) x)
 
   pub name-noted : (x : FenceName) → is_old t x ≡ false → has_name (noted_entry t g p level) x ≡ cond (same_name x next) true (has_name t x)
-  name-noted x young = by_old (is_old t next) refl
-    where
-      by_old : (b : Bool) → is_old t next ≡ b → has_name (cond b (with_counts t g (counts_entered t g p)) (fence_placed t next its (counts_entered t g p))) x ≡ cond (same_name x next) true (has_name t x)
-      by_old true old = name-counts t g (counts_entered t g p) x ∙ ap (λ c. cond c true (has_name t x)) (sym (apart_names t x next young old))
-      by_old false old = name-placed t next its (counts_entered t g p) x
+  name-noted x = look-noted has_name true x (name-counts t g (counts_entered t g p) x) (name-placed t next its (counts_entered t g p) x)
 
   -- the headers are those that were there
   pub headers-noted : (x : FenceName) → (fence_at (noted_entry t g p level) x).headers ≡ (fence_at t x).headers

@@ -15,6 +15,7 @@ use Rattle.pmg_value.specs.declared.process.Proc.{Proc}
 use Rattle.pmg_value.proofs.ProcessOrder.{procs_total, exact_procs}
 use Rattle.pmg_frame.specs.Fences.{Header, is_local_rising, is_header}
 use Rattle.pmg_frame.specs.declared.local.Local.{Local}
+use Rattle.pmg_frame.proofs.Searching.{same_side}
 use Rattle.pmg_fence.specs.declared.entry.Entry.{Entry}
 use Rattle.pmg_fence.specs.Entering.{same_proc}
 use Rattle.pmg_fence.specs.Tables.{entry_in}
@@ -68,14 +69,6 @@ find_none q (l ∷ ls) each = ap (λ b. cond b (Some l) (find (λ m. same_proc q
 
 -- ---- what the search finds
 
-same_side : (p q : Proc) → same_proc q p ≡ is_eq (proc_cmp p q)
-same_side p q = ap is_eq (procs_total.antisymm q p) ∙ turned (proc_cmp p q)
-  where
-    turned : (r : Ordering) → is_eq (ordering_reverse r) ≡ is_eq r
-    turned Less = refl
-    turned Equal = refl
-    turned Greater = refl
-
 rising_at : (ls : List Local) (k : ℕ) (d : Local) → is_chain is_local_rising ls ≡ true → suc k < length ls → proc_cmp (get_or ls k d).proc (get_or ls (suc k) d).proc ≡ Less
 rising_at [] k d rising h = absurd (omega (arith, h))
 rising_at (l ∷ ls) zero d rising h = all_at (λ (m : Local). proc_cmp l.proc m.proc ≡ Less) ls 0 d (behind l ls rising) (omega (arith, h))
@@ -92,14 +85,14 @@ line_entry l = record { state = l.state; level = l.level }
 pub line_found : (q : Proc) (ls : List Local) (i : ℕ) (l : Local) → is_chain is_local_rising ls ≡ true → IsSearchInRange (Ok i) (length ls)
     → IsBinarySearchResult (λ (m : Local). proc_cmp m.proc q) ls (Ok i) → l ≡ get_or ls i l → Some (line_entry l) ≡ entry_in q (Some ls)
 line_found q ls i l rising bound found is =
-    sym (ap (option_map line_entry) (find_line q ls i l rising bound (same_side (get_or ls i l).proc q ∙ ap is_eq (found l))) ∙ ap (λ m. Some (line_entry m)) (sym is))
+    sym (ap (option_map line_entry) (find_line q ls i l rising bound (same_side procs_total (get_or ls i l).proc q ∙ ap is_eq (found l))) ∙ ap (λ m. Some (line_entry m)) (sym is))
 
 pub line_nowhere : (q : Proc) (ls : List Local) (i : ℕ) → is_chain is_local_rising ls ≡ true → IsBinarySearchResult (λ (m : Local). proc_cmp m.proc q) ls (Err i)
     → None ≡ entry_in q (Some ls)
 line_nowhere q ls i rising found =
     let split = found (searchable_from_sorted procs_total (λ (m : Local). m.proc) ls q (sorted_lines ls rising)) in
     sym (ap (option_map line_entry) (find_none q ls (λ k d h.
-    same_side (get_or ls k d).proc q ∙ elim (cases_lt k i) [
+    same_side procs_total (get_or ls k d).proc q ∙ elim (cases_lt k i) [
       | inl lt ↦ ap is_eq (split.0 k d (omega arith) lt)
       | inr le ↦ ap is_eq (split.1 k d le h)
     ])))

@@ -10,8 +10,8 @@ use Rattle.std.specs.Option.{option_map, option_copied}
 use Rattle.std.specs.Cmp.{IsTotalOrder, eq_by_cmp_equiv}
 use Rattle.std.specs.Ordering.{eq_by_cmp}
 use Rattle.std.specs.declared.cmp.Ordering.{Ordering}
-use Rattle.pmg_value.specs.Rows.{rows_of}
-use Rattle.pmg_value.proofs.RowLemmas.{at_key, rows_with, rows_without, read_rows, get-rows_of}
+use Rattle.pmg_value.specs.Rows.{rows_of, map_of}
+use Rattle.pmg_value.proofs.RowLemmas.{at_key, rows_with, rows_without, read_rows, get-rows_of, same_option}
 
 module _ {K V X : Type 0} {R : K → K → Ordering} (o : IsTotalOrder R) (exact : IsAntisymmetric R) (f : V → X) where
   pub put_in : (old new : List (K × V)) (m : finite.FinMap R X) (k : K) (v : V) → rows_of f old ≡ m
@@ -28,6 +28,12 @@ module _ {K V X : Type 0} {R : K → K → Ordering} (o : IsTotalOrder R) (exact
 
   pub get_at : (rows : List (K × V)) (m : finite.FinMap R X) (k : K) → rows_of f rows ≡ m → finite.get m k ≡ option_map f (at_key R k rows)
   get_at rows m k same = sym (ap (λ (t : finite.FinMap R X). finite.get t k) same) ∙ get-rows_of o f rows k
+
+-- a tree of values as they are, where the one under the key has become another one
+module _ {K V : Type 0} {R : K → K → Ordering} (o : IsTotalOrder R) (exact : IsAntisymmetric R) where
+  pub changed_in : (old new : List (K × V)) (m : finite.FinMap R V) (k : K) (x v : V) → map_of old ≡ m → at_key R k old ≡ Some x
+      → ((q : K) → at_key R q new ≡ cond (is_at (R k) q) (Some v) (at_key R q old)) → (finite.get m k ≡ Some x) × (map_of new ≡ finite.insert m k v)
+  changed_in old new m k x v same there updates = (get_at o exact (λ v. v) old m k same ∙ same_option (at_key R k old) ∙ there, put_in o exact (λ v. v) old new m k v same updates)
 
 -- a value that is read as it is
 pub copied_there : {V : Type 0} (found : Option (Bor V)) → option_map (λ v. v.now) found ≡ option_copied found

@@ -5,6 +5,7 @@ use Rattle.std.specs.FinMap as finite
 use Rattle.std.specs.FinSet as set
 use Rattle.std.specs.Ordering.{nat_cmp}
 use Rattle.pmg_value.specs.Process.{proc_cmp, coded_proc}
+use Rattle.pmg_value.specs.Rows.{rows_of}
 use Rattle.pmg_value.specs.declared.process.Proc.{Proc}
 use Rattle.pmg_frame.specs.FenceOrder.{signature_cmp}
 use Rattle.pmg_frame.specs.Fences.{Header, coded_local, coded_signature, coded_header}
@@ -19,6 +20,10 @@ coded_numbers = finite.code coded_proc coded_ℕ
 -- the headers of other nodes, by node
 abbrev pub Headers : Type 0
 Headers = finite.FinMap nat_cmp (List Local)
+
+-- the headers of a tree, with what each of them tells
+abbrev pub headers_in : List (ℕ × Header) → Headers
+headers_in rows = rows_of (λ h. h.locals) rows
 
 -- the code of headers by node
 abbrev pub coded_headers : Coded Headers

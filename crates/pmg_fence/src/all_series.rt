@@ -1,7 +1,7 @@
 ghost use Rattle.std.specs.Prelude.{◌≡◌, IfOk, OnOk, OnErr};
 ghost use Rattle.std.specs.FinMap as finite;
 ghost use Rattle.std.specs.Option.{option_map};
-ghost use Rattle.pmg_value.specs.Rows.{rows_of, changed_at};
+ghost use Rattle.pmg_value.specs.Rows.{map_of, changed_at};
 ghost use Rattle.pmg_fence.specs.Changes.{series_kept};
 ghost use Rattle.pmg_fence.specs.Kept.{series_in, series_changed};
 ghost use Rattle.pmg_fence.specs.TakenBack.{all_series_back};
@@ -22,15 +22,14 @@ pub struct AllSeries {
 }
 
 impl Model for AllSeries {
-    ghost use Rattle.pmg_fence.specs.Codes as codes;
+    ghost use Rattle.pmg_value.specs.Rows.{map_of};
+    ghost use Rattle.pmg_fence.specs.Codes.{AllSeries, coded_all_series};
 
-    ghost Value = { codes.AllSeries };
+    ghost Value = { AllSeries };
 
-    ghost coded = { codes.coded_all_series };
+    ghost coded = { coded_all_series };
 
-    ghost use Rattle.pmg_value.specs.Rows.{rows_of};
-
-    ghost view = { λ a. rows_of (λ s. s) a.rows.entries };
+    ghost view = { λ a. map_of a.rows.entries };
 }
 
 impl AllSeries {
@@ -58,7 +57,7 @@ impl AllSeries {
 
     /// The fences, in the order of their signatures.
     pub fn rows(&self) -> &BTreeMap<Signature, Series>
-        ensures { rows_of (λ s. s) result.now.entries ≡ self.now }
+        ensures { map_of result.now.entries ≡ self.now }
     {
         &self.rows
     }

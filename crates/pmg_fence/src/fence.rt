@@ -20,10 +20,7 @@ pub struct Fence {
 
 impl Drop for Fence {
     fn drop(self) {
-        let Fence {
-            levels: _,
-            headers: _,
-        } = self;
+        let Self { levels, headers } = self;
     }
 }
 
@@ -40,6 +37,7 @@ impl Model for Fence {
 }
 
 /// What was known of a fence before a change, by which it can be taken back.
+#[derive(Drop)]
 pub enum FenceUndo {
     /// The same.
     Learned,
@@ -47,16 +45,6 @@ pub enum FenceUndo {
     Entered(NumberUndo),
     /// No header of that node, if one has come.
     Told(Option<u64>),
-}
-
-impl Drop for FenceUndo {
-    fn drop(self) {
-        match self {
-            FenceUndo::Learned => {}
-            FenceUndo::Entered(_) => {}
-            FenceUndo::Told(_) => {}
-        }
-    }
 }
 
 impl Fence {

@@ -21,19 +21,17 @@ pub struct Headers {
 }
 
 impl Model for Headers {
-    ghost use Rattle.pmg_fence.specs.Codes as codes;
+    ghost use Rattle.pmg_fence.specs.Codes.{Headers, coded_headers, headers_in};
 
-    ghost Value = { codes.Headers };
+    ghost Value = { Headers };
 
-    ghost coded = { codes.coded_headers };
+    ghost coded = { coded_headers };
 
-    ghost use Rattle.pmg_value.specs.Rows.{rows_of};
-
-    ghost view = { λ a. rows_of (λ h. h.locals) a.rows.entries };
+    ghost view = { λ a. headers_in a.rows.entries };
 }
 
 impl Headers {
-    /// No headers.
+    /// No headers. It keeps the allocator.
     pub fn new(alloc: Global) -> Headers
         ensures { result ≡ finite.empty }
     {
@@ -73,16 +71,6 @@ impl Headers {
         }
     }
 
-    /// The same headers, with the same allocator.
-    pub fn copy(&self) -> Result<Headers, AllocError>
-        ensures { IfOk result (λ copy. copy ≡ self.now) }
-    {
-        Ok(Headers {
-            alloc: self.alloc,
-            rows: copy_rows(self.alloc, &self.rows)?,
-        })
-    }
-
     /// Whether the node's header is there.
     pub fn contains(&self, node: u32) -> bool
         ensures { result ≡ is_some (finite.get self.now node) }
@@ -98,6 +86,16 @@ impl Headers {
             Some(header) => told_entry(header.locals(), proc),
             None => None,
         }
+    }
+
+    /// The same headers, with the same allocator.
+    pub fn copy(&self) -> Result<Headers, AllocError>
+        ensures { IfOk result (λ copy. copy ≡ self.now) }
+    {
+        Ok(Headers {
+            alloc: self.alloc,
+            rows: copy_rows(self.alloc, &self.rows)?,
+        })
     }
 }
 

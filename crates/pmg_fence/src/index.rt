@@ -18,15 +18,14 @@ pub struct Index {
 }
 
 impl Model for Index {
-    ghost use Rattle.pmg_fence.specs.Codes as codes;
+    ghost use Rattle.pmg_value.specs.Rows.{map_of};
+    ghost use Rattle.pmg_fence.specs.Codes.{Index, coded_index};
 
-    ghost Value = { codes.Index };
+    ghost Value = { Index };
 
-    ghost coded = { codes.coded_index };
+    ghost coded = { coded_index };
 
-    ghost use Rattle.pmg_value.specs.Rows.{rows_of};
-
-    ghost view = { λ a. rows_of (λ s. s) a.rows.entries };
+    ghost view = { λ a. map_of a.rows.entries };
 }
 
 impl Index {

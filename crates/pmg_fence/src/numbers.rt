@@ -7,6 +7,13 @@ use std::alloc::{AllocError, Global};
 use std::collections::BTreeMap;
 use std::marker::Model;
 
+/// What a process's number was before it was given one, by which that can be taken back.
+#[derive(Drop)]
+pub struct NumberUndo {
+    proc: Proc,
+    number: Option<u64>,
+}
+
 /// A number for each of some processes.
 #[derive(Drop)]
 pub struct Numbers {
@@ -15,33 +22,19 @@ pub struct Numbers {
 }
 
 impl Model for Numbers {
-    ghost use Rattle.pmg_fence.specs.Tables as tables;
-
-    ghost Value = { tables.Numbers };
-
+    ghost use Rattle.pmg_value.specs.Rows.{map_of};
+    ghost use Rattle.pmg_fence.specs.Tables.{Numbers};
     ghost use Rattle.pmg_fence.specs.Codes.{coded_numbers};
+
+    ghost Value = { Numbers };
 
     ghost coded = { coded_numbers };
 
-    ghost use Rattle.pmg_value.specs.Rows.{rows_of};
-
-    ghost view = { λ a. rows_of (λ n. n) a.rows.entries };
-}
-
-/// What a process's number was before it was given one, by which that can be taken back.
-pub struct NumberUndo {
-    proc: Proc,
-    number: Option<u64>,
-}
-
-impl Drop for NumberUndo {
-    fn drop(self) {
-        let NumberUndo { proc: _, number: _ } = self;
-    }
+    ghost view = { λ a. map_of a.rows.entries };
 }
 
 impl Numbers {
-    /// No numbers.
+    /// No numbers. It keeps the allocator.
     pub fn new(alloc: Global) -> Numbers
         ensures { result ≡ finite.empty }
     {

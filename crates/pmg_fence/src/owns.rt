@@ -12,20 +12,11 @@ use std::collections::BTreeMap;
 use std::marker::Model;
 
 /// The participants of fences that are at home at a node, by signature, and the signatures of each of them.
+#[derive(Drop)]
 pub struct Owns {
     alloc: Global,
     rows: BTreeMap<Signature, Vec<Proc>>,
     index: Index,
-}
-
-impl Drop for Owns {
-    fn drop(self) {
-        let Owns {
-            alloc: _,
-            rows: _,
-            index: _,
-        } = self;
-    }
 }
 
 impl Model for Owns {

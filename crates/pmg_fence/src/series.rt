@@ -2,7 +2,7 @@ ghost use Rattle.pmg_fence.specs.declared.fence.FenceUndo.TheVariants as fence_b
 ghost use Rattle.std.specs.Prelude.{◌≡◌, Some, suc, not, nat_lt, IfOk, OnOk, OnErr};
 ghost use Rattle.std.specs.FinMap as finite;
 ghost use Rattle.std.specs.Option.{option_map, unwrap_or};
-ghost use Rattle.pmg_value.specs.Rows.{rows_of};
+ghost use Rattle.pmg_value.specs.Rows.{map_of};
 ghost use Rattle.pmg_fence.specs.Tables.{no_series};
 ghost use Rattle.pmg_fence.specs.Changes.{greater_of, series_kept};
 ghost use Rattle.pmg_fence.specs.Kept.{counts_changed, fence_in, fence_changed, series_placed, series_counted, series_changed};
@@ -25,19 +25,18 @@ pub struct Instances {
 }
 
 impl Model for Instances {
-    ghost use Rattle.pmg_fence.specs.Codes as codes;
+    ghost use Rattle.pmg_value.specs.Rows.{map_of};
+    ghost use Rattle.pmg_fence.specs.Codes.{Instances, coded_instances};
 
-    ghost Value = { codes.Instances };
+    ghost Value = { Instances };
 
-    ghost coded = { codes.coded_instances };
+    ghost coded = { coded_instances };
 
-    ghost use Rattle.pmg_value.specs.Rows.{rows_of};
-
-    ghost view = { λ a. rows_of (λ f. f) a.rows.entries };
+    ghost view = { λ a. map_of a.rows.entries };
 }
 
 impl Instances {
-    /// No fences.
+    /// No fences. It keeps the allocator.
     pub fn new(alloc: Global) -> Instances
         ensures { result ≡ finite.empty }
     {
@@ -56,7 +55,7 @@ impl Instances {
 
     /// The fences, in the order of their instances.
     pub fn rows(&self) -> &BTreeMap<u64, Fence>
-        ensures { rows_of (λ f. f) result.now.entries ≡ self.now }
+        ensures { map_of result.now.entries ≡ self.now }
     {
         &self.rows
     }
@@ -132,20 +131,11 @@ fn greater_of(one: u64, other: u64) -> u64
 
 /// The fences of one signature: how often each own process entered them, what is known of each that is kept, and the greatest
 /// instance that was learned or entered, 0 with none.
+#[derive(Drop)]
 pub struct Series {
     counts: Numbers,
     fences: Instances,
     top: u64,
-}
-
-impl Drop for Series {
-    fn drop(self) {
-        let Series {
-            counts: _,
-            fences: _,
-            top: _,
-        } = self;
-    }
 }
 
 impl Model for Series {
@@ -170,11 +160,7 @@ pub struct SeriesUndo {
 
 impl Drop for SeriesUndo {
     fn drop(self) {
-        let SeriesUndo {
-            count: _,
-            fence: _,
-            top: _,
-        } = self;
+        let Self { count, fence, top } = self;
     }
 }
 
@@ -217,7 +203,7 @@ impl Series {
 
     /// The fences, in the order of their instances.
     pub fn rows(&self) -> &BTreeMap<u64, Fence>
-        ensures { rows_of (λ f. f) result.now.entries ≡ self.now.fences }
+        ensures { map_of result.now.entries ≡ self.now.fences }
     {
         self.fences.rows()
     }

@@ -48,13 +48,13 @@ pub struct Table {
 
 impl Drop for Table {
     fn drop(self) {
-        let Table {
-            node: _,
-            registry: _,
-            series: _,
-            ends: _,
-            waiting: _,
-            owns: _,
+        let Self {
+            node,
+            registry,
+            series,
+            ends,
+            waiting,
+            owns,
         } = self;
     }
 }

@@ -176,6 +176,20 @@ rank_apart (suc n) p (q ∷ qs) m rise h =
     let far = rank_apart n q qs m rise.1 (h ∙ ap (λ (x : Proc). Some x) (same_run p q m w.0)) in
     omega (arith, w.1, far)
 
+-- the second process of a run is the next one, and the last stands as far behind it as its rank is
+pub next_in_run : (n : ℕ) (p q : Proc) (qs : List Proc) → IsStrictlySortedBy proc_cmp (p ∷ q ∷ qs) → slice_get (q ∷ qs) n ≡ Some (at_rank p (p.rank + suc n))
+    → (q ≡ next_rank proc_ranks p) × (slice_get (q ∷ qs) n ≡ Some (at_rank q (q.rank + n)))
+unfolding IsStrictlySortedBy
+next_in_run n p q qs rise h =
+    let m = p.rank + suc n in
+    let w = within_run p q m rise.0.0 (get_above n q (at_rank p m) qs rise.1.0 h) in
+    let there : slice_get (q ∷ qs) n ≡ Some (at_rank q m) = h ∙ ap (λ (x : Proc). Some x) (same_run p q m w.0) in
+    let far = rank_apart n q qs m rise.1 there in
+    let rank : q.rank ≡ suc p.rank = omega (arith, w.1, far) in
+    let last : m ≡ q.rank + n = omega (arith, rank) in
+    let is : q ≡ next_rank proc_ranks p = ap (λ (x : List ℕ). record { nspace = x; rank = q.rank }) w.0 ∙ ap (λ (r : ℕ). record { nspace = p.nspace; rank = r }) rank in
+    (is, there ∙ ap (λ (r : ℕ). Some (at_rank q r)) last)
+
 in_more : (q : Proc) (ps qs : List Proc) → Each (λ p. In p qs) ps → Each (λ p. In p (q ∷ qs)) ps
 in_more q [] qs h = tt
 in_more q (p ∷ ps) qs h = (inr h.0, in_more q ps qs h.1)
@@ -186,15 +200,9 @@ unfolding IsStrictlySortedBy line
 line_in zero p ps rise h = (inl refl, tt)
 line_in (suc n) p [] rise h = absurd cc
 line_in (suc n) p (q ∷ qs) rise h =
-    let m = p.rank + suc n in
-    let w = within_run p q m rise.0.0 (get_above n q (at_rank p m) qs rise.1.0 h) in
-    let there : slice_get (q ∷ qs) n ≡ Some (at_rank q m) = h ∙ ap (λ (x : Proc). Some x) (same_run p q m w.0) in
-    let far = rank_apart n q qs m rise.1 there in
-    let rank : q.rank ≡ suc p.rank = omega (arith, w.1, far) in
-    let last : m ≡ q.rank + n = omega (arith, rank) in
-    let is : q ≡ next_rank proc_ranks p = ap (λ (x : List ℕ). record { nspace = x; rank = q.rank }) w.0 ∙ ap (λ (r : ℕ). record { nspace = p.nspace; rank = r }) rank in
-    let others = line_in n q qs rise.1 (there ∙ ap (λ (r : ℕ). Some (at_rank q r)) last) in
-    (inl refl, in_more p (line proc_ranks (suc n) (next_rank proc_ranks p)) (q ∷ qs) (subst (λ (x : Proc). Each (λ r. In r (q ∷ qs)) (line proc_ranks (suc n) x)) is others))
+    let next = next_in_run n p q qs rise h in
+    let others = line_in n q qs rise.1 next.1 in
+    (inl refl, in_more p (line proc_ranks (suc n) (next_rank proc_ranks p)) (q ∷ qs) (subst (λ (x : Proc). Each (λ r. In r (q ∷ qs)) (line proc_ranks (suc n) x)) next.0 others))
 
 -- the processes of a run are above those below its first
 line_above : (n : ℕ) (p q : Proc) → proc_cmp p q ≡ Less → Below p (line proc_ranks n q)

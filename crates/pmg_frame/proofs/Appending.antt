@@ -1,8 +1,14 @@
 -- Texts that are written one after another.
-use Rattle.std.proofs.Common.{◌≡◌, ℕ, List, ◌++◌, ap, ◌∙◌, append_assoc}
+use Rattle.std.proofs.Common.{◌≡◌, ℕ, List, ◌++◌, Result, ap, ◌∙◌, append_assoc}
+use Rattle.std.specs.Prelude.{OnOk}
+use Rattle.std.proofs.lemmas.Result.{on_ok_weaker}
 
 pub appended_2 : (o x y a b : List ℕ) → x ≡ o ++ a → y ≡ x ++ b → y ≡ o ++ (a ++ b)
 appended_2 o x y a b p q = q ∙ ap (λ (t : List ℕ). t ++ b) p ∙ append_assoc o a b
+
+-- the same where the second one is written without a fault
+pub then_appended : {T E : Type 0} (r : Result T E) (o x y a b : List ℕ) → x ≡ o ++ a → OnOk r (y ≡ x ++ b) → OnOk r (y ≡ o ++ (a ++ b))
+then_appended r o x y a b p put = on_ok_weaker r (λ q. appended_2 o x y a b p q) put
 
 pub appended_3 : (o x y z a b c : List ℕ) → x ≡ o ++ a → y ≡ x ++ b → z ≡ y ++ c → z ≡ o ++ (a ++ (b ++ c))
 appended_3 o x y z a b c p q r = appended_2 o x z a (b ++ c) p (appended_2 x y z b c q r)

@@ -24,9 +24,10 @@ use Rattle.pmg_wire.proofs.FieldLaws.{proc_if, proc_again}
 use Rattle.pmg_wire.proofs.PlainLaws.{flag_if, flag_again}
 use Rattle.pmg_wire.proofs.Steps.{place, IfRead, bind_if, check_if, done_if, Takes-then, IsBytes-after, wide32, wide64, number_if, number_again}
 use Rattle.pmg_frame.specs.Fences.{participants_of, AreParticipants, NameFields, fence_name, is_instance}
-use Rattle.pmg_frame.specs.FenceReading.{is_greater, read_participant, read_name_fields, read_name}
+use Rattle.pmg_frame.specs.FenceReading.{is_greater, read_participant, read_participants, read_fields_by, read_name_by, read_name}
 use Rattle.pmg_frame.specs.Grammar.{IsClient, IsName}
 use Rattle.pmg_frame.specs.Spelling.{flag_spelling, procs_spelling, name_spelling}
+use Rattle.pmg_frame.proofs.RunSteps.{if_weaker}
 use Rattle.pmg_value.proofs.SetOrder.{in_order_rises, in_order-from_list, from_list-in_order}
 
 -- ---- participants
@@ -88,10 +89,57 @@ chain_of : (ps : List Proc) → IsStrictlySortedBy proc_cmp ps → Each IsClient
 chain_of [] h is = tt
 chain_of (p ∷ ps) h is = (record { is = is.0; order = refl }, chain_behind p ps h is.1)
 
+-- ---- the participants, one by one
+
+-- what a list of participants took, which is spelled so
+pub record TakesParts (text : List Proc → List ℕ) (at : Place) (ps : List Proc) (after : Place) : Type 0 where
+  pub takes : Takes at (text ps) after
+  pub some : 1 ≤ length ps
+  pub few : length ps ≤ 4096
+  pub chain : Chain FollowsProc None ps
+
+-- what is read took the text of what it is
+abbrev pub ReadsParts : (Place → Read (List Proc)) → (List Proc → List ℕ) → Type 0
+ReadsParts list text = (at : Place) → IsBytes at.rest → IfRead (list at) (TakesParts text at)
+
+-- and the text of participants is read again
+abbrev pub ReadsPartsAgain : (Place → Read (List Proc)) → (List Proc → List ℕ) → Type 0
+ReadsPartsAgain list text = (o : ℕ) (ps : List Proc) (rest : List ℕ) → 1 ≤ length ps → length ps ≤ 4096 → Chain FollowsProc None ps
+    → list (place o (text ps ++ rest)) ≡ Ok (ps, place (o + length (text ps)) rest)
+
+pub participants_if : ReadsParts read_participants procs_spelling
+unfolding read_participants
+participants_if at fits =
+    let in_range : ℕ → Bool = λ count. nat_lt 0 count && nat_le count 4096 in
+    let listed : ℕ × Place → Read (List Proc) = λ count. many read_participant count.0 None count.1 in
+    bind_if (λ count. check (in_range count.0) (fault at.offset causes.Count) >>= λ _. listed count) (number_if w32 (2 ^ 32) wide32 at fits) (λ count a k.
+    check_if (in_range count) (fault at.offset causes.Count) (λ _. listed (count, a)) (λ few.
+    let range = and_parts (nat_lt 0 count) (nat_le count 4096) few in
+    if_weaker (many_if read_participant proc_spelling FollowsProc participant_if count None a (IsBytes-after (to_be_bytes w32 count) fits k.takes)) (λ ps after m.
+    record {
+      takes = rw m.len (Takes-then (to_be_bytes w32 count) (flat_map proc_spelling ps) k.takes m.takes);
+      some = rw m.len (ltb-true 0 count range.0);
+      few = rw m.len (leb-true count 4096 range.1);
+      chain = m.chain;
+    })))
+
+pub participants_again : ReadsPartsAgain read_participants procs_spelling
+unfolding read_participants
+participants_again o ps rest some few chain =
+    let count_text = to_be_bytes w32 (length ps) in
+    let list_text = flat_map proc_spelling ps in
+    let k = number_again w32 (2 ^ 32) wide32 o (length ps) (list_text ++ rest) (omega (arith, few)) in
+    let range : IsTrue (nat_lt 0 (length ps) && nat_le (length ps) 4096) = and_from _ _ (lt-ltb _ _ some) (le-leb _ _ few) in
+    let m = many_again read_participant proc_spelling FollowsProc participant_again None (o + 4) ps rest chain in
+    let end : o + 4 + length list_text ≡ o + length (procs_spelling ps) = omega (arith, length-append count_text list_text) in
+    ap (λ (text : List ℕ). read_participants (place o text)) (append_assoc count_text list_text rest)
+    ∙ rw (k, range, m) (ap (λ (x : ℕ). Ok (ps, place x rest)) end)
+
 -- ---- the fields of a name
 
-pub fields_spelling : NameFields → List ℕ
-fields_spelling f = flag_spelling f.collect ++ (to_be_bytes w64 f.number ++ procs_spelling f.list)
+-- the fields, whose participants are spelled so
+abbrev pub fields_text : (List Proc → List ℕ) → NameFields → List ℕ
+fields_text text f = flag_spelling f.collect ++ (to_be_bytes w64 f.number ++ text f.list)
 
 -- fields that keep the rules of a name
 pub record AreFields (f : NameFields) : Type 0 where
@@ -104,36 +152,33 @@ pub participants : (f : NameFields) → AreFields f → AreParticipants f.list
 participants f are = record { rising = rising f.list are.chain; clients = all_clients None f.list are.chain; some = are.some; few = are.few }
 
 -- what the fields of a name took
-pub record TakesFields (at : Place) (f : NameFields) (after : Place) : Type 0 where
-  pub takes : Takes at (fields_spelling f) after
+pub record TakesFields (text : List Proc → List ℕ) (at : Place) (f : NameFields) (after : Place) : Type 0 where
+  pub takes : Takes at (fields_text text f) after
   pub are : AreFields f
 
-pub name_fields_if : (at : Place) → IsBytes at.rest → IfRead (read_name_fields at) (TakesFields at)
-unfolding read_name_fields fields_spelling
-name_fields_if at fits =
-    let in_range : ℕ → Bool = λ count. nat_lt 0 count && nat_le count 4096 in
+pub fields_if : (list : Place → Read (List Proc)) (text : List Proc → List ℕ) → ReadsParts list text → (at : Place) → IsBytes at.rest → IfRead (read_fields_by list at) (TakesFields text at)
+unfolding read_fields_by
+fields_if list text parts at fits =
     let made : Bool → ℕ → List Proc × Place → Read NameFields = λ collect number ps. Ok (record { collect = collect; number = number; list = ps.0 }, ps.1) in
-    let listed : Bool → ℕ → ℕ × Place → Read NameFields = λ collect number count. many read_participant count.0 None count.1 >>= made collect number in
-    let counted : Bool → ℕ → Place → ℕ × Place → Read NameFields = λ collect number at_count count. check (in_range count.0) (fault at_count.offset causes.Count) >>= λ _. listed collect number count in
-    let numbered : Bool → ℕ × Place → Read NameFields = λ collect number. number_at w32 number.1 >>= counted collect number.0 number.1 in
-    let begun : Bool → Place → ℕ × Place → Read NameFields = λ collect at_number number. check (is_instance number.0) (fault at_number.offset causes.Number) >>= λ _. numbered collect number in
+    let listed : Bool → ℕ × Place → Read NameFields = λ collect number. list number.1 >>= made collect number.0 in
+    let begun : Bool → Place → ℕ × Place → Read NameFields = λ collect at_number number. check (is_instance number.0) (fault at_number.offset causes.Number) >>= λ _. listed collect number in
     bind_if (λ collect. number_at w64 collect.1 >>= begun collect.0 collect.1) (flag_if at) (λ collect a f.
     let a_fits : IsBytes a.rest = IsBytes-after (flag_spelling collect) fits f in
     bind_if (begun collect a) (number_if w64 (2 ^ 64) wide64 a a_fits) (λ number b n.
     let b_fits : IsBytes b.rest = IsBytes-after (to_be_bytes w64 number) a_fits n.takes in
-    check_if (is_instance number) (fault a.offset causes.Number) (λ _. numbered collect (number, b)) (λ instance.
-    bind_if (counted collect number b) (number_if w32 (2 ^ 32) wide32 b b_fits) (λ count d k.
-    let d_fits : IsBytes d.rest = IsBytes-after (to_be_bytes w32 count) b_fits k.takes in
-    check_if (in_range count) (fault b.offset causes.Count) (λ _. listed collect number (count, d)) (λ few.
-    let range = and_parts (nat_lt 0 count) (nat_le count 4096) few in
-    bind_if (made collect number) (many_if read_participant proc_spelling FollowsProc participant_if count None d d_fits) (λ ps after m.
-    let list_tail = Takes-then (to_be_bytes w32 count) (flat_map proc_spelling ps) k.takes m.takes in
-    let number_tail = Takes-then (to_be_bytes w64 number) (to_be_bytes w32 count ++ flat_map proc_spelling ps) n.takes list_tail in
-    let all = Takes-then (flag_spelling collect) (to_be_bytes w64 number ++ (to_be_bytes w32 count ++ flat_map proc_spelling ps)) f number_tail in
+    check_if (is_instance number) (fault a.offset causes.Number) (λ _. listed collect (number, b)) (λ instance.
+    bind_if (made collect number) (parts b b_fits) (λ ps after m.
+    let tail = Takes-then (to_be_bytes w64 number) (text ps) n.takes m.takes in
     done_if (record {
-      takes = rw m.len all;
-      are = record { number = instance; some = rw m.len (ltb-true 0 count range.0); few = rw m.len (leb-true count 4096 range.1); chain = m.chain };
-    })))))))
+      takes = Takes-then (flag_spelling collect) (to_be_bytes w64 number ++ text ps) f tail;
+      are = record { number = instance; some = m.some; few = m.few; chain = m.chain };
+    })))))
+
+pub regroup_3 : (a b c r : List ℕ) → (a ++ (b ++ c)) ++ r ≡ a ++ (b ++ (c ++ r))
+regroup_3 a b c r = simp append_assoc
+
+pub length_3 : (a b c : List ℕ) → length (a ++ (b ++ c)) ≡ length a + length b + length c
+length_3 a b c = omega (arith, length-append a (b ++ c), length-append b c)
 
 pub regroup_4 : (a b c d r : List ℕ) → (a ++ (b ++ (c ++ d))) ++ r ≡ a ++ (b ++ (c ++ (d ++ r)))
 regroup_4 a b c d r = simp append_assoc
@@ -141,53 +186,24 @@ regroup_4 a b c d r = simp append_assoc
 pub length_4 : (a b c d : List ℕ) → length (a ++ (b ++ (c ++ d))) ≡ length a + length b + length c + length d
 length_4 a b c d = omega (arith, length-append a (b ++ (c ++ d)), length-append b (c ++ d), length-append c d)
 
-pub name_fields_again : (o : ℕ) (f : NameFields) (rest : List ℕ) → AreFields f → read_name_fields (place o (fields_spelling f ++ rest)) ≡ Ok (f, place (o + length (fields_spelling f)) rest)
-unfolding read_name_fields fields_spelling
-name_fields_again o f rest are =
+fields_again : (list : Place → Read (List Proc)) (text : List Proc → List ℕ) → ReadsPartsAgain list text → (o : ℕ) (f : NameFields) (rest : List ℕ) → AreFields f
+    → read_fields_by list (place o (fields_text text f ++ rest)) ≡ Ok (f, place (o + length (fields_text text f)) rest)
+unfolding read_fields_by
+fields_again list text again o f rest are =
     let flag_text = flag_spelling f.collect in
     let number_text = to_be_bytes w64 f.number in
-    let count_text = to_be_bytes w32 (length f.list) in
-    let list_text = flat_map proc_spelling f.list in
+    let list_text = text f.list in
     let range = and_parts (nat_lt 0 f.number) (nat_le f.number 4294967295) are.number in
     let small : f.number ≤ 4294967295 = leb-true _ _ range.1 in
-    let regrouped = regroup_4 flag_text number_text count_text list_text rest in
-    let c = flag_again o f.collect (number_text ++ (count_text ++ (list_text ++ rest))) in
-    let n = number_again w64 (2 ^ 64) wide64 (o + 1) f.number (count_text ++ (list_text ++ rest)) (omega (arith, small)) in
+    let c = flag_again o f.collect (number_text ++ (list_text ++ rest)) in
+    let n = number_again w64 (2 ^ 64) wide64 (o + 1) f.number (list_text ++ rest) (omega (arith, small)) in
     let instance = are.number in
-    let k = number_again w32 (2 ^ 32) wide32 (o + 1 + 8) (length f.list) (list_text ++ rest) (omega (arith, are.few)) in
-    let few : IsTrue (nat_lt 0 (length f.list) && nat_le (length f.list) 4096) = and_from _ _ (lt-ltb _ _ are.some) (le-leb _ _ are.few) in
-    let m = many_again read_participant proc_spelling FollowsProc participant_again None (o + 1 + 8 + 4) f.list rest are.chain in
-    let end : o + 1 + 8 + 4 + length list_text ≡ o + length (fields_spelling f) = omega (arith, length_4 flag_text number_text count_text list_text) in
-    ap (λ (text : List ℕ). read_name_fields (place o text)) regrouped
-    ∙ rw (c, n, instance, k, few, m) (ap (λ (x : ℕ). Ok (f, place x rest)) end)
+    let m = again (o + 1 + 8) f.list rest are.some are.few are.chain in
+    let end : o + 1 + 8 + length list_text ≡ o + length (fields_text text f) = omega (arith, length_3 flag_text number_text list_text) in
+    ap (λ (t : List ℕ). read_fields_by list (place o t)) (regroup_3 flag_text number_text list_text rest)
+    ∙ rw (c, n, instance, m) (ap (λ (x : ℕ). Ok (f, place x rest)) end)
 
 -- ---- names
-
--- what a fence's name took
-pub record TakesName (at : Place) (name : FenceName) (after : Place) : Type 0 where
-  pub takes : Takes at (name_spelling name) after
-  pub is : IsName name
-
-pub listed_is : (f : NameFields) → AreFields f → participants_of (fence_name f) ≡ f.list
-listed_is f are = in_order-from_list procs_total exact_procs f.list (rising f.list are.chain)
-
-named : (at : Place) (f : NameFields) (after : Place) → TakesFields at f after → TakesName at (fence_name f) after
-unfolding fields_spelling
-named at f after t =
-    let is = sym (listed_is f t.are) in
-    record {
-      takes = subst (λ (ps : List Proc). Takes at (flag_spelling f.collect ++ (to_be_bytes w64 f.number ++ procs_spelling ps)) after) is t.takes;
-      is = record {
-        number = t.are.number;
-        some = subst (λ (ps : List Proc). 1 ≤ length ps) is t.are.some;
-        few = subst (λ (ps : List Proc). length ps ≤ 4096) is t.are.few;
-        clients = subst (Each IsClient) is (each None f.list t.are.chain);
-      };
-    }
-
-pub name_if : (at : Place) → IsBytes at.rest → IfRead (read_name at) (TakesName at)
-unfolding read_name
-name_if at fits = bind_if (λ f. Ok (fence_name f.0, f.1)) (name_fields_if at fits) (λ f after t. done_if (named at f after t))
 
 abbrev pub fields_of : FenceName → NameFields
 fields_of name = record { collect = name.signature.collect; number = name.instance; list = participants_of name }
@@ -199,8 +215,44 @@ pub name_of-fields_of : (name : FenceName) → fence_name (fields_of name) ≡ n
 name_of-fields_of name =
     ap (λ (s : set.FinSet proc_cmp). record { signature = record { participants = s; collect = name.signature.collect }; instance = name.instance }) (from_list-in_order procs_total exact_procs name.signature.participants)
 
+-- a name, whose participants are spelled so
+abbrev pub text_of_name : (List Proc → List ℕ) → FenceName → List ℕ
+text_of_name text name = fields_text text (fields_of name)
+
+-- what a fence's name took
+pub record TakesName (text : List Proc → List ℕ) (at : Place) (name : FenceName) (after : Place) : Type 0 where
+  pub takes : Takes at (text_of_name text name) after
+  pub is : IsName name
+
+pub listed_is : (f : NameFields) → AreFields f → participants_of (fence_name f) ≡ f.list
+listed_is f are = in_order-from_list procs_total exact_procs f.list (rising f.list are.chain)
+
+named : (text : List Proc → List ℕ) (at : Place) (f : NameFields) (after : Place) → TakesFields text at f after → TakesName text at (fence_name f) after
+named text at f after t =
+    let is = sym (listed_is f t.are) in
+    record {
+      takes = subst (λ (ps : List Proc). Takes at (flag_spelling f.collect ++ (to_be_bytes w64 f.number ++ text ps)) after) is t.takes;
+      is = record {
+        number = t.are.number;
+        some = subst (λ (ps : List Proc). 1 ≤ length ps) is t.are.some;
+        few = subst (λ (ps : List Proc). length ps ≤ 4096) is t.are.few;
+        clients = subst (Each IsClient) is (each None f.list t.are.chain);
+      };
+    }
+
+pub name_by_if : (list : Place → Read (List Proc)) (text : List Proc → List ℕ) → ReadsParts list text → (at : Place) → IsBytes at.rest → IfRead (read_name_by list at) (TakesName text at)
+unfolding read_name_by
+name_by_if list text parts at fits = bind_if (λ f. Ok (fence_name f.0, f.1)) (fields_if list text parts at fits) (λ f after t. done_if (named text at f after t))
+
+pub name_by_again : (list : Place → Read (List Proc)) (text : List Proc → List ℕ) → ReadsPartsAgain list text → (o : ℕ) (name : FenceName) (rest : List ℕ) → IsName name
+    → read_name_by list (place o (text_of_name text name ++ rest)) ≡ Ok (name, place (o + length (text_of_name text name)) rest)
+unfolding read_name_by
+name_by_again list text again o name rest is =
+    let read = fields_again list text again o (fields_of name) rest (are_fields_of name is) in
+    rw read (ap (λ (f : FenceName). Ok (f, place (o + length (text_of_name text name)) rest)) (name_of-fields_of name))
+
+pub name_if : (at : Place) → IsBytes at.rest → IfRead (read_name at) (TakesName procs_spelling at)
+name_if = name_by_if read_participants procs_spelling participants_if
+
 pub name_again : (o : ℕ) (name : FenceName) (rest : List ℕ) → IsName name → read_name (place o (name_spelling name ++ rest)) ≡ Ok (name, place (o + length (name_spelling name)) rest)
-unfolding read_name fields_spelling
-name_again o name rest is =
-    let read = name_fields_again o (fields_of name) rest (are_fields_of name is) in
-    rw read (ap (λ (f : FenceName). Ok (f, place (o + length (name_spelling name)) rest)) (name_of-fields_of name))
+name_again = name_by_again read_participants procs_spelling participants_again

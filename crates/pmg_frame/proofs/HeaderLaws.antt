@@ -20,12 +20,12 @@ use Rattle.pmg_wire.proofs.FieldLaws.{proc_if, proc_again}
 use Rattle.pmg_wire.proofs.PlainLaws.{flag_if, flag_again}
 use Rattle.pmg_wire.proofs.Steps.{place, IfRead, bind_if, check_if, done_if, Takes-then, IsBytes-after, wide32, wide64, number_if, number_again}
 use Rattle.pmg_frame.specs.Fences.{participants_of, is_level, is_gone, state_of, state_of-is_gone, is_local_rising, is_listed, is_header, is_ask, Header, FenceAsk, CommitAsk}
-use Rattle.pmg_frame.specs.FenceReading.{is_greater, read_name, read_node, read_level, read_local, read_header, read_fence_ask, read_commit_ask}
+use Rattle.pmg_frame.specs.FenceReading.{is_greater, read_participants, read_name_by, read_name, read_ask_by, read_node, read_level, read_local, read_header, read_fence_ask, read_commit_ask}
 use Rattle.pmg_frame.specs.Grammar.{FollowsLocal, IsHeader, IsFenceAsk, IsCommitAsk}
-use Rattle.pmg_frame.specs.Spelling.{flag_spelling, name_spelling, local_spelling, header_body, fence_ask_body, commit_ask_body}
+use Rattle.pmg_frame.specs.Spelling.{flag_spelling, procs_spelling, name_spelling, local_spelling, header_body, fence_ask_body, commit_ask_body}
 use Rattle.pmg_frame.specs.declared.local.Local.{Local}
 use Rattle.pmg_frame.specs.declared.local.State.{State}
-use Rattle.pmg_frame.proofs.FenceLaws.{name_if, name_again, regroup_4, length_4}
+use Rattle.pmg_frame.proofs.FenceLaws.{ReadsParts, ReadsPartsAgain, participants_if, participants_again, text_of_name, name_by_if, name_by_again, name_if, name_again, regroup_3, length_3, regroup_4, length_4}
 use Rattle.pmg_frame.proofs.Taken.{TakesBody}
 
 -- ---- nodes and levels
@@ -87,12 +87,6 @@ local_if name before at fits =
       takes = rw (is_gone-state_of gone) (Takes-then (proc_spelling p) (flag_spelling gone ++ to_be_bytes w64 level) t.takes tail);
       follows = record { is = record { name = t.name; client = t.admitted }; order = order; member = is_member; level = n.is };
     }))))))
-
-pub regroup_3 : (a b c r : List ℕ) → (a ++ (b ++ c)) ++ r ≡ a ++ (b ++ (c ++ r))
-regroup_3 a b c r = simp append_assoc
-
-pub length_3 : (a b c : List ℕ) → length (a ++ (b ++ c)) ≡ length a + length b + length c
-length_3 a b c = omega (arith, length-append a (b ++ c), length-append b c)
 
 local_again : (name : FenceName) (before : Option Local) (o : ℕ) (l : Local) (rest : List ℕ) → FollowsLocal name before l
     → read_local name before (place o (local_spelling l ++ rest)) ≡ Ok (l, place (o + length (local_spelling l)) rest)
@@ -183,24 +177,35 @@ header_count h passes = leb-true _ _ (and_parts _ _ (and_parts _ _ (and_parts _ 
 
 -- ---- asks
 
-pub fence_ask_if : (at : Place) → IsBytes at.rest → IfRead (read_fence_ask at) (λ a. TakesBody at (fence_ask_body a) (IsFenceAsk a))
-unfolding read_fence_ask
-fence_ask_if at fits =
+-- a fence ask, whose participants are spelled so
+abbrev pub ask_text : (List Proc → List ℕ) → FenceAsk → List ℕ
+ask_text text a = to_be_bytes w32 a.node ++ text_of_name text a.name
+
+pub ask_by_if : (list : Place → Read (List Proc)) (text : List Proc → List ℕ) → ReadsParts list text → (at : Place) → IsBytes at.rest → IfRead (read_ask_by list at) (λ a. TakesBody at (ask_text text a) (IsFenceAsk a))
+unfolding read_ask_by
+ask_by_if list text parts at fits =
     let made : ℕ → FenceName × Place → Read FenceAsk = λ node name. Ok (record { node = node; name = name.0 }, name.1) in
-    bind_if (λ node. read_name node.1 >>= made node.0) (node_if at fits) (λ node a n.
-    bind_if (made node) (name_if a (IsBytes-after (to_be_bytes w32 node) fits n.takes)) (λ name after t.
-    done_if (record { takes = Takes-then (to_be_bytes w32 node) (name_spelling name) n.takes t.takes; is = record { node = n.bound; name = t.is } })))
+    bind_if (λ node. read_name_by list node.1 >>= made node.0) (node_if at fits) (λ node a n.
+    bind_if (made node) (name_by_if list text parts a (IsBytes-after (to_be_bytes w32 node) fits n.takes)) (λ name after t.
+    done_if (record { takes = Takes-then (to_be_bytes w32 node) (text_of_name text name) n.takes t.takes; is = record { node = n.bound; name = t.is } })))
+
+pub ask_by_again : (list : Place → Read (List Proc)) (text : List Proc → List ℕ) → ReadsPartsAgain list text → (o : ℕ) (a : FenceAsk) (rest : List ℕ) → IsFenceAsk a
+    → read_ask_by list (place o (ask_text text a ++ rest)) ≡ Ok (a, place (o + length (ask_text text a)) rest)
+unfolding read_ask_by
+ask_by_again list text again o a rest is =
+    let node_text = to_be_bytes w32 a.node in
+    let name_text = text_of_name text a.name in
+    let n = node_again o a.node (name_text ++ rest) is.node in
+    let t = name_by_again list text again (o + 4) a.name rest is.name in
+    let end : o + 4 + length name_text ≡ o + length (ask_text text a) = omega (arith, length-append node_text name_text) in
+    ap (λ (t : List ℕ). read_ask_by list (place o t)) (append_assoc node_text name_text rest)
+    ∙ rw (n, t) (ap (λ (x : ℕ). Ok (a, place x rest)) end)
+
+pub fence_ask_if : (at : Place) → IsBytes at.rest → IfRead (read_fence_ask at) (λ a. TakesBody at (fence_ask_body a) (IsFenceAsk a))
+fence_ask_if = ask_by_if read_participants procs_spelling participants_if
 
 pub fence_ask_again : (o : ℕ) (a : FenceAsk) (rest : List ℕ) → IsFenceAsk a → read_fence_ask (place o (fence_ask_body a ++ rest)) ≡ Ok (a, place (o + length (fence_ask_body a)) rest)
-unfolding read_fence_ask
-fence_ask_again o a rest is =
-    let node_text = to_be_bytes w32 a.node in
-    let name_text = name_spelling a.name in
-    let n = node_again o a.node (name_text ++ rest) is.node in
-    let t = name_again (o + 4) a.name rest is.name in
-    let end : o + 4 + length name_text ≡ o + length (fence_ask_body a) = omega (arith, length-append node_text name_text) in
-    ap (λ (text : List ℕ). read_fence_ask (place o text)) (append_assoc node_text name_text rest)
-    ∙ rw (n, t) (ap (λ (x : ℕ). Ok (a, place x rest)) end)
+fence_ask_again = ask_by_again read_participants procs_spelling participants_again
 
 pub commit_ask_if : (at : Place) → IsBytes at.rest → IfRead (read_commit_ask at) (λ a. TakesBody at (commit_ask_body a) (IsCommitAsk a))
 unfolding read_commit_ask

@@ -24,8 +24,8 @@ use Rattle.pmg_frame.specs.Spelling.{flag_spelling, name_spelling, local_spellin
 use Rattle.pmg_frame.specs.Versions.{body_spelling}
 use Rattle.pmg_frame.specs.declared.frame.Frame.TheVariants as frames
 use Rattle.pmg_frame.specs.declared.local.Local.{Local}
-use Rattle.pmg_frame.proofs.FenceLaws.{length_4}
-use Rattle.pmg_frame.proofs.HeaderLaws.{header_passes, length_3}
+use Rattle.pmg_frame.proofs.FenceLaws.{length_3, length_4}
+use Rattle.pmg_frame.proofs.HeaderLaws.{header_passes}
 use Rattle.pmg_value.proofs.SetOrder.{any_in_order}
 
 -- ---- what passes is a header
@@ -109,14 +109,9 @@ name_short name is =
 
 header_short : (h : Header) → IsHeader h → length (header_body h) ≤ 16777216
 header_short h is =
-    omega (
-      arith,
-      name_short h.name is.name,
-      locals_short h.name None h.locals is.locals,
-      is.few,
-      is.name.few,
-      length_4 (to_be_bytes w32 h.node) (name_spelling h.name) (to_be_bytes w32 (length h.locals)) (flat_map local_spelling h.locals),
-    )
+    let name = name_short h.name is.name in
+    let locals = locals_short h.name None h.locals is.locals in
+    omega (arith, name, locals, is.few, is.name.few, length_4 (to_be_bytes w32 h.node) (name_spelling h.name) (to_be_bytes w32 (length h.locals)) (flat_map local_spelling h.locals))
 
 -- ---- sizes of runs, which are no more than the items
 
@@ -164,14 +159,9 @@ local_runs_short name before (l ∷ ls) chain = omega (arith, with_local l (runs
 short_header_short : (h : Header) → IsHeader h → length (short_header h) ≤ 16777216
 short_header_short h is =
     let rs = runs_of local_ranks h.locals in
-    omega (
-      arith,
-      short_name_short h.name is.name,
-      local_runs_short h.name None h.locals is.locals,
-      is.few,
-      is.name.few,
-      length_4 (to_be_bytes w32 h.node) (short_name h.name) (to_be_bytes w32 (length rs)) (flat_map local_run_spelling rs),
-    )
+    let name = short_name_short h.name is.name in
+    let locals = local_runs_short h.name None h.locals is.locals in
+    omega (arith, name, locals, is.few, is.name.few, length_4 (to_be_bytes w32 h.node) (short_name h.name) (to_be_bytes w32 (length rs)) (flat_map local_run_spelling rs))
 
 -- ---- what fits, in either version
 

@@ -33,8 +33,8 @@ use Rattle.pmg_frame.specs.RunSpelling.{short_name, local_run_spelling, local_ru
 use Rattle.pmg_frame.specs.Spelling.{flag_spelling}
 use Rattle.pmg_frame.specs.declared.local.Local.{Local}
 use Rattle.pmg_frame.proofs.Among.{in_if, less_at, no_more}
-use Rattle.pmg_frame.proofs.FenceLaws.{less_is, below_more, regroup_4, length_4}
-use Rattle.pmg_frame.proofs.HeaderLaws.{is_gone-state_of, node_if, node_again, level_if, level_again, regroup_3, length_3}
+use Rattle.pmg_frame.proofs.FenceLaws.{less_is, below_more, regroup_3, length_3, regroup_4, length_4}
+use Rattle.pmg_frame.proofs.HeaderLaws.{is_gone-state_of, node_if, node_again, level_if, level_again}
 use Rattle.pmg_frame.proofs.RunLaws.{short_name_if, short_name_again}
 use Rattle.pmg_frame.proofs.RunRules.{local_ranked}
 use Rattle.pmg_frame.proofs.RunSteps.{Adds, AddAll, TakesRun, if_weaker, items_if, items_again, adds_of, chain_of_runs, few_runs, some_runs}

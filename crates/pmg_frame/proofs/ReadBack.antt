@@ -20,3 +20,8 @@ pub reads_back : {X E : Type 0} (v : ℕ) (frame : Frame) (items : X → List �
 reads_back v frame items (Ok x) known bytes valid small = λ at after t.
     frame_only v at frame after (record { version = known; takes = subst (λ (text : List ℕ). Takes at text after) bytes t; small = small; is = valid })
 reads_back v frame items (Err e) known bytes valid small = tt
+
+-- the same of headers and asks, which fit
+pub fits_back : {X E : Type 0} (v : ℕ) (frame : Frame) (items : X → List ℕ) (r : Result X E) → IsTrue (is_version v) → IfOk r (λ x. items x ≡ frame_spelling v frame) → OnOk r (IsFrame frame)
+    → has_entries frame ≡ false → IfOk r (λ x. ReadsBack frame (items x))
+fits_back v frame items r known bytes valid few = reads_back v frame items r known bytes valid (fits v frame r few valid)

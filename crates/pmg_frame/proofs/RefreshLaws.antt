@@ -21,7 +21,8 @@ use Rattle.pmg_frame.specs.Spelling.{flag_spelling, asker_spelling, piece_body, 
 use Rattle.pmg_frame.specs.Versions.{kind_of, body_spelling}
 use Rattle.pmg_frame.specs.declared.frame.Frame.{Frame}
 use Rattle.pmg_frame.specs.declared.frame.Frame.TheVariants as frames
-use Rattle.pmg_frame.proofs.HeaderLaws.{node_if, node_again, level_if, level_again, regroup_3}
+use Rattle.pmg_frame.proofs.FenceLaws.{regroup_3}
+use Rattle.pmg_frame.proofs.HeaderLaws.{node_if, node_again, level_if, level_again}
 use Rattle.pmg_frame.proofs.PieceLaws.{told_if, told_again}
 
 -- what the number of a request took

@@ -1,9 +1,9 @@
 -- Where the runs of a list end.
-use Rattle.std.proofs.Common.{◌≡◌, ℕ, zero, suc, ◌+◌, ◌-◌, ◌<◌, ◌≤◌, true, false, List, [], ◌∷◌, ◌++◌, length, drop, Some, refl, sym, ap, subst, ◌∙◌, append_assoc, arith}
+use Rattle.std.proofs.Common.{◌≡◌, ℕ, zero, suc, ◌+◌, ◌-◌, ◌<◌, ◌≤◌, true, false, List, [], ◌∷◌, ◌++◌, length, drop, get_or, Some, refl, sym, ap, subst, ◌∙◌, append_assoc, arith}
 use Rattle.std.specs.List.{slice_get, flat_map}
 use Rattle.std.proofs.Math.ListN.{drop_of_length-le}
 use Rattle.std.proofs.lemmas.List.{drop-drop, length-append}
-use Rattle.std.proofs.lemmas.Option.{slice_get_within}
+use Rattle.std.proofs.lemmas.Option.{slice_get_read, slice_get_within}
 use Rattle.pmg_frame.specs.Runs.{Ranked, RankRun, run, next_rank, runs_of, IsFirstRun}
 use Rattle.pmg_frame.proofs.RunRules.{IsRanked}
 use Rattle.pmg_frame.proofs.RunFronts.{BeginsWith, begins_with_one, begins_with_more, get_last, first_run}
@@ -44,6 +44,11 @@ next_before k is x y n e =
     let rank : k.rank y ≡ k.rank x + n = ap k.rank e ∙ is.rank_at x (k.rank x + n) in
     let more : suc (k.rank x + n) ≡ k.rank x + suc n = omega arith in
     ap (λ z. k.at z (suc (k.rank y))) e ∙ is.at_at x (k.rank x + n) (suc (k.rank y)) ∙ ap (λ r. k.at x (suc r)) rank ∙ ap (k.at x) more
+
+-- two items that are read one after the other
+pub read_both : {A : Type 0} (xs : List A) (start i : ℕ) (y z : A) → start < i → i < length xs → y ≡ get_or xs (i - 1) y → z ≡ get_or xs i z
+    → (slice_get xs (i - 1) ≡ Some y) × (slice_get xs i ≡ Some z)
+read_both xs start i y z low high y_is z_is = (slice_get_read xs (length xs) (i - 1) y refl (omega (arith, low, high)) y_is, slice_get_read xs (length xs) i z refl high z_is)
 
 -- the item there goes on from the one before
 pub goes_further : {A : Type 0} (k : Ranked A) → IsRanked k → (xs : List A) (start i : ℕ) (y z : A) → start < i → slice_get xs (i - 1) ≡ Some y → slice_get xs i ≡ Some z

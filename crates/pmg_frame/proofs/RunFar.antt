@@ -1,11 +1,11 @@
 -- The first run of processes that rise: one that stands as far behind the first as its rank is, is of its run, and so are those between.
-use Rattle.std.proofs.Common.{◌≡◌, ℕ, zero, suc, ◌+◌, List, [], ◌∷◌, ◌++◌, drop, Some, refl, sym, ap, ◌∙◌, arith}
+use Rattle.std.proofs.Common.{◌≡◌, ℕ, zero, suc, ◌+◌, List, [], ◌∷◌, ◌++◌, drop, Some, refl, sym, ap, ◌∙◌}
 use Rattle.std.specs.List.{slice_get}
 use Rattle.std.specs.List.Sorted.{IsStrictlySortedBy}
 use Rattle.pmg_value.specs.Process.{proc_cmp}
 use Rattle.pmg_value.specs.declared.process.Proc.{Proc}
-use Rattle.pmg_frame.specs.Runs.{proc_ranks, next_rank, line, IsFirstRun}
-use Rattle.pmg_frame.proofs.Among.{at_rank, get_above, within_run, same_run, rank_apart}
+use Rattle.pmg_frame.specs.Runs.{proc_ranks, line, IsFirstRun}
+use Rattle.pmg_frame.proofs.Among.{at_rank, next_in_run}
 use Rattle.pmg_frame.proofs.RunFronts.{BeginsWith, first_run}
 use Rattle.pmg_frame.proofs.RunRules.{proc_ranked}
 
@@ -14,15 +14,9 @@ unfolding IsStrictlySortedBy line
 begins_behind zero p ps rise h = refl
 begins_behind (suc n) p [] rise h = absurd cc
 begins_behind (suc n) p (q ∷ qs) rise h =
-    let m = p.rank + suc n in
-    let w = within_run p q m rise.0.0 (get_above n q (at_rank p m) qs rise.1.0 h) in
-    let there : slice_get (q ∷ qs) n ≡ Some (at_rank q m) = h ∙ ap (λ (x : Proc). Some x) (same_run p q m w.0) in
-    let far = rank_apart n q qs m rise.1 there in
-    let rank : q.rank ≡ suc p.rank = omega (arith, w.1, far) in
-    let last : m ≡ q.rank + n = omega (arith, rank) in
-    let is : q ≡ next_rank proc_ranks p = ap (λ (x : List ℕ). record { nspace = x; rank = q.rank }) w.0 ∙ ap (λ (r : ℕ). record { nspace = p.nspace; rank = r }) rank in
-    let others = begins_behind n q qs rise.1 (there ∙ ap (λ (r : ℕ). Some (at_rank q r)) last) in
-    ap (λ (ps : List Proc). p ∷ ps) (others ∙ ap (λ (x : Proc). line proc_ranks (suc n) x ++ drop (suc n) (q ∷ qs)) is)
+    let next = next_in_run n p q qs rise h in
+    let others = begins_behind n q qs rise.1 next.1 in
+    ap (λ (ps : List Proc). p ∷ ps) (others ∙ ap (λ (x : Proc). line proc_ranks (suc n) x ++ drop (suc n) (q ∷ qs)) next.0)
 
 pub begins_far : (n : ℕ) (p : Proc) (ps : List Proc) → IsStrictlySortedBy proc_cmp ps → slice_get ps 0 ≡ Some p → slice_get ps n ≡ Some (at_rank p (p.rank + n)) → BeginsWith proc_ranks ps (suc n) p
 begins_far n p [] rise first h = absurd cc

@@ -2,14 +2,13 @@
 use Rattle.std.proofs.Common.{◌≡◌, ℕ, zero, suc, ◌+◌, ◌-◌, ◌^◌, ◌≤◌, Bool, true, ◌&&◌, not, nat_lt, nat_le, List, [], ◌∷◌, ◌++◌, length, Option, Some, None, Ok, IsTrue, refl, sym, ap, subst, ◌∙◌, append_assoc, arith}
 use Rattle.std.specs.Cmp.{nat_cmp_is}
 use Rattle.std.specs.Cmp.Lexicographic.{nat_list_cmp_total}
-use Rattle.std.specs.Int.{w32, w64, to_be_bytes}
+use Rattle.std.specs.Int.{w32, to_be_bytes}
 use Rattle.std.specs.List.{flat_map}
 use Rattle.std.specs.Ordering.{is_lt, nat_cmp}
 use Rattle.std.specs.declared.cmp.Ordering.TheVariants.{Less}
 use Rattle.std.proofs.lemmas.Bool.{and_parts, and_from, ltb-true, leb-true, lt-ltb, le-leb}
 use Rattle.std.proofs.lemmas.Cmp.{tied_itself}
 use Rattle.std.proofs.lemmas.List.{append-nil, length-append}
-use Rattle.pmg_value.specs.Lists.{Each}
 use Rattle.pmg_value.specs.Names.{is_reserved}
 use Rattle.pmg_value.specs.Process.{proc_cmp}
 use Rattle.pmg_value.specs.Signatures.{FenceName}
@@ -20,17 +19,15 @@ use Rattle.pmg_wire.specs.Many.{Chain}
 use Rattle.pmg_wire.specs.Reading.{Place, Read, fault, ◌>>=◌, check, number_at, IsBytes, Takes}
 use Rattle.pmg_wire.specs.Spelling.{proc_spelling}
 use Rattle.pmg_wire.proofs.FieldLaws.{proc_if, proc_again}
-use Rattle.pmg_wire.proofs.PlainLaws.{flag_if, flag_again}
-use Rattle.pmg_wire.proofs.Steps.{place, IfRead, bind_if, check_if, done_if, Takes-then, IsBytes-after, wide32, wide64, number_if, number_again}
-use Rattle.pmg_frame.specs.Fences.{NameFields, fence_name, is_instance, FenceAsk}
+use Rattle.pmg_wire.proofs.Steps.{place, IfRead, bind_if, check_if, done_if, Takes-then, IsBytes-after, wide32, number_if, number_again}
+use Rattle.pmg_frame.specs.Fences.{FenceAsk}
 use Rattle.pmg_frame.specs.FenceReading.{is_greater}
 use Rattle.pmg_frame.specs.Grammar.{IsClient, IsName, IsFenceAsk}
-use Rattle.pmg_frame.specs.RunReading.{repeated, last_or, is_new, ranks_to, is_last, read_part, read_run, is_run_count, read_runs, read_short_fields, read_short_name, read_short_ask}
+use Rattle.pmg_frame.specs.RunReading.{repeated, last_or, is_new, ranks_to, is_last, read_part, read_run, is_run_count, read_runs, read_short_name, read_short_ask}
 use Rattle.pmg_frame.specs.Runs.{proc_ranks, RankRun, next_rank, line, items_of, runs_of}
 use Rattle.pmg_frame.specs.RunSpelling.{run_spelling, runs_spelling, short_name, short_fence_ask}
-use Rattle.pmg_frame.specs.Spelling.{flag_spelling}
-use Rattle.pmg_frame.proofs.FenceLaws.{FollowsProc, each, AreFields, listed_is, fields_of, are_fields_of, name_of-fields_of}
-use Rattle.pmg_frame.proofs.HeaderLaws.{node_if, node_again, regroup_3, length_3}
+use Rattle.pmg_frame.proofs.FenceLaws.{FollowsProc, ReadsParts, ReadsPartsAgain, TakesName, name_by_if, name_by_again}
+use Rattle.pmg_frame.proofs.HeaderLaws.{ask_by_if, ask_by_again}
 use Rattle.pmg_frame.proofs.RunRules.{proc_ranked, items_of-line, length-items_of, runs_of-are}
 use Rattle.pmg_frame.proofs.RunSteps.{Adds, AddAll, TakesRun, if_weaker, items_if, items_again, adds_of, chain_of_runs, few_runs, some_runs}
 use Rattle.pmg_frame.proofs.Taken.{TakesBody}
@@ -162,14 +159,7 @@ adds_few before (r ∷ rs) le all =
     let here : length (before ++ xs) ≤ 4096 = omega (arith, length-append before xs, length-items_of proc_ranks r, all.0.more.count) in
     rw (← append_assoc before xs ys) (adds_few (before ++ xs) rs here all.1)
 
--- what a list of participants took
-pub record TakesParts (at : Place) (ps : List Proc) (after : Place) : Type 0 where
-  pub takes : Takes at (runs_spelling ps) after
-  pub some : 1 ≤ length ps
-  pub few : length ps ≤ 4096
-  pub chain : Chain FollowsProc None ps
-
-pub runs_if : (at : Place) → IsBytes at.rest → IfRead (read_runs at) (TakesParts at)
+pub runs_if : ReadsParts read_runs runs_spelling
 unfolding read_runs
 runs_if at fits =
     let listed : ℕ × Place → Read (List Proc) = λ count. repeated read_run count.0 [] count.1 in
@@ -185,8 +175,7 @@ runs_if at fits =
       chain = chain_of_runs proc_ranks proc_ranked IsPart FollowsProc part_chain ps m.adds;
     })))
 
-pub runs_again : (o : ℕ) (ps : List Proc) (rest : List ℕ) → 1 ≤ length ps → length ps ≤ 4096 → Chain FollowsProc None ps
-    → read_runs (place o (runs_spelling ps ++ rest)) ≡ Ok (ps, place (o + length (runs_spelling ps)) rest)
+pub runs_again : ReadsPartsAgain read_runs runs_spelling
 unfolding read_runs
 runs_again o ps rest some few chain =
     let rs = runs_of proc_ranks ps in
@@ -201,98 +190,16 @@ runs_again o ps rest some few chain =
     ap (λ (text : List ℕ). read_runs (place o text)) (append_assoc count_text list_text rest)
     ∙ rw (k, range, m) (ap (λ (x : ℕ). Ok (ps, place x rest)) end)
 
--- ---- the fields of a name
+-- ---- names and asks
 
-pub short_fields : NameFields → List ℕ
-short_fields f = flag_spelling f.collect ++ (to_be_bytes w64 f.number ++ runs_spelling f.list)
-
--- what the fields of a name took
-pub record TakesShortFields (at : Place) (f : NameFields) (after : Place) : Type 0 where
-  pub takes : Takes at (short_fields f) after
-  pub are : AreFields f
-
-pub short_fields_if : (at : Place) → IsBytes at.rest → IfRead (read_short_fields at) (TakesShortFields at)
-unfolding read_short_fields short_fields
-short_fields_if at fits =
-    let made : Bool → ℕ → List Proc × Place → Read NameFields = λ collect number ps. Ok (record { collect = collect; number = number; list = ps.0 }, ps.1) in
-    let listed : Bool → ℕ × Place → Read NameFields = λ collect number. read_runs number.1 >>= made collect number.0 in
-    let begun : Bool → Place → ℕ × Place → Read NameFields = λ collect at_number number. check (is_instance number.0) (fault at_number.offset causes.Number) >>= λ _. listed collect number in
-    bind_if (λ collect. number_at w64 collect.1 >>= begun collect.0 collect.1) (flag_if at) (λ collect a f.
-    let a_fits : IsBytes a.rest = IsBytes-after (flag_spelling collect) fits f in
-    bind_if (begun collect a) (number_if w64 (2 ^ 64) wide64 a a_fits) (λ number b n.
-    let b_fits : IsBytes b.rest = IsBytes-after (to_be_bytes w64 number) a_fits n.takes in
-    check_if (is_instance number) (fault a.offset causes.Number) (λ _. listed collect (number, b)) (λ instance.
-    bind_if (made collect number) (runs_if b b_fits) (λ ps after m.
-    let tail = Takes-then (to_be_bytes w64 number) (runs_spelling ps) n.takes m.takes in
-    done_if (record {
-      takes = Takes-then (flag_spelling collect) (to_be_bytes w64 number ++ runs_spelling ps) f tail;
-      are = record { number = instance; some = m.some; few = m.few; chain = m.chain };
-    })))))
-
-short_fields_again : (o : ℕ) (f : NameFields) (rest : List ℕ) → AreFields f → read_short_fields (place o (short_fields f ++ rest)) ≡ Ok (f, place (o + length (short_fields f)) rest)
-unfolding read_short_fields short_fields
-short_fields_again o f rest are =
-    let flag_text = flag_spelling f.collect in
-    let number_text = to_be_bytes w64 f.number in
-    let list_text = runs_spelling f.list in
-    let range = and_parts (nat_lt 0 f.number) (nat_le f.number 4294967295) are.number in
-    let small : f.number ≤ 4294967295 = leb-true _ _ range.1 in
-    let c = flag_again o f.collect (number_text ++ (list_text ++ rest)) in
-    let n = number_again w64 (2 ^ 64) wide64 (o + 1) f.number (list_text ++ rest) (omega (arith, small)) in
-    let instance = are.number in
-    let m = runs_again (o + 1 + 8) f.list rest are.some are.few are.chain in
-    let end : o + 1 + 8 + length list_text ≡ o + length (short_fields f) = omega (arith, length_3 flag_text number_text list_text) in
-    ap (λ (text : List ℕ). read_short_fields (place o text)) (regroup_3 flag_text number_text list_text rest)
-    ∙ rw (c, n, instance, m) (ap (λ (x : ℕ). Ok (f, place x rest)) end)
-
--- ---- names
-
--- what a fence's name took
-pub record TakesShortName (at : Place) (name : FenceName) (after : Place) : Type 0 where
-  pub takes : Takes at (short_name name) after
-  pub is : IsName name
-
-short_named : (at : Place) (f : NameFields) (after : Place) → TakesShortFields at f after → TakesShortName at (fence_name f) after
-unfolding short_fields
-short_named at f after t =
-    let is = sym (listed_is f t.are) in
-    record {
-      takes = subst (λ (ps : List Proc). Takes at (flag_spelling f.collect ++ (to_be_bytes w64 f.number ++ runs_spelling ps)) after) is t.takes;
-      is = record {
-        number = t.are.number;
-        some = subst (λ (ps : List Proc). 1 ≤ length ps) is t.are.some;
-        few = subst (λ (ps : List Proc). length ps ≤ 4096) is t.are.few;
-        clients = subst (Each IsClient) is (each None f.list t.are.chain);
-      };
-    }
-
-pub short_name_if : (at : Place) → IsBytes at.rest → IfRead (read_short_name at) (TakesShortName at)
-unfolding read_short_name
-short_name_if at fits = bind_if (λ f. Ok (fence_name f.0, f.1)) (short_fields_if at fits) (λ f after t. done_if (short_named at f after t))
+pub short_name_if : (at : Place) → IsBytes at.rest → IfRead (read_short_name at) (TakesName runs_spelling at)
+short_name_if = name_by_if read_runs runs_spelling runs_if
 
 pub short_name_again : (o : ℕ) (name : FenceName) (rest : List ℕ) → IsName name → read_short_name (place o (short_name name ++ rest)) ≡ Ok (name, place (o + length (short_name name)) rest)
-unfolding read_short_name short_fields
-short_name_again o name rest is =
-    let read = short_fields_again o (fields_of name) rest (are_fields_of name is) in
-    rw read (ap (λ (f : FenceName). Ok (f, place (o + length (short_name name)) rest)) (name_of-fields_of name))
-
--- ---- asks
+short_name_again = name_by_again read_runs runs_spelling runs_again
 
 pub short_ask_if : (at : Place) → IsBytes at.rest → IfRead (read_short_ask at) (λ a. TakesBody at (short_fence_ask a) (IsFenceAsk a))
-unfolding read_short_ask
-short_ask_if at fits =
-    let made : ℕ → FenceName × Place → Read FenceAsk = λ node name. Ok (record { node = node; name = name.0 }, name.1) in
-    bind_if (λ node. read_short_name node.1 >>= made node.0) (node_if at fits) (λ node a n.
-    bind_if (made node) (short_name_if a (IsBytes-after (to_be_bytes w32 node) fits n.takes)) (λ name after t.
-    done_if (record { takes = Takes-then (to_be_bytes w32 node) (short_name name) n.takes t.takes; is = record { node = n.bound; name = t.is } })))
+short_ask_if = ask_by_if read_runs runs_spelling runs_if
 
 pub short_ask_again : (o : ℕ) (a : FenceAsk) (rest : List ℕ) → IsFenceAsk a → read_short_ask (place o (short_fence_ask a ++ rest)) ≡ Ok (a, place (o + length (short_fence_ask a)) rest)
-unfolding read_short_ask
-short_ask_again o a rest is =
-    let node_text = to_be_bytes w32 a.node in
-    let name_text = short_name a.name in
-    let n = node_again o a.node (name_text ++ rest) is.node in
-    let t = short_name_again (o + 4) a.name rest is.name in
-    let end : o + 4 + length name_text ≡ o + length (short_fence_ask a) = omega (arith, length-append node_text name_text) in
-    ap (λ (text : List ℕ). read_short_ask (place o text)) (append_assoc node_text name_text rest)
-    ∙ rw (n, t) (ap (λ (x : ℕ). Ok (a, place x rest)) end)
+short_ask_again = ask_by_again read_runs runs_spelling runs_again

@@ -1,5 +1,5 @@
 -- The tests of sameness decide whether what two frames say is one.
-use Rattle.std.proofs.Common.{◌≡◌, ℕ, ◌==◌, ◌&&◌, nat_eq, List, refl, ap, ◌∙◌}
+use Rattle.std.proofs.Common.{◌≡◌, ℕ, Bool, ◌==◌, ◌&&◌, nat_eq, List, refl, sym, ap, ◌∙◌}
 use Rattle.std.specs.Bool.{Decides}
 use Rattle.std.specs.Cmp.Lexicographic.{pointwise, pointwise_decides, bytes_decides}
 use Rattle.std.specs.Ordering.{eq_by_cmp}
@@ -52,26 +52,22 @@ same_states states.Gone states.Gone = (λ _. refl, λ _. refl)
 same_states states.Entered states.Gone = (λ h. absurd cc, λ h. absurd cc)
 same_states states.Gone states.Entered = (λ h. absurd cc, λ h. absurd cc)
 
+-- records of three parts are equal where the parts are
+same_3 : {X A B C : Type 0} (x y : X) (a : X → A) (b : X → B) (c : X → C) (make : A → B → C → X) (s t u : Bool) → make (a x) (b x) (c x) ≡ x → make (a y) (b y) (c y) ≡ y
+    → Decides s (a x ≡ a y) → Decides t (b x ≡ b y) → Decides u (c x ≡ c y) → Decides (s && (t && u)) (x ≡ y)
+same_3 x y a b c make s t u x_is y_is first second third =
+    let forth : (a x ≡ a y) × ((b x ≡ b y) × (c x ≡ c y)) → x ≡ y = λ h. sym x_is ∙ (λ i. make (h.0 i) (h.1.0 i) (h.1.1 i)) ∙ y_is in
+    Decides-like _ forth (λ e. (ap a e, (ap b e, ap c e))) (Decides-and s (t && u) first (Decides-and t u second third))
+
 pub same_locals : (l m : Local) → Decides (local_tests.ghosts.eq l m) (l ≡ m)
 same_locals l m =
-    let forth : (l.proc ≡ m.proc) × ((l.state ≡ m.state) × (l.level ≡ m.level)) → l ≡ m = λ h.
-    ap (λ (p : Proc). record { proc = p; state = l.state; level = l.level }) h.0
-    ∙ ap (λ (s : State). record { proc = m.proc; state = s; level = l.level }) h.1.0
-    ∙ ap (λ (n : ℕ). record { proc = m.proc; state = m.state; level = n }) h.1.1 in
-    Decides-like _ forth (λ x. (ap (λ (z : Local). z.proc) x, (ap (λ (z : Local). z.state) x, ap (λ (z : Local). z.level) x)))
-    (Decides-and (is_same_proc l.proc m.proc) (state_tests.ghosts.eq l.state m.state && nat_eq l.level m.level) (same_procs l.proc m.proc)
-    (Decides-and (state_tests.ghosts.eq l.state m.state) (nat_eq l.level m.level) (same_states l.state m.state) (Decides-eqb l.level m.level)))
+    same_3 l m (λ z. z.proc) (λ z. z.state) (λ z. z.level) (λ p s n. record { proc = p; state = s; level = n }) (is_same_proc l.proc m.proc) (state_tests.ghosts.eq l.state m.state)
+    (nat_eq l.level m.level) refl refl (same_procs l.proc m.proc) (same_states l.state m.state) (Decides-eqb l.level m.level)
 
 pub same_headers : (h k : Header) → Decides (is_same_header h k) (h ≡ k)
 same_headers h k =
-    let locals = pointwise local_tests.ghosts.eq h.locals k.locals in
-    let forth : (h.node ≡ k.node) × ((h.name ≡ k.name) × (h.locals ≡ k.locals)) → h ≡ k = λ x.
-    ap (λ (n : ℕ). record { node = n; name = h.name; locals = h.locals }) x.0
-    ∙ ap (λ (n : FenceName). record { node = k.node; name = n; locals = h.locals }) x.1.0
-    ∙ ap (λ (ls : List Local). record { node = k.node; name = k.name; locals = ls }) x.1.1 in
-    Decides-like _ forth (λ x. (ap (λ (z : Header). z.node) x, (ap (λ (z : Header). z.name) x, ap (λ (z : Header). z.locals) x)))
-    (Decides-and (h.node == k.node) (eq_by_cmp name_cmp h.name k.name && locals) (Decides-eqb h.node k.node)
-    (Decides-and (eq_by_cmp name_cmp h.name k.name) locals (same_names h.name k.name) (pointwise_decides same_locals h.locals k.locals)))
+    same_3 h k (λ z. z.node) (λ z. z.name) (λ z. z.locals) (λ n f ls. record { node = n; name = f; locals = ls }) (h.node == k.node) (eq_by_cmp name_cmp h.name k.name)
+    (pointwise local_tests.ghosts.eq h.locals k.locals) refl refl (Decides-eqb h.node k.node) (same_names h.name k.name) (pointwise_decides same_locals h.locals k.locals)
 
 pub same_fence_asks : (a b : FenceAsk) → Decides (is_same_fence_ask a b) (a ≡ b)
 same_fence_asks a b =
@@ -82,13 +78,8 @@ same_fence_asks a b =
 
 pub same_refresh_replies : (r s : RefreshReply) → Decides (is_same_refresh_reply r s) (r ≡ s)
 same_refresh_replies r s =
-    let forth : (r.node ≡ s.node) × ((r.request ≡ s.request) × (r.told ≡ s.told)) → r ≡ s = λ h.
-    ap (λ (n : ℕ). record { node = n; request = r.request; told = r.told }) h.0
-    ∙ ap (λ (n : ℕ). record { node = s.node; request = n; told = r.told }) h.1.0
-    ∙ ap (λ (c : Contribution). record { node = s.node; request = s.request; told = c }) h.1.1 in
-    Decides-like _ forth (λ e. (ap (λ (x : RefreshReply). x.node) e, (ap (λ (x : RefreshReply). x.request) e, ap (λ (x : RefreshReply). x.told) e)))
-    (Decides-and (r.node == s.node) (r.request == s.request && is_same_piece r.told s.told) (Decides-eqb r.node s.node)
-    (Decides-and (r.request == s.request) (is_same_piece r.told s.told) (Decides-eqb r.request s.request) (same_pieces r.told s.told)))
+    same_3 r s (λ z. z.node) (λ z. z.request) (λ z. z.told) (λ n m c. record { node = n; request = m; told = c }) (r.node == s.node) (r.request == s.request)
+    (is_same_piece r.told s.told) refl refl (Decides-eqb r.node s.node) (Decides-eqb r.request s.request) (same_pieces r.told s.told)
 
 -- ---- frames of one kind are equal where what they carry is
 

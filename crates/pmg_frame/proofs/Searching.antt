@@ -25,7 +25,7 @@ module _ {K : Type 0} {R : K → K → Ordering} (o : IsTotalOrder R) where
       ap is_lt (o.antisymm (get_or xs (k + 1) d) (get_or xs k d)) ∙ ap (λ r. is_lt (ordering_reverse r)) next
 
   -- the query stands on the other side of the order
-  same_side : (x q : K) → eq_by_cmp R q x ≡ is_eq (R x q)
+  pub same_side : (x q : K) → eq_by_cmp R q x ≡ is_eq (R x q)
   same_side x q = ap is_eq (o.antisymm q x) ∙ turned (R x q)
     where
       turned : (r : Ordering) → is_eq (ordering_reverse r) ≡ is_eq r

@@ -1,5 +1,5 @@
 -- How what servers tell and ask of fences and commits is read: the fields in order from the left, and the first fault.
-use Rattle.std.specs.Prelude.{ℕ, Bool, true, ◌&&◌, nat_lt, nat_le, length, Option, Some, None, Ok}
+use Rattle.std.specs.Prelude.{ℕ, Bool, true, ◌&&◌, nat_lt, nat_le, List, length, Option, Some, None, Ok}
 use Rattle.std.specs.FinSet as set
 use Rattle.std.specs.Int.{w32, w64}
 use Rattle.std.specs.Option.{option_map}
@@ -29,20 +29,29 @@ read_participant before at = do
   _ ← check (is_greater before p.0) (fault at.offset causes.Order)
   Ok p
 
--- the fields of a fence's name: whether it collects, the instance, and the participants
-unfoldable pub read_name_fields : Place → Read NameFields
-read_name_fields at = do
+-- the participants: how many there are, and each of them
+unfoldable pub read_participants : Place → Read (List Proc)
+read_participants at = do
+  count ← number_at w32 at
+  _ ← check (nat_lt 0 count.0 && nat_le count.0 MAX_PARTICIPANTS) (fault at.offset causes.Count)
+  many read_participant count.0 None count.1
+
+-- the fields of a fence's name: whether it collects, the instance, and the participants, which are read so
+unfoldable pub read_fields_by : (Place → Read (List Proc)) → Place → Read NameFields
+read_fields_by list at = do
   collect ← read_flag at
   number ← number_at w64 collect.1
   _ ← check (is_instance number.0) (fault collect.1.offset causes.Number)
-  count ← number_at w32 number.1
-  _ ← check (nat_lt 0 count.0 && nat_le count.0 MAX_PARTICIPANTS) (fault number.1.offset causes.Count)
-  ps ← many read_participant count.0 None count.1
+  ps ← list number.1
   Ok (record { collect = collect.0; number = number.0; list = ps.0 }, ps.1)
 
+-- a fence's name, whose participants are read so
+unfoldable pub read_name_by : (Place → Read (List Proc)) → Place → Read FenceName
+read_name_by list at = read_fields_by list at >>= λ fields. Ok (fence_name fields.0, fields.1)
+
 -- a fence's name
-unfoldable pub read_name : Place → Read FenceName
-read_name at = read_name_fields at >>= λ fields. Ok (fence_name fields.0, fields.1)
+abbrev pub read_name : Place → Read FenceName
+read_name at = read_name_by read_participants at
 
 -- the index of a node
 unfoldable pub read_node : Place → Read ℕ
@@ -78,12 +87,16 @@ read_header at = do
   locals ← many (read_local name.0) count.0 None count.1
   Ok (record { node = node.0; name = name.0; locals = locals.0 }, locals.1)
 
--- the body of a fence ask
-unfoldable pub read_fence_ask : Place → Read FenceAsk
-read_fence_ask at = do
+-- the body of a fence ask, the participants of whose fence are read so
+unfoldable pub read_ask_by : (Place → Read (List Proc)) → Place → Read FenceAsk
+read_ask_by list at = do
   node ← read_node at
-  name ← read_name node.1
+  name ← read_name_by list node.1
   Ok (record { node = node.0; name = name.0 }, name.1)
+
+-- the body of a fence ask
+abbrev pub read_fence_ask : Place → Read FenceAsk
+read_fence_ask at = read_ask_by read_participants at
 
 -- the body of an ask for commits
 unfoldable pub read_commit_ask : Place → Read CommitAsk

@@ -1,7 +1,7 @@
 -- How runs are read, from version 2 of frames on: the fields in order from the left, and the first fault.
 use Rattle.std.specs.Prelude.{ℕ, zero, suc, ◌+◌, ◌-◌, ◌&&◌, not, nat_lt, nat_le, Bool, true, List, [], ◌∷◌, ◌++◌, length, Option, Some, None, Ok}
 use Rattle.std.specs.FinSet as set
-use Rattle.std.specs.Int.{w32, w64}
+use Rattle.std.specs.Int.{w32}
 use Rattle.std.specs.List.{list_all}
 use Rattle.std.specs.Option.{option_map}
 use Rattle.pmg_value.specs.Signatures.{FenceName}
@@ -10,8 +10,8 @@ use Rattle.pmg_value.specs.declared.refusal.Cause.TheVariants as causes
 use Rattle.pmg_wire.specs.declared.fields.Admits.TheVariants as admits
 use Rattle.pmg_wire.specs.Fields.{read_proc, read_flag}
 use Rattle.pmg_wire.specs.Reading.{Place, Read, fault, ◌>>=◌, check, number_at}
-use Rattle.pmg_frame.specs.FenceReading.{is_greater, read_node, read_level}
-use Rattle.pmg_frame.specs.Fences.{NameFields, fence_name, is_instance, state_of, Header, FenceAsk}
+use Rattle.pmg_frame.specs.FenceReading.{is_greater, read_node, read_level, read_name_by, read_ask_by}
+use Rattle.pmg_frame.specs.Fences.{state_of, Header, FenceAsk}
 use Rattle.pmg_frame.specs.Runs.{Ranked, proc_ranks, local_ranks, RankRun, next_rank, line, items_of}
 use Rattle.pmg_frame.specs.declared.local.Local.{Local}
 use Rattle.pmg_frame.specs.declared.signature.TheConstants.{MAX_PARTICIPANTS}
@@ -65,18 +65,9 @@ read_runs at = do
   _ ← check (is_run_count count.0) (fault at.offset causes.Count)
   repeated read_run count.0 [] count.1
 
--- the fields of a fence's name: whether it collects, the instance, and the participants as runs
-unfoldable pub read_short_fields : Place → Read NameFields
-read_short_fields at = do
-  collect ← read_flag at
-  number ← number_at w64 collect.1
-  _ ← check (is_instance number.0) (fault collect.1.offset causes.Number)
-  ps ← read_runs number.1
-  Ok (record { collect = collect.0; number = number.0; list = ps.0 }, ps.1)
-
 -- a fence's name
-unfoldable pub read_short_name : Place → Read FenceName
-read_short_name at = read_short_fields at >>= λ fields. Ok (fence_name fields.0, fields.1)
+abbrev pub read_short_name : Place → Read FenceName
+read_short_name at = read_name_by read_runs at
 
 -- what a header tells of a run of participants, after another one or none
 unfoldable pub read_local_part : FenceName → Option Local → Place → Read (RankRun Local)
@@ -111,8 +102,5 @@ read_short_header at = do
   Ok (record { node = node.0; name = name.0; locals = locals.0 }, locals.1)
 
 -- the body of a fence ask
-unfoldable pub read_short_ask : Place → Read FenceAsk
-read_short_ask at = do
-  node ← read_node at
-  name ← read_short_name node.1
-  Ok (record { node = node.0; name = name.0 }, name.1)
+abbrev pub read_short_ask : Place → Read FenceAsk
+read_short_ask at = read_ask_by read_runs at

@@ -10,15 +10,10 @@ use std::alloc::AllocError;
 use std::marker::Model;
 
 /// A node asks for another node's header for a fence.
+#[derive(Drop)]
 pub struct FenceAsk {
     node: NodeId,
     name: FenceName,
-}
-
-impl Drop for FenceAsk {
-    fn drop(self) {
-        let FenceAsk { node: _, name: _ } = self;
-    }
 }
 
 impl Model for FenceAsk {
@@ -33,20 +28,11 @@ impl Model for FenceAsk {
 
 /// A node asks for what a process sealed after the commits up to a level: for those that there are, or, in a direct
 /// modex, for later ones as soon as there are any.
+#[derive(Drop)]
 pub struct CommitAsk {
     node: NodeId,
     proc: Proc,
     level: u64,
-}
-
-impl Drop for CommitAsk {
-    fn drop(self) {
-        let CommitAsk {
-            node: _,
-            proc: _,
-            level: _,
-        } = self;
-    }
 }
 
 impl Model for CommitAsk {
@@ -94,10 +80,7 @@ impl FenceAsk {
     pub fn copy(&self) -> Result<FenceAsk, AllocError>
         ensures { IfOk result (λ a. a ≡ self.now) }
     {
-        Ok(FenceAsk {
-            node: self.node,
-            name: self.name.copy()?,
-        })
+        Ok(FenceAsk::new(self.node, self.name.copy()?))
     }
 }
 
@@ -110,7 +93,7 @@ impl CommitAsk {
         if !can_be_asked(&proc, level) {
             return Err(Refusal::BadParam);
         }
-        Ok(CommitAsk { node, proc, level })
+        Ok(CommitAsk::from_checked(node, proc, level))
     }
 
     /// The ask of a process and a level that were judged before.
@@ -148,10 +131,6 @@ impl CommitAsk {
     pub fn copy(&self) -> Result<CommitAsk, AllocError>
         ensures { IfOk result (λ a. a ≡ self.now) }
     {
-        Ok(CommitAsk {
-            node: self.node,
-            proc: self.proc.copy()?,
-            level: self.level,
-        })
+        Ok(CommitAsk::from_checked(self.node, self.proc.copy()?, self.level))
     }
 }

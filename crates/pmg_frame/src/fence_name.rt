@@ -17,18 +17,10 @@ use std::marker::Model;
 pub const MAX_INSTANCE: u64 = 4_294_967_295;
 
 /// The name of a fence: its signature, and which of the fences of that signature it is, counted from 1.
+#[derive(Drop)]
 pub struct FenceName {
     signature: Signature,
     instance: u64,
-}
-
-impl Drop for FenceName {
-    fn drop(self) {
-        let FenceName {
-            signature: _,
-            instance: _,
-        } = self;
-    }
 }
 
 impl Model for FenceName {

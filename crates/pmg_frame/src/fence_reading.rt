@@ -3,7 +3,7 @@ ghost use Rattle.std.specs.Option.{option_map, option_copied};
 ghost use Rattle.pmg_wire.specs.Many.{many};
 ghost use Rattle.pmg_wire.specs.Reading.{Reads};
 ghost use Rattle.pmg_frame.specs.Fences.{name_fields, header, commit_ask};
-ghost use Rattle.pmg_frame.specs.FenceReading.{is_greater, read_participant, read_name_fields, read_name, read_node, read_level, read_local, read_header, read_fence_ask, read_commit_ask};
+ghost use Rattle.pmg_frame.specs.FenceReading.{is_greater, read_participant, read_participants, read_fields_by, read_name, read_node, read_level, read_local, read_header, read_fence_ask, read_commit_ask};
 
 use crate::asks::{CommitAsk, FenceAsk};
 use crate::fence_name::{FenceName, MAX_INSTANCE};
@@ -53,9 +53,9 @@ fn get_participants(alloc: Global, count: u32, at: &mut Cursor<'_>) -> Result<Ve
 }
 
 // The fields of a fence's name: whether it collects, the instance, and the participants.
-#[tactic(auto, unfolding(crate::specs::FenceReading::read_name_fields))]
+#[tactic(auto, unfolding(crate::specs::FenceReading::read_fields_by, crate::specs::FenceReading::read_participants))]
 fn get_name_fields(alloc: Global, at: &mut Cursor<'_>) -> Result<(bool, u64, Vec<Proc>), Refusal>
-    ensures { Reads (λ t. name_fields t.0 t.1 t.2.items) result at.new (read_name_fields at.old) }
+    ensures { Reads (λ t. name_fields t.0 t.1 t.2.items) result at.new (read_fields_by read_participants at.old) }
 {
     let collect = get_flag(at)?;
     let instance_at = at.offset();
@@ -72,7 +72,7 @@ fn get_name_fields(alloc: Global, at: &mut Cursor<'_>) -> Result<(bool, u64, Vec
     Ok((collect, instance, participants))
 }
 
-#[tactic(auto, unfolding(crate::specs::FenceReading::read_name))]
+#[tactic(auto, unfolding(crate::specs::FenceReading::read_name_by))]
 fn get_name(alloc: Global, at: &mut Cursor<'_>) -> Result<FenceName, Refusal>
     ensures { Reads (λ f. f) result at.new (read_name at.old) }
 {
@@ -186,7 +186,7 @@ pub fn get_header(alloc: Global, at: &mut Cursor<'_>) -> Result<Header, Refusal>
 }
 
 /// The body of a fence ask.
-#[tactic(auto, unfolding(crate::specs::FenceReading::read_fence_ask))]
+#[tactic(auto, unfolding(crate::specs::FenceReading::read_ask_by))]
 pub fn get_fence_ask(alloc: Global, at: &mut Cursor<'_>) -> Result<FenceAsk, Refusal>
     ensures { Reads (λ a. a) result at.new (read_fence_ask at.old) }
 {

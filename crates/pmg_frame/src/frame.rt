@@ -118,35 +118,17 @@ impl Frame {
     pub fn is_same(&self, other: &Frame) -> bool
         ensures { IsTrue result ↔ (self.now ≡ other.now) }
     {
-        match self {
-            Frame::Piece(piece) => match other {
-                Frame::Piece(other) => is_same_piece(piece, other),
-                _ => false,
-            },
-            Frame::Header(header) => match other {
-                Frame::Header(other) => is_same_header(header, other),
-                _ => false,
-            },
-            Frame::FenceAsk(ask) => match other {
-                Frame::FenceAsk(other) => is_same_fence_ask(ask, other),
-                _ => false,
-            },
-            Frame::RangeAsk(ask) => match other {
-                Frame::RangeAsk(other) => is_same_commit_ask(ask, other),
-                _ => false,
-            },
-            Frame::DirectAsk(ask) => match other {
-                Frame::DirectAsk(other) => is_same_commit_ask(ask, other),
-                _ => false,
-            },
-            Frame::RefreshAsk(ask) => match other {
-                Frame::RefreshAsk(other) => is_same_refresh_ask(ask, other),
-                _ => false,
-            },
-            Frame::RefreshReply(reply) => match other {
-                Frame::RefreshReply(other) => is_same_refresh_reply(reply, other),
-                _ => false,
-            },
+        match (self, other) {
+            (Frame::Piece(piece), Frame::Piece(other)) => is_same_piece(piece, other),
+            (Frame::Header(header), Frame::Header(other)) => is_same_header(header, other),
+            (Frame::FenceAsk(ask), Frame::FenceAsk(other)) => is_same_fence_ask(ask, other),
+            (Frame::RangeAsk(ask), Frame::RangeAsk(other)) => is_same_commit_ask(ask, other),
+            (Frame::DirectAsk(ask), Frame::DirectAsk(other)) => is_same_commit_ask(ask, other),
+            (Frame::RefreshAsk(ask), Frame::RefreshAsk(other)) => is_same_refresh_ask(ask, other),
+            (Frame::RefreshReply(reply), Frame::RefreshReply(other)) => {
+                is_same_refresh_reply(reply, other)
+            }
+            _ => false,
         }
     }
 }

@@ -22,11 +22,7 @@ pub struct Header {
 
 impl Drop for Header {
     fn drop(self) {
-        let Header {
-            node: _,
-            name: _,
-            locals: _,
-        } = self;
+        let Self { node, name, locals } = self;
     }
 }
 
@@ -101,7 +97,7 @@ impl Header {
         if !can_be_framed(node, &name, &locals) {
             return Err(Refusal::BadParam);
         }
-        Ok(Header { node, name, locals })
+        Ok(Header::from_checked(node, name, locals))
     }
 
     /// The header of what a frame can hold, as was judged before.
@@ -141,11 +137,8 @@ impl Header {
     pub fn copy(&self) -> Result<Header, AllocError>
         ensures { IfOk result (λ h. h ≡ self.now) }
     {
-        Ok(Header {
-            node: self.node,
-            name: self.name.copy()?,
-            locals: copy_all(&self.locals)?,
-        })
+        let (name, locals) = (self.name.copy()?, copy_all(&self.locals)?);
+        Ok(Header::from_checked(self.node, name, locals))
     }
 }
 

@@ -1,5 +1,3 @@
-ghost use Rattle.std.specs.Prelude.{◌≡◌, IfOk};
-
 use pmg_value::{Copied, Proc};
 use std::alloc::AllocError;
 
@@ -12,34 +10,15 @@ pub enum State {
 
 /// What a header tells of one of its node's own participants: how it stands to the fence, and its level at the
 /// entry, or at its termination.
-#[derive(PartialEq, Eq)]
+#[derive(Drop, PartialEq, Eq)]
 pub struct Local {
     pub proc: Proc,
     pub state: State,
     pub level: u64,
 }
 
-impl Drop for Local {
-    fn drop(self) {
-        let Local {
-            proc: _,
-            state: _,
-            level: _,
-        } = self;
-    }
-}
-
 impl Copied for Local {
     fn copy(&self) -> Result<Local, AllocError> {
-        Local::copy(self)
-    }
-}
-
-impl Local {
-    /// A copy, equal to this one.
-    pub fn copy(&self) -> Result<Local, AllocError>
-        ensures { IfOk result (λ l. l ≡ self.now) }
-    {
         Ok(Local {
             proc: self.proc.copy()?,
             state: self.state,

@@ -106,10 +106,9 @@ pub fn put_short_header(out: &mut BytesMut, header: &Header) -> Result<(), Alloc
     ensures bytes { OnOk result (out.new.items ≡ out.old.items ++ short_header header.now) }
     ensures valid { OnOk result (IsHeader header.now) }
 {
-    let locals = header.locals();
     put_node(out, header.node())?;
     put_short_name(out, header.name())?;
-    put_local_runs(out, locals)
+    put_local_runs(out, header.locals())
 }
 
 /// A header of that version, with its participants as runs.

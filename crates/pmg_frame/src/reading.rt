@@ -1,14 +1,10 @@
-ghost use Rattle.std.specs.Prelude.{◌≡◌, ◌==◌, ◌≤◌, if◌then◌else◌, length, IfOk};
+ghost use Rattle.std.specs.Prelude.{◌≡◌, ◌≤◌, length, IfOk};
 ghost use Rattle.pmg_wire.specs.Reading.{Reads, ReadsAll};
-ghost use Rattle.pmg_frame.specs.FenceReading.{read_header, read_fence_ask};
-ghost use Rattle.pmg_frame.specs.RunReading.{read_short_header, read_short_ask};
 ghost use Rattle.pmg_frame.specs.Reading.{read_fields, read_frame_body, read_head};
 ghost use Rattle.pmg_frame.specs.Frames.{ReadsFrame};
 
-use crate::asks::FenceAsk;
 use crate::fence_reading::{get_commit_ask, get_fence_ask, get_header};
 use crate::frame::{Frame, HEAD_SIZE, MAX_BODY_SIZE, is_version};
-use crate::header::Header;
 use crate::local_run_reading::get_short_header;
 use crate::piece_reading::get_piece;
 use crate::refresh_reading::get_refresh;
@@ -27,28 +23,6 @@ pub(crate) struct Head {
     len: u32,
 }
 
-// The body of a header, as the version writes it.
-fn get_header_as(alloc: Global, version: u8, at: &mut Cursor<'_>) -> Result<Header, Refusal>
-    ensures { Reads (λ h. h) result at.new (if version == 1 then read_header at.old else read_short_header at.old) }
-{
-    if version == 1 {
-        get_header(alloc, at)
-    } else {
-        get_short_header(alloc, at)
-    }
-}
-
-// The body of a fence ask, as the version writes it.
-fn get_fence_ask_as(alloc: Global, version: u8, at: &mut Cursor<'_>) -> Result<FenceAsk, Refusal>
-    ensures { Reads (λ a. a) result at.new (if version == 1 then read_fence_ask at.old else read_short_ask at.old) }
-{
-    if version == 1 {
-        get_fence_ask(alloc, at)
-    } else {
-        get_short_ask(alloc, at)
-    }
-}
-
 // The fields of a body of that version and kind.
 #[tactic(auto, unfolding(crate::specs::Reading::read_fields))]
 fn get_fields(alloc: Global, version: u8, kind: u8, at: &mut Cursor<'_>) -> Result<Frame, Refusal>
@@ -57,8 +31,10 @@ fn get_fields(alloc: Global, version: u8, kind: u8, at: &mut Cursor<'_>) -> Resu
 {
     match kind {
         1 => Ok(Frame::Piece(get_piece(alloc, at)?)),
-        2 => Ok(Frame::Header(get_header_as(alloc, version, at)?)),
-        3 => Ok(Frame::FenceAsk(get_fence_ask_as(alloc, version, at)?)),
+        2 if version == 1 => Ok(Frame::Header(get_header(alloc, at)?)),
+        2 => Ok(Frame::Header(get_short_header(alloc, at)?)),
+        3 if version == 1 => Ok(Frame::FenceAsk(get_fence_ask(alloc, at)?)),
+        3 => Ok(Frame::FenceAsk(get_short_ask(alloc, at)?)),
         4 => Ok(Frame::RangeAsk(get_commit_ask(alloc, at)?)),
         5 => Ok(Frame::DirectAsk(get_commit_ask(alloc, at)?)),
         _ => get_refresh(alloc, at),

@@ -16,15 +16,10 @@ use std::marker::Model;
 const ASKER_SIZE: usize = 13;
 
 /// A node asks for what a process sealed after the commits that it knows, under a number of its own, counted from 1.
+#[derive(Drop)]
 pub struct RefreshAsk {
     request: u64,
     ask: CommitAsk,
-}
-
-impl Drop for RefreshAsk {
-    fn drop(self) {
-        let RefreshAsk { request: _, ask: _ } = self;
-    }
 }
 
 impl Model for RefreshAsk {
@@ -46,7 +41,7 @@ impl RefreshAsk {
         if request == 0 {
             return Err(Refusal::BadParam);
         }
-        Ok(RefreshAsk { request, ask })
+        Ok(RefreshAsk::from_checked(request, ask))
     }
 
     /// The ask under a number that was judged before.
@@ -76,10 +71,7 @@ impl RefreshAsk {
     pub fn copy(&self) -> Result<RefreshAsk, AllocError>
         ensures { IfOk result (λ a. a ≡ self.now) }
     {
-        Ok(RefreshAsk {
-            request: self.request,
-            ask: self.ask.copy()?,
-        })
+        Ok(RefreshAsk::from_checked(self.request, self.ask.copy()?))
     }
 }
 
@@ -96,13 +88,13 @@ pub struct RefreshReply {
 
 impl Drop for RefreshReply {
     fn drop(self) {
-        let RefreshReply {
-            node: _,
-            request: _,
-            proc: _,
-            from: _,
-            to: _,
-            entries: _,
+        let Self {
+            node,
+            request,
+            proc,
+            from,
+            to,
+            entries,
         } = self;
     }
 }
@@ -270,13 +262,7 @@ impl RefreshReply {
     pub fn copy(&self) -> Result<RefreshReply, AllocError>
         ensures { IfOk result (λ r. r ≡ self.now) }
     {
-        Ok(RefreshReply {
-            node: self.node,
-            request: self.request,
-            proc: self.proc.copy()?,
-            from: self.from,
-            to: self.to,
-            entries: copy_all(&self.entries)?,
-        })
+        let (proc, entries) = (self.proc.copy()?, copy_all(&self.entries)?);
+        Ok(RefreshReply::from_checked(self.node, self.request, proc, self.from, self.to, entries))
     }
 }

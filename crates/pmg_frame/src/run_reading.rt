@@ -4,7 +4,8 @@ ghost use Rattle.std.specs.Option.{option_copied};
 ghost use Rattle.pmg_wire.specs.Reading.{Reads};
 ghost use Rattle.pmg_frame.specs.Fences.{name_fields};
 ghost use Rattle.pmg_frame.specs.Runs.{proc_ranks, run, items_of};
-ghost use Rattle.pmg_frame.specs.RunReading.{repeated, is_new, ranks_to, read_part, read_run, read_runs, read_short_fields, read_short_name, read_short_ask};
+ghost use Rattle.pmg_frame.specs.RunReading.{repeated, is_new, ranks_to, read_part, read_run, read_runs, read_short_name, read_short_ask};
+ghost use Rattle.pmg_frame.specs.FenceReading.{read_fields_by};
 
 use crate::asks::FenceAsk;
 use crate::fence_name::{FenceName, MAX_INSTANCE};
@@ -105,9 +106,9 @@ fn get_runs(alloc: Global, at: &mut Cursor<'_>) -> Result<Vec<Proc>, Refusal>
 }
 
 // The fields of a fence's name: whether it collects, the instance, and the participants.
-#[tactic(auto, unfolding(crate::specs::RunReading::read_short_fields))]
+#[tactic(auto, unfolding(crate::specs::FenceReading::read_fields_by))]
 fn get_short_fields(alloc: Global, at: &mut Cursor<'_>) -> Result<(bool, u64, Vec<Proc>), Refusal>
-    ensures { Reads (λ t. name_fields t.0 t.1 t.2.items) result at.new (read_short_fields at.old) }
+    ensures { Reads (λ t. name_fields t.0 t.1 t.2.items) result at.new (read_fields_by read_runs at.old) }
 {
     let collect = get_flag(at)?;
     let instance_at = at.offset();
@@ -120,7 +121,7 @@ fn get_short_fields(alloc: Global, at: &mut Cursor<'_>) -> Result<(bool, u64, Ve
 }
 
 /// A fence's name, with its participants as runs.
-#[tactic(auto, unfolding(crate::specs::RunReading::read_short_name))]
+#[tactic(auto, unfolding(crate::specs::FenceReading::read_name_by))]
 pub fn get_short_name(alloc: Global, at: &mut Cursor<'_>) -> Result<FenceName, Refusal>
     ensures { Reads (λ f. f) result at.new (read_short_name at.old) }
 {
@@ -132,7 +133,7 @@ pub fn get_short_name(alloc: Global, at: &mut Cursor<'_>) -> Result<FenceName, R
 }
 
 /// The body of a fence ask, with the participants as runs.
-#[tactic(auto, unfolding(crate::specs::RunReading::read_short_ask))]
+#[tactic(auto, unfolding(crate::specs::FenceReading::read_ask_by))]
 pub fn get_short_ask(alloc: Global, at: &mut Cursor<'_>) -> Result<FenceAsk, Refusal>
     ensures { Reads (λ a. a) result at.new (read_short_ask at.old) }
 {

@@ -27,9 +27,9 @@ pub struct Signature {
 
 impl Drop for Signature {
     fn drop(self) {
-        let Signature {
-            participants: _,
-            collect: _,
+        let Self {
+            participants,
+            collect,
         } = self;
     }
 }

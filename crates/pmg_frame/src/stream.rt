@@ -19,10 +19,7 @@ pub struct Fed {
 
 impl Drop for Fed {
     fn drop(self) {
-        let Fed {
-            frames: _,
-            fault: _,
-        } = self;
+        let Self { frames, fault } = self;
     }
 }
 

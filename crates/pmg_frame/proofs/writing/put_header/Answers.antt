@@ -1,10 +1,9 @@
-use Rattle.std.proofs.Common.{◌≡◌, ◌≤◌, ◌++◌, length}
+use Rattle.std.proofs.Common.{◌≡◌, ◌++◌, length}
 use Rattle.std.specs.Int.{w32, to_be_bytes}
 use Rattle.std.specs.List.{flat_map}
 use Rattle.std.proofs.lemmas.Result.{on_ok_weaker}
 use Rattle.pmg_frame.specs.Spelling.{name_spelling, local_spelling}
 use Rattle.pmg_frame.proofs.Appending.{appended_4}
-use Rattle.pmg_frame.specs.Grammar.{IsName}
 use Rattle.pmg_frame.proofs.HeaderTests.{are_headers}
 use Rattle.pmg_frame.proofs.EncodedLemmas.{on_ok_always}
 use Rattle.pmg_frame.proofs.writing.put_header.Goals as goal
@@ -23,7 +22,5 @@ returns-clause-bytes c =
 
 pub returns-clause-valid : goal.returns-clause-valid
 returns-clause-valid c =
-    let h = c.args.header.now in
-    let node : h.node ≤ 63 = rw c.node.ensures at c.in_ok-put_node.ensures.bound in
-    let name : IsName h.name = rw c.name.ensures at c.in_ok-put_name.ensures.valid in
-    on_ok_always c.put_locals.result ((are_headers h node name).0 c.locals-locals.ensures.header)
+    let fits = are_headers c.args.header.now (rw c.node.ensures at c.in_ok-put_node.ensures.bound) (rw c.name.ensures at c.in_ok-put_name.ensures.valid) in
+    on_ok_always c.put_locals.result (fits.0 c.locals-locals.ensures.header)
