@@ -2,16 +2,34 @@
 use Rattle.std.proofs.Common.{List, [], ◌∷◌, ◌≡◌, inl, inr, true, false, cond, refl, sym, ap, ◌∙◌, subst}
 use Rattle.std.specs.Prelude.{Option, Some, None}
 use Rattle.std.specs.Option.{option_map}
+use Rattle.std.specs.List.{AllByRecursion}
+use Rattle.std.specs.List.Sorted.{IsStrictlySortedBy}
 use Rattle.std.specs.Cmp.{Equal-is}
 use Rattle.std.specs.declared.cmp.Ordering.{Ordering}
+use Rattle.std.specs.declared.cmp.Ordering.TheVariants.{Less}
 use Rattle.std.specs.BTreeMap.{is_at}
-use Rattle.std.specs.Map.{lookup}
+use Rattle.std.specs.Map.{lookup, keys_of}
+use Rattle.std.proofs.lemmas.Map.Keys.{sorted_head, sorted_tail}
 use Rattle.std.proofs.lemmas.Map.Lookups.{CmpEqualImpliesEq}
 use Rattle.pmg_value.specs.Lists.{In}
 use Rattle.pmg_commit.specs.Entries.{Entry}
 use Rattle.pmg_lane.specs.Places.{placed}
 use Rattle.pmg_lane.proofs.Settling.{some_is}
 
+-- ---- rows, of which the first was taken
+-- the keys of the others are in order too
+pub rows_sorted :
+    {K V : Type 0} (R : K → K → Ordering) {row : K × V} {rows rest : List (K × V)} → rows ≡ row ∷ rest → IsStrictlySortedBy R (keys_of rows)
+    → IsStrictlySortedBy R (keys_of rest)
+rows_sorted R {row} {rows} {rest} step sorted = sorted_tail R row.0 (keys_of rest) (subst (λ es. IsStrictlySortedBy R (keys_of es)) step sorted)
+
+-- they are all greater than the first
+pub rows_above :
+    {K V : Type 0} (R : K → K → Ordering) {row : K × V} {rows rest : List (K × V)} → rows ≡ row ∷ rest → IsStrictlySortedBy R (keys_of rows)
+    → AllByRecursion (λ k. R row.0 k ≡ Less) (keys_of rest)
+rows_above R {row} {rows} {rest} step sorted = sorted_head R row.0 (keys_of rest) (subst (λ es. IsStrictlySortedBy R (keys_of es)) step sorted)
+
+-- ---- what is in places
 -- what is in a place, if it is not empty, before others
 abbrev pub made_before : {K V : Type 0} → (K → V → Entry) → K → Option V → List Entry → List Entry
 made_before make key None es = es
@@ -46,3 +64,8 @@ module _ {K V : Type 0} {R : K → K → Ordering} (exact : CmpEqualImpliesEq R)
       go None is h = absurd (let bad = h in cc)
       go (Some None) is h = absurd (let bad = h in cc)
       go (Some (Some v)) is h = subst (λ e. In e (made_of make es)) (some_is h) (there_made es k v is)
+
+  -- it is found in rows that are those of the tree
+  pub found_in_rows :
+      (rows es : List (K × Option V)) → rows ≡ es → (k : K) (e : Entry) → option_map (make k) (placed (lookup (is_at (R k)) es)) ≡ Some e → In e (made_of make rows)
+  found_in_rows rows es all k e h = subst (λ xs. In e (made_of make xs)) (sym all) (placed_found es k e h)

@@ -13,6 +13,7 @@ use Rattle.pmg_value.specs.Lists.{In}
 use Rattle.pmg_value.proofs.SetLemmas.{in_from_list, from_list_in, same_members}
 use Rattle.pmg_join.specs.Ranges.{set_of, HasRange, Covers, LieIn, AreApart, Between, Spans}
 use Rattle.pmg_join.proofs.RangeLemmas.{set_of-Decides, covers_kept, same_cover, not_covered, no_cover, cover_added, cover_joined, entries_lie, spans_cover}
+use Rattle.pmg_join.proofs.RangeSteps.{lie_in_itself}
 use Rattle.pmg_commit.specs.Entries.{Entry}
 use Rattle.pmg_commit.specs.EntryOrder.{entries_total, exact_entries, Superseded, Readable, Later, later_itself}
 use Rattle.pmg_commit.specs.Levels.{level}
@@ -28,6 +29,7 @@ use Rattle.pmg_lane.specs.Waiting.{waiting_at, AccountsFor, AreAllFrom, IsStocke
 use Rattle.pmg_lane.specs.Merged.{merged_knowledge, merged_level, told, IsMerged, level_with, level_joined}
 use Rattle.pmg_lane.specs.declared.entries.Entries.{Entries}
 use Rattle.pmg_lane.specs.declared.merged.Merged.{Merged}
+use Rattle.pmg_lane.specs.declared.waiting.Waiting.{Waiting}
 use Rattle.pmg_lane.proofs.Settling.{key_read, some_is}
 use Rattle.pmg_lane.proofs.Knowing.{has_holds, holds_has, level_known}
 
@@ -107,6 +109,22 @@ module _ (t u : Merged) (kept : LieIn t.taken.ends u.taken.ends) (no_more : (n :
       (λ n e i. subst (λ m. m < n) at (is.waits n e (subst (In e) (same n) i)))
       (λ n e i. is.numbered n e (subst (In e) (same n) i))
       (λ n h. is.bound n (no_more n h))
+
+-- more room alone: it is kept well, and knows the same
+pub roomy_both :
+    (t u : Merged) → LieIn t.taken.ends u.taken.ends → ((n : ℕ) → Covers u.taken.ends n → Covers t.taken.ends n) → HoldAlike t.entries u.entries
+    → ((n : ℕ) → waiting_at u.waiting.lists n ≡ waiting_at t.waiting.lists n) → AreApart u.taken.ends → IsMerged t
+    → IsMerged u × (merged_knowledge u ≡ merged_knowledge t)
+roomy_both t u kept no_more alike same apart is = (roomy_merged t u kept no_more alike same apart is, roomy_known t u kept no_more alike same)
+
+-- more room among the entries and in the lists alone
+pub roomier :
+    (t : Merged) (entries : Entries) (waiting : Waiting) → HoldAlike t.entries entries → ((n : ℕ) → waiting_at waiting.lists n ≡ waiting_at t.waiting.lists n)
+    → IsMerged t
+    → (let u : Merged = record { taken = t.taken; entries = entries; waiting = waiting } in IsMerged u × (merged_knowledge u ≡ merged_knowledge t))
+roomier t entries waiting alike same is =
+    roomy_both t (record { taken = t.taken; entries = entries; waiting = waiting }) (lie_in_itself t.taken.ends t.taken.ends (λ q. refl)) (λ n h. h) alike same
+    is.apart is
 
 -- ---- nothing
 pub none_known :
@@ -196,6 +214,10 @@ module _ (t : Merged) (ends : BTreeMap ℕ ℕ) (from to : ℕ) (kept : LieIn t.
   pub filled_level : level (set_of ends) ≡ level_with t from to
   filled_level = ap level filled_set
 
+  -- the level that is reached then
+  pub filled_reached : (n : ℕ) → ((i : ℕ) → 0 < i → i ≤ n → Covers ends i) → (Covers ends (suc n) → ⊥) → n ≡ level_with t from to
+  filled_reached n reached past = level_reached ends n reached past ∙ filled_level
+
 -- the ranges of a track once those of another are filled
 module _ (t o : Merged) (ends : BTreeMap ℕ ℕ) (kept : LieIn t.taken.ends ends) (added : (n : ℕ) → Covers o.taken.ends n → Covers ends n)
     (no_more : (n : ℕ) → Covers ends n → Covers t.taken.ends n ⊎ Covers o.taken.ends n) where
@@ -204,6 +226,10 @@ module _ (t o : Merged) (ends : BTreeMap ℕ ℕ) (kept : LieIn t.taken.ends end
 
   pub joined_level : level (set_of ends) ≡ level_joined t o
   joined_level = ap level joined_set
+
+  -- the level that is reached then
+  pub joined_reached : (n : ℕ) → ((i : ℕ) → 0 < i → i ≤ n → Covers ends i) → (Covers ends (suc n) → ⊥) → n ≡ level_joined t o
+  joined_reached n reached past = level_reached ends n reached past ∙ joined_level
 
 module _ (t u : Merged) (from to : ℕ) (es : List Entry)
     (kept : LieIn t.taken.ends u.taken.ends) (added : Spans u.taken.ends from to)

@@ -10,6 +10,7 @@ use Rattle.std.specs.declared.cmp.Ordering.TheVariants.{Less}
 use Rattle.std.proofs.lemmas.Bool.{false_from_ne_true, cases_lt}
 use Rattle.std.proofs.lemmas.Bool.Decides.{Decides-or}
 use Rattle.std.proofs.lemmas.Cmp.{nat_cmp_total}
+use Rattle.std.proofs.lemmas.List.Sums.{fold-append}
 use Rattle.pmg_value.specs.declared.value.Value.{Value}
 use Rattle.pmg_value.specs.Lists.{In}
 use Rattle.pmg_value.proofs.ListLemmas.{in_parts, in_append_left, in_append_right}
@@ -84,21 +85,15 @@ none_reached a level key o place places over all = one_past level key o (late_at
         let up = number_first place p (ap is_gt h.0) in
         one_past level key o (late_at a p) _ (late_past a p level (omega (arith, over, up))) ∙ others ps h.1
 
--- a late entry more, or an empty place
-pub some_seen :
-    (a : Entries) (level : ℕ) (key : List ℕ) (o next : Option Entry) (place : ℕ × List ℕ) (v : Value) (places : List (ℕ × List ℕ)) → late_at a place ≡ Some (late_entry place v)
-    → next ≡ best_of_two level key o (late_entry place v)
-    → fold (best_of_two level key) next (flat_map (λ p. option_to_list (late_at a p)) places) ≡ fold (best_of_two level key) o (flat_map (λ p. option_to_list (late_at a p)) (place ∷ places))
-some_seen a level key o next place v places at is =
+-- a late place more
+pub late_seen :
+    (a : Entries) (level : ℕ) (key : List ℕ) (o next : Option Entry) (place : ℕ × List ℕ) (places : List (ℕ × List ℕ))
+    → next ≡ fold (best_of_two level key) o (option_to_list (late_at a place))
+    → fold (best_of_two level key) next (flat_map (λ p. option_to_list (late_at a p)) places)
+    ≡ fold (best_of_two level key) o (flat_map (λ p. option_to_list (late_at a p)) (place ∷ places))
+late_seen a level key o next place places is =
     let rest = flat_map (λ p. option_to_list (late_at a p)) places in
-    ap (λ o. fold (best_of_two level key) o rest) is ∙ ap (λ late. fold (best_of_two level key) o (option_to_list late ++ rest)) (sym at)
-
-pub none_seen :
-    (a : Entries) (level : ℕ) (key : List ℕ) (o : Option Entry) (place : ℕ × List ℕ) (places : List (ℕ × List ℕ)) → late_at a place ≡ None
-    → fold (best_of_two level key) o (flat_map (λ p. option_to_list (late_at a p)) places) ≡ fold (best_of_two level key) o (flat_map (λ p. option_to_list (late_at a p)) (place ∷ places))
-none_seen a level key o place places at =
-    let rest = flat_map (λ p. option_to_list (late_at a p)) places in
-    ap (λ late. fold (best_of_two level key) o (option_to_list late ++ rest)) (sym at)
+    ap (λ o. fold (best_of_two level key) o rest) is ∙ sym (fold-append (best_of_two level key) o (option_to_list (late_at a place)) rest)
 
 -- ---- levels
 pub level_with_more :

@@ -1,5 +1,5 @@
 -- What one piece told, with what is taken besides.
-use Rattle.std.proofs.Common.{arith, ℕ, suc, ◌+◌, List, [], ◌++◌, ◌≡◌, ◌<◌, ◌≤◌, ◌⊎◌, inl, inr, ◌||◌, ◌&&◌, nat_lt, nat_le, sym, ap, ◌∙◌, subst}
+use Rattle.std.proofs.Common.{arith, ℕ, suc, ◌+◌, List, [], ◌++◌, map, ◌≡◌, ◌<◌, ◌≤◌, ◌⊎◌, inl, inr, ◌||◌, ◌&&◌, nat_lt, nat_le, sym, ap, ◌∙◌, subst}
 use Rattle.std.specs.Prelude.{Option, None}
 use Rattle.std.specs.Option.{option_map}
 use Rattle.std.specs.Bool.{Decides}
@@ -18,10 +18,15 @@ use Rattle.pmg_commit.specs.Levels.{level}
 use Rattle.pmg_commit.specs.LevelLaws.{level_unique}
 use Rattle.pmg_commit.specs.Knowledge.{union, read, numbers_between}
 use Rattle.pmg_commit.specs.CoreLaws.{Has, has_union, union_has_left, union_has_right}
+use Rattle.pmg_commit.specs.Pieces.{entry_of}
 use Rattle.pmg_commit.proofs.Rules.{numbers_are_between}
 use Rattle.pmg_commit.proofs.ReadLaws.{IsBest, best_of_all, best_read}
 use Rattle.pmg_lane.specs.Merged.{told}
+use Rattle.pmg_lane.specs.Lanes.{known_by, reading_of, IsTrack}
+use Rattle.pmg_lane.specs.declared.track.Track.{Track}
+use Rattle.pmg_lane.specs.declared.track.Track.TheVariants as tracks
 use Rattle.pmg_lane.proofs.Merging.{has_told, told_has, told_numbers}
+use Rattle.pmg_lane.proofs.Reading.{read_more}
 
 pub told_contains : (from to : ℕ) (es : List Entry) (n : ℕ) → set.contains (told from to es).numbers n ≡ (nat_lt from n && nat_le n to)
 told_contains from to es n = ap (λ s. set.contains s n) (told_numbers from to es) ∙ numbers_are_between from to n
@@ -70,3 +75,10 @@ read_both a b c d n key own more o at best =
       | inl x ↦ union_has_left (told a b own) (told c d more) e (told_has a b own e x)
       | inr x ↦ union_has_right (told a b own) (told c d more) e (told_has c d more e x)
     ]
+
+-- what is read of a track once more commits are taken too
+pub read_of :
+    (t : Track) (from to n : ℕ) (key : List ℕ) (es : List Entry) (o : Option Entry) → IsTrack t → n ≡ level (set.union (known_by t).numbers (numbers_between from to))
+    → o ≡ fold (best_of_two n key) (reading_of t n key) es → option_map (λ e. e.bytes) o ≡ read (union (known_by t) (told from to es)) key
+read_of (tracks.Single s) from to n key es o is at best = read_both s.from s.to from to n key (map entry_of s.entries.items) es o at best
+read_of (tracks.Merged m) from to n key es o is at best = read_more m from to key es n o is at best

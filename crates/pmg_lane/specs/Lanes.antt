@@ -1,12 +1,13 @@
 -- What a track knows of its process, as one piece told it or as several did.
-use Rattle.std.specs.Prelude.{◌≡◌, ◌≤◌, ◌<◌, ℕ, map, true}
-use Rattle.std.specs.List.{list_all}
+use Rattle.std.specs.Prelude.{◌≡◌, ◌≤◌, ◌<◌, ℕ, List, map, Option, None, true}
+use Rattle.std.specs.List.{fold, list_all}
 use Rattle.pmg_value.specs.Lists.{is_chain}
+use Rattle.pmg_commit.specs.Entries.{Entry, best_of_two}
 use Rattle.pmg_commit.specs.Levels.{level}
 use Rattle.pmg_commit.specs.Knowledge.{Knowledge}
 use Rattle.pmg_commit.specs.Pieces.{entry_of, is_numbered, is_key_rising}
 use Rattle.pmg_commit.specs.declared.piece.TheConstants.{MAX_COMMIT}
-use Rattle.pmg_lane.specs.Merged.{merged_knowledge, told, IsMerged, HasMergedRoom, HaveMergedRooms}
+use Rattle.pmg_lane.specs.Merged.{merged_knowledge, merged_reading, told, IsMerged, HasMergedRoom, HaveMergedRooms}
 use Rattle.pmg_lane.specs.declared.single.Single.{Single}
 use Rattle.pmg_lane.specs.declared.track.Track.{Track}
 use Rattle.pmg_lane.specs.declared.track.Track.TheVariants as tracks
@@ -17,10 +18,19 @@ use Rattle.pmg_lane.specs.declared.track.Reads.TheVariants as reads
 abbrev pub single_knowledge : Single → Knowledge
 single_knowledge s = told s.from s.to (map entry_of s.entries.items)
 
+-- the entry of what one piece told that is read under the key at that level, which may not be reached yet
+abbrev pub single_reading : Single → ℕ → List ℕ → Option Entry
+single_reading s level key = fold (best_of_two level key) None (map entry_of s.entries.items)
+
 -- what a track knows
 abbrev pub known_by : Track → Knowledge
 known_by (tracks.Single s) = single_knowledge s
 known_by (tracks.Merged m) = merged_knowledge m
+
+-- the entry of a track that is read under the key at that level, which may not be reached yet
+abbrev pub reading_of : Track → ℕ → List ℕ → Option Entry
+reading_of (tracks.Single s) level key = single_reading s level key
+reading_of (tracks.Merged m) level key = merged_reading m level key
 
 -- the level of a track
 abbrev pub level_of : Track → ℕ

@@ -1,12 +1,13 @@
 -- What several pieces told of one process: the numbers of its ranges, and its entries.
-use Rattle.std.specs.Prelude.{◌≤◌, ℕ, List, ◌++◌}
+use Rattle.std.specs.Prelude.{◌≤◌, ℕ, List, ◌++◌, Option}
+use Rattle.std.specs.List.{fold}
 use Rattle.std.specs.FinSet as set
 use Rattle.pmg_join.specs.Ranges.{set_of, AreApart, Covers, Spans, HaveRoom}
-use Rattle.pmg_commit.specs.Entries.{Entry}
+use Rattle.pmg_commit.specs.Entries.{Entry, best_of_two}
 use Rattle.pmg_commit.specs.Levels.{level}
 use Rattle.pmg_commit.specs.Knowledge.{Knowledge, numbers_between}
 use Rattle.pmg_commit.specs.declared.piece.PieceEntry.{PieceEntry}
-use Rattle.pmg_lane.specs.Entries.{HasEntry, entries_list, ReadsWithin, LatePast, IsRoomyTo, HasPlaces}
+use Rattle.pmg_lane.specs.Entries.{HasEntry, read_under, late_list, entries_list, ReadsWithin, LatePast, IsRoomyTo, HasPlaces}
 use Rattle.pmg_lane.specs.Waiting.{waiting_at, waiting_list, wait_number, AreAllFrom, HasRoomUnder, HaveReached, WaitPast}
 use Rattle.pmg_lane.specs.declared.merged.Merged.{Merged}
 use Rattle.pmg_commit.specs.declared.piece.TheConstants.{MAX_COMMIT}
@@ -22,6 +23,12 @@ merged_level t = level (set_of t.taken.ends)
 -- what is known from the commits from+1 to to, of which these are the entries
 unfoldable pub told : ℕ → ℕ → List Entry → Knowledge
 told from to entries = record { numbers = numbers_between from to; entries = set.from_list entries }
+
+-- the entry that is read under the key at that level, which may not be reached yet: of what is read now, what is late and what waits,
+-- the latest
+abbrev pub merged_reading : Merged → ℕ → List ℕ → Option Entry
+merged_reading t level key =
+    fold (best_of_two level key) (fold (best_of_two level key) (read_under t.entries key) (late_list t.entries)) (waiting_list t.waiting.lists)
 
 -- It is kept well: its ranges are apart, what is read is up to the level and what is late or waits past it, what waits has no
 -- number below its list's, and no number is past the greatest of a commit.

@@ -5,7 +5,7 @@ ghost use Rattle.pmg_commit.specs.Entries.{Entry, best_of_two};
 ghost use Rattle.pmg_lane.specs.Entries.{read_under, late_at, late_list, late_cmp, entry_under, late_entry, beats, exceeds, IsReadIn, IsLateIn, HasEntry, HoldAlike, PlacesStay, HasPlaces, ReadsWithin, IsRoomyTo, LateFrom, LatePast, Settles, NoneLeft, place_count};
 ghost use Rattle.pmg_lane.specs.Places.{there_at, HasPlace};
 ghost use Rattle.pmg_lane.specs.Readings.{seen_entry};
-ghost use Rattle.std.specs.Option.{option_map};
+ghost use Rattle.std.specs.Option.{option_map, option_to_list};
 ghost use Rattle.std.specs.List.{fold};
 ghost use Rattle.std.specs.BTreeMap.{get, is_at, btree_map_len};
 ghost use Rattle.pmg_value.specs.Lists.{In};
@@ -36,7 +36,7 @@ pub struct Entries {
 
 impl Drop for Entries {
     fn drop(self) {
-        let Entries { reads: _, late: _ } = self;
+        let Self { reads, late } = self;
     }
 }
 
@@ -47,6 +47,28 @@ impl Copied for Stamp {
             value: self.value.copy()?,
         })
     }
+}
+
+/// What is read under the key at that level once a late place is seen too, with what is in it.
+fn better_late<'a>(
+    level: u64,
+    key: &Key,
+    best: Option<Reading<'a>>,
+    place: &'a (u64, Key),
+    there: &'a Option<Value>,
+) -> Option<Reading<'a>>
+    ensures { option_map (seen_entry key.now) result
+        ≡ fold (best_of_two level key.now) (option_map (seen_entry key.now) best.entry)
+        (option_to_list (option_map (late_entry place.now) there.now)) }
+{
+    let Some(value) = there else {
+        return best;
+    };
+    let late = Reading {
+        number: place.0,
+        value,
+    };
+    better(level, key, best, &place.1, late)
 }
 
 impl Entries {
@@ -96,13 +118,7 @@ impl Entries {
             if place.0 > level {
                 return best;
             }
-            if let Some(value) = there {
-                let late = Reading {
-                    number: place.0,
-                    value,
-                };
-                best = better(level, key, best, &place.1, late);
-            }
+            best = better_late(level, key, best, place, there);
         }
         best
     }

@@ -6,11 +6,12 @@ ghost use Rattle.pmg_value.specs.Spelling.{spelling};
 ghost use Rattle.pmg_commit.specs.Pieces.{entry_of};
 ghost use Rattle.pmg_commit.specs.Levels.{level};
 ghost use Rattle.pmg_commit.specs.Knowledge.{nothing, union, core, read, numbers_between};
-ghost use Rattle.pmg_lane.specs.Merged.{merged_knowledge, merged_level, told, IsMerged, HasMergedRoom, HaveMergedRooms};
+ghost use Rattle.pmg_lane.specs.Merged.{merged_knowledge, merged_level, merged_reading, told, IsMerged, HasMergedRoom, HaveMergedRooms};
+ghost use Rattle.pmg_lane.specs.Readings.{seen_entry};
 ghost use Rattle.pmg_commit.specs.declared.piece.TheConstants.{MAX_COMMIT};
 
 use crate::entries::{Entries, Stamp};
-use crate::readings::best_with;
+use crate::readings::Reading;
 use crate::waiting::{Waiting, wait_number};
 use pmg_commit::PieceEntry;
 use pmg_join::Ranges;
@@ -28,10 +29,10 @@ pub struct Merged {
 
 impl Drop for Merged {
     fn drop(self) {
-        let Merged {
-            taken: _,
-            entries: _,
-            waiting: _,
+        let Self {
+            taken,
+            entries,
+            waiting,
         } = self;
     }
 }
@@ -84,28 +85,14 @@ impl Merged {
         self.taken.level_with(from, to)
     }
 
-    /// What is read under the key once the commits from+1 to to and their entries are taken too. It takes time in
-    /// proportion to the number of these entries and of the late ones that are read then, and to the logarithm of what
-    /// is held.
-    pub fn read_with<'a>(
-        &'a self,
-        from: u64,
-        to: u64,
-        entries: &'a [PieceEntry],
-        key: &Key,
-    ) -> Option<&'a Value>
-        requires kept { IsMerged self.now }
-        requires bound { to ≤ MAX_COMMIT }
-        ensures { option_map (λ v. spelling v.now) result
-            ≡ read (union (merged_knowledge self.now) (told from to (map entry_of entries.now))) key.now }
+    /// What is read under the key at that level, which may not be reached yet. It takes time in proportion to the number of the late
+    /// entries that are read then, and to the logarithm of what is held.
+    pub fn reading_at(&self, level: u64, key: &Key) -> Option<Reading<'_>>
+        requires { IsMerged self.now }
+        ensures { option_map (seen_entry key.now) result ≡ merged_reading self.now level key.now }
     {
-        let level = self.level_with(from, to);
         let kept = self.entries.reading_at(level, key);
-        let now = self.waiting.reading_at(level, key, kept);
-        match best_with(level, key, now, entries) {
-            Some(best) => Some(best.value),
-            None => None,
-        }
+        self.waiting.reading_at(level, key, kept)
     }
 
     /// Makes room for the commits from+1 to to and their entries, and for the late entries that are read then.

@@ -89,6 +89,17 @@ pub fn best_with<'a>(
     best
 }
 
+/// The value that is read, where something is.
+pub fn seen_value<'a>(best: Option<Reading<'a>>) -> Option<&'a Value>
+    ensures { (key : List ℕ) → option_map (λ v. spelling v.now) result
+        ≡ option_map (λ e. e.bytes) (option_map (seen_entry key) best.entry) }
+{
+    match best {
+        Some(best) => Some(best.value),
+        None => None,
+    }
+}
+
 /// The level where no commits but those from+1 to to were taken.
 pub fn level_alone(from: u64, to: u64) -> u64
     ensures value { result ≡ level (numbers_between from to) }
@@ -102,9 +113,5 @@ pub fn level_alone(from: u64, to: u64) -> u64
 pub fn read_alone<'a>(from: u64, to: u64, entries: &'a [PieceEntry], key: &Key) -> Option<&'a Value>
     ensures { option_map (λ v. spelling v.now) result ≡ read (told from to (map entry_of entries.now)) key.now }
 {
-    let level = level_alone(from, to);
-    match best_with(level, key, None, entries) {
-        Some(best) => Some(best.value),
-        None => None,
-    }
+    seen_value(best_with(level_alone(from, to), key, None, entries))
 }

@@ -6,16 +6,17 @@ ghost use Rattle.std.specs.Option.{option_map};
 ghost use Rattle.pmg_value.specs.Lists.{is_chain};
 ghost use Rattle.pmg_value.specs.Spelling.{spelling};
 ghost use Rattle.pmg_join.specs.Ranges.{Between};
-ghost use Rattle.pmg_commit.specs.Knowledge.{core, numbers_between, read, union};
+ghost use Rattle.pmg_commit.specs.Knowledge.{core, numbers_between, read};
 ghost use Rattle.pmg_commit.specs.Levels.{level};
 ghost use Rattle.pmg_commit.specs.Pieces.{entry_of, is_key_rising, is_numbered};
 ghost use Rattle.pmg_commit.specs.declared.piece.TheConstants.{MAX_COMMIT};
-ghost use Rattle.pmg_lane.specs.Lanes.{single_knowledge, IsSingle};
-ghost use Rattle.pmg_lane.specs.Merged.{merged_knowledge, told, IsMerged};
+ghost use Rattle.pmg_lane.specs.Lanes.{single_knowledge, single_reading, IsSingle};
+ghost use Rattle.pmg_lane.specs.Merged.{merged_knowledge, IsMerged};
+ghost use Rattle.pmg_lane.specs.Readings.{seen_entry};
 
 use crate::lane::copies_of;
 use crate::merged::Merged;
-use crate::readings::{best_with, level_alone, read_alone};
+use crate::readings::{Reading, best_with, level_alone, read_alone};
 use pmg_commit::{PieceEntry, are_keys_rising, are_numbered};
 use pmg_value::{Key, Value};
 use std::alloc::{AllocError, Global};
@@ -32,11 +33,7 @@ pub struct Single {
 
 impl Drop for Single {
     fn drop(self) {
-        let Single {
-            from: _,
-            to: _,
-            entries: _,
-        } = self;
+        let Self { from, to, entries } = self;
     }
 }
 
@@ -73,18 +70,13 @@ impl Single {
         Single { from, to, entries }
     }
 
-    /// The last commit before those that it told of.
-    pub fn from(&self) -> u64
-        ensures { result ≡ self.now.from }
+    /// The last commit before those that it told of, the last of these, and the entries.
+    pub fn parts(&self) -> (u64, u64, &[PieceEntry])
+        ensures from { result.0 ≡ self.now.from }
+        ensures to { result.1 ≡ self.now.to }
+        ensures entries { result.2.now ≡ self.now.entries.items }
     {
-        self.from
-    }
-
-    /// The last commit that it told of.
-    pub fn to(&self) -> u64
-        ensures { result ≡ self.now.to }
-    {
-        self.to
+        (self.from, self.to, &self.entries)
     }
 
     /// The entries.
@@ -135,25 +127,11 @@ impl Single {
         level_of_both(self.from, self.to, from, to)
     }
 
-    /// What is read under the key once the commits from+1 to to and their entries are taken too.
-    pub fn read_with<'a>(
-        &'a self,
-        from: u64,
-        to: u64,
-        entries: &'a [PieceEntry],
-        key: &Key,
-    ) -> Option<&'a Value>
-        requires kept { IsSingle self.now }
-        requires bound { to ≤ MAX_COMMIT }
-        ensures { option_map (λ v. spelling v.now) result
-            ≡ read (union (single_knowledge self.now) (told from to (map entry_of entries.now))) key.now }
+    /// What is read under the key at that level, which may not be reached yet.
+    pub fn reading_at(&self, level: u64, key: &Key) -> Option<Reading<'_>>
+        ensures { option_map (seen_entry key.now) result ≡ single_reading self.now level key.now }
     {
-        let level = self.level_with(from, to);
-        let own = best_with(level, key, None, &self.entries);
-        match best_with(level, key, own, entries) {
-            Some(best) => Some(best.value),
-            None => None,
-        }
+        best_with(level, key, None, &self.entries)
     }
 
     /// The same, as what several pieces told.

@@ -7,12 +7,14 @@ ghost use Rattle.pmg_commit.specs.Pieces.{entry_of};
 ghost use Rattle.pmg_commit.specs.Levels.{level};
 ghost use Rattle.pmg_commit.specs.Knowledge.{nothing, union, core, read, numbers_between};
 ghost use Rattle.pmg_commit.specs.declared.piece.TheConstants.{MAX_COMMIT};
-ghost use Rattle.pmg_lane.specs.Lanes.{known_by, level_of, IsMany, IsTrack, HaveRooms, ShowsReads};
+ghost use Rattle.pmg_lane.specs.Lanes.{known_by, level_of, reading_of, IsMany, IsTrack, HaveRooms, ShowsReads};
 ghost use Rattle.pmg_lane.specs.Merged.{merged_knowledge, told, IsMerged};
+ghost use Rattle.pmg_lane.specs.Readings.{seen_entry};
 ghost use Rattle.pmg_lane.specs.declared.track.Track.TheVariants as tracks;
 
 use crate::entries::Stamp;
 use crate::merged::Merged;
+use crate::readings::{Reading, best_with, seen_value};
 use crate::single::Single;
 use pmg_commit::PieceEntry;
 use pmg_value::{Key, Value};
@@ -117,6 +119,17 @@ impl Track {
         }
     }
 
+    /// What is read under the key at that level, which may not be reached yet.
+    fn reading_at(&self, level: u64, key: &Key) -> Option<Reading<'_>>
+        requires { IsTrack self.now }
+        ensures { option_map (seen_entry key.now) result ≡ reading_of self.now level key.now }
+    {
+        match self {
+            Track::Single(single) => single.reading_at(level, key),
+            Track::Merged(merged) => merged.reading_at(level, key),
+        }
+    }
+
     /// What is read under the key once the commits from+1 to to and their entries are taken too. It takes time in
     /// proportion to the number of these entries and of the late ones that are read then, and to the logarithm of what
     /// is held.
@@ -132,10 +145,8 @@ impl Track {
         ensures { option_map (λ v. spelling v.now) result
             ≡ read (union (known_by self.now) (told from to (map entry_of entries.now))) key.now }
     {
-        match self {
-            Track::Single(single) => single.read_with(from, to, entries, key),
-            Track::Merged(merged) => merged.read_with(from, to, entries, key),
-        }
+        let level = self.level_with(from, to);
+        seen_value(best_with(level, key, self.reading_at(level, key), entries))
     }
 
     /// Keeps what one piece told as what several do, which can take more.
@@ -250,7 +261,10 @@ fn make_rooms_in(merged: &mut Merged, other: &Track) -> Result<(), AllocError>
     ensures room { OnOk result (HaveRooms (tracks.Merged merged.new) other.now) }
 {
     match other {
-        Track::Single(single) => merged.make_room(single.from(), single.to(), single.entries()),
+        Track::Single(single) => {
+            let (from, to, entries) = single.parts();
+            merged.make_room(from, to, entries)
+        }
         Track::Merged(other) => merged.make_rooms(other),
     }
 }

@@ -29,7 +29,7 @@ pub struct Waiting {
 
 impl Drop for Waiting {
     fn drop(self) {
-        let Waiting { alloc: _, lists: _ } = self;
+        let Self { alloc, lists } = self;
     }
 }
 

@@ -4,15 +4,10 @@ use pmg_commit::Piece;
 use std::alloc::{AllocError, Global};
 
 /// The pieces of one publication.
+#[derive(Drop)]
 pub struct Parts {
     pub near: Vec<Piece>,
     pub far: Vec<Piece>,
-}
-
-impl Drop for Parts {
-    fn drop(self) {
-        let Parts { near: _, far: _ } = self;
-    }
 }
 
 impl Parts {

@@ -15,10 +15,7 @@ pub struct Shown {
 
 impl Drop for Shown {
     fn drop(self) {
-        let Shown {
-            board: _,
-            history: _,
-        } = self;
+        let Self { board, history } = self;
     }
 }
 
@@ -30,10 +27,7 @@ pub struct Update {
 
 impl Drop for Update {
     fn drop(self) {
-        let Update {
-            parts: _,
-            history: _,
-        } = self;
+        let Self { parts, history } = self;
     }
 }
 

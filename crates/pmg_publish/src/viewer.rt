@@ -47,10 +47,7 @@ pub struct Viewer {
 
 impl Drop for Viewer {
     fn drop(self) {
-        let Viewer {
-            place: _,
-            history: _,
-        } = self;
+        let Self { place, history } = self;
     }
 }
 

@@ -15,7 +15,7 @@ use Rattle.pmg_commit.specs.Cores.{Core, join_cores}
 use Rattle.pmg_lane.specs.Lanes.{IsTrack}
 use Rattle.pmg_lane.specs.Places.{placed, there_at}
 use Rattle.pmg_lane.specs.declared.track.Track.{Track}
-use Rattle.pmg_store.specs.Tracks.{held_in, held_at, AreTracks, IsRoomFor, HaveRoomFor}
+use Rattle.pmg_store.specs.Tracks.{core_in, held_in, held_at, AreTracks, IsRoomFor, HaveRoomFor}
 
 -- ---- the same in all places
 module _ (old new : BTreeMap Proc (Option Track)) (same : (q : Proc) → there_at proc_cmp new q ≡ there_at proc_cmp old q) where
@@ -82,6 +82,15 @@ module _ (old new : BTreeMap Proc (Option Track)) (p : Proc) (w : Option Track) 
     pub put_joined : (x : Option Core) → held_in w ≡ join_options join_cores (held_in place) x
         → (q : Proc) → held_at new q ≡ cond (is_at (proc_cmp p) q) (join_options join_cores (held_at old p) x) (held_at old q)
     put_joined x is q = put_held q ∙ (λ i. cond (is_at (proc_cmp p) q) ((is ∙ ap (λ o. join_options join_cores o x) (sym held_here)) i) (held_at old q))
+
+-- a track is put under a process of which nothing was held
+pub first_taken :
+    (old new : BTreeMap Proc (Option Track)) (p : Proc) (t : Track) (x : Core) → get proc_cmp old p ≡ None → core_in t ≡ x
+    → ((q : Proc) → held_at new q ≡ cond (is_at (proc_cmp p) q) (held_in (Some t)) (held_at old q))
+    → (q : Proc) → held_at new q ≡ cond (is_at (proc_cmp p) q) (Some (join_to join_cores (held_at old p) x)) (held_at old q)
+first_taken old new p t x first is put q =
+    put q
+    ∙ (λ i. cond (is_at (proc_cmp p) q) (Some ((is ∙ ap (λ o. join_to join_cores (held_in (placed o)) x) (sym first)) i)) (held_at old q))
 
 -- what is held in a place that is there
 pub held_there : (places : BTreeMap Proc (Option Track)) (p : Proc) (place : Option Track) → get proc_cmp places p ≡ Some place → held_at places p ≡ held_in place

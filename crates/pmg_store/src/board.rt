@@ -16,7 +16,7 @@ pub struct Board {
 
 impl Drop for Board {
     fn drop(self) {
-        let Board { near: _, far: _ } = self;
+        let Self { near, far } = self;
     }
 }
 

@@ -152,37 +152,24 @@ impl Tracks {
         ensures same { OnErr result ((q : Proc) → held_at self.new.places q ≡ held_at self.old.places q) }
     {
         if is_past_all(&self.places, proc) {
-            return self.absorb_first(proc, from, to, entries);
+            return self.put(proc, Track::of(self.alloc, from, to, entries)?);
         }
         match self.places.get_mut(proc) {
             Some(place) => absorb_in(place, self.alloc, from, to, entries),
-            None => self.absorb_first(proc, from, to, entries),
+            None => self.put(proc, Track::of(self.alloc, from, to, entries)?),
         }
     }
 
-    /// Takes the commits from+1 to to of the process, of which nothing was taken, and their entries. Where an allocation fails,
-    /// the tracks stay as they are.
-    fn absorb_first(
-        &mut self,
-        proc: &Proc,
-        from: u64,
-        to: u64,
-        entries: Vec<PieceEntry>,
-    ) -> Result<(), AllocError>
+    /// Puts the track under the process, in the place of what was there.
+    fn put(&mut self, proc: &Proc, track: Track) -> Result<(), AllocError>
         requires kept { AreTracks self.old.places }
-        requires some { from < to }
-        requires bound { to ≤ MAX_COMMIT }
-        requires first { get proc_cmp self.old.places proc.now ≡ None }
+        requires track { IsTrack track }
         ensures kept { AreTracks self.new.places }
-        ensures taken { OnOk result ((q : Proc) → held_at self.new.places q
-            ≡ cond (is_at (proc_cmp proc.now) q)
-            (Some (join_to join_cores (held_at self.old.places proc.now) (core_of (told from to (map entry_of entries.items)))))
-            (held_at self.old.places q)) }
+        ensures put { OnOk result ((q : Proc) → held_at self.new.places q
+            ≡ cond (is_at (proc_cmp proc.now) q) (held_in (Some track)) (held_at self.old.places q)) }
         ensures same { OnErr result ((q : Proc) → held_at self.new.places q ≡ held_at self.old.places q) }
     {
-        let mut place = None;
-        absorb_in(&mut place, self.alloc, from, to, entries)?;
-        self.places.insert(proc.copy()?, place)?;
+        self.places.insert(proc.copy()?, Some(track))?;
         Ok(())
     }
 
@@ -253,19 +240,6 @@ impl Tracks {
         }
     }
 
-    /// Puts a copy of the track under the process.
-    fn insert_copy(&mut self, proc: &Proc, track: &Track) -> Result<(), AllocError>
-        requires kept { AreTracks self.old.places }
-        requires track { IsTrack track.now }
-        ensures kept { OnOk result (AreTracks self.new.places) }
-        ensures put { OnOk result ((q : Proc) → held_at self.new.places q
-            ≡ cond (is_at (proc_cmp proc.now) q) (held_in (Some track.now)) (held_at self.old.places q)) }
-    {
-        let copy = track.copy(self.alloc)?;
-        self.places.insert(proc.copy()?, Some(copy))?;
-        Ok(())
-    }
-
     /// A copy, equal to these tracks.
     pub fn copy(&self) -> Result<Tracks, AllocError>
         requires { AreTracks self.now.places }
@@ -275,7 +249,7 @@ impl Tracks {
         let mut copy = Tracks::new(self.alloc);
         for (proc, place) in self.places.iter() {
             if let Some(track) = place {
-                copy.insert_copy(proc, track)?;
+                copy.put(proc, track.copy(self.alloc)?)?;
             }
         }
         Ok(copy)

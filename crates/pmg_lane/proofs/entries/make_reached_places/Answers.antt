@@ -3,12 +3,12 @@ use Rattle.std.specs.List.Sorted.{IsStrictlySortedBy}
 use Rattle.std.specs.Map.{keys_of}
 use Rattle.std.specs.Ordering.{nat_cmp}
 use Rattle.std.specs.Cmp.Lexicographic.{slice_cmp}
-use Rattle.std.proofs.lemmas.Map.Keys.{sorted_head, sorted_tail}
 use Rattle.pmg_value.specs.Lists.{In}
 use Rattle.pmg_value.proofs.RowLemmas.{key_there}
 use Rattle.pmg_lane.specs.Places.{HasPlace}
 use Rattle.pmg_lane.specs.Entries.{late_cmp}
 use Rattle.pmg_lane.proofs.Settling.{exact_late}
+use Rattle.pmg_lane.proofs.Listing.{rows_above, rows_sorted}
 use Rattle.pmg_lane.proofs.Promoting.{not_reached}
 use Rattle.pmg_lane.proofs.entries.make_reached_places.Goals as goal
 
@@ -27,10 +27,8 @@ returns-then-level-place-clause-places c q has up = elim (c.loop-place.invariant
   | inr there ↦ there
   | inl left ↦
       let step = c.in-Some.ensures.steps in
-      let place = c.in-Some.place.now in
-      let rest = keys_of c.next.new.self in
-      let sorted = subst (λ es. IsStrictlySortedBy late_cmp (keys_of es)) step c.loop-place.invariant.ordered in
-      absurd (not_reached c.args.level place rest q c.if-level-place.true (sorted_head late_cmp place rest sorted) (subst (λ es. In q (keys_of es)) step left) up)
+      let above = rows_above late_cmp step c.loop-place.invariant.ordered in
+      absurd (not_reached c.args.level c.in-Some.place.now _ q c.if-level-place.true above (subst (λ es. In q (keys_of es)) step left) up)
 ]
 
 pub returns-in_err-make_place-clause-same : goal.returns-in_err-make_place-clause-same
@@ -42,7 +40,6 @@ returns-in_err-make_place-clause-stay c q has = c.in_err-make_place.ensures.stay
 pub loop-place-preserved : goal.loop-place-preserved
 loop-place-preserved c =
     let step = c.in-Some.ensures.steps in
-    let place = c.in-Some.place.now in
     let inv = c.loop-place.invariant in
     let made = c.in_ok-make_place.ensures in
     record {
@@ -55,5 +52,5 @@ loop-place-preserved c =
           | inr rest ↦ inl rest
         ]
       ];
-      ordered = sorted_tail late_cmp place (keys_of c.next.new.self) (subst (λ es. IsStrictlySortedBy late_cmp (keys_of es)) step inv.ordered);
+      ordered = rows_sorted late_cmp step inv.ordered;
     }

@@ -5,7 +5,7 @@ use Rattle.pmg_lane.specs.Entries.{late_entry, IsLateIn, HoldAlike, PlacesStay, 
 use Rattle.pmg_lane.proofs.Listing.{made_of}
 use Rattle.pmg_lane.proofs.entries.Entries.make_late_places.Given as goal
 
--- the entries are the same, and there are places for those that were seen
+-- the entries are the same, and there are places for the late ones that were seen
 abbrev pub invariant-loop-place : goal.invariant-loop-place
 invariant-loop-place l = record {
   same : HoldAlike l.fn.self l.self;

@@ -29,7 +29,6 @@ returns-then-is_greater c =
 pub returns-else-is_greater : goal.returns-else-is_greater
 returns-else-is_greater c =
     let a = c.args.self.now in
-    let v = c.args.value in
     let place : ℕ × List ℕ = (c.args.number, c.args.key) in
     let there = c.in-Some.there.now in
     let tree = c.get_mut.follows.lender there in
@@ -37,9 +36,9 @@ returns-else-is_greater c =
     let put = ((c.get_mut.follows.holds there).3 (ap is_some (sym c.in-Some.ensures.value))).0 in
     let alike = alike_late a b refl (left_at a.late tree place there there c.in-Some.ensures.value exact_late put refl) in
     record {
-      settles = settles_alike c.args.level a b (λ e. e ≡ late_entry place v) alike
-          (late_kept a c.args.level place v
-          (ap (λ o. exceeds (option_map spelling (placed o)) (spelling v)) (sym c.in-Some.ensures.value) ∙ sym c.is_greater.ensures ∙ c.if-is_greater.false));
+      settles = settles_alike c.args.level a b (λ e. e ≡ late_entry place c.args.value) alike
+          (late_kept a c.args.level place c.args.value
+          (ap (λ o. exceeds (option_map spelling (placed o)) (spelling c.args.value)) (sym c.in-Some.ensures.value) ∙ sym c.is_greater.ensures ∙ c.if-is_greater.false));
       reads = search rules;
       late = late_alike c.args.level a b alike;
       stay = (λ key has. has, filled_stay a.late tree place there there c.in-Some.ensures.value exact_late put);

@@ -6,12 +6,12 @@ use Rattle.std.specs.List.Sorted.{IsStrictlySortedBy}
 use Rattle.std.specs.BTreeMap.{get}
 use Rattle.std.specs.Map.{keys_of}
 use Rattle.std.proofs.lemmas.List.Elements.{recursion_from_All}
-use Rattle.std.proofs.lemmas.Map.Keys.{sorted_head, sorted_tail}
 use Rattle.pmg_commit.specs.Entries.{best_of_two}
 use Rattle.pmg_lane.specs.Places.{placed}
 use Rattle.pmg_lane.specs.Entries.{late_cmp, late_at, late_entry}
 use Rattle.pmg_lane.specs.Readings.{seen_entry}
-use Rattle.pmg_lane.proofs.Reading.{none_reached, some_seen, none_seen}
+use Rattle.pmg_lane.proofs.Listing.{rows_above, rows_sorted}
+use Rattle.pmg_lane.proofs.Reading.{none_reached, late_seen}
 use Rattle.pmg_lane.proofs.entries.Entries.reading_at.Goals as goal
 
 pub loop-place-init : goal.loop-place-init
@@ -29,43 +29,27 @@ pub returns-then-place-level : goal.returns-then-place-level
 returns-then-place-level c =
     let a = c.args.self.now in
     let step = c.in-Some.ensures.steps in
-    let o = option_map (seen_entry c.args.key.now) c.loop-place.best in
-    let places = keys_of c.next.new.self in
-    let sorted = subst (λ es. IsStrictlySortedBy late_cmp (keys_of es)) step c.loop-place.invariant.ordered in
-    sym (none_reached a c.args.level c.args.key.now o c.in-Some.place.now places c.if-place-level.true (sorted_head late_cmp c.in-Some.place.now places sorted))
-    ∙ ap (λ es. fold (best_of_two c.args.level c.args.key.now) o (flat_map (λ place. option_to_list (late_at a place)) (keys_of es))) (sym step)
-    ∙ c.loop-place.invariant.best
-
-pub loop-place-preserved-in-Some-there : goal.loop-place-preserved-in-Some-there
-loop-place-preserved-in-Some-there c =
-    let a = c.args.self.now in
-    let step = c.in-Some.ensures.steps in
     let inv = c.loop-place.invariant in
-    let place = c.in-Some.place.now in
     let o = option_map (seen_entry c.args.key.now) c.loop-place.best in
-    let found = subst (AllByRecursion (λ e. get late_cmp a.late e.0 ≡ Some e.1)) step inv.found in
-    record {
-      best = some_seen a c.args.level c.args.key.now o (option_map (seen_entry c.args.key.now) c.better-best.result) place c.in-Some-there.value (keys_of c.next.new.self)
-          (ap (λ o. option_map (late_entry place) (placed o)) (found.0 ∙ ap Some c.in-Some-there.is)) c.better-best.ensures
-          ∙ ap (λ es. fold (best_of_two c.args.level c.args.key.now) o (flat_map (λ place. option_to_list (late_at a place)) (keys_of es))) (sym step)
-          ∙ inv.best;
-      found = found.1;
-      ordered = sorted_tail late_cmp place (keys_of c.next.new.self) (subst (λ es. IsStrictlySortedBy late_cmp (keys_of es)) step inv.ordered);
-    }
+    sym (none_reached a c.args.level c.args.key.now o c.in-Some.place.now (keys_of c.next.new.self) c.if-place-level.true (rows_above late_cmp step inv.ordered))
+    ∙ ap (λ es. fold (best_of_two c.args.level c.args.key.now) o (flat_map (λ place. option_to_list (late_at a place)) (keys_of es))) (sym step)
+    ∙ inv.best
 
 pub loop-place-preserved : goal.loop-place-preserved
 loop-place-preserved c =
     let a = c.args.self.now in
+    let f = best_of_two c.args.level c.args.key.now in
     let step = c.in-Some.ensures.steps in
     let inv = c.loop-place.invariant in
     let place = c.in-Some.place.now in
     let o = option_map (seen_entry c.args.key.now) c.loop-place.best in
+    let next = option_map (seen_entry c.args.key.now) c.better_late-best.result in
     let found = subst (AllByRecursion (λ e. get late_cmp a.late e.0 ≡ Some e.1)) step inv.found in
     record {
-      best = none_seen a c.args.level c.args.key.now o place (keys_of c.next.new.self)
-          (ap (λ o. option_map (late_entry place) (placed o)) (found.0 ∙ ap Some c.in_default.is))
-          ∙ ap (λ es. fold (best_of_two c.args.level c.args.key.now) o (flat_map (λ place. option_to_list (late_at a place)) (keys_of es))) (sym step)
+      best = late_seen a c.args.level c.args.key.now o next place (keys_of c.next.new.self)
+          (c.better_late-best.ensures ∙ ap (λ there. fold f o (option_to_list (option_map (late_entry place) (placed there)))) (sym found.0))
+          ∙ ap (λ es. fold f o (flat_map (λ place. option_to_list (late_at a place)) (keys_of es))) (sym step)
           ∙ inv.best;
       found = found.1;
-      ordered = sorted_tail late_cmp place (keys_of c.next.new.self) (subst (λ es. IsStrictlySortedBy late_cmp (keys_of es)) step inv.ordered);
+      ordered = rows_sorted late_cmp step inv.ordered;
     }

@@ -9,7 +9,7 @@ use Rattle.pmg_lane.specs.Waiting.{AreFrom, HasRoomUnder, HaveReached, Stocks, W
 use Rattle.pmg_lane.specs.declared.merged.Merged.{Merged}
 use Rattle.pmg_lane.proofs.Settling.{late_trans}
 use Rattle.pmg_lane.proofs.Waits.{reached_stay, room_stays, stay_at, stocks_then, settles_stocks}
-use Rattle.pmg_lane.proofs.Merging.{level_reached, level_up, level_is_of, within_up, filled_level, make_merged, past_from, taken_core}
+use Rattle.pmg_lane.proofs.Merging.{level_reached, level_up, level_is_of, within_up, filled_level, filled_reached, make_merged, past_from, taken_core}
 use Rattle.pmg_lane.proofs.merged.Merged.take.Goals as goal
 
 pub promote-requires : goal.promote-requires
@@ -27,11 +27,11 @@ promote-requires c =
 pub put_reached-requires-clause-room : goal.put_reached-requires-clause-room
 put_reached-requires-clause-room c =
     let t = c.args.self.now in
-    let ends = c.fill_room.new.self.ends in
     let filled = c.fill_room.ensures in
-    let is = level_reached ends c.level-level.result c.level-level.ensures.reached c.level-level.ensures.no_more in
+    let is = filled_reached t c.fill_room.new.self.ends c.args.from c.args.to filled.kept filled.added filled.no_more c.level-level.result
+    c.level-level.ensures.reached c.level-level.ensures.no_more in
     reached_stay t.entries c.promote.new.self t.waiting.lists c.level-level.result c.promote.ensures.stay
-    (subst (HaveReached t.entries t.waiting.lists) (sym (is ∙ filled_level t ends c.args.from c.args.to filled.kept filled.added filled.no_more)) c.requires.room.reached)
+    (subst (HaveReached t.entries t.waiting.lists) (sym is) c.requires.room.reached)
 
 pub put-requires-clause-room : goal.put-requires-clause-room
 put-requires-clause-room c =

@@ -7,7 +7,7 @@ use Rattle.pmg_lane.specs.Waiting.{HasRoomUnder, HaveReached, IsStocked, IsWaiti
 use Rattle.pmg_lane.specs.declared.merged.Merged.{Merged}
 use Rattle.pmg_lane.proofs.Settling.{late_trans}
 use Rattle.pmg_lane.proofs.Waits.{reached_stay, room_stays, stay_at, stocks_both, stocks_then, settles_stocks}
-use Rattle.pmg_lane.proofs.Merging.{level_reached, level_up, level_is_of, within_up, joined_level, make_merged, past_from, joined_core}
+use Rattle.pmg_lane.proofs.Merging.{level_reached, level_up, level_is_of, within_up, joined_level, joined_reached, make_merged, past_from, joined_core}
 use Rattle.pmg_lane.proofs.merged.Merged.take_all.Goals as goal
 
 pub promote-requires : goal.promote-requires
@@ -25,11 +25,11 @@ promote-requires c =
 pub put_reached-requires-clause-room : goal.put_reached-requires-clause-room
 put_reached-requires-clause-room c =
     let t = c.args.self.now in
-    let ends = c.fill_rooms.new.self.ends in
     let filled = c.fill_rooms.ensures in
-    let is = level_reached ends c.level-level.result c.level-level.ensures.reached c.level-level.ensures.no_more in
+    let is = joined_reached t c.args.other c.fill_rooms.new.self.ends filled.kept filled.added filled.no_more c.level-level.result c.level-level.ensures.reached
+    c.level-level.ensures.no_more in
     reached_stay t.entries c.promote.new.self t.waiting.lists c.level-level.result c.promote.ensures.stay
-    (subst (HaveReached t.entries t.waiting.lists) (sym (is ∙ joined_level t c.args.other ends filled.kept filled.added filled.no_more)) c.requires.room.reached)
+    (subst (HaveReached t.entries t.waiting.lists) (sym is) c.requires.room.reached)
 
 pub put_others-requires-clause-places : goal.put_others-requires-clause-places
 put_others-requires-clause-places c e h =

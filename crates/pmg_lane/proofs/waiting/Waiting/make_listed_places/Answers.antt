@@ -6,10 +6,10 @@ use Rattle.std.specs.Map.{keys_of}
 use Rattle.std.specs.Ordering.{nat_cmp}
 use Rattle.std.specs.BTreeMap.{get}
 use Rattle.std.proofs.lemmas.List.Elements.{recursion_from_All}
-use Rattle.std.proofs.lemmas.Map.Keys.{sorted_head, sorted_tail}
 use Rattle.pmg_value.specs.Lists.{In}
 use Rattle.pmg_lane.specs.Waiting.{list_items}
 use Rattle.pmg_lane.proofs.Settling.{alike_itself, alike_trans}
+use Rattle.pmg_lane.proofs.Listing.{rows_above, rows_sorted}
 use Rattle.pmg_lane.proofs.Moving.{has_stays, places_itself, stay_trans}
 use Rattle.pmg_lane.proofs.Waits.{none_up_to, waits_somewhere}
 use Rattle.pmg_lane.proofs.waiting.Waiting.make_listed_places.Goals as goal
@@ -32,21 +32,18 @@ returns-then-level-number-clause-places c n up e i = elim (c.loop-number.invaria
   | inr there ↦ there
   | inl left ↦
       let step = c.in-Some.ensures.steps in
-      let number = c.in-Some.number.now in
-      let rest = keys_of c.next.new.self in
-      let sorted = subst (λ es. IsStrictlySortedBy nat_cmp (keys_of es)) step c.loop-number.invariant.ordered in
-      absurd (none_up_to c.args.level number rest n c.if-level-number.true (sorted_head nat_cmp number rest sorted) (subst (λ es. In n (keys_of es)) step left) up)
+      let above = rows_above nat_cmp step c.loop-number.invariant.ordered in
+      absurd (none_up_to c.args.level c.in-Some.number.now _ n c.if-level-number.true above (subst (λ es. In n (keys_of es)) step left) up)
 ]
 
 pub loop-number-preserved : goal.loop-number-preserved
 loop-number-preserved c =
     let step = c.in-Some.ensures.steps in
-    let number = c.in-Some.number.now in
     let inv = c.loop-number.invariant in
     let made = c.in_ok-make_places.ensures in
+    let found = subst (AllByRecursion (λ e. get nat_cmp c.args.self.now.lists e.0 ≡ Some e.1)) step inv.found in
     let a = c.loop-number.entries in
     let b = c.make_places.new.self in
-    let found = subst (AllByRecursion (λ e. get nat_cmp c.args.self.now.lists e.0 ≡ Some e.1)) step inv.found in
     record {
       alike = alike_trans c.args.entries.now a b inv.alike made.same;
       stay = stay_trans c.args.entries.now a b inv.stay made.stay;
@@ -59,7 +56,7 @@ loop-number-preserved c =
         ]
       ];
       found = found.1;
-      ordered = sorted_tail nat_cmp number (keys_of c.next.new.self) (subst (λ es. IsStrictlySortedBy nat_cmp (keys_of es)) step inv.ordered);
+      ordered = rows_sorted nat_cmp step inv.ordered;
     }
 
 pub returns-clause-places : goal.returns-clause-places

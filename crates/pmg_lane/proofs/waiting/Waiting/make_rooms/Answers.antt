@@ -40,12 +40,12 @@ pub loop-number-preserved : goal.loop-number-preserved
 loop-number-preserved c =
     let step = c.in-Some.ensures.steps in
     let inv = c.loop-number.invariant in
+    let found = subst (AllByRecursion (λ e. get nat_cmp c.args.other.now.lists e.0 ≡ Some e.1)) step inv.found in
     let made = c.in_ok-make_room.ensures in
     let a = c.loop-number.entries in
     let b = c.make_room.new.entries in
     let lists = c.loop-number.self.lists in
     let others = c.make_room.new.self.lists in
-    let found = subst (AllByRecursion (λ e. get nat_cmp c.args.other.now.lists e.0 ≡ Some e.1)) step inv.found in
     record {
       alike = alike_trans c.args.entries.now a b inv.alike made.alike;
       same = λ n. made.same n ∙ inv.same n;

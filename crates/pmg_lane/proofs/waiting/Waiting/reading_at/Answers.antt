@@ -7,10 +7,10 @@ use Rattle.std.specs.Ordering.{nat_cmp}
 use Rattle.std.specs.BTreeMap.{get}
 use Rattle.std.specs.Map.{keys_of}
 use Rattle.std.proofs.lemmas.List.Elements.{recursion_from_All}
-use Rattle.std.proofs.lemmas.Map.Keys.{sorted_head, sorted_tail}
 use Rattle.pmg_commit.specs.Entries.{best_of_two}
 use Rattle.pmg_commit.specs.Pieces.{entry_of}
 use Rattle.pmg_lane.specs.Readings.{seen_entry}
+use Rattle.pmg_lane.proofs.Listing.{rows_above, rows_sorted}
 use Rattle.pmg_lane.proofs.WaitReading.{lists_under, list_seen, no_list_reached}
 use Rattle.pmg_lane.proofs.waiting.Waiting.reading_at.Goals as goal
 
@@ -30,9 +30,8 @@ returns-then-level-number c =
     let lists = c.args.self.now.lists in
     let step = c.in-Some.ensures.steps in
     let o = option_map (seen_entry c.args.key.now) c.loop-number.best in
-    let numbers = keys_of c.next.new.self in
-    let sorted = subst (λ es. IsStrictlySortedBy nat_cmp (keys_of es)) step c.loop-number.invariant.ordered in
-    sym (no_list_reached lists c.args.level c.args.key.now o c.in-Some.number.now numbers c.requires c.if-level-number.true (sorted_head nat_cmp c.in-Some.number.now numbers sorted))
+    let above = rows_above nat_cmp step c.loop-number.invariant.ordered in
+    sym (no_list_reached lists c.args.level c.args.key.now o c.in-Some.number.now (keys_of c.next.new.self) c.requires c.if-level-number.true above)
     ∙ ap (λ es. fold (best_of_two c.args.level c.args.key.now) o (lists_under lists (keys_of es))) (sym step)
     ∙ c.loop-number.invariant.best
 
@@ -50,5 +49,5 @@ loop-number-preserved c =
           ∙ ap (λ es. fold (best_of_two c.args.level c.args.key.now) o (lists_under lists (keys_of es))) (sym step)
           ∙ inv.best;
       found = found.1;
-      ordered = sorted_tail nat_cmp number (keys_of c.next.new.self) (subst (λ es. IsStrictlySortedBy nat_cmp (keys_of es)) step inv.ordered);
+      ordered = rows_sorted nat_cmp step inv.ordered;
     }
