@@ -31,9 +31,10 @@ use Rattle.pmg_fence.specs.Tables.{count_of}
 use Rattle.pmg_fence.specs.declared.change.Change.TheVariants as changes
 use Rattle.pmg_store.specs.declared.board.Board.{Board}
 use Rattle.pmg_node_model.specs.Acts.{Act, Request, Reply, Done, also, free_cause, list_cause, is_misnamed, list_of, signature_of, signature_cause, cause, request_cause, serves, does}
-use Rattle.pmg_node_model.specs.Choosing.{announcing, due_by, due_by_request, marked_by_act, sends}
+use Rattle.pmg_node_model.specs.Choosing.{announcing, due_by, due_by_request, marked_by_act}
 use Rattle.pmg_node_parts.specs.Codes.{Calls}
-use Rattle.pmg_node.specs.Content.{server_of, IsContent}
+use Rattle.pmg_node.specs.Content.{server_of}
+use Rattle.pmg_node.specs.declared.node.Node.TheInside.{Inside}
 use Rattle.pmg_node.specs.Entries.{part_cause, entry_cause, entered_name}
 use Rattle.pmg_node.specs.Fencing.{fence_after, fence_dues, AreSettledIn}
 use Rattle.pmg_node_model.specs.Holdings.{CallState, NodeState, sealer_of, call_of}
@@ -43,6 +44,8 @@ use Rattle.pmg_node.proofs.ActLemmas.{refused_reply}
 use Rattle.pmg_node_model.proofs.CauseFacts.{by_causes, neither_cause, free_is}
 use Rattle.pmg_node.proofs.FenceLemmas.{ChangesFence, Steps, fence_steps}
 use Rattle.pmg_node_model.proofs.KeptAgain.{enter_differs}
+use Rattle.pmg_node.proofs.NodeInside.{server_in, server_with, IsInside, sends_in}
+use Rattle.pmg_node.proofs.ReplyLemmas.{never_short, refuses_due, refused_apart}
 use Rattle.pmg_node.proofs.SilentLemmas.{act_free}
 
 -- ---- the signature that is asked for
@@ -234,15 +237,6 @@ module _ (jobs : Jobs) (id : ℕ) (h : NodeState) (p : Proc) where
   limits_last false false false false false true full = refl
   limits_last false false false false false false full = refl
 
-  never_memory : (a b c d e f : Bool) → entry_chain a b c d e f ≡ Err refusals.NoMemory → ⊥
-  never_memory true b c d e f is = cc
-  never_memory false true c d e f is = cc
-  never_memory false false true d e f is = cc
-  never_memory false false false true e f is = cc
-  never_memory false false false false true f is = cc
-  never_memory false false false false false true is = cc
-  never_memory false false false false false false is = cc
-
   module _ (list : List Proc) (collect : Bool) where
     abbrev pub is_full : Bool
     is_full = signature_cause h (signature_of jobs p list collect) p refusals.TooMany
@@ -261,8 +255,7 @@ module _ (jobs : Jobs) (id : ℕ) (h : NodeState) (p : Proc) where
     entry_by full is limits = entry_first ∙ (λ i. then_limits (is i) (limits i))
 
     pub entry_not_memory : first_of (entry_cause jobs id h p list) (tt {0}) ≡ Err refusals.NoMemory → ⊥
-    entry_not_memory = never_memory (entry_cause jobs id h p list refusals.BadParam) (entry_cause jobs id h p list refusals.UnknownNamespace) (entry_cause jobs id h p list refusals.NotMine)
-        (entry_cause jobs id h p list refusals.Terminated) (entry_cause jobs id h p list refusals.Busy) (entry_cause jobs id h p list refusals.NotAParticipant)
+    entry_not_memory = never_short (entry_cause jobs id h p list)
 
 pub some_mapped_is : {A B : Type 0} (f : A → B) (o : Option A) → is_some (option_map f o) ≡ is_some o
 some_mapped_is f None = refl
@@ -316,32 +309,14 @@ name_some false f name is = (refl, sym cc)
 abbrev refused_as : Refusal → Result (Unit {0}) Refusal
 refused_as e = Err e
 
-told_refusal : (s : Server) (a : Act) (e : Refusal) → (e ≡ refusals.NoMemory → ⊥) → reply_to s a ≡ Reply.refused e → RefusesAct s a e
-told_refusal s a refusals.BadParam other is = is
-told_refusal s a refusals.UnknownNamespace other is = is
-told_refusal s a refusals.NotMine other is = is
-told_refusal s a refusals.Terminated other is = is
-told_refusal s a refusals.Busy other is = is
-told_refusal s a refusals.NotAParticipant other is = is
-told_refusal s a refusals.Exists other is = is
-told_refusal s a refusals.NotFound other is = is
-told_refusal s a refusals.OutsideScope other is = is
-told_refusal s a refusals.TooMany other is = is
-told_refusal s a (refusals.BadFrame fault) other is = is
-told_refusal s a refusals.Collision other is = is
-told_refusal s a refusals.Stale other is = is
-told_refusal s a refusals.Unordered other is = is
-told_refusal s a refusals.Closed other is = is
-told_refusal s a refusals.NoMemory other is = absurd (other refl)
-
 module _ (s : Server) (p : Proc) (list : List Proc) (collect : Bool) where
   abbrev pub enters : Act
   enters = Act.request (Request.enter p list collect)
 
   pub entry_told : (e : Refusal) → first_of (entry_cause s.jobs s.id s.holding p list) (tt {0}) ≡ Err e → RefusesAct s enters e
   entry_told e is =
-      told_refusal s enters e (λ memory. entry_not_memory s.jobs s.id s.holding p list collect (is ∙ ap refused_as memory))
-      (refused_reply s enters e (entry_refused s.jobs s.id s.holding p list collect e is))
+      let told = refused_reply s enters e (entry_refused s.jobs s.id s.holding p list collect e is) in
+      refuses_due s enters e (λ memory. entry_not_memory s.jobs s.id s.holding p list collect (is ∙ ap refused_as (refused_apart e refusals.NoMemory (sym told ∙ memory)))) told
 
   -- one that is due no refusal
   pub enters_it : first_of (cause s.jobs s.id s.holding enters) (tt {0}) ≡ Ok tt → IsAccepted (reply_to s enters)
@@ -402,31 +377,20 @@ module _ (s : Server) (p : Proc) (list : List Proc) (collect : Bool) where
     asked = λ marks. refl;
   }
 
-  module _
-      (table : Known)
-      (id : ℕ)
-      (board : Board)
-      (own : LocalCommits)
-      (calls : Calls)
-      (held : Requests)
-      (marks : Levels)
-      (view : server_of table id board own calls held marks ≡ s)
-      (kept : IsContent table id held.anew (server_of table id board own calls held marks))
+  module _ (inside : Inside) (view : server_in inside ≡ s) (kept : IsInside inside)
       (free : first_of (cause s.jobs s.id s.holding enters) (tt {0}) ≡ Ok tt)
-      (name : FenceName)
-      (named : name ≡ its_name)
-      (ended : Calls)
-      (table_then : Known)
-      (marks_then : Levels) where
-    pub entry_steps : AreSettledIn name table.jobs id (placed_by table.fences name (changes.Entered p (sealed_of own p).level)) board.near board.far (finite.insert calls p (CallState.in_fence name)) ended
-        → table_then ≡ fence_after table name (changes.Entered p (sealed_of own p).level)
-        → marks_then ≡ (sends (sealed_of own) marks (fence_dues table name (changes.Entered p (sealed_of own p).level))).marks
-        → Steps s enters (Reply.entered its_name.instance) table_then id held.anew (server_of table_then id board own ended held marks_then)
-        (sends (sealed_of own) marks (fence_dues table name (changes.Entered p (sealed_of own p).level))).frames
+      (name : FenceName) (named : name ≡ its_name) (ended : Calls) (table_then : Known) (marks_then : Levels) where
+    pub entry_steps : AreSettledIn name inside.table.jobs inside.id (placed_by inside.table.fences name (changes.Entered p (sealed_of inside.own p).level)) inside.board.near inside.board.far
+        (finite.insert inside.calls p (CallState.in_fence name)) ended
+        → table_then ≡ fence_after inside.table name (changes.Entered p (sealed_of inside.own p).level)
+        → marks_then ≡ (sends_in inside (fence_dues inside.table name (changes.Entered p (sealed_of inside.own p).level))).marks
+        → Steps s enters (Reply.entered its_name.instance) table_then inside.id inside.held.anew (server_with inside table_then ended marks_then)
+        (sends_in inside (fence_dues inside.table name (changes.Entered p (sealed_of inside.own p).level))).frames
     entry_steps are table_is marks_are =
-        fence_steps table id board own calls held marks s view kept enters its_name (changes.Entered p (sealer_of s.holding p).level) (Reply.entered its_name.instance)
-        (λ (m : Calls). finite.insert m p (CallState.in_fence its_name)) (entry_act free) name named (changes.Entered p (sealed_of own p).level)
+        fence_steps inside s view kept enters its_name (changes.Entered p (sealer_of s.holding p).level) (Reply.entered its_name.instance)
+        (λ (m : Calls). finite.insert m p (CallState.in_fence its_name)) (entry_act free) name named (changes.Entered p (sealed_of inside.own p).level)
         (ap (λ (x : Server). changes.Entered p (sealer_of x.holding p).level) view) ended
         (subst
-        (λ f. AreSettledIn name table.jobs id (placed_by table.fences name (changes.Entered p (sealed_of own p).level)) board.near board.far (finite.insert calls p (CallState.in_fence f)) ended)
+        (λ f. AreSettledIn name inside.table.jobs inside.id (placed_by inside.table.fences name (changes.Entered p (sealed_of inside.own p).level)) inside.board.near inside.board.far
+        (finite.insert inside.calls p (CallState.in_fence f)) ended)
         named are) table_then table_is marks_then marks_are

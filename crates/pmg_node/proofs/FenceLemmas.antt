@@ -12,7 +12,6 @@ use Rattle.pmg_frame.specs.declared.local.Local.{Local}
 use Rattle.pmg_jobinfo.specs.Jobs.{Jobs}
 use Rattle.pmg_dmodex.specs.Levels.{Levels}
 use Rattle.pmg_dmodex.specs.Refreshes.{Refreshes}
-use Rattle.pmg_dmodex.specs.Requests.{Requests}
 use Rattle.pmg_fence.specs.Changes.{learned, present, news, taken}
 use Rattle.pmg_fence.specs.Codes.{Known}
 use Rattle.pmg_fence.specs.Kept.{placed_by}
@@ -22,15 +21,15 @@ use Rattle.pmg_fence.specs.declared.change.Change.{Change}
 use Rattle.pmg_fence.specs.declared.change.Change.TheVariants as changes
 use Rattle.pmg_fence.specs.declared.table.TableUndo.{TableUndo}
 use Rattle.pmg_fence.proofs.KeptLemmas.{kept_waiting}
-use Rattle.pmg_store.specs.declared.board.Board.{Board}
 use Rattle.pmg_node_model.specs.Acts.{Act, Reply, Done, done_as, cause, is_peer, is_concerned, is_complete, is_taken, receives, does}
 use Rattle.pmg_node_model.specs.Choosing.{announcing, telling_of, due_by, due_by_frame, marked_by_act, sends}
 use Rattle.pmg_node_parts.specs.Codes.{Calls}
-use Rattle.pmg_node.specs.Content.{server_of, IsContent}
+use Rattle.pmg_node.specs.Content.{IsContent}
+use Rattle.pmg_node.specs.declared.node.Node.TheInside.{Inside}
 use Rattle.pmg_node.specs.Fencing.{fence_after, fence_dues, AreSettledIn}
 use Rattle.pmg_node_model.specs.Holdings.{NodeState, mapped, with_table, with_calls, settled}
 use Rattle.pmg_node_model.specs.Kept.{is_in, settle_where, DiffersIn}
-use Rattle.pmg_node_parts.specs.Owns.{LocalCommits, sealed_of}
+use Rattle.pmg_node_parts.specs.Owns.{sealed_of}
 use Rattle.pmg_node_model.specs.Sending.{is_quiet, own_header_of}
 use Rattle.pmg_node.specs.Servers.{Server, reply_to, sent_by, after, IsNode}
 use Rattle.pmg_node_parts.specs.Telling.{telling_by, announcing_by}
@@ -43,6 +42,7 @@ use Rattle.pmg_node.proofs.HeaderNews.{present_lists, telling_alike, news_alike}
 use Rattle.pmg_node_model.proofs.KeptAgain.{settled_names, change_differs, learned_changed, header_changed}
 use Rattle.pmg_node_model.proofs.LearnedAgain.{learned_again}
 use Rattle.pmg_node_model.proofs.KeptSettled.{settled_same}
+use Rattle.pmg_node.proofs.NodeInside.{server_in, server_with, IsInside, sends_in}
 use Rattle.pmg_node.proofs.NodeKept.{node_stays}
 use Rattle.pmg_node.proofs.OpenLemmas.{still_open}
 
@@ -77,17 +77,7 @@ pub record Steps (s : Server) (a : Act) (reply : Reply) (table : Known) (id : �
 
 -- Such an act of the node that these parts make, where a fence of that name changes so, and these are the table, the calls and
 -- the marks then.
-module _
-    (table : Known)
-    (id : ℕ)
-    (board : Board)
-    (own : LocalCommits)
-    (calls : Calls)
-    (held : Requests)
-    (marks : Levels)
-    (s : Server)
-    (view : server_of table id board own calls held marks ≡ s)
-    (kept : IsContent table id held.anew (server_of table id board own calls held marks))
+module _ (inside : Inside) (s : Server) (view : server_in inside ≡ s) (kept : IsInside inside)
     (a : Act)
     (f : FenceName)
     (change : Change)
@@ -99,15 +89,15 @@ module _
     (noted : Change)
     (same : noted ≡ change)
     (ended : Calls)
-    (are : AreSettledIn name table.jobs id (placed_by table.fences name noted) board.near board.far (begin calls) ended)
+    (are : AreSettledIn name inside.table.jobs inside.id (placed_by inside.table.fences name noted) inside.board.near inside.board.far (begin inside.calls) ended)
     (table_then : Known)
-    (table_is : table_then ≡ fence_after table name noted)
+    (table_is : table_then ≡ fence_after inside.table name noted)
     (marks_then : Levels)
-    (marks_are : marks_then ≡ (sends (sealed_of own) marks (fence_dues table name noted)).marks) where
+    (marks_are : marks_then ≡ (sends_in inside (fence_dues inside.table name noted)).marks) where
   abbrev begins : Server
-  begins = server_of table id board own calls held marks
+  begins = server_in inside
 
-  its_act : ChangesFence begins a f change reply (begin calls)
+  its_act : ChangesFence begins a f change reply (begin inside.calls)
   its_act = subst (λ (x : Server). ChangesFence x a f change reply (begin x.holding.calls)) (sym view) act
 
   abbrev left : NodeState
@@ -118,39 +108,40 @@ module _
 
   leaves : settled begins.jobs begins.id (does begins.jobs begins.id begins.holding a).left ≡ left
   leaves =
-      let g = with_change begins.holding f change (begin calls) in
+      let g = with_change begins.holding f change (begin inside.calls) in
       ap (λ (d : Done). settled begins.jobs begins.id d.left) its_act.done
       ∙ settled_names begins.jobs begins.id f begins.holding g kept.node.server.settled its_act.differs
-      ∙ ap (with_calls g) (sym (are g (λ i. placed_by table.fences (sym named i) (sym same i)) refl refl ∙ (λ i. mapped (settle_where table.jobs id g (is_in (named i))) (begin calls))))
+      ∙ ap (with_calls g) (sym (are g (λ i. placed_by inside.table.fences (sym named i) (sym same i)) refl refl
+      ∙ (λ i. mapped (settle_where inside.table.jobs inside.id g (is_in (named i))) (begin inside.calls))))
 
   abbrev dues : List ToSend
-  dues = fence_dues table f change
+  dues = fence_dues inside.table f change
 
   owes : due_by begins.jobs begins.id begins.holding a left ≡ dues
   owes =
       its_act.owes left refl
-      ∙ sym (news_alike table.jobs id table.fences (placed_by table.fences f change) f)
-      ∙ ap (λ (n : ℕ). flat_map (announcing_by table.jobs n) (news table.jobs n table.fences (placed_by table.fences f change) f)) (sym kept.same)
+      ∙ sym (news_alike inside.table.jobs inside.id inside.table.fences (placed_by inside.table.fences f change) f)
+      ∙ ap (λ (n : ℕ). flat_map (announcing_by inside.table.jobs n) (news inside.table.jobs n inside.table.fences (placed_by inside.table.fences f change) f)) (sym kept.same)
 
-  its_done : server_of table_then id board own ended held marks_then ≡ after s a
+  its_done : server_with inside table_then ended marks_then ≡ after s a
   its_done =
-      (λ i. server_of (table_is i) id board own ended held (marks_are i))
-      ∙ (λ i. server_of (fence_after table (named i) (same i)) id board own ended held (sends (sealed_of own) (sym (act.asked marks) i) (fence_dues table (named i) (same i))).marks)
+      (λ i. server_with inside (table_is i) ended (marks_are i))
+      ∙ (λ i. server_with inside (fence_after inside.table (named i) (same i)) ended (sends (sealed_of inside.own) (sym (act.asked inside.marks) i) (fence_dues inside.table (named i) (same i))).marks)
       ∙ sym (accepted_after begins a its_act.free loud left leaves dues owes)
       ∙ ap (λ (x : Server). after x a) view
 
-  pub fence_steps : Steps s a reply table_then id held.anew (server_of table_then id board own ended held marks_then) (sends (sealed_of own) marks (fence_dues table name noted)).frames
+  pub fence_steps : Steps s a reply table_then inside.id inside.held.anew (server_with inside table_then ended marks_then) (sends_in inside (fence_dues inside.table name noted)).frames
   fence_steps = record {
     replied = ap (λ (x : Server). reply_to x a) (sym view) ∙ accepted_reply begins a its_act.free loud left leaves dues owes ∙ ap (λ (d : Done). d.reply) its_act.done;
     done = its_done;
-    sent = (λ i. (sends (sealed_of own) (sym (act.asked marks) i) (fence_dues table (named i) (same i))).frames)
+    sent = (λ i. (sends (sealed_of inside.own) (sym (act.asked inside.marks) i) (fence_dues inside.table (named i) (same i))).frames)
         ∙ sym (accepted_sent begins a its_act.free loud left leaves dues owes)
         ∙ ap (λ (x : Server). sent_by x a) view;
     kept = record {
       same = ap (λ (k : Known). k.node) table_is ∙ kept.same;
       told = ap (λ (k : Known). k.waiting) table_is;
       node = subst IsNode (sym its_done) (node_stays s a (subst IsNode view kept.node));
-      replies = still_open begins s view a (subst IsNode view kept.node) (server_of table_then id board own ended held marks_then) its_done refl held.anew held.anew refl kept.replies;
+      replies = still_open begins s view a (subst IsNode view kept.node) (server_with inside table_then ended marks_then) its_done refl inside.held.anew inside.held.anew refl kept.replies;
     };
   }
 
@@ -209,43 +200,30 @@ module _ (s : Server) where
     asked = λ marks. refl;
   }
 
-module _
-    (table : Known)
-    (id : ℕ)
-    (board : Board)
-    (own : LocalCommits)
-    (calls : Calls)
-    (held : Requests)
-    (marks : Levels)
-    (s : Server)
-    (view : server_of table id board own calls held marks ≡ s)
-    (kept : IsContent table id held.anew (server_of table id board own calls held marks))
-    (name : FenceName)
-    (ended : Calls)
-    (table_then : Known)
-    (marks_then : Levels) where
+module _ (inside : Inside) (s : Server) (view : server_in inside ≡ s) (kept : IsInside inside)
+    (name : FenceName) (ended : Calls) (table_then : Known) (marks_then : Levels) where
   abbrev ends : Server
-  ends = server_of table_then id board own ended held marks_then
+  ends = server_with inside table_then ended marks_then
 
   pub header_steps : (hd copy : Header) → name ≡ hd.name → copy ≡ hd → is_taken s.jobs s.id s.holding.table (frames.Header hd) ≡ true
-      → AreSettledIn name table.jobs id (placed_by table.fences name (changes.Told copy)) board.near board.far calls ended
-      → table_then ≡ fence_after table name (changes.Told copy) → marks_then ≡ (sends (sealed_of own) marks (fence_dues table name (changes.Told copy))).marks
-      → Steps s (Act.deliver (frames.Header hd)) Reply.taken table_then id held.anew ends (sends (sealed_of own) marks (fence_dues table name (changes.Told copy))).frames
+      → AreSettledIn name inside.table.jobs inside.id (placed_by inside.table.fences name (changes.Told copy)) inside.board.near inside.board.far inside.calls ended
+      → table_then ≡ fence_after inside.table name (changes.Told copy) → marks_then ≡ (sends_in inside (fence_dues inside.table name (changes.Told copy))).marks
+      → Steps s (Act.deliver (frames.Header hd)) Reply.taken table_then inside.id inside.held.anew ends (sends_in inside (fence_dues inside.table name (changes.Told copy))).frames
   header_steps hd copy named copied taken are table_is marks_are =
-      fence_steps table id board own calls held marks s view kept (Act.deliver (frames.Header hd)) hd.name (changes.Told hd) Reply.taken (λ m. m) (header_act s hd taken) name named (changes.Told copy)
+      fence_steps inside s view kept (Act.deliver (frames.Header hd)) hd.name (changes.Told hd) Reply.taken (λ m. m) (header_act s hd taken) name named (changes.Told copy)
       (ap (λ (x : Header). changes.Told x) copied) ended are table_then table_is marks_then marks_are
 
   pub ask_steps : (ask : FenceAsk) → name ≡ ask.name → is_taken s.jobs s.id s.holding.table (frames.FenceAsk ask) ≡ true
-      → option_map (header table.node name) (present table.jobs table.node table.fences name) ≡ None
-      → AreSettledIn name table.jobs id (placed_by table.fences name changes.Learned) board.near board.far calls ended
-      → table_then ≡ fence_after table name changes.Learned → marks_then ≡ (sends (sealed_of own) marks (fence_dues table name changes.Learned)).marks
-      → Steps s (Act.deliver (frames.FenceAsk ask)) Reply.taken table_then id held.anew ends (sends (sealed_of own) marks (fence_dues table name changes.Learned)).frames
+      → option_map (header inside.table.node name) (present inside.table.jobs inside.table.node inside.table.fences name) ≡ None
+      → AreSettledIn name inside.table.jobs inside.id (placed_by inside.table.fences name changes.Learned) inside.board.near inside.board.far inside.calls ended
+      → table_then ≡ fence_after inside.table name changes.Learned → marks_then ≡ (sends_in inside (fence_dues inside.table name changes.Learned)).marks
+      → Steps s (Act.deliver (frames.FenceAsk ask)) Reply.taken table_then inside.id inside.held.anew ends (sends_in inside (fence_dues inside.table name changes.Learned)).frames
   ask_steps ask named taken none are table_is marks_are =
       let not_there =
       ap (λ (x : Server). present x.jobs x.id x.holding.table ask.name) (sym view)
-      ∙ (λ i. present table.jobs (sym kept.same i) table.fences (sym named i))
-      ∙ none_mapped (header table.node name) (present table.jobs table.node table.fences name) none in
-      fence_steps table id board own calls held marks s view kept (Act.deliver (frames.FenceAsk ask)) ask.name changes.Learned Reply.taken (λ m. m) (ask_act s ask taken not_there) name named changes.Learned
+      ∙ (λ i. present inside.table.jobs (sym kept.same i) inside.table.fences (sym named i))
+      ∙ none_mapped (header inside.table.node name) (present inside.table.jobs inside.table.node inside.table.fences name) none in
+      fence_steps inside s view kept (Act.deliver (frames.FenceAsk ask)) ask.name changes.Learned Reply.taken (λ m. m) (ask_act s ask taken not_there) name named changes.Learned
       refl ended are table_then table_is marks_then marks_are
 
 -- ---- a request for a header that is there
@@ -254,38 +232,28 @@ some_mapped : {A B : Type 0} (f : A → B) (o : Option A) (y : B) → Some y ≡
 some_mapped f None y e = absurd cc
 some_mapped f (Some x) y e = (x, refl, cc)
 
-module _
-    (table : Known)
-    (id : ℕ)
-    (board : Board)
-    (own : LocalCommits)
-    (calls : Calls)
-    (held : Requests)
-    (marks : Levels)
-    (s : Server)
-    (view : server_of table id board own calls held marks ≡ s)
-    (kept : IsContent table id held.anew (server_of table id board own calls held marks))
+module _ (inside : Inside) (s : Server) (view : server_in inside ≡ s) (kept : IsInside inside)
     (ask : FenceAsk)
     (its : is_taken s.jobs s.id s.holding.table (frames.FenceAsk ask) ≡ true)
     (hd : Header)
-    (there : Some hd ≡ option_map (header table.node ask.name) (present table.jobs table.node table.fences ask.name))
+    (there : Some hd ≡ option_map (header inside.table.node ask.name) (present inside.table.jobs inside.table.node inside.table.fences ask.name))
     (marks_then : Levels)
-    (marks_are : marks_then ≡ (sends (sealed_of own) marks (telling_by hd ask.node)).marks) where
+    (marks_are : marks_then ≡ (sends_in inside (telling_by hd ask.node)).marks) where
   abbrev was : Server
-  was = server_of table id board own calls held marks
+  was = server_in inside
 
   abbrev asks : Act
   asks = Act.deliver (frames.FenceAsk ask)
 
-  its_header : (ls : List Local) × (present table.jobs id table.fences ask.name ≡ Some ls) × (hd ≡ header id ask.name ls)
-  its_header = some_mapped (header id ask.name) (present table.jobs id table.fences ask.name) hd
-      (there ∙ (λ i. option_map (header (kept.same i) ask.name) (present table.jobs (kept.same i) table.fences ask.name)))
+  its_header : (ls : List Local) × (present inside.table.jobs inside.id inside.table.fences ask.name ≡ Some ls) × (hd ≡ header inside.id ask.name ls)
+  its_header = some_mapped (header inside.id ask.name) (present inside.table.jobs inside.id inside.table.fences ask.name) hd
+      (there ∙ (λ i. option_map (header (kept.same i) ask.name) (present inside.table.jobs (kept.same i) inside.table.fences ask.name)))
 
   its_now : is_taken was.jobs was.id was.holding.table (frames.FenceAsk ask) ≡ true
   its_now = ap (λ (x : Server). is_taken x.jobs x.id x.holding.table (frames.FenceAsk ask)) view ∙ its
 
-  known : learned table.fences ask.name ≡ table.fences
-  known = learned_again table.fences ask.name kept.node.server.holds.two (present_named table.jobs id table.fences ask.name its_header.0 its_header.1)
+  known : learned inside.table.fences ask.name ≡ inside.table.fences
+  known = learned_again inside.table.fences ask.name kept.node.server.holds.two (present_named inside.table.jobs inside.id inside.table.fences ask.name its_header.0 its_header.1)
 
   does_nothing : does was.jobs was.id was.holding asks ≡ done_as Reply.taken was.holding
   unfolding receives
@@ -302,26 +270,29 @@ module _
   owes_it : due_by was.jobs was.id was.holding asks was.holding ≡ telling_by hd ask.node
   unfolding due_by due_by_frame
   owes_it =
-      ap (λ o. telling_of table.jobs id ask.node ask.name o (flat_map (announcing table.jobs id) (news table.jobs id table.fences table.fences ask.name))) its_header.1
-      ∙ sym (telling_alike table.jobs id (header id ask.name its_header.0) ask.node (present_lists table.jobs id table.fences ask.name its_header.0 its_header.1))
+      ap (λ o. telling_of inside.table.jobs inside.id ask.node ask.name o
+      (flat_map (announcing inside.table.jobs inside.id) (news inside.table.jobs inside.id inside.table.fences inside.table.fences ask.name))) its_header.1
+      ∙ sym (telling_alike inside.table.jobs inside.id (header inside.id ask.name its_header.0) ask.node
+      (present_lists inside.table.jobs inside.id inside.table.fences ask.name its_header.0 its_header.1))
       ∙ ap (λ (h : Header). telling_by h ask.node) (sym its_header.2)
 
   free_ask : first_of (cause was.jobs was.id was.holding asks) (tt {0}) ≡ Ok tt
   free_ask = deliver_free was.jobs was.id was.holding (frames.FenceAsk ask)
 
-  told_done : server_of table id board own calls held marks_then ≡ after was asks
+  told_done : server_with inside inside.table inside.calls marks_then ≡ after was asks
   unfolding marked_by_act
   told_done =
-      (λ i. server_of table id board own calls held (marks_are i))
+      (λ i. server_with inside inside.table inside.calls (marks_are i))
       ∙ sym (accepted_after was asks free_ask is_loud was.holding stays (telling_by hd ask.node) owes_it)
 
-  told_sent : (sends (sealed_of own) marks (telling_by hd ask.node)).frames ≡ sent_by was asks
+  told_sent : (sends_in inside (telling_by hd ask.node)).frames ≡ sent_by was asks
   unfolding marked_by_act
   told_sent = sym (accepted_sent was asks free_ask is_loud was.holding stays (telling_by hd ask.node) owes_it)
 
-  pub told_steps : Steps s asks Reply.taken table id held.anew (server_of table id board own calls held marks_then) (sends (sealed_of own) marks (telling_by hd ask.node)).frames
+  pub told_steps : Steps s asks Reply.taken inside.table inside.id inside.held.anew (server_with inside inside.table inside.calls marks_then) (sends_in inside (telling_by hd ask.node)).frames
   told_steps = subst
-      (λ (x : Server). Steps x asks Reply.taken table id held.anew (server_of table id board own calls held marks_then) (sends (sealed_of own) marks (telling_by hd ask.node)).frames) view (record {
+      (λ (x : Server). Steps x asks Reply.taken inside.table inside.id inside.held.anew (server_with inside inside.table inside.calls marks_then) (sends_in inside (telling_by hd ask.node)).frames)
+      view (record {
         replied = accepted_reply was asks free_ask is_loud was.holding stays (telling_by hd ask.node) owes_it ∙ ap (λ (d : Done). d.reply) does_nothing;
         done = told_done;
         sent = told_sent;

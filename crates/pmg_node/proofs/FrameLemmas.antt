@@ -3,6 +3,7 @@ use Rattle.std.proofs.Common.{◌≡◌, ◌<◌, ◌≤◌, arith, ℕ, nat_lt,
 use Rattle.std.proofs.lemmas.Bool.Decides.{nat_tests}
 use Rattle.pmg_value.specs.CheckOrder.{first_of}
 use Rattle.pmg_value.specs.declared.process.Proc.{Proc}
+use Rattle.pmg_commit.specs.Data.{Data, level_at}
 use Rattle.pmg_frame.specs.Fences.{CommitAsk}
 use Rattle.pmg_frame.specs.Refreshing.{RefreshAsk}
 use Rattle.pmg_frame.specs.declared.frame.Frame.{Frame}
@@ -14,7 +15,9 @@ use Rattle.pmg_node_model.specs.Acts.{Act, Done, Reply, done_as, holds_unless, c
 use Rattle.pmg_node_model.specs.Choosing.{Out, asked_marks, answering, replying, due_by, due_by_frame, marked_by_act, sends, chosen}
 use Rattle.pmg_node_model.specs.Holdings.{NodeState, sealer_of, holding_ask, settled}
 use Rattle.pmg_node_model.specs.Kept.{IsSettled}
+use Rattle.pmg_node_model.specs.declared.due.ToSend.{ToSend}
 use Rattle.pmg_node_model.specs.declared.sent.Sent.{Sent}
+use Rattle.pmg_node_parts.specs.Owns.{LocalCommits, sealed_of}
 use Rattle.pmg_node.specs.Servers.{Server, IsNode, after, reply_to, sent_by}
 use Rattle.pmg_node_model.proofs.KeptSettled.{settled_same}
 use Rattle.pmg_node.proofs.SilentLemmas.{act_free, sent_as, quiet_silent, after_is, sent_none}
@@ -47,13 +50,24 @@ with_marks marks s = record { jobs = s.jobs; id = s.id; holding = s.holding; mar
 abbrev pub waits_for : CommitAsk → Server → Server
 waits_for a s = record { jobs = s.jobs; id = s.id; holding = holding_ask s.holding a.node a.proc a.level; marks = s.marks }
 
--- what goes out where a node asks for commits
-abbrev pub range_out : CommitAsk → Server → Out
-range_out a s = sends (sealer_of s.holding) (asked_marks s.marks (Some a)) (answering s.holding a.node a.proc a.level)
+-- whether the node takes the frame
+abbrev pub takes_frame : Frame → Server → Bool
+takes_frame frame s = is_taken s.jobs s.id s.holding.table frame
 
--- and where it asks anew
-abbrev pub refresh_out : RefreshAsk → Server → Out
-refresh_out a s = sends (sealer_of s.holding) (asked_marks s.marks (Some a.ask)) (replying s.holding a)
+-- what it owes by the frame then
+abbrev pub dues_after : Frame → Server → List ToSend
+dues_after frame s = due_by s.jobs s.id s.holding (Act.deliver frame) (after s (Act.deliver frame)).holding
+
+-- how a level that was read stands to what the process sealed
+pub reaches_as : (own : LocalCommits) (p q : Proc) (read level sealed : ℕ) (b : Bool) → read ≡ level → p ≡ q → sealed ≡ (sealed_of own p).level → nat_lt read sealed ≡ b
+    → nat_lt level (sealed_of own q).level ≡ b
+reaches_as own p q read level sealed b same its top is = (λ i. nat_lt (sym same i) (sealed_of own (sym its i)).level) ∙ ap (nat_lt read) (sym top) ∙ is
+
+-- and whether more commits of the process come to be known, by levels that were read
+pub rises_as : (far grown was then : Data) (p q : Proc) (low high : ℕ) (b : Bool) → was ≡ far → then ≡ grown → p ≡ q → low ≡ level_at was p → high ≡ level_at then p → nat_lt low high ≡ b
+    → nat_lt (level_at far q) (level_at grown q) ≡ b
+rises_as far grown was then p q low high b fars growns its lows highs is =
+    (λ i. nat_lt (level_at (sym fars i) (sym its i)) (level_at (sym growns i) (sym its i))) ∙ (λ i. nat_lt (sym lows i) (sym highs i)) ∙ is
 
 module _ (jobs : Jobs) (id : ℕ) (h : NodeState) where
   pub deliver_free : (frame : Frame) → first_of (cause jobs id h (Act.deliver frame)) (tt {0}) ≡ Ok tt
@@ -120,11 +134,42 @@ module _ (jobs : Jobs) (id : ℕ) (h : NodeState) where
         sent_as jobs id h (Act.deliver (frames.DirectAsk a)) marks (done_as Reply.taken (holds_unless (nat_lt a.level (sealer_of h a.proc).level) h a.node a.proc a.level)) (direct_is a e) refl
         ∙ same_out (nat_lt a.level (sealer_of h a.proc).level) (asked_marks marks (Some a)) a.node a.proc a.level
 
--- after a frame that is taken, and changes nothing of what is held, the marks are those of what goes out
-pub marked_after : (t s : Server) → t ≡ s → (frame : Frame) (marks : Levels) (out : Out) → marks ≡ out.marks → acts s.jobs s.id s.holding (Act.deliver frame) ≡ done_as Reply.taken s.holding
-    → chosen s.jobs s.id s.holding s.marks (Act.deliver frame) ≡ out → with_marks marks t ≡ after s (Act.deliver frame)
-marked_after t s view frame marks out same is goes =
-    ap (with_marks marks) view ∙ ap (λ (m : Levels). with_marks m s) same ∙ sym (λ i. record { jobs = s.jobs; id = s.id; holding = (is i).left; marks = (goes i).marks })
+-- What comes of a frame that is taken: the reply, what the node is then, and what is there after what was.
+pub record Takes (s : Server) (frame : Frame) (then : Server) (old new : List Sent) : Type 0 where
+  pub reply : reply_to s (Act.deliver frame) ≡ Reply.taken
+  pub ok : then ≡ after s (Act.deliver frame)
+  pub sent : new ≡ old ++ sent_by s (Act.deliver frame)
+
+-- Of one by which a node asks for commits, where this is what is left, and this what is owed.
+module _ (t s : Server) (view : t ≡ s) (frame : Frame) (ask : CommitAsk) (left : Server → NodeState) (owes : Server → List ToSend)
+    (is : acts s.jobs s.id s.holding (Act.deliver frame) ≡ done_as Reply.taken (left s))
+    (goes : chosen s.jobs s.id s.holding s.marks (Act.deliver frame) ≡ sends (sealer_of s.holding) (asked_marks s.marks (Some ask)) (owes s)) where
+  abbrev out_for : Server → List ToSend → Out
+  out_for x dues = sends (sealer_of x.holding) (asked_marks x.marks (Some ask)) dues
+
+  pub asked_steps : (dues : List ToSend) (marks : Levels) (old new : List Sent) → dues ≡ owes t → marks ≡ (out_for t dues).marks → new ≡ old ++ (out_for t dues).frames
+      → Takes s frame (record { jobs = t.jobs; id = t.id; holding = left t; marks = marks }) old new
+  asked_steps dues marks old new due marks_are put = record {
+    reply = ap (λ (d : Done). d.reply) is;
+    ok = (λ i. record { jobs = t.jobs; id = t.id; holding = left t; marks = (marks_are ∙ ap (λ (ds : List ToSend). (out_for t ds).marks) due) i })
+        ∙ ap (λ (x : Server). record { jobs = x.jobs; id = x.id; holding = left x; marks = (out_for x (owes x)).marks }) view
+        ∙ sym (λ i. record { jobs = s.jobs; id = s.id; holding = (is i).left; marks = (goes i).marks });
+    sent = put
+        ∙ ap (λ (ds : List ToSend). old ++ (out_for t ds).frames) due
+        ∙ ap (λ (x : Server). old ++ (out_for x (owes x)).frames) view
+        ∙ ap (λ (o : Out). old ++ o.frames) (sym goes);
+  }
+
+-- a request for commits, which waits for the next one where none were made
+pub direct_steps : (t s : Server) → t ≡ s → IsNode s → (ask : CommitAsk) → is_taken s.jobs s.id s.holding.table (frames.DirectAsk ask) ≡ true → (b : Bool)
+    → nat_lt ask.level (sealer_of t.holding ask.proc).level ≡ b → (dues : List ToSend) (marks : Levels) (old new : List Sent) → dues ≡ answering t.holding ask.node ask.proc ask.level
+    → marks ≡ (sends (sealer_of t.holding) (asked_marks t.marks (Some ask)) dues).marks → new ≡ old ++ (sends (sealer_of t.holding) (asked_marks t.marks (Some ask)) dues).frames
+    → Takes s (frames.DirectAsk ask) (record { jobs = t.jobs; id = t.id; holding = holds_unless b t.holding ask.node ask.proc ask.level; marks = marks }) old new
+direct_steps t s view kept ask taken b level =
+    let over = ap (λ (x : Server). nat_lt ask.level (sealer_of x.holding ask.proc).level) (sym view) ∙ level in
+    let held = ap (λ (b : Bool). done_as Reply.taken (holds_unless b s.holding ask.node ask.proc ask.level)) over in
+    asked_steps t s view (frames.DirectAsk ask) ask (λ x. holds_unless b x.holding ask.node ask.proc ask.level) (λ x. answering x.holding ask.node ask.proc ask.level)
+    (direct_is s.jobs s.id s.holding kept.server.settled ask taken ∙ held) (direct_sent s.jobs s.id s.holding kept.server.settled s.marks ask taken)
 
 -- a frame that is not taken changes nothing, and nothing goes out after what is there
 pub record Ignores (s : Server) (frame : Frame) (out : List Sent) : Type 0 where

@@ -1,8 +1,10 @@
 pub mod JudgeLemmas
 pub mod SilentLemmas
+pub mod CallEndLemmas
 pub mod ActLemmas
 pub mod JoiningLemmas
 pub mod ReplyLemmas
+pub mod NodeInside
 pub mod NodeKept
 pub mod OpenLemmas
 pub mod FrameLemmas
@@ -22,7 +24,9 @@ pub mod SettingLemmas
 pub mod DefineLemmas
 pub mod RefusalLemmas
 pub mod EndLemmas
+pub mod SealingLemmas
 pub mod OpeningLemmas
 pub mod AskLemmas
+pub mod ToldLemmas
 pub mod NudgeLemmas
 pub mod MemberLemmas

@@ -25,6 +25,12 @@ still_there h by z p false there =
     ap is_some (finite.get-insert procs_total h.sealers by z p)
     ∙ elim (eq_by_cmp proc_cmp p by) as (λ b. is_some (cond b (Some z) (finite.get h.sealers p)) ≡ true) [ true ↦ refl | false ↦ there ]
 
+-- a frame is taken or ignored
+pub delivered : (jobs : Jobs) (id : ℕ) (h : NodeState) (P : NodeState → Type 0) (frame : Frame) (b : Bool) → P (receives jobs id h frame) → P h
+    → P (if b then done_as Reply.taken (receives jobs id h frame) else done_as Reply.ignored h).left
+delivered jobs id h P frame true taken ignored = taken
+delivered jobs id h P frame false taken ignored = ignored
+
 module _ (jobs : Jobs) (id : ℕ) (h : NodeState) (has : HasSealers jobs id h) where
   abbrev pub Has : NodeState → Type 0
   Has g = HasSealers jobs id g
@@ -57,15 +63,11 @@ module _ (jobs : Jobs) (id : ℕ) (h : NodeState) (has : HasSealers jobs id h) w
   receive_has (frames.RefreshAsk a) = has
   receive_has (frames.RefreshReply r) = has
 
-  deliver_has : (frame : Frame) (b : Bool) → Has (if b then done_as Reply.taken (receives jobs id h frame) else done_as Reply.ignored h).left
-  deliver_has frame true = receive_has frame
-  deliver_has frame false = has
-
   do_has : (a : Act) → Has (does jobs id h a).left
   unfolding does
   do_has (Act.request r) = serve_has r
   do_has (Act.commit p b) = sealing_has p (sealed_with (sealer_of h p) b)
-  do_has (Act.deliver frame) = deliver_has frame (is_taken jobs id h.table frame)
+  do_has (Act.deliver frame) = delivered jobs id h Has frame (is_taken jobs id h.table frame) (receive_has frame) has
 
   pub sealers_stay : (a : Act) → Has (acts jobs id h a).left
   sealers_stay a = act_cases jobs id h a (λ d. Has d.left) (λ free. do_has a) (λ e. has)

@@ -1,6 +1,6 @@
 -- Gets that wait for replies, after an act.
 use Rattle.std.proofs.Common.{◌≡◌, ◌⊎◌, ◌≤◌, ℕ, suc, arith, Bool, true, false, Some, inl, inr, sym, ap, ◌∙◌}
-use Rattle.std.specs.Prelude.{if◌then◌else◌, nat_lt}
+use Rattle.std.specs.Prelude.{nat_lt}
 use Rattle.pmg_value.specs.declared.process.Proc.{Proc}
 use Rattle.pmg_value.specs.Signatures.{FenceName}
 use Rattle.pmg_frame.specs.Refreshing.{told_by}
@@ -11,14 +11,14 @@ use Rattle.pmg_get.specs.declared.view.Mode.TheVariants as modes
 use Rattle.pmg_jobinfo.specs.Jobs.{Jobs}
 use Rattle.pmg_fence.specs.Changes.{next_name}
 use Rattle.pmg_dmodex.specs.Refreshes.{Refreshes, asker_at}
-use Rattle.pmg_node_model.specs.Acts.{Act, Request, Reply, done_as, waits_as, signature_of, serves, does, is_taken, holds_unless, receives, acts}
+use Rattle.pmg_node_model.specs.Acts.{Act, Request, waits_as, signature_of, serves, does, is_taken, holds_unless, receives, acts}
 use Rattle.pmg_node_model.specs.Holdings.{Get, CallState, NodeState, sealer_of, call_of, with_far, joined, uncalled, answer_in, settled}
 use Rattle.pmg_node_model.proofs.CallEnds.{ends_left, asks_left}
 use Rattle.pmg_node_model.proofs.KeptBasics.{act_cases, put_cases, removed_some}
 use Rattle.pmg_node_model.proofs.KeptChanges.{settled_some, settle_refreshing, replied_some, reply_refreshing}
 use Rattle.pmg_node.specs.Content.{AreOpen}
 use Rattle.pmg_node.specs.Servers.{Server, IsNode, after}
-use Rattle.pmg_node.proofs.NodeKept.{node_stays}
+use Rattle.pmg_node.proofs.NodeKept.{delivered, node_stays}
 
 module _ (jobs : Jobs) (id : ℕ) (h : NodeState) where
   -- each get that waits for a reply there did so before, or its request is the next one
@@ -77,15 +77,11 @@ module _ (jobs : Jobs) (id : ℕ) (h : NodeState) where
       let was = replied_some jobs id g r.request r.told.proc p (CallState.refreshing get number) e in
       inl (was.1 ∙ ap Some (reply_refreshing jobs id g r.request r.told.proc was.0 get number was.2))
 
-  delivers_old : (frame : Frame) (b : Bool) → AreOld (if b then done_as Reply.taken (receives jobs id h frame) else done_as Reply.ignored h).left
-  delivers_old frame true = receives_old frame
-  delivers_old frame false = same_old
-
   does_old : (a : Act) → AreOld (does jobs id h a).left
   unfolding does
   does_old (Act.request r) = serves_old r
   does_old (Act.commit by b) = λ p get number e. inl e
-  does_old (Act.deliver frame) = delivers_old frame (is_taken jobs id h.table frame)
+  does_old (Act.deliver frame) = delivered jobs id h AreOld frame (is_taken jobs id h.table frame) (receives_old frame) same_old
 
   acts_old : (a : Act) → AreOld (acts jobs id h a).left
   acts_old a = act_cases jobs id h a (λ d. AreOld d.left) (λ free. settled_old (does jobs id h a).left (does_old a)) (λ e. same_old)

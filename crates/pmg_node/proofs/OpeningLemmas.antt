@@ -8,14 +8,23 @@ use Rattle.pmg_value.specs.Process.{proc_cmp}
 use Rattle.pmg_value.specs.declared.process.Proc.{Proc}
 use Rattle.pmg_value.proofs.ProcessOrder.{procs_total}
 use Rattle.pmg_value.proofs.RowLemmas.{at_key, get-map_of}
-use Rattle.pmg_commit.specs.Sealed.{fresh}
+use Rattle.pmg_commit.specs.Sealed.{Sealed, fresh}
+use Rattle.pmg_pset.specs.Sets.{host}
 use Rattle.pmg_jobinfo.specs.Jobs.{Jobs, AreJobs, is_node}
 use Rattle.pmg_jobinfo.specs.Procs.{procs_at}
 use Rattle.pmg_jobinfo.proofs.ListedLemmas.{own_are_listed}
+use Rattle.pmg_dmodex.specs.Levels.{Levels}
 use Rattle.pmg_dmodex.specs.Refreshes.{Refreshes}
+use Rattle.pmg_dmodex.specs.Requests.{Requests, no_requests}
+use Rattle.pmg_fence.specs.Codes.{Known}
+use Rattle.pmg_fence.specs.Tables.{no_fences}
+use Rattle.pmg_store.specs.declared.board.Board.{Board}
 use Rattle.pmg_node_parts.specs.Codes.{Calls}
+use Rattle.pmg_node_parts.specs.Marking.{new_marks}
+use Rattle.pmg_node_parts.specs.Sealers.{AllSealed, with_fresh}
+use Rattle.pmg_node_parts.proofs.SealerLemmas.{fresh_is}
 use Rattle.pmg_node_model.specs.Holdings.{CallState, new_holding}
-use Rattle.pmg_node.specs.Content.{AreOpen}
+use Rattle.pmg_node.specs.Content.{AreOpen, server_of}
 use Rattle.pmg_node.specs.Opening.{new_server}
 use Rattle.pmg_node.specs.Servers.{HasSealers, IsNode}
 use Rattle.pmg_node_model.proofs.KeptActs.{new_is_server}
@@ -38,6 +47,28 @@ new_has jobs id p own =
 
 pub new_is_node : (jobs : Jobs) (id : ℕ) → AreJobs jobs → is_node jobs id ≡ true → IsNode (new_server jobs id)
 new_is_node jobs id are is = record { jobs = are; node = is; server = new_is_server jobs id; sealers = new_has jobs id }
+
+-- and these parts make it
+pub new_parts : (jobs : Jobs) (id : ℕ) (table : Known) (board : Board) (sealers : AllSealed) (sets : Sealed) (calls : Calls) (held : Requests) (marks : Levels)
+    → table.jobs ≡ jobs → table.fences ≡ no_fences → board.near ≡ finite.empty → board.far ≡ finite.empty → sealers ≡ with_fresh (procs_at jobs id) finite.empty → sets ≡ fresh host
+    → calls ≡ finite.empty → held ≡ no_requests → marks ≡ new_marks jobs id → server_of table id board (record { sealers = sealers; sets = sets }) calls held marks ≡ new_server jobs id
+new_parts jobs id table board sealers sets calls held marks registry fences near far places fresh_sets none waits zero =
+    let all = places ∙ fresh_is (procs_at jobs id) in
+    λ i. record {
+      jobs = registry i;
+      id = id;
+      holding = record {
+        near = near i;
+        far = far i;
+        sealers = all i;
+        sets = fresh_sets i;
+        table = fences i;
+        calls = none i;
+        held = (waits i).held;
+        requests = (waits i).anew.last;
+      };
+      marks = zero i;
+    }
 
 -- nobody waits for a reply
 pub none_open : (calls : Calls) (anew : Refreshes) → calls ≡ finite.empty → AreOpen calls anew

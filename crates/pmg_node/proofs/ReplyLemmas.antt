@@ -28,7 +28,7 @@ use Rattle.pmg_node.proofs.SilentLemmas.{then_answer, acts_by}
 
 module _ (s : Server) (a : Act) where
   -- a refusal that is due is told
-  refuses_due : (e : Refusal) → (reply_to s a ≡ Reply.refused refusals.NoMemory → ⊥) → reply_to s a ≡ Reply.refused e → RefusesAct s a e
+  pub refuses_due : (e : Refusal) → (reply_to s a ≡ Reply.refused refusals.NoMemory → ⊥) → reply_to s a ≡ Reply.refused e → RefusesAct s a e
   refuses_due refusals.NoMemory never is = absurd (never is)
   refuses_due refusals.BadParam never is = is
   refuses_due refusals.NotFound never is = is
@@ -89,11 +89,16 @@ module _ {X : Type 0} (view : X → Reply) (gives : X → Joins) where
   same_told (Err e) (Ok acted) s a same is = absurd same
 
   -- and where it is NoMemory, that was the answer
-  pub entry_short : (r : Result X Refusal) (q : Result Acted Refusal) → SameAnswer view gives r q → q ≡ Err refusals.NoMemory → r ≡ Err refusals.NoMemory
+  entry_short : (r : Result X Refusal) (q : Result Acted Refusal) → SameAnswer view gives r q → q ≡ Err refusals.NoMemory → r ≡ Err refusals.NoMemory
   entry_short (Ok x) (Ok acted) same is = absurd cc
   entry_short (Err e) (Err f) same is = ap Err same ∙ cc
   entry_short (Ok x) (Err f) same is = absurd same
   entry_short (Err e) (Ok acted) same is = absurd same
+
+  -- so it never is, where that is not due
+  pub never_told : (r : Result X Refusal) (q : Result Acted Refusal) (s : Server) (a : Act) → SameAnswer view gives r q → reply_in view r ≡ reply_to s a
+      → (reply_to s a ≡ Reply.refused refusals.NoMemory → ⊥) → q ≡ Err refusals.NoMemory → ⊥
+  never_told r q s a same is never short = never (sym is ∙ ap (reply_in view) (entry_short r q same short))
 
 -- ---- no cause is one of NoMemory
 
@@ -107,11 +112,11 @@ nothing = Ok tt
 none_short : nothing ≡ Err refusals.NoMemory → ⊥
 none_short is = cc
 
-never_short : (has_cause : Refusal → Bool) → first_of has_cause (tt {0}) ≡ Err refusals.NoMemory → ⊥
+pub never_short : (has_cause : Refusal → Bool) → first_of has_cause (tt {0}) ≡ Err refusals.NoMemory → ⊥
 never_short has_cause =
     not_short refusals.Closed (λ is. cc) (has_cause refusals.Closed) _ (not_short refusals.BadParam (λ is. cc) (has_cause refusals.BadParam) _ (not_short refusals.UnknownNamespace (λ is. cc) (has_cause refusals.UnknownNamespace) _ (not_short refusals.NotMine (λ is. cc) (has_cause refusals.NotMine) _ (not_short refusals.Terminated (λ is. cc) (has_cause refusals.Terminated) _ (not_short refusals.Busy (λ is. cc) (has_cause refusals.Busy) _ (not_short refusals.NotAParticipant (λ is. cc) (has_cause refusals.NotAParticipant) _ (not_short refusals.Exists (λ is. cc) (has_cause refusals.Exists) _ (not_short refusals.NotFound (λ is. cc) (has_cause refusals.NotFound) _ (not_short refusals.OutsideScope (λ is. cc) (has_cause refusals.OutsideScope) _ (not_short refusals.TooMany (λ is. cc) (has_cause refusals.TooMany) _ (none_short)))))))))))
 
-refused_apart : (e f : Refusal) → Reply.refused e ≡ Reply.refused f → e ≡ f
+pub refused_apart : (e f : Refusal) → Reply.refused e ≡ Reply.refused f → e ≡ f
 refused_apart e f is = cc
 
 -- a reply that is refused as NoMemory, where what is done replies nothing like it
@@ -205,6 +210,12 @@ pub sets_joined : (old new : NodeState) (to : Reach) (one : Committed → Contri
     → IfOk r (λ c. one c ≡ piece_at (sealer_of new host) (sealer_of old host).level to)
 sets_joined old new to one (Ok c) is = is ∙ (λ i. piece_at (sym (host_sets new) i) (sym (host_sets old) i).level to)
 sets_joined old new to one (Err e) is = tt
+
+-- and the other way round
+pub sets_given : (old new : NodeState) (to : Reach) (one : Committed → Contribution) (r : Result Committed Refusal) → IfOk r (λ c. one c ≡ piece_at (sealer_of new host) (sealer_of old host).level to)
+    → IfOk r (λ c. one c ≡ piece_at new.sets old.sets.level to)
+sets_given old new to one (Ok c) is = is ∙ (λ i. piece_at (host_sets new i) (host_sets old i).level to)
+sets_given old new to one (Err e) is = tt
 
 -- a process that is told its end sealed it
 module _ (s : Server) (p : Proc) where

@@ -16,10 +16,9 @@ use Rattle.pmg_fence.proofs.IndexLemmas.{keys_rise}
 use Rattle.pmg_dmodex.specs.Levels.{Levels}
 use Rattle.pmg_get.specs.declared.view.Mode.TheVariants as modes
 use Rattle.pmg_node_model.specs.Acts.{Act, Reply, Done, done_as, is_taken, receives, acts}
-use Rattle.pmg_node_model.specs.Choosing.{Out, asking_home, asking_again, is_parked_on, due_by, due_by_frame, marked_by_act, sends, chosen}
+use Rattle.pmg_node_model.specs.Choosing.{asking_home, asking_again, is_parked_on, due_by, due_by_frame, marked_by_act, sends}
 use Rattle.pmg_node_model.specs.Holdings.{CallState, NodeState, sealer_of, joined, with_far, with_calls, answer_in, mapped, settled, is_replied, answer_reply, with_reply}
 use Rattle.pmg_node_model.specs.Kept.{IsSettled, DiffersAt, is_about, settle_where}
-use Rattle.pmg_node_model.specs.Sending.{is_quiet}
 use Rattle.pmg_node_model.specs.declared.due.ToSend.{ToSend}
 use Rattle.pmg_node_model.proofs.KeptAgain.{settled_on, piece_differs}
 use Rattle.pmg_node_model.proofs.KeptChanges.{replied_some, reply_in_fence, reply_parked}
@@ -27,10 +26,9 @@ use Rattle.pmg_node_parts.specs.Answering.{AreAnswersThen, AreAskedAgain}
 use Rattle.pmg_node_parts.specs.Calls.{all_instead}
 use Rattle.pmg_node_parts.specs.Codes.{Calls}
 use Rattle.pmg_node_parts.specs.declared.call.Completion.{Completion}
-use Rattle.pmg_node.specs.Servers.{Server, reply_to, sent_by, after}
+use Rattle.pmg_node.specs.Servers.{Server, after}
 use Rattle.pmg_node.proofs.FrameLemmas.{deliver_by}
-use Rattle.pmg_node.proofs.PieceLemmas.{mapped_calls}
-use Rattle.pmg_node.proofs.SilentLemmas.{sent_as}
+use Rattle.pmg_node.proofs.PieceLemmas.{Tells, tells, mapped_calls}
 
 -- ---- what is told
 
@@ -128,26 +126,9 @@ module _ (s : Server) (r : RefreshReply) (taken : is_taken s.jobs s.id s.holding
   unfolding receives
   is_done = deliver_by s.jobs s.id s.holding (frames.RefreshReply r) true taken
 
-  pub reply_reply : reply_to s a ≡ Reply.taken
-  reply_reply = ap (λ (d : Done). d.reply) is_done
-
-  left_is : (after s a).holding ≡ with_calls grown (after s a).holding.calls
-  left_is =
-      let e : (after s a).holding ≡ settled s.jobs s.id answered = ap (λ (d : Done). d.left) is_done in e ∙ ap (λ (h : NodeState). with_calls grown h.calls) (sym e)
-
-  -- what it sends, by what is due then
-  reply_out : (dues : List ToSend) → dues ≡ due_by s.jobs s.id s.holding a (after s a).holding → chosen s.jobs s.id s.holding s.marks a ≡ sends (sealer_of s.holding) s.marks dues
-  unfolding marked_by_act
-  reply_out dues due =
-      sent_as s.jobs s.id s.holding a s.marks (acts s.jobs s.id s.holding a) refl (ap (λ (d : Done). is_quiet d.reply) is_done)
-      ∙ (λ i. sends (sealer_of (left_is i)) s.marks (sym due i))
-
-  pub reply_sent : (dues : List ToSend) → dues ≡ due_by s.jobs s.id s.holding a (after s a).holding → sent_by s a ≡ (sends (sealer_of s.holding) s.marks dues).frames
-  reply_sent dues due = ap (λ (o : Out). o.frames) (reply_out dues due)
-
-  pub reply_after : (dues : List ToSend) → dues ≡ due_by s.jobs s.id s.holding a (after s a).holding
-      → after s a ≡ with_told (told_by r) (after s a).holding.calls (sends (sealer_of s.holding) s.marks dues).marks s
-  reply_after dues due = λ i. record { jobs = s.jobs; id = s.id; holding = left_is i; marks = (reply_out dues due i).marks }
+  pub reply_tells : Tells s (frames.RefreshReply r) answered q
+  unfolding marked_by_act due_by due_by_frame
+  reply_tells = tells s (frames.RefreshReply r) answered q is_done refl (λ h. refl)
 
   module _ (kept : IsSettled s.jobs s.id s.holding) where
     -- the node, where the get that waits for the reply is answered by what is known before
@@ -174,25 +155,14 @@ module _ (s : Server) (r : RefreshReply) (taken : is_taken s.jobs s.id s.holding
     pub reply_asks : (p : Proc) → p ≡ q → (dues : List ToSend)
         → AreAskedAgain s.jobs s.id p s.holding.table s.holding.near (joined s.holding.far (told_by r)) s.holding.calls dues
         → nat_lt (level_at s.holding.far q) (level_at (joined s.holding.far (told_by r)) q) ≡ true → dues ≡ due_by s.jobs s.id s.holding a (after s a).holding
-    unfolding due_by due_by_frame
     reply_asks p same dues are more =
         let settled_calls = mapped (settle_where s.jobs s.id grown (is_about p)) s.holding.calls in
         let soon = with_calls grown settled_calls in
-        let left = with_calls grown (after s a).holding.calls in
         are soon refl refl refl (mapped_calls s.jobs s.id grown settled_calls (is_about p) s.holding.calls)
         ∙ ap (λ (x : Proc). asking_again s.jobs s.id (with_calls grown (mapped (settle_where s.jobs s.id grown (is_about x)) s.holding.calls)) x) same
         ∙ sym (asked_alike s.jobs s.id grown r.request q (asking_home s.jobs s.id grown q) s.holding.calls)
         ∙ ap (λ (m : Calls). flat_map (λ (e : Proc × CallState). if is_parked_on q e.1 then asking_home s.jobs s.id grown q else []) (finite.entries m)) (sym reply_calls)
-        ∙ ap (λ (b : Bool). cond b (asking_again s.jobs s.id left q) []) (sym more)
-        ∙ ap (λ (h : NodeState). due_by s.jobs s.id s.holding a h) (sym left_is)
-
-  -- and where none do
-  pub reply_quiet : nat_lt (level_at s.holding.far q) (level_at (joined s.holding.far (told_by r)) q) ≡ false → [] ≡ due_by s.jobs s.id s.holding a (after s a).holding
-  unfolding due_by due_by_frame
-  reply_quiet none =
-      let left = with_calls grown (after s a).holding.calls in
-      ap (λ (b : Bool). cond b (asking_again s.jobs s.id left q) []) (sym none)
-      ∙ ap (λ (h : NodeState). due_by s.jobs s.id s.holding a h) (sym left_is)
+        ∙ reply_tells.due true more
 
 -- the node once the reply is taken, where its parts are so
 pub reply_moved : (s t : Server) (r : RefreshReply) → t ≡ s → is_taken s.jobs s.id s.holding.table (frames.RefreshReply r) ≡ true
@@ -225,4 +195,4 @@ reply_moved s t r same taken near far calls held marks requests answers dues nea
     })
     ∙ ap (λ (x : Server). with_told (told_by r) (all_instead x.holding.calls answers) (sends (sealer_of x.holding) x.marks dues).marks x) same
     ∙ ap (λ (m : Calls). with_told (told_by r) m (sends (sealer_of s.holding) s.marks dues).marks s) whole
-    ∙ sym (reply_after s r taken dues due)
+    ∙ sym ((reply_tells s r taken).moved dues due)

@@ -5,7 +5,7 @@ use Rattle.pmg_value.specs.declared.process.Proc.{Proc}
 use Rattle.pmg_value.specs.declared.refusal.Refusal.{Refusal}
 use Rattle.pmg_jobinfo.specs.Jobs.{Jobs}
 use Rattle.pmg_dmodex.specs.Levels.{Levels}
-use Rattle.pmg_node_model.specs.Acts.{Act, Request, Reply, Done, done_as, reply_of, cause, request_cause, caller_cause, serves, does, leaves, takes, over, acts}
+use Rattle.pmg_node_model.specs.Acts.{Act, Request, Reply, Done, done_as, cause, request_cause, caller_cause, serves, does, leaves, takes, over, acts}
 use Rattle.pmg_node_model.specs.Choosing.{Out, due_by, due_by_request, marked_by_act, sends, chosen}
 use Rattle.pmg_node_model.specs.Holdings.{CallState, NodeState, sealer_of, call_of, uncalled, settled}
 use Rattle.pmg_node_model.specs.Kept.{IsSettled}
@@ -88,33 +88,43 @@ uncalled_settled jobs id h p is = record {
   gets = λ q get e. is.gets q get (removed_some h.calls p q (CallState.parked get) e);
 }
 
--- ---- a process leaves
+-- an act that is free, and leaves what is settled
+done_settled : (jobs : Jobs) (id : ℕ) (h : NodeState) (a : Act) (d : Done) → first_of (cause jobs id h a) (tt {0}) ≡ Ok tt → does jobs id h a ≡ d → settled jobs id d.left ≡ d.left → acts jobs id h a ≡ d
+done_settled jobs id h a d free is stays = act_free jobs id h a free ∙ (λ i. done_as (is i).reply (settled jobs id (is i).left)) ∙ ap (done_as d.reply) stays
+
+-- ---- a process leaves its fence, or takes its answer
 
 -- it is in no call any more
 abbrev pub without_call : Server → Proc → Server
 without_call s p = record { jobs = s.jobs; id = s.id; holding = uncalled s.holding p; marks = s.marks }
 
 module _ (jobs : Jobs) (id : ℕ) (h : NodeState) (p : Proc) where
+  -- it is judged as each caller is
   pub leave_refused : (e : Refusal) → first_of (caller_cause jobs id h p) (tt {0}) ≡ Err e → first_of (cause jobs id h (Act.request (Request.leave p))) (tt {0}) ≡ Err e
   unfolding cause request_cause
   leave_refused e is = is
 
-  pub leave_free : first_of (caller_cause jobs id h p) (tt {0}) ≡ Ok tt → first_of (cause jobs id h (Act.request (Request.leave p))) (tt {0}) ≡ Ok tt
+  pub take_refused : (e : Refusal) → first_of (caller_cause jobs id h p) (tt {0}) ≡ Err e → first_of (cause jobs id h (Act.request (Request.take p))) (tt {0}) ≡ Err e
   unfolding cause request_cause
-  leave_free is = is
+  take_refused e is = is
 
-  settled_leaves : IsSettled jobs id h → (c : Option CallState) → done_as (leaves h p c).reply (settled jobs id (leaves h p c).left) ≡ leaves h p c
-  settled_leaves is (Some (CallState.in_fence f)) = ap (done_as Reply.waiting) (settled_same jobs id h is)
-  settled_leaves is (Some (CallState.released f gone)) = ap (done_as (Reply.released f.instance gone)) (settled_same jobs id (uncalled h p) (uncalled_settled jobs id h p is))
-  settled_leaves is (Some (CallState.parked get)) = ap (done_as Reply.idle) (settled_same jobs id h is)
-  settled_leaves is (Some (CallState.answered get outcome)) = ap (done_as Reply.idle) (settled_same jobs id h is)
-  settled_leaves is (Some (CallState.refreshing get number)) = ap (done_as Reply.idle) (settled_same jobs id h is)
-  settled_leaves is (Some (CallState.refreshed get outcome)) = ap (done_as Reply.idle) (settled_same jobs id h is)
-  settled_leaves is None = ap (done_as Reply.idle) (settled_same jobs id h is)
+  -- nothing is sent
+  pub leave_silent : (marks : Levels) → chosen jobs id h marks (Act.request (Request.leave p)) ≡ record { frames = []; marks = marks }
+  unfolding due_by due_by_request marked_by_act
+  leave_silent marks = none_due jobs id h (Act.request (Request.leave p)) marks refl refl
 
-  pub leave_is : IsSettled jobs id h → first_of (caller_cause jobs id h p) (tt {0}) ≡ Ok tt → (c : Option CallState) → call_of h p ≡ c → acts jobs id h (Act.request (Request.leave p)) ≡ leaves h p c
-  unfolding does serves
-  leave_is is free c e = act_free jobs id h (Act.request (Request.leave p)) (leave_free free) ∙ settled_leaves is (call_of h p) ∙ ap (leaves h p) e
+  pub take_silent : (marks : Levels) → chosen jobs id h marks (Act.request (Request.take p)) ≡ record { frames = []; marks = marks }
+  unfolding due_by due_by_request marked_by_act
+  take_silent marks = none_due jobs id h (Act.request (Request.take p)) marks refl refl
+
+  -- and what is done follows from its call
+  leave_is : (d : Done) → first_of (caller_cause jobs id h p) (tt {0}) ≡ Ok tt → leaves h p (call_of h p) ≡ d → settled jobs id d.left ≡ d.left → acts jobs id h (Act.request (Request.leave p)) ≡ d
+  unfolding cause request_cause does serves
+  leave_is d free is stays = done_settled jobs id h (Act.request (Request.leave p)) d free is stays
+
+  take_is : (d : Done) → first_of (caller_cause jobs id h p) (tt {0}) ≡ Ok tt → takes h p (call_of h p) ≡ d → settled jobs id d.left ≡ d.left → acts jobs id h (Act.request (Request.take p)) ≡ d
+  unfolding cause request_cause does serves
+  take_is d free is stays = done_settled jobs id h (Act.request (Request.take p)) d free is stays
 
   leaves_stays : (c : Option CallState) (r : Reply) → stays_reply c ≡ Some r → leaves h p c ≡ done_as r h
   leaves_stays (Some (CallState.in_fence f)) r e = ap (λ (x : Reply). done_as x h) cc
@@ -125,6 +135,9 @@ module _ (jobs : Jobs) (id : ℕ) (h : NodeState) (p : Proc) where
   leaves_stays (Some (CallState.refreshed get outcome)) r e = ap (λ (x : Reply). done_as x h) cc
   leaves_stays None r e = ap (λ (x : Reply). done_as x h) cc
 
+  pub leave_stays : IsSettled jobs id h → first_of (caller_cause jobs id h p) (tt {0}) ≡ Ok tt → (r : Reply) → stays_reply (call_of h p) ≡ Some r → acts jobs id h (Act.request (Request.leave p)) ≡ done_as r h
+  leave_stays is free r e = leave_is (done_as r h) free (leaves_stays (call_of h p) r e) (settled_same jobs id h is)
+
   leaves_goes : (c : Option CallState) → stays_reply c ≡ None → leaves h p c ≡ done_as (released_reply c) (uncalled h p)
   leaves_goes (Some (CallState.in_fence f)) e = absurd cc
   leaves_goes (Some (CallState.released f gone)) e = refl
@@ -134,39 +147,9 @@ module _ (jobs : Jobs) (id : ℕ) (h : NodeState) (p : Proc) where
   leaves_goes (Some (CallState.refreshed get outcome)) e = absurd cc
   leaves_goes None e = absurd cc
 
-  pub leave_stays : IsSettled jobs id h → first_of (caller_cause jobs id h p) (tt {0}) ≡ Ok tt → (r : Reply) → stays_reply (call_of h p) ≡ Some r → acts jobs id h (Act.request (Request.leave p)) ≡ done_as r h
-  leave_stays is free r e = leave_is is free (call_of h p) refl ∙ leaves_stays (call_of h p) r e
-
   pub leave_goes : IsSettled jobs id h → first_of (caller_cause jobs id h p) (tt {0}) ≡ Ok tt → stays_reply (call_of h p) ≡ None
       → acts jobs id h (Act.request (Request.leave p)) ≡ done_as (released_reply (call_of h p)) (uncalled h p)
-  leave_goes is free e = leave_is is free (call_of h p) refl ∙ leaves_goes (call_of h p) e
-
-  pub leave_silent : (marks : Levels) → chosen jobs id h marks (Act.request (Request.leave p)) ≡ record { frames = []; marks = marks }
-  unfolding due_by due_by_request marked_by_act
-  leave_silent marks = none_due jobs id h (Act.request (Request.leave p)) marks refl refl
-
--- ---- a process takes an answer
-module _ (jobs : Jobs) (id : ℕ) (h : NodeState) (p : Proc) where
-  pub take_refused : (e : Refusal) → first_of (caller_cause jobs id h p) (tt {0}) ≡ Err e → first_of (cause jobs id h (Act.request (Request.take p))) (tt {0}) ≡ Err e
-  unfolding cause request_cause
-  take_refused e is = is
-
-  pub take_free : first_of (caller_cause jobs id h p) (tt {0}) ≡ Ok tt → first_of (cause jobs id h (Act.request (Request.take p))) (tt {0}) ≡ Ok tt
-  unfolding cause request_cause
-  take_free is = is
-
-  settled_takes : IsSettled jobs id h → (c : Option CallState) → done_as (takes h p c).reply (settled jobs id (takes h p c).left) ≡ takes h p c
-  settled_takes is (Some (CallState.in_fence f)) = ap (done_as Reply.idle) (settled_same jobs id h is)
-  settled_takes is (Some (CallState.released f gone)) = ap (done_as Reply.idle) (settled_same jobs id h is)
-  settled_takes is (Some (CallState.parked get)) = ap (done_as Reply.waiting) (settled_same jobs id h is)
-  settled_takes is (Some (CallState.answered get outcome)) = ap (done_as (reply_of outcome)) (settled_same jobs id (uncalled h p) (uncalled_settled jobs id h p is))
-  settled_takes is (Some (CallState.refreshing get number)) = ap (done_as Reply.waiting) (settled_same jobs id h is)
-  settled_takes is (Some (CallState.refreshed get outcome)) = ap (done_as (reply_of outcome)) (settled_same jobs id (uncalled h p) (uncalled_settled jobs id h p is))
-  settled_takes is None = ap (done_as Reply.idle) (settled_same jobs id h is)
-
-  pub take_is : IsSettled jobs id h → first_of (caller_cause jobs id h p) (tt {0}) ≡ Ok tt → (c : Option CallState) → call_of h p ≡ c → acts jobs id h (Act.request (Request.take p)) ≡ takes h p c
-  unfolding does serves
-  take_is is free c e = act_free jobs id h (Act.request (Request.take p)) (take_free free) ∙ settled_takes is (call_of h p) ∙ ap (takes h p) e
+  leave_goes is free e = leave_is (done_as (released_reply (call_of h p)) (uncalled h p)) free (leaves_goes (call_of h p) e) (settled_same jobs id (uncalled h p) (uncalled_settled jobs id h p is))
 
   takes_stays : (c : Option CallState) (r : Reply) → pending_reply c ≡ Some r → takes h p c ≡ done_as r h
   takes_stays (Some (CallState.in_fence f)) r e = ap (λ (x : Reply). done_as x h) cc
@@ -177,6 +160,9 @@ module _ (jobs : Jobs) (id : ℕ) (h : NodeState) (p : Proc) where
   takes_stays (Some (CallState.refreshed get outcome)) r e = absurd cc
   takes_stays None r e = ap (λ (x : Reply). done_as x h) cc
 
+  pub take_stays : IsSettled jobs id h → first_of (caller_cause jobs id h p) (tt {0}) ≡ Ok tt → (r : Reply) → pending_reply (call_of h p) ≡ Some r → acts jobs id h (Act.request (Request.take p)) ≡ done_as r h
+  take_stays is free r e = take_is (done_as r h) free (takes_stays (call_of h p) r e) (settled_same jobs id h is)
+
   takes_goes : (c : Option CallState) → pending_reply c ≡ None → takes h p c ≡ done_as (answered_reply c) (uncalled h p)
   takes_goes (Some (CallState.in_fence f)) e = absurd cc
   takes_goes (Some (CallState.released f gone)) e = absurd cc
@@ -186,13 +172,6 @@ module _ (jobs : Jobs) (id : ℕ) (h : NodeState) (p : Proc) where
   takes_goes (Some (CallState.refreshed get outcome)) e = refl
   takes_goes None e = absurd cc
 
-  pub take_stays : IsSettled jobs id h → first_of (caller_cause jobs id h p) (tt {0}) ≡ Ok tt → (r : Reply) → pending_reply (call_of h p) ≡ Some r → acts jobs id h (Act.request (Request.take p)) ≡ done_as r h
-  take_stays is free r e = take_is is free (call_of h p) refl ∙ takes_stays (call_of h p) r e
-
   pub take_goes : IsSettled jobs id h → first_of (caller_cause jobs id h p) (tt {0}) ≡ Ok tt → pending_reply (call_of h p) ≡ None
       → acts jobs id h (Act.request (Request.take p)) ≡ done_as (answered_reply (call_of h p)) (uncalled h p)
-  take_goes is free e = take_is is free (call_of h p) refl ∙ takes_goes (call_of h p) e
-
-  pub take_silent : (marks : Levels) → chosen jobs id h marks (Act.request (Request.take p)) ≡ record { frames = []; marks = marks }
-  unfolding due_by due_by_request marked_by_act
-  take_silent marks = none_due jobs id h (Act.request (Request.take p)) marks refl refl
+  take_goes is free e = take_is (done_as (answered_reply (call_of h p)) (uncalled h p)) free (takes_goes (call_of h p) e) (settled_same jobs id (uncalled h p) (uncalled_settled jobs id h p is))

@@ -8,6 +8,8 @@ pub mod Entries
 pub mod Endings
 pub mod Kinds
 pub mod Replies
+pub mod CallEnds
+pub mod Sealing
 pub mod Acting
 pub mod Opening
 pub mod Members

@@ -189,7 +189,7 @@ pub struct Joined {
 
 impl Drop for Joined {
     fn drop(self) {
-        let Joined { near: _, far: _ } = self;
+        let Self { near, far } = self;
     }
 }
 

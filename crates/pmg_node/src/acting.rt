@@ -55,89 +55,70 @@ fn reply_with_pieces(reply: Reply, near: Piece, far: Piece) -> Acted
 fn as_entered(answer: Result<u64, Refusal>) -> Result<Acted, Refusal>
     ensures { SameAnswer ModelReply.entered joins_none answer result }
 {
-    match answer {
-        Ok(instance) => Ok(reply_alone(Reply::Entered(instance))),
-        Err(refusal) => Err(refusal),
-    }
+    Ok(reply_alone(Reply::Entered(answer?)))
 }
 
 /// What a process that leaves a fence is told, as a reply.
 fn as_released(answer: Result<Release, Refusal>) -> Result<Acted, Refusal>
     ensures { SameAnswer release_reply joins_none answer result }
 {
-    match answer {
-        Ok(Release::Idle) => Ok(reply_alone(Reply::Idle)),
-        Ok(Release::Waiting) => Ok(reply_alone(Reply::Waiting)),
-        Ok(Release::Released(instance, gone)) => Ok(reply_alone(Reply::Released(instance, gone))),
-        Err(refusal) => Err(refusal),
-    }
+    Ok(reply_alone(match answer? {
+        Release::Idle => Reply::Idle,
+        Release::Waiting => Reply::Waiting,
+        Release::Released(instance, gone) => Reply::Released(instance, gone),
+    }))
 }
 
 /// What a process that asks for a key is told, as a reply.
 fn reply_of_asked(answer: Result<Asked, Refusal>) -> Result<Reply, Refusal>
     ensures { SameReply asked_reply answer result }
 {
-    match answer {
-        Ok(Asked::Found(value)) => Ok(Reply::Found(value)),
-        Ok(Asked::Parked) => Ok(Reply::Parked),
-        Err(refusal) => Err(refusal),
-    }
+    Ok(match answer? {
+        Asked::Found(value) => Reply::Found(value),
+        Asked::Parked => Reply::Parked,
+    })
 }
 
 /// The same, with what is joined: nothing.
 fn as_asked(answer: Result<Asked, Refusal>) -> Result<Acted, Refusal>
     ensures { SameAnswer asked_reply joins_none answer result }
 {
-    match reply_of_asked(answer) {
-        Ok(reply) => Ok(reply_alone(reply)),
-        Err(refusal) => Err(refusal),
-    }
+    Ok(reply_alone(reply_of_asked(answer)?))
 }
 
 /// What a process that takes an answer is told, as a reply.
 fn as_taken(answer: Result<Taking, Refusal>) -> Result<Acted, Refusal>
     ensures { SameAnswer taking_reply joins_none answer result }
 {
-    match answer {
-        Ok(Taking::Idle) => Ok(reply_alone(Reply::Idle)),
-        Ok(Taking::Waiting) => Ok(reply_alone(Reply::Waiting)),
-        Ok(Taking::Found(value)) => Ok(reply_alone(Reply::Found(value))),
-        Err(refusal) => Err(refusal),
-    }
+    Ok(reply_alone(match answer? {
+        Taking::Idle => Reply::Idle,
+        Taking::Waiting => Reply::Waiting,
+        Taking::Found(value) => Reply::Found(value),
+    }))
 }
 
 /// The number of a commit, as a reply.
 fn as_committed(answer: Result<Committed, Refusal>) -> Result<Acted, Refusal>
     ensures { SameAnswer committed_reply commit_joins answer result }
 {
-    match answer {
-        Ok(commit) => Ok(reply_with_pieces(
-            Reply::Committed(commit.level),
-            commit.near,
-            commit.far,
-        )),
-        Err(refusal) => Err(refusal),
-    }
+    let commit = answer?;
+    Ok(reply_with_pieces(Reply::Committed(commit.level), commit.near, commit.far))
 }
 
 /// The number of a process's end, as a reply.
 fn as_ended(answer: Result<Committed, Refusal>) -> Result<Acted, Refusal>
     ensures { SameAnswer ended_reply commit_joins answer result }
 {
-    match answer {
-        Ok(end) => Ok(reply_with_pieces(Reply::Ended(end.level), end.near, end.far)),
-        Err(refusal) => Err(refusal),
-    }
+    let end = answer?;
+    Ok(reply_with_pieces(Reply::Ended(end.level), end.near, end.far))
 }
 
 /// The number of a change of the process sets, as a reply.
 fn as_defined(answer: Result<Committed, Refusal>) -> Result<Acted, Refusal>
     ensures { SameAnswer defined_reply commit_joins answer result }
 {
-    match answer {
-        Ok(change) => Ok(reply_with_pieces(Reply::Defined(change.level), change.near, change.far)),
-        Err(refusal) => Err(refusal),
-    }
+    let change = answer?;
+    Ok(reply_with_pieces(Reply::Defined(change.level), change.near, change.far))
 }
 
 /// What becomes of a frame, as a reply.

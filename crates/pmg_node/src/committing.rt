@@ -3,18 +3,23 @@ ghost use Rattle.std.specs.Prelude.{◌≡◌, ◌++◌, Err, IfOk};
 ghost use Rattle.pmg_value.specs.declared.refusal.Refusal.TheVariants as refusals;
 ghost use Rattle.pmg_scope.specs.declared.scope.Reach.TheVariants as reach;
 ghost use Rattle.pmg_commit.specs.Sealed.{piece_at};
+ghost use Rattle.pmg_dmodex.specs.Requests.{requests_settled};
 ghost use Rattle.pmg_node_model.specs.Acts.{Act};
 ghost use Rattle.pmg_node_model.specs.Holdings.{sealer_of};
+ghost use Rattle.pmg_node_parts.specs.Calls.{all_instead};
+ghost use Rattle.pmg_node_parts.specs.Owns.{sealed_of};
 ghost use Rattle.pmg_node.specs.Replies.{committed_reply};
 ghost use Rattle.pmg_node.specs.Servers.{reply_to, sent_by, after, IsAnswered, Replies};
 
 use crate::node::Node;
-use crate::publishing::{PublishContext, publish};
+use crate::publishing::Published;
+use crate::sealing::SealingAct;
 use pmg_commit::Piece;
+use pmg_dmodex::Pending;
 use pmg_node_model::Sent;
+use pmg_node_parts::{Calls, LocalCommits};
 use pmg_scope::Batch;
 use pmg_value::{Proc, Refusal};
-use std::alloc::AllocError;
 use std::collections::VecDeque;
 
 /// What comes of a commit.
@@ -26,6 +31,30 @@ pub struct Committed {
     pub near: Piece,
     /// What was joined for reads from other nodes.
     pub far: Piece,
+}
+
+/// What was published is kept: the nodes that waited for the commit wait no longer, and calls are answered.
+pub(crate) fn keep_published(
+    own: &LocalCommits,
+    held: &mut Pending,
+    calls: &mut Calls,
+    proc: &Proc,
+    published: Published,
+) -> Committed
+    ensures level { result.level ≡ (sealed_of own.now proc.now).level }
+    ensures near { result.near ≡ published.near }
+    ensures far { result.far ≡ published.far }
+    ensures held { held.new ≡ requests_settled held.old proc.now (sealed_of own.now proc.now).level }
+    ensures calls { calls.new ≡ all_instead calls.old published.answers.items }
+{
+    let level = own.level(proc);
+    held.settle(proc, level);
+    calls.answer(published.answers);
+    Committed {
+        level,
+        near: published.near,
+        far: published.far,
+    }
 }
 
 impl Node {
@@ -47,36 +76,6 @@ impl Node {
         ensures memory { result ≡ Err refusals.NoMemory → self.new ≡ self.old }
         ensures unsent { result ≡ Err refusals.NoMemory → out.new.items ≡ out.old.items }
     {
-        self.check_free(proc)?;
-        let from = self.own.level(proc);
-        let before = self.own.commit(proc, batch)?;
-        let beside = PublishContext {
-            table: &self.table,
-            id: self.id,
-            own: &self.own,
-            held: &self.held,
-            calls: &self.calls,
-        };
-        let dues = Vec::new(self.table.registry().allocator());
-        let Ok(published) = publish(
-            &beside,
-            &mut self.board,
-            &mut self.marks,
-            out,
-            proc,
-            from,
-            dues,
-        ) else {
-            self.own.rollback(proc, before);
-            return Err(Refusal::NoMemory);
-        };
-        let level = self.own.level(proc);
-        self.held.settle(proc, level);
-        self.calls.answer(published.answers);
-        Ok(Committed {
-            level,
-            near: published.near,
-            far: published.far,
-        })
+        self.seal(&SealingAct::Commit(proc, batch), out)
     }
 }

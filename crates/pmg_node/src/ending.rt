@@ -11,7 +11,6 @@ ghost use Rattle.pmg_fence.specs.Changes.{ended_by, news};
 ghost use Rattle.pmg_fence.specs.Tables.{names_of};
 ghost use Rattle.pmg_fence.specs.TakenBack.{table_back, CanRollTableBack};
 ghost use Rattle.pmg_node_model.specs.Acts.{Act, Request};
-ghost use Rattle.pmg_node_parts.specs.Calls.{all_instead};
 ghost use Rattle.pmg_node_model.specs.Choosing.{announcing};
 ghost use Rattle.pmg_node.specs.Endings.{own_ended, own_back, table_ended};
 ghost use Rattle.pmg_node_model.specs.Holdings.{sealer_of};
@@ -20,14 +19,14 @@ ghost use Rattle.pmg_node.specs.Replies.{ended_reply};
 ghost use Rattle.pmg_node.specs.Servers.{reply_to, sent_by, after, IsAnswered, Replies};
 ghost use Rattle.pmg_commit.specs.declared.piece.TheConstants.{MAX_COMMIT};
 
-use crate::committing::Committed;
+use crate::committing::{Committed, keep_published};
 use crate::fencing::announce_all;
 use crate::node::Node;
 use crate::publishing::{PublishContext, Published, publish};
 use pmg_commit::SealerUndo;
 use pmg_fence::{Table, TableUndo};
 use pmg_node_model::{Sent, ToSend};
-use pmg_node_parts::{Calls, Completion, LocalCommits};
+use pmg_node_parts::LocalCommits;
 use pmg_value::{NodeId, Proc, Refusal};
 use std::alloc::AllocError;
 use std::collections::VecDeque;
@@ -143,14 +142,6 @@ fn keep_end(
     }
 }
 
-/// Calls are answered, and the process is in none any more.
-fn end_calls(calls: &mut Calls, answers: Vec<(Proc, Completion)>, proc: &Proc)
-    ensures { calls.new ≡ finite.remove (all_instead calls.old answers.items) proc.now }
-{
-    calls.answer(answers);
-    calls.remove(proc);
-}
-
 impl Node {
     /// The process ends (PMIx Standard 5.0, PMIx_Finalize): that is its last commit, by which others learn of it; it is gone from the
     /// fences that it has not entered, and in no call any more. Refused as BadParam where the process is none of its namespace, or
@@ -194,13 +185,8 @@ impl Node {
         let Ok(published) = kept else {
             return Err(Refusal::NoMemory);
         };
-        let level = self.own.level(proc);
-        self.held.settle(proc, level);
-        end_calls(&mut self.calls, published.answers, proc);
-        Ok(Committed {
-            level,
-            near: published.near,
-            far: published.far,
-        })
+        let ended = keep_published(&self.own, &mut self.held, &mut self.calls, proc, published);
+        let _ = self.calls.remove(proc);
+        Ok(ended)
     }
 }

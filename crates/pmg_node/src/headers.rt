@@ -1,24 +1,16 @@
-//! Another node tells its header of a fence, or asks for one.
-ghost use Rattle.std.specs.Prelude.{◌≡◌, ◌++◌, IfOk, OnOk, OnErr};
+//! Which headers of fences, and which requests for one, a node takes.
+ghost use Rattle.std.specs.Prelude.{◌≡◌};
 ghost use Rattle.pmg_frame.specs.declared.frame.Frame.TheVariants as frames;
 ghost use Rattle.pmg_jobinfo.specs.Jobs.{is_member};
 ghost use Rattle.std.specs.List.{list_all};
 ghost use Rattle.pmg_frame.specs.Fences.{participants_of};
-ghost use Rattle.pmg_node_model.specs.Acts.{Act, is_concerned, is_complete, is_taken};
-ghost use Rattle.pmg_node.specs.Replies.{delivery_reply};
-ghost use Rattle.pmg_node.specs.Servers.{reply_to, sent_by, after};
+ghost use Rattle.pmg_node_model.specs.Acts.{is_concerned, is_complete, is_taken};
 
-use crate::asked::Delivery;
 use crate::causes::is_member;
-use crate::fencing::{FenceContext, change_fence, tell_node};
 use crate::node::Node;
-use pmg_fence::Change;
 use pmg_frame::{FenceAsk, FenceName, Header};
 use pmg_jobinfo::Registry;
-use pmg_node_model::Sent;
 use pmg_node_parts::takes_part;
-use std::alloc::AllocError;
-use std::collections::VecDeque;
 
 /// Whether each participant of the fence is one of the group.
 fn are_members(registry: &Registry, name: &FenceName) -> bool
@@ -65,7 +57,7 @@ impl Node {
     /// Whether the header comes from another node, is of a fence that concerns this one and is not forgotten, and lists its node's
     /// participants.
     #[tactic(auto, unfolding(pmg_node_model::specs::Acts::is_taken))]
-    fn is_told(&self, header: &Header) -> bool
+    pub(crate) fn is_told(&self, header: &Header) -> bool
         ensures { result ≡ is_taken self.now.jobs self.now.id self.now.holding.table (frames.Header header.now) }
     {
         self.is_peer(header.node())
@@ -76,79 +68,9 @@ impl Node {
 
     /// Whether the request comes from another node, and is for a header of a fence that concerns this one and is not forgotten.
     #[tactic(auto, unfolding(pmg_node_model::specs::Acts::is_taken))]
-    fn is_asked_for(&self, ask: &FenceAsk) -> bool
+    pub(crate) fn is_asked_for(&self, ask: &FenceAsk) -> bool
         ensures { result ≡ is_taken self.now.jobs self.now.id self.now.holding.table (frames.FenceAsk ask.now) }
     {
         self.is_peer(ask.node()) && self.is_concerned(ask.name()) && !self.table.is_old(ask.name())
-    }
-
-    /// Another node tells its header of a fence.
-    pub(crate) fn deliver_header(
-        &mut self,
-        header: &Header,
-        out: &mut VecDeque<Sent>,
-    ) -> Result<Delivery, AllocError>
-        ensures reply { IfOk result (λ delivery. reply_to self.old (Act.deliver (frames.Header header.now)) ≡ delivery_reply delivery) }
-        ensures ok { OnOk result (self.new ≡ after self.old (Act.deliver (frames.Header header.now))) }
-        ensures sent { OnOk result (out.new.items ≡ out.old.items ++ sent_by self.old (Act.deliver (frames.Header header.now))) }
-        ensures err { OnErr result (self.new ≡ self.old) }
-        ensures unsent { OnErr result (out.new.items ≡ out.old.items) }
-    {
-        if !self.is_told(header) {
-            return Ok(Delivery::Ignored);
-        }
-        let change = Change::Told(header.copy()?);
-        let around = FenceContext {
-            id: self.id,
-            board: &self.board,
-            own: &self.own,
-        };
-        change_fence(
-            &around,
-            &mut self.table,
-            &mut self.calls,
-            &mut self.marks,
-            header.name(),
-            change,
-            out,
-        )?;
-        Ok(Delivery::Taken)
-    }
-
-    /// Another node asks for the own header of a fence: it is told that, once it exists.
-    pub(crate) fn deliver_fence_ask(
-        &mut self,
-        ask: &FenceAsk,
-        out: &mut VecDeque<Sent>,
-    ) -> Result<Delivery, AllocError>
-        ensures reply { IfOk result (λ delivery. reply_to self.old (Act.deliver (frames.FenceAsk ask.now)) ≡ delivery_reply delivery) }
-        ensures ok { OnOk result (self.new ≡ after self.old (Act.deliver (frames.FenceAsk ask.now))) }
-        ensures sent { OnOk result (out.new.items ≡ out.old.items ++ sent_by self.old (Act.deliver (frames.FenceAsk ask.now))) }
-        ensures err { OnErr result (self.new ≡ self.old) }
-        ensures unsent { OnErr result (out.new.items ≡ out.old.items) }
-    {
-        if !self.is_asked_for(ask) {
-            return Ok(Delivery::Ignored);
-        }
-        if let Some(header) = self.table.own_header(ask.name())? {
-            let alloc = self.table.registry().allocator();
-            tell_node(alloc, &self.own, &mut self.marks, ask.node(), &header, out)?;
-            return Ok(Delivery::Taken);
-        }
-        let around = FenceContext {
-            id: self.id,
-            board: &self.board,
-            own: &self.own,
-        };
-        change_fence(
-            &around,
-            &mut self.table,
-            &mut self.calls,
-            &mut self.marks,
-            ask.name(),
-            Change::Learned,
-            out,
-        )?;
-        Ok(Delivery::Taken)
     }
 }

@@ -3,9 +3,12 @@ ghost use Rattle.std.specs.Prelude.{◌≡◌, []};
 ghost use Rattle.std.specs.Option.{option_map};
 ghost use Rattle.pmg_node_model.specs.Acts.{Act, Request};
 ghost use Rattle.pmg_node_parts.specs.Calls.{standing_of};
-ghost use Rattle.pmg_node.specs.Replies.{release_reply, released_reply, stays_reply};
+ghost use Rattle.pmg_node.specs.CallEnds.{told_at};
+ghost use Rattle.pmg_node.specs.declared.call_ends.CallEnd.TheVariants as ends;
+ghost use Rattle.pmg_node.specs.Replies.{release_reply, stays_reply};
 ghost use Rattle.pmg_node.specs.Servers.{reply_in, reply_to, sent_by, after};
 
+use crate::call_ends::{CallEnd, CallStand};
 use crate::node::Node;
 use pmg_node_parts::Call;
 use pmg_value::{Proc, Refusal};
@@ -22,30 +25,31 @@ pub enum Release {
 }
 
 /// What the process of the call is told, unless it is released.
-fn stays(call: Option<&Call>) -> Option<Release>
-    ensures { option_map release_reply result ≡ stays_reply (option_map (λ c. standing_of c.now) call.entry) }
+pub(crate) fn stays(call: Option<&Call>) -> Option<CallStand>
+    ensures { option_map (told_at ends.Leave) result ≡ stays_reply (option_map (λ c. standing_of c.now) call.entry) }
 {
     match call {
         Some(Call::Released(..)) => None,
-        Some(Call::InFence(_)) => Some(Release::Waiting),
-        Some(Call::Parked(..)) => Some(Release::Idle),
-        Some(Call::Answered(..)) => Some(Release::Idle),
-        Some(Call::Refreshing(..)) => Some(Release::Idle),
-        Some(Call::Refreshed(..)) => Some(Release::Idle),
-        None => Some(Release::Idle),
+        Some(Call::InFence(_)) => Some(CallStand::Waiting),
+        Some(Call::Parked(..)) => Some(CallStand::Idle),
+        Some(Call::Answered(..)) => Some(CallStand::Idle),
+        Some(Call::Refreshing(..)) => Some(CallStand::Idle),
+        Some(Call::Refreshed(..)) => Some(CallStand::Idle),
+        None => Some(CallStand::Idle),
     }
 }
 
-/// What the process is told whose call is over.
-fn release_of(call: Option<Call>) -> Release
-    ensures { release_reply result ≡ released_reply (option_map standing_of call) }
+/// What the process is told, as its call stands.
+fn release_of(stand: CallStand) -> Release
+    ensures { release_reply result ≡ told_at ends.Leave stand }
 {
-    let Some(call) = call else {
-        return Release::Idle;
-    };
-    match call.into_released() {
-        Some((name, gone)) => Release::Released(name.instance(), gone),
-        None => Release::Idle,
+    match stand {
+        CallStand::Idle => Release::Idle,
+        CallStand::Waiting => Release::Waiting,
+        CallStand::Over(call) => match call.into_released() {
+            Some((name, gone)) => Release::Released(name.instance(), gone),
+            None => Release::Idle,
+        },
     }
 }
 
@@ -59,12 +63,6 @@ impl Node {
         ensures done { self.new ≡ after self.old (Act.request (Request.leave proc.now)) }
         ensures silent { sent_by self.old (Act.request (Request.leave proc.now)) ≡ [] }
     {
-        if let Err(refusal) = self.check_caller(proc) {
-            return Err(refusal);
-        }
-        if let Some(release) = stays(self.calls.get(proc)) {
-            return Ok(release);
-        }
-        Ok(release_of(self.calls.remove(proc)))
+        Ok(release_of(self.end_call(proc, CallEnd::Leave)?))
     }
 }

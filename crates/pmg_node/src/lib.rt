@@ -3,7 +3,9 @@
 
 mod act;
 mod acting;
+mod arriving;
 mod asked;
+mod call_ends;
 mod causes;
 mod committing;
 mod delivering;
@@ -23,6 +25,7 @@ mod pieces;
 mod publishing;
 mod refreshing;
 mod replying;
+mod sealing;
 mod setting;
 mod status;
 mod taking;

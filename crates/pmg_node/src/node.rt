@@ -23,14 +23,14 @@ pub struct Node {
 
 impl Drop for Node {
     fn drop(self) {
-        let Node {
-            id: _,
-            table: _,
-            board: _,
-            own: _,
-            calls: _,
-            held: _,
-            marks: _,
+        let Self {
+            id,
+            table,
+            board,
+            own,
+            calls,
+            held,
+            marks,
         } = self;
     }
 }

@@ -1,5 +1,5 @@
-//! A node asks anew for commits of a process, and the process's home replies.
-ghost use Rattle.std.specs.Prelude.{◌≡◌, ◌≤◌, ◌++◌, true, IfOk, OnOk, OnErr};
+//! What is replied to a node that asks anew for commits of a process, and what comes of such a reply.
+ghost use Rattle.std.specs.Prelude.{◌≡◌, ◌≤◌, true, IfOk, OnOk, OnErr};
 ghost use Rattle.std.specs.Option.{option_map};
 ghost use Rattle.pmg_commit.specs.Stamped.{IsSealer};
 ghost use Rattle.pmg_frame.specs.Refreshing.{told_by};
@@ -9,23 +9,18 @@ ghost use Rattle.pmg_node_parts.specs.Owns.{sealed_of};
 ghost use Rattle.pmg_node_model.specs.Acts.{Act, is_taken};
 ghost use Rattle.pmg_node_model.specs.Choosing.{due_by};
 ghost use Rattle.pmg_node_model.specs.Holdings.{joined};
-ghost use Rattle.pmg_node.specs.Replies.{delivery_reply};
 ghost use Rattle.pmg_node.specs.Replying.{reply_by, replying_by};
-ghost use Rattle.pmg_node.specs.Servers.{reply_to, sent_by, after};
+ghost use Rattle.pmg_node.specs.Servers.{after};
 
-use crate::asked::Delivery;
 use crate::node::Node;
 use pmg_commit::Piece;
 use pmg_frame::{Frame, RefreshAsk, RefreshReply};
 use pmg_node_model::{Sent, ToSend};
-use pmg_node_parts::{
-    BoardPreview, Completion, LocalCommits, answers_then, asks_again, hand_out, rollback,
-};
+use pmg_node_parts::{BoardPreview, Completion, LocalCommits, answers_then, asks_again};
 use pmg_scope::Reach;
 use pmg_store::Board;
 use pmg_value::Proc;
 use std::alloc::{AllocError, Global};
-use std::collections::VecDeque;
 
 /// What the process's commits after the one that is named sealed, be it none, as the reply.
 fn reply_of(alloc: Global, own: &LocalCommits, ask: &RefreshAsk) -> Result<RefreshReply, AllocError>
@@ -48,7 +43,11 @@ fn reply_of(alloc: Global, own: &LocalCommits, ask: &RefreshAsk) -> Result<Refre
 }
 
 /// The reply is due to the node that asks anew, unless it names a commit that was not made.
-fn reply_due(alloc: Global, own: &LocalCommits, ask: &RefreshAsk) -> Result<Vec<ToSend>, AllocError>
+pub(crate) fn reply_due(
+    alloc: Global,
+    own: &LocalCommits,
+    ask: &RefreshAsk,
+) -> Result<Vec<ToSend>, AllocError>
     requires { (sealed_of own.now ask.now.ask.proc).proc ≡ ask.now.ask.proc }
     ensures { IfOk result (λ dues. dues.items ≡ replying_by (sealed_of own.now) ask.now) }
 {
@@ -63,7 +62,7 @@ fn reply_due(alloc: Global, own: &LocalCommits, ask: &RefreshAsk) -> Result<Vec<
 }
 
 /// What a reply tells is joined into the store for reads from other nodes, if it tells something.
-fn absorb_told(board: &mut Board, told: Option<&Piece>) -> Result<(), AllocError>
+pub(crate) fn absorb_told(board: &mut Board, told: Option<&Piece>) -> Result<(), AllocError>
     ensures far { OnOk result (board.new.far ≡ joined board.old.far (option_map (λ c. c.now) told.entry)) }
     ensures near { board.new.near ≡ board.old.near }
     ensures err { OnErr result (board.new.far ≡ board.old.far) }
@@ -75,37 +74,9 @@ fn absorb_told(board: &mut Board, told: Option<&Piece>) -> Result<(), AllocError
 }
 
 impl Node {
-    /// Another node asks anew for the commits of an own process after those that it knows: it is told which there are, be it none.
-    pub(crate) fn deliver_refresh_ask(
-        &mut self,
-        ask: &RefreshAsk,
-        out: &mut VecDeque<Sent>,
-    ) -> Result<Delivery, AllocError>
-        ensures reply { IfOk result (λ delivery. reply_to self.old (Act.deliver (frames.RefreshAsk ask.now)) ≡ delivery_reply delivery) }
-        ensures ok { OnOk result (self.new ≡ after self.old (Act.deliver (frames.RefreshAsk ask.now))) }
-        ensures sent { OnOk result (out.new.items ≡ out.old.items ++ sent_by self.old (Act.deliver (frames.RefreshAsk ask.now))) }
-        ensures err { OnErr result (self.new ≡ self.old) }
-        ensures unsent { OnErr result (out.new.items ≡ out.old.items) }
-    {
-        if !self.is_asked(ask.ask()) {
-            return Ok(Delivery::Ignored);
-        }
-        let alloc = self.table.registry().allocator();
-        let dues = reply_due(alloc, &self.own, ask)?;
-        hand_out(
-            alloc,
-            &self.own,
-            &mut self.marks,
-            Some(ask.ask()),
-            dues,
-            out,
-        )?;
-        Ok(Delivery::Taken)
-    }
-
     /// Whether the reply is to a request of this node, for commits of a process that is not at home here.
     #[tactic(auto, unfolding(pmg_node_model::specs::Acts::is_taken))]
-    fn is_replied(&self, reply: &RefreshReply) -> bool
+    pub(crate) fn is_replied(&self, reply: &RefreshReply) -> bool
         ensures { result ≡ is_taken self.now.jobs self.now.id self.now.holding.table (frames.RefreshReply reply.now) }
     {
         reply.node() == self.id
@@ -115,7 +86,7 @@ impl Node {
 
     /// What calls come to be answered once the reply, which tells this, is taken: the get that asked for it, if it waits still, and
     /// those that wait for its process.
-    fn answers_by<'a>(
+    pub(crate) fn answers_by<'a>(
         &'a self,
         reply: &'a RefreshReply,
         told: Option<&'a Piece>,
@@ -146,7 +117,7 @@ impl Node {
 
     /// What is due once the reply, which tells this, is taken: where more commits of its process come to be known, its home is asked
     /// again for each get of its keys that will wait still.
-    fn asks_by<'a>(
+    pub(crate) fn asks_by<'a>(
         &'a self,
         reply: &'a RefreshReply,
         told: Option<&'a Piece>,
@@ -166,35 +137,5 @@ impl Node {
             return Ok(Vec::new(self.table.registry().allocator()));
         }
         asks_again(&self.table, self.id, &ahead, &self.calls, proc)
-    }
-
-    /// The home of a process replies what it sealed after the commits that were known: the get that asked for it is answered, and
-    /// gets of its keys, and processes released from fences, that waited for it; where gets of its keys wait still, more is asked for.
-    pub(crate) fn deliver_refresh_reply(
-        &mut self,
-        reply: &RefreshReply,
-        out: &mut VecDeque<Sent>,
-    ) -> Result<Delivery, AllocError>
-        ensures reply { IfOk result (λ delivery. reply_to self.old (Act.deliver (frames.RefreshReply reply.now)) ≡ delivery_reply delivery) }
-        ensures ok { OnOk result (self.new ≡ after self.old (Act.deliver (frames.RefreshReply reply.now))) }
-        ensures sent { OnOk result (out.new.items ≡ out.old.items ++ sent_by self.old (Act.deliver (frames.RefreshReply reply.now))) }
-        ensures err { OnErr result (self.new ≡ self.old) }
-        ensures unsent { OnErr result (out.new.items ≡ out.old.items) }
-    {
-        if !self.is_replied(reply) {
-            return Ok(Delivery::Ignored);
-        }
-        let told = reply.copy()?.into_piece();
-        let answers = self.answers_by(reply, told.as_ref())?;
-        let dues = self.asks_by(reply, told.as_ref())?;
-        let alloc = self.table.registry().allocator();
-        let handed = hand_out(alloc, &self.own, &mut self.marks, None, dues, out)?;
-        if let Err(AllocError) = absorb_told(&mut self.board, told.as_ref()) {
-            rollback(&mut self.marks, out, handed);
-            return Err(AllocError);
-        }
-        self.calls.answer(answers);
-        let _ = self.held.answered(reply.request(), reply.proc());
-        Ok(Delivery::Taken)
     }
 }

@@ -1,37 +1,25 @@
 //! The process sets are changed, at node 0.
-ghost use Rattle.std.specs.Prelude.{◌≡◌, ◌<◌, ◌||◌, ◌==◌, ◌++◌, length, Err, IfOk, OnOk, OnErr};
+ghost use Rattle.std.specs.Prelude.{◌≡◌, ◌||◌, ◌==◌, ◌++◌, length, Err, IfOk};
 ghost use Rattle.std.specs.List.{list_any};
 ghost use Rattle.pmg_value.specs.CheckOrder.{first_of};
 ghost use Rattle.pmg_value.specs.Names.{is_reserved};
 ghost use Rattle.pmg_value.specs.declared.refusal.Refusal.TheVariants as refusals;
 ghost use Rattle.pmg_scope.specs.declared.scope.Reach.TheVariants as reach;
-ghost use Rattle.pmg_commit.specs.Data.{absorbed};
 ghost use Rattle.pmg_commit.specs.Sealed.{piece_at};
 ghost use Rattle.pmg_jobinfo.specs.Refusing.{is_bad};
 ghost use Rattle.pmg_pset.specs.Refusing.{room_cause};
-ghost use Rattle.pmg_pset.specs.Sets.{host};
 ghost use Rattle.pmg_node_model.specs.Acts.{Act, Request, also, node_cause, name_cause, members_of, cause};
-ghost use Rattle.pmg_node_parts.specs.Answered.{ArePlain};
-ghost use Rattle.pmg_node_parts.specs.Answering.{AreAnswers};
-ghost use Rattle.pmg_node_model.specs.Choosing.{sends};
-ghost use Rattle.pmg_node_model.specs.Kept.{is_about};
-ghost use Rattle.pmg_node_parts.specs.Owns.{sealed_of};
 ghost use Rattle.pmg_node.specs.Replies.{defined_reply};
 ghost use Rattle.pmg_node.specs.Servers.{reply_to, sent_by, after, IsAnswered, Replies};
-ghost use Rattle.pmg_node_parts.specs.Telling.{settling_by, spread_by};
 
 use crate::committing::Committed;
-use crate::entering::{expand, has_bad, has_unknown};
+use crate::entering::{has_bad, has_unknown};
 use crate::node::Node;
-use crate::publishing::{PublishContext, Published, publish};
-use pmg_dmodex::Marks;
+use crate::sealing::SealingAct;
 use pmg_jobinfo::Registry;
 use pmg_node_model::Sent;
-use pmg_node_parts::spread;
 use pmg_pset::{MAX_MEMBERS, Sets};
-use pmg_store::Board;
 use pmg_value::{Key, Proc, Refusal};
-use std::alloc::AllocError;
 use std::collections::VecDeque;
 
 /// The bytes of an array of processes that stand before them: its tag, the tag of its items, and four of their number.
@@ -56,52 +44,9 @@ fn check_room(registry: &Registry, sets: &Sets, name: &Key, list: &[Proc]) -> Re
     sets.can_define(name, count, ARRAY_START + registry.size_meant(list))
 }
 
-/// The process that stands for the group's host.
-fn host() -> Proc
-    ensures { result ≡ host }
-{
-    Proc::of_host()
-}
-
-/// The change of the sets after a number is joined into the stores, and sent to the nodes that wait for it; then all changes go to
-/// each other node. The process that stands for the group's host is given too.
-fn publish_sets(
-    beside: &PublishContext<'_>,
-    board: &mut Board,
-    marks: &mut Marks,
-    out: &mut VecDeque<Sent>,
-    from: u64,
-) -> Result<(Proc, Published), AllocError>
-    requires node { beside.now.table.now.node ≡ beside.now.id }
-    requires plain { ArePlain beside.now.calls.now }
-    requires level { from < (sealed_of beside.now.own.now host).level }
-    ensures host { IfOk result (λ made. made.0 ≡ host) }
-    ensures joined_near { OnOk result (board.new.near ≡ absorbed board.old.near (piece_at (sealed_of beside.now.own.now host) from reach.Near)) }
-    ensures joined_far { OnOk result (board.new.far ≡ absorbed board.old.far (piece_at (sealed_of beside.now.own.now host) from reach.Far)) }
-    ensures marks { OnOk result (marks.new ≡ (sends (sealed_of beside.now.own.now) marks.old (settling_by (sealed_of beside.now.own.now) beside.now.held.now.held host
-        ++ spread_by beside.now.table.now.jobs beside.now.id (sealed_of beside.now.own.now) host)).marks) }
-    ensures sent { OnOk result (out.new.items ≡ out.old.items ++ (sends (sealed_of beside.now.own.now) marks.old (settling_by (sealed_of beside.now.own.now) beside.now.held.now.held host
-        ++ spread_by beside.now.table.now.jobs beside.now.id (sealed_of beside.now.own.now) host)).frames) }
-    ensures answers { IfOk result (λ made. AreAnswers beside.now.table.now.jobs beside.now.id (is_about host) beside.now.table.now.fences
-        (absorbed board.old.near (piece_at (sealed_of beside.now.own.now host) from reach.Near))
-        (absorbed board.old.far (piece_at (sealed_of beside.now.own.now host) from reach.Far)) beside.now.calls.now made.1.answers.items) }
-    ensures near { IfOk result (λ made. made.1.near ≡ piece_at (sealed_of beside.now.own.now host) from reach.Near) }
-    ensures far { IfOk result (λ made. made.1.far ≡ piece_at (sealed_of beside.now.own.now host) from reach.Far) }
-    ensures near_err { OnErr result (board.new.near ≡ board.old.near) }
-    ensures far_err { OnErr result (board.new.far ≡ board.old.far) }
-    ensures marks_err { OnErr result (marks.new ≡ marks.old) }
-    ensures unsent { OnErr result (out.new.items ≡ out.old.items) }
-{
-    let registry = beside.table.registry();
-    let host = host();
-    let dues = spread(registry, beside.id, beside.own, &host)?;
-    let published = publish(beside, board, marks, out, &host, from, dues)?;
-    Ok((host, published))
-}
-
 impl Node {
     /// Judges the name of a set, and that this is node 0.
-    fn check_name(&self, name: &Key) -> Result<(), Refusal>
+    pub(crate) fn check_name(&self, name: &Key) -> Result<(), Refusal>
         ensures { result ≡ first_of (also (node_cause self.now.id) (name_cause name.now)) tt }
     {
         if name.is_reserved() {
@@ -114,7 +59,7 @@ impl Node {
     }
 
     /// Judges the definition of a set, whose members are those for whom the list stands. It takes no memory.
-    fn check_definition(&self, name: &Key, list: &[Proc]) -> Result<(), Refusal>
+    pub(crate) fn check_definition(&self, name: &Key, list: &[Proc]) -> Result<(), Refusal>
         ensures { result ≡ first_of (cause self.now.jobs self.now.id self.now.holding (Act.request (Request.define name.now list.now))) tt }
     {
         let registry = self.table.registry();
@@ -149,35 +94,7 @@ impl Node {
         ensures memory { result ≡ Err refusals.NoMemory → self.new ≡ self.old }
         ensures unsent { result ≡ Err refusals.NoMemory → out.new.items ≡ out.old.items }
     {
-        self.check_definition(name, list)?;
-        let members = expand(self.table.registry(), list)?;
-        let from = self.own.sets_level();
-        let before = self.own.define(name, members)?;
-        let beside = PublishContext {
-            table: &self.table,
-            id: self.id,
-            own: &self.own,
-            held: &self.held,
-            calls: &self.calls,
-        };
-        let Ok((host, published)) = publish_sets(
-            &beside,
-            &mut self.board,
-            &mut self.marks,
-            out,
-            from,
-        ) else {
-            self.own.take_sets_back(before);
-            return Err(Refusal::NoMemory);
-        };
-        let level = self.own.sets_level();
-        self.held.settle(&host, level);
-        self.calls.answer(published.answers);
-        Ok(Committed {
-            level,
-            near: published.near,
-            far: published.far,
-        })
+        self.seal(&SealingAct::Define(name, list), out)
     }
 
     /// Deletes the process set of that name, which may then be defined again, and tells all nodes of it (PMIx Standard 5.0, process
@@ -192,33 +109,6 @@ impl Node {
         ensures memory { result ≡ Err refusals.NoMemory → self.new ≡ self.old }
         ensures unsent { result ≡ Err refusals.NoMemory → out.new.items ≡ out.old.items }
     {
-        self.check_name(name)?;
-        let from = self.own.sets_level();
-        let before = self.own.delete(name)?;
-        let beside = PublishContext {
-            table: &self.table,
-            id: self.id,
-            own: &self.own,
-            held: &self.held,
-            calls: &self.calls,
-        };
-        let Ok((host, published)) = publish_sets(
-            &beside,
-            &mut self.board,
-            &mut self.marks,
-            out,
-            from,
-        ) else {
-            self.own.take_sets_back(before);
-            return Err(Refusal::NoMemory);
-        };
-        let level = self.own.sets_level();
-        self.held.settle(&host, level);
-        self.calls.answer(published.answers);
-        Ok(Committed {
-            level,
-            near: published.near,
-            far: published.far,
-        })
+        self.seal(&SealingAct::Delete(name), out)
     }
 }

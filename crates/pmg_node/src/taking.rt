@@ -3,9 +3,12 @@ ghost use Rattle.std.specs.Prelude.{◌≡◌, []};
 ghost use Rattle.std.specs.Option.{option_map};
 ghost use Rattle.pmg_node_model.specs.Acts.{Act, Request, reply_of};
 ghost use Rattle.pmg_node_parts.specs.Calls.{standing_of, found_outcome};
-ghost use Rattle.pmg_node.specs.Replies.{taking_reply, answered_reply, pending_reply};
+ghost use Rattle.pmg_node.specs.CallEnds.{told_at};
+ghost use Rattle.pmg_node.specs.declared.call_ends.CallEnd.TheVariants as ends;
+ghost use Rattle.pmg_node.specs.Replies.{taking_reply, pending_reply};
 ghost use Rattle.pmg_node.specs.Servers.{reply_in, reply_to, sent_by, after};
 
+use crate::call_ends::{CallEnd, CallStand};
 use crate::node::Node;
 use pmg_node_parts::{Call, Found};
 use pmg_value::{Proc, Refusal, Value};
@@ -22,17 +25,17 @@ pub enum Taking {
 }
 
 /// What the process of the call is told, unless its get is answered.
-fn pending(call: Option<&Call>) -> Option<Taking>
-    ensures { option_map taking_reply result ≡ pending_reply (option_map (λ c. standing_of c.now) call.entry) }
+pub(crate) fn pending(call: Option<&Call>) -> Option<CallStand>
+    ensures { option_map (told_at ends.Take) result ≡ pending_reply (option_map (λ c. standing_of c.now) call.entry) }
 {
     match call {
         Some(Call::Answered(..)) => None,
-        Some(Call::Parked(..)) => Some(Taking::Waiting),
+        Some(Call::Parked(..)) => Some(CallStand::Waiting),
         Some(Call::Refreshed(..)) => None,
-        Some(Call::Refreshing(..)) => Some(Taking::Waiting),
-        Some(Call::InFence(_)) => Some(Taking::Idle),
-        Some(Call::Released(..)) => Some(Taking::Idle),
-        None => Some(Taking::Idle),
+        Some(Call::Refreshing(..)) => Some(CallStand::Waiting),
+        Some(Call::InFence(_)) => Some(CallStand::Idle),
+        Some(Call::Released(..)) => Some(CallStand::Idle),
+        None => Some(CallStand::Idle),
     }
 }
 
@@ -47,16 +50,17 @@ fn to_taking(found: Found) -> Result<Taking, Refusal>
     }
 }
 
-/// What the process is told whose call is over.
-fn taking_of(call: Option<Call>) -> Result<Taking, Refusal>
-    ensures { reply_in taking_reply result ≡ answered_reply (option_map standing_of call) }
+/// What the process is told, as its call stands.
+fn taking_of(stand: CallStand) -> Result<Taking, Refusal>
+    ensures { reply_in taking_reply result ≡ told_at ends.Take stand }
 {
-    let Some(call) = call else {
-        return Ok(Taking::Idle);
-    };
-    match call.into_found() {
-        Some(found) => to_taking(found),
-        None => Ok(Taking::Idle),
+    match stand {
+        CallStand::Idle => Ok(Taking::Idle),
+        CallStand::Waiting => Ok(Taking::Waiting),
+        CallStand::Over(call) => match call.into_found() {
+            Some(found) => to_taking(found),
+            None => Ok(Taking::Idle),
+        },
     }
 }
 
@@ -71,12 +75,6 @@ impl Node {
         ensures done { self.new ≡ after self.old (Act.request (Request.take proc.now)) }
         ensures silent { sent_by self.old (Act.request (Request.take proc.now)) ≡ [] }
     {
-        if let Err(refusal) = self.check_caller(proc) {
-            return Err(refusal);
-        }
-        if let Some(taking) = pending(self.calls.get(proc)) {
-            return Ok(taking);
-        }
-        taking_of(self.calls.remove(proc))
+        taking_of(self.end_call(proc, CallEnd::Take)?)
     }
 }

@@ -40,6 +40,25 @@ use Rattle.pmg_value.proofs.MadeLists.{in_flat}
 use Rattle.pmg_node_model.proofs.SendingOwed.{Covers}
 use Rattle.pmg_node_model.proofs.ChoosingNews.{by_name, present_named, present_with, present_entered, news_has, name_listed}
 
+-- a frame that asks for a header
+abbrev is_header_ask : Frame → Bool
+is_header_ask (frames.FenceAsk ask) = true
+is_header_ask _ = false
+
+-- a frame that asks anew
+abbrev is_anew_ask : Frame → Bool
+is_anew_ask (frames.RefreshAsk ask) = true
+is_anew_ask _ = false
+
+no_header_ask : (frame : Frame) → is_header_ask frame ≡ false → (ask : FenceAsk) → frame ≡ frames.FenceAsk ask → ⊥
+no_header_ask frame none ask is = false≢true (sym none ∙ ap is_header_ask is)
+
+no_anew_ask : (frame : Frame) → is_anew_ask frame ≡ false → (ask : RefreshAsk) → frame ≡ frames.RefreshAsk ask → ⊥
+no_anew_ask frame none ask is = false≢true (sym none ∙ ap is_anew_ask is)
+
+none_asked : (a : Act) → asked_by a ≡ None → (ask : CommitAsk) → asked_by a ≡ Some ask → ⊥
+none_asked a none ask asked = cc
+
 no_locals : (ls : List Local) → None ≡ Some ls → ⊥
 no_locals ls e = cc
 
@@ -279,27 +298,24 @@ module _ (jobs : Jobs) (id : ℕ) (old : NodeState) (holds : Holds jobs id old) 
   one_frame x y is = cc
 
   -- a frame that is no request
-  idle_frame : (frame : Frame) (new : NodeState) (dues : List ToSend) → Stays new → ((ask : FenceAsk) → frame ≡ frames.FenceAsk ask → ⊥) → ((ask : RefreshAsk) → frame ≡ frames.RefreshAsk ask → ⊥)
-      → (asked_by (Act.deliver frame) ≡ None) → Covers jobs id old (Act.deliver frame) new dues
+  idle_frame : (frame : Frame) (new : NodeState) (dues : List ToSend) → Stays new → is_header_ask frame ≡ false → is_anew_ask frame ≡ false → asked_by (Act.deliver frame) ≡ None
+      → Covers jobs id old (Act.deliver frame) new dues
   idle_frame frame new dues stays no_ask no_anew none = record {
     headers = λ f locals now before d i. absurd (no_header new f locals (stays.headers f) now before);
     pieces = λ p node level held less. absurd (no_piece new p node level (stays.sealers p) held less);
     gets = λ p s before now d i. no_get new p s (stays.free p before) now;
-    asked_header = λ ask locals is taken there. absurd (no_ask ask (one_frame frame (frames.FenceAsk ask) is));
-    asked_piece = λ ask other is asked taken less. absurd (not_asked ask asked);
-    asked_anew = λ ask is taken within. absurd (no_anew ask (one_frame frame (frames.RefreshAsk ask) is));
+    asked_header = λ ask locals is taken there. absurd (no_header_ask frame no_ask ask (one_frame frame (frames.FenceAsk ask) is));
+    asked_piece = λ ask other is asked taken less. absurd (none_asked (Act.deliver frame) none ask asked);
+    asked_anew = λ ask is taken within. absurd (no_anew_ask frame no_anew ask (one_frame frame (frames.RefreshAsk ask) is));
     nudged = λ is d i. absurd (not_nudge frame is);
   }
-    where
-      not_asked : (ask : CommitAsk) → asked_by (Act.deliver frame) ≡ Some ask → ⊥
-      not_asked ask asked = cc
 
   -- a header, or a name
   table_covers : (frame : Frame) (t : Fences) → let new = settled jobs id (with_table old t) in (dues : List ToSend)
       → ((g : FenceName) (locals : List Local) → own_header_of jobs id new g ≡ Some locals → own_header_of jobs id old g ≡ None
       → (d : ToSend) → In d (announcing jobs id (header id g locals)) → In d dues)
       → ((ask : FenceAsk) (locals : List Local) → frame ≡ frames.FenceAsk ask → own_header_of jobs id old ask.name ≡ Some locals → In (sendings.Whole (sent ask.node (frames.Header (header id ask.name locals)))) dues)
-      → ((ask : RefreshAsk) → frame ≡ frames.RefreshAsk ask → ⊥) → (asked_by (Act.deliver frame) ≡ None) → Covers jobs id old (Act.deliver frame) new dues
+      → is_anew_ask frame ≡ false → asked_by (Act.deliver frame) ≡ None → Covers jobs id old (Act.deliver frame) new dues
   table_covers frame t dues heads asks no_anew none =
       let h = with_table old t in
       let new = settled jobs id h in
@@ -308,13 +324,10 @@ module _ (jobs : Jobs) (id : ℕ) (old : NodeState) (holds : Holds jobs id old) 
         pieces = λ p node level held less. absurd (no_piece new p node level refl held less);
         gets = λ p s before now d i. no_get new p s (free_settled h p before) now;
         asked_header = λ ask locals is taken there. asks ask locals (one_frame frame (frames.FenceAsk ask) is) there;
-        asked_piece = λ ask other is asked taken less. absurd (not_asked ask asked);
-        asked_anew = λ ask is taken within. absurd (no_anew ask (one_frame frame (frames.RefreshAsk ask) is));
+        asked_piece = λ ask other is asked taken less. absurd (none_asked (Act.deliver frame) none ask asked);
+        asked_anew = λ ask is taken within. absurd (no_anew_ask frame no_anew ask (one_frame frame (frames.RefreshAsk ask) is));
         nudged = λ is d i. absurd (not_nudge frame is);
       }
-    where
-      not_asked : (ask : CommitAsk) → asked_by (Act.deliver frame) ≡ Some ask → ⊥
-      not_asked ask asked = cc
 
   fence_ask_covers : (a : FenceAsk) → let new = settled jobs id (with_table old (learned old.table a.name)) in
       Covers jobs id old (Act.deliver (frames.FenceAsk a)) new (telling_of jobs id a.node a.name (own_header_of jobs id old a.name) (flat_map (announcing jobs id) (news jobs id old.table new.table a.name)))
@@ -329,13 +342,10 @@ module _ (jobs : Jobs) (id : ℕ) (old : NodeState) (holds : Holds jobs id old) 
       (λ same. subst (λ o. In d (telling_of jobs id a.node a.name o others)) (sym (ap (own_header_of jobs id old) (sym same) ∙ before)) (changed_headers new a.name apart g locals now before d i))
       (λ other. absurd (no_locals locals (sym before ∙ apart g locals other now))))
       (λ ask locals is there. there_told ask (one_ask ask is) locals there others)
-      (λ ask is. not_anew ask is) refl
+      refl refl
     where
       one_ask : (ask : FenceAsk) → frames.FenceAsk a ≡ frames.FenceAsk ask → a ≡ ask
       one_ask ask is = cc
-
-      not_anew : (ask : RefreshAsk) → frames.FenceAsk a ≡ frames.RefreshAsk ask → ⊥
-      not_anew ask is = cc
 
       there_told : (ask : FenceAsk) → a ≡ ask → (locals : List Local) → own_header_of jobs id old ask.name ≡ Some locals → (others : List ToSend)
           → In (sendings.Whole (sent ask.node (frames.Header (header id ask.name locals)))) (telling_of jobs id a.node a.name (own_header_of jobs id old a.name) others)
@@ -343,17 +353,17 @@ module _ (jobs : Jobs) (id : ℕ) (old : NodeState) (holds : Holds jobs id old) 
           subst (λ (x : FenceAsk). In (sendings.Whole (sent ask.node (frames.Header (header id ask.name locals)))) (telling_of jobs id x.node x.name (own_header_of jobs id old x.name) others)) (sym same)
           (subst (λ o. In (sendings.Whole (sent ask.node (frames.Header (header id ask.name locals)))) (telling_of jobs id ask.node ask.name o others)) (sym there) (inl refl))
 
-  commit_ask_covers : (frame : Frame) (a : CommitAsk) (new : NodeState) → Stays new → asked_by (Act.deliver frame) ≡ Some a → ((ask : FenceAsk) → frame ≡ frames.FenceAsk ask → ⊥)
-      → ((ask : RefreshAsk) → frame ≡ frames.RefreshAsk ask → ⊥) → Covers jobs id old (Act.deliver frame) new (answering new a.node a.proc a.level)
+  commit_ask_covers : (frame : Frame) (a : CommitAsk) (new : NodeState) → Stays new → asked_by (Act.deliver frame) ≡ Some a → is_header_ask frame ≡ false → is_anew_ask frame ≡ false
+      → Covers jobs id old (Act.deliver frame) new (answering new a.node a.proc a.level)
   commit_ask_covers frame a new stays is_ask no_ask no_anew = record {
     headers = λ f locals now before d i. absurd (no_header new f locals (stays.headers f) now before);
     pieces = λ p node level held less. absurd (no_piece new p node level (stays.sealers p) held less);
     gets = λ p s before now d i. no_get new p s (stays.free p before) now;
-    asked_header = λ ask locals is taken there. absurd (no_ask ask (one_frame frame (frames.FenceAsk ask) is));
+    asked_header = λ ask locals is taken there. absurd (no_header_ask frame no_ask ask (one_frame frame (frames.FenceAsk ask) is));
     asked_piece = λ ask other is asked taken less.
         subst (λ (x : CommitAsk). In (piece_due new ask.proc ask.node ask.level) (answering new x.node x.proc x.level)) (one_ask ask (sym asked ∙ is_ask))
         (subst (λ b. In (piece_due new ask.proc ask.node ask.level) (if b then piece_due new ask.proc ask.node ask.level ∷ [] else [])) (sym (lt-ltb ask.level (sealer_of new ask.proc).level less)) (inl refl));
-    asked_anew = λ ask is taken within. absurd (no_anew ask (one_frame frame (frames.RefreshAsk ask) is));
+    asked_anew = λ ask is taken within. absurd (no_anew_ask frame no_anew ask (one_frame frame (frames.RefreshAsk ask) is));
     nudged = λ is d i. absurd (not_nudge frame is);
   }
     where
@@ -368,18 +378,12 @@ module _ (jobs : Jobs) (id : ℕ) (old : NodeState) (holds : Holds jobs id old) 
         headers = λ f locals now before d i. absurd (no_header new f locals refl now before);
         pieces = λ p node level held less. absurd (no_piece new p node level refl held less);
         gets = λ p s before now d i. no_get new p s (same_stays.free p before) now;
-        asked_header = λ ask locals is taken there. absurd (not_ask ask (one_frame frame (frames.FenceAsk ask) is));
-        asked_piece = λ ask other is asked taken less. absurd (not_asked ask asked);
+        asked_header = λ ask locals is taken there. absurd (no_header_ask frame refl ask (one_frame frame (frames.FenceAsk ask) is));
+        asked_piece = λ ask other is asked taken less. absurd (none_asked (Act.deliver frame) refl ask asked);
         asked_anew = λ ask is taken within. listed ask (one_ask ask (one_frame frame (frames.RefreshAsk ask) is)) within;
         nudged = λ is d i. absurd (not_nudge frame is);
       }
     where
-      not_ask : (ask : FenceAsk) → frames.RefreshAsk a ≡ frames.FenceAsk ask → ⊥
-      not_ask ask is = cc
-
-      not_asked : (ask : CommitAsk) → asked_by (Act.deliver (frames.RefreshAsk a)) ≡ Some ask → ⊥
-      not_asked ask asked = cc
-
       one_ask : (ask : RefreshAsk) → frames.RefreshAsk a ≡ frames.RefreshAsk ask → a ≡ ask
       one_ask ask is = cc
 
@@ -397,51 +401,20 @@ module _ (jobs : Jobs) (id : ℕ) (old : NodeState) (holds : Holds jobs id old) 
   pub frame_covers : (frame : Frame) → let new = settled jobs id (receives jobs id old frame) in Covers jobs id old (Act.deliver frame) new (due_by_frame jobs id old frame new)
   unfolding receives due_by_frame
   frame_covers (frames.Piece c) =
-      idle_frame (frames.Piece c) _ _ (calls_stay (receives jobs id old (frames.Piece c)) refl (λ p. refl) (λ p e. e)) (λ ask is. not_ask ask is) (λ ask is. not_anew ask is) refl
-    where
-      not_ask : (ask : FenceAsk) → frames.Piece c ≡ frames.FenceAsk ask → ⊥
-      not_ask ask is = cc
-
-      not_anew : (ask : RefreshAsk) → frames.Piece c ≡ frames.RefreshAsk ask → ⊥
-      not_anew ask is = cc
+      idle_frame (frames.Piece c) _ _ (calls_stay (receives jobs id old (frames.Piece c)) refl (λ p. refl) (λ p e. e)) refl refl refl
   frame_covers (frames.Header hd) =
       let fence = fence_told (fence_at old.table hd.name) hd.node hd.locals in
       let t = with_header old.table hd in
-      table_covers (frames.Header hd) t _ (changed_headers (settled jobs id (with_table old t)) hd.name (present_with jobs id old.table hd.name fence holds.two)) (λ ask locals is there. absurd (not_ask ask is))
-      (λ ask is. not_anew ask is) refl
-    where
-      not_ask : (ask : FenceAsk) → frames.Header hd ≡ frames.FenceAsk ask → ⊥
-      not_ask ask is = cc
-
-      not_anew : (ask : RefreshAsk) → frames.Header hd ≡ frames.RefreshAsk ask → ⊥
-      not_anew ask is = cc
+      table_covers (frames.Header hd) t _ (changed_headers (settled jobs id (with_table old t)) hd.name (present_with jobs id old.table hd.name fence holds.two)) (λ ask locals is there. absurd (no_header_ask (frames.Header hd) refl ask is)) refl refl
   frame_covers (frames.FenceAsk a) = fence_ask_covers a
-  frame_covers (frames.RangeAsk a) = commit_ask_covers (frames.RangeAsk a) a (settled jobs id old) same_stays refl (λ ask is. not_ask ask is) (λ ask is. not_anew ask is)
-    where
-      not_ask : (ask : FenceAsk) → frames.RangeAsk a ≡ frames.FenceAsk ask → ⊥
-      not_ask ask is = cc
-
-      not_anew : (ask : RefreshAsk) → frames.RangeAsk a ≡ frames.RefreshAsk ask → ⊥
-      not_anew ask is = cc
+  frame_covers (frames.RangeAsk a) = commit_ask_covers (frames.RangeAsk a) a (settled jobs id old) same_stays refl refl refl
   frame_covers (frames.DirectAsk a) =
       commit_ask_covers (frames.DirectAsk a) a (settled jobs id (holds_unless (nat_lt a.level (sealer_of old a.proc).level) old a.node a.proc a.level))
-      (unless_stays (nat_lt a.level (sealer_of old a.proc).level) a.node a.proc a.level) refl (λ ask is. not_ask ask is) (λ ask is. not_anew ask is)
-    where
-      not_ask : (ask : FenceAsk) → frames.DirectAsk a ≡ frames.FenceAsk ask → ⊥
-      not_ask ask is = cc
-
-      not_anew : (ask : RefreshAsk) → frames.DirectAsk a ≡ frames.RefreshAsk ask → ⊥
-      not_anew ask is = cc
+      (unless_stays (nat_lt a.level (sealer_of old a.proc).level) a.node a.proc a.level) refl refl refl
   frame_covers (frames.RefreshAsk a) = refresh_ask_covers a
   frame_covers (frames.RefreshReply r) =
       let told = with_far old (joined old.far (told_by r)) in
       idle_frame (frames.RefreshReply r) _ _
       (calls_stay (with_reply jobs id told r.request r.told.proc) refl (λ p. refl)
       (λ p e. get-mapped (answer_reply jobs id told r.request r.told.proc) old.calls p ∙ ap (option_map (answer_reply jobs id told r.request r.told.proc)) e))
-      (λ ask is. not_ask ask is) (λ ask is. not_anew ask is) refl
-    where
-      not_ask : (ask : FenceAsk) → frames.RefreshReply r ≡ frames.FenceAsk ask → ⊥
-      not_ask ask is = cc
-
-      not_anew : (ask : RefreshAsk) → frames.RefreshReply r ≡ frames.RefreshAsk ask → ⊥
-      not_anew ask is = cc
+      refl refl refl

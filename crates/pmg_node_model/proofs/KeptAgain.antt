@@ -21,7 +21,7 @@ use Rattle.pmg_commit.specs.Knowledge.{Contribution, knowledge_of, read}
 use Rattle.pmg_commit.specs.Levels.{level}
 use Rattle.pmg_commit.specs.Sealed.{Sealed}
 use Rattle.pmg_frame.specs.FenceOrder.{name_cmp, name_total}
-use Rattle.pmg_get.specs.Gets.{resolve}
+use Rattle.pmg_get.specs.Gets.{Outcome, resolve}
 use Rattle.pmg_get.specs.declared.view.Mode.TheVariants as modes
 use Rattle.pmg_jobinfo.specs.Jobs.{Jobs, home_of}
 use Rattle.pmg_frame.specs.Fences.{Header, participants_of}
@@ -43,11 +43,18 @@ use Rattle.pmg_node_model.proofs.ChoosingNews.{by_name}
 
 -- ---- calls that stay
 
--- where each call that is not looked at stays
-settled_where : (jobs : Jobs) (id : ℕ) (g : NodeState) (looks : CallState → Bool) → ((p : Proc) (s : CallState) → call_of g p ≡ Some s → looks s ≡ false → settle jobs id g s ≡ s)
+-- where the fence of each call that is not looked at is not ready, and its get has no answer, such a call stays
+settled_where : (jobs : Jobs) (id : ℕ) (g : NodeState) (looks : CallState → Bool)
+    → ((p : Proc) (f : FenceName) → call_of g p ≡ Some (CallState.in_fence f) → looks (CallState.in_fence f) ≡ false → is_ready_at jobs id g f ≡ false)
+    → ((p : Proc) (get : Get) → call_of g p ≡ Some (CallState.parked get) → looks (CallState.parked get) ≡ false → answer_in jobs id g get modes.Wait ≡ Outcome.parks)
     → settled jobs id g ≡ with_calls g (mapped (settle_where jobs id g looks) g.calls)
-settled_where jobs id g looks stays = ap (with_calls g) (mapped_alike g.calls (settle jobs id g) (settle_where jobs id g looks) (λ p s e. by_look p s e (looks s) refl))
+settled_where jobs id g looks unready unanswered = ap (with_calls g) (mapped_alike g.calls (settle jobs id g) (settle_where jobs id g looks) (λ p s e. by_look p s e (looks s) refl))
   where
+    stays : (p : Proc) (s : CallState) → call_of g p ≡ Some s → looks s ≡ false → settle jobs id g s ≡ s
+    stays p (CallState.in_fence f) e apart = ap (λ b. released_by b f (gone_by jobs id g.table f)) (unready p f e apart)
+    stays p (CallState.parked get) e apart = ap (settled_by get) (unanswered p get e apart)
+    stays p _ e apart = refl
+
     by_look : (p : Proc) (s : CallState) → call_of g p ≡ Some s → (b : Bool) → looks s ≡ b → settle jobs id g s ≡ (if b then settle jobs id g s else s)
     by_look p s e true t = refl
     by_look p s e false t = stays p s e t
@@ -88,36 +95,22 @@ answer_alike : (jobs : Jobs) (id : ℕ) (h g : NodeState) (get : Get) → known 
 answer_alike jobs id h g get near far = λ i. resolve (seen_of jobs id (read (near i)) (read (far i)) get) modes.Wait
 
 pub settled_on : SettledOn
-settled_on jobs id q h g is differs = settled_where jobs id g (is_about q) stays
-  where
-    stays : (p : Proc) (s : CallState) → call_of g p ≡ Some s → is_about q s ≡ false → settle jobs id g s ≡ s
-    stays p (CallState.in_fence f) e apart =
-        ap (λ b. released_by b f (gone_by jobs id g.table f))
-        (still_unready jobs id h g f (differs.old f) (λ x i. differs.far x (not_part f q x apart i)) (λ x young. differs.told f x young apart)
-        (is.fences p f (differs.calls p (CallState.in_fence f) e apart)))
-    stays p (CallState.released f gone) e apart = refl
-    stays p (CallState.parked get) e apart =
-        ap (settled_by get)
-        (answer_alike jobs id h g get (differs.near get.target apart) (differs.far get.target apart) ∙ is.gets p get (differs.calls p (CallState.parked get) e apart))
-    stays p (CallState.answered get outcome) e apart = refl
-    stays p (CallState.refreshing get number) e apart = refl
-    stays p (CallState.refreshed get outcome) e apart = refl
+settled_on jobs id q h g is differs =
+    settled_where jobs id g (is_about q)
+    (λ p f e apart.
+    still_unready jobs id h g f (differs.old f) (λ x i. differs.far x (not_part f q x apart i)) (λ x young. differs.told f x young apart)
+    (is.fences p f (differs.calls p (CallState.in_fence f) e apart)))
+    (λ p get e apart.
+    answer_alike jobs id h g get (differs.near get.target apart) (differs.far get.target apart) ∙ is.gets p get (differs.calls p (CallState.parked get) e apart))
 
 pub settled_names : SettledNames
-settled_names jobs id f h g is differs = settled_where jobs id g (is_in f) stays
-  where
-    stays : (p : Proc) (s : CallState) → call_of g p ≡ Some s → is_in f s ≡ false → settle jobs id g s ≡ s
-    stays p (CallState.in_fence x) e apart =
-        ap (λ b. released_by b x (gone_by jobs id g.table x))
-        (still_unready jobs id h g x (differs.old x) (λ y i. ap (λ d. known d y) differs.far) (λ y young. differs.told x y young apart)
-        (is.fences p x (differs.calls p (CallState.in_fence x) e apart)))
-    stays p (CallState.released x gone) e apart = refl
-    stays p (CallState.parked get) e apart =
-        ap (settled_by get)
-        (answer_alike jobs id h g get (ap (λ d. known d get.target) differs.near) (ap (λ d. known d get.target) differs.far) ∙ is.gets p get (differs.calls p (CallState.parked get) e apart))
-    stays p (CallState.answered get outcome) e apart = refl
-    stays p (CallState.refreshing get number) e apart = refl
-    stays p (CallState.refreshed get outcome) e apart = refl
+settled_names jobs id f h g is differs =
+    settled_where jobs id g (is_in f)
+    (λ p x e apart.
+    still_unready jobs id h g x (differs.old x) (λ y i. ap (λ d. known d y) differs.far) (λ y young. differs.told x y young apart)
+    (is.fences p x (differs.calls p (CallState.in_fence x) e apart)))
+    (λ p get e apart.
+    answer_alike jobs id h g get (ap (λ d. known d get.target) differs.near) (ap (λ d. known d get.target) differs.far) ∙ is.gets p get (differs.calls p (CallState.parked get) e apart))
 
 -- ---- what each change leaves
 

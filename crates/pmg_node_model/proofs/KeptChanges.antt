@@ -29,7 +29,7 @@ use Rattle.pmg_jobinfo.specs.Jobs.{Jobs, is_member, home_of}
 use Rattle.pmg_node_model.specs.Acts.{is_peer, is_concerned}
 use Rattle.pmg_node_model.specs.Holdings.{Get, CallState, NodeState, sealer_in, sealer_of, call_of, is_ready_at, with_far, with_table, with_requests, called, uncalled, sealing, holding_ask, settled_by, released_by, answer_in, settle, settled, is_replied, answer_reply, with_reply}
 use Rattle.pmg_node_model.specs.Kept.{IsOwn, Holds}
-use Rattle.pmg_node_model.proofs.Forgetting.{NamesAfter, young_before}
+use Rattle.pmg_node_model.proofs.Forgetting.{NamesAfter, same_names, young_before}
 use Rattle.pmg_node_model.proofs.KeptBasics.{lookup_row, put_cases, removed_some, put_other, get-mapped, mapped_some, host_is}
 
 -- ---- what is settled
@@ -284,9 +284,10 @@ module _ (jobs : Jobs) (id : ℕ) (h : NodeState) (holds : Holds jobs id h) wher
     parts = λ q f e. holds.parts q f (removed_some h.calls p q (CallState.in_fence f) e);
   }
 
-  -- there were more requests
-  pub requests_holds : (n : ℕ) → h.requests ≤ n → Holds jobs id (with_requests h n)
-  requests_holds n more = record {
+  -- more is known, there were more requests, and names come, of fences of the group and of the node; what they made old is forgotten
+  others_hold : (far : Data) (n : ℕ) (t : Fences) → h.requests ≤ n → NamesAfter (λ f. is_concerned jobs id f ≡ true) h.table t
+      → Holds jobs id (with_requests (with_far (with_table h t) far) n)
+  others_hold far n t more after = record {
     sealers = holds.sealers;
     callers = holds.callers;
     targets = holds.targets;
@@ -294,11 +295,20 @@ module _ (jobs : Jobs) (id : ℕ) (h : NodeState) (holds : Holds jobs id h) wher
     homes = holds.homes;
     askers = holds.askers;
     levels = holds.levels;
-    names = holds.names;
-    two = holds.two;
-    there = holds.there;
+    names = λ f has. elim (after.names f has) [ inl was ↦ holds.names f was | inr concerned ↦ concerned ];
+    two = after.two holds.two;
+    there = λ p f e young. after.kept f (holds.there p f e (young_before (λ x. is_concerned jobs id x ≡ true) h.table t after f young)) young;
     parts = holds.parts;
   }
+
+  pub requests_holds : (n : ℕ) → h.requests ≤ n → Holds jobs id (with_requests h n)
+  requests_holds n more = others_hold h.far n h.table more (same_names (λ f. is_concerned jobs id f ≡ true) h.table)
+
+  pub far_holds : (far : Data) → Holds jobs id (with_far h far)
+  far_holds far = others_hold far h.requests h.table (omega arith) (same_names (λ f. is_concerned jobs id f ≡ true) h.table)
+
+  pub names_hold : (t : Fences) → NamesAfter (λ f. is_concerned jobs id f ≡ true) h.table t → Holds jobs id (with_table h t)
+  names_hold t after = others_hold h.far h.requests t (omega arith) after
 
   -- a get that waits for the reply is answered
   pub reply_holds : (number : ℕ) (q : Proc) → Holds jobs id (with_reply jobs id h number q)
@@ -322,38 +332,6 @@ module _ (jobs : Jobs) (id : ℕ) (h : NodeState) (holds : Holds jobs id h) wher
     parts = λ p f e.
         let was = replied_some jobs id h number q p (CallState.in_fence f) e in
         holds.parts p f (was.1 ∙ ap Some (reply_in_fence jobs id h number q was.0 f was.2));
-  }
-
-  -- more is known
-  pub far_holds : (far : Data) → Holds jobs id (with_far h far)
-  far_holds far = record {
-    sealers = holds.sealers;
-    callers = holds.callers;
-    targets = holds.targets;
-    anew = holds.anew;
-    homes = holds.homes;
-    askers = holds.askers;
-    levels = holds.levels;
-    names = holds.names;
-    two = holds.two;
-    there = holds.there;
-    parts = holds.parts;
-  }
-
-  -- a name comes, of a fence of the group and of the node, and what it made old is forgotten
-  pub names_hold : (t : Fences) → NamesAfter (λ f. is_concerned jobs id f ≡ true) h.table t → Holds jobs id (with_table h t)
-  names_hold t after = record {
-    sealers = holds.sealers;
-    callers = holds.callers;
-    targets = holds.targets;
-    anew = holds.anew;
-    homes = holds.homes;
-    askers = holds.askers;
-    levels = holds.levels;
-    names = λ f has. elim (after.names f has) [ inl was ↦ holds.names f was | inr concerned ↦ concerned ];
-    two = after.two holds.two;
-    there = λ p f e young. after.kept f (holds.there p f e (young_before (λ x. is_concerned jobs id x ≡ true) h.table t after f young)) young;
-    parts = holds.parts;
   }
 
   -- a commit

@@ -203,11 +203,19 @@ cond_same : {A : Type 0} (b : Bool) (x : A) → x ≡ cond b x x
 cond_same true x = refl
 cond_same false x = refl
 
+-- one thing where both tests hold, by one test after the other
+cond_both : {A : Type 0} (b c : Bool) (x y : A) → cond (b && c) x y ≡ cond c (cond b x y) y
+cond_both true c x y = refl
+cond_both false true x y = refl
+cond_both false false x y = refl
+
+is_some_where : {A : Type 0} (b : Bool) (x : A) → is_some (cond b (Some x) None) ≡ b
+is_some_where true x = refl
+is_some_where false x = refl
+
 module _ (w : Waiting) (p : Proc) where
   gets_with : (s : CallState) (q r : Proc)
       → awaited (with_waiter w p s).gets q r ≡ cond (same_proc r p) (or_else (key_on q s) (awaited w.gets q r)) (awaited w.gets q r)
-  gets_with (CallState.in_fence f) q r = cond_same (same_proc r p) (awaited w.gets q r)
-  gets_with (CallState.released f gone) q r = cond_same (same_proc r p) (awaited w.gets q r)
   gets_with (CallState.parked get) q r = awaited-parking w.gets get.target p get.key q r ∙ swapped (same_proc q get.target) (same_proc r p)
     where
       swapped : (b c : Bool) → cond (b && c) (Some get.key) (awaited w.gets q r) ≡ cond c (or_else (cond b (Some get.key) None) (awaited w.gets q r)) (awaited w.gets q r)
@@ -215,9 +223,7 @@ module _ (w : Waiting) (p : Proc) where
       swapped true false = refl
       swapped false true = refl
       swapped false false = refl
-  gets_with (CallState.answered get outcome) q r = cond_same (same_proc r p) (awaited w.gets q r)
-  gets_with (CallState.refreshing get number) q r = cond_same (same_proc r p) (awaited w.gets q r)
-  gets_with (CallState.refreshed get outcome) q r = cond_same (same_proc r p) (awaited w.gets q r)
+  gets_with _ q r = cond_same (same_proc r p) (awaited w.gets q r)
 
   fences_with : (s : CallState) (f : FenceName) (r : Proc)
       → set.contains (waiters_in (with_waiter w p s).fences f) r ≡ cond (same_proc r p) (is_waiting_in f s || set.contains (waiters_in w.fences f) r) (set.contains (waiters_in w.fences f) r)
@@ -228,59 +234,28 @@ module _ (w : Waiting) (p : Proc) where
       swapped true false x = refl
       swapped false true x = refl
       swapped false false x = refl
-  fences_with (CallState.released g gone) f r = cond_same (same_proc r p) (set.contains (waiters_in w.fences f) r)
-  fences_with (CallState.parked get) f r = cond_same (same_proc r p) (set.contains (waiters_in w.fences f) r)
-  fences_with (CallState.answered get outcome) f r = cond_same (same_proc r p) (set.contains (waiters_in w.fences f) r)
-  fences_with (CallState.refreshing get number) f r = cond_same (same_proc r p) (set.contains (waiters_in w.fences f) r)
-  fences_with (CallState.refreshed get outcome) f r = cond_same (same_proc r p) (set.contains (waiters_in w.fences f) r)
+  fences_with _ f r = cond_same (same_proc r p) (set.contains (waiters_in w.fences f) r)
 
   filled_with : (s : CallState) → AreFilled w.fences → AreFilled (with_waiter w p s).fences
   filled_with (CallState.in_fence f) filled = too_filled w.fences f p filled
-  filled_with (CallState.released f gone) filled = filled
-  filled_with (CallState.parked get) filled = filled
-  filled_with (CallState.answered get outcome) filled = filled
-  filled_with (CallState.refreshing get number) filled = filled
-  filled_with (CallState.refreshed get outcome) filled = filled
+  filled_with _ filled = filled
 
   gets_without : (s : CallState) (q r : Proc)
       → awaited (without_call w p s).gets q r ≡ cond (same_proc r p) (cond (is_some (key_on q s)) None (awaited w.gets q r)) (awaited w.gets q r)
-  gets_without (CallState.in_fence f) q r = cond_same (same_proc r p) (awaited w.gets q r)
-  gets_without (CallState.released f gone) q r = cond_same (same_proc r p) (awaited w.gets q r)
-  gets_without (CallState.parked get) q r = awaited-unparked w.gets get.target p q r ∙ swapped (same_proc q get.target) (same_proc r p)
-    where
-      swapped : (b c : Bool) → cond (b && c) None (awaited w.gets q r)
-          ≡ cond c (cond (is_some (cond b (Some get.key) None)) None (awaited w.gets q r)) (awaited w.gets q r)
-      swapped true true = refl
-      swapped true false = refl
-      swapped false true = refl
-      swapped false false = refl
-  gets_without (CallState.answered get outcome) q r = cond_same (same_proc r p) (awaited w.gets q r)
-  gets_without (CallState.refreshing get number) q r = cond_same (same_proc r p) (awaited w.gets q r)
-  gets_without (CallState.refreshed get outcome) q r = cond_same (same_proc r p) (awaited w.gets q r)
+  gets_without (CallState.parked get) q r =
+      awaited-unparked w.gets get.target p q r ∙ cond_both (same_proc q get.target) (same_proc r p) None (awaited w.gets q r)
+      ∙ ap (λ b. cond (same_proc r p) (cond b None (awaited w.gets q r)) (awaited w.gets q r)) (sym (is_some_where (same_proc q get.target) get.key))
+  gets_without _ q r = cond_same (same_proc r p) (awaited w.gets q r)
 
   fences_without : (s : CallState) (f : FenceName) (r : Proc)
       → set.contains (waiters_in (without_call w p s).fences f) r
       ≡ cond (same_proc r p) (cond (is_waiting_in f s) false (set.contains (waiters_in w.fences f) r)) (set.contains (waiters_in w.fences f) r)
-  fences_without (CallState.in_fence g) f r = contains-less w.fences g p f r ∙ swapped (same_name f g) (same_proc r p) (set.contains (waiters_in w.fences f) r)
-    where
-      swapped : (b c x : Bool) → cond (b && c) false x ≡ cond c (cond b false x) x
-      swapped true true x = refl
-      swapped true false x = refl
-      swapped false true x = refl
-      swapped false false x = refl
-  fences_without (CallState.released g gone) f r = cond_same (same_proc r p) (set.contains (waiters_in w.fences f) r)
-  fences_without (CallState.parked get) f r = cond_same (same_proc r p) (set.contains (waiters_in w.fences f) r)
-  fences_without (CallState.answered get outcome) f r = cond_same (same_proc r p) (set.contains (waiters_in w.fences f) r)
-  fences_without (CallState.refreshing get number) f r = cond_same (same_proc r p) (set.contains (waiters_in w.fences f) r)
-  fences_without (CallState.refreshed get outcome) f r = cond_same (same_proc r p) (set.contains (waiters_in w.fences f) r)
+  fences_without (CallState.in_fence g) f r = contains-less w.fences g p f r ∙ cond_both (same_name f g) (same_proc r p) false (set.contains (waiters_in w.fences f) r)
+  fences_without _ f r = cond_same (same_proc r p) (set.contains (waiters_in w.fences f) r)
 
   filled_without : (s : CallState) → AreFilled w.fences → AreFilled (without_call w p s).fences
   filled_without (CallState.in_fence f) filled = left_filled w.fences f (set.remove (waiters_in w.fences f) p) filled
-  filled_without (CallState.released f gone) filled = filled
-  filled_without (CallState.parked get) filled = filled
-  filled_without (CallState.answered get outcome) filled = filled
-  filled_without (CallState.refreshing get number) filled = filled
-  filled_without (CallState.refreshed get outcome) filled = filled
+  filled_without _ filled = filled
 
 -- ---- the index stays one
 

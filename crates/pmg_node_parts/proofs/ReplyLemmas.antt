@@ -19,7 +19,7 @@ use Rattle.pmg_frame.specs.FenceOrder.{name_cmp}
 use Rattle.pmg_jobinfo.specs.Jobs.{Jobs}
 use Rattle.pmg_jobinfo.specs.Reserved.{reserved_value}
 use Rattle.pmg_fence.specs.Tables.{Fences, gone_by}
-use Rattle.pmg_get.specs.Gets.{Seen, resolve}
+use Rattle.pmg_get.specs.Gets.{Outcome, Seen, resolve}
 use Rattle.pmg_get.specs.declared.view.Mode.TheVariants as modes
 use Rattle.pmg_node_parts.specs.Answered.{ArePlain, ArePlainAnew, IsAsker, standings, outcome_then, still_waits, replied_by, replied_to, gets_answered, released_all, answered_about}
 use Rattle.pmg_node_parts.specs.Answering.{AreAskedAgain}
@@ -61,42 +61,24 @@ module _ (jobs : Jobs) (id : ℕ) (h : NodeState) (number : ℕ) (q : Proc) wher
   abbrev then_is : CallState → CallState
   then_is = answer_reply jobs id h number q
 
+  -- what looks alike at gets that ask anew and at those that did is as before the reply
+  reply_keeps : {A : Type 0} (f : CallState → A) → ((get : Get) (outcome : Outcome) (waits_for : ℕ) → f (CallState.refreshed get outcome) ≡ f (CallState.refreshing get waits_for)) → (s : CallState) → f (then_is s) ≡ f s
+  reply_keeps f alike (CallState.refreshing get waits_for) = by_reply (is_replied number q get waits_for)
+    where
+      by_reply : (b : Bool) → f (if b then CallState.refreshed get (answer_in jobs id h get modes.Now) else CallState.refreshing get waits_for) ≡ f (CallState.refreshing get waits_for)
+      by_reply true = alike get (answer_in jobs id h get modes.Now) waits_for
+      by_reply false = refl
+  reply_keeps f alike _ = refl
+
   -- nobody else waits for anything else
   same_asks : (r : Proc) (p : Proc) (s : CallState) → asks_on r (p, then_is s) ≡ asks_on r (p, s)
-  same_asks r p (CallState.in_fence f) = refl
-  same_asks r p (CallState.released f gone) = refl
-  same_asks r p (CallState.parked get) = refl
-  same_asks r p (CallState.answered get outcome) = refl
-  same_asks r p (CallState.refreshing get waits_for) = by_reply (is_replied number q get waits_for)
-    where
-      by_reply : (b : Bool) → asks_on r (p, if b then CallState.refreshed get (answer_in jobs id h get modes.Now) else CallState.refreshing get waits_for) ≡ []
-      by_reply true = refl
-      by_reply false = refl
-  same_asks r p (CallState.refreshed get outcome) = refl
+  same_asks r p = reply_keeps (λ s. asks_on r (p, s)) (λ get outcome waits_for. refl)
 
   same_waits : (f : FenceName) (p : Proc) (s : CallState) → waits_in f (p, then_is s) ≡ waits_in f (p, s)
-  same_waits f p (CallState.in_fence g) = refl
-  same_waits f p (CallState.released g gone) = refl
-  same_waits f p (CallState.parked get) = refl
-  same_waits f p (CallState.answered get outcome) = refl
-  same_waits f p (CallState.refreshing get waits_for) = by_reply (is_replied number q get waits_for)
-    where
-      by_reply : (b : Bool) → waits_in f (p, if b then CallState.refreshed get (answer_in jobs id h get modes.Now) else CallState.refreshing get waits_for) ≡ []
-      by_reply true = refl
-      by_reply false = refl
-  same_waits f p (CallState.refreshed get outcome) = refl
+  same_waits f p = reply_keeps (λ s. waits_in f (p, s)) (λ get outcome waits_for. refl)
 
   same_waited : (s : CallState) → waited (then_is s) ≡ waited s
-  same_waited (CallState.in_fence g) = refl
-  same_waited (CallState.released g gone) = refl
-  same_waited (CallState.parked get) = refl
-  same_waited (CallState.answered get outcome) = refl
-  same_waited (CallState.refreshing get waits_for) = by_reply (is_replied number q get waits_for)
-    where
-      by_reply : (b : Bool) → waited (if b then CallState.refreshed get (answer_in jobs id h get modes.Now) else CallState.refreshing get waits_for) ≡ []
-      by_reply true = refl
-      by_reply false = refl
-  same_waited (CallState.refreshed get outcome) = refl
+  same_waited = reply_keeps waited (λ get outcome waits_for. refl)
 
   parked_before : (s : CallState) (get : Get) → then_is s ≡ CallState.parked get → s ≡ CallState.parked get
   parked_before (CallState.in_fence f) get e = absurd cc
@@ -273,16 +255,7 @@ module _ (jobs : Jobs) (id : ℕ) (h : NodeState) (number : ℕ) (q : Proc) wher
 module _ (jobs : Jobs) (id : ℕ) (number : ℕ) (q : Proc) (h : NodeState) where
   -- a get waits for a key of the process then where it would without the reply
   same_parked : (s : CallState) → is_parked_on q (settle_where jobs id h (is_about q) (answer_reply jobs id h number q s)) ≡ is_parked_on q (settle_where jobs id h (is_about q) s)
-  same_parked (CallState.in_fence f) = refl
-  same_parked (CallState.released f gone) = refl
-  same_parked (CallState.parked get) = refl
-  same_parked (CallState.answered get outcome) = refl
-  same_parked (CallState.refreshing get waits_for) = by_reply (is_replied number q get waits_for)
-    where
-      by_reply : (b : Bool) → is_parked_on q (settle_where jobs id h (is_about q) (if b then CallState.refreshed get (answer_in jobs id h get modes.Now) else CallState.refreshing get waits_for)) ≡ false
-      by_reply true = refl
-      by_reply false = refl
-  same_parked (CallState.refreshed get outcome) = refl
+  same_parked = reply_keeps jobs id h number q (λ s. is_parked_on q (settle_where jobs id h (is_about q) s)) (λ get outcome waits_for. refl)
 
   -- a row of the calls as it is then
   abbrev after_reply : Proc × CallState → Proc × CallState

@@ -10,7 +10,7 @@ use Rattle.pmg_value.specs.declared.process.Proc.{Proc}
 use Rattle.pmg_value.specs.Process.{proc_cmp}
 use Rattle.pmg_value.specs.Rows.{map_of}
 use Rattle.pmg_value.proofs.ProcessOrder.{procs_total, exact_procs}
-use Rattle.pmg_value.proofs.RowLemmas.{at_key, found_is, some_found, insert_same, get-map_of, rows_with}
+use Rattle.pmg_value.proofs.RowLemmas.{at_key, found_there, get-map_of, insert_same, kept_is, put_found, rows_with}
 use Rattle.pmg_commit.specs.Sealed.{Sealed, fresh}
 use Rattle.pmg_node_parts.specs.Sealers.{AllSealed, sealed_by, with_fresh}
 
@@ -19,18 +19,9 @@ pub sealed-insert : (all : AllSealed) (p : Proc) (z : Sealed) → sealed_by (fin
 sealed-insert all p z = ap (λ (o : Option Sealed). unwrap_or o (fresh p)) (finite.get-insert procs_total all p z p ∙ ap (λ (b : Bool). cond b (Some z) (finite.get all p)) ((eq_by_cmp_equiv procs_total).refl p))
 
 module _ (old : List (Proc × Sealed)) (all : AllSealed) (p : Proc) (same : map_of old ≡ all) where
-  pub found : (there : Option Sealed) → at_key proc_cmp p old ≡ there → finite.get all p ≡ there
-  found there e = ap (λ (m : AllSealed). finite.get m p) (sym same) ∙ get-map_of procs_total old p ∙ e
-
-  pub sealed_there : (z : Sealed) → at_key proc_cmp p old ≡ Some z → sealed_by all p ≡ z
-  sealed_there z e = ap (λ (o : Option Sealed). unwrap_or o (fresh p)) (found (Some z) e)
-
   -- an own process is there
   pub not_there : {P : Type 0} → is_some (finite.get all p) ≡ true → at_key proc_cmp p old ≡ None → P
-  not_there own e = absurd (false≢true (sym (ap is_some (found None e)) ∙ own))
-
-  pub put_there : (new : List (Proc × Sealed)) (after : Sealed) → ((q : Proc) → at_key proc_cmp q new ≡ cond (is_at (proc_cmp p) q) (Some after) (at_key proc_cmp q old)) → map_of {R = proc_cmp} new ≡ finite.insert all p after
-  put_there new after updates = rows_with procs_total exact_procs (λ (z : Sealed). z) old new p after updates ∙ ap (λ (m : AllSealed). finite.insert m p after) same
+  not_there own e = absurd (false≢true (sym (ap is_some (kept_is procs_total exact_procs old all p same None e)) ∙ own))
 
 -- what is so once what an own process sealed was changed where it stands
 pub record IsResealed (all new : AllSealed) (p : Proc) (was now : Sealed) : Type 0 where
@@ -43,13 +34,13 @@ pub resealed : (old : List (Proc × Sealed)) (all : AllSealed) (p : Proc) → ma
     → (new : List (Proc × Sealed)) (now : Sealed) → (IsSome (at_key proc_cmp p old) → (q : Proc) → at_key proc_cmp q new ≡ cond (is_at (proc_cmp p) q) (Some now) (at_key proc_cmp q old))
     → IsResealed all (map_of new) p kept.now now
 resealed old all p view o kept some value new now updates =
-    let there = found_is o kept (at_key proc_cmp p old) some value in
-    let put = put_there old all p view new now (updates (some_found there)) in
+    let there = found_there procs_total exact_procs old all p view o kept some value in
+    let put = put_found procs_total exact_procs old all p view o kept new now some value updates in
     record {
       put = put;
-      was_there = sealed_there old all p view kept.now there;
+      was_there = ap (λ (z : Option Sealed). unwrap_or z (fresh p)) there;
       now_there = ap (λ (m : AllSealed). sealed_by m p) put ∙ sealed-insert all p now;
-      same = λ is. put ∙ insert_same procs_total exact_procs all p now (found old all p view (Some now) (there ∙ ap Some (sym is)));
+      same = λ is. put ∙ insert_same procs_total exact_procs all p now (there ∙ ap Some (sym is));
     }
 
 -- one more that made no commit

@@ -1,5 +1,5 @@
 -- Who waits in fences, in memory.
-use Rattle.std.proofs.Common.{◌≡◌, ℕ, Bool, true, false, ◌&&◌, not, cond, List, Option, Some, None, is_some, refl, sym, ap, ◌∙◌}
+use Rattle.std.proofs.Common.{◌≡◌, ℕ, Bool, true, false, ◌&&◌, not, cond, Option, Some, None, is_some, refl, sym, ap, ◌∙◌}
 use Rattle.std.specs.Prelude.{◌==◌, ◌-◌, []}
 use Rattle.std.specs.BTreeMap.{is_at}
 use Rattle.std.specs.BTreeSet as tree
@@ -14,12 +14,11 @@ use Rattle.std.specs.Ordering.{eq_by_cmp}
 use Rattle.std.specs.declared.cmp.Ordering.{Ordering}
 use Rattle.std.proofs.lemmas.Bool.{false≢true}
 use Rattle.pmg_value.specs.Process.{proc_cmp}
-use Rattle.pmg_value.specs.Rows.{map_of, changed_at}
+use Rattle.pmg_value.specs.Rows.{changed_at}
 use Rattle.pmg_value.specs.Signatures.{FenceName}
 use Rattle.pmg_value.specs.declared.process.Proc.{Proc}
 use Rattle.pmg_value.specs.InOrder.{in_order}
 use Rattle.pmg_value.proofs.ProcessOrder.{procs_total, exact_procs}
-use Rattle.pmg_value.proofs.RowLemmas.{at_key, get-map_of, insert_same, rows_with}
 use Rattle.pmg_value.proofs.SetOrder.{in_order-from_list}
 use Rattle.pmg_frame.specs.FenceOrder.{name_cmp, name_total}
 use Rattle.pmg_frame.proofs.FenceOrderLemmas.{names_exact}
@@ -40,23 +39,7 @@ module _ {K : Type 0} {R : K → K → Ordering} (o : IsTotalOrder R) (exact : I
       ∙ ap (λ b. not (eq_by_cmp R q k) && b) (sym (set.contains-from_list o old.keys q)) ∙ sym (set.contains-remove o (set.from_list old.keys) k q))
       ∙ ap (λ (t : set.FinSet R). set.remove t k) same
 
--- ---- rows
-
-module _ (rows : List (FenceName × Procs)) (whole : Waiters) (f : FenceName) (same : map_of rows ≡ whole) where
-  -- who is kept under the fence is who waits in it
-  pub kept_is : (there : Option Procs) → at_key name_cmp f rows ≡ there → finite.get whole f ≡ there
-  kept_is there e = ap (λ (m : Waiters). finite.get m f) (sym same) ∙ get-map_of name_total rows f ∙ e
-
-  -- others in their place
-  pub put_there : (new : List (FenceName × Procs)) (after : Procs)
-      → ((q : FenceName) → at_key name_cmp q new ≡ cond (is_at (name_cmp f) q) (Some after) (at_key name_cmp q rows)) → map_of {R = name_cmp} new ≡ finite.insert whole f after
-  put_there new after updates = rows_with name_total names_exact (λ (x : Procs). x) rows new f after updates ∙ ap (λ (m : Waiters). finite.insert m f after) same
-
-  -- the same in their place
-  pub put_same : (new : List (FenceName × Procs)) (there after : Procs) → at_key name_cmp f rows ≡ Some there → after ≡ there
-      → ((q : FenceName) → at_key name_cmp q new ≡ cond (is_at (name_cmp f) q) (Some after) (at_key name_cmp q rows)) → map_of {R = name_cmp} new ≡ whole
-  put_same new there after at is updates =
-      put_there new after updates ∙ insert_same name_total names_exact whole f after (kept_is (Some there) at ∙ ap Some (sym is))
+-- ---- who waits in a fence
 
 module _ (whole : Waiters) (f : FenceName) (p : Proc) where
   -- one more where somebody waits

@@ -106,11 +106,7 @@ all_asks all = flat_map (λ e. option_to_list (ask_of e.1)) (finite.entries all)
 -- the call is in the fence and not released
 abbrev pub is_waiting_in : FenceName → CallState → Bool
 is_waiting_in f (CallState.in_fence g) = eq_by_cmp name_cmp f g
-is_waiting_in f (CallState.released g gone) = false
-is_waiting_in f (CallState.parked get) = false
-is_waiting_in f (CallState.answered get outcome) = false
-is_waiting_in f (CallState.refreshing get number) = false
-is_waiting_in f (CallState.refreshed get outcome) = false
+is_waiting_in f _ = false
 
 -- who is in the call, where that is in the fence and not released
 abbrev pub waits_in : FenceName → Proc × CallState → List Proc

@@ -63,11 +63,7 @@ standing_from (inr (inr p)) = CallState.refreshed p.0 p.1
 
 pub standing_back : (s : CallState) → standing_from (standing_to s) ≡ s
 standing_back (CallState.in_fence f) = refl
-standing_back (CallState.released f gone) = refl
-standing_back (CallState.parked get) = refl
-standing_back (CallState.answered get outcome) = refl
-standing_back (CallState.refreshing get number) = refl
-standing_back (CallState.refreshed get outcome) = refl
+standing_back _ = refl
 
 -- the call that a process is in, as such a sum
 abbrev pub coded_standing : Coded CallState

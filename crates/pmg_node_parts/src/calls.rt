@@ -62,10 +62,10 @@ pub struct Calls {
 
 impl Drop for Calls {
     fn drop(self) {
-        let Calls {
-            alloc: _,
-            rows: _,
-            waiting: _,
+        let Self {
+            alloc,
+            rows,
+            waiting,
         } = self;
     }
 }

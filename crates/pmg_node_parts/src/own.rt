@@ -28,10 +28,7 @@ pub struct LocalCommits {
 
 impl Drop for LocalCommits {
     fn drop(self) {
-        let LocalCommits {
-            sealers: _,
-            sets: _,
-        } = self;
+        let Self { sealers, sets } = self;
     }
 }
 

@@ -2,7 +2,6 @@
 ghost use Rattle.std.specs.Prelude.{◌≡◌, ◌==◌, map, IfOk, OnOk, OnErr};
 ghost use Rattle.std.specs.FinMap as finite;
 ghost use Rattle.std.specs.FinSet as set;
-ghost use Rattle.std.specs.Option.{option_map};
 ghost use Rattle.pmg_value.specs.InOrder.{in_order};
 ghost use Rattle.pmg_value.specs.Rows.{changed_at};
 ghost use Rattle.pmg_node_parts.specs.Calls.{standing_of};
@@ -109,13 +108,6 @@ impl Waiters {
         }
     }
 
-    /// Who waits in the fence, where somebody does.
-    fn of(&self, name: &FenceName) -> Option<&Procs>
-        ensures { option_map (λ procs. procs.now) result ≡ finite.get self.now name.now }
-    {
-        self.rows.get(name)
-    }
-
     /// The process waits in the fence. Where an allocation fails, nothing changes.
     pub fn insert(&mut self, name: &FenceName, proc: &Proc) -> Result<(), AllocError>
         ensures ok { OnOk result (self.new ≡ waiting_too self.old name.now proc.now) }
@@ -163,7 +155,7 @@ impl Waiters {
     pub fn list(&self, name: &FenceName) -> Result<Vec<Proc>, AllocError>
         ensures { IfOk result (λ procs. procs.items ≡ in_order (waiters_in self.now name.now)) }
     {
-        match self.of(name) {
+        match self.rows.get(name) {
             Some(procs) => procs.list(),
             None => Ok(Vec::new(self.alloc)),
         }
@@ -190,7 +182,7 @@ pub struct Waiting {
 
 impl Drop for Waiting {
     fn drop(self) {
-        let Waiting { gets: _, fences: _ } = self;
+        let Self { gets, fences } = self;
     }
 }
 

@@ -8,23 +8,25 @@ use Rattle.pmg_commit.specs.Sealed.{piece_at}
 use Rattle.pmg_commit.specs.Stamped.{IsSealer}
 use Rattle.pmg_frame.specs.Fences.{CommitAsk}
 use Rattle.pmg_frame.specs.Refreshing.{RefreshReply, refresh_reply, is_refresh_reply}
-use Rattle.pmg_node_parts.specs.Owns.{sealed_of}
+use Rattle.pmg_node_parts.specs.Owns.{LocalCommits, sealed_of}
 use Rattle.pmg_node.proofs.ReplyFits.{short_name, told_fits, nothing_fits, nothing_since}
 use Rattle.pmg_node.proofs.replying.reply_of.Goals as goal
 
+-- the process that is read is the one that is asked for, and sealed what is told
+its_own : (own : LocalCommits) (p q : Proc) → p ≡ q → (sealed_of own q).proc ≡ q → (sealed_of own p).proc ≡ p
+its_own own p q same its = subst (λ (x : Proc). (sealed_of own x).proc ≡ x) (sym same) its
+
 pub from_checked-requires : goal.from_checked-requires
 from_checked-requires c =
-    let own = c.args.own.now in
     let p = c.proc-proc.result.now in
-    let z = sealed_of own p in
+    let z = sealed_of c.args.own.now p in
     let level = c.level-level.result in
-    let proc_is : p ≡ c.args.ask.now.ask.proc = c.proc-proc.ensures.value ∙ ap (λ (a : CommitAsk). a.proc) c.ask-2.ensures in
-    let its : z.proc ≡ p = subst (λ (q : Proc). (sealed_of own q).proc ≡ q) (sym proc_is) c.requires.its in
-    let sealer : IsSealer z = c.level.ensures.sealer c.proc-proc.ensures.commits in
+    let its = its_own c.args.own.now p c.args.ask.now.ask.proc (c.proc-proc.ensures.value ∙ ap (λ (a : CommitAsk). a.proc) c.ask-2.ensures) c.requires.its in
     let short : length p.nspace ≤ 255 = short_name p.nspace (ap is_nspace (sym c.as_bytes-name.ensures.value) ∙ c.as_bytes-name.ensures.name) in
     let less : level < z.level = subst (λ (n : ℕ). level < n) c.level.ensures.value c.if-level.true in
     subst (λ (x : Contribution). is_refresh_reply (refresh_reply c.node-node.result c.request.result x) ≡ true) (sym (c.into_parts-proc.ensures.value ∙ c.in_ok-piece.ensures))
-    (told_fits c.node-node.result c.request.result z level sealer (subst (λ (q : Proc). length q.nspace ≤ 255) (sym its) short) c.request.ensures.some less)
+    (told_fits c.node-node.result c.request.result z level (c.level.ensures.sealer c.proc-proc.ensures.commits)
+    (subst (λ (q : Proc). length q.nspace ≤ 255) (sym its) short) c.request.ensures.some less)
 
 pub from_checked-requires-2 : goal.from_checked-requires-2
 from_checked-requires-2 c =
@@ -42,7 +44,7 @@ returns c =
     let z = sealed_of own p in
     let level = c.level-level.result in
     let proc_is : p ≡ c.args.ask.now.ask.proc = c.proc-proc.ensures.value ∙ ap (λ (a : CommitAsk). a.proc) c.ask-2.ensures in
-    let its : z.proc ≡ p = subst (λ (q : Proc). (sealed_of own q).proc ≡ q) (sym proc_is) c.requires.its in
+    let its = its_own own p c.args.ask.now.ask.proc proc_is c.requires.its in
     let sealer : IsSealer z = c.level.ensures.sealer c.proc-proc.ensures.commits in
     let level_is : level ≡ c.args.ask.now.ask.level = c.level-level.ensures.value ∙ ap (λ (a : CommitAsk). a.level) c.ask-3.ensures in
     let node_is : c.node-node.result ≡ c.args.ask.now.ask.node = c.node-node.ensures ∙ ap (λ (a : CommitAsk). a.node) c.ask.ensures in

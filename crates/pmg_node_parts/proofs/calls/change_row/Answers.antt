@@ -20,11 +20,9 @@ returns-in-Some-clause-rows c =
 
 pub returns-in-Some-clause-left : goal.returns-in-Some-clause-left
 returns-in-Some-clause-left c =
-    let old = c.args.rows.now.entries in
-    let p = c.args.proc.now in
-    let there = found_is c.get_mut.result c.in-Some.kept (at_key proc_cmp p old) c.in-Some.is c.get_mut.ensures.value in
+    let there = found_is c.get_mut.result c.in-Some.kept (at_key proc_cmp c.args.proc.now c.args.rows.now.entries) c.in-Some.is c.get_mut.ensures.value in
     ap standing_of c.swap.ensures.y_after
-    ∙ sym (ap (λ (o : Option CallState). unwrap_or o (standing_of c.args.call)) (get-rows_of procs_total standing_of old p ∙ ap (option_map standing_of) there))
+    ∙ sym (ap (λ (o : Option CallState). unwrap_or o (standing_of c.args.call)) (get-rows_of procs_total standing_of c.args.rows.now.entries c.args.proc.now ∙ ap (option_map standing_of) there))
 
 pub returns-in_default-clause-rows : goal.returns-in_default-clause-rows
 returns-in_default-clause-rows c =

@@ -1,4 +1,4 @@
-use Rattle.std.proofs.Common.{◌≡◌, true, false, sym, ap, subst, ◌∙◌}
+use Rattle.std.proofs.Common.{◌≡◌, Bool, sym, ap, subst, ◌∙◌}
 use Rattle.pmg_value.specs.declared.refusal.Refusal.TheVariants as refusals
 use Rattle.pmg_jobinfo.specs.Jobs.{Jobs, is_registered}
 use Rattle.pmg_node_model.specs.Acts.{target_cause}
@@ -7,16 +7,17 @@ use Rattle.pmg_node.specs.Servers.{Server, IsNode}
 use Rattle.pmg_node.proofs.AskLemmas.{ask_bad, ask_known}
 use Rattle.pmg_node.proofs.node.Node.check_target.Goals as goal
 
+-- the registry is the one that the node has
+jobs_at : (t s : Server) → t ≡ s → (jobs : Jobs) → jobs ≡ t.jobs → s.jobs ≡ jobs
+jobs_at t s view jobs same = ap (λ (x : Server). x.jobs) (sym view) ∙ sym same
+
 pub returns-then-is_bad_get-clause-value : goal.returns-then-is_bad_get-clause-value
 returns-then-is_bad_get-clause-value c =
     let s = c.args.self.now in
     let get = get_of c.args.target.now c.args.key.now in
-    let bad : target_cause s.jobs c.args.proc.now get refusals.BadParam ≡ true =
-    ap (λ (x : Server). target_cause x.jobs c.args.proc.now get refusals.BadParam) (sym c.self.view_is)
-    ∙ ap (λ (j : Jobs). target_cause j c.args.proc.now get refusals.BadParam) (sym c.registry-registry.ensures)
-    ∙ sym (c.is_bad_get.ensures c.registry-registry.result.now c.look_up-known.ensures.misnamed)
-    ∙ c.if-is_bad_get.true in
-    sym (ask_bad s.jobs s.id s.holding c.args.proc.now get bad)
+    let bad = sym (c.is_bad_get.ensures c.registry-registry.result.now c.look_up-known.ensures.misnamed) ∙ c.if-is_bad_get.true in
+    let judges : Jobs → Bool = λ j. target_cause j c.args.proc.now get refusals.BadParam in
+    sym (ask_bad s.jobs s.id s.holding c.args.proc.now get (ap judges (jobs_at _ s c.self.view_is _ c.registry-registry.ensures) ∙ bad))
 
 pub returns-then-is_bad_get-clause-settled : goal.returns-then-is_bad_get-clause-settled
 returns-then-is_bad_get-clause-settled c = (subst IsNode c.self.view_is c.self.invariant.node).server.settled
@@ -24,19 +25,12 @@ returns-then-is_bad_get-clause-settled c = (subst IsNode c.self.view_is c.self.i
 pub returns-then-known-clause-value : goal.returns-then-known-clause-value
 returns-then-known-clause-value c =
     let s = c.args.self.now in
-    let space = c.args.target.now.nspace in
-    let known : is_registered s.jobs space ≡ true =
-    ap (λ (x : Server). is_registered x.jobs space) (sym c.self.view_is)
-    ∙ ap (λ (j : Jobs). is_registered j space) (sym c.registry-registry.ensures)
-    ∙ sym c.look_up-known.ensures.registered
-    ∙ c.if-known.true in
+    let jobs = jobs_at _ s c.self.view_is _ c.registry-registry.ensures in
+    let known = ap (λ (j : Jobs). is_registered j c.args.target.now.nspace) jobs ∙ sym c.look_up-known.ensures.registered ∙ c.if-known.true in
+    let good = sym (c.is_bad_get.ensures c.registry-registry.result.now c.look_up-known.ensures.misnamed) ∙ c.if-is_bad_get.false in
     let get = get_of c.args.target.now c.args.key.now in
-    let good : target_cause s.jobs c.args.proc.now get refusals.BadParam ≡ false =
-    ap (λ (x : Server). target_cause x.jobs c.args.proc.now get refusals.BadParam) (sym c.self.view_is)
-    ∙ ap (λ (j : Jobs). target_cause j c.args.proc.now get refusals.BadParam) (sym c.registry-registry.ensures)
-    ∙ sym (c.is_bad_get.ensures c.registry-registry.result.now c.look_up-known.ensures.misnamed)
-    ∙ c.if-is_bad_get.false in
-    c.check_free.ensures ∙ sym (ask_known s.jobs s.id s.holding c.args.proc.now get good known)
+    let named = ap (λ (j : Jobs). target_cause j c.args.proc.now get refusals.BadParam) jobs ∙ good in
+    c.check_free.ensures ∙ sym (ask_known s.jobs s.id s.holding c.args.proc.now get named known)
 
 pub returns-then-known-clause-settled : goal.returns-then-known-clause-settled
 returns-then-known-clause-settled c = (subst IsNode c.self.view_is c.self.invariant.node).server.settled

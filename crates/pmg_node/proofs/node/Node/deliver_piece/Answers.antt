@@ -9,7 +9,7 @@ use Rattle.pmg_node_model.specs.declared.sent.Sent.{Sent}
 use Rattle.pmg_node.proofs.FrameLemmas.{ignores}
 use Rattle.pmg_node.proofs.NodeKept.{node_stays}
 use Rattle.pmg_node.proofs.OpenLemmas.{still_open}
-use Rattle.pmg_node.proofs.PieceLemmas.{piece_reply, piece_sent, piece_moved}
+use Rattle.pmg_node.proofs.PieceLemmas.{piece_tells, piece_moved}
 use Rattle.pmg_node.proofs.node.Node.deliver_piece.Goals as goal
 
 pub returns-then-not-is_foreign : goal.returns-then-not-is_foreign
@@ -43,12 +43,12 @@ returns c =
     let t : Server = server_of inside.table inside.id inside.board inside.own inside.calls inside.held inside.marks in
     let taken = sym c.is_foreign.ensures ∙ c.if-not-is_foreign.false in
     record {
-      reply = piece_reply s c.args.piece.now taken;
+      reply = (piece_tells s c.args.piece.now taken).reply;
       ok = piece_moved s t c.args.piece.now c.self.view_is taken c.absorb_far.new.self.near c.absorb_far.new.self.far c.answer.new.self c.hand_out.new.marks c.in_ok-answers.answers.items
           c.in_ok-dues.dues.items c.absorb_far.ensures.near c.in_default.ensures.far c.answer.ensures c.in_ok-handed.ensures.marks c.in_ok-answers.ensures c.in_ok-dues.ensures;
       sent = c.in_ok-handed.ensures.frames
           ∙ ap (λ (x : Server). c.args.out.now.items ++ (sends (sealer_of x.holding) x.marks c.in_ok-dues.dues.items).frames) c.self.view_is
-          ∙ ap (λ (fs : List Sent). c.args.out.now.items ++ fs) (sym (piece_sent s c.args.piece.now taken c.in_ok-dues.dues.items c.in_ok-dues.ensures));
+          ∙ ap (λ (fs : List Sent). c.args.out.now.items ++ fs) (sym ((piece_tells s c.args.piece.now taken).sent c.in_ok-dues.dues.items c.in_ok-dues.ensures));
       err = search rules;
       unsent = search rules;
     }

@@ -14,7 +14,7 @@ use Rattle.pmg_node_model.specs.declared.sent.Sent.{Sent}
 use Rattle.pmg_node.proofs.FrameLemmas.{ignores}
 use Rattle.pmg_node.proofs.NodeKept.{node_stays}
 use Rattle.pmg_node.proofs.ReplyOpen.{replied_open, last_answered}
-use Rattle.pmg_node.proofs.ReplyTaking.{reply_reply, reply_sent, reply_calls, reply_moved}
+use Rattle.pmg_node.proofs.ReplyTaking.{reply_tells, reply_calls, reply_moved}
 use Rattle.pmg_node.proofs.node.Node.deliver_refresh_reply.Goals as goal
 
 pub returns-then-not-is_replied : goal.returns-then-not-is_replied
@@ -65,11 +65,11 @@ returns c =
     let s = c.args.self.now in
     let taken = sym c.is_replied.ensures ∙ c.if-not-is_replied.false in
     record {
-      reply = reply_reply s (r c) taken;
+      reply = (reply_tells s (r c) taken).reply;
       ok = moved c;
       sent = c.in_ok-handed.ensures.frames
           ∙ ap (λ (x : Server). c.args.out.now.items ++ (sends (sealer_of x.holding) x.marks c.in_ok-dues.dues.items).frames) c.self.view_is
-          ∙ ap (λ (fs : List Sent). c.args.out.now.items ++ fs) (sym (reply_sent s (r c) taken c.in_ok-dues.dues.items c.in_ok-dues.ensures));
+          ∙ ap (λ (fs : List Sent). c.args.out.now.items ++ fs) (sym ((reply_tells s (r c) taken).sent c.in_ok-dues.dues.items c.in_ok-dues.ensures));
       err = search rules;
       unsent = search rules;
     }

@@ -9,14 +9,14 @@ use Rattle.pmg_node_model.specs.declared.sent.Sent.{Sent}
 use Rattle.pmg_value.specs.CheckOrder.{first_of}
 use Rattle.pmg_fence.specs.Changes.{next_name}
 use Rattle.pmg_fence.specs.declared.change.Change.TheVariants as changes
-use Rattle.pmg_node_model.specs.Choosing.{sends}
 use Rattle.pmg_node_parts.specs.Owns.{sealed_of}
-use Rattle.pmg_node.specs.Content.{server_of}
 use Rattle.pmg_node.specs.Fencing.{fence_dues}
 use Rattle.pmg_node.proofs.FenceLemmas.{Steps}
 use Rattle.pmg_node.proofs.ActLemmas.{refused}
 use Rattle.pmg_node.proofs.EntryLemmas.{entry_refused, entry_idle, entry_told, entry_short, enters_it, entry_limited, entry_named, entry_steps}
+use Rattle.pmg_node.proofs.NodeInside.{server_with, sends_in}
 use Rattle.pmg_node.proofs.node.Node.enter.Goals as goal
+use Rattle.pmg_node.proofs.node.Node.enter.Goals.{After-drop-name-inside-2}
 
 pub returns-in-Err : goal.returns-in-Err
 returns-in-Err c =
@@ -60,7 +60,7 @@ returns-in_err-enter_fence-clause-reply c =
 
 -- ---- the process enters
 
-module _ (c : goal.After-drop-name-2) where
+module _ (c : After-drop-name-inside-2) where
   abbrev s : Server
   s = c.args.self.now
 
@@ -74,13 +74,13 @@ module _ (c : goal.After-drop-name-2) where
   named = entry_named s c.args.proc.now c.args.list.now c.args.collect c.in-Some.name (sym c.check_entry.ensures ∙ c.in_default.is) (sym c.in_ok-name.ensures.name ∙ c.in-Some.is)
 
   steps : let i = c.self.inside in let p = c.args.proc.now in let then = c.enter_fence.new in
-      Steps s a (Reply.entered its_name.instance) then.table i.id i.held.anew (server_of then.table i.id i.board i.own then.calls i.held then.marks)
-      (sends (sealed_of i.own) i.marks (fence_dues i.table c.in-Some.name (changes.Entered p (sealed_of i.own p).level))).frames
+      Steps s a (Reply.entered its_name.instance) then.table i.id i.held.anew (server_with i then.table then.calls then.marks)
+      (sends_in i (fence_dues i.table c.in-Some.name (changes.Entered p (sealed_of i.own p).level))).frames
   steps =
       let i = c.self.inside in
       let then = c.enter_fence.new in
       let ok = c.in_ok-enter_fence.ensures in
-      entry_steps s c.args.proc.now c.args.list.now c.args.collect i.table i.id i.board i.own i.calls i.held i.marks c.self.view_is c.self.invariant named.0 c.in-Some.name named.1
+      entry_steps s c.args.proc.now c.args.list.now c.args.collect i c.self.view_is c.self.invariant named.0 c.in-Some.name named.1
       then.calls then.table then.marks ok.calls ok.table ok.marks
 
 pub invariant_of-self-2 : goal.invariant_of-self-2

@@ -6,6 +6,7 @@ use Rattle.pmg_value.specs.declared.process.Proc.{Proc}
 use Rattle.pmg_scope.specs.declared.scope.Reach.TheVariants as reach
 use Rattle.pmg_commit.specs.Sealed.{ended_with, piece_at}
 use Rattle.pmg_fence.specs.Codes.{Known}
+use Rattle.pmg_dmodex.specs.Levels.{without_below}
 use Rattle.pmg_dmodex.specs.Requests.{Requests}
 use Rattle.pmg_node_model.specs.Acts.{Act, Request, Reply, caller_cause}
 use Rattle.pmg_node.specs.Content.{server_of}
@@ -15,6 +16,7 @@ use Rattle.pmg_node_parts.specs.Owns.{LocalCommits, sealed_of}
 use Rattle.pmg_node.specs.Servers.{Server, IsNode, reply_to, sent_by, after}
 use Rattle.pmg_node_model.specs.declared.sent.Sent.{Sent}
 use Rattle.pmg_node_parts.specs.Answered.{ArePlain}
+use Rattle.pmg_node_parts.specs.Codes.{Calls}
 use Rattle.pmg_node_parts.proofs.AnswerLemmas.{plain_calls}
 use Rattle.pmg_node.proofs.ActLemmas.{refused}
 use Rattle.pmg_node.proofs.EndLemmas.{MayEnd, put_there, own_ended_level, may_end, end_refused, end_refuses, end_accepted, level_rises, piece_is, ended_reply, ended_sent, ended_after}
@@ -81,7 +83,7 @@ publish-told-requires-clause-plain c =
 
 -- ---- the process ends
 
-module _ (c : goal.After-end_calls) where
+module _ (c : goal.Joined-remove) where
   abbrev s : Server
   s = server_of c.self.inside.table c.self.inside.id c.self.inside.board c.self.inside.own c.self.inside.calls c.self.inside.held c.self.inside.marks
 
@@ -97,16 +99,16 @@ module _ (c : goal.After-end_calls) where
   told : c.publish-told.result ≡ Ok c.in-Ok-kept.published
   told = sym c.keep_end-kept.ensures.same ∙ c.in-Ok-kept.is
 
-  moved : server_of c.keep_end-kept.new.table c.self.inside.id c.publish-told.new.board c.keep_end-kept.new.own c.end_calls.new.calls c.settle.new.self c.publish-told.new.marks
+  moved : server_of c.keep_end-kept.new.table c.self.inside.id c.publish-told.new.board c.keep_end-kept.new.own c.remove.new.self c.keep_published-ended.new.held c.publish-told.new.marks
       ≡ after c.args.self.now act
   moved =
-      (λ i. server_of (c.in-Ok-kept.ensures.table i) c.self.inside.id c.publish-told.new.board (c.in-Ok-kept.ensures.own i) c.end_calls.new.calls c.settle.new.self c.publish-told.new.marks)
+      (λ i. server_of (c.in-Ok-kept.ensures.table i) c.self.inside.id c.publish-told.new.board (c.in-Ok-kept.ensures.own i) c.remove.new.self c.keep_published-ended.new.held c.publish-told.new.marks)
       ∙ ended_after s p free c.self.invariant.node.server c.end.new.table.jobs c.end.new.own c.end.new.table.fences c.level-from.result c.in-Ok-kept.published.answers.items c.in-Ok.dues.items
       (ap (λ (k : Known). k.jobs) c.in-Ok.ensures.table) c.in-Ok.ensures.own (ap (λ (k : Known). k.fences) c.in-Ok.ensures.table) c.level-from.ensures.value (IfOk-at_ok _ told c.publish-told.ensures.answers) c.in-Ok.ensures.dues
-      c.publish-told.new.board.near c.publish-told.new.board.far c.end_calls.new.calls c.settle.new.self.held c.publish-told.new.marks c.level-level.result c.settle.new.self.anew.last
-      (IfOk-at_ok _ told c.publish-told.ensures.joined_near) (IfOk-at_ok _ told c.publish-told.ensures.joined_far) c.end_calls.ensures
-      (c.level-level.ensures.value ∙ ap (λ (o : LocalCommits). (sealed_of o p).level) c.in-Ok-kept.ensures.own) (ap (λ (r : Requests). r.held) c.settle.ensures)
-      (ap (λ (r : Requests). r.anew.last) c.settle.ensures) (IfOk-at_ok _ told c.publish-told.ensures.marks)
+      c.publish-told.new.board.near c.publish-told.new.board.far c.remove.new.self c.keep_published-ended.new.held.held c.publish-told.new.marks c.keep_published-ended.result.level c.keep_published-ended.new.held.anew.last
+      (IfOk-at_ok _ told c.publish-told.ensures.joined_near) (IfOk-at_ok _ told c.publish-told.ensures.joined_far) (c.remove.ensures.rest ∙ ap (λ (m : Calls). finite.remove m p) c.keep_published-ended.ensures.calls)
+      (c.keep_published-ended.ensures.level ∙ ap (λ (o : LocalCommits). (sealed_of o p).level) c.in-Ok-kept.ensures.own) (ap (λ (r : Requests). r.held) c.keep_published-ended.ensures.held ∙ ap (without_below s.holding.held p) (sym c.keep_published-ended.ensures.level))
+      (ap (λ (r : Requests). r.anew.last) c.keep_published-ended.ensures.held) (IfOk-at_ok _ told c.publish-told.ensures.marks)
       ∙ ap (λ (x : Server). after x act) c.self.view_is
 
 pub invariant_of-self-2 : goal.invariant_of-self-2
@@ -117,8 +119,8 @@ invariant_of-self-2 c =
       same = ap (λ (k : Known). k.node) left ∙ c.self.invariant.same;
       told = ap (λ (k : Known). k.waiting) left;
       node = subst IsNode (sym (moved c)) (node_stays c.args.self.now (act c) kept);
-      replies = still_open (s c) c.args.self.now c.self.view_is (act c) kept _ (moved c) (ap (λ (r : Requests). r.anew.last) c.settle.ensures) c.self.inside.held.anew c.settle.new.self.anew
-          (ap (λ (r : Requests). r.anew) c.settle.ensures) c.self.invariant.replies;
+      replies = still_open (s c) c.args.self.now c.self.view_is (act c) kept _ (moved c) (ap (λ (r : Requests). r.anew.last) c.keep_published-ended.ensures.held) c.self.inside.held.anew c.keep_published-ended.new.held.anew
+          (ap (λ (r : Requests). r.anew) c.keep_published-ended.ensures.held) c.self.invariant.replies;
     }
 
 pub returns : goal.returns
@@ -134,7 +136,7 @@ returns c =
     record {
       reply = ap (λ (x : Server). reply_to x (act c)) (sym c.self.view_is)
           ∙ ended_reply (s c) (p c) (free c) kept table.jobs c.end.new.own table.fences from answers dues jobs c.in-Ok.ensures.own fences c.level-from.ensures.value are c.in-Ok.ensures.dues
-          ∙ ap Reply.ended (sym (c.level-level.ensures.value ∙ ap (λ (o : LocalCommits). (sealed_of o (p c)).level) c.in-Ok-kept.ensures.own));
+          ∙ ap Reply.ended (sym (c.keep_published-ended.ensures.level ∙ ap (λ (o : LocalCommits). (sealed_of o (p c)).level) c.in-Ok-kept.ensures.own));
       done = λ _. moved c;
       sent = λ _. IfOk-at_ok _ (told c) c.publish-told.ensures.sent
           ∙ ap (λ (fs : List Sent). c.args.out.now.items ++ fs)
@@ -142,10 +144,10 @@ returns c =
           ∙ ap (λ (x : Server). c.args.out.now.items ++ sent_by x (act c)) c.self.view_is;
       memory = search rules;
       unsent = search rules;
-      near = IfOk-at_ok _ (told c) c.publish-told.ensures.near
+      near = c.keep_published-ended.ensures.near ∙ IfOk-at_ok _ (told c) c.publish-told.ensures.near
           ∙ piece_is (s c) (p c) (free c) kept table.jobs c.end.new.own table.fences from answers dues jobs c.in-Ok.ensures.own fences c.level-from.ensures.value are c.in-Ok.ensures.dues reach.Near
           ∙ ap (λ (x : Server). piece_at (ended_with (sealer_of x.holding (p c))) (sealer_of x.holding (p c)).level reach.Near) c.self.view_is;
-      far = IfOk-at_ok _ (told c) c.publish-told.ensures.far
+      far = c.keep_published-ended.ensures.far ∙ IfOk-at_ok _ (told c) c.publish-told.ensures.far
           ∙ piece_is (s c) (p c) (free c) kept table.jobs c.end.new.own table.fences from answers dues jobs c.in-Ok.ensures.own fences c.level-from.ensures.value are c.in-Ok.ensures.dues reach.Far
           ∙ ap (λ (x : Server). piece_at (ended_with (sealer_of x.holding (p c))) (sealer_of x.holding (p c)).level reach.Far) c.self.view_is;
     }
