@@ -23,7 +23,7 @@ use Rattle.pmg_audit.specs.Dues.{Due, due_event, due_in, last_puts, dues_of, tak
 use Rattle.pmg_audit.specs.Moves.{Move, Put, PutsFit, event_in, is_by}
 use Rattle.pmg_audit.specs.Orders.{moves_at}
 use Rattle.pmg_audit.specs.Replaying.{AllMayPut, AreReplayed, AreWhole, MayPutAt, SomeUnsaid, moves_by}
-use Rattle.pmg_audit.specs.Runs.{ArePut, TellsOf, told_at}
+use Rattle.pmg_audit.specs.Runs.{ArePut, TellsOf, journal_at}
 use Rattle.pmg_audit.specs.Taking.{AreSayings, SomeLeft, last_of, lasts_of, sayers}
 use Rattle.pmg_audit.specs.declared.moves.Due.{Due as KeptDue}
 use Rattle.pmg_audit.specs.declared.moves.Saying.{Saying}
@@ -177,7 +177,7 @@ module _ (jobs : Jobs) (are : AreJobs jobs) (js : List Journal) (ts : List Trans
   said_is : (p : Proc) → said_for ts p ≡ map due_in (moves_by p (moves_at all (home_of jobs p))) ++ rest_of ss p
   said_is p = sym (rest_is first ts sayings p) ∙ done.rests p
 
-  made_is : (p : Proc) → map due_event (map due_in (moves_by p (moves_at all (home_of jobs p)))) ≡ filter (λ (e : Happening). is_by p e.act) (told_at js (home_of jobs p))
+  made_is : (p : Proc) → map due_event (map due_in (moves_by p (moves_at all (home_of jobs p)))) ≡ filter (λ (e : Happening). is_by p e.act) (journal_at js (home_of jobs p))
   made_is p = events_by p (moves_at all (home_of jobs p)) ∙ ap (filter (λ (e : Happening). is_by p e.act)) (done.events (home_of jobs p) (home_inside p))
 
   server_is : (p : Proc) (d : Server) → get_or r.nodes.items (home_of jobs p) d ≡ home_after jobs js p
@@ -226,7 +226,7 @@ module _ (jobs : Jobs) (are : AreJobs jobs) (js : List Journal) (ts : List Trans
     agreed = record {
       apart = apart;
       taken = taken;
-      said = λ n inside. subst (λ (rest : Proc → List Due). AreSaid (new_server jobs n) rest (told_at js n)) (λ i p. rest_is first ts sayings p i) (done.said n inside);
+      said = λ n inside. subst (λ (rest : Proc → List Due). AreSaid (new_server jobs n) rest (journal_at js n)) (λ i p. rest_is first ts sayings p i) (done.said n inside);
       calls = are_told;
       last = all_may last;
     }
@@ -248,7 +248,7 @@ module _ (jobs : Jobs) (are : AreJobs jobs) (js : List Journal) (ts : List Trans
       let distinct = subst AreDistinct (sym procs) (are_distinct first ts sayings apart) in
       let of = transcript_of first ts p sayings (subst (In p) procs (proc_in ss s some.1)) in
       let t : Transcript = of.0 in
-      let tells : map due_event (dues_of t) ≡ filter (λ (e : Happening). is_by t.proc e.act) (told_at js (home_of jobs t.proc)) = each_at (TellsOf jobs js) ts t agreed.calls of.1 in
+      let tells : map due_event (dues_of t) ≡ filter (λ (e : Happening). is_by t.proc e.act) (journal_at js (home_of jobs t.proc)) = each_at (TellsOf jobs js) ts t agreed.calls of.1 in
       let own : dues_of t ≡ map due_in (moves_by t.proc (moves_at all (home_of jobs t.proc))) ++ rest_of ss t.proc = sym (said_own ts t apart of.1) ∙ said_is t.proc in
       let made = map due_event (map due_in (moves_by t.proc (moves_at all (home_of jobs t.proc)))) in
       let none : map due_event (rest_of ss t.proc) ≡ [] = nothing_more made (map due_event (rest_of ss t.proc))
@@ -259,4 +259,4 @@ module _ (jobs : Jobs) (are : AreJobs jobs) (js : List Journal) (ts : List Trans
 pub unsaid_unlike : (jobs : Jobs) (js : List Journal) (ts : List Transcript) (first : List Saying) → AreSayings first ts → SomeUnsaid jobs js first → AreAgreed jobs js ts → ⊥
 unfolding SomeUnsaid
 unsaid_unlike jobs js ts first sayings unsaid agreed =
-    unsaid.2 (subst (λ (rest : Proc → List Due). AreSaid (new_server jobs unsaid.0) rest (told_at js unsaid.0)) (λ i p. sym (rest_is first ts sayings p) i) (agreed.said unsaid.0 unsaid.1))
+    unsaid.2 (subst (λ (rest : Proc → List Due). AreSaid (new_server jobs unsaid.0) rest (journal_at js unsaid.0)) (λ i p. sym (rest_is first ts sayings p) i) (agreed.said unsaid.0 unsaid.1))

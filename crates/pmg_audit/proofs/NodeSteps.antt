@@ -18,7 +18,7 @@ use Rattle.pmg_audit.specs.Faults.{AreStale}
 use Rattle.pmg_audit.specs.Moves.{Move, Replays, caller_of, server_after, event_in}
 use Rattle.pmg_audit.specs.Orders.{list_or_none, moves_at}
 use Rattle.pmg_audit.specs.Replaying.{AddsNode, AllUnsaid, AreReplayed, AreUnsaid, HaveHappened, IsReplayed, SomeUnsaid, moves_by}
-use Rattle.pmg_audit.specs.Runs.{told_at}
+use Rattle.pmg_audit.specs.Runs.{journal_at}
 use Rattle.pmg_audit.specs.declared.moves.Saying.{Saying}
 use Rattle.pmg_audit.specs.declared.replaying.AllReplayed.{AllReplayed}
 use Rattle.pmg_audit.specs.declared.replaying.Replay.{Replay}
@@ -84,7 +84,7 @@ said_home (e ∷ es) s rest other same said = (
 -- ---- one node more
 
 module _ (jobs : Jobs) (js : List Journal) (first : List Saying) (k : ℕ) (r : AllReplayed) (ss : List Saying) (done : AreReplayed jobs js first k r ss) (inside : k < length jobs.nodes)
-    (one : Replay) (ss2 : List Saying) (replay : IsReplayed (new_server jobs k) ss (told_at js k) one ss2) (r2 : AllReplayed)
+    (one : Replay) (ss2 : List Saying) (replay : IsReplayed (new_server jobs k) ss (journal_at js k) one ss2) (r2 : AllReplayed)
     (nodes : r2.nodes.items ≡ r.nodes.items ++ one.node ∷ []) (lanes : r2.lanes.items ≡ r.lanes.items ++ one.lane ∷ [])
     (fresh : r2.is_stale ≡ false → (r.is_stale ≡ false) × (one.is_stale ≡ false)) (stale : r2.is_stale ≡ true → (r.is_stale ≡ true) ⊎ (one.is_stale ≡ true)) where
   abbrev all : List (List Move)
@@ -145,16 +145,16 @@ module _ (jobs : Jobs) (js : List Journal) (first : List Saying) (k : ℕ) (r : 
       away : (home_of jobs p ≡ k → ⊥) → rest_of ss p ≡ rest_of ss2 p
       away far = replay.rests p ∙ ap (λ l. map due_in l ++ rest_of ss2 p) (replay.home p far)
 
-  said_here : AreSaid (new_server jobs k) (rest_of first) (told_at js k)
+  said_here : AreSaid (new_server jobs k) (rest_of first) (journal_at js k)
   said_here =
-      said_home (told_at js k) (new_server jobs k) (rest_of ss) (rest_of first)
+      said_home (journal_at js k) (new_server jobs k) (rest_of ss) (rest_of first)
       (λ p home. sym (done.rests p ∙ ap (λ l. map due_in (moves_by p l) ++ rest_of ss p) (none_at (home_of jobs p) (omega (arith, home))))) replay.said
 
-  said_now : (n : ℕ) → n < k + 1 → AreSaid (new_server jobs n) (rest_of first) (told_at js n)
+  said_now : (n : ℕ) → n < k + 1 → AreSaid (new_server jobs n) (rest_of first) (journal_at js n)
   said_now n less = elim (three n k) [
     | inl l ↦ done.said n l
     | inr rest ↦ elim rest [
-      | inl same ↦ subst (λ i. AreSaid (new_server jobs i) (rest_of first) (told_at js i)) (sym same) said_here
+      | inl same ↦ subst (λ i. AreSaid (new_server jobs i) (rest_of first) (journal_at js i)) (sym same) said_here
       | inr more ↦ absurd (omega (arith, less, more))
     ]
   ]
@@ -169,7 +169,7 @@ module _ (jobs : Jobs) (js : List Journal) (first : List Saying) (k : ℕ) (r : 
     nodes = ap length nodes ∙ length_push r.nodes.items one.node ∙ ap (λ n. n + 1) done.nodes;
     lanes = ap length lanes ∙ length_push r.lanes.items one.lane ∙ ap (λ n. n + 1) done.lanes;
     ends = ends_now;
-    events = for_each (λ n l. map event_in l ≡ told_at js n) done.events replay.events;
+    events = for_each (λ n l. map event_in l ≡ journal_at js n) done.events replay.events;
     fresh = λ f. let both = fresh f in for_each (λ n l. Replays (new_server jobs n) l) (done.fresh both.0) (replay.fresh both.1);
     stale = λ t. stale_now (stale t);
     rests = rests_now;
@@ -194,11 +194,11 @@ nodes_none jobs js first r nodes lanes stale = record {
 -- ---- an event that is not said
 
 pub not_said_at : (jobs : Jobs) (js : List Journal) (first : List Saying) (k : ℕ) (r : AllReplayed) (ss : List Saying) → AreReplayed jobs js first k r ss → k < length jobs.nodes
-    → (AreSaid (new_server jobs k) (rest_of ss) (told_at js k) → ⊥) → AreUnsaid jobs js (rest_of first)
+    → (AreSaid (new_server jobs k) (rest_of ss) (journal_at js k) → ⊥) → AreUnsaid jobs js (rest_of first)
 not_said_at jobs js first k r ss done inside not = (
   k,
   inside,
-  λ said. not (said_home (told_at js k) (new_server jobs k) (rest_of first) (rest_of ss)
+  λ said. not (said_home (journal_at js k) (new_server jobs k) (rest_of first) (rest_of ss)
       (λ p home. done.rests p ∙ ap (λ l. map due_in (moves_by p l) ++ rest_of ss p) (past_all (all_of r.lanes.items) (home_of jobs p)
       (let count = length-map r.lanes.items lane_of ∙ done.lanes in omega (arith, count, home)))) said),
 )
@@ -206,7 +206,7 @@ not_said_at jobs js first k r ss done inside not = (
 -- ---- as clauses say it
 
 pub adds_node : (jobs : Jobs) (js : List Journal) (k : ℕ) (r : AllReplayed) (ss : List Saying) → k < length jobs.nodes → (one : Replay) (ss2 : List Saying)
-    → HaveHappened (new_server jobs k) ss (told_at js k) one ss2 → (r2 : AllReplayed) → r2.nodes.items ≡ r.nodes.items ++ one.node ∷ [] → r2.lanes.items ≡ r.lanes.items ++ one.lane ∷ []
+    → HaveHappened (new_server jobs k) ss (journal_at js k) one ss2 → (r2 : AllReplayed) → r2.nodes.items ≡ r.nodes.items ++ one.node ∷ [] → r2.lanes.items ≡ r.lanes.items ++ one.lane ∷ []
     → (r2.is_stale ≡ false → (r.is_stale ≡ false) × (one.is_stale ≡ false)) → (r2.is_stale ≡ true → (r.is_stale ≡ true) ⊎ (one.is_stale ≡ true)) → AddsNode jobs js k r ss r2 ss2
 unfolding HaveHappened AddsNode
 adds_node jobs js k r ss inside one ss2 replay r2 nodes lanes fresh stale = λ first done. nodes_more jobs js first k r ss done inside one ss2 replay r2 nodes lanes fresh stale
@@ -217,6 +217,6 @@ unfolding AddsNode
 node_added jobs js first k r ss r2 ss2 done adds = adds first done
 
 pub some_unsaid : (jobs : Jobs) (js : List Journal) (first : List Saying) (k : ℕ) (r : AllReplayed) (ss : List Saying) → AreReplayed jobs js first k r ss → k < length jobs.nodes
-    → AllUnsaid (new_server jobs k) ss (told_at js k) → SomeUnsaid jobs js first
+    → AllUnsaid (new_server jobs k) ss (journal_at js k) → SomeUnsaid jobs js first
 unfolding AllUnsaid SomeUnsaid
 some_unsaid jobs js first k r ss done inside not = not_said_at jobs js first k r ss done inside not

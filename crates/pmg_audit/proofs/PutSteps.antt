@@ -26,24 +26,11 @@ use Rattle.pmg_world.specs.Keeping.{AreCaches}
 use Rattle.pmg_caches.proofs.CauseLemmas.{due_free, first_bad}
 use Rattle.pmg_world.proofs.ClientLemmas.{put_kept}
 use Rattle.pmg_world.proofs.HappenLemmas.{put_is}
+use Rattle.pmg_world.proofs.PutLemmas.{free_client}
 use Rattle.pmg_group_model.proofs.RunLemmas.{next_run, run_none}
 use Rattle.pmg_audit.specs.Moves.{AllPut, Put, put_all}
 use Rattle.pmg_audit.specs.Orders.{put_told}
 use Rattle.pmg_audit.specs.Runs.{events_at}
-
--- a process of which nothing is amiss is none of the standard's
-free_client : (jobs : Jobs) (node : ℕ) (h : NodeState) (p : Proc) → first_of (free_cause jobs node h p) (tt {0}) ≡ Ok tt → is_reserved p.nspace ≡ false
-free_client jobs node h p free = by (is_reserved p.nspace) refl
-  where
-    never : ◌≡◌ {A = Result (Unit {0}) Refusal} (Err refusals.BadParam) (Ok tt) → true ≡ false
-    never e = cc
-
-    bad : is_reserved p.nspace ≡ true → free_cause jobs node h p refusals.BadParam ≡ true
-    bad e = (λ i. (e i || is_misnamed jobs p) || false)
-
-    by : (b : Bool) → is_reserved p.nspace ≡ b → b ≡ false
-    by true e = never (sym (first_bad (free_cause jobs node h p) (tt {0}) refl (bad e)) ∙ free)
-    by false e = refl
 
 -- what a cache answers a put
 abbrev cache_due : {Y : Type 0} → Bool → Bool → Y → Result Y Refusal

@@ -15,7 +15,7 @@ use Rattle.pmg_journal.specs.declared.journal.Journal.{Journal}
 use Rattle.pmg_journal.specs.declared.transcript.Transcript.{Transcript}
 use Rattle.pmg_audit.specs.Dues.{Due, due_event, last_puts, dues_of, takes_all}
 use Rattle.pmg_audit.specs.Moves.{Put, caller_of}
-use Rattle.pmg_audit.specs.Runs.{TellsOf, told_at}
+use Rattle.pmg_audit.specs.Runs.{TellsOf, journal_at}
 
 -- no two transcripts are of one process
 abbrev pub AreOfOtherProcs : List Transcript → Type 0
@@ -58,7 +58,7 @@ AreSaid s rest (e ∷ es) = IsSaidBy s rest (caller_of e.act) e × AreSaid (afte
 
 -- the server of the process's home, once all happened that its journal tells
 abbrev pub home_after : Jobs → List Journal → Proc → Server
-home_after jobs js p = after_all (new_server jobs (home_of jobs p)) (told_at js (home_of jobs p))
+home_after jobs js p = after_all (new_server jobs (home_of jobs p)) (journal_at js (home_of jobs p))
 
 -- what the process put after its last event may be put at its home by then
 abbrev pub MayPutLast : Jobs → List Journal → Transcript → Type 0
@@ -70,6 +70,6 @@ MayPutLast jobs js t = MayPut (home_after jobs js t.proc) t.proc (last_puts t)
 pub record AreAgreed (jobs : Jobs) (js : List Journal) (ts : List Transcript) : Type 0 where
   pub apart : AreOfOtherProcs ts
   pub taken : Each (λ (t : Transcript). takes_all no_puts (noted_in t) ≡ true) ts
-  pub said : (n : ℕ) → n < length jobs.nodes → AreSaid (new_server jobs n) (said_for ts) (told_at js n)
+  pub said : (n : ℕ) → n < length jobs.nodes → AreSaid (new_server jobs n) (said_for ts) (journal_at js n)
   pub calls : Each (TellsOf jobs js) ts
   pub last : Each (MayPutLast jobs js) ts

@@ -10,7 +10,7 @@ use Rattle.pmg_journal.specs.declared.transcript.Transcript.{Transcript}
 use Rattle.pmg_audit.specs.Agreeing.{AreAgreed}
 use Rattle.pmg_audit.specs.Moves.{Move}
 use Rattle.pmg_audit.specs.Orders.{NoOrder}
-use Rattle.pmg_audit.specs.Runs.{AreJournals, AreMoves, told_at}
+use Rattle.pmg_audit.specs.Runs.{AreJournals, AreMoves, journal_at}
 
 -- one journal for each node of one group
 abbrev pub AreOne : List Journal → Type 0
@@ -19,7 +19,7 @@ AreOne (j ∷ js) = AreJournals j.registry (j ∷ js)
 
 -- the reply of an event of some journal is another on replay
 unfoldable pub AreStale : Jobs → List Journal → Type 0
-AreStale jobs js = (n : ℕ) × (n < length jobs.nodes) × (IsReplay (new_server jobs n) (told_at js n) → ⊥)
+AreStale jobs js = (n : ℕ) × (n < length jobs.nodes) × (IsReplay (new_server jobs n) (journal_at js n) → ⊥)
 
 -- No order puts each delivered frame after its sending: of the frames that the nodes send where the journals are replayed.
 pub record AreUnordered (jobs : Jobs) (js : List Journal) : Type 0 where

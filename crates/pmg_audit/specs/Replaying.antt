@@ -18,7 +18,7 @@ use Rattle.pmg_audit.specs.Dues.{Due, made_due, due_in}
 use Rattle.pmg_audit.specs.Faults.{AreStale}
 use Rattle.pmg_audit.specs.Moves.{Move, Put, PutsAt, Replays, caller_of, server_after, event_in, is_by}
 use Rattle.pmg_audit.specs.Orders.{moves_at}
-use Rattle.pmg_audit.specs.Runs.{AreEnds, AreMoves, ArePut, told_at}
+use Rattle.pmg_audit.specs.Runs.{AreEnds, AreMoves, ArePut, journal_at}
 use Rattle.pmg_audit.specs.Taking.{SomeLeft, lasts_of}
 use Rattle.pmg_audit.specs.declared.moves.Saying.{Saying}
 use Rattle.pmg_audit.specs.declared.replaying.Replay.{Replay}
@@ -69,11 +69,11 @@ pub record AreReplayed (jobs : Jobs) (js : List Journal) (old : List Saying) (co
   pub nodes : length r.nodes.items ≡ count
   pub lanes : length r.lanes.items ≡ count
   pub ends : (n : ℕ) (d : Server) → n < count → slice_index_or r.nodes.items n d ≡ server_after (new_server jobs n) (moves_at (all_of r.lanes.items) n)
-  pub events : (n : ℕ) → n < count → map event_in (moves_at (all_of r.lanes.items) n) ≡ told_at js n
+  pub events : (n : ℕ) → n < count → map event_in (moves_at (all_of r.lanes.items) n) ≡ journal_at js n
   pub fresh : r.is_stale ≡ false → (n : ℕ) → n < count → Replays (new_server jobs n) (moves_at (all_of r.lanes.items) n)
   pub stale : r.is_stale ≡ true → AreStale jobs js
   pub rests : (p : Proc) → rest_of old p ≡ map due_in (moves_by p (moves_at (all_of r.lanes.items) (home_of jobs p))) ++ rest_of new p
-  pub said : (n : ℕ) → n < count → AreSaid (new_server jobs n) (rest_of old) (told_at js n)
+  pub said : (n : ℕ) → n < count → AreSaid (new_server jobs n) (rest_of old) (journal_at js n)
   pub lasts : lasts_of new ≡ lasts_of old
 
 -- all journals are replayed, and the transcripts tell the same
@@ -85,7 +85,7 @@ pub record AreWhole (jobs : Jobs) (js : List Journal) (ts : List Transcript) (r 
 
 -- some event is not said, of those that a process made at a node
 abbrev pub AreUnsaid : Jobs → List Journal → (Proc → List Due) → Type 0
-AreUnsaid jobs js rest = (n : ℕ) × (n < length jobs.nodes) × (AreSaid (new_server jobs n) rest (told_at js n) → ⊥)
+AreUnsaid jobs js rest = (n : ℕ) × (n < length jobs.nodes) × (AreSaid (new_server jobs n) rest (journal_at js n) → ⊥)
 
 -- ---- as clauses say it
 

@@ -47,9 +47,9 @@ events_at jobs scripts frames n (x ∷ xs) =
 -- ---- journals
 
 -- what the journal of the node tells
-abbrev pub told_at : List Journal → ℕ → List Happening
-told_at [] n = []
-told_at (j ∷ js) n = if j.node == n then happened_in j else told_at js n
+abbrev pub journal_at : List Journal → ℕ → List Happening
+journal_at [] n = []
+journal_at (j ∷ js) n = if j.node == n then happened_in j else journal_at js n
 
 -- one of the journals is the node's
 abbrev pub HasJournal : List Journal → ℕ → Type 0
@@ -65,7 +65,7 @@ pub record AreJournals (jobs : Jobs) (js : List Journal) : Type 0 where
 
 -- the events that the process made at its home
 abbrev pub made_by : Jobs → List Journal → Proc → List Happening
-made_by jobs js p = filter (λ e. is_by p e.act) (told_at js (home_of jobs p))
+made_by jobs js p = filter (λ e. is_by p e.act) (journal_at js (home_of jobs p))
 
 -- the transcript's events are those that its process made at its home
 abbrev pub TellsOf : Jobs → List Journal → Transcript → Type 0
@@ -76,7 +76,7 @@ TellsOf jobs js t = map due_event (dues_of t) ≡ made_by jobs js t.proc
 -- moves that are the journals, replayed
 pub record AreMoves (jobs : Jobs) (js : List Journal) (all : List (List Move)) : Type 0 where
   pub count : length all ≡ length jobs.nodes
-  pub events : (n : ℕ) → n < length jobs.nodes → map event_in (moves_at all n) ≡ told_at js n
+  pub events : (n : ℕ) → n < length jobs.nodes → map event_in (moves_at all n) ≡ journal_at js n
   pub replays : (n : ℕ) → n < length jobs.nodes → Replays (new_server jobs n) (moves_at all n)
 
 -- the puts before them are those of their clients, and commits carry them
@@ -101,5 +101,5 @@ pub record IsOneRun (js : List Journal) (ts : List Transcript) (a : Account) : T
   pub run : IsRun a
   pub lawful : IsAccountLawful a
   pub journals : AreJournals a.jobs js
-  pub events : (n : ℕ) → n < length a.jobs.nodes → events_at a.jobs (λ _. []) a.sent n (map happened_of a.told) ≡ told_at js n
+  pub events : (n : ℕ) → n < length a.jobs.nodes → events_at a.jobs (λ _. []) a.sent n (map happened_of a.told) ≡ journal_at js n
   pub calls : Each (TellsOf a.jobs js) ts

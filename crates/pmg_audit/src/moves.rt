@@ -19,11 +19,7 @@ pub(crate) struct Put {
 
 impl Drop for Put {
     fn drop(self) {
-        let Put {
-            scope: _,
-            key: _,
-            value: _,
-        } = self;
+        let Self { scope, key, value } = self;
     }
 }
 
@@ -39,11 +35,7 @@ pub(crate) struct Due {
 
 impl Drop for Due {
     fn drop(self) {
-        let Due {
-            puts: _,
-            act: _,
-            answer: _,
-        } = self;
+        let Self { puts, act, answer } = self;
     }
 }
 
@@ -73,10 +65,10 @@ pub(crate) struct Saying {
 
 impl Drop for Saying {
     fn drop(self) {
-        let Saying {
-            proc: _,
-            dues: _,
-            last_puts: _,
+        let Self {
+            proc,
+            dues,
+            last_puts,
         } = self;
     }
 }
@@ -95,11 +87,11 @@ pub(crate) struct Move {
 
 impl Drop for Move {
     fn drop(self) {
-        let Move {
-            puts: _,
-            act: _,
-            answer: _,
-            frames: _,
+        let Self {
+            puts,
+            act,
+            answer,
+            frames,
         } = self;
     }
 }
@@ -112,6 +104,6 @@ pub(crate) struct Lane {
 
 impl Drop for Lane {
     fn drop(self) {
-        let Lane { moves: _ } = self;
+        let Self { moves } = self;
     }
 }

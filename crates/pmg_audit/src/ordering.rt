@@ -34,7 +34,7 @@ pub(crate) struct Order {
 
 impl Drop for Order {
     fn drop(self) {
-        let Order { sent: _, told: _ } = self;
+        let Self { sent, told } = self;
     }
 }
 
@@ -63,11 +63,11 @@ struct Making {
 
 impl Drop for Making {
     fn drop(self) {
-        let Making {
-            done: _,
-            told: _,
-            sends: _,
-            awake: _,
+        let Self {
+            done,
+            told,
+            sends,
+            awake,
         } = self;
     }
 }

@@ -10,7 +10,7 @@ ghost use Rattle.pmg_audit.specs.Codes.{lane_of, move_in, audited_put, rest_of, 
 ghost use Rattle.pmg_audit.specs.Dues.{due_event};
 ghost use Rattle.pmg_audit.specs.Moves.{caller_of};
 ghost use Rattle.pmg_audit.specs.Replaying.{AddsNode, AllMayPut, AllUnsaid, AreReplayed, Continues, HaveHappened, IsAdded, IsUnsaid, RefusesFor, SomeUnsaid, TakesPuts, sent_more, unsent_move};
-ghost use Rattle.pmg_audit.specs.Runs.{told_at};
+ghost use Rattle.pmg_audit.specs.Runs.{journal_at};
 
 use crate::moves::{Due, Lane, Move, Put, Saying};
 use crate::ordering::caller_of;
@@ -33,10 +33,10 @@ pub(crate) struct Replay {
 
 impl Drop for Replay {
     fn drop(self) {
-        let Replay {
-            node: _,
-            lane: _,
-            is_stale: _,
+        let Self {
+            node,
+            lane,
+            is_stale,
         } = self;
     }
 }
@@ -223,7 +223,7 @@ fn replay_journal(
 
 /// The events of the node's journal.
 fn events_of(journals: &[Journal], node: NodeId) -> &[Event]
-    ensures { map happening_of result.now ≡ told_at journals.now node }
+    ensures { map happening_of result.now ≡ journal_at journals.now node }
 {
     for journal in journals {
         if journal.node == node {
@@ -242,10 +242,10 @@ pub(crate) struct AllReplayed {
 
 impl Drop for AllReplayed {
     fn drop(self) {
-        let AllReplayed {
-            nodes: _,
-            lanes: _,
-            is_stale: _,
+        let Self {
+            nodes,
+            lanes,
+            is_stale,
         } = self;
     }
 }
@@ -306,7 +306,7 @@ impl AllReplayed {
     ) -> Result<(), Refusal>
         requires { node < length registry.now.nodes }
         ensures ok { OnOk result (AddsNode registry.now journals.now node self.old sayings.old self.new sayings.new) }
-        ensures refused { IfErr result (λ e. RefusesFor e (AllUnsaid (new_server registry.now node) sayings.old (told_at journals.now node))) }
+        ensures refused { IfErr result (λ e. RefusesFor e (AllUnsaid (new_server registry.now node) sayings.old (journal_at journals.now node))) }
     {
         let events = events_of(journals, node);
         match replay_journal(alloc, registry, node, events, sayings) {

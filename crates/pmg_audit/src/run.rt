@@ -25,11 +25,11 @@ pub struct Run {
 
 impl Drop for Run {
     fn drop(self) {
-        let Run {
-            registry: _,
-            nodes: _,
-            sent: _,
-            told: _,
+        let Self {
+            registry,
+            nodes,
+            sent,
+            told,
         } = self;
     }
 }

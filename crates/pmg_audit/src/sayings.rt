@@ -38,11 +38,11 @@ struct Reading {
 
 impl Drop for Reading {
     fn drop(self) {
-        let Reading {
-            alloc: _,
-            cache: _,
-            puts: _,
-            dues: _,
+        let Self {
+            alloc,
+            cache,
+            puts,
+            dues,
         } = self;
     }
 }
@@ -213,18 +213,10 @@ fn saying_of(alloc: Global, transcript: &Transcript) -> Result<Option<Saying>, A
 }
 
 /// What clients say, each found by its process.
+#[derive(Drop)]
 pub(crate) struct Sayings {
     items: Vec<Saying>,
     places: BTreeMap<Proc, usize>,
-}
-
-impl Drop for Sayings {
-    fn drop(self) {
-        let Sayings {
-            items: _,
-            places: _,
-        } = self;
-    }
 }
 
 impl Model for Sayings {

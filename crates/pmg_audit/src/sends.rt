@@ -22,10 +22,10 @@ pub(crate) struct Sends {
 
 impl Drop for Sends {
     fn drop(self) {
-        let Sends {
-            alloc: _,
-            frames: _,
-            numbers: _,
+        let Self {
+            alloc,
+            frames,
+            numbers,
         } = self;
     }
 }

@@ -101,14 +101,13 @@ module _ (jobs : Jobs) (id : ℕ) where
 
       serves_in : (r : Request) → IsIn (serves jobs id h r).left
       unfolding serves
-      serves_in (Request.enter p list collect) = held
       serves_in (Request.leave p) = (ends_left h p IsIn held held (call_of h p)).0
       serves_in (Request.ask p get mode) = asks_left h p get mode IsIn held held (answer_in jobs id h get mode)
       serves_in (Request.take p) = (ends_left h p IsIn held held (call_of h p)).1
       serves_in (Request.terminate p) = sealing_in p (ended_with (sealer_of h p)) (holds.sealers p)
       serves_in (Request.define name list) = sets_in _ refl
       serves_in (Request.delete name) = sets_in _ refl
-      serves_in Request.nudge = held
+      serves_in _ = held
 
       does_in : (a : Act) → IsIn (does jobs id h a).left
       unfolding does

@@ -57,11 +57,7 @@ module _ (h : NodeState) (p : Proc) where
   in_fence_by : (c : Option CallState) → (leaves h p c).reply ≡ Reply.waiting → status_by c ≡ Status.in_fence
   in_fence_by None is = cc
   in_fence_by (Some (CallState.in_fence f)) is = refl
-  in_fence_by (Some (CallState.released f gone)) is = cc
-  in_fence_by (Some (CallState.parked get)) is = cc
-  in_fence_by (Some (CallState.answered get outcome)) is = cc
-  in_fence_by (Some (CallState.refreshing get number)) is = cc
-  in_fence_by (Some (CallState.refreshed get outcome)) is = cc
+  in_fence_by (Some _) is = cc
 
   parked_by : (c : Option CallState) → (takes h p c).reply ≡ Reply.waiting → status_by c ≡ Status.parked
   parked_by None is = cc
@@ -78,44 +74,44 @@ module _ (h : NodeState) (p : Proc) where
   parked_by (Some (CallState.refreshed get Outcome.outside)) is = cc
   parked_by (Some (CallState.refreshed get Outcome.parks)) is = cc
 
-module _ (s : Server) (p : Proc) where
-  leave_past : StandsPast s p Status.in_fence → reply_to s (Act.request (Request.leave p)) ≡ Reply.waiting → ⊥
-  unfolding cause request_cause does serves
-  leave_past past is = elim (by_causes (cause s.jobs s.id s.holding (Act.request (Request.leave p))) (does s.jobs s.id s.holding (Act.request (Request.leave p)))) [
-    | inl refused ↦ not_refused refused.0 (ap (λ (x : Result Done Refusal). (over s.jobs s.id s.holding x).reply) (sym refused.2) ∙ is)
-    | inr free ↦
-        past (caller_status s.jobs s.id s.holding p free.1
-        ∙ in_fence_by s.holding p (call_of s.holding p) (ap (λ (x : Result Done Refusal). (over s.jobs s.id s.holding x).reply) (sym free.0) ∙ is))
-  ]
+-- who stands otherwise than those do whom the act tells to wait is not told to wait
+stands_past : (s : Server) (p : Proc) (at : Status) (a : Act)
+    → (NoCause (cause s.jobs s.id s.holding a) → (over s.jobs s.id s.holding (Ok (does s.jobs s.id s.holding a))).reply ≡ Reply.waiting → status_of s.jobs s.id s.holding p ≡ at)
+    → StandsPast s p at → reply_to s a ≡ Reply.waiting → ⊥
+stands_past s p at a stands past is = elim (by_causes (cause s.jobs s.id s.holding a) (does s.jobs s.id s.holding a)) [
+  | inl refused ↦ not_refused refused.0 (ap (λ (x : Result Done Refusal). (over s.jobs s.id s.holding x).reply) (sym refused.2) ∙ is)
+  | inr free ↦ past (stands free.1 (ap (λ (x : Result Done Refusal). (over s.jobs s.id s.holding x).reply) (sym free.0) ∙ is))
+]
 
-  take_past : StandsPast s p Status.parked → reply_to s (Act.request (Request.take p)) ≡ Reply.waiting → ⊥
-  unfolding cause request_cause does serves
-  take_past past is = elim (by_causes (cause s.jobs s.id s.holding (Act.request (Request.take p))) (does s.jobs s.id s.holding (Act.request (Request.take p)))) [
-    | inl refused ↦ not_refused refused.0 (ap (λ (x : Result Done Refusal). (over s.jobs s.id s.holding x).reply) (sym refused.2) ∙ is)
-    | inr free ↦
-        past (caller_status s.jobs s.id s.holding p free.1
-        ∙ parked_by s.holding p (call_of s.holding p) (ap (λ (x : Result Done Refusal). (over s.jobs s.id s.holding x).reply) (sym free.0) ∙ is))
-  ]
+leave_past : (s : Server) (p : Proc) → StandsPast s p Status.in_fence → reply_to s (Act.request (Request.leave p)) ≡ Reply.waiting → ⊥
+unfolding cause request_cause does serves
+leave_past s p =
+    stands_past s p Status.in_fence (Act.request (Request.leave p)) (λ free is. caller_status s.jobs s.id s.holding p free ∙ in_fence_by s.holding p (call_of s.holding p) is)
 
--- so who leaves a fence once it stands otherwise is not told to wait
+take_past : (s : Server) (p : Proc) → StandsPast s p Status.parked → reply_to s (Act.request (Request.take p)) ≡ Reply.waiting → ⊥
+unfolding cause request_cause does serves
+take_past s p = stands_past s p Status.parked (Act.request (Request.take p)) (λ free is. caller_status s.jobs s.id s.holding p free ∙ parked_by s.holding p (call_of s.holding p) is)
+
+-- so who asks for that, once it stands otherwise, is not told to wait
+never_waits : {X : Type 0} (kind : X → Reply) (waiting : X) (request : Proc → Request) (at : Status) → kind waiting ≡ Reply.waiting
+    → ((s : Server) (p : Proc) → StandsPast s p at → reply_to s (Act.request (request p)) ≡ Reply.waiting → ⊥) → (p q : Proc) → q ≡ p → (r : Result X Refusal)
+    (answer : Result GivenReply Refusal) → SameReplies kind reply_as r answer → IfOk answer (λ x. RepliesPast p at (Act.request (request q)) (reply_as x)) → IfOk r (λ x. x ≡ waiting → ⊥)
+never_waits kind waiting request at waits past_it p q same (Ok x) (Ok y) told past =
+    λ is.
+    past_it past.server p past.stands
+    (subst (λ (z : Proc). reply_to past.server (Act.request (request z)) ≡ Reply.waiting) same (past.is ∙ sym told ∙ ap kind is ∙ waits))
+never_waits kind waiting request at waits past_it p q same (Ok x) (Err e) told past = absurd told
+never_waits kind waiting request at waits past_it p q same (Err e) answer told past = tt
+
+-- as who leaves a fence
 pub leave_waited : (p q : Proc) → q ≡ p → (r : Result Release Refusal) (answer : Result GivenReply Refusal) → SameReplies release_reply reply_as r answer
     → IfOk answer (λ x. RepliesPast p Status.in_fence (Act.request (Request.leave q)) (reply_as x)) → IfOk r (λ x. x ≡ releases.Waiting → ⊥)
-leave_waited p q same (Ok x) (Ok y) told past =
-    λ is.
-    leave_past past.server p past.stands
-    (subst (λ (z : Proc). reply_to past.server (Act.request (Request.leave z)) ≡ Reply.waiting) same (past.is ∙ sym told ∙ ap release_reply is))
-leave_waited p q same (Ok x) (Err e) told past = absurd told
-leave_waited p q same (Err e) answer told past = tt
+leave_waited = never_waits release_reply releases.Waiting (λ p. Request.leave p) Status.in_fence refl leave_past
 
 -- and who takes an answer
 pub take_waited : (p q : Proc) → q ≡ p → (r : Result Taking Refusal) (answer : Result GivenReply Refusal) → SameReplies taking_reply reply_as r answer
     → IfOk answer (λ x. RepliesPast p Status.parked (Act.request (Request.take q)) (reply_as x)) → IfOk r (λ x. x ≡ takings.Waiting → ⊥)
-take_waited p q same (Ok x) (Ok y) told past =
-    λ is.
-    take_past past.server p past.stands
-    (subst (λ (z : Proc). reply_to past.server (Act.request (Request.take z)) ≡ Reply.waiting) same (past.is ∙ sym told ∙ ap taking_reply is))
-take_waited p q same (Ok x) (Err e) told past = absurd told
-take_waited p q same (Err e) answer told past = tt
+take_waited = never_waits taking_reply takings.Waiting (λ p. Request.take p) Status.parked refl take_past
 
 -- ---- what is waited for
 

@@ -36,10 +36,10 @@ pub struct Client<'d> {
 
 impl Drop for Client<'_> {
     fn drop(self) {
-        let Client {
-            desk: _,
-            viewer: _,
-            notes: _,
+        let Self {
+            desk,
+            viewer,
+            notes,
         } = self;
     }
 }

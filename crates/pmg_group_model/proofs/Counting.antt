@@ -149,14 +149,10 @@ module _ (jobs : Jobs) (w : World) (node : ℕ) (a : Act) (r : Reply) (v : World
 
     sends_fresh : (frame : Frame) → Allowed jobs node a (v.nodes node) frame → IsFresh v frame
     unfolding Allowed IsFresh
-    sends_fresh (frames.Piece c) may = tt
-    sends_fresh (frames.Header hd) may = tt
-    sends_fresh (frames.FenceAsk ask) may = tt
-    sends_fresh (frames.RangeAsk ask) may = tt
-    sends_fresh (frames.DirectAsk ask) may = tt
     sends_fresh (frames.RefreshAsk ask) may =
         subst (λ k. (ask.request ≤ (v.nodes k).requests) × (ask.ask.level ≤ level_at (v.nodes k).far ask.ask.proc)) (sym may.0) (may.1, may.2)
     sends_fresh (frames.RefreshReply reply) may = subst (λ (x : RefreshReply). IsFresh v (frames.RefreshReply x)) (sym may.4) (reply_fresh may.0 may.1 may.2)
+    sends_fresh _ may = tt
 
     act_fresh : AllFresh v
     act_fresh = all_sent (IsFresh v) (each_still (λ s. IsFresh w s.frame) (λ s. IsFresh v s.frame) w.sent (λ s. fresh_stays w v act_raises s.frame) fresh) sends_fresh

@@ -28,13 +28,14 @@ use Rattle.pmg_node_model.specs.Sending.{sent, own_header_of, NodeStep}
 use Rattle.pmg_node_model.specs.declared.sent.Sent.{Sent}
 use Rattle.pmg_node_model.proofs.CauseFacts.{NoCause}
 use Rattle.pmg_node_model.proofs.Sealing.{sealer_here}
-use Rattle.pmg_group_model.specs.Worlds.{World, Doing, Does, cache_of, puts, reply_or_refusal, start}
-use Rattle.pmg_group_model.specs.Examples.{two, j0, meeting, its_key, its_value}
+use Rattle.pmg_group_model.specs.Worlds.{World, Event, Doing, Does, Happened, Run, cache_of, doing, puts, reply_or_refusal, start}
+use Rattle.pmg_group_model.specs.Examples.{two, j0, meeting, its_key, its_value, first_node, happened_with}
 use Rattle.pmg_group_model.proofs.ExampleGroup.{home_of_j0, j0_is_member, locals_at_0}
 use Rattle.pmg_group_model.proofs.ExampleTables.{lines_of_0, lines_of_1, header_of_0, header_of_1, entered_table, entered_young, entered_only, entered_is, told_before}
 use Rattle.pmg_group_model.proofs.ExampleNodes.{AreIdle, goes_on, accepted, both_causes, in_meeting, new_0, its_piece, idle_new, idle_settled}
 use Rattle.pmg_group_model.proofs.ExampleActs.{both, entering, free, enters_so, takes_frame, its_header_taken}
 use Rattle.pmg_group_model.proofs.ExampleOwed.{AsksNothing, SendsNews, NoneWaits, NoneParks, request_asks, frame_asks, same_news, idle_parks, called_parks, settled_parks, none_held_new, nothing_below, new_waits, steps, other_than_0, header_allowed, one_new, piece_allowed}
+use Rattle.pmg_group_model.proofs.ExampleRun.{world_after, act_step}
 use Rattle.pmg_group_model.proofs.Starting.{sealer-new}
 
 -- ---- tables of the one key
@@ -142,6 +143,20 @@ unfolding committed_0
 step_commits =
     steps 0 new_0 committed_0 committing (Reply.committed 1) commits refl commit_asks (new_waits 0) (idle_parks committed_0 idle_committed) [] tt tt
     (same_news 0 new_0 committed_0 (λ f. refl) [])
+
+-- ---- runs that begin so
+
+-- the world when it has committed
+abbrev pub world_committed : World
+world_committed = world_after put_world 0 committing (Reply.committed 1) committed_0 []
+
+-- it puts and commits, and what follows
+abbrev pub commits_before : List Happened → List Happened
+commits_before xs = happened_with (Event.put j0 scopes.Global its_key.key its_value) Reply.done ∷ happened_with (Event.commit first_node j0) (Reply.committed 1) ∷ xs
+
+pub run_committed : (xs : List Happened) (w : World) → Run two world_committed xs w → Run two (start two) (commits_before xs) w
+unfolding Run doing cache_of
+run_committed xs w rest = (put_world, step_puts, (world_committed, act_step put_world 0 committing (Reply.committed 1) committed_0 [] step_commits, rest))
 
 -- ---- it enters: its header goes to node 1, and the commit that it names
 

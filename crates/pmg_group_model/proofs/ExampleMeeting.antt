@@ -1,5 +1,5 @@
 -- The run in which both meet, and the value is found.
-use Rattle.std.proofs.Common.{◌≡◌, is_some, List, [], ◌∷◌, Some, refl}
+use Rattle.std.proofs.Common.{◌≡◌, is_some, List, [], ◌∷◌, drop, Some, refl}
 use Rattle.pmg_scope.specs.Scripts.{Call, value_at, before, term_key}
 use Rattle.pmg_scope.specs.declared.scope.Reach.TheVariants as reach
 use Rattle.pmg_frame.specs.declared.frame.Frame.TheVariants as frames
@@ -11,9 +11,9 @@ use Rattle.pmg_node_model.specs.Acts.{Request, Act, Reply, says}
 use Rattle.pmg_node_model.specs.Fitting.{last_fence}
 use Rattle.pmg_node_model.specs.Holdings.{NodeState}
 use Rattle.pmg_node_model.specs.Sending.{NodeStep}
-use Rattle.pmg_group_model.specs.Worlds.{World, Event, Happened, Run, cache_of, doing, start}
+use Rattle.pmg_group_model.specs.Worlds.{World, Event, Run, doing, start}
 use Rattle.pmg_group_model.specs.Laws.{Leaves, Good}
-use Rattle.pmg_group_model.specs.Examples.{two, j0, j1, meeting, its_key, its_value, happened_with, puts_and_meets, second_node, RunOfMeeting}
+use Rattle.pmg_group_model.specs.Examples.{two, j0, j1, meeting, its_key, its_value, happened_with, come_around, puts_and_meets, second_node, RunOfMeeting}
 use Rattle.pmg_group_model.proofs.ExampleGroup.{are_jobs, j0_meets}
 use Rattle.pmg_group_model.proofs.ExampleTables.{header_of_0, header_of_1}
 use Rattle.pmg_group_model.proofs.ExampleNodes.{entered_1, waits_1, told_1, lacks_1, its_piece, freed_1, left_1}
@@ -21,16 +21,13 @@ use Rattle.pmg_group_model.proofs.ExampleActs.{entering, leaving}
 use Rattle.pmg_group_model.proofs.ExampleSteps.{first_sent, step_enters, step_waits, step_told, step_lacks, step_freed, step_leaves}
 use Rattle.pmg_group_model.proofs.ExampleRun.{world_after, act_step, last_is}
 use Rattle.pmg_group_model.proofs.ExampleGet.{asking, asked_1, step_asks}
-use Rattle.pmg_group_model.proofs.ExampleCommit.{its_put, put_world, step_puts, committing, committed_0, step_commits, joined_0, both_sent, sealer_now, now_is_one, proc_now, step_joins, met_0, step_meets}
+use Rattle.pmg_group_model.proofs.ExampleCommit.{its_put, world_committed, run_committed, joined_0, both_sent, sealer_now, now_is_one, proc_now, step_joins, met_0, step_meets}
 use Rattle.pmg_group_model.proofs.Runs.{always_good}
 use Rattle.pmg_group_model.proofs.Steps.{step_good}
 
 -- ---- the worlds
 
 -- both enter
-abbrev world_committed : World
-world_committed = world_after put_world 0 committing (Reply.committed 1) committed_0 []
-
 abbrev world_joined : World
 world_joined = world_after world_committed 0 (entering j0) (Reply.entered 1) joined_0 both_sent
 
@@ -65,12 +62,7 @@ world_asked = world_after world_left 1 asking (Reply.found its_value) asked_then
 
 -- ---- the run
 
-abbrev the_deliveries : List Happened
-the_deliveries =
-    happened_with (Event.deliver 3) Reply.taken ∷ happened_with (Event.deliver 1) Reply.taken ∷ happened_with (Event.request second_node (Request.leave j1)) Reply.waiting
-    ∷ happened_with (Event.deliver 2) Reply.taken ∷ []
-
-they_come : Run two world_waits the_deliveries world_freed
+they_come : Run two world_waits (come_around 3 1 2) world_freed
 unfolding Run doing
 they_come = (
   world_met,
@@ -91,22 +83,14 @@ they_come = (
 )
 
 they_meet : Run two (start two) puts_and_meets world_freed
-unfolding Run doing cache_of
-they_meet = (
-  put_world,
-  step_puts,
+unfolding Run doing
+they_meet = run_committed (drop 2 puts_and_meets) world_freed (
+  world_joined,
+  act_step world_committed 0 (entering j0) (Reply.entered 1) joined_0 both_sent step_joins,
   (
-    world_committed,
-    act_step put_world 0 committing (Reply.committed 1) committed_0 [] step_commits,
-    (
-      world_joined,
-      act_step world_committed 0 (entering j0) (Reply.entered 1) joined_0 both_sent step_joins,
-      (
-        world_entered,
-        act_step world_joined 1 (entering j1) (Reply.entered 1) entered_1 first_sent step_enters,
-        (world_waits, act_step world_entered 1 leaving Reply.waiting waits_1 [] step_waits, they_come),
-      ),
-    ),
+    world_entered,
+    act_step world_joined 1 (entering j1) (Reply.entered 1) entered_1 first_sent step_enters,
+    (world_waits, act_step world_entered 1 leaving Reply.waiting waits_1 [] step_waits, they_come),
   ),
 )
 

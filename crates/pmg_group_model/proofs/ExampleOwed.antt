@@ -49,12 +49,9 @@ NoneWaits h = (p : Proc) (node : ℕ) → held_at h.held p node ≡ None
 
 -- a get that waits
 abbrev pub waits_for : CallState → Bool
-waits_for (CallState.in_fence f) = false
-waits_for (CallState.released f gone) = false
 waits_for (CallState.parked get) = true
-waits_for (CallState.answered get outcome) = false
 waits_for (CallState.refreshing get number) = true
-waits_for (CallState.refreshed get outcome) = false
+waits_for _ = false
 
 -- no get waits
 abbrev pub NoneParks : NodeState → Type 0

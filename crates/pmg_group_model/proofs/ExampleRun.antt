@@ -6,14 +6,14 @@ use Rattle.pmg_frame.specs.declared.frame.Frame.TheVariants as frames
 use Rattle.pmg_jobinfo.specs.Expansion.{expansion}
 use Rattle.pmg_fence.proofs.EntryLemmas.{signature_itself}
 use Rattle.pmg_fence.specs.Tables.{fence_of}
-use Rattle.pmg_node_model.specs.Acts.{Request, Act, Reply, says}
+use Rattle.pmg_node_model.specs.Acts.{Act, Reply, says}
 use Rattle.pmg_node_model.specs.Fitting.{is_refusal, unless_refused, last_fence}
 use Rattle.pmg_node_model.specs.Holdings.{NodeState}
 use Rattle.pmg_node_model.specs.Sending.{NodeStep}
 use Rattle.pmg_node_model.specs.declared.sent.Sent.{Sent}
-use Rattle.pmg_group_model.specs.Worlds.{World, Event, Happened, ActStep, Run, with_holding_at, doing, start}
+use Rattle.pmg_group_model.specs.Worlds.{World, ActStep, Run, with_holding_at, doing, start}
 use Rattle.pmg_group_model.specs.Laws.{Leaves}
-use Rattle.pmg_group_model.specs.Examples.{two, j0, j1, meeting, happened_with, ends_and_meets, second_node}
+use Rattle.pmg_group_model.specs.Examples.{two, j0, j1, meeting, come_around, ends_and_meets}
 use Rattle.pmg_group_model.proofs.ExampleTables.{header_of_0, header_of_1}
 use Rattle.pmg_group_model.proofs.ExampleNodes.{ended_0, heard_0, entered_1, waits_1, told_1, lacks_1, its_piece, freed_1, left_1, sealer_then, level_is_one, its_proc}
 use Rattle.pmg_group_model.proofs.ExampleActs.{ending, entering, leaving}
@@ -57,12 +57,7 @@ abbrev pub world_8 : World
 world_8 = world_after world_7 1 leaving (Reply.released 1 (j0 ∷ [])) (left_1 states.Gone sealer_then) []
 
 -- from the header of the one node on
-abbrev its_last : List Happened
-its_last =
-    happened_with (Event.deliver 1) Reply.taken ∷ happened_with (Event.deliver 2) Reply.taken ∷ happened_with (Event.request second_node (Request.leave j1)) Reply.waiting
-    ∷ happened_with (Event.deliver 3) Reply.taken ∷ []
-
-its_end : Run two world_3 its_last world_7
+its_end : Run two world_3 (come_around 1 2 3) world_7
 unfolding Run doing
 its_end = (
   world_4,

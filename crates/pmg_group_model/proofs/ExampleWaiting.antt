@@ -1,11 +1,10 @@
 -- A get that waits: its node asks the home of the key's process, which sends the commit; then the answer is taken.
-use Rattle.std.proofs.Common.{◌≡◌, ◌≤◌, ℕ, Bool, true, false, ◌==◌, ◌&&◌, ◌||◌, nat_lt, is_some, cond, List, [], ◌∷◌, Option, Some, Ok, refl, ap, subst, ◌∙◌, arith}
+use Rattle.std.proofs.Common.{◌≡◌, ◌≤◌, ℕ, Bool, true, false, ◌==◌, ◌&&◌, ◌||◌, nat_lt, is_some, cond, List, [], ◌∷◌, drop, Option, Some, Ok, refl, ap, subst, ◌∙◌, arith}
 use Rattle.std.specs.FinMap as finite
 use Rattle.std.specs.Option.{option_map}
 use Rattle.pmg_value.specs.Process.{is_host}
 use Rattle.pmg_scope.specs.Scripts.{Call, value_at, before, term_key}
 use Rattle.pmg_scope.specs.declared.scope.Reach.TheVariants as reach
-use Rattle.pmg_scope.specs.declared.scope.Scope.TheVariants as scopes
 use Rattle.pmg_commit.specs.Data.{absorbed, level_at}
 use Rattle.pmg_commit.specs.Sealed.{Sealed}
 use Rattle.pmg_fence.specs.Entering.{same_proc}
@@ -27,13 +26,13 @@ use Rattle.pmg_node_model.proofs.CauseFacts.{NoCause}
 use Rattle.pmg_node_model.proofs.ChoosingSteps.{chosen_is_step}
 use Rattle.pmg_node_model.proofs.KeptActs.{new_is_server, server_stays}
 use Rattle.pmg_node_model.proofs.Sealing.{level_raised}
-use Rattle.pmg_group_model.specs.Worlds.{World, Event, Happened, Run, cache_of, doing, start}
+use Rattle.pmg_group_model.specs.Worlds.{World, Run, doing, start}
 use Rattle.pmg_group_model.specs.Laws.{Good, seen_at}
-use Rattle.pmg_group_model.specs.Examples.{two, j0, j1, its_key, its_value, happened_with, first_node, asks_and_waits, takes_the_value, RunOfWaiting}
+use Rattle.pmg_group_model.specs.Examples.{two, j0, j1, its_key, its_value, asks_and_waits, takes_the_value, RunOfWaiting}
 use Rattle.pmg_group_model.proofs.ExampleGroup.{are_jobs, home_of_j0, home_of_j1, j0_is_member, j1_is_member}
 use Rattle.pmg_group_model.proofs.ExampleNodes.{accepted, both_causes, calls_well, new_0, new_1, its_piece, idle_new}
 use Rattle.pmg_group_model.proofs.ExampleActs.{free, live_at_1, piece_taken, takes_frame}
-use Rattle.pmg_group_model.proofs.ExampleCommit.{its_put, put_world, step_puts, committing, commits, committed_0, committed_level, committed_proc, step_commits}
+use Rattle.pmg_group_model.proofs.ExampleCommit.{its_put, commits_before, world_committed, run_committed, committing, commits, committed_0, committed_level, committed_proc}
 use Rattle.pmg_group_model.proofs.ExampleGet.{asking, both_ways, from_elsewhere, good_ask}
 use Rattle.pmg_group_model.proofs.ExampleRun.{world_after, act_step}
 use Rattle.pmg_group_model.proofs.Runs.{always_good}
@@ -65,18 +64,12 @@ chosen_then id h a r new is =
 
 -- ---- the value is put and committed
 
-abbrev world_committed : World
-world_committed = world_after put_world 0 committing (Reply.committed 1) committed_0 []
-
-abbrev the_commit : List Happened
-the_commit = happened_with (Event.put j0 scopes.Global its_key.key its_value) Reply.done ∷ happened_with (Event.commit first_node j0) (Reply.committed 1) ∷ []
-
-it_commits : Run two (start two) the_commit world_committed
-unfolding Run doing cache_of
-it_commits = (put_world, step_puts, (world_committed, act_step put_world 0 committing (Reply.committed 1) committed_0 [] step_commits, refl))
+it_commits : Run two (start two) (commits_before []) world_committed
+unfolding Run
+it_commits = run_committed [] world_committed refl
 
 good_then : Good two world_committed
-good_then = always_good two are_jobs the_commit world_committed it_commits
+good_then = always_good two are_jobs (commits_before []) world_committed it_commits
 
 abbrev its_calls : List Call
 its_calls = its_put ∷ Call.commit ∷ []
@@ -213,22 +206,14 @@ abbrev world_heard : World
 world_heard = world_after world_told 1 being_told Reply.taken heard_1 sent_then
 
 it_waits : Run two (start two) asks_and_waits world_heard
-unfolding Run doing cache_of
-it_waits = (
-  put_world,
-  step_puts,
+unfolding Run doing
+it_waits = run_committed (drop 2 asks_and_waits) world_heard (
+  world_asked,
+  act_step world_committed 1 asking Reply.parked asked_1 ask_sent step_parks,
   (
-    world_committed,
-    act_step put_world 0 committing (Reply.committed 1) committed_0 [] step_commits,
-    (
-      world_asked,
-      act_step world_committed 1 asking Reply.parked asked_1 ask_sent step_parks,
-      (
-        world_told,
-        act_step world_asked 0 being_asked Reply.taken telling_0 piece_sent step_tells,
-        (world_heard, act_step world_told 1 being_told Reply.taken heard_1 sent_then step_hears, refl),
-      ),
-    ),
+    world_told,
+    act_step world_asked 0 being_asked Reply.taken telling_0 piece_sent step_tells,
+    (world_heard, act_step world_told 1 being_told Reply.taken heard_1 sent_then step_hears, refl),
   ),
 )
 

@@ -34,13 +34,9 @@ entered_grown scripts grown f grows was = (
 )
 
 pub names_grown : (scripts grown : Scripts) → Grows scripts grown → (frame : Frame) → NamesEntered scripts frame → NamesEntered grown frame
-names_grown scripts grown grows (frames.Piece c) was = tt
 names_grown scripts grown grows (frames.Header hd) was = entered_grown scripts grown hd.name grows was
 names_grown scripts grown grows (frames.FenceAsk a) was = entered_grown scripts grown a.name grows was
-names_grown scripts grown grows (frames.RangeAsk a) was = tt
-names_grown scripts grown grows (frames.DirectAsk a) was = tt
-names_grown scripts grown grows (frames.RefreshAsk a) was = tt
-names_grown scripts grown grows (frames.RefreshReply r) was = tt
+names_grown scripts grown grows _ was = tt
 
 -- ---- what a node may send names fences that were entered
 
@@ -54,13 +50,9 @@ present_has_name jobs node t f ls e = name_of_present (has_name t f) (own_header
 
 pub allowed_named : (jobs : Jobs) (scripts : Scripts) (node : ℕ) (act : Act) (h : NodeState) → AreNamed scripts h → (frame : Frame) → Allowed jobs node act h frame → NamesEntered scripts frame
 unfolding Allowed
-allowed_named jobs scripts node act h named (frames.Piece c) allowed = tt
 allowed_named jobs scripts node act h named (frames.Header hd) allowed = named.names hd.name (present_has_name jobs node h.table hd.name hd.locals allowed.1)
 allowed_named jobs scripts node act h named (frames.FenceAsk a) allowed = (named.calls allowed.1 a.name allowed.2.1).entered
-allowed_named jobs scripts node act h named (frames.RangeAsk a) allowed = tt
-allowed_named jobs scripts node act h named (frames.DirectAsk a) allowed = tt
-allowed_named jobs scripts node act h named (frames.RefreshAsk a) allowed = tt
-allowed_named jobs scripts node act h named (frames.RefreshReply r) allowed = tt
+allowed_named jobs scripts node act h named _ allowed = tt
 
 -- ---- which names there are after an act
 
@@ -73,13 +65,9 @@ ActNames scripts (Act.deliver frame) = NamesEntered scripts frame
 -- ---- names were entered
 
 frame_entered : (scripts grown : Scripts) → Grows scripts grown → (frame : Frame) → NamesEntered scripts frame → FrameNames (WasEntered grown) frame
-frame_entered scripts grown grows (frames.Piece c) named = tt
 frame_entered scripts grown grows (frames.Header hd) named = entered_grown scripts grown hd.name grows named
 frame_entered scripts grown grows (frames.FenceAsk a) named = entered_grown scripts grown a.name grows named
-frame_entered scripts grown grows (frames.RangeAsk a) named = tt
-frame_entered scripts grown grows (frames.DirectAsk a) named = tt
-frame_entered scripts grown grows (frames.RefreshAsk a) named = tt
-frame_entered scripts grown grows (frames.RefreshReply r) named = tt
+frame_entered scripts grown grows _ named = tt
 
 module _ (jobs : Jobs) (scripts : Scripts) (node : ℕ) (h : NodeState) (fits : Fits jobs scripts node h) where
   -- the fence that a process enters was entered

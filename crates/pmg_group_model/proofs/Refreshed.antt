@@ -435,15 +435,10 @@ take_replied jobs node h p o e = elim (by_causes (cause jobs node h (take_act p)
 module _ (jobs : Jobs) (p : Proc) (get : Get) (low : ℕ) (w : World) where
   not_yet : (frame : Frame) → IsFresh w frame → IsSince jobs p get (suc (w.nodes (home_of jobs p)).requests) low frame
   unfolding IsFresh IsSince
-  not_yet (frames.Piece c) fresh = tt
-  not_yet (frames.Header hd) fresh = tt
-  not_yet (frames.FenceAsk a) fresh = tt
-  not_yet (frames.RangeAsk a) fresh = tt
-  not_yet (frames.DirectAsk a) fresh = tt
-  not_yet (frames.RefreshAsk a) fresh = tt
   not_yet (frames.RefreshReply r) fresh = λ at its of.
       let given : r.request ≤ (w.nodes (home_of jobs p)).requests = subst (λ k. r.request ≤ (w.nodes k).requests) at fresh.0 in
       absurd (omega (arith, given, its))
+  not_yet _ fresh = tt
 
   module _ (are : AreJobs jobs) (node : ℕ) (v : World) (good : Good jobs w) (fresh : AllFresh w) (low_is : low ≡ commits (w.scripts get.target))
       (step : Step jobs w (Event.request node (Request.ask p get modes.Refresh)) Reply.parked v) where

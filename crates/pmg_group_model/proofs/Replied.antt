@@ -16,12 +16,9 @@ use Rattle.pmg_node_model.proofs.CallFacts.{call-settled}
 
 -- the call of a get that asks anew
 abbrev pub is_anew : CallState → Bool
-is_anew (CallState.in_fence f) = false
-is_anew (CallState.released f gone) = false
-is_anew (CallState.parked get) = false
-is_anew (CallState.answered get outcome) = false
 is_anew (CallState.refreshing get number) = true
 is_anew (CallState.refreshed get outcome) = true
+is_anew _ = false
 
 -- ---- settling leaves it
 

@@ -150,14 +150,8 @@ ask_fits jobs w node p get mode true = tt
 ask_fits jobs w node p get mode false = tt
 
 requests_fit : (jobs : Jobs) (w : World) (node : ℕ) (r : Request) → DoingFits jobs w (requests jobs w node r)
-requests_fit jobs w node (Request.enter p list collect) = tt
-requests_fit jobs w node (Request.leave p) = tt
 requests_fit jobs w node (Request.ask p get mode) = ask_fits jobs w node p get mode (is_own p get)
-requests_fit jobs w node (Request.take p) = tt
-requests_fit jobs w node (Request.terminate p) = tt
-requests_fit jobs w node (Request.define name list) = tt
-requests_fit jobs w node (Request.delete name) = tt
-requests_fit jobs w node Request.nudge = tt
+requests_fit jobs w node _ = tt
 
 nth_is : (P : Sent → Type 0) (xs : List Sent) (i : ℕ) (s : Sent) → Each P xs → nth xs i ≡ Some s → P s
 nth_is P [] i s each e = absurd cc

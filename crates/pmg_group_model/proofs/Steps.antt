@@ -250,13 +250,16 @@ act_world jobs are w good n a fit r v step =
     step.left
     ∙ (λ i. record { scripts = unless_refused (is_refusal (step.step.replied i)) w.scripts (says jobs a); nodes = with_holding_at w.nodes n (step.step.left i); sent = w.sent ++ step.out })
 
-cache_good : (jobs : Jobs) (w : World) → Good jobs w → (answer : Result Reply Refusal) (o : Option Said) → DoingFits jobs w (Doing.by_cache answer o) → (refused : Bool) → is_refusal (reply_or_refusal answer) ≡ refused
-    → Good jobs (record { scripts = unless_refused refused w.scripts o; nodes = w.nodes; sent = w.sent })
-cache_good jobs w good answer None fits true is = good
-cache_good jobs w good answer None fits false is = good
-cache_good jobs w good answer (Some said) fits true is = good
-cache_good jobs w good answer (Some said) (inl refused) false is = absurd (false≢true (sym is ∙ refused))
-cache_good jobs w good answer (Some said) (inr put) false is = put_good jobs w good said put
+-- what is so of a world, and stays so where a process puts, is so after what a cache answers
+pub cache_keeps : (P : World → Type 0) (jobs : Jobs) (w : World) → P w
+    → ((said : Said) → IsPut jobs w said → P (record { scripts = with_said w.scripts (Some said); nodes = w.nodes; sent = w.sent }))
+    → (answer : Result Reply Refusal) (o : Option Said) → DoingFits jobs w (Doing.by_cache answer o) → (refused : Bool) → is_refusal (reply_or_refusal answer) ≡ refused
+    → P (record { scripts = unless_refused refused w.scripts o; nodes = w.nodes; sent = w.sent })
+cache_keeps P jobs w so keeps answer None fits true is = so
+cache_keeps P jobs w so keeps answer None fits false is = so
+cache_keeps P jobs w so keeps answer (Some said) fits true is = so
+cache_keeps P jobs w so keeps answer (Some said) (inl refused) false is = absurd (false≢true (sym is ∙ refused))
+cache_keeps P jobs w so keeps answer (Some said) (inr put) false is = keeps said put
 
 pub does_good : (jobs : Jobs) → AreJobs jobs → (w : World) → Good jobs w → (d : Doing) → DoingFits jobs w d → (r : Reply) (v : World) → Does jobs w d r v → Good jobs v
 does_good jobs are w good (Doing.at_node n a) fit r v step =
@@ -264,7 +267,7 @@ does_good jobs are w good (Doing.at_node n a) fit r v step =
     (act_good jobs are w good n a fit step.out (subst (λ h. Each (λ s. Allowed jobs n a h s.frame) step.out) step.step.left step.step.allowed))
 does_good jobs are w good (Doing.by_cache answer o) fit r v step =
     subst (Good jobs) (sym (step.left ∙ ap (λ (x : Reply). record { scripts = unless_refused (is_refusal x) w.scripts o; nodes = w.nodes; sent = w.sent }) step.replied))
-    (cache_good jobs w good answer o fit (is_refusal (reply_or_refusal answer)) refl)
+    (cache_keeps (Good jobs) jobs w good (put_good jobs w good) answer o fit (is_refusal (reply_or_refusal answer)) refl)
 
 pub step_good : (jobs : Jobs) → AreJobs jobs → (w : World) → Good jobs w → (e : Event) (r : Reply) (v : World) → Step jobs w e r v → Good jobs v
 step_good jobs are w good e r v step = does_good jobs are w good (doing jobs w e) (doing_fits jobs w good e) r v step

@@ -38,7 +38,7 @@ use Rattle.pmg_group_model.specs.Turns.{WasEntered, NamesEntered, Waits, AreName
 use Rattle.pmg_group_model.proofs.Naming.{ActNames, names_entered, entry_caller, entered_grown, names_grown, allowed_named}
 use Rattle.pmg_group_model.proofs.Speaking.{DoingFits, IsPut, numbered_is, doing_fits}
 use Rattle.pmg_group_model.proofs.Starting.{new_call, start_good}
-use Rattle.pmg_group_model.proofs.Steps.{act_world, left_by, scripts_by, world_by, scripts_grow, act_good, each_node, each_both, each_still, step_good}
+use Rattle.pmg_group_model.proofs.Steps.{act_world, left_by, scripts_by, world_by, scripts_grow, act_good, each_node, each_both, each_still, cache_keeps, step_good}
 use Rattle.pmg_group_model.proofs.Turning.{PastBy, EntersSame, enters_said, past_more, turn_more, settled_past, does_past, does_turn, away_past}
 
 -- ---- names after an act
@@ -240,14 +240,8 @@ ask_names jobs w node p get mode true = tt
 ask_names jobs w node p get mode false = tt
 
 requests_name : (jobs : Jobs) (w : World) (node : ℕ) (r : Request) → DoingNames w (requests jobs w node r)
-requests_name jobs w node (Request.enter p list collect) = tt
-requests_name jobs w node (Request.leave p) = tt
 requests_name jobs w node (Request.ask p get mode) = ask_names jobs w node p get mode (is_own p get)
-requests_name jobs w node (Request.take p) = tt
-requests_name jobs w node (Request.terminate p) = tt
-requests_name jobs w node (Request.define name list) = tt
-requests_name jobs w node (Request.delete name) = tt
-requests_name jobs w node Request.nudge = tt
+requests_name jobs w node _ = tt
 
 delivers_name : (w : World) → Each (λ s. NamesEntered w.scripts s.frame) w.sent → (i : ℕ) (o : Option Sent) → numbered w.sent i ≡ o → DoingNames w (delivers o)
 delivers_name w frames i None is = tt
@@ -260,14 +254,6 @@ doing_names jobs w turned (Event.commit node p) = if_node_names w (is_node jobs 
 doing_names jobs w turned (Event.request node r) = if_node_names w (is_node jobs node) (requests jobs w node r) (requests_name jobs w node r)
 doing_names jobs w turned (Event.deliver i) = delivers_name w turned.frames i (numbered w.sent i) refl
 
-cache_turned : (jobs : Jobs) (w : World) → Turned jobs w → (answer : Result Reply Refusal) (o : Option Said) → DoingFits jobs w (Doing.by_cache answer o) → (refused : Bool) → is_refusal (reply_or_refusal answer) ≡ refused
-    → Turned jobs (record { scripts = unless_refused refused w.scripts o; nodes = w.nodes; sent = w.sent })
-cache_turned jobs w turned answer None fits true is = turned
-cache_turned jobs w turned answer None fits false is = turned
-cache_turned jobs w turned answer (Some said) fits true is = turned
-cache_turned jobs w turned answer (Some said) (inl refused) false is = absurd (false≢true (sym is ∙ refused))
-cache_turned jobs w turned answer (Some said) (inr put) false is = put_turned jobs w turned said put
-
 does_turned : (jobs : Jobs) → AreJobs jobs → (w : World) → Good jobs w → Turned jobs w → (d : Doing) → DoingFits jobs w d → DoingNames w d → (r : Reply) (v : World) → Does jobs w d r v → Turned jobs v
 does_turned jobs are w good turned (Doing.at_node n a) fit names r v step =
     let allowed = subst (λ h. Each (λ s. Allowed jobs n a h s.frame) step.out) step.step.left step.step.allowed in
@@ -275,7 +261,7 @@ does_turned jobs are w good turned (Doing.at_node n a) fit names r v step =
     (act_turned jobs are w good turned n a fit names step.out (act_good jobs are w good n a fit step.out allowed) allowed)
 does_turned jobs are w good turned (Doing.by_cache answer o) fit names r v step =
     subst (Turned jobs) (sym (step.left ∙ ap (λ (x : Reply). record { scripts = unless_refused (is_refusal x) w.scripts o; nodes = w.nodes; sent = w.sent }) step.replied))
-    (cache_turned jobs w turned answer o fit (is_refusal (reply_or_refusal answer)) refl)
+    (cache_keeps (Turned jobs) jobs w turned (put_turned jobs w turned) answer o fit (is_refusal (reply_or_refusal answer)) refl)
 
 -- ---- a run
 

@@ -52,6 +52,15 @@ second_node = 1
 abbrev pub happened_with : Event → Reply → Happened
 happened_with event reply = record { event = event; reply = reply }
 
+-- Three frames come, of the numbers given. Before the last one the second process asks again whether it is released, and still waits.
+abbrev pub come_around : (first second last : ℕ) → List Happened
+come_around first second last =
+    happened_with (Event.deliver first) Reply.taken
+    ∷ happened_with (Event.deliver second) Reply.taken
+    ∷ happened_with (Event.request second_node (Request.leave j1)) Reply.waiting
+    ∷ happened_with (Event.deliver last) Reply.taken
+    ∷ []
+
 -- One process ends; the other enters a fence of both that collects data. Its node's header reaches the other node, which tells
 -- its own in turn, and sends the commit that the end was. The process waits for that header, then for the commit that the
 -- header names.
@@ -60,11 +69,7 @@ ends_and_meets =
     happened_with (Event.request first_node (Request.terminate j0)) (Reply.ended 1)
     ∷ happened_with (Event.request second_node (Request.enter j1 (j0 ∷ j1 ∷ []) true)) (Reply.entered 1)
     ∷ happened_with (Event.request second_node (Request.leave j1)) Reply.waiting
-    ∷ happened_with (Event.deliver 1) Reply.taken
-    ∷ happened_with (Event.deliver 2) Reply.taken
-    ∷ happened_with (Event.request second_node (Request.leave j1)) Reply.waiting
-    ∷ happened_with (Event.deliver 3) Reply.taken
-    ∷ []
+    ∷ come_around 1 2 3
 
 -- Both meet. The one process puts a value for all and commits it, and enters a fence of both that collects data; then the other one
 -- enters. Each node's header reaches the other node. The second process waits for the first one's header, which was sent and not
@@ -76,11 +81,7 @@ puts_and_meets =
     ∷ happened_with (Event.request first_node (Request.enter j0 (j0 ∷ j1 ∷ []) true)) (Reply.entered 1)
     ∷ happened_with (Event.request second_node (Request.enter j1 (j0 ∷ j1 ∷ []) true)) (Reply.entered 1)
     ∷ happened_with (Event.request second_node (Request.leave j1)) Reply.waiting
-    ∷ happened_with (Event.deliver 3) Reply.taken
-    ∷ happened_with (Event.deliver 1) Reply.taken
-    ∷ happened_with (Event.request second_node (Request.leave j1)) Reply.waiting
-    ∷ happened_with (Event.deliver 2) Reply.taken
-    ∷ []
+    ∷ come_around 3 1 2
 
 -- There is a run of these events, of jobs as every group's are. At its end the second process is released from the fence that it
 -- entered last, in which the first one takes part, and is told who is gone. Then it gets the key of the first one, waiting if need

@@ -19,7 +19,7 @@ pub struct Event {
 
 impl Drop for Event {
     fn drop(self) {
-        let Event { act: _, answer: _ } = self;
+        let Self { act, answer } = self;
     }
 }
 

@@ -39,10 +39,10 @@ pub struct ClientLog {
 
 impl Drop for ClientLog {
     fn drop(self) {
-        let ClientLog {
-            transcript: _,
-            cache: _,
-            in_call: _,
+        let Self {
+            transcript,
+            cache,
+            in_call,
         } = self;
     }
 }

@@ -35,7 +35,7 @@ pub struct Called {
 
 impl Drop for Called {
     fn drop(self) {
-        let Called { call: _, answer: _ } = self;
+        let Self { call, answer } = self;
     }
 }
 

@@ -10,20 +10,11 @@ use std::collections::VecDeque;
 
 /// What came from one other node and was not delivered yet: the bytes of a frame that is not whole, and the frames that are, the
 /// next one first; with the fault after them, where one came.
+#[derive(Drop)]
 pub struct Inbox {
     pub(crate) stream: Stream,
     pub(crate) frames: VecDeque<Frame>,
     fault: Option<Fault>,
-}
-
-impl Drop for Inbox {
-    fn drop(self) {
-        let Inbox {
-            stream: _,
-            frames: _,
-            fault: _,
-        } = self;
-    }
 }
 
 impl Inbox {

@@ -34,11 +34,11 @@ pub struct Link {
 
 impl Drop for Link {
     fn drop(self) {
-        let Link {
-            node: _,
-            caches: _,
-            waiting: _,
-            joined: _,
+        let Self {
+            node,
+            caches,
+            waiting,
+            joined,
         } = self;
     }
 }

@@ -146,7 +146,7 @@ fn run_threads<R: Threads + Wait + Clock + Sync>(
                 all_started = all_started && sends && delivers && asks;
             }
             let reported = if all_started {
-                run_clients(rt, alloc, desks, procs, work)
+                tell_clients(rt, alloc, desks, procs, work)
             } else {
                 Err(Refusal::NoMemory)
             };
@@ -155,19 +155,6 @@ fn run_threads<R: Threads + Wait + Clock + Sync>(
         },
     )?;
     judge(reported, shortage.is_noted(rt))
-}
-
-/// Runs the clients, a thread each, and sees whether a desk was closed meanwhile.
-fn run_clients<R: Threads + Wait + Sync>(
-    rt: &R,
-    alloc: Global,
-    desks: &[Desk],
-    procs: &[Proc],
-    work: Vec<Work<'_>>,
-) -> Result<Reported, Refusal> {
-    let mut reported = tell_clients(rt, alloc, desks, procs, work)?;
-    reported.is_cut = is_one_closed(rt, desks);
-    Ok(reported)
 }
 
 /// What was reported, where no desk was closed before all clients had ended. Else NoMemory where an allocation failed in a call of a
@@ -182,7 +169,8 @@ fn judge(reported: Reported, is_noted: bool) -> Result<Reported, Refusal> {
     Err(Refusal::Closed)
 }
 
-/// What the clients report and what they called, once all have ended. Where a thread cannot be started every desk is closed.
+/// Runs the clients, a thread each: what they report and what they called, once all have ended, and whether a desk was closed meanwhile.
+/// Where a thread cannot be started every desk is closed.
 fn tell_clients<R: Threads + Wait + Sync>(
     rt: &R,
     alloc: Global,
@@ -217,6 +205,7 @@ fn tell_clients<R: Threads + Wait + Sync>(
             for thread in threads {
                 reported.push(thread.join(rt))?;
             }
+            reported.is_cut = is_one_closed(rt, desks);
             Ok(reported)
         },
     )

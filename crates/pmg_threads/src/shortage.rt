@@ -10,7 +10,7 @@ pub struct Shortage {
 
 impl Drop for Shortage {
     fn drop(self) {
-        let Shortage { is_noted: _ } = self;
+        let Self { is_noted } = self;
     }
 }
 

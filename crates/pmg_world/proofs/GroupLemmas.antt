@@ -2,6 +2,7 @@
 use Rattle.std.proofs.Common.{◌≡◌, ℕ, ◌<◌, ◌≤◌, Bool, nat_lt, true, false, List, ◌++◌, length, get_or, set, Option, Some, None, Result, Err, refl, sym, ap, subst, ◌∙◌, arith}
 use Rattle.std.proofs.lemmas.Bool.{lt-ltb, ltb-true}
 use Rattle.std.proofs.lemmas.Bool.Decides.{nat_tests}
+use Rattle.std.proofs.lemmas.List.{set-get_or}
 use Rattle.pmg_value.specs.Lists.{Each}
 use Rattle.pmg_value.specs.declared.process.Proc.{Proc}
 use Rattle.pmg_value.specs.declared.refusal.Refusal.{Refusal}
@@ -147,21 +148,15 @@ unfolding IsGroup
 peer_inside g group n s is =
     node_is_inside g.registry (length g.nodes.items) s.to group.1.nodes.count (numbered_is (λ (x : Sent). is_node g.registry x.to ≡ true) g.sent.items n s group.1.peers is)
 
+-- a list in which an item is set to what it was is the same
+pub set_as_was : {A : Type 0} (xs : List A) (k : ℕ) (y : A) {x : A} → x ≡ get_or xs k y → set xs k x ≡ xs
+set_as_was xs k y is = ap (set xs k) is ∙ set-get_or xs k y
+
 -- ---- replies
 
 pub no_refusal : (r : GivenReply) → is_refusal (reply_as r) ≡ false
 no_refusal replies.Done = refl
-no_refusal (replies.Committed number) = refl
-no_refusal (replies.Entered instance) = refl
-no_refusal replies.Idle = refl
-no_refusal replies.Waiting = refl
-no_refusal (replies.Released instance gone) = refl
-no_refusal (replies.Found value) = refl
-no_refusal replies.Parked = refl
-no_refusal replies.Taken = refl
-no_refusal replies.Ignored = refl
-no_refusal (replies.Ended number) = refl
-no_refusal (replies.Defined number) = refl
+no_refusal _ = refl
 
 pub says_nothing : (refused : Bool) (scripts : Scripts) → unless_refused refused scripts None ≡ scripts
 says_nothing true scripts = refl

@@ -29,7 +29,7 @@ pub free_at : (jobs : Jobs) (node : ℕ) (h : NodeState) (s : Server) (p : Proc)
 free_at jobs node h s p x of is = (λ i. first_of (free_cause (sym of.jobs_same i) (sym of.id_same i) (sym of.holds i) p) tt) ∙ sym is
 
 -- a process of which nothing is amiss is none of the standard's
-free_client : (jobs : Jobs) (node : ℕ) (h : NodeState) (p : Proc) → first_of (free_cause jobs node h p) (tt {0}) ≡ Ok tt → is_reserved p.nspace ≡ false
+pub free_client : (jobs : Jobs) (node : ℕ) (h : NodeState) (p : Proc) → first_of (free_cause jobs node h p) (tt {0}) ≡ Ok tt → is_reserved p.nspace ≡ false
 free_client jobs node h p free = by (is_reserved p.nspace) refl
   where
     never : ◌≡◌ {A = Result (Unit {0}) Refusal} (Err refusals.BadParam) (Ok tt) → true ≡ false

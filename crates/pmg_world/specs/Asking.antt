@@ -10,25 +10,25 @@ use Rattle.pmg_node_parts.specs.Calls.{get_of}
 use Rattle.pmg_script.specs.Scripts.{Line}
 use Rattle.pmg_world.specs.Telling.{event_of}
 use Rattle.pmg_group_model.specs.Worlds.{Event}
-use Rattle.pmg_world.specs.declared.asking.Asked.{Asked as AskedFor}
-use Rattle.pmg_world.specs.declared.asking.Asked.TheVariants as asked
+use Rattle.pmg_world.specs.declared.asking.LineAsk.{LineAsk as AskedFor}
+use Rattle.pmg_world.specs.declared.asking.LineAsk.TheVariants as asked
 
 -- What is asked of the world: that something happens; something that is refused, since a name in the line is none; that all frames
 -- are delivered that never were; the members of a set, as a node knows them; a node's dump.
-pub data Asked : Type 0 where
-  happens : Event → Asked
-  unnamed : Asked
-  flow : Asked
-  members : ℕ → List ℕ → Asked
-  dump : ℕ → Asked
+pub data LineAsk : Type 0 where
+  happens : Event → LineAsk
+  unnamed : LineAsk
+  flow : LineAsk
+  members : ℕ → List ℕ → LineAsk
+  dump : ℕ → LineAsk
 
 -- what is asked, as code holds it
-abbrev pub asked_of : AskedFor → Asked
-asked_of (asked.Event e) = Asked.happens (event_of e)
-asked_of asked.Unnamed = Asked.unnamed
-asked_of asked.Flow = Asked.flow
-asked_of (asked.Members node name) = Asked.members node name
-asked_of (asked.Dump node) = Asked.dump node
+abbrev pub asked_of : AskedFor → LineAsk
+asked_of (asked.Event e) = LineAsk.happens (event_of e)
+asked_of asked.Unnamed = LineAsk.unnamed
+asked_of asked.Flow = LineAsk.flow
+asked_of (asked.Members node name) = LineAsk.members node name
+asked_of (asked.Dump node) = LineAsk.dump node
 
 -- the process's namespace has a name
 abbrev pub has_named_nspace : Proc → Bool
@@ -39,8 +39,8 @@ abbrev pub are_named : List Proc → Bool
 are_named ps = list_all has_named_nspace ps
 
 -- it happens, where the names in the line are such
-abbrev pub if_named : Bool → Event → Asked
-if_named names e = if names then Asked.happens e else Asked.unnamed
+abbrev pub if_named : Bool → Event → LineAsk
+if_named names e = if names then LineAsk.happens e else LineAsk.unnamed
 
 -- what a process asks of the node that it is at home at
 abbrev pub at_home : Jobs → Proc → Request → Event
@@ -51,7 +51,7 @@ abbrev pub sets_node : ℕ
 sets_node = 0
 
 -- What a line asks; nothing is asked of the world by a line that names nodes or registers a namespace, and by an empty one.
-unfoldable pub line_asks : Jobs → Line → Option Asked
+unfoldable pub line_asks : Jobs → Line → Option LineAsk
 line_asks jobs (Line.put p scope value key) = Some (if_named (has_named_nspace p && is_key key) (Event.put p scope key (spelling value)))
 line_asks jobs (Line.commit p) = Some (if_named (has_named_nspace p) (Event.commit (home_of jobs p) p))
 line_asks jobs (Line.enter p collect list) = Some (if_named (has_named_nspace p && are_named list) (at_home jobs p (Request.enter p list collect)))
@@ -61,11 +61,11 @@ line_asks jobs (Line.take p) = Some (if_named (has_named_nspace p) (at_home jobs
 line_asks jobs (Line.end p) = Some (if_named (has_named_nspace p) (at_home jobs p (Request.terminate p)))
 line_asks jobs (Line.define list name) = Some (if_named (are_named list && is_key name) (Event.request sets_node (Request.define name list)))
 line_asks jobs (Line.delete name) = Some (if_named (is_key name) (Event.request sets_node (Request.delete name)))
-line_asks jobs (Line.deliver frame) = Some (Asked.happens (Event.deliver frame))
-line_asks jobs Line.flow = Some Asked.flow
-line_asks jobs (Line.nudge node) = Some (Asked.happens (Event.request node Request.nudge))
-line_asks jobs (Line.members node name) = Some (if is_key name then Asked.members node name else Asked.unnamed)
-line_asks jobs (Line.dump node) = Some (Asked.dump node)
+line_asks jobs (Line.deliver frame) = Some (LineAsk.happens (Event.deliver frame))
+line_asks jobs Line.flow = Some LineAsk.flow
+line_asks jobs (Line.nudge node) = Some (LineAsk.happens (Event.request node Request.nudge))
+line_asks jobs (Line.members node name) = Some (if is_key name then LineAsk.members node name else LineAsk.unnamed)
+line_asks jobs (Line.dump node) = Some (LineAsk.dump node)
 line_asks jobs Line.nothing = None
 line_asks jobs (Line.nodes names) = None
 line_asks jobs (Line.space nspace homes) = None

@@ -18,7 +18,7 @@ use Rattle.pmg_node.specs.Members.{known_members_cause, members_known}
 use Rattle.pmg_node.specs.Servers.{Server}
 use Rattle.pmg_grouptext.specs.Groups.{with_named_space}
 use Rattle.pmg_world.specs.Accounts.{Account, GoesOn, IsRun, IsAccountLawful}
-use Rattle.pmg_world.specs.Asking.{Asked, line_asks}
+use Rattle.pmg_world.specs.Asking.{LineAsk, line_asks}
 use Rattle.pmg_world.specs.Delivering.{undelivered}
 use Rattle.pmg_world.specs.ReplyLines.{reply_line, flow_line, members_line}
 use Rattle.pmg_script.specs.Scripts.{Line, said}
@@ -105,12 +105,12 @@ dump_at None = refused_line refusals.BadParam
 dump_at (Some s) = dump s.holding.far
 
 -- How the world answers what is asked of it, and what it is then.
-unfoldable pub Performs : Account → Asked → List ℕ → Account → Type 0
-Performs w (Asked.happens e) text v = AnswersLine w e text v
-Performs w Asked.unnamed text v = (text ≡ refused_line refusals.BadParam) × (v ≡ w)
-Performs w Asked.flow text v = Flows w text v
-Performs w (Asked.members node name) text v = (text ≡ members_text (server_at w node) name) × (v ≡ w)
-Performs w (Asked.dump node) text v = (text ≡ dump_at (server_at w node)) × (v ≡ w)
+unfoldable pub Performs : Account → LineAsk → List ℕ → Account → Type 0
+Performs w (LineAsk.happens e) text v = AnswersLine w e text v
+Performs w LineAsk.unnamed text v = (text ≡ refused_line refusals.BadParam) × (v ≡ w)
+Performs w LineAsk.flow text v = Flows w text v
+Performs w (LineAsk.members node name) text v = (text ≡ members_text (server_at w node) name) × (v ≡ w)
+Performs w (LineAsk.dump node) text v = (text ≡ dump_at (server_at w node)) × (v ≡ w)
 
 -- ---- the phases of a script
 
@@ -133,7 +133,7 @@ pub record IsNew (jobs : Jobs) (w : Account) : Type 0 where
 
 -- the world answers what the line asks of it
 pub record Runs (w : Account) (line : Line) (text : List ℕ) (v : Account) : Type 0 where
-  pub asked : Asked
+  pub asked : LineAsk
   pub asks : line_asks w.jobs line ≡ Some asked
   pub performs : Performs w asked text v
 

@@ -1,11 +1,11 @@
 //! What a line of a script asks of the world, where the names in it are judged.
-ghost use Rattle.std.specs.Prelude.{◌≡◌, ◌&&◌, IfOk, IsTrue, Some, if◌then◌else◌};
+ghost use Rattle.std.specs.Prelude.{◌≡◌, ◌&&◌, true, false, IfOk, IfSome, IsNone, IsTrue, Some, if◌then◌else◌};
 ghost use Rattle.pmg_value.specs.Names.{is_key};
 ghost use Rattle.pmg_value.specs.Spelling.{spelling};
 ghost use Rattle.pmg_jobinfo.specs.Jobs.{home_of};
 ghost use Rattle.pmg_node_model.specs.Acts.{Request as ModelRequest};
 ghost use Rattle.pmg_node_parts.specs.Calls.{get_of};
-ghost use Rattle.pmg_world.specs.Asking.{Asked as ModelAsked, asked_of, line_asks, are_named, at_home, if_named, has_named_nspace, sets_node};
+ghost use Rattle.pmg_world.specs.Asking.{LineAsk as ModelAsked, asked_of, line_asks, are_named, at_home, if_named, has_named_nspace, sets_node};
 ghost use Rattle.pmg_script.specs.Lines.{ReadsAllWords};
 ghost use Rattle.pmg_script.specs.Scripts.{line_of};
 ghost use Rattle.pmg_group_model.specs.Worlds.{Event as ModelEvent};
@@ -21,7 +21,7 @@ use std::alloc::{AllocError, Global};
 
 /// What a line asks of the world.
 #[derive(Drop)]
-pub(crate) enum Asked {
+pub(crate) enum LineAsk {
     /// This happens.
     Event(Event),
     /// Something that is refused, since a name in the line is none.
@@ -84,6 +84,23 @@ fn home_of(registry: &Registry, proc: &Proc) -> u64
     u64::from(registry.home_of(proc).index())
 }
 
+/// The process of the name with the index of its home, where its namespace has a name.
+fn proc_at_home(
+    alloc: Global,
+    registry: &Registry,
+    named: &Named<'_>,
+) -> Result<Option<(u64, Proc)>, AllocError>
+    ensures some { IfOk result (λ o. IfSome o (λ at. (has_named_nspace named.now ≡ true)
+        × ((at.0 ≡ home_of registry.now named.now) × (at.1 ≡ named.now)))) }
+    ensures none { IfOk result (λ o. IsNone o → has_named_nspace named.now ≡ false) }
+{
+    if !is_named(named) {
+        return Ok(None);
+    }
+    let proc = proc_of(alloc, named)?;
+    Ok(Some((home_of(registry, &proc), proc)))
+}
+
 /// `put NS RANK SCOPE HEX KEY`
 fn ask_put(
     alloc: Global,
@@ -91,26 +108,25 @@ fn ask_put(
     scope: Scope,
     value: Value,
     key: &[u8],
-) -> Result<Asked, LineFault>
+) -> Result<LineAsk, LineFault>
     ensures { ReadsAllWords asked_of result (Some (if_named (has_named_nspace proc.now && is_key key.now) (ModelEvent.put proc.now scope key.now (spelling value)))) }
 {
     if !is_named(proc) || !is_key_text(key) {
-        return Ok(Asked::Unnamed);
+        return Ok(LineAsk::Unnamed);
     }
     let proc = proc_of(alloc, proc)?;
     let key = Key::from_text(alloc, key)?;
-    Ok(Asked::Event(Event::Put(proc, scope, key, value)))
+    Ok(LineAsk::Event(Event::Put(proc, scope, key, value)))
 }
 
 /// `commit NS RANK`
-fn ask_commit(alloc: Global, registry: &Registry, proc: &Named<'_>) -> Result<Asked, LineFault>
+fn ask_commit(alloc: Global, registry: &Registry, proc: &Named<'_>) -> Result<LineAsk, LineFault>
     ensures { ReadsAllWords asked_of result (Some (if_named (has_named_nspace proc.now) (ModelEvent.commit (home_of registry.now proc.now) proc.now))) }
 {
-    if !is_named(proc) {
-        return Ok(Asked::Unnamed);
-    }
-    let proc = proc_of(alloc, proc)?;
-    Ok(Asked::Event(Event::Commit(home_of(registry, &proc), proc)))
+    let Some((home, proc)) = proc_at_home(alloc, registry, proc)? else {
+        return Ok(LineAsk::Unnamed);
+    };
+    Ok(LineAsk::Event(Event::Commit(home, proc)))
 }
 
 /// `enter NS RANK plain` or `collect`, then pairs `NS RANK`
@@ -120,29 +136,26 @@ fn ask_enter(
     proc: &Named<'_>,
     collect: bool,
     list: &[Named<'_>],
-) -> Result<Asked, LineFault>
+) -> Result<LineAsk, LineFault>
     ensures { ReadsAllWords asked_of result (Some (if_named (has_named_nspace proc.now && are_named list.now) (at_home registry.now proc.now (ModelRequest.enter proc.now list.now collect)))) }
 {
     if !is_named(proc) || !are_named(list) {
-        return Ok(Asked::Unnamed);
+        return Ok(LineAsk::Unnamed);
     }
     let proc = proc_of(alloc, proc)?;
     let list = procs_of(alloc, list)?;
     let home = home_of(registry, &proc);
-    let request = Request::Enter(proc, list, collect);
-    Ok(Asked::Event(Event::Request(home, request)))
+    Ok(LineAsk::Event(Event::Request(home, Request::Enter(proc, list, collect))))
 }
 
 /// `leave NS RANK`
-fn ask_leave(alloc: Global, registry: &Registry, proc: &Named<'_>) -> Result<Asked, LineFault>
+fn ask_leave(alloc: Global, registry: &Registry, proc: &Named<'_>) -> Result<LineAsk, LineFault>
     ensures { ReadsAllWords asked_of result (Some (if_named (has_named_nspace proc.now) (at_home registry.now proc.now (ModelRequest.leave proc.now)))) }
 {
-    if !is_named(proc) {
-        return Ok(Asked::Unnamed);
-    }
-    let proc = proc_of(alloc, proc)?;
-    let home = home_of(registry, &proc);
-    Ok(Asked::Event(Event::Request(home, Request::Leave(proc))))
+    let Some((home, proc)) = proc_at_home(alloc, registry, proc)? else {
+        return Ok(LineAsk::Unnamed);
+    };
+    Ok(LineAsk::Event(Event::Request(home, Request::Leave(proc))))
 }
 
 /// `get NS RANK wait` or `now`, then `NS RANK KEY`
@@ -153,80 +166,75 @@ fn ask_get(
     mode: Mode,
     target: &Named<'_>,
     key: &[u8],
-) -> Result<Asked, LineFault>
+) -> Result<LineAsk, LineFault>
     ensures { ReadsAllWords asked_of result (Some (if_named (has_named_nspace proc.now && has_named_nspace target.now && is_key key.now) (at_home registry.now proc.now (ModelRequest.ask proc.now (get_of target.now key.now) mode)))) }
 {
     if !is_named(proc) || !is_named(target) || !is_key_text(key) {
-        return Ok(Asked::Unnamed);
+        return Ok(LineAsk::Unnamed);
     }
     let proc = proc_of(alloc, proc)?;
     let target = proc_of(alloc, target)?;
     let key = Key::from_text(alloc, key)?;
     let home = home_of(registry, &proc);
-    let request = Request::Ask(proc, target, key, mode);
-    Ok(Asked::Event(Event::Request(home, request)))
+    Ok(LineAsk::Event(Event::Request(home, Request::Ask(proc, target, key, mode))))
 }
 
 /// `take NS RANK`
-fn ask_take(alloc: Global, registry: &Registry, proc: &Named<'_>) -> Result<Asked, LineFault>
+fn ask_take(alloc: Global, registry: &Registry, proc: &Named<'_>) -> Result<LineAsk, LineFault>
     ensures { ReadsAllWords asked_of result (Some (if_named (has_named_nspace proc.now) (at_home registry.now proc.now (ModelRequest.take proc.now)))) }
 {
-    if !is_named(proc) {
-        return Ok(Asked::Unnamed);
-    }
-    let proc = proc_of(alloc, proc)?;
-    let home = home_of(registry, &proc);
-    Ok(Asked::Event(Event::Request(home, Request::Take(proc))))
+    let Some((home, proc)) = proc_at_home(alloc, registry, proc)? else {
+        return Ok(LineAsk::Unnamed);
+    };
+    Ok(LineAsk::Event(Event::Request(home, Request::Take(proc))))
 }
 
 /// `end NS RANK`
-fn ask_end(alloc: Global, registry: &Registry, proc: &Named<'_>) -> Result<Asked, LineFault>
+fn ask_end(alloc: Global, registry: &Registry, proc: &Named<'_>) -> Result<LineAsk, LineFault>
     ensures { ReadsAllWords asked_of result (Some (if_named (has_named_nspace proc.now) (at_home registry.now proc.now (ModelRequest.terminate proc.now)))) }
 {
-    if !is_named(proc) {
-        return Ok(Asked::Unnamed);
-    }
-    let proc = proc_of(alloc, proc)?;
-    let home = home_of(registry, &proc);
-    Ok(Asked::Event(Event::Request(home, Request::Terminate(proc))))
+    let Some((home, proc)) = proc_at_home(alloc, registry, proc)? else {
+        return Ok(LineAsk::Unnamed);
+    };
+    Ok(LineAsk::Event(Event::Request(home, Request::Terminate(proc))))
 }
 
 /// `define M`, so many pairs `NS RANK`, `NAME`
-fn ask_define(alloc: Global, list: &[Named<'_>], name: &[u8]) -> Result<Asked, LineFault>
+fn ask_define(alloc: Global, list: &[Named<'_>], name: &[u8]) -> Result<LineAsk, LineFault>
     ensures { ReadsAllWords asked_of result (Some (if_named (are_named list.now && is_key name.now) (ModelEvent.request sets_node (ModelRequest.define name.now list.now)))) }
 {
     if !are_named(list) || !is_key_text(name) {
-        return Ok(Asked::Unnamed);
+        return Ok(LineAsk::Unnamed);
     }
     let list = procs_of(alloc, list)?;
     let name = Key::from_text(alloc, name)?;
-    Ok(Asked::Event(Event::Request(0, Request::Define(name, list))))
+    Ok(LineAsk::Event(Event::Request(0, Request::Define(name, list))))
 }
 
 /// `delete NAME`
-fn ask_delete(alloc: Global, name: &[u8]) -> Result<Asked, LineFault>
+fn ask_delete(alloc: Global, name: &[u8]) -> Result<LineAsk, LineFault>
     ensures { ReadsAllWords asked_of result (Some (if_named (is_key name.now) (ModelEvent.request sets_node (ModelRequest.delete name.now)))) }
 {
     if !is_key_text(name) {
-        return Ok(Asked::Unnamed);
+        return Ok(LineAsk::Unnamed);
     }
     let name = Key::from_text(alloc, name)?;
-    Ok(Asked::Event(Event::Request(0, Request::Delete(name))))
+    Ok(LineAsk::Event(Event::Request(0, Request::Delete(name))))
 }
 
 /// `members NODE NAME`
-fn ask_members(alloc: Global, node: u64, name: &[u8]) -> Result<Asked, LineFault>
+fn ask_members(alloc: Global, node: u64, name: &[u8]) -> Result<LineAsk, LineFault>
     ensures { ReadsAllWords asked_of result (Some (if is_key name.now then ModelAsked.members node name.now else ModelAsked.unnamed)) }
 {
     if !is_key_text(name) {
-        return Ok(Asked::Unnamed);
+        return Ok(LineAsk::Unnamed);
     }
-    Ok(Asked::Members(node, Key::from_text(alloc, name)?))
+    Ok(LineAsk::Members(node, Key::from_text(alloc, name)?))
 }
 
 /// What the line asks of the world of these jobs. It is malformed where it asks nothing of it.
 #[tactic(auto, unfolding(crate::specs::Asking::line_asks))]
-pub(crate) fn ask(alloc: Global, registry: &Registry, line: Line<'_>) -> Result<Asked, LineFault>
+pub(crate) fn ask(alloc: Global, registry: &Registry, line: Line<'_>) -> Result<LineAsk, LineFault>
     ensures { ReadsAllWords asked_of result (line_asks registry.now (line_of line.entry)) }
 {
     match line {
@@ -241,11 +249,11 @@ pub(crate) fn ask(alloc: Global, registry: &Registry, line: Line<'_>) -> Result<
         Line::End(proc) => ask_end(alloc, registry, &proc),
         Line::Define(list, name) => ask_define(alloc, &list, name),
         Line::Delete(name) => ask_delete(alloc, name),
-        Line::Deliver(frame) => Ok(Asked::Event(Event::Deliver(frame))),
-        Line::Flow => Ok(Asked::Flow),
-        Line::Nudge(node) => Ok(Asked::Event(Event::Request(node, Request::Nudge))),
+        Line::Deliver(frame) => Ok(LineAsk::Event(Event::Deliver(frame))),
+        Line::Flow => Ok(LineAsk::Flow),
+        Line::Nudge(node) => Ok(LineAsk::Event(Event::Request(node, Request::Nudge))),
         Line::Members(node, name) => ask_members(alloc, node, name),
-        Line::Dump(node) => Ok(Asked::Dump(node)),
+        Line::Dump(node) => Ok(LineAsk::Dump(node)),
         Line::Nothing | Line::Nodes(_) | Line::Space(_, _) => Err(LineFault::Malformed),
     }
 }

@@ -56,9 +56,6 @@ pub struct LoggedEvent {
 
 impl Drop for LoggedEvent {
     fn drop(self) {
-        let LoggedEvent {
-            event: _,
-            answer: _,
-        } = self;
+        let Self { event, answer } = self;
     }
 }

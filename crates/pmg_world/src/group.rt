@@ -31,11 +31,11 @@ pub(crate) struct Group {
 
 impl Drop for Group {
     fn drop(self) {
-        let Group {
-            registry: _,
-            nodes: _,
-            caches: _,
-            sent: _,
+        let Self {
+            registry,
+            nodes,
+            caches,
+            sent,
         } = self;
     }
 }

@@ -9,7 +9,7 @@ ghost use Rattle.pmg_world.specs.Asking.{asked_of};
 ghost use Rattle.pmg_world.specs.Stages.{AnswersLine, Flows, IsNew, Performs, dump_at, is_deletion, members_text, server_at, proc_element, proc_elements, procs_in_value};
 ghost use Rattle.pmg_world.specs.Telling.{event_of};
 
-use crate::asking::Asked;
+use crate::asking::LineAsk;
 use crate::delivered::Delivered;
 use crate::event::Event;
 use crate::reply_lines::{flow_line, members_line, refusal_line, reply_line};
@@ -30,10 +30,7 @@ pub(crate) struct Scene {
 
 impl Drop for Scene {
     fn drop(self) {
-        let Scene {
-            world: _,
-            delivered: _,
-        } = self;
+        let Self { world, delivered } = self;
     }
 }
 
@@ -123,15 +120,15 @@ impl Scene {
 
     /// What is asked of the world is done, and answered with the text of its reply.
     #[tactic(auto, unfolding(crate::specs::Stages::Performs))]
-    pub(crate) fn perform(&mut self, alloc: Global, asked: Asked) -> Result<Vec<u8>, AllocError>
+    pub(crate) fn perform(&mut self, alloc: Global, asked: LineAsk) -> Result<Vec<u8>, AllocError>
         ensures { IfOk result (λ text. Performs self.old (asked_of asked) text.items self.new) }
     {
         match asked {
-            Asked::Event(event) => self.happen(alloc, event),
-            Asked::Unnamed => refusal_line(alloc, &Refusal::BadParam),
-            Asked::Flow => self.flow(alloc),
-            Asked::Members(node, name) => self.members(alloc, node, &name),
-            Asked::Dump(node) => self.dump(alloc, node),
+            LineAsk::Event(event) => self.happen(alloc, event),
+            LineAsk::Unnamed => refusal_line(alloc, &Refusal::BadParam),
+            LineAsk::Flow => self.flow(alloc),
+            LineAsk::Members(node, name) => self.members(alloc, node, &name),
+            LineAsk::Dump(node) => self.dump(alloc, node),
         }
     }
 

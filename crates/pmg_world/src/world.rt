@@ -25,7 +25,7 @@ pub struct World {
 
 impl Drop for World {
     fn drop(self) {
-        let World { group: _, told: _ } = self;
+        let Self { group, told } = self;
     }
 }
 

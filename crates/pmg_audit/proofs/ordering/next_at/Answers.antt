@@ -17,8 +17,8 @@ none_on : {X : Type 0} (r : Result (Option Event) X) (P Q : Type 0) → IfOk r (
 none_on (Ok o) P Q is on = λ none q. is none (on q)
 none_on (Err x) P Q is on = tt
 
-pub returns-in-Some-clause-some : goal.returns-in-Some-clause-some
-returns-in-Some-clause-some c =
+pub returns-in-Some : goal.returns-in-Some
+returns-in-Some c =
     let inside : c.args.node < length c.args.lanes.now = search rules in
     let lanes = c.args.lanes.now in
     let done = c.args.done.now in
@@ -27,21 +27,12 @@ returns-in-Some-clause-some c =
     let x = c.in-Some.next.now in
     let there : slice_get (moves_at (all_of lanes) n) (slice_index done n) ≡ Some (move_in x) =
     next_of lanes n c.index-lanes-node.result c.deref.result.now (slice_index done n) x inside c.deref.ensures.value c.in-Some.ensures.lookup.0 c.in-Some.ensures.lookup.1 in
-    some_on c.event_for.result (λ e. IsEventOf frames n (act_of x.act) (event_of e)) (λ e. IsNext (all_of lanes) done frames n (event_of e)) c.event_for.ensures.some
-    (λ e is. record { next = move_in x; there = there; event = is })
-
-pub returns-in-Some-clause-none : goal.returns-in-Some-clause-none
-returns-in-Some-clause-none c =
-    let inside : c.args.node < length c.args.lanes.now = search rules in
-    let lanes = c.args.lanes.now in
-    let done = c.args.done.now in
-    let frames = c.args.sends.now.frames.items in
-    let n = c.args.node in
-    let x = c.in-Some.next.now in
-    let there : slice_get (moves_at (all_of lanes) n) (slice_index done n) ≡ Some (move_in x) =
-    next_of lanes n c.index-lanes-node.result c.deref.result.now (slice_index done n) x inside c.deref.ensures.value c.in-Some.ensures.lookup.0 c.in-Some.ensures.lookup.1 in
-    none_on c.event_for.result (MayGo n (act_of x.act) frames) (IsReady (all_of lanes) done frames n) c.event_for.ensures.none
-    (λ ready. subst (λ o. MayGoNext n o frames) there ready)
+    record {
+      some = some_on c.event_for.result (λ e. IsEventOf frames n (act_of x.act) (event_of e)) (λ e. IsNext (all_of lanes) done frames n (event_of e)) c.event_for.ensures.some
+          (λ e is. record { next = move_in x; there = there; event = is });
+      none = none_on c.event_for.result (MayGo n (act_of x.act) frames) (IsReady (all_of lanes) done frames n) c.event_for.ensures.none
+          (λ ready. subst (λ o. MayGoNext n o frames) there ready);
+    }
 
 pub returns-in-None-clause-none : goal.returns-in-None-clause-none
 returns-in-None-clause-none c =

@@ -1,7 +1,7 @@
 use Rattle.std.proofs.Common.{◌≡◌, ◌<◌, length, subst, rules, refl}
 use Rattle.pmg_node.specs.Opening.{new_server}
 use Rattle.pmg_audit.specs.Replaying.{AddsNode, AllUnsaid, AreReplayed, SomeUnsaid}
-use Rattle.pmg_audit.specs.Runs.{told_at}
+use Rattle.pmg_audit.specs.Runs.{journal_at}
 use Rattle.pmg_audit.proofs.NodeSteps.{node_added, nodes_none, some_unsaid}
 use Rattle.pmg_audit.proofs.ReplaySteps.{refuses_on}
 use Rattle.pmg_audit.proofs.replaying.replay_all.Goals as goal
@@ -26,9 +26,9 @@ returns-in-Err-clause-refused c =
     let k = c.loop-index.index in
     let node : c.from_checked-node.result ≡ k = search rules in
     let inside : k < length jobs.nodes = search rules in
-    refuses_on c.in-Err.refusal (AllUnsaid (new_server jobs c.from_checked-node.result) c.loop-index.sayings (told_at js c.from_checked-node.result)) (SomeUnsaid jobs js c.args.sayings.now) c.in-Err.ensures.refused
+    refuses_on c.in-Err.refusal (AllUnsaid (new_server jobs c.from_checked-node.result) c.loop-index.sayings (journal_at js c.from_checked-node.result)) (SomeUnsaid jobs js c.args.sayings.now) c.in-Err.ensures.refused
     (λ not. some_unsaid jobs js c.args.sayings.now k c.loop-index.all c.loop-index.sayings c.loop-index.invariant inside
-    (subst (λ n. AllUnsaid (new_server jobs n) c.loop-index.sayings (told_at js n)) node not))
+    (subst (λ n. AllUnsaid (new_server jobs n) c.loop-index.sayings (journal_at js n)) node not))
 
 pub returns-clause-ok : goal.returns-clause-ok
 returns-clause-ok c =

@@ -4,16 +4,13 @@ use Rattle.pmg_audit.specs.Sends.{IsKeyOf}
 use Rattle.pmg_audit.proofs.SendLemmas.{no_number, some_number}
 use Rattle.pmg_audit.proofs.sends.Sends.number_of.Goals as goal
 
-pub returns-clause-some : goal.returns-clause-some
-returns-clause-some c =
+pub returns : goal.returns
+returns c =
     let s = sent c.args.node c.args.frame.now in
     let key = c.in_ok-key.ensures in
     let is : IsKeyOf c.in_ok-key.key s = record { node = key.node; bytes = key.bytes; valid = key.valid; small = key.small } in
-    some_number c.args.self.now.frames.items c.args.self.now.numbers.entries c.in_ok-key.key s c.copied.result c.requires is (c.copied.ensures ∙ c.get.ensures.value)
-
-pub returns-clause-none : goal.returns-clause-none
-returns-clause-none c =
-    let s = sent c.args.node c.args.frame.now in
-    let key = c.in_ok-key.ensures in
-    let is : IsKeyOf c.in_ok-key.key s = record { node = key.node; bytes = key.bytes; valid = key.valid; small = key.small } in
-    no_number c.args.self.now.frames.items c.args.self.now.numbers.entries c.in_ok-key.key s c.copied.result c.requires is (c.copied.ensures ∙ c.get.ensures.value)
+    let found = c.copied.ensures ∙ c.get.ensures.value in
+    record {
+      some = some_number c.args.self.now.frames.items c.args.self.now.numbers.entries c.in_ok-key.key s c.copied.result c.requires is found;
+      none = no_number c.args.self.now.frames.items c.args.self.now.numbers.entries c.in_ok-key.key s c.copied.result c.requires is found;
+    }

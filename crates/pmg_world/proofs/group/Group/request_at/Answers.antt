@@ -1,13 +1,8 @@
-use Rattle.std.proofs.Common.{set, refl, ap, ◌∙◌}
-use Rattle.std.proofs.lemmas.List.{set-get_or}
+use Rattle.std.proofs.Common.{refl, ◌∙◌}
+use Rattle.pmg_world.proofs.GroupLemmas.{set_as_was}
 use Rattle.pmg_world.proofs.group.Group.request_at.Goals as goal
 
 pub returns-clause-memory : goal.returns-clause-memory
 returns-clause-memory c = λ e.
-    let items = c.args.self.now.nodes.items in
-    record {
-      jobs = refl;
-      nodes = ap (set items c.args.index) (c.request.ensures.memory e ∙ c.index_mut.ensures.value) ∙ set-get_or items c.args.index c.index_mut.result.now;
-      caches = refl;
-      sent = c.request.ensures.unsent e;
-    }
+    let nodes = set_as_was c.args.self.now.nodes.items c.args.index c.index_mut.result.now (c.request.ensures.memory e ∙ c.index_mut.ensures.value) in
+    record { jobs = refl; nodes = nodes; caches = refl; sent = c.request.ensures.unsent e }
