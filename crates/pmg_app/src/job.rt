@@ -5,11 +5,11 @@ ghost use Rattle.pmg_value.specs.Written.{Writes};
 ghost use Rattle.pmg_store.specs.declared.failure.Failure.{Failure as AnyFailure};
 ghost use Rattle.pmg_store.specs.declared.failure.Failure.TheVariants as failures;
 ghost use Rattle.pmg_launch.specs.declared.launch.Outcome.{Outcome as AnyOutcome};
-ghost use Rattle.pmg_app.specs.Job.{IsJobStatus, audit_line, audit_output, audited_text, far_text, is_audit_fault, is_done, job_failure, job_output, outcome_status, outcome_text, reports_text};
+ghost use Rattle.pmg_app.specs.Job.{IsJobStatus, audit_output, audited_text, far_text, is_audit_fault, is_done, job_failure, job_output, outcome_status, outcome_text, reports_text};
 ghost use Rattle.pmg_commands.specs.Output.{IsStatus, Prints, TellsReadFault};
 
 use pmg_audit::Run;
-use pmg_commands::{AUDIT_FAULT, DONE, FAILED, conclude, finish};
+use pmg_commands::{AUDIT_FAULT, DONE, FAILED, conclude, finish, write_refusal};
 use pmg_jobfile::Job;
 use pmg_launch::{Outcome, Program, Report, run};
 use pmg_store::{Failure, MOST_READS, WatchedReader, read_input};
@@ -137,22 +137,8 @@ fn print_audit_fault<W: Write>(writer: &mut WatchedWriter<W>, refusal: Refusal) 
     ensures flushed { IsNone writer.new.failure → IsTrue writer.new.is_flushed }
     ensures status { IsJobStatus result }
 {
-    let _ = write_audit_fault(writer, refusal);
+    let _ = write_refusal(writer, b"audit fault ", &refusal);
     finish(writer, AUDIT_FAULT)
-}
-
-/// The line of a fault that the audit found.
-#[tactic(auto, using(pmg_value::proofs::WrittenLemmas::written_in_parts), unfolding(crate::specs::Job::audit_line))]
-fn write_audit_fault<W: Write>(
-    writer: &mut WatchedWriter<W>,
-    refusal: Refusal,
-) -> Result<(), WriteFault>
-    ensures text { Writes (W.contents writer.old.writer) (W.contents writer.new.writer) result (audit_line refusal) }
-    ensures failed { OnErr result (IsSome writer.new.failure) }
-{
-    writer.put_text(b"audit fault ")?;
-    refusal.write_text(writer)?;
-    writer.put_text(b"\n")
 }
 
 /// Prints the reports, and after them this, which is told of the run, and answers the status.

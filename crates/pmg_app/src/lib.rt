@@ -9,7 +9,7 @@ ghost use Rattle.pmg_commands.specs.CommandLine.{HasStatus};
 ghost use Rattle.pmg_commands.specs.Dump.{dump_output};
 ghost use Rattle.pmg_app.specs.Job.{job_output};
 ghost use Rattle.pmg_commands.specs.Merge.{merge_output};
-ghost use Rattle.pmg_commands.specs.Output.{Prints, PrintsDue, TellsReadFault};
+ghost use Rattle.pmg_commands.specs.Output.{Prints, PrintsFor, TellsReadFault};
 ghost use Rattle.pmg_app.specs.Replay.{PrintsReplies};
 
 mod job;
@@ -52,12 +52,10 @@ pub fn carry_out<T: AllocGlobal + Threads + Wait + Clock + Sync, R: BufRead, W: 
     reader: &mut WatchedReader<R>,
     writer: &mut WatchedWriter<W>,
 ) -> u8
-    ensures dump { chosen ≡ Chosen.Dump → IfSome (R.remaining reader.old.reader) (λ text.
-        PrintsDue (W.contents writer.old.writer) (W.contents writer.new.writer) reader.new.failure writer.new.failure
-        result (dump_output text)) }
-    ensures merge { chosen ≡ Chosen.Merge → IfSome (R.remaining reader.old.reader) (λ text.
-        PrintsDue (W.contents writer.old.writer) (W.contents writer.new.writer) reader.new.failure writer.new.failure
-        result (merge_output text)) }
+    ensures dump { chosen ≡ Chosen.Dump → PrintsFor (R.remaining reader.old.reader) (W.contents writer.old.writer)
+        (W.contents writer.new.writer) reader.new.failure writer.new.failure result dump_output }
+    ensures merge { chosen ≡ Chosen.Merge → PrintsFor (R.remaining reader.old.reader) (W.contents writer.old.writer)
+        (W.contents writer.new.writer) reader.new.failure writer.new.failure result merge_output }
     ensures read_fault { (chosen ≡ Chosen.Dump) ⊎ ((chosen ≡ Chosen.Merge) ⊎ (chosen ≡ Chosen.Run))
         → TellsReadFault (W.contents writer.old.writer) (W.contents writer.new.writer) reader.old.failure reader.new.failure
         writer.new.failure result }

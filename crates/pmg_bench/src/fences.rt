@@ -1,7 +1,8 @@
+use crate::processes::processes;
 use pmg_fence::Table;
 use pmg_frame::{FenceName, Signature};
 use pmg_jobinfo::Registry;
-use pmg_value::{NodeId, Nspace, Proc, Rank, Refusal};
+use pmg_value::{NodeId, Nspace, Proc, Refusal};
 use std::alloc::Global;
 
 /// The participants of each fence: half of them at each of two nodes.
@@ -18,14 +19,14 @@ struct Group {
 
 impl Drop for Group {
     fn drop(self) {
-        let Group { zero: _, one: _ } = self;
+        let Self { zero, one } = self;
     }
 }
 
 /// Enters and releases so many fences one after another, and tells whether each was ready at both nodes, with nobody gone.
 pub fn run(alloc: Global, count: u64) -> Result<bool, Refusal> {
-    let procs = processes(alloc)?;
-    let signature = Signature::new(processes(alloc)?, true)?;
+    let procs = processes(alloc, PARTICIPANTS)?;
+    let signature = Signature::new(processes(alloc, PARTICIPANTS)?, true)?;
     let mut group = Group {
         zero: table(alloc, 0)?,
         one: table(alloc, 1)?,
@@ -38,26 +39,12 @@ pub fn run(alloc: Global, count: u64) -> Result<bool, Refusal> {
     Ok(true)
 }
 
-/// The process of that rank.
-fn process(alloc: Global, rank: u32) -> Result<Proc, Refusal> {
-    Ok(Proc::new(Nspace::read(alloc, b"job")?, Rank::new(rank)))
-}
-
-/// The participants.
-fn processes(alloc: Global) -> Result<Vec<Proc>, Refusal> {
-    let mut procs = Vec::new(alloc);
-    for rank in 0..PARTICIPANTS {
-        procs.push(process(alloc, rank)?)?;
-    }
-    Ok(procs)
-}
-
 /// The table of the node of that index.
 fn table(alloc: Global, node: u32) -> Result<Table, Refusal> {
     let names: [&[u8]; 2] = [b"n0", b"n1"];
     let homes = homes(alloc)?;
     let mut registry = Registry::new(alloc, &names)?;
-    registry.register(Nspace::read(alloc, b"job")?, &homes)?;
+    registry.register(Nspace::read(alloc, b"j")?, &homes)?;
     Ok(Table::new(NodeId::new(node)?, registry))
 }
 

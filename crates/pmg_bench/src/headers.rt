@@ -1,12 +1,14 @@
+use crate::processes::{process, processes};
 use pmg_frame::{FenceName, Frame, Header, Local, Signature, State, Stream};
 use pmg_jobinfo::Registry;
 use pmg_node::{Act, Node};
 use pmg_node_model::Sent;
-use pmg_value::{NodeId, Nspace, Proc, Rank, Refusal};
+use pmg_value::{NodeId, Nspace, Refusal};
 use std::alloc::Global;
 use std::collections::VecDeque;
 
-/// The processes of a header: ranks 0 to 4095 of one namespace, each entered at one level.
+/// The participants of each fence: those of the header, of ranks 1 to 4095 of one namespace, each entered at one level, and one at the
+/// node that is told.
 const LOCALS: u32 = 4096;
 
 /// What is done with each header.
@@ -29,20 +31,6 @@ pub fn run(alloc: Global, way: Way, version: u8, count: u64) -> Result<u64, Refu
     }
 }
 
-/// The process of that rank.
-fn process(alloc: Global, rank: u32) -> Result<Proc, Refusal> {
-    Ok(Proc::new(Nspace::read(alloc, b"j")?, Rank::new(rank)))
-}
-
-/// The participants of each fence: those of the header, and one at the node that is told.
-fn participants(alloc: Global) -> Result<Vec<Proc>, Refusal> {
-    let mut procs = Vec::new(alloc);
-    for rank in 0..LOCALS {
-        procs.push(process(alloc, rank)?)?;
-    }
-    Ok(procs)
-}
-
 /// The header that node 1 sends of the instance of that number: of all participants but the first, which is at home at node 0.
 fn header(alloc: Global, signature: &Signature, instance: u64) -> Result<Header, Refusal> {
     let name = FenceName::new(signature.copy()?, instance)?;
@@ -61,7 +49,7 @@ fn header(alloc: Global, signature: &Signature, instance: u64) -> Result<Header,
 
 /// Writes one header so often.
 fn write_all(alloc: Global, version: u8, count: u64) -> Result<u64, Refusal> {
-    let signature = Signature::new(participants(alloc)?, true)?;
+    let signature = Signature::new(processes(alloc, LOCALS)?, true)?;
     let frame = Frame::Header(header(alloc, &signature, 1)?);
     for _ in 0..count {
         let _bytes = frame.encode_as(alloc, version)?;
@@ -71,7 +59,7 @@ fn write_all(alloc: Global, version: u8, count: u64) -> Result<u64, Refusal> {
 
 /// Reads one header so often.
 fn read_all(alloc: Global, version: u8, count: u64) -> Result<u64, Refusal> {
-    let signature = Signature::new(participants(alloc)?, true)?;
+    let signature = Signature::new(processes(alloc, LOCALS)?, true)?;
     let frame = Frame::Header(header(alloc, &signature, 1)?);
     let bytes = frame.encode_as(alloc, version)?;
     let mut read = 0_u64;
@@ -125,7 +113,7 @@ fn tell(
 
 /// Delivers so many headers, of one instance after another.
 fn deliver_all(alloc: Global, version: u8, count: u64) -> Result<u64, Refusal> {
-    let signature = Signature::new(participants(alloc)?, true)?;
+    let signature = Signature::new(processes(alloc, LOCALS)?, true)?;
     let mut node = told_node(alloc)?;
     let mut taken = 0_u64;
     for instance in 1..=count {

@@ -4,6 +4,7 @@
 mod calls;
 mod fences;
 mod headers;
+mod processes;
 mod reads;
 
 use crate::headers::Way;

@@ -17,11 +17,7 @@ struct Asked {
 
 impl Drop for Asked {
     fn drop(self) {
-        let Asked {
-            key: _,
-            procs: _,
-            pieces: _,
-        } = self;
+        let Self { key, procs, pieces } = self;
     }
 }
 

@@ -12,7 +12,7 @@ use Rattle.clap.specs.declared.error.kind.ErrorKind.TheVariants.{OutOfMemory, Di
 use Rattle.clap.proofs.OnLiterals.{clap_on_literals}
 use Rattle.pmg_commands.specs.declared.command.Chosen.{Chosen}
 use Rattle.pmg_commands.specs.declared.command.Chosen.TheVariants.{Dump, Merge, Replay, Run, Shown}
-use Rattle.pmg_commands.specs.CommandLine.{program, command_in, chosen_of, shown_status, IsChosen}
+use Rattle.pmg_commands.specs.CommandLine.{program, command_in, chosen_of, shown_status, IsChosen, IsNamed}
 
 -- the command line is one of which `clap` says when it takes the words
 pub is_simple_program : is_simple_and_free program ≡ true
@@ -69,37 +69,11 @@ is_shown (Ok (Shown status)) words kind one (inl found) = elim (subst (IsAmong f
 is_shown (Ok (Shown status)) words kind one (inr is) = let both : [] ≡ kind ∷ [] = sym is.0 ∙ one in cc
 
 -- lines of words
-pub of_dump : (name : Text) → fault_of program (name ∷ codes "dump" ∷ []) ≡ []
+pub command_lines :
+    (name : Text) → IsNamed (name ∷ codes "dump" ∷ []) Dump × IsNamed (name ∷ codes "merge" ∷ []) Merge × IsNamed (name ∷ codes "replay" ∷ []) Replay
+    × IsNamed (name ∷ codes "run" ∷ []) Run
 unfolding clap_on_literals
-of_dump name = refl
-
-pub of_merge : (name : Text) → fault_of program (name ∷ codes "merge" ∷ []) ≡ []
-unfolding clap_on_literals
-of_merge name = refl
-
-pub of_replay : (name : Text) → fault_of program (name ∷ codes "replay" ∷ []) ≡ []
-unfolding clap_on_literals
-of_replay name = refl
-
-pub of_run : (name : Text) → fault_of program (name ∷ codes "run" ∷ []) ≡ []
-unfolding clap_on_literals
-of_run name = refl
-
-pub dump_in : (name : Text) → chosen_of (command_in (name ∷ codes "dump" ∷ [])) ≡ Dump
-unfolding clap_on_literals
-dump_in name = refl
-
-pub merge_in : (name : Text) → chosen_of (command_in (name ∷ codes "merge" ∷ [])) ≡ Merge
-unfolding clap_on_literals
-merge_in name = refl
-
-pub replay_in : (name : Text) → chosen_of (command_in (name ∷ codes "replay" ∷ [])) ≡ Replay
-unfolding clap_on_literals
-replay_in name = refl
-
-pub run_in : (name : Text) → chosen_of (command_in (name ∷ codes "run" ∷ [])) ≡ Run
-unfolding clap_on_literals
-run_in name = refl
+command_lines name = ((refl, refl), (refl, refl), (refl, refl), (refl, refl))
 
 pub of_help : (name : Text) → fault_of program (name ∷ codes "--help" ∷ []) ≡ DisplayHelp ∷ []
 unfolding clap_on_literals
@@ -112,6 +86,32 @@ of_version name = refl
 pub of_name : (name : Text) → fault_of program (name ∷ []) ≡ MissingSubcommand ∷ []
 unfolding clap_on_literals
 of_name name = refl
+
+-- what is asked for by lines of a name and a word, and by a name alone
+pub record AsksFor {E : Type 0} (result : Result Chosen E) (words : List Text) : Type 0 where
+  pub dump : (name : Text) → words ≡ name ∷ codes "dump" ∷ [] → IfOk result (λ chosen. chosen ≡ Dump)
+  pub merge : (name : Text) → words ≡ name ∷ codes "merge" ∷ [] → IfOk result (λ chosen. chosen ≡ Merge)
+  pub replay : (name : Text) → words ≡ name ∷ codes "replay" ∷ [] → IfOk result (λ chosen. chosen ≡ Replay)
+  pub run : (name : Text) → words ≡ name ∷ codes "run" ∷ [] → IfOk result (λ chosen. chosen ≡ Run)
+  pub help : (name : Text) → words ≡ name ∷ codes "--help" ∷ [] → IfOk result (λ chosen. chosen ≡ Shown 0)
+  pub version : (name : Text) → words ≡ name ∷ codes "--version" ∷ [] → IfOk result (λ chosen. chosen ≡ Shown 0)
+  pub nothing : (name : Text) → words ≡ name ∷ [] → IfOk result (λ chosen. chosen ≡ Shown 2)
+
+named_line : {E : Type 0} (result : Result Chosen E) (words line : List Text) (command : Chosen) → IfOk result (IsChosen words) → words ≡ line → IsNamed line command
+    → IfOk result (λ chosen. chosen ≡ command)
+named_line result words line command chosen same named =
+    is_command result words command (ap (fault_of program) same ∙ named.0) (ap (λ ws. chosen_of (command_in ws)) same ∙ named.1) chosen
+
+pub asks_for : {E : Type 0} (result : Result Chosen E) (words : List Text) → IfOk result (IsChosen words) → AsksFor result words
+asks_for result words chosen = record {
+  dump = λ name line. named_line result words _ Dump chosen line (command_lines name).0;
+  merge = λ name line. named_line result words _ Merge chosen line (command_lines name).1;
+  replay = λ name line. named_line result words _ Replay chosen line (command_lines name).2;
+  run = λ name line. named_line result words _ Run chosen line (command_lines name).3;
+  help = λ name line. is_shown result words DisplayHelp (ap (fault_of program) line ∙ of_help name) chosen;
+  version = λ name line. is_shown result words DisplayVersion (ap (fault_of program) line ∙ of_version name) chosen;
+  nothing = λ name line. is_shown result words MissingSubcommand (ap (fault_of program) line ∙ of_name name) chosen;
+}
 
 -- nothing is amiss, and so an allocation failed
 pub is_wanting : (words : List Text) (kind : ErrorKind) → fault_of program words ≡ [] → (kind ≡ OutOfMemory) ⊎ IsAmong kind (fault_of program words) → kind ≡ OutOfMemory

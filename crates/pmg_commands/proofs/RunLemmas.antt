@@ -1,5 +1,5 @@
 -- What a command prints, once its work is done and its end is told.
-use Rattle.std.proofs.Common.{◌≡◌, ℕ, List, [], ◌++◌, inl, inr, subst, take, append-nil, arith, Ok, Err, None, Some}
+use Rattle.std.proofs.Common.{◌≡◌, ◌⊎◌, ℕ, List, [], ◌++◌, inl, inr, subst, take, append-nil, arith, Ok, Err, None, Some}
 use Rattle.std.specs.Prelude.{IfErr, IfSome, IsSome, OnErr}
 use Rattle.std.specs.declared.option.Option.{Option}
 use Rattle.std.specs.declared.result.Result.{Result}
@@ -76,11 +76,11 @@ runs_stopped old mid new read write status failure (Ok text) (inr (is, front)) r
 runs_stopped old mid new read write status failure (Err e) (inr (is, front)) reads writes prints = absurd front
 
 -- what a failure says of the reader and the writer
-abbrev pub IsTold : {D E : Type 0} → Option D → Option E → Result (Unit {0}) Failure → Type 0
+abbrev IsTold : {D E : Type 0} → Option D → Option E → Result (Unit {0}) Failure → Type 0
 IsTold read write (Ok done) = Unit {0}
 IsTold read write (Err failure) = (failure ≡ failures.Read → IsSome read) × (failure ≡ failures.Write → IsSome write)
 
-pub told_of : {D E : Type 0} (read : Option D) (mid write : Option E) (outcome : Result (Unit {0}) Failure) → IfErr outcome (λ e. e ≡ failures.Read → IsSome read) →
+told_of : {D E : Type 0} (read : Option D) (mid write : Option E) (outcome : Result (Unit {0}) Failure) → IfErr outcome (λ e. e ≡ failures.Read → IsSome read) →
     IfErr outcome (λ e. e ≡ failures.Write → IsSome mid) → (IsSome mid → IsSome write) → IsTold read write outcome
 told_of read mid write (Ok done) reads writes kept = tt
 told_of read mid write (Err failure) reads writes kept = (reads, λ is. kept (writes is))
@@ -91,12 +91,14 @@ runs : {D E : Type 0} (old mid new : Option (List ℕ)) (read : Option D) (write
 runs old mid new read write status (Ok done) due dumps told prints = runs_done old mid new read write status due dumps prints
 runs old mid new read write status (Err failure) due stops (reads, writes) prints = runs_stopped old mid new read write status failure due stops reads writes prints
 
--- the same, at a reader whose bytes may be known
-pub known_runs : {D E : Type 0} (known old mid new : Option (List ℕ)) (read : Option D) (write : Option E) (status : ℕ) (outcome : Result (Unit {0}) Failure)
-    (due : List ℕ → Result (List ℕ) Failure) → IfSome known (λ text. Dumps old mid outcome (due text)) → IsTold read write outcome →
-    Prints mid new write status (outcome_output outcome) → IfSome known (λ text. PrintsDue old new read write status (output_of (due text)))
-known_runs None old mid new read write status outcome due dumps told prints = tt
-known_runs (Some text) old mid new read write status outcome due dumps told prints = runs old mid new read write status outcome (due text) dumps told prints
+-- the same, at a reader whose bytes may be known, where the writer had failed, if it had, before the call ended
+pub known_runs : {D E : Type 0} (known old mid new : Option (List ℕ)) (read : Option D) (failed write : Option E) (status : ℕ) (outcome : Result (Unit {0}) Failure)
+    (due : List ℕ → Result (List ℕ) Failure) → IfSome known (λ text. Dumps old mid outcome (due text)) → IfErr outcome (λ e. e ≡ failures.Read → IsSome read) →
+    IfErr outcome (λ e. e ≡ failures.Write → IsSome failed) → (IsSome failed → IsSome write) → Prints mid new write status (outcome_output outcome) →
+    IfSome known (λ text. PrintsDue old new read write status (output_of (due text)))
+known_runs None old mid new read failed write status outcome due dumps reads writes kept prints = tt
+known_runs (Some text) old mid new read failed write status outcome due dumps reads writes kept prints =
+    runs old mid new read write status outcome (due text) dumps (told_of read failed write outcome reads writes kept) prints
 
 -- a text was written, or a prefix of it, and then the command ended with this status
 pub printed_whole : {T D E : Type 0} (old mid new : Option (List ℕ)) (result : Result T D) (failed write : Option E) (due status : ℕ) (text : List ℕ) → Writes old mid result text →
@@ -108,7 +110,14 @@ printed_whole old mid new (Err e) failed None due status text writes fails kept 
 printed_whole old mid new (Err e) failed (Some f) due status text writes fails kept (is, front) = (is, front_then_nothing old mid new text writes.0 (nothing_more mid new front))
 
 -- a read fault was answered, and nothing written before its line
-pub tells : {E : Type 0} (old mid new : Option (List ℕ)) (write : Option E) (status : ℕ) (outcome : Result (Unit {0}) Failure) → outcome ≡ Err failures.Read → mid ≡ old →
+tells : {E : Type 0} (old mid new : Option (List ℕ)) (write : Option E) (status : ℕ) (outcome : Result (Unit {0}) Failure) → outcome ≡ Err failures.Read → mid ≡ old →
     Prints mid new write status (outcome_output outcome) → Prints old new write status (failure_output failures.Read)
 tells old mid new write status outcome is same prints =
     subst (λ known. Prints known new write status (failure_output failures.Read)) same (subst (λ o. Prints mid new write status (outcome_output {T = Unit {0}} o)) is prints)
+
+-- the same, where the reader had failed before or the call answered that it did
+pub tells_fault : {D E : Type 0} (old mid new : Option (List ℕ)) (before : Option D) (write : Option E) (status : ℕ) (outcome : Result (Unit {0}) Failure) →
+    IsSome before ⊎ (outcome ≡ Err failures.Read) → (outcome ≡ Err failures.Read → mid ≡ old) → Prints mid new write status (outcome_output outcome) →
+    IsSome before ⊎ Prints old new write status (failure_output failures.Read)
+tells_fault old mid new before write status outcome (inl was) same prints = inl was
+tells_fault old mid new before write status outcome (inr is) same prints = inr (tells old mid new write status outcome is (same is) prints)

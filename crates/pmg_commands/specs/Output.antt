@@ -1,5 +1,5 @@
 -- What a command prints, and the status that it ends with.
-use Rattle.std.specs.Prelude.{◌≡◌, ℕ, List, [], ◌++◌, ◌⊎◌, codes, decimal, Ok, Err, IsSome, MatchOption}
+use Rattle.std.specs.Prelude.{◌≡◌, ℕ, List, [], ◌++◌, ◌⊎◌, codes, decimal, Ok, Err, IfSome, IsSome, MatchOption}
 use Rattle.std.specs.declared.option.Option.{Option}
 use Rattle.std.specs.declared.result.Result.{Result}
 use Rattle.std.specs.Io.KnownBytes.{Appends}
@@ -74,6 +74,10 @@ PrintsDue old new read_failure write_failure status due =
     Prints old new write_failure status due
     ⊎ (Prints old new write_failure status (failure_output (Refused NoMemory))
     ⊎ (IsSome read_failure × Prints old new write_failure status (failure_output Read)))
+
+-- The same of what is due for the text that is read, where that is known.
+abbrev pub PrintsFor : {D E : Type 0} → Option (List ℕ) → Option (List ℕ) → Option (List ℕ) → Option D → Option E → ℕ → (List ℕ → Output) → Type 0
+PrintsFor known old new read_failure write_failure status due = IfSome known (λ text. PrintsDue old new read_failure write_failure status (due text))
 
 -- A reader that fails is told, whatever else came in the way: where it has failed, and had not before, the output of a read fault
 -- is printed.

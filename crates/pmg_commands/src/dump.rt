@@ -2,7 +2,7 @@
 ghost use Rattle.std.specs.Prelude.{◌≡◌, ◌≤◌, ◌+◌, ◌⊎◌, IfErr, IfSome, IsNone, IsSome, IsTrue};
 ghost use Rattle.pmg_store.specs.Outcomes.{Dumps, or_failure};
 ghost use Rattle.pmg_commands.specs.Dump.{dump_text, dump_output};
-ghost use Rattle.pmg_commands.specs.Output.{IsStatus, PrintsDue, TellsReadFault};
+ghost use Rattle.pmg_commands.specs.Output.{IsStatus, PrintsFor, TellsReadFault};
 
 use crate::reporting::conclude;
 use crate::text::decode_text;
@@ -21,9 +21,8 @@ pub fn run_dump<R: Read, W: Write>(
     reader: &mut WatchedReader<R>,
     writer: &mut WatchedWriter<W>,
 ) -> u8
-    ensures printed { IfSome (R.remaining reader.old.reader) (λ text.
-        PrintsDue (W.contents writer.old.writer) (W.contents writer.new.writer) reader.new.failure writer.new.failure
-        result (dump_output text)) }
+    ensures printed { PrintsFor (R.remaining reader.old.reader) (W.contents writer.old.writer) (W.contents writer.new.writer)
+        reader.new.failure writer.new.failure result dump_output }
     ensures read_fault { TellsReadFault (W.contents writer.old.writer) (W.contents writer.new.writer)
         reader.old.failure reader.new.failure writer.new.failure result }
     ensures flushed { IsNone writer.new.failure → IsTrue writer.new.is_flushed }

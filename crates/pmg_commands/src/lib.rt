@@ -14,5 +14,5 @@ pub use command::{Chosen, choose, read_command_line};
 pub use dump::run_dump;
 pub use ending::{end_with, tell_failures};
 pub use merge::run_merge;
-pub use reporting::{conclude, finish};
+pub use reporting::{conclude, finish, write_refusal};
 pub use status::{AUDIT_FAULT, DONE, FAILED, NO_MEMORY, USAGE_FAULT};

@@ -4,7 +4,7 @@ ghost use Rattle.bstr.specs.Text.{lines_of};
 ghost use Rattle.pmg_wire.specs.Reading.{FailsReading};
 ghost use Rattle.pmg_store.specs.Outcomes.{Dumps};
 ghost use Rattle.pmg_commands.specs.Merge.{is_separator, span, spans_of, decoded_at, decoded_all, merge_text, merge_output};
-ghost use Rattle.pmg_commands.specs.Output.{IsStatus, PrintsDue, TellsReadFault};
+ghost use Rattle.pmg_commands.specs.Output.{IsStatus, PrintsFor, TellsReadFault};
 
 use crate::reporting::conclude;
 use crate::text::decode_text;
@@ -26,9 +26,8 @@ pub fn run_merge<R: Read, W: Write>(
     reader: &mut WatchedReader<R>,
     writer: &mut WatchedWriter<W>,
 ) -> u8
-    ensures printed { IfSome (R.remaining reader.old.reader) (λ text.
-        PrintsDue (W.contents writer.old.writer) (W.contents writer.new.writer) reader.new.failure writer.new.failure
-        result (merge_output text)) }
+    ensures printed { PrintsFor (R.remaining reader.old.reader) (W.contents writer.old.writer) (W.contents writer.new.writer)
+        reader.new.failure writer.new.failure result merge_output }
     ensures read_fault { TellsReadFault (W.contents writer.old.writer) (W.contents writer.new.writer)
         reader.old.failure reader.new.failure writer.new.failure result }
     ensures flushed { IsNone writer.new.failure → IsTrue writer.new.is_flushed }

@@ -1,8 +1,9 @@
 //! How a command ends: the line of its failure, the flush, and its status.
-ghost use Rattle.std.specs.Prelude.{◌≡◌, ◌⊎◌, IsNone, IsSome, IsTrue, OnErr};
+ghost use Rattle.std.specs.Prelude.{◌≡◌, ◌⊎◌, ◌++◌, codes, IsNone, IsSome, IsTrue, OnErr};
 ghost use Rattle.std.specs.Io.KnownBytes.{Appends};
+ghost use Rattle.pmg_value.specs.RefusalText.{refusal_text};
 ghost use Rattle.pmg_value.specs.Written.{AppendsFront, Writes};
-ghost use Rattle.pmg_commands.specs.Output.{failure_status, failure_line, refusal_line, stream_line, in_stream, outcome_output, status_alone, IsStatus, Prints};
+ghost use Rattle.pmg_commands.specs.Output.{failure_status, failure_line, stream_line, in_stream, outcome_output, status_alone, IsStatus, Prints};
 
 use crate::status::{DONE, FAILED, NO_MEMORY};
 use pmg_store::Failure;
@@ -56,30 +57,32 @@ fn report<W: Write>(writer: &mut WatchedWriter<W>, failure: &Failure) -> u8
     }
 }
 
-#[tactic(auto, using(pmg_value::proofs::WrittenLemmas::written_in_parts), unfolding(crate::specs::Output::failure_line))]
+#[tactic(auto, using(pmg_value::proofs::WrittenLemmas::written_in_parts), unfolding(crate::specs::Output::failure_line, crate::specs::Output::refusal_line))]
 fn write_line<W: Write>(writer: &mut WatchedWriter<W>, failure: &Failure) -> Result<(), WriteFault>
     ensures text { Writes (W.contents writer.old.writer) (W.contents writer.new.writer)
         result (failure_line failure.now) }
     ensures failed { OnErr result (IsSome writer.new.failure) }
 {
     match failure {
-        Failure::Refused(refusal) => write_refusal(writer, refusal),
+        Failure::Refused(refusal) => write_refusal(writer, b"refused ", refusal),
         Failure::InStream(stream, fault) => write_stream_line(writer, *stream, fault),
         Failure::Read => writer.put_text(b"read fault\n"),
         Failure::Write => Ok(()),
     }
 }
 
-#[tactic(auto, using(pmg_value::proofs::WrittenLemmas::written_in_parts), unfolding(crate::specs::Output::refusal_line))]
-fn write_refusal<W: Write>(
+/// Writes a line: these bytes, and the refusal.
+#[tactic(auto, using(pmg_value::proofs::WrittenLemmas::written_in_parts))]
+pub fn write_refusal<W: Write>(
     writer: &mut WatchedWriter<W>,
+    before: &[u8],
     refusal: &Refusal,
 ) -> Result<(), WriteFault>
     ensures text { Writes (W.contents writer.old.writer) (W.contents writer.new.writer)
-        result (refusal_line refusal.now) }
+        result (before.now ++ refusal_text refusal.now ++ codes "\n") }
     ensures failed { OnErr result (IsSome writer.new.failure) }
 {
-    writer.put_text(b"refused ")?;
+    writer.put_text(before)?;
     refusal.write_text(writer)?;
     writer.put_text(b"\n")
 }

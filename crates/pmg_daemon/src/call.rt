@@ -142,8 +142,7 @@ pub(crate) fn put_said(
 pub(crate) fn commit_said(alloc: Global, nspace: &[u8], rank: u32) -> Result<ProcCall, Refusal>
     ensures { ReadsArguments proc_call_of result (commit_said nspace.now rank) }
 {
-    let proc = proc_said(alloc, nspace, rank)?;
-    Ok(ProcCall::Commit(proc))
+    Ok(ProcCall::Commit(proc_said(alloc, nspace, rank)?))
 }
 
 /// The process enters a fence of these processes; whether it collects data.
@@ -167,8 +166,7 @@ pub(crate) fn enter_said(
 pub(crate) fn leave_said(alloc: Global, nspace: &[u8], rank: u32) -> Result<ProcCall, Refusal>
     ensures { ReadsArguments proc_call_of result (leave_said nspace.now rank) }
 {
-    let proc = proc_said(alloc, nspace, rank)?;
-    Ok(ProcCall::Request(Request::Leave(proc)))
+    Ok(ProcCall::Request(Request::Leave(proc_said(alloc, nspace, rank)?)))
 }
 
 /// The process gets a key of the target. Refused as BadParam where a name, the key or the mode is none, and as NoMemory.
@@ -196,8 +194,7 @@ pub(crate) fn get_said(
 pub(crate) fn take_said(alloc: Global, nspace: &[u8], rank: u32) -> Result<ProcCall, Refusal>
     ensures { ReadsArguments proc_call_of result (take_said nspace.now rank) }
 {
-    let proc = proc_said(alloc, nspace, rank)?;
-    Ok(ProcCall::Request(Request::Take(proc)))
+    Ok(ProcCall::Request(Request::Take(proc_said(alloc, nspace, rank)?)))
 }
 
 /// The process ends.
@@ -205,8 +202,7 @@ pub(crate) fn take_said(alloc: Global, nspace: &[u8], rank: u32) -> Result<ProcC
 pub(crate) fn end_said(alloc: Global, nspace: &[u8], rank: u32) -> Result<ProcCall, Refusal>
     ensures { ReadsArguments proc_call_of result (end_said nspace.now rank) }
 {
-    let proc = proc_said(alloc, nspace, rank)?;
-    Ok(ProcCall::Request(Request::Terminate(proc)))
+    Ok(ProcCall::Request(Request::Terminate(proc_said(alloc, nspace, rank)?)))
 }
 
 /// A set of these processes is defined under the name.
@@ -224,6 +220,5 @@ pub(crate) fn define_said(alloc: Global, name: &[u8], list: &Vec<Proc>) -> Resul
 pub(crate) fn delete_said(alloc: Global, name: &[u8]) -> Result<ProcCall, Refusal>
     ensures { ReadsArguments proc_call_of result (delete_said name.now) }
 {
-    let name = key_said(alloc, name)?;
-    Ok(ProcCall::Request(Request::Delete(name)))
+    Ok(ProcCall::Request(Request::Delete(key_said(alloc, name)?)))
 }

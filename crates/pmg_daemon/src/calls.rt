@@ -1,6 +1,8 @@
 //! The calls of processes, of bytes and numbers.
-ghost use Rattle.std.specs.Prelude.{◌≡◌};
+ghost use Rattle.std.specs.Prelude.{◌≡◌, Result};
+ghost use Rattle.pmg_value.specs.declared.refusal.Refusal.{Refusal as RefusalOf};
 ghost use Rattle.pmg_daemon.specs.Arguments.{
+  ReadsArguments,
   commit_said,
   define_said,
   delete_said,
@@ -12,6 +14,7 @@ ghost use Rattle.pmg_daemon.specs.Arguments.{
   put_said,
   take_said,
 };
+ghost use Rattle.pmg_daemon.specs.Calls.{ProcCall as CallModel, proc_call_of};
 ghost use Rattle.pmg_daemon.specs.Daemons.{Makes, TakesList, TellsNumber};
 
 use crate::call::{
@@ -21,6 +24,7 @@ use crate::call::{
 use crate::codes::{NO_MEMORY, REFUSED, number_or};
 use crate::daemon::Daemon;
 use pmg_node::Request;
+use pmg_value::Refusal;
 
 impl Daemon {
     /// Tells the number of the reply to a call with this code.
@@ -30,6 +34,18 @@ impl Daemon {
         if code < REFUSED {
             *number = number_or(*number, &self.reply);
         }
+    }
+
+    /// Makes the call, and tells the number of its reply.
+    fn call_for_number(&mut self, call: Result<ProcCall, Refusal>, number: &mut u64) -> u32
+        ensures makes { (due : Result CallModel RefusalOf) → ReadsArguments proc_call_of call due
+            → Makes due self.old result self.new }
+        ensures number { TellsNumber self.new result number.old number.new }
+        ensures list { self.new.list ≡ self.old.list }
+    {
+        let code = self.call(call);
+        self.tell(code, number);
+        code
     }
 
     /// The list of processes was taken by a call with this code.
@@ -50,8 +66,7 @@ impl Daemon {
         ensures makes { Makes (put_said nspace.now rank scope key.now value.now) self.old result self.new }
         ensures list { self.new.list ≡ self.old.list }
     {
-        let call = put_said(self.alloc, nspace, rank, scope, key, value);
-        self.call(call)
+        self.call(put_said(self.alloc, nspace, rank, scope, key, value))
     }
 
     /// The process commits what it put: the number is the commit's (PMIx Standard 5.0, PMIx_Commit). Refused as BadParam where the name is none,
@@ -61,10 +76,7 @@ impl Daemon {
         ensures number { TellsNumber self.new result number.old number.new }
         ensures list { self.new.list ≡ self.old.list }
     {
-        let call = commit_said(self.alloc, nspace, rank);
-        let code = self.call(call);
-        self.tell(code, number);
-        code
+        self.call_for_number(commit_said(self.alloc, nspace, rank), number)
     }
 
     /// The process enters its next fence of the processes that were named, or where none was of its whole namespace: the number is the
@@ -89,10 +101,7 @@ impl Daemon {
         ensures number { TellsNumber self.new result number.old number.new }
         ensures list { self.new.list ≡ self.old.list }
     {
-        let call = leave_said(self.alloc, nspace, rank);
-        let code = self.call(call);
-        self.tell(code, number);
-        code
+        self.call_for_number(leave_said(self.alloc, nspace, rank), number)
     }
 
     /// The process gets a key of the target (PMIx Standard 5.0, PMIx_Get): `value` tells the value; or it waits. Mode 0 waits, 1 looks only at
@@ -110,8 +119,7 @@ impl Daemon {
         ensures makes { Makes (get_said nspace.now rank target.now target_rank key.now mode) self.old result self.new }
         ensures list { self.new.list ≡ self.old.list }
     {
-        let call = get_said(self.alloc, nspace, rank, target, target_rank, key, mode);
-        self.call(call)
+        self.call(get_said(self.alloc, nspace, rank, target, target_rank, key, mode))
     }
 
     /// The process takes the answer of the get that it waited for: `value` tells the value. It waits where there is no answer yet. Refused as
@@ -120,8 +128,7 @@ impl Daemon {
         ensures makes { Makes (take_said nspace.now rank) self.old result self.new }
         ensures list { self.new.list ≡ self.old.list }
     {
-        let call = take_said(self.alloc, nspace, rank);
-        self.call(call)
+        self.call(take_said(self.alloc, nspace, rank))
     }
 
     /// The process ends: the number is that of its last commit (PMIx Standard 5.0, PMIx_Finalize). Refused as BadParam where the name is none, as
@@ -131,10 +138,7 @@ impl Daemon {
         ensures number { TellsNumber self.new result number.old number.new }
         ensures list { self.new.list ≡ self.old.list }
     {
-        let call = end_said(self.alloc, nspace, rank);
-        let code = self.call(call);
-        self.tell(code, number);
-        code
+        self.call_for_number(end_said(self.alloc, nspace, rank), number)
     }
 
     /// A set of the processes that were named is defined, at node 0: the number is that of the change of the sets. Refused as BadParam where the
@@ -158,10 +162,7 @@ impl Daemon {
         ensures number { TellsNumber self.new result number.old number.new }
         ensures list { self.new.list ≡ self.old.list }
     {
-        let call = delete_said(self.alloc, name);
-        let code = self.call(call);
-        self.tell(code, number);
-        code
+        self.call_for_number(delete_said(self.alloc, name), number)
     }
 
     /// Other nodes are asked again for what is missing. Refused as NoMemory alone.

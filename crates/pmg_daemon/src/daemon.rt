@@ -35,12 +35,12 @@ pub struct Daemon {
 
 impl Drop for Daemon {
     fn drop(self) {
-        let Daemon {
-            alloc: _,
-            link: _,
-            inboxes: _,
-            list: _,
-            reply: _,
+        let Self {
+            alloc,
+            link,
+            inboxes,
+            list,
+            reply,
         } = self;
     }
 }

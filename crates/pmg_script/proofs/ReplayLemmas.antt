@@ -15,6 +15,7 @@ use Rattle.pmg_script.specs.declared.lines.LineFault.TheVariants as faults
 use Rattle.pmg_script.specs.Lines.{content}
 use Rattle.pmg_script.specs.Reading.{is_end, onto, lines, IsUnended, IsWhole, NoLine, NextLine}
 use Rattle.pmg_script.specs.Replays.{joined_lines, no_line, Plays, EndsAs, Replayed, IsGoing}
+use Rattle.pmg_script.specs.declared.playing.Ended.{Ended}
 use Rattle.pmg_script.specs.declared.playing.Ended.TheVariants as ends
 
 -- ---- the lines of a text
@@ -207,27 +208,26 @@ module _ {S : Type 0} (plays : S → List ℕ → List ℕ → S → Type 0) (st
           )
       go _ next = absurd next
 
+  -- it ended before these lines
+  ended_before : {start : S} {text : List ℕ} {left new first wrote written : Option (List ℕ)} {state : S} {offset : ℕ} {result : Result Ended Failure}
+      (g : IsGoing plays stops over start text left first wrote state offset) (others : List (List ℕ)) → lines g.rest ≡ others
+      → EndsAs plays stops over text new first written g.done others g.told state result → Replayed plays stops over start text new first written result
+  ended_before {state = state} g others cut ended =
+      record { done = g.done; others = others; told = g.told; state = state; cut = g.cut ∙ ap (λ ls. g.done ++ ls) cut; run = g.run; ended = ended }
+
   -- the next line is none
   pub ends_stopped : (start : S) (text : List ℕ) (left new first wrote : Option (List ℕ)) (state : S) (offset : ℕ) (line : List ℕ) (ended : Bool)
       → IsGoing plays stops over start text left first wrote state offset → NextLine offset left new line (Ok ended) → 0 < length line → stops state (content line)
       → Replayed plays stops over start text new first wrote (Err (Refused (BadFrame (no_line offset))))
   ends_stopped start text left new first wrote state offset line ended g next some stopped =
       let found = next_of offset left new g.rest line ended g.is_left next some in
-      record {
-        done = g.done;
-        others = line ∷ found.others;
-        told = g.told;
-        state = state;
-        cut = g.cut ∙ ap (λ ls. g.done ++ ls) found.cut;
-        run = g.run;
-        ended = (g.live, inl (ap no_line (sym g.count), stopped), g.wrote);
-      }
+      ended_before g (line ∷ found.others) found.cut (g.live, inl (ap no_line (sym g.count), stopped), g.wrote)
 
   -- an allocation failed that the next line takes
   pub ends_unserved : (start : S) (text : List ℕ) (left new first wrote : Option (List ℕ)) (state : S) (offset : ℕ)
       → IsGoing plays stops over start text left first wrote state offset → Replayed plays stops over start text new first wrote (Err (Refused NoMemory))
   ends_unserved start text left new first wrote state offset g =
-      record { done = g.done; others = lines g.rest; told = g.told; state = state; cut = g.cut; run = g.run; ended = (g.live, g.wrote) }
+      ended_before g (lines g.rest) refl (g.live, g.wrote)
 
   -- the answer of the next line was not written
   pub ends_unwritten : (start : S) (text : List ℕ) (left new first wrote written : Option (List ℕ)) (state : S) (offset : ℕ) (line answer : List ℕ) (after : S) (ended : Bool)
@@ -235,27 +235,19 @@ module _ {S : Type 0} (plays : S → List ℕ → List ℕ → S → Type 0) (st
       → Replayed plays stops over start text new first written (Err Write)
   ends_unwritten start text left new first wrote written state offset line answer after ended g next some played front =
       let found = next_of offset left new g.rest line ended g.is_left next some in
-      record {
-        done = g.done;
-        others = line ∷ found.others;
-        told = g.told;
-        state = state;
-        cut = g.cut ∙ ap (λ ls. g.done ++ ls) found.cut;
-        run = g.run;
-        ended = (
-          g.live,
-          record {
-            line = line;
-            rest = found.others;
-            is_next = refl;
-            answer = answer;
-            after = after;
-            played = played;
-            count = front.count;
-            wrote = appends_then first wrote written g.told (take front.count answer) front.bytes g.wrote;
-          },
-        );
-      }
+      ended_before g (line ∷ found.others) found.cut (
+        g.live,
+        record {
+          line = line;
+          rest = found.others;
+          is_next = refl;
+          answer = answer;
+          after = after;
+          played = played;
+          count = front.count;
+          wrote = appends_then first wrote written g.told (take front.count answer) front.bytes g.wrote;
+        },
+      )
 
   -- a line was not done
   pub ends_undone : {T : Type 0} (start : S) (text : List ℕ) (left new first wrote : Option (List ℕ)) (state : S) (offset : ℕ) (line held : List ℕ) (ended : Bool) (f : LineFault) (e : Failure)

@@ -24,12 +24,7 @@ pub extern "C" fn pmixgroup_name(node: &mut Handle, nspace: &[u8], rank: u32) ->
     ensures { OnNode node.old.place.value node.new.place.value result (Unit {0})
         (λ d e. Names d nspace.now rank result e) }
 {
-    let Some(mut daemon) = node.take() else {
-        return WRONG_HANDLE;
-    };
-    let code = daemon.name(nspace, rank);
-    node.put(daemon);
-    code
+    on_node!(node, daemon, daemon.name(nspace, rank))
 }
 
 /// A process puts a value (`Daemon::put`).
@@ -45,12 +40,7 @@ pub extern "C" fn pmixgroup_put(
     ensures { OnNode node.old.place.value node.new.place.value result (Unit {0})
         (λ d e. Makes (put_said nspace.now rank scope key.now value.now) d result e × (e.list ≡ d.list)) }
 {
-    let Some(mut daemon) = node.take() else {
-        return WRONG_HANDLE;
-    };
-    let code = daemon.put(nspace, rank, scope, key, value);
-    node.put(daemon);
-    code
+    on_node!(node, daemon, daemon.put(nspace, rank, scope, key, value))
 }
 
 /// A process commits what it put (`Daemon::commit`).
@@ -64,12 +54,7 @@ pub extern "C" fn pmixgroup_commit(
     ensures { OnNode node.old.place.value node.new.place.value result (number.new ≡ number.old)
         (λ d e. Makes (commit_said nspace.now rank) d result e × (TellsNumber e result number.old number.new × (e.list ≡ d.list))) }
 {
-    let Some(mut daemon) = node.take() else {
-        return WRONG_HANDLE;
-    };
-    let code = daemon.commit(nspace, rank, number);
-    node.put(daemon);
-    code
+    on_node!(node, daemon, daemon.commit(nspace, rank, number))
 }
 
 /// A process enters a fence (`Daemon::enter`).
@@ -84,12 +69,7 @@ pub extern "C" fn pmixgroup_enter(
     ensures { OnNode node.old.place.value node.new.place.value result (number.new ≡ number.old)
         (λ d e. Makes (enter_said nspace.now rank d.list.items collect) d result e × (TellsNumber e result number.old number.new × TakesList d result e)) }
 {
-    let Some(mut daemon) = node.take() else {
-        return WRONG_HANDLE;
-    };
-    let code = daemon.enter(nspace, rank, collect, number);
-    node.put(daemon);
-    code
+    on_node!(node, daemon, daemon.enter(nspace, rank, collect, number))
 }
 
 /// A process leaves a fence (`Daemon::leave`).
@@ -103,12 +83,7 @@ pub extern "C" fn pmixgroup_leave(
     ensures { OnNode node.old.place.value node.new.place.value result (number.new ≡ number.old)
         (λ d e. Makes (leave_said nspace.now rank) d result e × (TellsNumber e result number.old number.new × (e.list ≡ d.list))) }
 {
-    let Some(mut daemon) = node.take() else {
-        return WRONG_HANDLE;
-    };
-    let code = daemon.leave(nspace, rank, number);
-    node.put(daemon);
-    code
+    on_node!(node, daemon, daemon.leave(nspace, rank, number))
 }
 
 /// A process gets a key (`Daemon::get`).
@@ -125,12 +100,11 @@ pub extern "C" fn pmixgroup_get(
     ensures { OnNode node.old.place.value node.new.place.value result (Unit {0})
         (λ d e. Makes (get_said nspace.now rank target.now target_rank key.now mode) d result e × (e.list ≡ d.list)) }
 {
-    let Some(mut daemon) = node.take() else {
-        return WRONG_HANDLE;
-    };
-    let code = daemon.get(nspace, rank, target, target_rank, key, mode);
-    node.put(daemon);
-    code
+    on_node!(
+        node,
+        daemon,
+        daemon.get(nspace, rank, target, target_rank, key, mode)
+    )
 }
 
 /// A process takes the answer of its get (`Daemon::take`).
@@ -139,12 +113,7 @@ pub extern "C" fn pmixgroup_take(node: &mut Handle, nspace: &[u8], rank: u32) ->
     ensures { OnNode node.old.place.value node.new.place.value result (Unit {0})
         (λ d e. Makes (take_said nspace.now rank) d result e × (e.list ≡ d.list)) }
 {
-    let Some(mut daemon) = node.take() else {
-        return WRONG_HANDLE;
-    };
-    let code = daemon.take(nspace, rank);
-    node.put(daemon);
-    code
+    on_node!(node, daemon, daemon.take(nspace, rank))
 }
 
 /// A process ends (`Daemon::end`).
@@ -158,12 +127,7 @@ pub extern "C" fn pmixgroup_end(
     ensures { OnNode node.old.place.value node.new.place.value result (number.new ≡ number.old)
         (λ d e. Makes (end_said nspace.now rank) d result e × (TellsNumber e result number.old number.new × (e.list ≡ d.list))) }
 {
-    let Some(mut daemon) = node.take() else {
-        return WRONG_HANDLE;
-    };
-    let code = daemon.end(nspace, rank, number);
-    node.put(daemon);
-    code
+    on_node!(node, daemon, daemon.end(nspace, rank, number))
 }
 
 /// A process set is defined (`Daemon::define`).
@@ -172,12 +136,7 @@ pub extern "C" fn pmixgroup_define(node: &mut Handle, name: &[u8], number: &mut 
     ensures { OnNode node.old.place.value node.new.place.value result (number.new ≡ number.old)
         (λ d e. Makes (define_said name.now d.list.items) d result e × (TellsNumber e result number.old number.new × TakesList d result e)) }
 {
-    let Some(mut daemon) = node.take() else {
-        return WRONG_HANDLE;
-    };
-    let code = daemon.define(name, number);
-    node.put(daemon);
-    code
+    on_node!(node, daemon, daemon.define(name, number))
 }
 
 /// A process set is deleted (`Daemon::delete`).
@@ -186,12 +145,7 @@ pub extern "C" fn pmixgroup_delete(node: &mut Handle, name: &[u8], number: &mut 
     ensures { OnNode node.old.place.value node.new.place.value result (number.new ≡ number.old)
         (λ d e. Makes (delete_said name.now) d result e × (TellsNumber e result number.old number.new × (e.list ≡ d.list))) }
 {
-    let Some(mut daemon) = node.take() else {
-        return WRONG_HANDLE;
-    };
-    let code = daemon.delete(name, number);
-    node.put(daemon);
-    code
+    on_node!(node, daemon, daemon.delete(name, number))
 }
 
 /// Other nodes are asked again for what is missing (`Daemon::nudge`).
@@ -200,10 +154,5 @@ pub extern "C" fn pmixgroup_nudge(node: &mut Handle) -> u32
     ensures { OnNode node.old.place.value node.new.place.value result (Unit {0})
         (λ d e. Makes nudge_said d result e × (e.list ≡ d.list)) }
 {
-    let Some(mut daemon) = node.take() else {
-        return WRONG_HANDLE;
-    };
-    let code = daemon.nudge();
-    node.put(daemon);
-    code
+    on_node!(node, daemon, daemon.nudge())
 }

@@ -12,12 +12,7 @@ pub extern "C" fn pmixgroup_feed(node: &mut Handle, from: u32, bytes: &[u8]) -> 
     ensures { OnNode node.old.place.value node.new.place.value result (Unit {0})
         (λ d e. FeedsFrom (slice_get d.inboxes.items from) d from bytes.now result e) }
 {
-    let Some(mut daemon) = node.take() else {
-        return WRONG_HANDLE;
-    };
-    let code = daemon.feed(from, bytes);
-    node.put(daemon);
-    code
+    on_node!(node, daemon, daemon.feed(from, bytes))
 }
 
 /// Delivers the next frame of another node (`Daemon::deliver`).
@@ -26,12 +21,7 @@ pub extern "C" fn pmixgroup_deliver(node: &mut Handle, from: u32) -> u32
     ensures { OnNode node.old.place.value node.new.place.value result (Unit {0})
         (λ d e. DeliversFrom (slice_get d.inboxes.items from) d from result e) }
 {
-    let Some(mut daemon) = node.take() else {
-        return WRONG_HANDLE;
-    };
-    let code = daemon.deliver(from);
-    node.put(daemon);
-    code
+    on_node!(node, daemon, daemon.deliver(from))
 }
 
 /// Takes the next frame for another node (`Daemon::next`).
@@ -45,12 +35,7 @@ pub extern "C" fn pmixgroup_next(
     ensures { OnNode node.old.place.value node.new.place.value result ((to.new ≡ to.old) × ((buffer.new ≡ buffer.old) × (len.new ≡ len.old)))
         (λ d e. TakesNext (slice_get d.link.waiting 0) d to.old buffer.old len.old result e to.new buffer.new len.new) }
 {
-    let Some(mut daemon) = node.take() else {
-        return WRONG_HANDLE;
-    };
-    let code = daemon.next(to, buffer, len);
-    node.put(daemon);
-    code
+    on_node!(node, daemon, daemon.next(to, buffer, len))
 }
 
 /// Tells the fault in the bytes of another node (`Daemon::fault`).
@@ -65,10 +50,5 @@ pub extern "C" fn pmixgroup_fault(
     ensures { OnNode node.old.place.value node.new.place.value result ((offset.new ≡ offset.old) × ((buffer.new ≡ buffer.old) × (len.new ≡ len.old)))
         (λ d e. (e ≡ d) × TellsFaultFrom (slice_get d.inboxes.items from) offset.old buffer.old len.old result offset.new buffer.new len.new) }
 {
-    let Some(mut daemon) = node.take() else {
-        return WRONG_HANDLE;
-    };
-    let code = daemon.fault(from, offset, buffer, len);
-    node.put(daemon);
-    code
+    on_node!(node, daemon, daemon.fault(from, offset, buffer, len))
 }

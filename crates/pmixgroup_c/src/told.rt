@@ -13,12 +13,7 @@ pub extern "C" fn pmixgroup_value(node: &mut Handle, buffer: &mut [u8], len: &mu
     ensures { OnNode node.old.place.value node.new.place.value result ((buffer.new ≡ buffer.old) × (len.new ≡ len.old))
         (λ d e. (e ≡ d) × FillsIfTold (value_told (reply_as d.reply)) buffer.old len.old result buffer.new len.new) }
 {
-    let Some(daemon) = node.take() else {
-        return WRONG_HANDLE;
-    };
-    let code = daemon.value(buffer, len);
-    node.put(daemon);
-    code
+    on_node!(node, daemon, daemon.value(buffer, len))
 }
 
 /// Tells who was gone from the fence of the last reply (`Daemon::gone`).
@@ -33,12 +28,7 @@ pub extern "C" fn pmixgroup_gone(
     ensures { OnNode node.old.place.value node.new.place.value result ((buffer.new ≡ buffer.old) × ((len.new ≡ len.old) × (rank.new ≡ rank.old)))
         (λ d e. (e ≡ d) × TellsProc (gone_at (reply_as d.reply) index) buffer.old len.old rank.old result buffer.new len.new rank.new) }
 {
-    let Some(daemon) = node.take() else {
-        return WRONG_HANDLE;
-    };
-    let code = daemon.gone(index, buffer, len, rank);
-    node.put(daemon);
-    code
+    on_node!(node, daemon, daemon.gone(index, buffer, len, rank))
 }
 
 /// Tells the members of a process set (`Daemon::members`).
@@ -52,12 +42,7 @@ pub extern "C" fn pmixgroup_members(
     ensures { OnNode node.old.place.value node.new.place.value result ((buffer.new ≡ buffer.old) × (len.new ≡ len.old))
         (λ d e. (e ≡ d) × TellsMembers (members_said d.link name.now) buffer.old len.old result buffer.new len.new) }
 {
-    let Some(daemon) = node.take() else {
-        return WRONG_HANDLE;
-    };
-    let code = daemon.members(name, buffer, len);
-    node.put(daemon);
-    code
+    on_node!(node, daemon, daemon.members(name, buffer, len))
 }
 
 /// Tells how a process stands (`Daemon::status`).
@@ -71,10 +56,5 @@ pub extern "C" fn pmixgroup_status(
     ensures { OnNode node.old.place.value node.new.place.value result (status.new ≡ status.old)
         (λ d e. (e ≡ d) × TellsStatus (status_said d.link nspace.now rank) status.old result status.new) }
 {
-    let Some(daemon) = node.take() else {
-        return WRONG_HANDLE;
-    };
-    let code = daemon.status(nspace, rank, status);
-    node.put(daemon);
-    code
+    on_node!(node, daemon, daemon.status(nspace, rank, status))
 }

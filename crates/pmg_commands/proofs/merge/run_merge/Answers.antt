@@ -1,20 +1,18 @@
-use Rattle.std.proofs.Common.{ap, inl, inr}
+use Rattle.std.proofs.Common.{ap}
 use Rattle.pmg_value.specs.declared.written.WatchedWriter.{WatchedWriter}
 use Rattle.pmg_commands.specs.Merge.{merge_text}
-use Rattle.pmg_commands.proofs.RunLemmas.{known_runs, told_of, tells}
+use Rattle.pmg_commands.proofs.RunLemmas.{known_runs, tells_fault}
 use Rattle.pmg_commands.proofs.merge.run_merge.Goals as goal
 
 pub returns-clause-printed : goal.returns-clause-printed
 returns-clause-printed g c =
-    let told = told_of c.merge_text-outcome.new.reader.failure c.merge_text-outcome.new.writer.failure c.conclude.new.writer.failure c.merge_text-outcome.result
-    c.merge_text-outcome.ensures.read_fault c.merge_text-outcome.ensures.write_fault c.conclude.ensures.kept in
-    known_runs (g.R.Read.remaining c.args.reader.now.reader) (g.W.Write.contents c.args.writer.now.writer) (g.W.Write.contents c.merge_text-outcome.new.writer.writer)
-    (g.W.Write.contents c.conclude.new.writer.writer) c.merge_text-outcome.new.reader.failure c.conclude.new.writer.failure c.conclude.result c.merge_text-outcome.result
-    (merge_text) c.merge_text-outcome.ensures.dumps told c.conclude.ensures.printed
+    let run = c.merge_text-outcome in
+    known_runs (g.R.Read.remaining c.args.reader.now.reader) (g.W.Write.contents c.args.writer.now.writer) (g.W.Write.contents run.new.writer.writer)
+    (g.W.Write.contents c.conclude.new.writer.writer) run.new.reader.failure run.new.writer.failure c.conclude.new.writer.failure c.conclude.result run.result
+    merge_text run.ensures.dumps run.ensures.read_fault run.ensures.write_fault c.conclude.ensures.kept c.conclude.ensures.printed
 
 pub returns-clause-read_fault : goal.returns-clause-read_fault
-returns-clause-read_fault g c failed = elim (c.merge_text-outcome.ensures.failed failed) [
-  | inl was ↦ inl was
-  | inr is ↦ inr (tells (g.W.Write.contents c.args.writer.now.writer) (g.W.Write.contents c.merge_text-outcome.new.writer.writer) (g.W.Write.contents c.conclude.new.writer.writer)
-      c.conclude.new.writer.failure c.conclude.result c.merge_text-outcome.result is (ap (λ (w : WatchedWriter g.row.W.Denot). g.W.Write.contents w.writer) (c.merge_text-outcome.ensures.unwritten is)) c.conclude.ensures.printed)
-]
+returns-clause-read_fault g c failed =
+    tells_fault (g.W.Write.contents c.args.writer.now.writer) (g.W.Write.contents c.merge_text-outcome.new.writer.writer) (g.W.Write.contents c.conclude.new.writer.writer)
+    c.args.reader.now.failure c.conclude.new.writer.failure c.conclude.result c.merge_text-outcome.result (c.merge_text-outcome.ensures.failed failed)
+    (λ is. ap (λ (w : WatchedWriter g.row.W.Denot). g.W.Write.contents w.writer) (c.merge_text-outcome.ensures.unwritten is)) c.conclude.ensures.printed

@@ -1,7 +1,10 @@
-use Rattle.std.proofs.Common.{Result, Err, sym, ap, subst, ◌∙◌}
-use Rattle.pmg_value.specs.CheckOrder.{check_order}
+use Rattle.std.proofs.Common.{◌≡◌, ℕ, List, Result, Err, sym, ap, subst, ◌∙◌}
+use Rattle.pmg_value.specs.Answers.{Fails}
+use Rattle.pmg_value.specs.CheckOrder.{check_order, first_of}
 use Rattle.pmg_value.specs.Spelling.{spelling}
+use Rattle.pmg_value.specs.declared.process.Proc.{Proc}
 use Rattle.pmg_value.specs.declared.refusal.Refusal.{Refusal}
+use Rattle.pmg_scope.specs.declared.scope.Scope.{Scope}
 use Rattle.pmg_node.specs.Acting.{request_of}
 use Rattle.pmg_node.specs.Servers.{IsAnswered}
 use Rattle.pmg_node.specs.declared.act.Reply.{Reply as GivenReply}
@@ -10,10 +13,18 @@ use Rattle.pmg_caches.proofs.CauseLemmas.{fails_due}
 use Rattle.pmg_caches.specs.Caching.{cached_for, put_cause_at}
 use Rattle.pmg_caches.specs.OwnKeys.{own_key}
 use Rattle.pmg_group_model.specs.Worlds.{reply_or_refusal}
-use Rattle.pmg_daemon.specs.Calls.{after_put, call_after, call_due, proc_call_of}
+use Rattle.pmg_daemon.specs.Calls.{after_put, call_after, call_due, proc_call_of, put_due}
 use Rattle.pmg_daemon.specs.declared.call.ProcCall.{ProcCall as GivenCall}
+use Rattle.pmg_link.specs.Links.{Linked}
 use Rattle.pmg_daemon.proofs.CallLemmas.{commit_after, first_err, first_ok, request_told}
 use Rattle.pmg_daemon.proofs.call.ProcCall.make.Goals as goal
+
+-- a put whose refusal is told is due that refusal
+put_refused : (l : Linked) (p : Proc) (scope : Scope) (key value : List ℕ) (e : Refusal) → Fails e (first_of (put_cause_at l.node (cached_for l.caches p) p scope key value) (tt {0}))
+    → IsAnswered {X = GivenReply} (Err e) → put_due l p scope key value ≡ Err e
+put_refused l p scope key value e fails told =
+    let cause = put_cause_at l.node (cached_for l.caches p) p scope key value in
+    first_err check_order cause (tt {0}) Reply.done e (fails_due e (first_of cause (tt {0})) fails (λ short. subst (λ (x : Refusal). IsAnswered {X = GivenReply} (Err x)) short told))
 
 pub returns-in-Ok-clause-reply : goal.returns-in-Ok-clause-reply
 unfolding call_due
@@ -34,19 +45,15 @@ returns-in-Ok-clause-after c = λ u.
 pub returns-in-Put-clause-reply : goal.returns-in-Put-clause-reply
 unfolding call_due
 returns-in-Put-clause-reply c = λ told.
-    let l = c.args.link.now in
-    let cause = put_cause_at l.node (cached_for l.caches c.in-Put.proc) c.in-Put.proc c.in-Put.scope c.in-Put.key (spelling c.in-Put.value) in
-    let due = fails_due c.in-Err.refusal _ c.in-Err.ensures.answer (λ short. subst (λ (e : Refusal). IsAnswered {X = GivenReply} (Err e)) short told) in
-    ap (λ (s : GivenCall). call_due l (proc_call_of s)) c.in-Put.is ∙ ap reply_or_refusal (first_err check_order cause (tt {0}) Reply.done c.in-Err.refusal due)
+    ap (λ (s : GivenCall). call_due c.args.link.now (proc_call_of s)) c.in-Put.is
+    ∙ ap reply_or_refusal (put_refused c.args.link.now c.in-Put.proc c.in-Put.scope c.in-Put.key (spelling c.in-Put.value) c.in-Err.refusal c.in-Err.ensures.answer told)
 
 pub returns-in-Put-clause-after : goal.returns-in-Put-clause-after
 unfolding call_after
 returns-in-Put-clause-after c = λ told.
     let l = c.args.link.now in
-    let cause = put_cause_at l.node (cached_for l.caches c.in-Put.proc) c.in-Put.proc c.in-Put.scope c.in-Put.key (spelling c.in-Put.value) in
-    let due = fails_due c.in-Err.refusal _ c.in-Err.ensures.answer (λ short. subst (λ (e : Refusal). IsAnswered {X = GivenReply} (Err e)) short told) in
-    c.in-Err.ensures.err
-    ∙ sym (ap (λ (x : Result Reply Refusal). after_put x l c.in-Put.proc c.in-Put.scope c.in-Put.key (spelling c.in-Put.value)) (first_err check_order cause (tt {0}) Reply.done c.in-Err.refusal due))
+    let due = put_refused l c.in-Put.proc c.in-Put.scope c.in-Put.key (spelling c.in-Put.value) c.in-Err.refusal c.in-Err.ensures.answer told in
+    c.in-Err.ensures.err ∙ sym (ap (λ (x : Result Reply Refusal). after_put x l c.in-Put.proc c.in-Put.scope c.in-Put.key (spelling c.in-Put.value)) due)
     ∙ sym (ap (λ (s : GivenCall). call_after l (proc_call_of s)) c.in-Put.is)
 
 pub returns-in-Commit-clause-reply : goal.returns-in-Commit-clause-reply
