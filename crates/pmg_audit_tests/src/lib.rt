@@ -2,20 +2,4 @@
 #![tactic(auto)]
 
 #[cfg(test)]
-mod accounts;
-#[cfg(test)]
-mod asked_again;
-#[cfg(test)]
-mod audits;
-#[cfg(test)]
-mod changes;
-#[cfg(test)]
-mod exchange;
-#[cfg(test)]
-mod fences;
-#[cfg(test)]
-mod gets;
-#[cfg(test)]
-mod refreshing;
-#[cfg(test)]
-mod words;
+mod tests;

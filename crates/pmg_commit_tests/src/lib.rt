@@ -3,16 +3,4 @@
 #![tactic(auto)]
 
 #[cfg(test)]
-mod caches;
-#[cfg(test)]
-mod homes;
-#[cfg(test)]
-mod pieces;
-#[cfg(test)]
-mod sealers;
-#[cfg(test)]
-mod sets;
-#[cfg(test)]
-mod steps;
-#[cfg(test)]
-mod words;
+mod tests;

@@ -3,8 +3,4 @@
 #![tactic(auto)]
 
 #[cfg(test)]
-mod fences;
-#[cfg(test)]
-mod making;
-#[cfg(test)]
-mod requests;
+mod tests;

@@ -2,6 +2,4 @@
 #![tactic(auto)]
 
 #[cfg(test)]
-mod making;
-#[cfg(test)]
-mod published;
+mod tests;

@@ -3,18 +3,4 @@
 #![tactic(auto)]
 
 #[cfg(test)]
-mod asked_again;
-#[cfg(test)]
-mod frames;
-#[cfg(test)]
-mod lanes;
-#[cfg(test)]
-mod making;
-#[cfg(test)]
-mod plain;
-#[cfg(test)]
-mod spelled;
-#[cfg(test)]
-mod stores;
-#[cfg(test)]
-mod streams;
+mod tests;

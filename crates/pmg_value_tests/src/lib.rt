@@ -3,10 +3,4 @@
 #![tactic(auto)]
 
 #[cfg(test)]
-mod joins;
-#[cfg(test)]
-mod making;
-#[cfg(test)]
-mod values;
-#[cfg(test)]
-mod writing;
+mod tests;

@@ -5,6 +5,4 @@
 #![tactic(auto)]
 
 #[cfg(test)]
-mod nodes;
-#[cfg(test)]
-mod worlds;
+mod tests;

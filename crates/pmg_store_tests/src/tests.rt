@@ -1,0 +1,9 @@
+//! The tests, and what they share.
+mod asked_again;
+mod frames;
+mod lanes;
+mod making;
+mod plain;
+mod spelled;
+mod stores;
+mod streams;

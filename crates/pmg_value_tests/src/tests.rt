@@ -1,0 +1,5 @@
+//! The tests, and what they share.
+mod joins;
+mod making;
+mod values;
+mod writing;

@@ -1,0 +1,3 @@
+//! The tests, and what they share.
+mod nodes;
+mod worlds;
