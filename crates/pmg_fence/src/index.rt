@@ -4,8 +4,9 @@ ghost use Rattle.std.specs.FinSet as set;
 ghost use Rattle.std.specs.Option.{option_map};
 ghost use Rattle.pmg_fence.specs.Kept.{found_signatures, ListsEach, ListsMore};
 
-use crate::signatures::{Shared, Signatures};
-use pmg_value::{Copied, Proc};
+use crate::signatures::Signatures;
+use pmg_frame::Signature;
+use pmg_value::Proc;
 use std::alloc::{AllocError, Global};
 use std::collections::BTreeMap;
 use std::marker::Model;
@@ -47,7 +48,7 @@ impl Index {
     }
 
     /// Lists the signature for the process.
-    fn put(&mut self, proc: &Proc, signature: &Shared) -> Result<(), AllocError>
+    fn put(&mut self, proc: &Proc, signature: &Signature) -> Result<(), AllocError>
         ensures ok { OnOk result (self.new ≡ finite.insert self.old proc.now
             (set.insert (found_signatures (finite.get self.old proc.now)) signature.now)) }
         ensures err { OnErr result (self.new ≡ self.old) }
@@ -64,7 +65,7 @@ impl Index {
     }
 
     /// Lists the signature for each of the processes. Where an allocation fails, it may be listed for some of them.
-    pub fn put_all(&mut self, procs: &[Proc], signature: &Shared) -> Result<(), AllocError>
+    pub fn put_all(&mut self, procs: &[Proc], signature: &Signature) -> Result<(), AllocError>
         ensures ok { OnOk result (ListsEach self.new signature.now procs.now) }
         ensures more { ListsMore self.old self.new }
     {

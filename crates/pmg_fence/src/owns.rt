@@ -1,10 +1,10 @@
-ghost use Rattle.std.specs.Prelude.{◌≡◌, IfOk, OnOk, OnErr};
+ghost use Rattle.std.specs.Prelude.{◌≡◌, IfOk, IfSome, OnOk, OnErr};
 ghost use Rattle.std.specs.FinMap as finite;
 ghost use Rattle.std.specs.Option.{option_map};
 ghost use Rattle.pmg_fence.specs.Kept.{found_signatures, HasSignaturesOf};
 
 use crate::index::Index;
-use crate::signatures::{Shared, Signatures};
+use crate::signatures::Signatures;
 use pmg_frame::Signature;
 use pmg_value::{Proc, copy_all};
 use std::alloc::{AllocError, Global};
@@ -57,6 +57,16 @@ impl Owns {
         }
     }
 
+    /// The signature as it is kept, where it is: copies of that one share its list.
+    pub fn kept(&self, signature: &Signature) -> Option<&Signature>
+        ensures { IfSome result (λ s. s.now ≡ signature.now) }
+    {
+        match self.rows.get_key_value(signature) {
+            Some((kept, _)) => Some(kept),
+            None => None,
+        }
+    }
+
     /// The signatures with the process among those that are kept, and at most some for which an allocation failed.
     pub fn signatures(&self, proc: &Proc) -> Option<&Signatures>
         ensures { HasSignaturesOf self.now proc.now (found_signatures (option_map (λ s. s.now) result)) }
@@ -69,9 +79,9 @@ impl Owns {
         ensures ok { OnOk result (self.new ≡ finite.insert self.old signature own.items) }
         ensures err { OnErr result (self.new ≡ self.old) }
     {
-        let shared = Shared::new(self.alloc, signature.copy()?)?;
+        let shared = signature.shared(self.alloc)?;
         self.index.put_all(&own, &shared)?;
-        self.rows.insert(signature, own)?;
+        self.rows.insert(shared, own)?;
         Ok(())
     }
 

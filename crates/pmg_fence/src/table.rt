@@ -208,6 +208,16 @@ impl Table {
         }
     }
 
+    /// The same signature, whose list copies share: that of the one that is kept, where it is.
+    pub fn share(&self, signature: Signature) -> Result<Signature, AllocError>
+        ensures { IfOk result (λ s. s ≡ signature) }
+    {
+        match self.owns.kept(&signature) {
+            Some(kept) => kept.copy(),
+            None => signature.shared(self.series.allocator()),
+        }
+    }
+
     /// What is known of the fence.
     fn fence(&self, signature: &Signature, instance: u64) -> Option<&Fence>
         ensures value { option_map (λ f. f.now) result ≡ finite.get (series_at self.now.fences signature.now).fences instance }

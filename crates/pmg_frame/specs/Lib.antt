@@ -3,6 +3,7 @@ pub mod FenceReading
 pub mod Fences
 pub mod Frames
 pub mod Grammar
+pub mod Listed
 pub mod PieceReading
 pub mod Reading
 pub mod RefreshReading

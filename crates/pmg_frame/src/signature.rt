@@ -4,6 +4,7 @@ ghost use Rattle.std.specs.List.{list_all};
 ghost use Rattle.pmg_value.specs.InOrder.{in_order};
 ghost use Rattle.pmg_value.specs.Process.{is_client};
 ghost use Rattle.pmg_frame.specs.Fences.{AreParticipants, signature, asked_signature};
+ghost use Rattle.pmg_frame.specs.Listed.{listed_in};
 ghost use Rattle.std.specs.Cmp.{partial_order_from_agreeing_total, partial_equiv_from_equiv};
 ghost use Rattle.std.specs.Ordering.{as_partial_cmp, eq_by_cmp};
 ghost use Rattle.std.proofs.Common.{refl};
@@ -11,17 +12,67 @@ ghost use Rattle.std.proofs.lemmas.Cmp.{eq_by_cmp_equiv};
 ghost use Rattle.pmg_frame.specs.FenceOrder.{signature_cmp, signature_total};
 
 use pmg_value::{Copied, Proc, Refusal, copy_all};
-use std::alloc::AllocError;
+use std::alloc::{AllocError, Global};
 use std::cmp::Ordering;
 use std::marker::Model;
+use std::sync::Arc;
 
 /// The most participants of a fence.
 pub const MAX_PARTICIPANTS: usize = 4096;
 
+/// Where the participants of a fence are listed.
+enum Participants {
+    /// In a list of one owner's.
+    Own(Vec<Proc>),
+    /// In one that all copies share.
+    Shared(Arc<Vec<Proc>>),
+}
+
+impl Drop for Participants {
+    fn drop(self) {
+        match self {
+            Participants::Own(_) => {}
+            Participants::Shared(_) => {}
+        }
+    }
+}
+
+impl Participants {
+    /// The processes that are listed.
+    fn as_slice(&self) -> &[Proc]
+        ensures { result.now ≡ listed_in self.now }
+    {
+        match self {
+            Participants::Own(list) => list.as_slice(),
+            Participants::Shared(list) => list.as_slice(),
+        }
+    }
+
+    /// The same list, which all copies share from now on.
+    fn shared(self, alloc: Global) -> Result<Participants, AllocError>
+        ensures { IfOk result (λ list. listed_in list ≡ listed_in self) }
+    {
+        match self {
+            Participants::Own(list) => Ok(Participants::Shared(Arc::new(alloc, list)?)),
+            Participants::Shared(list) => Ok(Participants::Shared(list)),
+        }
+    }
+
+    /// Another list of the same processes.
+    fn copy(&self) -> Result<Participants, AllocError>
+        ensures { IfOk result (λ list. listed_in list ≡ listed_in self.now) }
+    {
+        match self {
+            Participants::Own(list) => Ok(Participants::Own(copy_all(list)?)),
+            Participants::Shared(list) => Ok(Participants::Shared(Arc::try_clone(list)?)),
+        }
+    }
+}
+
 /// The processes that meet in a fence, each once, and whether the fence collects data (PMIx Standard 5.0,
 /// PMIx_Fence, PMIX_COLLECT_DATA).
 pub struct Signature {
-    participants: Vec<Proc>,
+    participants: Participants,
     collect: bool,
 }
 
@@ -44,10 +95,11 @@ impl Model for Signature {
     ghost coded = { coded_signature };
 
     ghost use Rattle.pmg_frame.specs.Fences.{AreParticipants, signature};
+    ghost use Rattle.pmg_frame.specs.Listed.{listed_in};
 
-    ghost view = { λ a. signature a.participants.items a.collect };
+    ghost view = { λ a. signature (listed_in a.participants) a.collect };
 
-    ghost invariant = { λ a. AreParticipants a.participants.items };
+    ghost invariant = { λ a. AreParticipants (listed_in a.participants) };
 }
 
 fn are_clients(list: &[Proc]) -> bool
@@ -77,7 +129,7 @@ impl Signature {
             return Err(Refusal::TooMany);
         }
         Ok(Signature {
-            participants,
+            participants: Participants::Own(participants),
             collect,
         })
     }
@@ -88,9 +140,23 @@ impl Signature {
         ensures { result ≡ signature participants.items collect }
     {
         Signature {
-            participants,
+            participants: Participants::Own(participants),
             collect,
         }
+    }
+
+    /// The same signature, whose copies share its list from now on, and so take no memory.
+    pub fn shared(self, alloc: Global) -> Result<Signature, AllocError>
+        ensures { IfOk result (λ s. s ≡ self) }
+    {
+        let Signature {
+            participants,
+            collect,
+        } = self;
+        Ok(Signature {
+            participants: participants.shared(alloc)?,
+            collect,
+        })
     }
 
     /// The participants, each greater than the one before.
@@ -100,7 +166,7 @@ impl Signature {
         ensures some { 1 ≤ length result.now }
         ensures few { length result.now ≤ MAX_PARTICIPANTS }
     {
-        &self.participants
+        self.participants.as_slice()
     }
 
     /// Whether the fence collects data.
@@ -114,15 +180,15 @@ impl Signature {
     pub fn contains(&self, process: &Proc) -> bool
         ensures { result ≡ set.contains self.now.participants process.now }
     {
-        self.participants.binary_search(process).is_ok()
+        self.participants.as_slice().binary_search(process).is_ok()
     }
 
-    /// A copy, equal to this signature.
+    /// A copy, equal to this signature. It takes memory for its list, unless that is shared.
     pub fn copy(&self) -> Result<Signature, AllocError>
         ensures { IfOk result (λ s. s ≡ self.now) }
     {
         Ok(Signature {
-            participants: copy_all(&self.participants)?,
+            participants: self.participants.copy()?,
             collect: self.collect,
         })
     }

@@ -166,6 +166,7 @@ impl Entries {
     }
 
     /// Puts the entry under its key, where it will be read, unless a later one is there.
+    #[inline(always)]
     fn put_read(&mut self, level: u64, key: Key, number: u64, value: Value)
         requires place { HasPlace (slice_cmp nat_cmp) self.old.reads key }
         requires reached { number ≤ level }
@@ -207,6 +208,7 @@ impl Entries {
     }
 
     /// Puts the entry where it belongs at that level, unless one is there that supersedes it.
+    #[inline(always)]
     pub fn put(&mut self, level: u64, key: Key, number: u64, value: Value)
         requires places { HasPlaces self.old level number key }
         requires within { ReadsWithin level self.old }
@@ -412,6 +414,7 @@ fn stamp_of(number: u64, there: Option<Value>) -> Option<Stamp>
 }
 
 /// Whether an entry of that number and value is later than the one in the place, if there is one.
+#[inline(always)]
 fn is_newer(place: &Option<Stamp>, number: u64, value: &Value) -> bool
     ensures { (key : List ℕ) → result ≡ beats (option_map (entry_under key) place.now)
         (record { key = key; number = number; bytes = spelling value.now }) }

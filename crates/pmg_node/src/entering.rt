@@ -256,7 +256,8 @@ impl Node {
         if count >= MAX_INSTANCE {
             return Ok(None);
         }
-        Ok(Some(FenceName::from_checked(signature, count + 1)))
+        let shared = self.table.share(signature)?;
+        Ok(Some(FenceName::from_checked(shared, count + 1)))
     }
 
     /// The process enters its next fence of these participants (PMIx Standard 5.0, PMIx_Fence): the instance is given. An empty

@@ -181,6 +181,7 @@ impl Key {
     }
 
     /// The key of a text that was tested already.
+    #[inline(always)]
     pub fn from_text(alloc: Global, key: &[u8]) -> Result<Key, AllocError>
         requires { IsTrue (is_key key.now) }
         ensures { IfOk result (λ k. k ≡ key.now) }

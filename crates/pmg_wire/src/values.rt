@@ -166,6 +166,7 @@ fn value_of(alloc: Global, at: &mut Cursor<'_>) -> Result<Value, Refusal>
 
 /// Reads a value: its tag, and a body of the tag's form. Refused as BadFrame at the first fault: Short,
 /// Tag, Bool, Name, Text, and at its end Size; and as NoMemory. A refusal leaves the cursor where it was.
+#[inline(always)]
 pub fn get_value(alloc: Global, at: &mut Cursor<'_>) -> Result<Value, Refusal>
     ensures found { IfOk result (λ v. SpellsValue at.old v at.new) }
     ensures only { (v : Value) (after : Place) → SpellsValue at.old v after → Reads (λ v. v) result at.new (Ok (v, after)) }

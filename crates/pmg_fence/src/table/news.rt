@@ -291,7 +291,7 @@ impl Table {
             return Ok(news);
         };
         for signature in signatures.items().iter() {
-            self.add_news(&mut news, signature.signature(), line)?;
+            self.add_news(&mut news, signature, line)?;
         }
         Ok(news)
     }
