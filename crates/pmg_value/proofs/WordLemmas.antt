@@ -2,11 +2,10 @@
 use Rattle.std.proofs.Common.{◌≡◌, ℕ, zero, suc, ◌+◌, ◌*◌, ◌%◌, ◌<◌, ◌≤◌, Bool, true, false, cond, ◌==◌, nat_lt, nat_le, List, [], ◌∷◌, length, get_or, IsTrue, refl, sym, ap, ◌∙◌, arith}
 use Rattle.std.specs.Prelude.{◌≢◌, drop}
 use Rattle.std.specs.List.{list_all}
-use Rattle.std.specs.declared.cmp.Ordering.{Ordering}
 use Rattle.std.specs.declared.cmp.Ordering.TheVariants.{Less, Equal, Greater}
-use Rattle.std.specs.Ordering.{nat_cmp, ordering_then, is_ne}
+use Rattle.std.specs.Ordering.{nat_cmp, ordering_then}
 use Rattle.std.specs.Cmp.Lexicographic.{slice_cmp}
-use Rattle.std.proofs.lemmas.Bool.{true≢false, and_parts, leb-true, lt-ltb, le-ltb, ltb-true, ltb-false, eq-eqb, ne_eqb}
+use Rattle.std.proofs.lemmas.Bool.{and_parts, leb-true, lt-ltb, le-ltb, ltb-true, ltb-false, eq-eqb, ne_eqb}
 use Rattle.pmg_value.specs.Names.{is_printable}
 use Rattle.pmg_value.specs.Words.{front_from, first_eight, second_eight}
 
@@ -111,14 +110,6 @@ short (suc n) x (a ∷ xs) (b ∷ bs) p q few fewer alike =
         ∙ rest (alike ∙ ap (λ c. front_from n (x * 256 + c) bs) (sym same))
         ∙ cmp_added 1 (length xs) (length bs) (length (a ∷ xs)) (length (b ∷ bs)) (omega arith) (omega arith)
 
-equal_is : (m n : ℕ) → is_ne (nat_cmp m n) ≡ false → m ≡ n
-equal_is m n h = by_order (nat_lt m n) refl (nat_lt n m) refl
-  where
-    by_order : (t : Bool) → nat_lt m n ≡ t → (u : Bool) → nat_lt n m ≡ u → m ≡ n
-    by_order true e u f = absurd (true≢false (sym (ap is_ne (cmp_less m n (ltb-true m n e))) ∙ h))
-    by_order false e true f = absurd (true≢false (sym (ap is_ne (cmp_greater m n (ltb-true n m f))) ∙ h))
-    by_order false e false f = omega (arith, ltb-false m n e, ltb-false n m f)
-
 -- printable bytes are bytes
 printable_are_bytes : (bs : List ℕ) → IsTrue (list_all is_printable bs) → AreBytes bs
 printable_are_bytes [] all = tt
@@ -200,31 +191,27 @@ module _ (a b : List ℕ) (f g s t : ℕ)
     (first : (f ≡ first_eight a) × (s ≡ second_eight a) × IsTrue (list_all is_printable a))
     (other : (g ≡ first_eight b) × (t ≡ second_eight b) × IsTrue (list_all is_printable b)) where
   -- words whose first numbers differ compare as these do
-  pub by_firsts : (firsts : Ordering) → firsts ≡ nat_cmp f g → is_ne firsts ≡ true → firsts ≡ slice_cmp nat_cmp a b
-  by_firsts firsts compared apart =
-      compared ∙ (λ i. nat_cmp (first.0 i) (other.0 i))
+  pub by_firsts : (f ≢ g) → nat_cmp f g ≡ slice_cmp nat_cmp a b
+  by_firsts apart =
+      (λ i. nat_cmp (first.0 i) (other.0 i))
       ∙ sym (decides 8 0 a b (printable_are_bytes a first.2) (printable_are_bytes b other.2)
-      (λ same. true≢false (sym apart ∙ ap is_ne (compared ∙ cmp_same f g (first.0 ∙ same ∙ sym other.0)))))
+      (λ same. apart (first.0 ∙ same ∙ sym other.0)))
 
   -- words whose first numbers are equal and whose second ones differ compare as these do
-  pub by_seconds : (firsts seconds : Ordering) → firsts ≡ nat_cmp f g → is_ne firsts ≡ false → seconds ≡ nat_cmp s t → is_ne seconds ≡ true
-      → seconds ≡ slice_cmp nat_cmp a b
-  by_seconds firsts seconds began alike compared apart =
-      let same : first_eight a ≡ first_eight b = sym first.0 ∙ equal_is f g (sym (ap is_ne began) ∙ alike) ∙ other.0 in
-      compared
-      ∙ (λ i. nat_cmp (first.1 i) (other.1 i))
+  pub by_seconds : f ≡ g → (s ≢ t) → nat_cmp s t ≡ slice_cmp nat_cmp a b
+  by_seconds alike apart =
+      let same : first_eight a ≡ first_eight b = sym first.0 ∙ alike ∙ other.0 in
+      (λ i. nat_cmp (first.1 i) (other.1 i))
       ∙ cmp_added (first_eight a * 18446744073709551616) (second_eight a) (second_eight b) (front_from 16 0 a) (front_from 16 0 b)
       (both a) (both b ∙ (λ i. sym same i * 18446744073709551616 + second_eight b))
       ∙ sym (decides 16 0 a b (printable_are_bytes a first.2) (printable_are_bytes b other.2)
-      (λ equal. true≢false (sym apart ∙ ap is_ne (compared ∙ cmp_same s t
-      (omega (arith, sym (both a) ∙ equal ∙ both b, same, first.1, other.1))))))
+      (λ equal. apart (omega (arith, sym (both a) ∙ equal ∙ both b, same, first.1, other.1))))
 
   -- words whose numbers are equal, and whose second one ends in no byte, are equal
-  pub by_end : (firsts seconds : Ordering) → firsts ≡ nat_cmp f g → is_ne firsts ≡ false → seconds ≡ nat_cmp s t → is_ne seconds ≡ false
-      → s % 256 ≡ 0 → Equal ≡ slice_cmp nat_cmp a b
-  by_end firsts seconds began alike compared even ends =
-      let same : first_eight a ≡ first_eight b = sym first.0 ∙ equal_is f g (sym (ap is_ne began) ∙ alike) ∙ other.0 in
-      let next : second_eight a ≡ second_eight b = sym first.1 ∙ equal_is s t (sym (ap is_ne compared) ∙ even) ∙ other.1 in
+  pub by_end : f ≡ g → s ≡ t → s % 256 ≡ 0 → Equal ≡ slice_cmp nat_cmp a b
+  by_end alike even ends =
+      let same : first_eight a ≡ first_eight b = sym first.0 ∙ alike ∙ other.0 in
+      let next : second_eight a ≡ second_eight b = sym first.1 ∙ even ∙ other.1 in
       let all : front_from 16 0 a ≡ front_from 16 0 b = both a ∙ (λ i. same i * 18446744073709551616 + next i) ∙ sym (both b) in
       let last : front_from 16 0 a % 256 ≡ 0 = omega (arith, both a, first.1, ends) in
       let few = is_short 15 a first.2 (sym (last_byte 15 0 a (printable_are_bytes a first.2)) ∙ last) in

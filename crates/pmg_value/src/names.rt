@@ -149,6 +149,7 @@ impl Nspace {
 
 impl Key {
     /// The reserved key under which a process that has ended stands, made without memory.
+    #[inline(always)]
     pub fn of_termination() -> Key
         ensures { result ≡ codes "pmix.term" }
     {

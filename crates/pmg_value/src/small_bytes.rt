@@ -30,6 +30,7 @@ impl Model for InPlace {
 
 impl InPlace {
     /// These bytes.
+    #[inline(always)]
     fn of(bytes: &[u8]) -> InPlace
         requires { length bytes.now ≤ MAX_IN_PLACE }
         ensures { result ≡ bytes.now }
@@ -113,6 +114,7 @@ impl SmallBytes {
     }
 
     /// These bytes, which are few.
+    #[inline(always)]
     pub fn few(bytes: &[u8]) -> SmallBytes
         requires { length bytes.now ≤ MAX_IN_PLACE }
         ensures { result ≡ bytes.now }

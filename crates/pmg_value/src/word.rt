@@ -70,6 +70,7 @@ impl Word {
     }
 
     /// The word of these bytes, which are few.
+    #[inline(always)]
     pub fn short(bytes: &[u8]) -> Word
         requires printable { IsTrue (list_all is_printable bytes.now) }
         requires few { length bytes.now ≤ MAX_IN_PLACE }
@@ -104,13 +105,11 @@ impl Word {
     fn compare(&self, other: &Word) -> Ordering
         ensures { result ≡ slice_cmp nat_cmp self.now other.now }
     {
-        let firsts = self.first.cmp(&other.first);
-        if firsts.is_ne() {
-            return firsts;
+        if self.first != other.first {
+            return self.first.cmp(&other.first);
         }
-        let seconds = self.second.cmp(&other.second);
-        if seconds.is_ne() {
-            return seconds;
+        if self.second != other.second {
+            return self.second.cmp(&other.second);
         }
         if self.second % BYTE == 0 {
             return Ordering::Equal;
