@@ -315,7 +315,7 @@ fn letter_of(event: &Event) -> Option<(u8, &Proc)> {
         Event::Commit(_, by) => Some((b'c', by)),
         Event::Request(_, Request::Enter(by, ..)) => Some((b'e', by)),
         Event::Request(_, Request::Leave(by)) => Some((b'l', by)),
-        Event::Request(_, Request::Ask(by, ..) | Request::Take(by)) => Some((b'f', by)),
+        Event::Request(_, Request::Ask(_, by, ..) | Request::Take(by)) => Some((b'f', by)),
         _ => None,
     }
 }

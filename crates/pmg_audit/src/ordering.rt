@@ -123,7 +123,7 @@ pub(crate) fn caller_of(act: &Act) -> Option<&Proc>
         Act::Request(request) => match request {
             Request::Enter(proc, _, _) => Some(proc),
             Request::Leave(proc) => Some(proc),
-            Request::Ask(proc, _, _, _) => Some(proc),
+            Request::Ask(_, proc, _, _) => Some(proc),
             Request::Take(proc) => Some(proc),
             Request::Terminate(proc) => Some(proc),
             Request::Define(_, _) => None,

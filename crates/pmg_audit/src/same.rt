@@ -45,8 +45,8 @@ fn is_same_request(request: &Request, other: &Request) -> bool
             Request::Leave(other) => *proc == *other,
             _ => false,
         },
-        Request::Ask(proc, target, key, mode) => match other {
-            Request::Ask(other, whose, name, how) => {
+        Request::Ask(mode, proc, target, key) => match other {
+            Request::Ask(how, other, whose, name) => {
                 *proc == *other && *target == *whose && *key == *name && *mode == *how
             }
             _ => false,

@@ -63,7 +63,7 @@ fn is_own_ask(request: &Request) -> bool
     ensures { result ≡ is_own_ask (ModelAct.request (request_of request.now)) }
 {
     match request {
-        Request::Ask(proc, target, key, _) => proc.cmp(target).is_eq() && !key.is_reserved(),
+        Request::Ask(_, proc, target, key) => proc.cmp(target).is_eq() && !key.is_reserved(),
         _ => false,
     }
 }

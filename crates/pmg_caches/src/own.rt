@@ -24,7 +24,7 @@ pub fn own_key(request: &Request) -> Option<(&Proc, &Key)>
     ensures { option_map (λ own. (own.0.now, own.1.now)) result ≡ own_key (request_of request.now) }
 {
     match request {
-        Request::Ask(proc, target, key, _) => {
+        Request::Ask(_, proc, target, key) => {
             if proc.cmp(target).is_eq() && !key.is_reserved() {
                 Some((proc, key))
             } else {

@@ -186,7 +186,7 @@ pub(crate) fn get_said(
     let target = proc_said(alloc, target, target_rank)?;
     let key = key_said(alloc, key)?;
     let mode = mode_said(mode)?;
-    Ok(ProcCall::Request(Request::Ask(proc, target, key, mode)))
+    Ok(ProcCall::Request(Request::Ask(mode, proc, target, key)))
 }
 
 /// The process takes the answer of the get that it waited for.

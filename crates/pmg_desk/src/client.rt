@@ -250,7 +250,7 @@ impl<'d> Client<'d> {
         ensures noted { ClientNotes self.old self.new (Calling.request (ModelRequest.ask (proc_of self.old) (get_of target.now key.now) mode)) asked_reply result }
         ensures later { IsLater self.old self.new }
     {
-        let request = Request::Ask(self.proc().copy()?, target.copy()?, key.copy()?, mode);
+        let request = Request::Ask(mode, self.proc().copy()?, target.copy()?, key.copy()?);
         asked_by(self.request(rt, None, request))
     }
 

@@ -158,7 +158,7 @@ impl Client<'_> {
         ensures own { IsOwnGet self.old self.new (get_of (proc_of self.old) key.now) mode result }
     {
         let proc = self.proc();
-        let request = Request::Ask(proc.copy()?, proc.copy()?, key.copy()?, mode);
+        let request = Request::Ask(mode, proc.copy()?, proc.copy()?, key.copy()?);
         let answer = self.free_own(key);
         self.notes.keep(Call::Request(request), &answer)?;
         answer

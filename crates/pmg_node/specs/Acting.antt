@@ -21,7 +21,7 @@ use Rattle.pmg_node.specs.declared.act.Reply.TheVariants as replies
 abbrev pub request_of : AskedRequest → Request
 request_of (requests.Enter p list collect) = Request.enter p list.items collect
 request_of (requests.Leave p) = Request.leave p
-request_of (requests.Ask p target key mode) = Request.ask p (get_of target key) mode
+request_of (requests.Ask mode p target key) = Request.ask p (get_of target key) mode
 request_of (requests.Take p) = Request.take p
 request_of (requests.Terminate p) = Request.terminate p
 request_of (requests.Define name list) = Request.define name list.items

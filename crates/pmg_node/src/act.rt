@@ -22,7 +22,7 @@ pub enum Request {
     /// The process leaves the fence that it is released from.
     Leave(Proc),
     /// The process asks for a key of the target.
-    Ask(Proc, Proc, Key, Mode),
+    Ask(Mode, Proc, Proc, Key),
     /// The process takes the answer of the get that it waited for.
     Take(Proc),
     /// The process ends.
@@ -60,8 +60,8 @@ impl Request {
                 Request::Enter(proc.copy()?, copy_all(list)?, *collect)
             }
             Request::Leave(proc) => Request::Leave(proc.copy()?),
-            Request::Ask(proc, target, key, mode) => {
-                Request::Ask(proc.copy()?, target.copy()?, key.copy()?, *mode)
+            Request::Ask(mode, proc, target, key) => {
+                Request::Ask(*mode, proc.copy()?, target.copy()?, key.copy()?)
             }
             Request::Take(proc) => Request::Take(proc.copy()?),
             Request::Terminate(proc) => Request::Terminate(proc.copy()?),

@@ -177,7 +177,7 @@ impl Node {
                 proc, list, *collect, out,
             )),
             Request::Leave(proc) => as_released(self.take_release(proc)),
-            Request::Ask(proc, target, key, mode) => as_asked(self.ask(
+            Request::Ask(mode, proc, target, key) => as_asked(self.ask(
                 proc, target, key, *mode, out,
             )),
             Request::Take(proc) => as_taken(self.take_answer(proc)),
@@ -271,7 +271,7 @@ impl Node {
         ensures unsent { result ≡ Err refusals.NoMemory → out.new.items ≡ out.old.items }
     {
         match request {
-            Request::Ask(proc, target, key, mode) => {
+            Request::Ask(mode, proc, target, key) => {
                 reply_of_asked(self.ask(proc, target, key, *mode, out))
             }
             _ => self.serve_alone(request, out),

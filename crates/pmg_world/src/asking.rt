@@ -176,7 +176,7 @@ fn ask_get(
     let target = proc_of(alloc, target)?;
     let key = Key::from_text(alloc, key)?;
     let home = home_of(registry, &proc);
-    Ok(LineAsk::Event(Event::Request(home, Request::Ask(proc, target, key, mode))))
+    Ok(LineAsk::Event(Event::Request(home, Request::Ask(mode, proc, target, key))))
 }
 
 /// `take NS RANK`

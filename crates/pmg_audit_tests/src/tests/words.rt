@@ -117,7 +117,7 @@ fn batch(alloc: Global, words: &[&str]) -> Result<Batch, Refusal> {
 fn ask(alloc: Global, words: &[&str], mode: Mode) -> Result<Request, Refusal> {
     let target = process(alloc, word(words, 2))?;
     let key = key(alloc, word(words, 3))?;
-    Ok(Request::Ask(process(alloc, word(words, 1))?, target, key, mode))
+    Ok(Request::Ask(mode, process(alloc, word(words, 1))?, target, key))
 }
 
 /// The request of the words.

@@ -77,7 +77,7 @@ pub(crate) fn key(alloc: Global, word: &str) -> Result<Key, Refusal> {
 fn ask(alloc: Global, words: &[&str], mode: Mode) -> Result<Request, Refusal> {
     let target = process(alloc, word(words, 3))?;
     let name = key(alloc, word(words, 4))?;
-    Ok(Request::Ask(process(alloc, word(words, 2))?, target, name, mode))
+    Ok(Request::Ask(mode, process(alloc, word(words, 2))?, target, name))
 }
 
 // The process enters a fence, whose participants are those of the words from the fifth one on.
