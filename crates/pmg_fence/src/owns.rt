@@ -1,6 +1,6 @@
 ghost use Rattle.std.specs.Prelude.{◌≡◌, IfOk, IfSome, OnOk, OnErr};
 ghost use Rattle.std.specs.FinMap as finite;
-ghost use Rattle.std.specs.Option.{option_map};
+ghost use Rattle.std.specs.Option.{is_some, option_map};
 ghost use Rattle.pmg_fence.specs.Kept.{found_signatures, HasSignaturesOf};
 
 use crate::index::Index;
@@ -59,7 +59,8 @@ impl Owns {
 
     /// The signature as it is kept, where it is: copies of that one share its list.
     pub fn kept(&self, signature: &Signature) -> Option<&Signature>
-        ensures { IfSome result (λ s. s.now ≡ signature.now) }
+        ensures same { IfSome result (λ s. s.now ≡ signature.now) }
+        ensures found { is_some result ≡ is_some (finite.get self.now signature.now) }
     {
         match self.rows.get_key_value(signature) {
             Some((kept, _)) => Some(kept),
