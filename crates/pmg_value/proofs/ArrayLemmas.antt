@@ -118,7 +118,8 @@ another_kind tag own i items v lt at is other =
     let Fails : Value → Type 0 = λ v. (is_plain_form (form v) && (plain_tag (plain_of (form v)) == tag)) ≡ false in
     no_array (is_plain_tag tag) (are_plain items) (are_of_kind tag (plains_of items)) _ (item_fails tag i items v lt (subst Fails at fails))
 
-no_room : (p k l : Bool) → l ≡ false → (p && (k && l)) ≡ false
+-- what is too long is none
+pub no_room : (p k l : Bool) → l ≡ false → (p && (k && l)) ≡ false
 no_room false k l e = refl
 no_room true false l e = refl
 no_room true true l e = e

@@ -1,6 +1,7 @@
 pub mod ArrayLemmas
 pub mod BlobLemmas
 pub mod ChainLemmas
+pub mod Dropping
 pub mod EightLemmas
 pub mod FlatLemmas
 pub mod FormLemmas
@@ -9,6 +10,7 @@ pub mod ListLemmas
 pub mod MadeLists
 pub mod MapLemmas
 pub mod NameLemmas
+pub mod NumberLemmas
 pub mod OrderLemmas
 pub mod ProcessOrder
 pub mod RowLemmas

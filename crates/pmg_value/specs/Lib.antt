@@ -4,6 +4,7 @@ pub mod CheckOrder
 pub mod Elements
 pub mod Hex
 pub mod InOrder
+pub mod Items
 pub mod Lists
 pub mod Maps
 pub mod Names

@@ -14,33 +14,50 @@ use std::marker::Model;
 const MAX_ELEMENT_TAG: u8 = 18;
 
 /// An array of values of one kind, none of them an array (PMIx Standard 5.0, pmix_data_array_t). As a value
-/// it is no longer than a value may be.
+/// it is no longer than a value may be. Numbers may be kept as such, which takes less memory.
 #[cycle(value)]
 #[derive(Drop)]
 pub struct Array {
-    tag: u8,
-    size: usize,
-    items: Vec<Value>,
+    pub(crate) tag: u8,
+    pub(crate) size: usize,
+    pub(crate) list: ItemList,
+}
+
+/// The items of an array: values, or numbers of its kind.
+#[cycle(value)]
+pub(crate) enum ItemList {
+    Values(Vec<Value>),
+    Numbers(Vec<u64>),
+}
+
+impl Drop for ItemList {
+    #[cycle(drop)]
+    fn drop(self) {
+        match self {
+            ItemList::Values(values) => drop(values),
+            ItemList::Numbers(numbers) => drop(numbers),
+        }
+    }
 }
 
 impl Model for Array {
-    ghost use Rattle.std.specs.Prelude.{length};
     ghost use Rattle.pmg_value.specs.Elements.{Elements};
 
     ghost Value = { Elements };
 
+    ghost use Rattle.pmg_value.specs.Items.{listed_values};
     ghost use Rattle.pmg_value.specs.Spelling.{elements, HoldsArray};
 
-    ghost view = { λ a. elements a.tag a.items.items };
+    ghost view = { λ a. elements a.tag (listed_values a.tag a.list) };
 
-    ghost invariant = { λ a. HoldsArray a.tag a.size a.items.items };
+    ghost invariant = { λ a. HoldsArray a.tag a.size (listed_values a.tag a.list) };
 
-    ghost size = { λ e. length e.plains };
+    ghost size = { λ e. 1 };
 
     ghost use Rattle.pmg_value.specs.Nesting.{is_flat};
     ghost use Rattle.std.proofs.Common.{arith};
 
-    ghost size_decreases = { λ a h. Prim.omega (arith, is_flat a.items.items h.plain) };
+    ghost size_decreases = { λ a h. Prim.omega (arith, is_flat a.tag a.list h.plain) };
 }
 
 impl Array {
@@ -51,7 +68,11 @@ impl Array {
         ensures { result ≡ (if makes_array tag items.items then Ok (elements tag items.items) else Err refusals.BadParam) }
     {
         match size_of(tag, &items) {
-            Some(size) => Ok(Array { tag, size, items }),
+            Some(size) => Ok(Array {
+                tag,
+                size,
+                list: ItemList::Values(items),
+            }),
             None => Err(Refusal::BadParam),
         }
     }
@@ -61,15 +82,6 @@ impl Array {
         ensures { result ≡ self.now.tag }
     {
         self.tag
-    }
-
-    /// The items.
-    pub fn items(&self) -> &[Value]
-        ensures items { elements self.now.tag result.now ≡ self.now }
-        ensures plain { IsTrue (are_plain result.now) }
-        ensures is { IsArray self.now }
-    {
-        self.items.as_slice()
     }
 
     /// The number of the canonical bytes of the array as a value.
@@ -85,16 +97,38 @@ impl Array {
     pub fn copy(&self) -> Result<Array, AllocError>
         ensures { IfOk result (λ a. a ≡ self.now) }
     {
-        let mut items = Vec::with_capacity(*self.items.allocator(), self.items.len())?;
-        for item in &self.items {
-            items.push(item.copy()?)?;
-        }
+        let list = match &self.list {
+            ItemList::Values(values) => ItemList::Values(copy_values(values)?),
+            ItemList::Numbers(numbers) => ItemList::Numbers(copy_numbers(numbers)?),
+        };
         Ok(Array {
             tag: self.tag,
             size: self.size,
-            items,
+            list,
         })
     }
+}
+
+// Copies of the values.
+#[cycle(copy)]
+fn copy_values(values: &Vec<Value>) -> Result<Vec<Value>, AllocError>
+    requires { IsTrue (are_plain values.now.items) }
+    ensures { IfOk result (λ copies. copies.items ≡ values.now.items) }
+{
+    let mut copies = Vec::with_capacity(*values.allocator(), values.len())?;
+    for value in values {
+        copies.push(value.copy()?)?;
+    }
+    Ok(copies)
+}
+
+// The same numbers.
+fn copy_numbers(numbers: &Vec<u64>) -> Result<Vec<u64>, AllocError>
+    ensures { IfOk result (λ copies. copies.items ≡ numbers.now.items) }
+{
+    let mut copies = Vec::with_capacity(*numbers.allocator(), numbers.len())?;
+    copies.extend_from_slice(numbers)?;
+    Ok(copies)
 }
 
 // The size of the array of these items as a value, where they are one.

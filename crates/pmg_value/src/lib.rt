@@ -4,6 +4,7 @@
 mod array;
 mod blobs;
 mod copied;
+mod items;
 mod laws;
 mod names;
 mod parts;
@@ -21,6 +22,7 @@ mod written;
 pub use array::Array;
 pub use blobs::{MAX_BLOB_LEN, Octets, Text, first_zero, is_string_text};
 pub use copied::{Copied, copy_all, copy_rows};
+pub use items::{Item, Items, is_number_kind};
 pub use laws::process_order;
 pub use names::{
     Key, MAX_KEY_LEN, MAX_NSPACE_LEN, Nspace, is_key_text, is_nspace_name, is_reserved_name,

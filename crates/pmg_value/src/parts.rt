@@ -5,12 +5,14 @@ ghost use Rattle.std.specs.Int.{w32, from_be_bytes, to_be_bytes};
 ghost use Rattle.std.specs.Cmp.Lexicographic.{slice_cmp};
 ghost use Rattle.pmg_value.specs.Elements.{IsArray, bodies, array_body};
 ghost use Rattle.pmg_value.specs.Spelling.{spelling, tag_of, body_of, plains_of, IsValue};
+ghost use Rattle.pmg_value.specs.Items.{items_in};
 ghost use Rattle.pmg_value.specs.Plain.{counted};
 ghost use Rattle.pmg_value.specs.Parts.{in_parts, head_len, middle_len, end_len, AreItems, AreAlike};
 ghost use Rattle.pmg_value.specs.Names.{is_nspace};
 ghost use Rattle.pmg_value.specs.declared.blobs.TheConstants.{MAX_BLOB_LEN};
 
 use crate::array::Array;
+use crate::items::Items;
 use crate::process::Proc;
 use crate::value::Value;
 use arrayvec::ArrayVec;
@@ -22,7 +24,7 @@ pub struct Parts<'a> {
     pub head: ArrayVec<u8, 8>,
     pub middle: &'a [u8],
     pub end: ArrayVec<u8, 8>,
-    pub items: &'a [Value],
+    pub items: Items<'a>,
 }
 
 impl Drop for Parts<'_> {
@@ -39,11 +41,11 @@ impl Drop for Parts<'_> {
 impl Value {
     /// The canonical bytes after the tag, in parts.
     pub fn parts(&self) -> Parts<'_>
-        ensures body { in_parts result.head.items result.middle.now result.end.items result.items.now ≡ body_of self.now }
+        ensures body { in_parts result.head.items result.middle.now result.end.items (items_in result.items) ≡ body_of self.now }
         ensures head { length result.head.items ≡ head_len (tag_of self.now) }
         ensures middle { length result.middle.now ≡ middle_len (tag_of self.now) result.head.items }
         ensures end { length result.end.items ≡ end_len (tag_of self.now) }
-        ensures items { AreItems (tag_of self.now) result.head.items result.items.now }
+        ensures items { AreItems (tag_of self.now) result.head.items (items_in result.items) }
         ensures is { IsValue self.now }
     {
         match self {
@@ -99,17 +101,17 @@ fn short_bytes(bytes: &[u8]) -> ArrayVec<u8, 8>
 // A body that is a head alone, of these bytes.
 fn head_alone(bytes: &[u8]) -> Parts<'static>
     requires { length bytes.now ≤ 8 }
-    ensures body { in_parts result.head.items result.middle.now result.end.items result.items.now ≡ bytes.now }
+    ensures body { in_parts result.head.items result.middle.now result.end.items (items_in result.items) ≡ bytes.now }
     ensures head { result.head.items ≡ bytes.now }
     ensures middle { result.middle.now ≡ [] }
     ensures end { result.end.items ≡ [] }
-    ensures items { result.items.now ≡ [] }
+    ensures items { items_in result.items ≡ [] }
 {
     Parts {
         head: short_bytes(bytes),
         middle: &[],
         end: ArrayVec::new(),
-        items: &[],
+        items: Items::Values(&[]),
     }
 }
 
@@ -117,28 +119,28 @@ fn head_alone(bytes: &[u8]) -> Parts<'static>
 #[tactic(auto, using(crate::proofs::OrderLemmas::length_again))]
 fn counted_body(bytes: &[u8]) -> Parts<'_>
     requires { length bytes.now ≤ MAX_BLOB_LEN }
-    ensures body { in_parts result.head.items result.middle.now result.end.items result.items.now ≡ counted bytes.now }
+    ensures body { in_parts result.head.items result.middle.now result.end.items (items_in result.items) ≡ counted bytes.now }
     ensures head { length result.head.items ≡ 4 }
     ensures middle { length result.middle.now ≡ from_be_bytes w32 result.head.items }
     ensures end { result.end.items ≡ [] }
-    ensures items { result.items.now ≡ [] }
+    ensures items { items_in result.items ≡ [] }
 {
     Parts {
         head: short_bytes(&(bytes.len() as u32).to_be_bytes()),
         middle: bytes,
         end: ArrayVec::new(),
-        items: &[],
+        items: Items::Values(&[]),
     }
 }
 
 // A body of a process: one byte of length, the namespace, and four bytes of rank.
 fn proc_body(process: &Proc) -> Parts<'_>
-    ensures body { in_parts result.head.items result.middle.now result.end.items result.items.now
+    ensures body { in_parts result.head.items result.middle.now result.end.items (items_in result.items)
         ≡ (length process.now.nspace ∷ process.now.nspace) ++ to_be_bytes w32 process.now.rank }
     ensures head { result.head.items ≡ length process.now.nspace ∷ [] }
     ensures middle { result.middle.now ≡ process.now.nspace }
     ensures end { length result.end.items ≡ 4 }
-    ensures items { result.items.now ≡ [] }
+    ensures items { items_in result.items ≡ [] }
     ensures name { IsTrue (is_nspace process.now.nspace) }
     ensures rank { process.now.rank < 2 ^ 32 }
 {
@@ -147,17 +149,17 @@ fn proc_body(process: &Proc) -> Parts<'_>
         head: short_bytes(&[name.len() as u8]),
         middle: name,
         end: short_bytes(&process.rank.number().to_be_bytes()),
-        items: &[],
+        items: Items::Values(&[]),
     }
 }
 
 // A body of an array: the tag of its items, four bytes of their number, and their bodies.
 fn array_parts(array: &Array) -> Parts<'_>
-    ensures body { in_parts result.head.items result.middle.now result.end.items result.items.now ≡ array_body array.now }
+    ensures body { in_parts result.head.items result.middle.now result.end.items (items_in result.items) ≡ array_body array.now }
     ensures head { length result.head.items ≡ 5 }
     ensures middle { result.middle.now ≡ [] }
     ensures end { result.end.items ≡ [] }
-    ensures items { AreItems 19 result.head.items result.items.now }
+    ensures items { AreItems 19 result.head.items (items_in result.items) }
     ensures is { IsArray array.now }
 {
     let items = array.items();
@@ -187,12 +189,13 @@ fn cmp_parts(a: &Parts<'_>, b: &Parts<'_>) -> Ordering
 }
 
 // The order of equally many bodies of one kind, one after another.
-fn cmp_items(a: &[Value], b: &[Value]) -> Ordering
-    requires { AreAlike a.now b.now }
-    ensures { result ≡ slice_cmp nat_cmp (bodies (plains_of a.now)) (bodies (plains_of b.now)) }
+fn cmp_items(a: Items<'_>, b: Items<'_>) -> Ordering
+    requires { AreAlike (items_in a) (items_in b) }
+    ensures { result ≡ slice_cmp nat_cmp (bodies (plains_of (items_in a.entry))) (bodies (plains_of (items_in b.entry))) }
 {
     for i in 0..a.len() {
-        let order = cmp_parts(&a[i].parts(), &b[i].parts());
+        let (own, other) = (a.get(i), b.get(i));
+        let order = cmp_parts(&own.value().parts(), &other.value().parts());
         if order.is_ne() {
             return order;
         }

@@ -1,4 +1,5 @@
-ghost use Rattle.std.specs.Prelude.{◌≡◌, ◌≤◌, length, IfOk, if◌then◌else◌};
+ghost use Rattle.std.specs.Prelude.{◌≡◌, ◌<◌, ◌≤◌, length, map, IfOk, if◌then◌else◌};
+ghost use Rattle.pmg_value.specs.Items.{number_value, number_width};
 ghost use Rattle.pmg_value.specs.Spelling.{spelling, tag_of, elements, makes_array};
 ghost use Rattle.pmg_value.specs.Blobs.{is_text, is_blob};
 ghost use Rattle.pmg_value.specs.Answers.{Gives};
@@ -59,6 +60,7 @@ pub enum Value {
 }
 
 impl Drop for Value {
+    #[cycle(drop)]
     fn drop(self) {
         match self {
             Value::Bool(_) => {}
@@ -79,7 +81,7 @@ impl Drop for Value {
             Value::Proc(_) => {}
             Value::Status(_) => {}
             Value::Bytes(_) => {}
-            Value::Array(_) => {}
+            Value::Array(array) => {}
         }
     }
 }
@@ -108,6 +110,15 @@ impl Value {
         ensures { result ≡ (if makes_array tag items.items then Ok (values.Array (elements tag items.items)) else Err refusals.BadParam) }
     {
         Ok(Value::Array(Array::new(tag, items)?))
+    }
+
+    /// The array of these numbers, whose kind has that tag, and is one of numbers. Refused as BadParam where the value would be longer
+    /// than 1,048,576 canonical bytes.
+    pub fn numbers(tag: u8, numbers: Vec<u64>) -> Result<Value, Refusal>
+        requires { 0 < number_width tag }
+        ensures { result ≡ (if makes_array tag (map (number_value tag) numbers.items) then Ok (values.Array (elements tag (map (number_value tag) numbers.items))) else Err refusals.BadParam) }
+    {
+        Ok(Value::Array(Array::of_numbers(tag, numbers)?))
     }
 
     /// The tag, the first of the canonical bytes.

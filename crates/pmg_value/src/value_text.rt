@@ -4,6 +4,7 @@ ghost use Rattle.std.specs.Fmt.{signed_decimal};
 ghost use Rattle.std.specs.List.{flat_map, join_by};
 ghost use Rattle.pmg_value.specs.Spelling.{IsValue, form, is_plain_form, plain_of, are_plain, plains_of};
 ghost use Rattle.pmg_value.specs.Elements.{IsArray};
+ghost use Rattle.pmg_value.specs.Items.{items_in};
 ghost use Rattle.pmg_value.specs.Plain.{kind_name, plain_text};
 ghost use Rattle.pmg_value.specs.Hex.{hex_text};
 ghost use Rattle.pmg_value.specs.Names.{is_nspace};
@@ -11,6 +12,7 @@ ghost use Rattle.pmg_value.specs.Text.{text_of, form_text, array_text};
 ghost use Rattle.pmg_value.specs.Written.{Writes};
 
 use crate::array::Array;
+use crate::items::Items;
 use crate::process::Proc;
 use crate::value::Value;
 use crate::written::{WatchedWriter, WriteFault};
@@ -228,29 +230,30 @@ fn put_array<W: Write>(
 
 /// What the items hold, one after another, with commas between them.
 #[cycle(put_held)]
-fn put_items<W: Write>(writer: &mut WatchedWriter<W>, items: &[Value]) -> Result<(), WriteFault>
-    requires { IsTrue (are_plain items.now) }
+fn put_items<W: Write>(writer: &mut WatchedWriter<W>, items: Items<'_>) -> Result<(), WriteFault>
+    requires { IsTrue (are_plain (items_in items)) }
     ensures text { Writes (W.contents writer.old.writer) (W.contents writer.new.writer)
-        result (join_by plain_text (codes ",") (plains_of items.now)) }
+        result (join_by plain_text (codes ",") (plains_of (items_in items.entry))) }
     ensures failed { OnErr result (IsSome writer.new.failure) }
 {
     let Some((first, others)) = items.split_first() else {
         return Ok(());
     };
-    put_held(writer, b"", first)?;
+    put_held(writer, b"", first.value())?;
     put_others(writer, others)
 }
 
 /// A comma before each item, and what it holds.
 #[cycle(put_held)]
-fn put_others<W: Write>(writer: &mut WatchedWriter<W>, items: &[Value]) -> Result<(), WriteFault>
-    requires { IsTrue (are_plain items.now) }
+fn put_others<W: Write>(writer: &mut WatchedWriter<W>, items: Items<'_>) -> Result<(), WriteFault>
+    requires { IsTrue (are_plain (items_in items)) }
     ensures text { Writes (W.contents writer.old.writer) (W.contents writer.new.writer)
-        result (flat_map (λ p. codes "," ++ plain_text p) (plains_of items.now)) }
+        result (flat_map (λ p. codes "," ++ plain_text p) (plains_of (items_in items.entry))) }
     ensures failed { OnErr result (IsSome writer.new.failure) }
 {
-    for item in items {
-        put_next(writer, item)?;
+    for i in 0..items.len() {
+        let item = items.get(i);
+        put_next(writer, item.value())?;
     }
     Ok(())
 }

@@ -1,12 +1,14 @@
 -- Building the elements of an array, one after another.
-use Rattle.std.proofs.Common.{◌≡◌, ℕ, ◌+◌, ◌-◌, ◌<◌, ◌≤◌, true, ◌&&◌, List, [], ◌∷◌, ◌++◌, length, None, Ok, Err, IsTrue, refl, sym, ap, ◌∙◌, arith}
+use Rattle.std.proofs.Common.{◌≡◌, ℕ, ◌+◌, ◌-◌, ◌<◌, ◌≤◌, true, ◌&&◌, List, [], ◌∷◌, ◌++◌, length, map, None, Ok, Err, IsTrue, refl, sym, ap, subst, ◌∙◌, arith}
 use Rattle.std.proofs.lemmas.List.{map_push, length-append}
 use Rattle.std.proofs.lemmas.List.Folds.{list_all-append}
 use Rattle.std.proofs.lemmas.Bool.{and_from}
 use Rattle.pmg_value.specs.declared.refusal.Refusal.{Refusal}
 use Rattle.pmg_value.specs.declared.value.Value.{Value}
-use Rattle.pmg_value.specs.Plain.{Plain, plain_body}
-use Rattle.pmg_value.specs.Spelling.{Form, form, is_plain_form, plain_of, are_plain, plains_of}
+use Rattle.pmg_value.specs.Items.{number_value, number_width}
+use Rattle.pmg_value.specs.Plain.{Plain, plain_body, is_plain_tag}
+use Rattle.pmg_value.specs.Spelling.{Form, form, form_tag, tag_of, is_plain_form, plain_of, are_plain, plains_of}
+use Rattle.pmg_value.proofs.NumberLemmas.{number_tag}
 use Rattle.pmg_wire.specs.Fields.{made, read_plain}
 use Rattle.pmg_wire.specs.Many.{many}
 use Rattle.pmg_wire.specs.Reading.{Place, Read, IsBytes, FailsReading}
@@ -54,3 +56,19 @@ stops tag count i items e at total lt failed h = ends (λ _. read_plain tag) e (
 
 pub all_read : (tag count i : ℕ) (items : List Value) (at : Place) (total : Read (List Plain)) → count ≤ i → HasRead tag count i items at total → total ≡ Ok (plains_of items, at)
 all_read tag count i items at total le h = is_done (λ _. read_plain tag) (plains_of items) count i at total le h.read
+
+-- what is read of a kind is of it
+kind_read : (tag : ℕ) (v : Value) (at after : Place) → IsBytes at.rest → IsTrue (is_plain_tag tag) → made Form.plain (read_plain tag at) ≡ Ok (form v, after) → tag_of v ≡ tag
+kind_read tag v at after bytes is read =
+    let m = was_made Form.plain (read_plain tag at) (form v) after read in
+    let t = (plain_if tag at bytes).holds m.0 after m.1 in
+    ap form_tag (sym m.2) ∙ sym (t.tag_is is)
+
+-- a number more is the value more that was read
+pub number_more : (tag n : ℕ) (ns grown : List ℕ) (v : Value) (at after : Place) → 0 < number_width tag → IsBytes at.rest → grown ≡ ns ++ n ∷ []
+    → (0 < number_width (tag_of v) → number_value (tag_of v) n ≡ v) → made Form.plain (read_plain tag at) ≡ Ok (form v, after)
+    → map (number_value tag) grown ≡ map (number_value tag) ns ++ v ∷ []
+number_more tag n ns grown v at after some bytes e kept read =
+    let same = kind_read tag v at after bytes (number_tag tag some) read in
+    let is : number_value tag n ≡ v = subst (λ t. 0 < number_width t → number_value t n ≡ v) same kept some in
+    ap (map (number_value tag)) e ∙ map_push (number_value tag) ns n ∙ ap (λ (w : Value). map (number_value tag) ns ++ w ∷ []) is

@@ -1,11 +1,12 @@
 ghost use Rattle.std.specs.Prelude.{◌≡◌, ◌<◌, ◌≤◌, ◌+◌, ◌^◌, ◌++◌, length, IsTrue, OnOk, OnErr};
 ghost use Rattle.pmg_wire.specs.Spelling.{key_spelling, proc_spelling, front_of};
 ghost use Rattle.pmg_value.specs.Elements.{bodies};
+ghost use Rattle.pmg_value.specs.Items.{items_in};
 ghost use Rattle.pmg_value.specs.Names.{is_nspace, is_key};
 ghost use Rattle.pmg_value.specs.Spelling.{spelling, are_plain, plains_of, IsValue};
 
 use bytes::BytesMut;
-use pmg_value::{Key, Parts, Proc, Value};
+use pmg_value::{Items, Key, Parts, Proc, Value};
 use std::alloc::AllocError;
 
 /// Writes a key's spelling at the end of a buffer: two bytes of length, and the key.
@@ -64,12 +65,13 @@ fn put_parts(out: &mut BytesMut, parts: &Parts<'_>)
 }
 
 // Writes the bodies of items that are no arrays, one after another, where there is room.
-fn put_items(out: &mut BytesMut, items: &[Value])
-    requires plain { IsTrue (are_plain items.now) }
-    requires room { length (bodies (plains_of items.now)) ≤ out.old.spare }
-    ensures { out.new.items ≡ out.old.items ++ bodies (plains_of items.now) }
+fn put_items(out: &mut BytesMut, items: Items<'_>)
+    requires plain { IsTrue (are_plain (items_in items)) }
+    requires room { length (bodies (plains_of (items_in items))) ≤ out.old.spare }
+    ensures { out.new.items ≡ out.old.items ++ bodies (plains_of (items_in items.entry)) }
 {
-    for item in items {
-        put_parts(out, &item.parts());
+    for i in 0..items.len() {
+        let item = items.get(i);
+        put_parts(out, &item.value().parts());
     }
 }

@@ -1,7 +1,8 @@
 //! Reading values. An array, and a value that could be too long, are read in two passes: the first finds the first
 //! fault and where the value ends, and takes no memory; the second builds the value from its bytes, all of which are
 //! there. Any other value is built at once.
-ghost use Rattle.std.specs.Prelude.{◌≡◌, ◌-◌, ◌≤◌, None, length, IfOk, IsTrue, OnErr};
+ghost use Rattle.std.specs.Prelude.{◌≡◌, ◌-◌, ◌<◌, ◌≤◌, None, length, map, IfOk, IsTrue, OnErr};
+ghost use Rattle.pmg_value.specs.Items.{number_value, number_width};
 ghost use Rattle.pmg_value.specs.Spelling.{Form, form, are_plain, plains_of};
 ghost use Rattle.pmg_wire.specs.Grammar.{SpellsValue, IsWholeValue};
 ghost use Rattle.pmg_wire.specs.Many.{many};
@@ -12,7 +13,9 @@ use crate::cursor::Cursor;
 use crate::fields::get_flag;
 use crate::skip::{ARRAY_TAG, skip_body};
 use crate::texts::{get_any_proc, get_blob, get_text};
-use pmg_value::{Cause, MAX_VALUE_SIZE, Nspace, Octets, Proc, Rank, Refusal, Text, Value};
+use pmg_value::{
+    Cause, MAX_VALUE_SIZE, Nspace, Octets, Proc, Rank, Refusal, Text, Value, is_number_kind,
+};
 use std::alloc::Global;
 
 // A string, of bytes that are no more than a value's body.
@@ -95,6 +98,22 @@ fn elements_of(
     Ok(items)
 }
 
+// So many elements of that kind, which is one of numbers, as numbers. As above, all of them are here.
+fn numbers_of(alloc: Global, tag: u8, count: u32, at: &mut Cursor<'_>) -> Result<Vec<u64>, Refusal>
+    requires short { length at.old.rest ≤ MAX_VALUE_SIZE - 1 }
+    requires kind { 0 < number_width tag }
+    ensures { Reads (λ ns. plains_of (map (number_value tag) ns.items)) result at.new (many (λ _. read_plain tag) count None at.old) }
+{
+    // No effect at run time: the proof reads here that what is left are bytes.
+    let _start = at.offset();
+    let mut numbers = Vec::with_capacity(alloc, count as usize)?;
+    for _ in 0..count {
+        let item = plain_of(alloc, tag, at)?;
+        numbers.push(item.as_number())?;
+    }
+    Ok(numbers)
+}
+
 // An array: the tag of its elements, their number, and their bodies.
 #[tactic(auto, unfolding(crate::specs::Fields::read_array))]
 fn array_of(alloc: Global, at: &mut Cursor<'_>) -> Result<Value, Refusal>
@@ -107,6 +126,10 @@ fn array_of(alloc: Global, at: &mut Cursor<'_>) -> Result<Value, Refusal>
         return Err(Refusal::bad_frame(start, Cause::Tag));
     }
     let count = at.get_u32()?;
+    if is_number_kind(tag) {
+        let numbers = numbers_of(alloc, tag, count, at)?;
+        return Value::numbers(tag, numbers);
+    }
     let items = elements_of(alloc, tag, count, at)?;
     Value::array(tag, items)
 }

@@ -1,6 +1,7 @@
 //! A world that a script plays on, with what was delivered in it.
 ghost use Rattle.std.specs.Prelude.{◌≡◌, ◌<◌, IfOk};
 ghost use Rattle.std.specs.Option.{option_map};
+ghost use Rattle.pmg_value.specs.Items.{items_in};
 ghost use Rattle.pmg_value.specs.Spelling.{form, plain_of, plains_of, spelling};
 ghost use Rattle.pmg_value.specs.declared.value.Value.TheVariants as values;
 ghost use Rattle.pmg_wire.specs.Fields.{whole_value};
@@ -18,7 +19,7 @@ use pmg_grouptext::node_id;
 use pmg_jobinfo::Registry;
 use pmg_node::{Node, Request};
 use pmg_store::Store;
-use pmg_value::{Array, Key, Proc, Refusal, Value, WatchedWriter};
+use pmg_value::{Array, Items, Key, Proc, Refusal, Value, WatchedWriter};
 use std::alloc::{AllocError, Global};
 use std::marker::Model;
 
@@ -70,12 +71,13 @@ fn proc_in(item: &Value) -> Option<&Proc>
 }
 
 /// The processes among the items of an array.
-fn procs_in(alloc: Global, items: &[Value]) -> Result<Vec<Proc>, AllocError>
-    ensures { IfOk result (λ procs. procs.items ≡ proc_elements (plains_of items.now)) }
+fn procs_in(alloc: Global, items: Items<'_>) -> Result<Vec<Proc>, AllocError>
+    ensures { IfOk result (λ procs. procs.items ≡ proc_elements (plains_of (items_in items.entry))) }
 {
     let mut procs = Vec::new(alloc);
-    for item in items {
-        if let Some(proc) = proc_in(item) {
+    for i in 0..items.len() {
+        let item = items.get(i);
+        if let Some(proc) = proc_in(item.value()) {
             procs.push(proc.copy()?)?;
         }
     }

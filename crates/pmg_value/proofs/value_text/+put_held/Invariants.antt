@@ -1,6 +1,7 @@
 use Rattle.std.proofs.Common.{cond, codes, ◌++◌, take}
 use Rattle.std.specs.List.{flat_map}
 use Rattle.std.specs.Io.KnownBytes.{Appends}
+use Rattle.pmg_value.specs.Items.{items_in}
 use Rattle.pmg_value.specs.Plain.{plain_text}
 use Rattle.pmg_value.specs.Spelling.{form, is_plain_form, plains_of}
 use Rattle.pmg_value.proofs.value_text.+put_held.Given as goal
@@ -22,6 +23,6 @@ abbrev pub decreases-put_next : goal.decreases-put_next
 decreases-put_next g l = 1
 
 -- what was written so far are the texts of the first items
-abbrev pub invariant-put_others-loop-item : goal.invariant-put_others-loop-item
-invariant-put_others-loop-item g l =
-    Appends (g.W.Write.contents l.fn.writer.writer) (g.W.Write.contents l.writer.writer) (flat_map (λ p. codes "," ++ plain_text p) (take l.item-index (plains_of l.fn.items)))
+abbrev pub invariant-put_others-loop-i : goal.invariant-put_others-loop-i
+invariant-put_others-loop-i g l =
+    Appends (g.W.Write.contents l.fn.writer.writer) (g.W.Write.contents l.writer.writer) (flat_map (λ p. codes "," ++ plain_text p) (take l.i (plains_of (items_in l.fn.items))))

@@ -6,7 +6,7 @@ use crate::tests::nodes::words::{
 use pmg_jobinfo::Registry;
 use pmg_node::{Act, Node, Reply, Status};
 use pmg_node_model::Sent;
-use pmg_value::{NodeId, Nspace, Refusal, Value, WatchedWriter};
+use pmg_value::{Items, NodeId, Nspace, Refusal, WatchedWriter};
 use std::alloc::Global;
 use std::collections::VecDeque;
 use std::process::Abort;
@@ -78,10 +78,10 @@ fn status(rt: &impl Abort, node: &Node, proc: &str, alloc: Global) -> &'static s
 }
 
 // Puts the texts of the members.
-fn put_items(rt: &impl Abort, text: &mut Vec<u8>, members: &[Value], alloc: Global) {
+fn put_items(rt: &impl Abort, text: &mut Vec<u8>, members: Items<'_>, alloc: Global) {
     put(text, "members").expect(rt, MEMORY);
-    for member in members {
-        let member = member.to_text(alloc).expect(rt, MEMORY);
+    for i in 0..members.len() {
+        let member = members.get(i).value().to_text(alloc).expect(rt, MEMORY);
         put(text, " ").expect(rt, MEMORY);
         text.extend_from_slice(&member).expect(rt, MEMORY);
     }
