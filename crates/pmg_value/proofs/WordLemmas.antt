@@ -1,6 +1,6 @@
 -- Words are told apart by their fronts.
 use Rattle.std.proofs.Common.{◌≡◌, ℕ, zero, suc, ◌+◌, ◌*◌, ◌%◌, ◌<◌, ◌≤◌, Bool, true, false, cond, ◌==◌, nat_lt, nat_le, List, [], ◌∷◌, length, get_or, IsTrue, refl, sym, ap, ◌∙◌, arith}
-use Rattle.std.specs.Prelude.{◌≢◌, drop}
+use Rattle.std.specs.Prelude.{◌≢◌, drop, take}
 use Rattle.std.specs.List.{list_all}
 use Rattle.std.specs.declared.cmp.Ordering.TheVariants.{Less, Equal, Greater}
 use Rattle.std.specs.Ordering.{nat_cmp, ordering_then}
@@ -25,6 +25,13 @@ front_is (a ∷ b ∷ c ∷ d ∷ e ∷ []) = omega arith
 front_is (a ∷ b ∷ c ∷ d ∷ e ∷ f ∷ []) = omega arith
 front_is (a ∷ b ∷ c ∷ d ∷ e ∷ f ∷ g ∷ []) = omega arith
 front_is (a ∷ b ∷ c ∷ d ∷ e ∷ f ∷ g ∷ h ∷ bs) = omega arith
+
+-- a list that has zeros past its first n items has at each index what these have there
+pub padded : (n : ℕ) (bs : List ℕ) → ((i : ℕ) → n ≤ i → get_or bs i 0 ≡ 0) → (i : ℕ) → get_or (take n bs) i 0 ≡ get_or bs i 0
+padded zero bs zeros i = sym (zeros i (omega arith))
+padded (suc n) [] zeros i = refl
+padded (suc n) (b ∷ bs) zeros zero = refl
+padded (suc n) (b ∷ bs) zeros (suc i) = padded n bs (λ j le. zeros (suc j) (omega (arith, le))) i
 
 -- what is less stays less, whatever bytes come after it
 less : (n x y : ℕ) (xs bs : List ℕ) → x < y → AreBytes xs → front_from n x xs < front_from n y bs

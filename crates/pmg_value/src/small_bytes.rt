@@ -1,7 +1,8 @@
 //! Bytes of which few stand in place, and more are shared.
-ghost use Rattle.std.specs.Prelude.{◌≡◌, ◌≤◌, length, nat_eq, IfOk};
+ghost use Rattle.std.specs.Prelude.{◌≡◌, ◌≤◌, get_or, length, nat_eq, IfOk};
 ghost use Rattle.std.specs.Cmp.{partial_equiv_from_equiv};
 ghost use Rattle.std.specs.Cmp.Lexicographic.{pointwise, nat_list_eq_equiv};
+ghost use Rattle.pmg_value.specs.Words.{first_eight, second_eight};
 
 use std::alloc::{AllocError, Global};
 use std::marker::Model;
@@ -10,7 +11,10 @@ use std::sync::Arc;
 /// The most bytes that are kept in place.
 pub(crate) const MAX_IN_PLACE: usize = 22;
 
-/// At most 22 bytes, which stand where they are kept.
+/// How many bytes are read as one number.
+const EIGHT: usize = 8;
+
+/// At most 22 bytes, which stand where they are kept, and zeros in the places after them.
 #[derive(Drop)]
 struct InPlace {
     len: u8,
@@ -18,14 +22,14 @@ struct InPlace {
 }
 
 impl Model for InPlace {
-    ghost use Rattle.std.specs.Prelude.{◌≤◌, ℕ, List, take};
+    ghost use Rattle.std.specs.Prelude.{◌≡◌, ◌≤◌, ℕ, List, get_or, take};
     ghost use Rattle.pmg_value.specs.declared.small_bytes.TheConstants.{MAX_IN_PLACE};
 
     ghost Value = { List ℕ };
 
     ghost view = { λ a. take a.len a.bytes };
 
-    ghost invariant = { λ a. a.len ≤ MAX_IN_PLACE };
+    ghost invariant = { λ a. (a.len ≤ MAX_IN_PLACE) × ((i : ℕ) → a.len ≤ i → get_or a.bytes i 0 ≡ 0) };
 }
 
 impl InPlace {
@@ -48,6 +52,22 @@ impl InPlace {
         ensures { result.now ≡ self.now }
     {
         &self.bytes[..self.len as usize]
+    }
+
+    /// The first eight bytes as a number, with zeros in the place of those that there are not.
+    fn first_eight(&self) -> u64
+        ensures { result ≡ first_eight self.now }
+    {
+        let at = &self.bytes;
+        u64::from_be_bytes([at[0], at[1], at[2], at[3], at[4], at[5], at[6], at[7]])
+    }
+
+    /// The eight bytes after the first eight as a number, with zeros in the place of those that there are not.
+    fn second_eight(&self) -> u64
+        ensures { result ≡ second_eight self.now }
+    {
+        let at = &self.bytes;
+        u64::from_be_bytes([at[8], at[9], at[10], at[11], at[12], at[13], at[14], at[15]])
     }
 
     /// The same bytes.
@@ -134,6 +154,28 @@ impl SmallBytes {
         }
     }
 
+    /// The first eight bytes as a number, with zeros in the place of those that there are not.
+    #[inline(always)]
+    pub fn first_eight(&self) -> u64
+        ensures { result ≡ first_eight self.now }
+    {
+        match &self.place {
+            Place::Here(bytes) => bytes.first_eight(),
+            Place::Shared(bytes) => front_of(bytes),
+        }
+    }
+
+    /// The eight bytes after the first eight as a number, with zeros in the place of those that there are not.
+    #[inline(always)]
+    pub fn second_eight(&self) -> u64
+        ensures { result ≡ second_eight self.now }
+    {
+        match &self.place {
+            Place::Here(bytes) => bytes.second_eight(),
+            Place::Shared(bytes) => second_of(bytes),
+        }
+    }
+
     /// The same bytes.
     pub fn copy(&self) -> Result<SmallBytes, AllocError>
         ensures { IfOk result (λ s. s ≡ self.now) }
@@ -158,4 +200,41 @@ impl PartialEq for SmallBytes {
 
 impl Eq for SmallBytes {
     ghost laws = { nat_list_eq_equiv };
+}
+
+/// The byte at the index, 0 where there is none.
+fn byte_at(bytes: &[u8], index: usize) -> u64
+    ensures value { result ≡ get_or bytes.now index 0 }
+    ensures bound { result ≤ 255 }
+{
+    match bytes.get(index) {
+        Some(byte) => u64::from(*byte),
+        None => 0,
+    }
+}
+
+/// The first eight bytes as a number, with zeros in the place of those that there are not.
+pub(crate) fn front_of(bytes: &[u8]) -> u64
+    ensures { result ≡ first_eight bytes.now }
+{
+    if bytes.len() >= EIGHT {
+        return u64::from_be_bytes([
+            bytes[0], bytes[1], bytes[2], bytes[3], bytes[4], bytes[5], bytes[6], bytes[7],
+        ]);
+    }
+    let first = byte_at(bytes, 0) * 256 + byte_at(bytes, 1);
+    let second = byte_at(bytes, 2) * 256 + byte_at(bytes, 3);
+    let third = byte_at(bytes, 4) * 256 + byte_at(bytes, 5);
+    let fourth = byte_at(bytes, 6) * 256 + byte_at(bytes, 7);
+    ((first * 65_536 + second) * 65_536 + third) * 65_536 + fourth
+}
+
+/// The eight bytes after the first eight as a number, with zeros in the place of those that there are not.
+pub(crate) fn second_of(bytes: &[u8]) -> u64
+    ensures { result ≡ second_eight bytes.now }
+{
+    if bytes.len() <= EIGHT {
+        return 0;
+    }
+    front_of(&bytes[EIGHT..])
 }

@@ -1,5 +1,5 @@
 //! Short texts that are compared often.
-ghost use Rattle.std.specs.Prelude.{◌≡◌, ◌≤◌, IsTrue, IfOk, Some, get_or, length, refl};
+ghost use Rattle.std.specs.Prelude.{◌≡◌, ◌≤◌, IsTrue, IfOk, Some, length, refl};
 ghost use Rattle.std.specs.List.{list_all};
 ghost use Rattle.std.specs.Ordering.{nat_cmp};
 ghost use Rattle.std.specs.Cmp.Lexicographic.{pointwise, slice_cmp, nat_list_eq_equiv, nat_list_cmp_total, texts_ties, texts_po};
@@ -9,13 +9,10 @@ ghost use Rattle.pmg_value.specs.Names.{is_printable};
 ghost use Rattle.pmg_value.specs.Words.{first_eight, second_eight};
 ghost use Rattle.pmg_value.specs.declared.small_bytes.TheConstants.{MAX_IN_PLACE};
 
-use crate::small_bytes::{MAX_IN_PLACE, SmallBytes};
+use crate::small_bytes::{MAX_IN_PLACE, SmallBytes, front_of, second_of};
 use std::alloc::{AllocError, Global};
 use std::cmp::Ordering;
 use std::marker::Model;
-
-/// How many bytes of a word are kept as a number.
-const EIGHT: usize = 8;
 
 /// How many values a byte has. A multiple of it ends in a zero, which no word has.
 const BYTE: u64 = 256;
@@ -62,10 +59,11 @@ impl Word {
         requires { IsTrue (list_all is_printable bytes.now) }
         ensures { IfOk result (λ w. w ≡ bytes.now) }
     {
+        let text = SmallBytes::of(alloc, bytes)?;
         Ok(Word {
-            first: front_of(bytes),
-            second: second_of(bytes),
-            text: SmallBytes::of(alloc, bytes)?,
+            first: text.first_eight(),
+            second: text.second_eight(),
+            text,
         })
     }
 
@@ -154,41 +152,4 @@ impl Ord for Word {
     fn cmp(&self, other: &Word) -> Ordering {
         self.compare(other)
     }
-}
-
-/// The byte at the index, 0 where there is none.
-fn byte_at(bytes: &[u8], index: usize) -> u64
-    ensures value { result ≡ get_or bytes.now index 0 }
-    ensures bound { result ≤ 255 }
-{
-    match bytes.get(index) {
-        Some(byte) => u64::from(*byte),
-        None => 0,
-    }
-}
-
-/// The first eight bytes as a number, with zeros in the place of those that there are not.
-fn front_of(bytes: &[u8]) -> u64
-    ensures { result ≡ first_eight bytes.now }
-{
-    if bytes.len() >= EIGHT {
-        return u64::from_be_bytes([
-            bytes[0], bytes[1], bytes[2], bytes[3], bytes[4], bytes[5], bytes[6], bytes[7],
-        ]);
-    }
-    let first = byte_at(bytes, 0) * 256 + byte_at(bytes, 1);
-    let second = byte_at(bytes, 2) * 256 + byte_at(bytes, 3);
-    let third = byte_at(bytes, 4) * 256 + byte_at(bytes, 5);
-    let fourth = byte_at(bytes, 6) * 256 + byte_at(bytes, 7);
-    ((first * 65_536 + second) * 65_536 + third) * 65_536 + fourth
-}
-
-/// The eight bytes after the first eight as a number, with zeros in the place of those that there are not.
-fn second_of(bytes: &[u8]) -> u64
-    ensures { result ≡ second_eight bytes.now }
-{
-    if bytes.len() <= EIGHT {
-        return 0;
-    }
-    front_of(&bytes[EIGHT..])
 }
