@@ -1,17 +1,15 @@
 -- What a text spells, line by line.
 use Rattle.std.proofs.Common.{arith, ◌-◌, ◌≡◌, ℕ, zero, suc, ◌++◌, ◌<◌, ◌≤◌, append_assoc, append-nil, get_or, subst, take, drop, ◌==◌, Bool, true, false, cond, ◌&&◌, not, ◌+◌, ◌*◌, ◌/◌, ◌%◌, List, [], ◌∷◌, length, map, Ok, refl, sym, ap, ◌∙◌, nat_lt, slice_index}
 use Rattle.std.specs.Prelude.{MatchResult, Result, Err, is_ok}
-use Rattle.std.proofs.Math.Seq.{take-append_seam}
 use Rattle.std.proofs.lemmas.Bool.{and_parts, eq-eqb, eqb-true, ltb-true, true≢false}
-use Rattle.std.proofs.lemmas.List.{length-append, length-drop, length-take, length-take-le, take-append-drop, take_all, take_more}
+use Rattle.std.proofs.lemmas.List.{length-drop, take-append-drop, take_all, take_more}
 use Rattle.std.proofs.lemmas.List.Elements.{filter-append}
 use Rattle.bstr.specs.Text.{line_len, lines_from, lines_of, no_cr, without_terminator}
 use Rattle.hex.specs.Hex.{decode_of, decode_pairs, decode_sized}
 use Rattle.hex.specs.declared.error.FromHexError.{FromHexError}
 use Rattle.hex.specs.declared.error.FromHexError.TheVariants.{InvalidStringLength, OddLength}
-use Rattle.hex.proofs.HexLemmas.{decode_of-even, decode_pairs-ok}
+use Rattle.hex.proofs.HexLemmas.{decode_of-even}
 use Rattle.pmg_commands.specs.Text.{is_white, digits_of, decoded}
-use Rattle.pmg_commands.proofs.MergeLemmas.{total, all_lines_fit}
 use Rattle.pmg_commands.proofs.TextLemmas.{Spells, digits_decoded, pairs_more, spelled}
 
 -- ---- the digits of a line
@@ -81,68 +79,21 @@ digits_from (suc n) (byte ∷ rest) within =
     ap (λ ds. ds ++ digits_of_lines (map without_terminator (lines_from n others))) (without_end line) ∙ ap (λ ds. digits_of line ++ ds) (digits_from n others fewer)
     ∙ sym (filter-append (λ byte. not (is_white byte)) line others) ∙ ap digits_of (take-append-drop k (byte ∷ rest))
 
--- ---- the length of the lines
-shorter : (test : Bool) (short line : List ℕ) → length short ≤ length line → length (cond test short line) ≤ length line
-shorter true short line less = less
-shorter false short line less = omega arith
+-- The bytes are those of the lines before these, which are left of the text: what these spell, after the bytes, is what the text spells.
+abbrev pub Decoding : List ℕ → List (List ℕ) → List ℕ → Type 0
+Decoding text lines bytes = (more : List ℕ) → ((i : ℕ) → decode_pairs i (digits_of_lines lines) ≡ Ok more) → Spells text (bytes ++ more)
 
-without_end_shorter : (line : List ℕ) → length (without_terminator line) ≤ length line
-without_end_shorter line =
-    let front = take (length line - 1) line in
-    let less : length front ≤ length line = omega (arith, length-take (length line - 1) line) in
-    let least = shorter (nat_lt 0 (length front) && slice_index front (length front - 1) == 13) (take (length front - 1) front) front (omega (arith, length-take (length front - 1) front)) in
-    shorter (nat_lt 0 (length line) && slice_index line (length line - 1) == 10) (no_cr front) line (omega (arith, less, least))
+pub decoding_start : (text : List ℕ) → Decoding text (map without_terminator (lines_of text)) []
+decoding_start text more lines i = ap (decode_pairs i) (sym (digits_from (length text) text (omega arith))) ∙ lines i
 
-stripped_total : (lines : List (List ℕ)) → total (map without_terminator lines) ≤ total lines
-stripped_total [] = omega arith
-stripped_total (line ∷ lines) = let less = without_end_shorter line in let others = stripped_total lines in omega (arith, less, others)
+pub decoding_next : (text line : List ℕ) (lines : List (List ℕ)) (bytes block : List ℕ) → Decoding text (line ∷ lines) bytes
+    → decode_of line ≡ Ok block → length line % 2 ≡ 0 → Decoding text lines (bytes ++ block)
+decoding_next text line lines bytes block so_far is even more rest =
+    let pairs : decode_pairs 0 line ≡ Ok block = sym (decode_of-even line even) ∙ is in
+    subst (Spells text) (sym (append_assoc bytes block more))
+    (so_far (block ++ more) (λ i. ap (λ ds. decode_pairs i (ds ++ digits_of_lines lines)) (digits_decoded line block pairs)
+    ∙ pairs_more 0 i line (digits_of_lines lines) block more pairs rest))
 
--- Up to this end the bytes are those of the lines before these, which are left of the text: what these spell, after the bytes so far, is
--- what the text spells, and there is room for it.
-pub record Decoding (text : List ℕ) (lines : List (List ℕ)) (end : ℕ) (bytes : List ℕ) : Type 0 where
-  pub room : length bytes ≡ length text / 2
-  pub within : 2 * end + total lines ≤ length text
-  pub spells : (more : List ℕ) → ((i : ℕ) → decode_pairs i (digits_of_lines lines) ≡ Ok more) → Spells text (take end bytes ++ more)
-
-pub decoding_start : (text bytes : List ℕ) → length bytes ≡ length text / 2 → Decoding text (map without_terminator (lines_of text)) 0 bytes
-decoding_start text bytes room = record {
-  room = room;
-  within = let fit = all_lines_fit text in let less = stripped_total (lines_of text) in omega (arith, fit, less);
-  spells = λ more lines i. ap (decode_pairs i) (sym (digits_from (length text) text (omega arith))) ∙ lines i;
-}
-
-pub decoding_fits : (text line : List ℕ) (lines : List (List ℕ)) (start : ℕ) (bytes : List ℕ) → Decoding text (line ∷ lines) start bytes → start + length line / 2 ≤ length bytes
-decoding_fits text line lines start bytes so_far = let room = so_far.room in let within = so_far.within in omega (arith, room, within)
-
--- the bytes of a line in their place
-placed : (start end : ℕ) (bytes block behind : List ℕ) → start ≤ length bytes → start + length block ≡ end → take end (take start bytes ++ (block ++ behind)) ≡ take start bytes ++ block
-placed start end bytes block behind within is =
-    let front = take start bytes in
-    let len : end ≡ length (front ++ block) = omega (arith, length-append front block, length-take-le start bytes within, is) in
-    ap (λ n. take n (front ++ (block ++ behind))) len ∙ ap (take (length (front ++ block))) (sym (append_assoc front block behind)) ∙ take-append_seam (front ++ block) behind
-
-pub decoding_next : (text line : List ℕ) (lines : List (List ℕ)) (start end : ℕ) (bytes block : List ℕ) → end ≡ start + length line / 2 → Decoding text (line ∷ lines) start bytes
-    → decode_of line ≡ Ok block → (length line % 2 ≡ 1 → ⊥) → Decoding text lines end (take start bytes ++ (block ++ drop (end - start) (drop start bytes)))
-decoding_next text line lines start end bytes block is_end so_far is even =
-    let room = so_far.room in
-    let within = so_far.within in
-    let pairs : decode_pairs 0 line ≡ Ok block = sym (decode_of-even line (omega (arith, even))) ∙ is in
-    let twice = (decode_pairs-ok 0 line block pairs).1 in
-    let front = take start bytes in
-    let behind = drop (end - start) (drop start bytes) in
-    let size_is : start + length block ≡ end = omega (arith, twice, is_end) in
-    let fits : end ≤ length bytes = omega (arith, room, within, is_end) in
-    let lengths : length (front ++ (block ++ behind)) ≡ length bytes =
-    omega (arith, fits, size_is, length-append front (block ++ behind), length-append block behind, length-drop (end - start) (drop start bytes), length-drop start bytes, length-take-le start bytes (omega (arith, fits, size_is))) in
-    record {
-      room = lengths ∙ room;
-      within = omega (arith, within, is_end);
-      spells = λ more rest. subst (Spells text)
-          (sym (append_assoc front block more) ∙ ap (λ bs. bs ++ more) (sym (placed start end bytes block behind (omega (arith, fits, size_is)) size_is)))
-          (so_far.spells (block ++ more) (λ i. ap (λ ds. decode_pairs i (ds ++ digits_of_lines lines)) (digits_decoded line block pairs)
-          ∙ pairs_more 0 i line (digits_of_lines lines) block more pairs rest));
-    }
-
-pub decoding_end : (text : List ℕ) (end : ℕ) (bytes : List ℕ) → Decoding text [] end bytes → decoded text ≡ Ok (take end bytes)
+pub decoding_end : (text bytes : List ℕ) → Decoding text [] bytes → decoded text ≡ Ok bytes
 unfolding decode_pairs
-decoding_end text end bytes all = spelled text (take end bytes) (subst (Spells text) (append-nil (take end bytes)) (all.spells [] (λ i. refl)))
+decoding_end text bytes all = spelled text bytes (subst (Spells text) (append-nil bytes) (all [] (λ i. refl)))

@@ -1,5 +1,5 @@
 //! Hexadecimal text.
-ghost use Rattle.std.specs.Prelude.{◌≡◌, ◌*◌, length, IfOk, IfErr, IfSome, IsErr, IsTrue, MatchOption};
+ghost use Rattle.std.specs.Prelude.{◌≡◌, ◌*◌, ◌%◌, drop, length, take, IfOk, IfErr, IfSome, IsErr, IsTrue, OnOk, Ok, MatchOption};
 ghost use Rattle.std.specs.List.{position};
 ghost use Rattle.pmg_wire.specs.Reading.{FailsReading};
 ghost use Rattle.hex.specs.Hex.{decode_of};
@@ -59,18 +59,26 @@ fn bytes_of(alloc: Global, digits: &[u8]) -> Result<Option<Vec<u8>>, AllocError>
 fn decode_lines(alloc: Global, text: &[u8]) -> Result<Option<Vec<u8>>, AllocError>
     ensures { IfOk result (λ found. IfSome found (λ bytes. decoded text.now ≡ Ok bytes.items)) }
 {
-    let mut bytes = vec![in alloc; 0; text.len() / 2]?;
-    let mut end = 0;
+    let mut bytes = Vec::with_capacity(alloc, text.len() / 2)?;
     for line in text.lines() {
-        let start = end;
-        end += line.len() / 2;
-        if line.len() % 2 == 1 || !decode_line(line, &mut bytes[start..end]) {
+        if !push_line(&mut bytes, line)? {
             return Ok(None);
         }
     }
-    bytes.truncate(end);
     bytes.shrink_to_fit();
     Ok(Some(bytes))
+}
+
+/// Puts the bytes that a line spells after the others, and says whether it is an even number of digits. Where it is not, what comes
+/// after the others says nothing.
+fn push_line(bytes: &mut Vec<u8>, line: &[u8]) -> Result<bool, AllocError>
+    ensures others { OnOk result (take (length bytes.old.items) bytes.new.items ≡ bytes.old.items) }
+    ensures line { IfOk result (λ is_spelled. IsTrue is_spelled → decode_of line.now ≡ Ok (drop (length bytes.old.items) bytes.new.items)) }
+    ensures even { IfOk result (λ is_spelled. IsTrue is_spelled → length line.now % 2 ≡ 0) }
+{
+    let start = bytes.len();
+    bytes.resize(start + line.len() / 2, 0)?;
+    Ok(line.len() % 2 == 0 && decode_line(line, &mut bytes[start..]))
 }
 
 /// Decodes digits, two for each of these bytes, and says whether all of them are digits.
