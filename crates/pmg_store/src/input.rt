@@ -7,6 +7,7 @@ ghost use Rattle.pmg_store.specs.Input.{input_of, too_much_input};
 ghost use Rattle.pmg_store.specs.Outcomes.{GivesInput, or_failure};
 
 use crate::failure::Failure;
+use memchr::memchr;
 use pmg_value::{Cause, Fault, Refusal};
 use std::alloc::Global;
 use std::io;
@@ -133,7 +134,7 @@ fn len_through(bytes: &[u8], byte: u8) -> usize
     ensures some { 0 < length bytes.now → 0 < result }
     ensures before { StopsAt (take result bytes.now) byte }
 {
-    match bytes.iter().position(|it| *it == byte) {
+    match memchr(byte, bytes) {
         Some(at) => at + 1,
         None => bytes.len(),
     }
