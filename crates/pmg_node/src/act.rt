@@ -21,7 +21,7 @@ pub enum Request {
     Enter(Proc, Vec<Proc>, bool),
     /// The process leaves the fence that it is released from.
     Leave(Proc),
-    /// The process asks for a key of the target.
+    /// The process asks, in that mode, for a key of the target.
     Ask(Mode, Proc, Proc, Key),
     /// The process takes the answer of the get that it waited for.
     Take(Proc),
