@@ -2,6 +2,7 @@
 #![tactic(auto)]
 
 mod asks;
+mod comparing;
 mod fence_name;
 mod fence_reading;
 mod frame;

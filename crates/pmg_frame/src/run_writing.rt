@@ -1,10 +1,9 @@
 //! Participants as runs: how they are written.
-ghost use Rattle.std.specs.Prelude.{◌≡◌, ◌+◌, ◌*◌, ◌<◌, ◌≤◌, ◌++◌, false, length, slice_get, Some, IfOk, OnOk, IsTrue};
+ghost use Rattle.std.specs.Prelude.{◌≡◌, ◌+◌, ◌*◌, ◌<◌, ◌≤◌, ◌++◌, length, slice_get, Some, IfOk, OnOk, IsTrue};
 ghost use Rattle.std.specs.List.{flat_map, list_all};
 ghost use Rattle.std.specs.List.Sorted.{IsStrictlySortedBy};
 ghost use Rattle.pmg_value.specs.Names.{is_nspace};
-ghost use Rattle.pmg_value.specs.Process.{proc_cmp, is_same_proc};
-ghost use Rattle.std.specs.Option.{option_map, unwrap_or};
+ghost use Rattle.pmg_value.specs.Process.{proc_cmp};
 ghost use Rattle.pmg_frame.specs.Runs.{proc_ranks, run, runs_of, IsFirstRun};
 ghost use Rattle.pmg_frame.specs.Grammar.{IsName, IsFenceAsk};
 ghost use Rattle.pmg_frame.specs.RunSpelling.{run_spelling, short_name, short_fence_ask};
@@ -12,6 +11,7 @@ ghost use Rattle.pmg_frame.specs.Versions.{head_spelling};
 ghost use Rattle.pmg_frame.specs.declared.signature.TheConstants.{MAX_PARTICIPANTS};
 
 use crate::asks::FenceAsk;
+use crate::comparing::goes_to;
 use crate::fence_name::FenceName;
 use crate::frame::HEAD_SIZE;
 use crate::writing::{proc_size, put_flag, put_head, put_node};
@@ -19,26 +19,6 @@ use bytes::BytesMut;
 use pmg_value::Proc;
 use pmg_wire::put_proc;
 use std::alloc::{AllocError, Global};
-
-// Whether it is the process so far behind the first one: its rank is so much higher in the same namespace.
-fn is_behind(process: &Proc, first: &Proc, distance: usize) -> bool
-    requires { distance ≤ 8192 }
-    ensures { result ≡ is_same_proc process.now (proc_ranks.at first.now (first.now.rank + distance)) }
-{
-    process.nspace == first.nspace
-        && process.rank.number() as u64 == first.rank.number() as u64 + distance as u64
-}
-
-// Whether the process that goes on from the first one stands so far behind it.
-fn goes_to(first: &Proc, procs: &[Proc], distance: usize) -> bool
-    requires { distance ≤ 8192 }
-    ensures { result ≡ unwrap_or (option_map (λ p. is_same_proc p (proc_ranks.at first.now (first.now.rank + distance))) (slice_get procs.now distance)) false }
-{
-    match procs.get(distance) {
-        None => false,
-        Some(process) => is_behind(process, first, distance),
-    }
-}
 
 // How far the first run goes at least, and how far behind that it has ended.
 fn far_ends(first: &Proc, procs: &[Proc]) -> (usize, usize)

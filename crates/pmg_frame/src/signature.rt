@@ -11,6 +11,7 @@ ghost use Rattle.std.proofs.Common.{refl};
 ghost use Rattle.std.proofs.lemmas.Cmp.{eq_by_cmp_equiv};
 ghost use Rattle.pmg_frame.specs.FenceOrder.{signature_cmp, signature_total};
 
+use crate::comparing::compare;
 use pmg_value::{Copied, Proc, Refusal, copy_all};
 use std::alloc::{AllocError, Global};
 use std::cmp::Ordering;
@@ -211,7 +212,7 @@ impl Ord for Signature {
     ghost matches_eq = { λ _ _. refl };
 
     fn cmp(&self, other: &Signature) -> Ordering {
-        let participants = self.participants().cmp(other.participants());
+        let participants = compare(self.participants(), other.participants());
         participants.then(self.collect.cmp(&other.collect))
     }
 }
