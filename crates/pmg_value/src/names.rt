@@ -76,7 +76,7 @@ pub fn is_key_text(key: &[u8]) -> bool
 pub fn is_reserved_name(name: &[u8]) -> bool
     ensures { result ≡ is_reserved name.now }
 {
-    name.starts_with(b"pmix")
+    matches!(name, [b'p', b'm', b'i', b'x', ..])
 }
 
 impl Nspace {
