@@ -1,9 +1,10 @@
 -- What own processes sealed, and what stands under one of them.
-use Rattle.std.proofs.Common.{◌≡◌, Bool, true, false, ◌&&◌, cond, List, [], ◌∷◌, ◌++◌, map, Option, Some, None, is_some, IsSome, refl, sym, ap, ◌∙◌, MutBor}
+use Rattle.std.proofs.Common.{◌≡◌, Bool, true, false, ◌&&◌, cond, List, [], ◌∷◌, ◌++◌, map, Option, Some, None, is_some, IsSome, Result, Ok, Err, OnOk, OnErr, refl, sym, ap, subst, ◌∙◌, MutBor}
 use Rattle.std.specs.List.{list_all}
 use Rattle.std.specs.FinMap as finite
 use Rattle.std.specs.BTreeMap.{is_at}
 use Rattle.std.specs.Cmp.{eq_by_cmp_equiv}
+use Rattle.std.specs.Ordering.{eq_by_cmp}
 use Rattle.std.specs.Option.{option_copied_mut, unwrap_or}
 use Rattle.std.proofs.lemmas.Bool.{false≢true}
 use Rattle.pmg_value.specs.declared.process.Proc.{Proc}
@@ -11,8 +12,9 @@ use Rattle.pmg_value.specs.Process.{proc_cmp}
 use Rattle.pmg_value.specs.Rows.{map_of}
 use Rattle.pmg_value.proofs.ProcessOrder.{procs_total, exact_procs}
 use Rattle.pmg_value.proofs.RowLemmas.{at_key, found_there, get-map_of, insert_same, kept_is, put_found, rows_with}
-use Rattle.pmg_commit.specs.Sealed.{Sealed, fresh}
-use Rattle.pmg_node_parts.specs.Sealers.{AllSealed, sealed_by, with_fresh}
+use Rattle.pmg_scope.specs.Cached.{Unsealed}
+use Rattle.pmg_commit.specs.Sealed.{Sealed, fresh, sealed_with}
+use Rattle.pmg_node_parts.specs.Sealers.{AllSealed, sealed_by, NoneEnded, with_fresh}
 
 -- what was put there is there
 pub sealed-insert : (all : AllSealed) (p : Proc) (z : Sealed) → sealed_by (finite.insert all p z) p ≡ z
@@ -42,6 +44,30 @@ resealed old all p view o kept some value new now updates =
       now_there = ap (λ (m : AllSealed). sealed_by m p) put ∙ sealed-insert all p now;
       same = λ is. put ∙ insert_same procs_total exact_procs all p now (there ∙ ap Some (sym is));
     }
+
+-- ---- none of them has ended
+
+-- where there is none
+pub none_of_nothing : (rows : List (Proc × Sealed)) → rows ≡ [] → NoneEnded (map_of rows)
+none_of_nothing rows empty q = ap (λ (o : Option Sealed). (unwrap_or o (fresh q)).ended) (get-map_of procs_total rows q ∙ ap (at_key proc_cmp q) empty)
+
+-- with one more that has not
+pub none_with : (all : AllSealed) (p : Proc) (z : Sealed) → NoneEnded all → z.ended ≡ false → NoneEnded (finite.insert all p z)
+none_with all p z none alive q = ap (λ (o : Option Sealed). (unwrap_or o (fresh q)).ended) (finite.get-insert procs_total all p z q) ∙ either (eq_by_cmp proc_cmp q p)
+  where
+    either : (b : Bool) → (unwrap_or (cond b (Some z) (finite.get all q)) (fresh q)).ended ≡ false
+    either true = alive
+    either false = none q
+
+-- after a commit, which ends nobody
+pub none_committed : {T E : Type 0} (r : Result T E) (all new : AllSealed) (p : Proc) (was now : Sealed) (b : Unsealed) → IsResealed all new p was now
+    → OnOk r (now ≡ sealed_with was b) → OnErr r (now ≡ was) → NoneEnded all → NoneEnded new
+none_committed r all new p was now b its ok err none =
+    subst NoneEnded (sym its.put) (none_with all p now none (kept r ok err ∙ ap (λ (z : Sealed). z.ended) (sym its.was_there) ∙ none p))
+  where
+    kept : {T E : Type 0} (r : Result T E) → OnOk r (now ≡ sealed_with was b) → OnErr r (now ≡ was) → now.ended ≡ was.ended
+    kept (Ok _) ok err = ap (λ (z : Sealed). z.ended) ok
+    kept (Err _) ok err = ap (λ (z : Sealed). z.ended) err
 
 -- one more that made no commit
 pub fresh_snoc : (ps : List Proc) (p : Proc) (all : AllSealed) → with_fresh (ps ++ p ∷ []) all ≡ with_fresh ps (finite.insert all p (fresh p))

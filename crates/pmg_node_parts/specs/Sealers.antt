@@ -1,5 +1,5 @@
 -- What own processes sealed, as a node keeps it.
-use Rattle.std.specs.Prelude.{List, [], ◌∷◌, map}
+use Rattle.std.specs.Prelude.{◌≡◌, false, List, [], ◌∷◌, map}
 use Rattle.std.specs.Coded.{Coded}
 use Rattle.std.specs.FinMap as finite
 use Rattle.std.specs.Option.{unwrap_or}
@@ -23,6 +23,10 @@ all_fresh procs = map_of (map (λ p. (p, fresh p)) procs)
 -- what the process sealed
 abbrev pub sealed_by : AllSealed → Proc → Sealed
 sealed_by all p = unwrap_or (finite.get all p) (fresh p)
+
+-- none of them has ended
+abbrev pub NoneEnded : AllSealed → Type 0
+NoneEnded all = (p : Proc) → (sealed_by all p).ended ≡ false
 
 -- these processes too made no commit
 abbrev pub with_fresh : List Proc → AllSealed → AllSealed

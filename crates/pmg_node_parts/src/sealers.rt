@@ -16,21 +16,25 @@ use std::alloc::{AllocError, Global};
 use std::collections::BTreeMap;
 use std::marker::Model;
 
-/// What each own process of a node sealed.
+/// What each own process of a node sealed. Whether one of them may have ended is kept beside, so that mostly none is looked up for that.
 #[derive(Drop)]
 pub struct Sealers {
     rows: BTreeMap<Proc, Sealer>,
+    any_ended: bool,
 }
 
 impl Model for Sealers {
+    ghost use Rattle.std.specs.Prelude.{◌≡◌, false};
     ghost use Rattle.pmg_value.specs.Rows.{map_of};
-    ghost use Rattle.pmg_node_parts.specs.Sealers.{AllSealed, coded_all_sealed};
+    ghost use Rattle.pmg_node_parts.specs.Sealers.{AllSealed, coded_all_sealed, NoneEnded};
 
     ghost Value = { AllSealed };
 
     ghost coded = { coded_all_sealed };
 
     ghost view = { λ a. map_of a.rows.entries };
+
+    ghost invariant = { λ a. a.any_ended ≡ false → NoneEnded (map_of a.rows.entries) };
 }
 
 impl Sealers {
@@ -40,6 +44,7 @@ impl Sealers {
     {
         Sealers {
             rows: BTreeMap::new(alloc),
+            any_ended: false,
         }
     }
 
@@ -48,6 +53,7 @@ impl Sealers {
         ensures ok { OnOk result (self.new ≡ finite.insert self.old proc.now sealer) }
         ensures err { OnErr result (self.new ≡ self.old) }
     {
+        self.any_ended = self.any_ended || sealer.has_ended();
         self.rows.insert(proc.copy()?, sealer)?;
         Ok(())
     }
@@ -75,6 +81,9 @@ impl Sealers {
     pub fn has_ended(&self, proc: &Proc) -> bool
         ensures { result ≡ (sealed_by self.now proc.now).ended }
     {
+        if !self.any_ended {
+            return false;
+        }
         match self.get(proc) {
             Some(sealer) => sealer.has_ended(),
             None => false,
@@ -114,6 +123,7 @@ impl Sealers {
         ensures ok { OnOk result (self.new ≡ finite.insert self.old proc.now (end_of (sealed_by self.old proc.now))) }
         ensures err { OnErr result (self.new ≡ self.old) }
     {
+        self.any_ended = true;
         if let Some(sealer) = self.rows.get_mut(proc) {
             return sealer.end();
         }
@@ -126,6 +136,7 @@ impl Sealers {
         requires fits { CanRollBack (sealed_by self.old proc.now) before }
         ensures { self.new ≡ finite.insert self.old proc.now (sealer_back (sealed_by self.old proc.now) before) }
     {
+        self.any_ended = true;
         if let Some(sealer) = self.rows.get_mut(proc) {
             sealer.rollback(before);
         }
