@@ -7,16 +7,17 @@ use pmg_commands::{FAILED, conclude, finish};
 use pmg_script::Ended;
 use pmg_store::{Failure, MOST_READS, WatchedReader};
 use pmg_value::WatchedWriter;
-use pmg_world::replay;
+use pmg_world::{Stage, replay};
 use std::alloc::Global;
 use std::io::{BufRead, Write};
+use std::mem;
 
 /// Reads a script line by line, does each line and prints its reply, and answers the status.
 ///
 /// A reply is printed before the next line is read. Status 1 where the nodes of the script were refused, for a line that
 /// is none, a script that is too long, a read fault and a write fault, 3 where an allocation failed. A fault of the script,
 /// a read fault and an allocation that failed print a line after the replies; where the writer fails, nothing more is
-/// printed.
+/// printed. The stage on which the lines are done is not dropped: the program ends after its script.
 pub fn run_replay<R: BufRead, W: Write>(
     alloc: Global,
     reader: &mut WatchedReader<R>,
@@ -29,7 +30,10 @@ pub fn run_replay<R: BufRead, W: Write>(
     ensures few { reader.new.reads ≤ reader.old.reads + MOST_READS }
     ensures status { IsStatus result }
 {
-    let ended = replay(alloc, reader, writer);
+    let mut stage = Stage::new(alloc);
+    let ended = replay(alloc, &mut stage, reader, writer);
+    // The program ends now, and what it holds goes back as a whole: to take a long script's events apart takes a tenth of the time.
+    mem::forget(stage);
     conclude_script(writer, ended)
 }
 

@@ -144,11 +144,11 @@ alone line left = do
 -- what a line says that begins with the word
 unfoldable pub said_with : List ℕ → Left → Option Line
 said_with word left =
-    if bytes_eq word (codes "put") then put_in left
+    if bytes_eq word (codes "get") then get_in left
+    else if bytes_eq word (codes "put") then put_in left
     else if bytes_eq word (codes "commit") then proc_in Line.commit left
     else if bytes_eq word (codes "enter") then enter_in left
     else if bytes_eq word (codes "leave") then proc_in Line.leave left
-    else if bytes_eq word (codes "get") then get_in left
     else if bytes_eq word (codes "take") then proc_in Line.take left
     else if bytes_eq word (codes "end") then proc_in Line.end left
     else if bytes_eq word (codes "deliver") then number_alone Line.deliver left

@@ -70,7 +70,7 @@ fn value_of(digits: &[u8]) -> u64
 fn rank_of(word: &[u8]) -> Result<Rank, LineFault>
     ensures { ReadsAllWords (λ r. r) result (rank_in word.now) }
 {
-    if word == b"*".as_slice() {
+    if matches!(word, b"*") {
         return Ok(Rank::WILDCARD);
     }
     let number = number_of(word)?;

@@ -12,6 +12,7 @@ use pmg_store::{Failure, INPUT_LIMIT, MOST_READS, WatchedReader};
 use pmg_value::{Cause, Refusal, WatchedWriter};
 use std::alloc::Global;
 use std::io::{BufRead, Write};
+use std::mem;
 
 /// How a script ended that was no fault.
 #[derive(Clone, Copy, Debug, PartialEq, Eq)]
@@ -33,9 +34,9 @@ pub trait Player {
     /// After which states no line is done.
     ghost over: { Self → Bool };
 
-    /// Does a line, by its content, and answers with the text of its reply. A line is malformed that has no form of a script's lines,
-    /// and so is one that stands out of order.
-    fn play(&mut self, line: &[u8]) -> Result<Vec<u8>, LineFault>
+    /// Does a line, by its content, and answers with the text of its reply, for which the room of an earlier one may serve. A line is
+    /// malformed that has no form of a script's lines, and so is one that stands out of order.
+    fn play(&mut self, line: &[u8], room: Vec<u8>) -> Result<Vec<u8>, LineFault>
         ensures ok { IfOk result (λ text. plays self.old line.now text.items self.new) }
         ensures malformed { result ≡ Err faults.Malformed → stops self.old line.now };
 
@@ -62,11 +63,14 @@ fn failure_of(fault: LineFault, offset: usize) -> Failure
     }
 }
 
-/// Does the next line, which begins at this byte of the script, and writes its reply. The line is read into this list.
+/// Does the next line, which begins at this byte of the script, and writes its reply. The line is read into the one list, and the
+/// reply is written into the other.
 fn turn<P: Player, R: BufRead, W: Write>(
+    alloc: Global,
     reader: &mut WatchedReader<R>,
     offset: &mut usize,
     line: &mut Vec<u8>,
+    reply: &mut Vec<u8>,
     player: &mut P,
     writer: &mut WatchedWriter<W>,
 ) -> Result<Option<Ended>, Failure>
@@ -85,11 +89,12 @@ fn turn<P: Player, R: BufRead, W: Write>(
     if line.is_empty() {
         return Ok(Some(Ended::AtEnd));
     }
-    let reply = match player.play(content(line)) {
-        Ok(reply) => reply,
+    let room = mem::replace(reply, Vec::new(alloc));
+    *reply = match player.play(content(line), room) {
+        Ok(text) => text,
         Err(fault) => return Err(failure_of(fault, *offset)),
     };
-    writer.put_text(&reply)?;
+    writer.put_text(reply)?;
     if player.is_over() {
         return Ok(Some(Ended::Over));
     }
@@ -121,8 +126,18 @@ pub fn play_script<P: Player, R: BufRead, W: Write>(
 {
     let mut offset = 0;
     let mut line = Vec::new(alloc);
+    let mut reply = Vec::new(alloc);
     for _ in 0..MOST_READS {
-        if let Some(ended) = turn(reader, &mut offset, &mut line, player, writer)? {
+        let ended = turn(
+            alloc,
+            reader,
+            &mut offset,
+            &mut line,
+            &mut reply,
+            player,
+            writer,
+        )?;
+        if let Some(ended) = ended {
             return Ok(ended);
         }
     }

@@ -69,11 +69,11 @@ fn read_rest<'a>(alloc: Global, word: &[u8], words: &mut Words<'a>) -> Result<Li
     ensures { ReadsAllWords line_of result (said_with word.now words.old) }
 {
     match word {
+        _ if word == b"get".as_slice() => read_get(words),
         _ if word == b"put".as_slice() => read_put(alloc, words),
         _ if word == b"commit".as_slice() => read_commit(words),
         _ if word == b"enter".as_slice() => read_enter(alloc, words),
         _ if word == b"leave".as_slice() => read_leave(words),
-        _ if word == b"get".as_slice() => read_get(words),
         _ if word == b"take".as_slice() => read_take(words),
         _ if word == b"end".as_slice() => read_end(words),
         _ if word == b"deliver".as_slice() => read_deliver(words),

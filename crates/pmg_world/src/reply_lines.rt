@@ -1,4 +1,4 @@
-//! The reply lines of a script, in memory.
+//! The reply lines of a script, in memory: each is written into the room of one before, in the place of what stands there.
 ghost use Rattle.std.specs.Prelude.{◌≡◌, ◌++◌, Bool, codes, decimal, IfOk, OnOk};
 ghost use Rattle.std.specs.List.{flat_map};
 ghost use Rattle.pmg_value.specs.RefusalText.{refusal_text};
@@ -12,31 +12,28 @@ ghost use Rattle.pmg_world.specs.ReplyLines.{proc_text, list_text, found_text, c
 
 use pmg_node::Reply;
 use pmg_value::{Proc, Refusal, Value, WatchedWriter, WriteFault, push_number};
-use std::alloc::{AllocError, Global};
-
-/// The room that a line has from its start: most lines are no longer.
-const USUAL_LEN: usize = 64;
+use std::alloc::AllocError;
 
 /// The line of a reply; whether a set's deletion was asked for.
 pub fn reply_line(
-    alloc: Global,
+    room: Vec<u8>,
     deletes: bool,
     reply: &Result<Reply, Refusal>,
 ) -> Result<Vec<u8>, AllocError>
     ensures { IfOk result (λ line. line.items ≡ reply_line deletes (reply_in reply_as reply.now)) }
 {
     match reply {
-        Ok(answer) => answer_line(alloc, deletes, answer),
-        Err(refusal) => refusal_line(alloc, refusal),
+        Ok(answer) => answer_line(room, deletes, answer),
+        Err(refusal) => refusal_line(room, refusal),
     }
 }
 
 /// The line of a refusal.
 #[tactic(auto, unfolding(crate::specs::ReplyLines::reply_line))]
-pub fn refusal_line(alloc: Global, refusal: &Refusal) -> Result<Vec<u8>, AllocError>
+pub fn refusal_line(room: Vec<u8>, refusal: &Refusal) -> Result<Vec<u8>, AllocError>
     ensures { IfOk result (λ line. (deletes : Bool) → line.items ≡ reply_line deletes (ModelReply.refused refusal.now)) }
 {
-    let words = line_of(alloc, b"refused ")?;
+    let words = line_of(room, b"refused ")?;
     let mut line = with_refusal(words, refusal)?;
     end_line(&mut line)?;
     Ok(line)
@@ -55,22 +52,22 @@ fn with_refusal(line: Vec<u8>, refusal: &Refusal) -> Result<Vec<u8>, AllocError>
 
 /// The line of a reply that is no refusal.
 #[tactic(auto, unfolding(crate::specs::ReplyLines::reply_line))]
-fn answer_line(alloc: Global, deletes: bool, reply: &Reply) -> Result<Vec<u8>, AllocError>
+fn answer_line(room: Vec<u8>, deletes: bool, reply: &Reply) -> Result<Vec<u8>, AllocError>
     ensures { IfOk result (λ line. line.items ≡ reply_line deletes (reply_as reply.now)) }
 {
     match reply {
-        Reply::Done => line_of(alloc, b"ok\n"),
-        Reply::Committed(number) => number_line(alloc, b"commit ", *number),
-        Reply::Entered(instance) => number_line(alloc, b"entered ", *instance),
-        Reply::Idle => line_of(alloc, b"idle\n"),
-        Reply::Waiting => line_of(alloc, b"waiting\n"),
-        Reply::Released(instance, gone) => released_line(alloc, *instance, gone),
-        Reply::Found(value) => found_line(alloc, value),
-        Reply::Parked => line_of(alloc, b"parked\n"),
-        Reply::Taken => line_of(alloc, b"delivered 1\n"),
-        Reply::Ignored => line_of(alloc, b"delivered 1\n"),
-        Reply::Ended(number) => number_line(alloc, b"ended ", *number),
-        Reply::Defined(number) => number_line(alloc, change_text(deletes), *number),
+        Reply::Done => line_of(room, b"ok\n"),
+        Reply::Committed(number) => number_line(room, b"commit ", *number),
+        Reply::Entered(instance) => number_line(room, b"entered ", *instance),
+        Reply::Idle => line_of(room, b"idle\n"),
+        Reply::Waiting => line_of(room, b"waiting\n"),
+        Reply::Released(instance, gone) => released_line(room, *instance, gone),
+        Reply::Found(value) => found_line(room, value),
+        Reply::Parked => line_of(room, b"parked\n"),
+        Reply::Taken => line_of(room, b"delivered 1\n"),
+        Reply::Ignored => line_of(room, b"delivered 1\n"),
+        Reply::Ended(number) => number_line(room, b"ended ", *number),
+        Reply::Defined(number) => number_line(room, change_text(deletes), *number),
     }
 }
 
@@ -82,10 +79,11 @@ fn change_text(deletes: bool) -> &'static [u8]
 }
 
 /// A line that begins so.
-fn line_of(alloc: Global, text: &[u8]) -> Result<Vec<u8>, AllocError>
+fn line_of(room: Vec<u8>, text: &[u8]) -> Result<Vec<u8>, AllocError>
     ensures { IfOk result (λ line. line.items ≡ text.now) }
 {
-    let mut line = Vec::with_capacity(alloc, USUAL_LEN)?;
+    let mut line = room;
+    line.clear();
     line.extend_from_slice(text)?;
     Ok(line)
 }
@@ -98,20 +96,20 @@ fn end_line(line: &mut Vec<u8>) -> Result<(), AllocError>
 }
 
 /// The line of a number, after these words.
-fn number_line(alloc: Global, words: &[u8], number: u64) -> Result<Vec<u8>, AllocError>
+fn number_line(room: Vec<u8>, words: &[u8], number: u64) -> Result<Vec<u8>, AllocError>
     ensures { IfOk result (λ line. line.items ≡ words.now ++ (decimal number ++ codes "\n")) }
 {
-    let mut line = line_of(alloc, words)?;
+    let mut line = line_of(room, words)?;
     push_number(&mut line, number)?;
     end_line(&mut line)?;
     Ok(line)
 }
 
 /// The line of a release.
-fn released_line(alloc: Global, instance: u64, gone: &[Proc]) -> Result<Vec<u8>, AllocError>
+fn released_line(room: Vec<u8>, instance: u64, gone: &[Proc]) -> Result<Vec<u8>, AllocError>
     ensures { IfOk result (λ line. line.items ≡ codes "released " ++ (decimal instance ++ (codes " gone " ++ (list_text gone.now ++ codes "\n")))) }
 {
-    let mut line = line_of(alloc, b"released ")?;
+    let mut line = line_of(room, b"released ")?;
     push_number(&mut line, instance)?;
     line.extend_from_slice(b" gone ")?;
     push_list(&mut line, gone)?;
@@ -120,10 +118,10 @@ fn released_line(alloc: Global, instance: u64, gone: &[Proc]) -> Result<Vec<u8>,
 }
 
 /// The line of a value.
-fn found_line(alloc: Global, value: &Value) -> Result<Vec<u8>, AllocError>
+fn found_line(room: Vec<u8>, value: &Value) -> Result<Vec<u8>, AllocError>
     ensures { IfOk result (λ line. line.items ≡ codes "found " ++ (found_text (whole_value (spelling value.now)) ++ codes "\n")) }
 {
-    let words = line_of(alloc, b"found ")?;
+    let words = line_of(room, b"found ")?;
     let mut line = with_value(words, value)?;
     end_line(&mut line)?;
     Ok(line)
@@ -143,18 +141,18 @@ fn with_value(line: Vec<u8>, value: &Value) -> Result<Vec<u8>, AllocError>
 
 /// The line that says how many frames were delivered.
 #[tactic(auto, unfolding(crate::specs::ReplyLines::flow_line))]
-pub fn flow_line(alloc: Global, count: u64) -> Result<Vec<u8>, AllocError>
+pub fn flow_line(room: Vec<u8>, count: u64) -> Result<Vec<u8>, AllocError>
     ensures { IfOk result (λ line. line.items ≡ flow_line count) }
 {
-    number_line(alloc, b"delivered ", count)
+    number_line(room, b"delivered ", count)
 }
 
 /// The line that tells the members of a set.
 #[tactic(auto, unfolding(crate::specs::ReplyLines::members_line))]
-pub fn members_line(alloc: Global, members: &[Proc]) -> Result<Vec<u8>, AllocError>
+pub fn members_line(room: Vec<u8>, members: &[Proc]) -> Result<Vec<u8>, AllocError>
     ensures { IfOk result (λ line. line.items ≡ members_line members.now) }
 {
-    let mut line = line_of(alloc, b"members ")?;
+    let mut line = line_of(room, b"members ")?;
     push_list(&mut line, members)?;
     end_line(&mut line)?;
     Ok(line)

@@ -122,26 +122,31 @@ impl Scene {
 
     /// What is asked of the world is done, and answered with the text of its reply.
     #[tactic(auto, unfolding(crate::specs::Stages::Performs))]
-    pub(crate) fn perform(&mut self, alloc: Global, asked: LineAsk) -> Result<Vec<u8>, AllocError>
+    pub(crate) fn perform(
+        &mut self,
+        alloc: Global,
+        room: Vec<u8>,
+        asked: LineAsk,
+    ) -> Result<Vec<u8>, AllocError>
         ensures { IfOk result (λ text. Performs self.old (asked_of asked) text.items self.new) }
     {
         match asked {
-            LineAsk::Event(event) => self.happen(alloc, event),
-            LineAsk::Unnamed => refusal_line(alloc, &Refusal::BadParam),
+            LineAsk::Event(event) => self.happen(room, event),
+            LineAsk::Unnamed => refusal_line(room, &Refusal::BadParam),
             LineAsk::Flow => self.flow(alloc),
-            LineAsk::Members(node, name) => self.members(alloc, node, &name),
-            LineAsk::Dump(node) => self.dump(alloc, node),
+            LineAsk::Members(node, name) => self.members(alloc, room, node, &name),
+            LineAsk::Dump(node) => self.dump(alloc, room, node),
         }
     }
 
     /// The event happens, and is answered with the line of its reply.
-    fn happen(&mut self, alloc: Global, event: Event) -> Result<Vec<u8>, AllocError>
+    fn happen(&mut self, room: Vec<u8>, event: Event) -> Result<Vec<u8>, AllocError>
         ensures { IfOk result (λ text. AnswersLine self.old (event_of event) text.items self.new) }
     {
         let deletes = is_deletion(&event);
         self.world.step(event)?;
         match self.world.events().last() {
-            Some(told) => reply_line(alloc, deletes, &told.answer),
+            Some(told) => reply_line(room, deletes, &told.answer),
             None => unreachable!(),
         }
     }
@@ -154,7 +159,7 @@ impl Scene {
         let count = self.world.sent().len() as u64;
         let events = self.delivered.missing(alloc, count)?;
         match self.world.run(&events) {
-            Ok(()) => flow_line(alloc, events.len() as u64),
+            Ok(()) => flow_line(Vec::new(alloc), events.len() as u64),
             Err(_) => Err(AllocError),
         }
     }
@@ -170,25 +175,31 @@ impl Scene {
     }
 
     /// The members of the set, as the node knows them.
-    fn members(&self, alloc: Global, node: u64, name: &Key) -> Result<Vec<u8>, AllocError>
+    fn members(
+        &self,
+        alloc: Global,
+        room: Vec<u8>,
+        node: u64,
+        name: &Key,
+    ) -> Result<Vec<u8>, AllocError>
         ensures { IfOk result (λ text. text.items ≡ members_text (server_at self.now node) name.now) }
     {
         let Some(node) = self.node(node) else {
-            return refusal_line(alloc, &Refusal::BadParam);
+            return refusal_line(room, &Refusal::BadParam);
         };
         match node.set_members(name) {
-            Ok(members) => members_line(alloc, &procs_of(alloc, members)?),
-            Err(refusal) => refusal_line(alloc, &refusal),
+            Ok(members) => members_line(room, &procs_of(alloc, members)?),
+            Err(refusal) => refusal_line(room, &refusal),
         }
     }
 
     /// The dump of what the node tells others.
-    fn dump(&self, alloc: Global, node: u64) -> Result<Vec<u8>, AllocError>
+    fn dump(&self, alloc: Global, room: Vec<u8>, node: u64) -> Result<Vec<u8>, AllocError>
         ensures { IfOk result (λ text. text.items ≡ dump_at (server_at self.now node)) }
     {
         match self.node(node) {
             Some(node) => dump_of(alloc, node.board().far()),
-            None => refusal_line(alloc, &Refusal::BadParam),
+            None => refusal_line(room, &Refusal::BadParam),
         }
     }
 }

@@ -44,27 +44,28 @@ impl Model for Stage {
 }
 
 /// The line of what was done.
-fn ok_line(alloc: Global) -> Result<Vec<u8>, AllocError>
+fn ok_line(room: Vec<u8>) -> Result<Vec<u8>, AllocError>
     ensures { IfOk result (λ line. line.items ≡ ok_line) }
 {
-    reply_line(alloc, false, &Ok(Reply::Done))
+    reply_line(room, false, &Ok(Reply::Done))
 }
 
 /// The line of a refusal; where an allocation failed there is none.
-fn line_of_refusal(alloc: Global, refusal: Refusal) -> Result<Vec<u8>, LineFault>
+fn line_of_refusal(room: Vec<u8>, refusal: Refusal) -> Result<Vec<u8>, LineFault>
     ensures line { IfOk result (λ line. line.items ≡ refused_line refusal) }
     ensures memory { IfOk result (λ _. refusal ≢ refusals.NoMemory) }
     ensures formed { result ≢ Err faults.Malformed }
 {
     match refusal {
         Refusal::NoMemory => Err(LineFault::NoMemory),
-        other => Ok(refusal_line(alloc, &other)?),
+        other => Ok(refusal_line(room, &other)?),
     }
 }
 
 /// Registers the namespace, and answers with the line of that.
 fn space_line(
     alloc: Global,
+    room: Vec<u8>,
     registry: &mut Registry,
     nspace: &[u8],
     homes: &[u64],
@@ -74,18 +75,23 @@ fn space_line(
 {
     match register_space(alloc, registry, nspace, homes) {
         Ok(()) => {}
-        Err(refusal) => return Ok(line_of_refusal(alloc, refusal)?),
+        Err(refusal) => return Ok(line_of_refusal(room, refusal)?),
     }
-    Ok(ok_line(alloc)?)
+    Ok(ok_line(room)?)
 }
 
 /// The world answers what the line asks of it.
-fn run_line(alloc: Global, scene: &mut Scene, line: Line<'_>) -> Result<Vec<u8>, LineFault>
+fn run_line(
+    alloc: Global,
+    room: Vec<u8>,
+    scene: &mut Scene,
+    line: Line<'_>,
+) -> Result<Vec<u8>, LineFault>
     ensures ok { IfOk result (λ text. Runs scene.old (line_of line.entry) text.items scene.new) }
     ensures malformed { result ≡ Err faults.Malformed → AsksNothing scene.old (line_of line.entry) }
 {
     let asked = ask(alloc, scene.registry(), line)?;
-    let text = scene.perform(alloc, asked)?;
+    let text = scene.perform(alloc, room, asked)?;
     Ok(text)
 }
 
@@ -101,7 +107,7 @@ impl Stage {
     }
 
     /// Opens the group with nodes of these names.
-    fn open(&mut self, names: &[&[u8]]) -> Result<Vec<u8>, LineFault>
+    fn open(&mut self, names: &[&[u8]], room: Vec<u8>) -> Result<Vec<u8>, LineFault>
         ensures ok { IfOk result (λ text. OpensAt self.old (texts names.now) text.items self.new) }
         ensures malformed { result ≡ Err faults.Malformed → (text : List ℕ) (v : AnyPhase) → OpensAt self.old (texts names.now) text v → ⊥ }
     {
@@ -111,10 +117,10 @@ impl Stage {
         match Registry::new(self.alloc, names) {
             Ok(registry) => {
                 self.phase = Phase::Registering(registry);
-                Ok(ok_line(self.alloc)?)
+                Ok(ok_line(room)?)
             }
             Err(refusal) => {
-                let reply = line_of_refusal(self.alloc, refusal)?;
+                let reply = line_of_refusal(room, refusal)?;
                 self.phase = Phase::Over;
                 Ok(reply)
             }
@@ -122,19 +128,24 @@ impl Stage {
     }
 
     /// Registers a namespace.
-    fn register(&mut self, nspace: &[u8], homes: &[u64]) -> Result<Vec<u8>, LineFault>
+    fn register(
+        &mut self,
+        nspace: &[u8],
+        homes: &[u64],
+        room: Vec<u8>,
+    ) -> Result<Vec<u8>, LineFault>
         ensures ok { IfOk result (λ text. RegistersAt self.old nspace.now homes.now text.items self.new) }
         ensures malformed { result ≡ Err faults.Malformed → (text : List ℕ) (v : AnyPhase) → RegistersAt self.old nspace.now homes.now text v → ⊥ }
     {
         match &mut self.phase {
-            Phase::Registering(registry) => space_line(self.alloc, registry, nspace, homes),
+            Phase::Registering(registry) => space_line(self.alloc, room, registry, nspace, homes),
             _ => Err(LineFault::Malformed),
         }
     }
 
     /// Starts the world, and does the first line that asks something of it. A call of its own, since a world that is made takes room.
     #[inline(never)]
-    fn start(&mut self, line: Line<'_>) -> Result<Vec<u8>, LineFault>
+    fn start(&mut self, line: Line<'_>, room: Vec<u8>) -> Result<Vec<u8>, LineFault>
         requires { (w : Account) → self.old ≡ phases.Running w → ⊥ }
         ensures ok { IfOk result (λ text. RunsAt self.old (line_of line.entry) text.items self.new) }
         ensures malformed { result ≡ Err faults.Malformed → (text : List ℕ) (v : AnyPhase) → RunsAt self.old (line_of line.entry) text v → ⊥ }
@@ -143,19 +154,19 @@ impl Stage {
             return Err(LineFault::Malformed);
         };
         let mut scene = Scene::new(self.alloc, registry)?;
-        let text = run_line(self.alloc, &mut scene, line)?;
+        let text = run_line(self.alloc, room, &mut scene, line)?;
         self.phase = Phase::Running(scene);
         Ok(text)
     }
 
     /// Does a line that asks something of the world, and starts it where it does not run.
-    fn run(&mut self, line: Line<'_>) -> Result<Vec<u8>, LineFault>
+    fn run(&mut self, line: Line<'_>, room: Vec<u8>) -> Result<Vec<u8>, LineFault>
         ensures ok { IfOk result (λ text. RunsAt self.old (line_of line.entry) text.items self.new) }
         ensures malformed { result ≡ Err faults.Malformed → (text : List ℕ) (v : AnyPhase) → RunsAt self.old (line_of line.entry) text v → ⊥ }
     {
         match &mut self.phase {
-            Phase::Running(scene) => run_line(self.alloc, scene, line),
-            _ => self.start(line),
+            Phase::Running(scene) => run_line(self.alloc, room, scene, line),
+            _ => self.start(line, room),
         }
     }
 }
@@ -167,12 +178,12 @@ impl Player for Stage {
 
     ghost over = { is_over };
 
-    fn play(&mut self, line: &[u8]) -> Result<Vec<u8>, LineFault> {
+    fn play(&mut self, line: &[u8], room: Vec<u8>) -> Result<Vec<u8>, LineFault> {
         match read_line(self.alloc, line)? {
             Line::Nothing => Ok(Vec::new(self.alloc)),
-            Line::Nodes(names) => self.open(&names),
-            Line::Space(nspace, homes) => self.register(nspace, &homes),
-            line => self.run(line),
+            Line::Nodes(names) => self.open(&names, room),
+            Line::Space(nspace, homes) => self.register(nspace, &homes, room),
+            line => self.run(line, room),
         }
     }
 
@@ -184,16 +195,18 @@ impl Player for Stage {
     }
 }
 
-/// Does the lines of a script, and writes their replies, each before the next line is read. It says how the script ended.
+/// Does the lines of a script on a new stage, and writes their replies, each before the next line is read. It says how the script ended.
 ///
 /// The first line that says something names the nodes; where they are refused, the script is over. Namespaces come next, and then
 /// what happens. What a line of no form, and one out of its order, is refused as, and what more than `INPUT_LIMIT` bytes are, is said
 /// at `play_script`.
 pub fn replay<R: BufRead, W: Write>(
     alloc: Global,
+    stage: &mut Stage,
     reader: &mut WatchedReader<R>,
     writer: &mut WatchedWriter<W>,
 ) -> Result<Ended, Failure>
+    requires new { stage.old ≡ phases.Fresh }
     ensures few { reader.new.reads ≤ reader.old.reads + MOST_READS }
     ensures replayed { IfSome (R.remaining reader.old.reader) (λ text.
         Replayed PlaysLine StopsLine is_over phases.Fresh text (R.remaining reader.new.reader) (W.contents writer.old.writer) (W.contents writer.new.writer) result) }
@@ -202,6 +215,5 @@ pub fn replay<R: BufRead, W: Write>(
         ≡ Err failures.Read) }
     ensures write_fault { IfErr result (λ e. e ≡ failures.Write → IsSome writer.new.failure) }
 {
-    let mut stage = Stage::new(alloc);
-    play_script(alloc, reader, &mut stage, writer)
+    play_script(alloc, reader, stage, writer)
 }

@@ -36,7 +36,7 @@ fn lines(alloc: Global, run: &Run) -> Result<Vec<u8>, Refusal> {
     let mut text = Vec::new(alloc);
     for told in run.events() {
         text.extend_from_slice(word_of(&told.event))?;
-        text.extend_from_slice(&reply_line(alloc, false, &told.answer)?)?;
+        text.extend_from_slice(&reply_line(Vec::new(alloc), false, &told.answer)?)?;
     }
     Ok(text)
 }

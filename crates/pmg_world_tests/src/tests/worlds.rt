@@ -64,7 +64,7 @@ fn events(alloc: Global, rows: &str) -> Result<(Vec<Event>, Vec<u8>), Refusal> {
 // Puts the lines of all answers of a world.
 fn put_lines(text: &mut Vec<u8>, alloc: Global, world: &World) -> Result<(), Refusal> {
     for told in world.events() {
-        let line = reply_line(alloc, false, &told.answer)?;
+        let line = reply_line(Vec::new(alloc), false, &told.answer)?;
         text.extend_from_slice(&line)?;
     }
     Ok(())
