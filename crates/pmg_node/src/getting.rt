@@ -2,17 +2,16 @@
 ghost use Rattle.std.specs.Prelude.{◌≡◌, false};
 ghost use Rattle.pmg_value.specs.Names.{is_reserved};
 ghost use Rattle.pmg_value.specs.declared.refusal.Refusal.TheVariants as refusals;
-ghost use Rattle.pmg_commit.specs.Data.{read_at};
 ghost use Rattle.pmg_jobinfo.specs.Jobs.{Jobs};
 ghost use Rattle.pmg_jobinfo.specs.Reserved.{is_general};
-ghost use Rattle.pmg_get.specs.Views.{outcome_of, seen_in};
+ghost use Rattle.pmg_get.specs.Views.{outcome_of};
 ghost use Rattle.pmg_node_model.specs.Acts.{is_misnamed, target_cause};
 ghost use Rattle.pmg_node_parts.specs.Calls.{get_of};
 ghost use Rattle.pmg_node_model.specs.Holdings.{answer_in, seen_of};
 
 use crate::causes::is_misnamed;
 use crate::node::Node;
-use pmg_get::{Answer, Mode, View, resolve};
+use pmg_get::{Answer, Mode};
 use pmg_jobinfo::Registry;
 use pmg_node_parts::BoardPreview;
 use pmg_value::{Key, Proc};
@@ -45,26 +44,17 @@ pub fn is_bad_target(registry: &Registry, proc: &Proc, target: &Proc, key: &Key)
 }
 
 impl Node {
-    /// What there is to be seen here of a key that is not reserved.
+    /// What a get of a key that is not reserved is answered here.
     #[tactic(auto, unfolding(pmg_node_model::specs::Holdings::seen_of))]
-    fn look(&self, target: &Proc, key: &Key) -> View<'_>
+    pub(crate) fn answer(&self, target: &Proc, key: &Key, mode: Mode) -> Answer<'_>
         requires { is_reserved key.now ≡ false }
-        ensures { seen_in result ≡ seen_of self.now.jobs self.now.id (read_at self.now.holding.near target.now) (read_at self.now.holding.far target.now)
-            (get_of target.now key.now) }
+        ensures { outcome_of result ≡ answer_in self.now.jobs self.now.id self.now.holding (get_of target.now key.now) mode }
     {
         let ahead = BoardPreview {
             board: &self.board,
             near: None,
             far: None,
         };
-        ahead.look(self.table.registry(), self.id, target, key)
-    }
-
-    /// What a get of a key that is not reserved is answered here.
-    pub(crate) fn answer(&self, target: &Proc, key: &Key, mode: Mode) -> Answer<'_>
-        requires { is_reserved key.now ≡ false }
-        ensures { outcome_of result ≡ answer_in self.now.jobs self.now.id self.now.holding (get_of target.now key.now) mode }
-    {
-        resolve(self.look(target, key), mode)
+        ahead.answer(self.table.registry(), self.id, target, key, mode)
     }
 }

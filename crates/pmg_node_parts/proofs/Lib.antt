@@ -8,5 +8,6 @@ pub mod PickLemmas
 pub mod PublishLemmas
 pub mod ReplyLemmas
 pub mod SealerLemmas
+pub mod SeenLemmas
 pub mod SendLemmas
 pub mod WaiterLemmas

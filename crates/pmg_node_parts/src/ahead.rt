@@ -1,19 +1,20 @@
 //! The stores of a node, as they are once pieces are joined into them.
-ghost use Rattle.std.specs.Prelude.{◌≡◌, ◌≤◌, is_some};
+ghost use Rattle.std.specs.Prelude.{◌≡◌, ◌≤◌, true, is_none, is_some};
 ghost use Rattle.std.specs.Option.{option_map};
 ghost use Rattle.pmg_value.specs.Spelling.{spelling};
 ghost use Rattle.pmg_scope.specs.Scripts.{term_key};
 ghost use Rattle.pmg_commit.specs.Data.{level_at, read_at};
-ghost use Rattle.pmg_get.specs.Views.{seen_in};
+ghost use Rattle.pmg_get.specs.Gets.{Seen, resolve};
+ghost use Rattle.pmg_get.specs.Views.{outcome_of};
 ghost use Rattle.pmg_node_parts.specs.BoardPreview.{near_ahead, far_ahead};
 ghost use Rattle.pmg_node_parts.specs.Calls.{get_of};
 ghost use Rattle.pmg_node_model.specs.Holdings.{joined, plain_seen};
 ghost use Rattle.pmg_commit.specs.declared.piece.TheConstants.{MAX_COMMIT};
 
 use pmg_commit::Piece;
-use pmg_get::View;
+use pmg_get::{Answer, Mode, View, resolve};
 use pmg_jobinfo::Registry;
-use pmg_store::{Board, Look, Store};
+use pmg_store::{Board, Store};
 use pmg_value::{Key, NodeId, Proc, Value};
 
 /// A node's stores, and the pieces that are about to be joined: for reads from the node itself, and from other nodes.
@@ -34,17 +35,14 @@ fn read<'a>(store: &'a Store, piece: Option<&'a Piece>, proc: &Proc, key: &Key) 
     }
 }
 
-/// The value of the process under the key, and whether the process has ended, once the piece is joined, if there is one.
-fn look<'a>(store: &'a Store, piece: Option<&'a Piece>, proc: &Proc, key: &Key) -> Look<'a>
-    ensures value { option_map (λ v. spelling v.now) result.value ≡ read_at (joined store.now (option_map (λ c. c.now) piece.entry)) proc.now key.now }
-    ensures ended { result.ended ≡ is_some (read_at (joined store.now (option_map (λ c. c.now) piece.entry)) proc.now term_key) }
+/// Whether the process has ended once the piece is joined, if there is one; it is looked at only where no value is seen.
+fn has_ended(value: Option<&Value>, store: &Store, piece: Option<&Piece>, proc: &Proc) -> bool
+    ensures { is_none value.entry ≡ true → result ≡ is_some (read_at (joined store.now (option_map (λ c. c.now) piece.entry)) proc.now term_key) }
 {
-    match piece {
-        Some(piece) => Look {
-            value: store.read_with(piece, proc, key),
-            ended: store.has_ended_with(piece, proc),
-        },
-        None => store.look(proc, key),
+    match (value, piece) {
+        (Some(_), _) => false,
+        (None, Some(piece)) => store.has_ended_with(piece, proc),
+        (None, None) => store.has_ended(proc),
     }
 }
 
@@ -68,24 +66,45 @@ impl<'a> BoardPreview<'a> {
         level(self.board.far(), self.far, proc)
     }
 
-    /// What there is to be seen at the node of a key that is not reserved.
-    pub fn look(&self, registry: &Registry, id: NodeId, target: &Proc, key: &Key) -> View<'a>
-        ensures { seen_in result ≡ plain_seen registry.now id (read_at (near_ahead self.now) target.now) (read_at (far_ahead self.now) target.now)
-            (get_of target.now key.now) }
+    /// What a get of a key of a process of this node is answered.
+    fn answer_near(&self, target: &Proc, key: &Key, mode: Mode) -> Answer<'a>
+        ensures { outcome_of result ≡ resolve (Seen.local (read_at (near_ahead self.now) target.now key.now) (read_at (far_ahead self.now) target.now key.now)
+            (is_some (read_at (near_ahead self.now) target.now term_key))) mode }
     {
         let board = self.board;
+        let near = read(board.near(), self.near, target, key);
+        let far = read(board.far(), self.far, target, key);
+        let term = has_ended(near, board.near(), self.near, target);
+        resolve(View::Near { near, far, term }, mode)
+    }
+
+    /// What a get of a key of a process of another node is answered.
+    fn answer_far(&self, target: &Proc, key: &Key, mode: Mode) -> Answer<'a>
+        ensures { outcome_of result ≡ resolve (Seen.remote (read_at (far_ahead self.now) target.now key.now)
+            (is_some (read_at (far_ahead self.now) target.now term_key))) mode }
+    {
+        let store = self.board.far();
+        let far = read(store, self.far, target, key);
+        let term = has_ended(far, store, self.far, target);
+        resolve(View::Far { far, term }, mode)
+    }
+
+    /// What a get of a key that is not reserved is answered at the node.
+    pub fn answer(
+        &self,
+        registry: &Registry,
+        id: NodeId,
+        target: &Proc,
+        key: &Key,
+        mode: Mode,
+    ) -> Answer<'a>
+        ensures { outcome_of result ≡ resolve (plain_seen registry.now id (read_at (near_ahead self.now) target.now) (read_at (far_ahead self.now) target.now)
+            (get_of target.now key.now)) mode }
+    {
         if registry.is_home(id, target) {
-            let near = look(board.near(), self.near, target, key);
-            return View::Near {
-                near: near.value,
-                far: read(board.far(), self.far, target, key),
-                term: near.ended,
-            };
-        }
-        let far = look(board.far(), self.far, target, key);
-        View::Far {
-            far: far.value,
-            term: far.ended,
+            self.answer_near(target, key, mode)
+        } else {
+            self.answer_far(target, key, mode)
         }
     }
 }
