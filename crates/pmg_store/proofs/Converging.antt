@@ -1,5 +1,5 @@
 -- The data of pieces, in any order and grouping.
-use Rattle.std.proofs.Common.{List, [], ◌∷◌, ◌++◌, ◌≡◌, map, refl, sym, ap, ◌∙◌}
+use Rattle.std.proofs.Common.{List, [], ◌∷◌, ◌++◌, ◌≡◌, map, length, get_or, arith, refl, sym, ap, ◌∙◌}
 use Rattle.std.specs.FinMap as finite
 use Rattle.std.specs.Prelude.{Option, Some, None}
 use Rattle.pmg_value.specs.Maps.{join_options}
@@ -50,6 +50,16 @@ reads_alike xs ys same p =
 
 pub data_of-push : (pieces : List Contribution) (c : Contribution) → data_of (pieces ++ c ∷ []) ≡ absorbed (data_of pieces) c
 data_of-push pieces c = ap (join_all join_data finite.empty) (map-append of_contribution pieces (c ∷ [])) ∙ join_all-append join_data finite.empty (map of_contribution pieces) (of_contribution c ∷ [])
+
+-- no pieces, and one, as data that is joined
+pub none_more : (all : Data) (pieces : List Contribution) → length pieces ≡ 0 → all ≡ join_data all (data_of pieces)
+none_more all [] none = sym (nothing_joined all)
+none_more all (c ∷ cs) none = absurd (omega arith)
+
+pub one_more : (all : Data) (pieces : List Contribution) (c : Contribution) → length pieces ≡ 1 → c ≡ get_or pieces 0 c → absorbed all c ≡ join_data all (data_of pieces)
+one_more all [] c one is = absurd (omega arith)
+one_more all (d ∷ []) c one is = ap (λ x. join_data all (of_contribution x)) is ∙ ap (join_data all) (sym (joined_to_nothing (of_contribution d)))
+one_more all (d ∷ e ∷ cs) c one is = absurd (omega arith)
 
 pub prints_alike : PrintsAlike
 prints_alike xs ys same = ap dump (same_in_any_order xs ys same)

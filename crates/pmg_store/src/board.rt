@@ -65,13 +65,17 @@ impl Board {
     }
 
     /// Takes the pieces into the near store and those into the far store, all of them or none. It takes time in
-    /// proportion to their entries and to the late entries that are read then, and to the logarithm of what is held.
+    /// proportion to their entries and to the late entries that are read then, and to the logarithm of what is held. One piece for
+    /// the far store alone, as another node tells it, is taken as it is.
     pub fn absorb_all(&mut self, near: &[Piece], far: &[Piece]) -> Result<(), AllocError>
         ensures near_ok { OnOk result (self.new.near ≡ join_data self.old.near (data_of near.now)) }
         ensures far_ok { OnOk result (self.new.far ≡ join_data self.old.far (data_of far.now)) }
         ensures near_err { OnErr result (self.new.near ≡ self.old.near) }
         ensures far_err { OnErr result (self.new.far ≡ self.old.far) }
     {
+        if let ([], [piece]) = (near, far) {
+            return self.absorb_far(piece);
+        }
         let near_more = self.near.of_pieces(near)?;
         let far_more = self.far.of_pieces(far)?;
         join_both(&mut self.near, near_more, &mut self.far, far_more)
