@@ -47,9 +47,10 @@ pub struct Parts {
     pub viewers: Vec<Viewer>,
 }
 
-/// A node with its journal and the publisher of its board. It is not dropped: end it by `into_journal`.
+/// A node with its journal and the publisher of its board, in a box, since each call takes it out of its room and puts it back. It
+/// is not dropped: end it by `into_journal`.
 pub struct State {
-    parts: Parts,
+    parts: Box<Parts>,
 }
 
 impl Model for State {
@@ -61,9 +62,9 @@ impl Model for State {
 
     ghost coded = { parts_row.coded };
 
-    ghost view = { λ s. s.parts };
+    ghost view = { λ s. s.parts.value };
 
-    ghost invariant = { λ s. IsStateKept s.parts };
+    ghost invariant = { λ s. IsStateKept s.parts.value };
 }
 
 /// What a node answers to an act, and what it joined.
@@ -210,6 +211,22 @@ fn dump_of(alloc: Global, store: &Store) -> Result<Vec<u8>, AllocError>
     }
 }
 
+/// Ends the parts: the journal.
+fn journal_of<R: Wait>(parts: Parts, rt: &R) -> Journal
+    ensures { result ≡ parts.journal }
+{
+    let Parts {
+        node: _,
+        journal,
+        outbox: _,
+        taken: _,
+        publisher,
+        viewers: _,
+    } = parts;
+    publisher.close(rt);
+    journal
+}
+
 impl State {
     /// A new node of the group, of that index, of which nothing is told yet. Refused as TooMany where more than 65,536
     /// processes are at home at the node; and as NoMemory.
@@ -240,7 +257,13 @@ impl State {
             publisher,
             viewers,
         };
-        Ok(State { parts })
+        match Box::new(alloc, parts) {
+            Ok(parts) => Ok(State { parts }),
+            Err(failed) => {
+                journal_of(failed.value, rt);
+                Err(Refusal::NoMemory)
+            }
+        }
     }
 
     /// Does the act, writes it into the journal with its answer, and publishes what it joined. Closed where the node was given
@@ -264,7 +287,7 @@ impl State {
             taken: _,
             publisher,
             viewers: _,
-        } = &mut self.parts;
+        } = &mut *self.parts;
         happen_in(node, journal, outbox, publisher, rt, act)
     }
 
@@ -381,7 +404,7 @@ impl State {
         ensures journal { self.new.journal ≡ self.old.journal }
         ensures publisher { self.new.publisher ≡ self.old.publisher }
     {
-        let parts = &mut self.parts;
+        let parts = &mut *self.parts;
         if parts.node.is_none() {
             return Err(Refusal::Closed);
         }
@@ -413,15 +436,6 @@ impl State {
         ensures replay { IsJournal result }
     {
         let State { parts } = self;
-        let Parts {
-            node: _,
-            journal,
-            outbox: _,
-            taken: _,
-            publisher,
-            viewers: _,
-        } = parts;
-        publisher.close(rt);
-        journal
+        journal_of(Box::into_inner(parts), rt)
     }
 }

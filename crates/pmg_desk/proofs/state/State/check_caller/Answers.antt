@@ -7,6 +7,6 @@ use Rattle.pmg_desk.proofs.state.State.check_caller.Goals as goal
 
 pub returns-in-Some-clause-home : goal.returns-in-Some-clause-home
 returns-in-Some-clause-home c = λ is.
-    let p : Parts = c.self.inside.parts in
+    let p : Parts = c.self.inside.parts.value in
     let due : option_map (judged c.args.proc.now) p.node ≡ Some c.check_caller.result = search rules in
     subst (λ (q : Parts). IsOwn q.journal.registry q.journal.node c.args.proc.now) c.self.view_is (own_by p c.self.invariant c.args.proc.now (due ∙ is))
