@@ -32,7 +32,7 @@ pub fn run_replay<R: BufRead, W: Write>(
 {
     let mut stage = Stage::new(alloc);
     let ended = replay(alloc, &mut stage, reader, writer);
-    // The program ends now, and what it holds goes back as a whole: to take a long script's events apart would only take time.
+    // The program ends now, and what it holds goes back as a whole: to take the stores of its nodes apart would only take time.
     mem::forget(stage);
     conclude_script(writer, ended)
 }

@@ -3,17 +3,18 @@ use Rattle.std.proofs.Common.{◌≡◌, ℕ, suc, ◌<◌, List, [], ◌∷◌,
 use Rattle.std.proofs.Math.Seq.{take-suc}
 use Rattle.std.proofs.lemmas.List.{map-append}
 use Rattle.pmg_value.specs.declared.refusal.Refusal.{Refusal}
-use Rattle.pmg_jobinfo.specs.Jobs.{Jobs}
+use Rattle.pmg_jobinfo.specs.Jobs.{AreJobs, Jobs}
 use Rattle.pmg_fence.proofs.LineLemmas.{append_empty}
 use Rattle.pmg_fence.specs.Rules.{Scripts}
-use Rattle.pmg_node.specs.Servers.{IsAnswered}
+use Rattle.pmg_node.specs.Servers.{IsAnswered, Server}
 use Rattle.pmg_node.specs.declared.act.Reply.{Reply as GivenReply}
-use Rattle.pmg_world.specs.Accounts.{Account, Adds, GoesOn, IsAccountLawful, IsLed, IsRun, LeadsTo, account_of}
-use Rattle.pmg_world.specs.Keeping.{AreCaches, Happens, IsGroup, IsSame, Represents, replied}
+use Rattle.pmg_world.specs.Accounts.{Account, Adds, GoesOn, IsAccountLawful, IsLed, IsLedBy, IsRun, LeadsTo, account_of}
+use Rattle.pmg_world.specs.Keeping.{AreCaches, Happens, IsGroup, IsNodeOf, IsSame, Represents, happened_so}
 use Rattle.pmg_world.specs.Telling.{event_of, happened_of}
 use Rattle.pmg_node_model.specs.Holdings.{NodeState}
 use Rattle.pmg_node_model.specs.Kept.{IsServer}
-use Rattle.pmg_group_model.specs.Worlds.{World, Happened, Run, Step, start}
+use Rattle.pmg_group_model.specs.Worlds.{World, Event, Happened, Run, start}
+use Rattle.pmg_group_model.specs.Lawful.{IsLawful}
 use Rattle.pmg_group_model.proofs.ToldScripts.{scripts_are_told}
 use Rattle.pmg_world.specs.declared.event.Event.{Event as ToldEvent}
 use Rattle.pmg_world.specs.declared.event.LoggedEvent.{LoggedEvent}
@@ -25,15 +26,31 @@ use Rattle.pmg_world.proofs.StartLemmas.{some_server}
 
 -- ---- what a world is
 
-pub led_start : (g : Group) (told : List LoggedEvent) (jobs : Jobs) → told ≡ [] → g.registry ≡ jobs → Represents g (start jobs) → IsLed g told
-unfolding IsLed
-led_start g told jobs none same stands =
-    subst (λ (l : List LoggedEvent). (w : World) × Run g.registry (start g.registry) (map happened_of l) w × Represents g w) (sym none)
-    (start g.registry, run_none g.registry (start g.registry), subst (λ (j : Jobs). Represents g (start j)) (sym same) stands)
+pub led_start : (g : Group) (jobs : Jobs) → g.registry ≡ jobs → Represents g (start jobs) → IsLedBy g []
+unfolding IsLedBy
+led_start g jobs same stands = (start g.registry, run_none g.registry (start g.registry), subst (λ (j : Jobs). Represents g (start j)) (sym same) stands)
 
-pub led_group : (g : Group) (told : List LoggedEvent) → IsLed g told → IsGroup g
-unfolding IsLed IsGroup
+pub led_group : (g : Group) (told : List Happened) → IsLedBy g told → IsGroup g
+unfolding IsLedBy IsGroup
 led_group g told led = (led.0, led.2)
+
+-- a group that stands for one world stands for each of the same nodes, caches and frames
+pub stands_at : (g : Group) (v w : World) → Represents g v → ((node : ℕ) (d : Server) → node < length g.nodes.items → IsNodeOf g.registry node (w.nodes node) (get_or g.nodes.items node d))
+    → AreCaches g.caches w.scripts → g.sent.items ≡ w.sent → Represents g w
+stands_at g v w of nodes caches sent = record {
+  jobs = of.jobs;
+  nodes = record {
+    count = of.nodes.count;
+    each = nodes;
+    servers = λ node inside.
+        let d = some_server g.registry in
+        let holds : v.nodes node ≡ w.nodes node = sym (of.nodes.each node d inside).holds ∙ (nodes node d inside).holds in
+        subst (λ (h : NodeState). IsServer g.registry node h) holds (of.nodes.servers node inside);
+  };
+  caches = caches;
+  sent = sent;
+  peers = of.peers;
+}
 
 -- the group stands for the world at the end of the run
 stands_leads : (g : Group) (told : List LoggedEvent) (w : World) → Run g.registry (start g.registry) (map happened_of told) w → Represents g w → LeadsTo (account_of g told) w
@@ -41,62 +58,56 @@ stands_leads g told w run stands = record { run = run; count = stands.nodes.coun
 
 -- so it does for each world that the events lead to
 leads_stands : (g : Group) (told : List LoggedEvent) → IsLed g told → (w : World) → LeadsTo (account_of g told) w → Represents g w
-unfolding IsLed
+unfolding IsLedBy
 leads_stands g told led w leads =
     let jobs = g.registry in
-    let of = led.2 in
     let scripts : w.scripts ≡ led.0.scripts =
     scripts_are_told jobs (start jobs) (map happened_of told) w leads.run ∙ sym (scripts_are_told jobs (start jobs) (map happened_of told) led.0 led.1) in
-    record {
-      jobs = of.jobs;
-      nodes = record {
-        count = of.nodes.count;
-        each = leads.nodes;
-        servers = λ node inside.
-            let holds : led.0.nodes node ≡ w.nodes node = sym (of.nodes.each node (some_server jobs) inside).holds ∙ (leads.nodes node (some_server jobs) inside).holds in
-            subst (λ (h : NodeState). IsServer jobs node h) holds (of.nodes.servers node inside);
-      };
-      caches = subst (λ (s : Scripts). AreCaches g.caches s) (sym scripts) of.caches;
-      sent = leads.sent;
-      peers = of.peers;
-    }
+    stands_at g led.0 w led.2 leads.nodes (subst (λ (s : Scripts). AreCaches g.caches s) (sym scripts) led.2.caches) leads.sent
 
 pub led_run : (g : Group) (told : List LoggedEvent) → IsLed g told → IsRun (account_of g told)
-unfolding IsLed IsRun
+unfolding IsLedBy IsRun
 led_run g told led = (led.0, stands_leads g told led.0 led.1 led.2)
 
+-- the laws hold of each beginning of what a run tells
+pub run_kept : (jobs : Jobs) → AreJobs jobs → (told : List Happened) (w : World) → Run jobs (start jobs) told w → (xs ys : List Happened) → told ≡ xs ++ ys → IsLawful jobs xs
+run_kept jobs are told w run xs ys cut =
+    let parts = run_cut jobs xs ys (start jobs) w (subst (λ (l : List Happened). Run jobs (start jobs) l w) cut run) in
+    run_is_lawful jobs are xs parts.mid parts.first
+
 pub led_kept : (g : Group) (told : List LoggedEvent) → IsLed g told → IsAccountLawful (account_of g told)
-unfolding IsLed IsAccountLawful
-led_kept g told led xs ys cut =
-    let jobs = g.registry in
-    let parts = run_cut jobs xs ys (start jobs) led.0 (subst (λ (l : List Happened). Run jobs (start jobs) l led.0) cut led.1) in
-    run_is_lawful jobs led.2.jobs xs parts.mid parts.first
+unfolding IsLedBy IsAccountLawful
+led_kept g told led xs ys cut = run_kept g.registry led.2.jobs (map happened_of told) led.0 led.1 xs ys cut
 
 -- an event more, and the world that it leads to
-record More (old new : Group) (told : List LoggedEvent) (t : LoggedEvent) (w : World) : Type 0 where
-  after : World
-  step : Step old.registry w (event_of t.event) (replied t.answer) after
-  run : Run new.registry (start new.registry) (map happened_of (told ++ t ∷ [])) after
-  stands : Represents new after
+pub record More (old new : Group) (told : List Happened) (h : Happened) (w : World) : Type 0 where
+  pub after : World
+  pub one : Run old.registry w (h ∷ []) after
+  pub run : Run new.registry (start new.registry) (told ++ h ∷ []) after
+  pub stands : Represents new after
 
-more : (old new : Group) (told : List LoggedEvent) (t : LoggedEvent) (answer : Result GivenReply Refusal) → IsAnswered answer → t.answer ≡ answer → Happens old (event_of t.event) answer new
-    → (w : World) → Run old.registry (start old.registry) (map happened_of told) w → Represents old w → More old new told t w
+pub more : (old new : Group) (told : List Happened) (e : Event) (answer : Result GivenReply Refusal) → IsAnswered answer → Happens old e answer new
+    → (w : World) → Run old.registry (start old.registry) told w → Represents old w → More old new told (happened_so e answer) w
 unfolding Happens
-more old new told t answer is same happens w before stands =
+more old new told e answer is happens w before stands =
     let jobs = old.registry in
     let on = happens is in
     let next = on.1 w stands in
-    let step : Step jobs w (event_of t.event) (replied t.answer) next.0 = subst (λ (a : Result GivenReply Refusal). Step jobs w (event_of t.event) (replied a) next.0) (sym same) next.1 in
-    let run = run_more jobs (map happened_of told) (start jobs) w (happened_of t) next.0 before step in
-    let whole = subst (λ (xs : List Happened). Run jobs (start jobs) xs next.0) (sym (map-append happened_of told (t ∷ []))) run in
-    record { after = next.0; step = step; run = subst (λ (j : Jobs). Run j (start j) (map happened_of (told ++ t ∷ [])) next.0) (sym on.0) whole; stands = next.2 }
+    let h = happened_so e answer in
+    let one = next_run jobs w h [] next.0 (record { mid = next.0; step = next.1; rest = run_none jobs next.0 }) in
+    let run = run_more jobs told (start jobs) w h next.0 before next.1 in
+    record { after = next.0; one = one; run = subst (λ (j : Jobs). Run j (start j) (told ++ h ∷ []) next.0) (sym on.0) run; stands = next.2 }
 
-pub led_more : (old new : Group) (told : List LoggedEvent) (t : LoggedEvent) (answer : Result GivenReply Refusal) → IsLed old told → IsAnswered answer → t.answer ≡ answer → Happens old (event_of t.event) answer new
-    → IsLed new (told ++ t ∷ [])
-unfolding IsLed
-led_more old new told t answer led is same happens =
-    let next = more old new told t answer is same happens led.0 led.1 led.2 in
+pub led_more : (old new : Group) (told : List Happened) (e : Event) (answer : Result GivenReply Refusal) → IsLedBy old told → IsAnswered answer → Happens old e answer new
+    → IsLedBy new (told ++ happened_so e answer ∷ [])
+unfolding IsLedBy
+led_more old new told e answer led is happens =
+    let next = more old new told e answer is happens led.0 led.1 led.2 in
     (next.after, next.run, next.stands)
+
+-- what is told with an event more
+pub told_more : (told : List LoggedEvent) (t : LoggedEvent) → map happened_of (told ++ t ∷ []) ≡ map happened_of told ++ happened_of t ∷ []
+told_more told t = map-append happened_of told (t ∷ [])
 
 -- ---- what goes on from where it stood
 
@@ -110,14 +121,14 @@ goes_on_by old new told run is runs =
     record { more = told; told = is; out = sends.out; sent = last.2.sent ∙ sends.sent ∙ ap (λ xs. xs ++ sends.out) (sym run.1.sent); runs = runs }
 
 -- by an event
-pub led_goes_on : (old new : Group) (told : List LoggedEvent) (t : LoggedEvent) (answer : Result GivenReply Refusal) → IsLed old told → IsAnswered answer → t.answer ≡ answer → Happens old (event_of t.event) answer new
+pub led_goes_on : (old new : Group) (told : List LoggedEvent) (t : LoggedEvent) → IsLed old told → IsAnswered t.answer → Happens old (event_of t.event) t.answer new
     → GoesOn (account_of old told) (account_of new (told ++ t ∷ []))
-led_goes_on old new told t answer led is same happens =
+led_goes_on old new told t led is happens =
     goes_on_by (account_of old told) (account_of new (told ++ t ∷ [])) (t ∷ []) (led_run old told led) refl
     (λ w leads.
-    let next = more old new told t answer is same happens w leads.run (leads_stands old told led w leads) in
-    let one = next_run old.registry w (happened_of t) [] next.after (record { mid = next.after; step = next.step; rest = run_none old.registry next.after }) in
-    (next.after, one, stands_leads new (told ++ t ∷ []) next.after next.run next.stands))
+    let next = more old new (map happened_of told) (event_of t.event) t.answer is happens w leads.run (leads_stands old told led w leads) in
+    let run = subst (λ (l : List Happened). Run new.registry (start new.registry) l next.after) (sym (told_more told t)) next.run in
+    (next.after, next.one, stands_leads new (told ++ t ∷ []) next.after run next.stands))
 
 -- where nothing happens
 pub goes_on_same : (old new : Account) → new ≡ old → GoesOn old new
@@ -141,18 +152,18 @@ goes_on_more a b c jobs one other = record {
 }
 
 -- the group of the event more is that of the same registry
-pub happens_jobs : (old : Group) (told : List LoggedEvent) (t : LoggedEvent) (answer : Result GivenReply Refusal) (new : Group) → IsAnswered answer → Happens old (event_of t.event) answer new → new.registry ≡ old.registry
+pub happens_jobs : (old : Group) (e : Event) (answer : Result GivenReply Refusal) (new : Group) → IsAnswered answer → Happens old e answer new → new.registry ≡ old.registry
 unfolding Happens
-happens_jobs old told t answer new is happens = (happens is).0
+happens_jobs old e answer new is happens = (happens is).0
 
 pub same_account : (old new : Group) (told : List LoggedEvent) → IsSame old new → account_of new told ≡ account_of old told
 same_account old new told same = (λ i. record { jobs = same.jobs i; nodes = same.nodes i; sent = same.sent i; told = told })
 
-pub same_led : (old new : Group) (told : List LoggedEvent) → IsSame old new → IsLed old told → IsLed new told
-unfolding IsLed
+pub same_led : (old new : Group) (told : List Happened) → IsSame old new → IsLedBy old told → IsLedBy new told
+unfolding IsLedBy
 same_led old new told same led = (
   led.0,
-  subst (λ (j : Jobs). Run j (start j) (map happened_of told) led.0) (sym same.jobs) led.1,
+  subst (λ (j : Jobs). Run j (start j) told led.0) (sym same.jobs) led.1,
   stands_with old new led.0 led.0 led.2 same.jobs same.nodes same.sent refl refl (subst (λ (all : AllCached). AreCaches all led.0.scripts) (sym same.caches) led.2.caches),
 )
 

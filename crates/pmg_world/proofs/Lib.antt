@@ -8,3 +8,5 @@ pub mod HappenLemmas
 pub mod PutLemmas
 pub mod StartLemmas
 pub mod LedLemmas
+pub mod StateLemmas
+pub mod FlowLemmas

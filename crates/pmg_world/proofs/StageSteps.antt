@@ -5,7 +5,7 @@ use Rattle.pmg_value.specs.CheckOrder.{first_of}
 use Rattle.pmg_value.specs.declared.refusal.Refusal.{Refusal}
 use Rattle.pmg_jobinfo.specs.Jobs.{Jobs, opened}
 use Rattle.pmg_jobinfo.specs.Refusing.{new_cause}
-use Rattle.pmg_world.specs.Accounts.{Account}
+use Rattle.pmg_world.specs.GroupStates.{GroupState}
 use Rattle.pmg_world.specs.Asking.{line_asks}
 use Rattle.pmg_script.specs.Lines.{LineFails as NotRead}
 use Rattle.pmg_script.specs.Scripts.{Line, line_of, said}
@@ -80,25 +80,25 @@ not_registering phases.Over nspace homes text v none h = h
 
 -- ---- what is asked of the world
 
-pub runs_there : (s : Phase) (w u : Account) (line : Line) (text : List ℕ) → s ≡ phases.Running w → Runs w line text u → RunsAt s line text (phases.Running u)
+pub runs_there : (s : Phase) (w u : GroupState) (line : Line) (text : List ℕ) → s ≡ phases.Running w → Runs w line text u → RunsAt s line text (phases.Running u)
 unfolding RunsAt
 runs_there s w u line text is runs = subst (λ (p : Phase). RunsAt p line text (phases.Running u)) (sym is) (record { after = u; runs = runs; left = refl })
 
-pub starts_there : (s : Phase) (jobs : Jobs) (w u : Account) (line : Line) (text : List ℕ) → s ≡ phases.Registering jobs → IsNew jobs w → Runs w line text u
+pub starts_there : (s : Phase) (jobs : Jobs) (w u : GroupState) (line : Line) (text : List ℕ) → s ≡ phases.Registering jobs → IsNew jobs w → Runs w line text u
     → RunsAt s line text (phases.Running u)
 unfolding RunsAt
 starts_there s jobs w u line text is new runs =
     subst (λ (p : Phase). RunsAt p line text (phases.Running u)) (sym is) (record { world = w; is_new = new; runs = record { after = u; runs = runs; left = refl } })
 
-runs_nothing : (w : Account) (line : Line) (text : List ℕ) (v : Phase) → AsksNothing w line → RunsOn w line text v → ⊥
+runs_nothing : (w : GroupState) (line : Line) (text : List ℕ) (v : Phase) → AsksNothing w line → RunsOn w line text v → ⊥
 unfolding AsksNothing
 runs_nothing w line text v none on = none-some on.runs.asked (sym none ∙ on.runs.asks)
 
-pub nothing_runs : (s : Phase) (w : Account) (line : Line) → s ≡ phases.Running w → AsksNothing w line → (text : List ℕ) (v : Phase) → RunsAt s line text v → ⊥
+pub nothing_runs : (s : Phase) (w : GroupState) (line : Line) → s ≡ phases.Running w → AsksNothing w line → (text : List ℕ) (v : Phase) → RunsAt s line text v → ⊥
 unfolding RunsAt
 nothing_runs s w line is none text v runs = runs_nothing w line text v none (subst (λ (p : Phase). RunsAt p line text v) is runs)
 
-pub nothing_starts : (s : Phase) (jobs : Jobs) (w : Account) (line : Line) → s ≡ phases.Registering jobs → IsNew jobs w → AsksNothing w line
+pub nothing_starts : (s : Phase) (jobs : Jobs) (w : GroupState) (line : Line) → s ≡ phases.Registering jobs → IsNew jobs w → AsksNothing w line
     → (text : List ℕ) (v : Phase) → RunsAt s line text v → ⊥
 unfolding RunsAt AsksNothing
 nothing_starts s jobs w line is new none text v runs = go (subst (λ (p : Phase). RunsAt p line text v) is runs)
@@ -108,7 +108,7 @@ nothing_starts s jobs w line is new none text v runs = go (subst (λ (p : Phase)
         let same : starts.world.jobs ≡ w.jobs = starts.is_new.jobs_are ∙ sym new.jobs_are in
         runs_nothing starts.world line text v (ap (λ (j : Jobs). line_asks j line) same ∙ none) starts.runs
 
-pub closed : (s : Phase) (line : Line) → ((w : Account) → s ≡ phases.Running w → ⊥) → ((jobs : Jobs) → s ≡ phases.Registering jobs → ⊥)
+pub closed : (s : Phase) (line : Line) → ((w : GroupState) → s ≡ phases.Running w → ⊥) → ((jobs : Jobs) → s ≡ phases.Registering jobs → ⊥)
     → (text : List ℕ) (v : Phase) → RunsAt s line text v → ⊥
 unfolding RunsAt
 closed phases.Fresh line running registering text v runs = runs

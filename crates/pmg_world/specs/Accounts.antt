@@ -30,9 +30,13 @@ coded_account coded_sent coded_told =
 abbrev pub account_of : Group → List LoggedEvent → Account
 account_of g told = record { jobs = g.registry; nodes = g.nodes.items; sent = g.sent.items; told = told }
 
--- the events told lead from the start to a world that the group stands for
-unfoldable pub IsLed : Group → List LoggedEvent → Type 0
-IsLed g told = (w : World) × Run g.registry (start g.registry) (map happened_of told) w × Represents g w
+-- the events lead from the start to a world that the group stands for
+unfoldable pub IsLedBy : Group → List Happened → Type 0
+IsLedBy g told = (w : World) × Run g.registry (start g.registry) told w × Represents g w
+
+-- the events told do
+abbrev pub IsLed : Group → List LoggedEvent → Type 0
+IsLed g told = IsLedBy g (map happened_of told)
 
 -- The events told lead from the start to the world; its nodes hold what these hold, and these frames are all that were sent.
 pub record LeadsTo (a : Account) (w : World) : Type 0 where

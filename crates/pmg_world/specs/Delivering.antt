@@ -1,41 +1,47 @@
 -- Which frames were delivered, and which never were.
-use Rattle.std.specs.Prelude.{◌≡◌, ℕ, suc, ◌≤◌, ◌==◌, Bool, false, ◌&&◌, not, List, length, take, Option, Some, None}
+use Rattle.std.specs.Prelude.{◌≡◌, ℕ, suc, ◌==◌, Bool, false, ◌&&◌, ◌||◌, not, List, Option, Some, None}
 use Rattle.std.specs.FinSet as set
 use Rattle.std.specs.List.{filter, list_any, range_with_len}
 use Rattle.std.specs.Ordering.{nat_cmp}
-use Rattle.std.specs.Result.{is_ok}
+use Rattle.pmg_node_model.specs.Fitting.{is_refusal}
+use Rattle.pmg_group_model.specs.Worlds.{Event, Happened}
 use Rattle.pmg_world.specs.declared.delivered.Delivered.{Delivered}
-use Rattle.pmg_world.specs.declared.event.Event.{Event as ToldEvent}
-use Rattle.pmg_world.specs.declared.event.Event.TheVariants as events
-use Rattle.pmg_world.specs.declared.event.LoggedEvent.{LoggedEvent}
 
 -- a delivery of the frame of that number was asked for
-abbrev pub is_delivery : ℕ → ToldEvent → Bool
-is_delivery frame (events.Deliver number) = number == frame
+abbrev pub is_delivery : ℕ → Event → Bool
+is_delivery frame (Event.deliver number) = frame == number
 is_delivery frame _ = false
 
 -- the frame was delivered by this: a delivery of it that was not refused
-abbrev pub delivered_by : ℕ → LoggedEvent → Bool
-delivered_by frame told = is_delivery frame told.event && is_ok told.answer
+abbrev pub delivered_by : ℕ → Happened → Bool
+delivered_by frame h = is_delivery frame h.event && not (is_refusal h.reply)
 
 -- by any of these
-abbrev pub was_delivered : List LoggedEvent → ℕ → Bool
+abbrev pub was_delivered : List Happened → ℕ → Bool
 was_delivered told frame = list_any (delivered_by frame) told
+
+-- The set has the numbers of the frames that these delivered, and of no others. Frames are counted from 1.
+abbrev pub AreDelivered : set.FinSet nat_cmp → List Happened → Type 0
+AreDelivered frames told = (n : ℕ) → set.contains frames (suc n) ≡ was_delivered told (suc n)
+
+-- the new set has the frames of the old one and those that these delivered
+abbrev pub AddsDelivered : set.FinSet nat_cmp → List Happened → set.FinSet nat_cmp → Type 0
+AddsDelivered old told new = (n : ℕ) → set.contains new (suc n) ≡ (set.contains old (suc n) || was_delivered told (suc n))
+
+-- of so many frames, by number from 1, those that are not in the set
+unfoldable pub undelivered : set.FinSet nat_cmp → ℕ → List ℕ
+undelivered delivered count = filter (λ frame. not (set.contains delivered frame)) (range_with_len 1 count)
+
+-- a set with a number more, where there is one
+abbrev pub with_number : set.FinSet nat_cmp → Option ℕ → set.FinSet nat_cmp
+with_number frames None = frames
+with_number frames (Some number) = set.insert frames number
+
+-- all frames that were delivered, the last one among them
+abbrev pub all_delivered : Delivered → set.FinSet nat_cmp
+all_delivered d = with_number d.frames d.last
 
 -- the number is this one
 abbrev pub is_number : ℕ → Option ℕ → Bool
 is_number frame None = false
-is_number frame (Some number) = number == frame
-
--- of so many frames, by number from 1, those that were never delivered
-unfoldable pub undelivered : List LoggedEvent → ℕ → List ℕ
-undelivered told count = filter (λ frame. not (was_delivered told frame)) (range_with_len 1 count)
-
--- of so many frames, those that are not in the set
-unfoldable pub missing : set.FinSet nat_cmp → ℕ → List ℕ
-missing frames count = filter (λ frame. not (set.contains frames frame)) (range_with_len 1 count)
-
--- the first of the events told were looked at, and the frames are those that they delivered
-pub record IsNoted (told : List LoggedEvent) (d : Delivered) : Type 0 where
-  pub seen : d.seen ≤ length told
-  pub frames : (n : ℕ) → set.contains d.frames (suc n) ≡ was_delivered (take d.seen told) (suc n)
+is_number frame (Some number) = frame == number

@@ -16,7 +16,7 @@ use Rattle.pmg_node.specs.Opening.{new_server}
 use Rattle.pmg_node.specs.Servers.{Server, IsAnswered, reply_in}
 use Rattle.pmg_node.specs.declared.act.Reply.{Reply as GivenReply}
 use Rattle.pmg_caches.specs.Caching.{AllCached, cached_for}
-use Rattle.pmg_group_model.specs.Worlds.{World, Event, Step, cache_of}
+use Rattle.pmg_group_model.specs.Worlds.{World, Event, Happened, Step, cache_of}
 use Rattle.pmg_world.specs.declared.group.Group.{Group}
 
 -- What is kept for a process is its client's cache; the standard's own processes have none, and no put that is not sealed.
@@ -64,6 +64,10 @@ IsGroup g = (w : World) × Represents g w
 -- what is answered, as a reply
 abbrev pub replied : Result GivenReply Refusal → Reply
 replied answer = reply_in reply_as answer
+
+-- an event, with what it was answered as its reply
+abbrev pub happened_so : Event → Result GivenReply Refusal → Happened
+happened_so e answer = record { event = e; reply = replied answer }
 
 -- Whatever world the old group stands for: the event leads from it, with that answer, to one that the new group stands for.
 unfoldable pub Happens : Group → Event → Result GivenReply Refusal → Group → Type 0

@@ -4,4 +4,5 @@ pub mod Keeping
 pub mod Accounts
 pub mod Asking
 pub mod Delivering
+pub mod GroupStates
 pub mod Stages

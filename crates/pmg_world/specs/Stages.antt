@@ -1,5 +1,6 @@
 -- What a script does: each line's reply, and what there is after it.
-use Rattle.std.specs.Prelude.{◌≡◌, ℕ, Bool, true, false, List, [], ◌∷◌, ◌++◌, length, map, slice_get, Option, Some, None, Result, Ok, Err, if◌then◌else◌}
+use Rattle.std.specs.Prelude.{◌≡◌, ℕ, Bool, true, false, List, [], ◌∷◌, length, map, slice_get, Option, Some, None, Result, Ok, Err, if◌then◌else◌}
+use Rattle.std.specs.FinSet as set
 use Rattle.std.specs.List.{filter_map}
 use Rattle.pmg_value.specs.CheckOrder.{first_of}
 use Rattle.pmg_value.specs.Plain.{Plain}
@@ -17,14 +18,12 @@ use Rattle.pmg_node_model.specs.Acts.{Request, Reply}
 use Rattle.pmg_node.specs.Members.{known_members_cause, members_known}
 use Rattle.pmg_node.specs.Servers.{Server}
 use Rattle.pmg_grouptext.specs.Groups.{with_named_space}
-use Rattle.pmg_world.specs.Accounts.{Account, GoesOn, IsRun, IsAccountLawful}
 use Rattle.pmg_world.specs.Asking.{LineAsk, line_asks}
 use Rattle.pmg_world.specs.Delivering.{undelivered}
 use Rattle.pmg_world.specs.ReplyLines.{reply_line, flow_line, members_line}
+use Rattle.pmg_world.specs.GroupStates.{Happen, GroupState, IsStateAfter}
 use Rattle.pmg_script.specs.Scripts.{Line, said}
-use Rattle.pmg_world.specs.Telling.{event_of, happened_of}
-use Rattle.pmg_group_model.specs.Worlds.{Event, Happened}
-use Rattle.pmg_world.specs.declared.event.LoggedEvent.{LoggedEvent}
+use Rattle.pmg_group_model.specs.Worlds.{Event, Happened, start}
 use Rattle.pmg_world.specs.declared.phase.Phase.{Phase}
 use Rattle.pmg_world.specs.declared.phase.Phase.TheVariants as phases
 
@@ -43,36 +42,27 @@ abbrev pub is_deletion : Event → Bool
 is_deletion (Event.request node (Request.delete name)) = true
 is_deletion _ = false
 
--- the line of an event, with what it was replied
-abbrev pub told_line : Happened → List ℕ
-told_line h = reply_line (is_deletion h.event) h.reply
-
 -- ---- what is asked of the world
 
--- These events happen, each once and in their order, with these answers, and the world goes on by them from where it stood. What is
--- told then is a run of the model, and the laws of every run hold of it.
-pub record Happen (w : Account) (events : List Event) (more : List LoggedEvent) (v : Account) : Type 0 where
-  pub jobs : v.jobs ≡ w.jobs
-  pub told : v.told ≡ w.told ++ more
-  pub asked : map (λ t. event_of t.event) more ≡ events
-  pub goes_on : GoesOn w v
-  pub run : IsRun v
-  pub lawful : IsAccountLawful v
+-- the event happens, with that reply
+abbrev pub HappensOnce : GroupState → Event → Reply → GroupState → Type 0
+HappensOnce w e reply v = Happen w (record { event = e; reply = reply } ∷ []) v
 
--- the event happens, and the line is that of its answer
-pub record AnswersLine (w : Account) (e : Event) (text : List ℕ) (v : Account) : Type 0 where
-  pub entry : LoggedEvent
-  pub happened : Happen w (e ∷ []) (entry ∷ []) v
-  pub line : text ≡ told_line (happened_of entry)
+-- the event happens, and the line is that of its reply
+pub record AnswersLine (w : GroupState) (e : Event) (text : List ℕ) (v : GroupState) : Type 0 where
+  pub reply : Reply
+  pub happened : HappensOnce w e reply v
+  pub line : text ≡ reply_line (is_deletion e) reply
 
--- all frames are delivered that never were, of those that were sent; the line tells how many
-pub record Flows (w : Account) (text : List ℕ) (v : Account) : Type 0 where
-  pub more : List LoggedEvent
-  pub happened : Happen w (map Event.deliver (undelivered w.told (length w.sent))) more v
+-- all frames are delivered that never were, of those that were sent, each once and in their order; the line tells how many
+pub record Flows (w : GroupState) (text : List ℕ) (v : GroupState) : Type 0 where
+  pub more : List Happened
+  pub asked : map (λ h. h.event) more ≡ map Event.deliver (undelivered w.delivered (length w.sent))
+  pub happened : Happen w more v
   pub line : text ≡ flow_line (length more)
 
 -- the node of that index, if the group has one
-abbrev pub server_at : Account → ℕ → Option Server
+abbrev pub server_at : GroupState → ℕ → Option Server
 server_at w node = if is_node w.jobs node then slice_get w.nodes node else None
 
 -- the process that the element of an array is
@@ -105,7 +95,7 @@ dump_at None = refused_line refusals.BadParam
 dump_at (Some s) = dump s.holding.far
 
 -- How the world answers what is asked of it, and what it is then.
-unfoldable pub Performs : Account → LineAsk → List ℕ → Account → Type 0
+unfoldable pub Performs : GroupState → LineAsk → List ℕ → GroupState → Type 0
 Performs w (LineAsk.happens e) text v = AnswersLine w e text v
 Performs w LineAsk.unnamed text v = (text ≡ refused_line refusals.BadParam) × (v ≡ w)
 Performs w LineAsk.flow text v = Flows w text v
@@ -125,31 +115,31 @@ Registers jobs (Ok more) text v = (text ≡ ok_line) × (v ≡ phases.Registerin
 Registers jobs (Err e) text v = (text ≡ refused_line e) × (v ≡ phases.Registering jobs)
 
 -- a world of these jobs in which nothing happened
-pub record IsNew (jobs : Jobs) (w : Account) : Type 0 where
+pub record IsNew (jobs : Jobs) (w : GroupState) : Type 0 where
   pub jobs_are : w.jobs ≡ jobs
-  pub told : w.told ≡ []
   pub sent : w.sent ≡ []
-  pub run : IsRun w
+  pub delivered : w.delivered ≡ set.empty
+  pub stands : IsStateAfter w [] (start jobs)
 
 -- the world answers what the line asks of it
-pub record Runs (w : Account) (line : Line) (text : List ℕ) (v : Account) : Type 0 where
+pub record Runs (w : GroupState) (line : Line) (text : List ℕ) (v : GroupState) : Type 0 where
   pub asked : LineAsk
   pub asks : line_asks w.jobs line ≡ Some asked
   pub performs : Performs w asked text v
 
 -- nothing is asked of it
-unfoldable pub AsksNothing : Account → Line → Type 0
+unfoldable pub AsksNothing : GroupState → Line → Type 0
 AsksNothing w line = line_asks w.jobs line ≡ None
 
 -- it does so, and runs on
-pub record RunsOn (w : Account) (line : Line) (text : List ℕ) (v : Phase) : Type 0 where
-  pub after : Account
+pub record RunsOn (w : GroupState) (line : Line) (text : List ℕ) (v : Phase) : Type 0 where
+  pub after : GroupState
   pub runs : Runs w line text after
   pub left : v ≡ phases.Running after
 
 -- a new world does so
 pub record Starts (jobs : Jobs) (line : Line) (text : List ℕ) (v : Phase) : Type 0 where
-  pub world : Account
+  pub world : GroupState
   pub is_new : IsNew jobs world
   pub runs : RunsOn world line text v
 

@@ -20,7 +20,6 @@ use pmg_value::{Key, Nspace, Proc, Value, is_key_text, is_nspace_name};
 use std::alloc::{AllocError, Global};
 
 /// What a line asks of the world.
-#[derive(Drop)]
 pub(crate) enum LineAsk {
     /// This happens.
     Event(Event),
@@ -32,6 +31,19 @@ pub(crate) enum LineAsk {
     Members(u64, Key),
     /// The node's dump is told.
     Dump(u64),
+}
+
+impl Drop for LineAsk {
+    #[inline(always)]
+    fn drop(self) {
+        match self {
+            LineAsk::Event(_) => {}
+            LineAsk::Unnamed => {}
+            LineAsk::Flow => {}
+            LineAsk::Members(_, _) => {}
+            LineAsk::Dump(_) => {}
+        }
+    }
 }
 
 /// Whether the process's namespace has a name.

@@ -1,83 +1,79 @@
 //! Which of the frames ever sent were delivered.
-ghost use Rattle.std.specs.Prelude.{◌≡◌, ◌<◌, ◌+◌, ◌||◌, ℕ, suc, List, length, map, slice_index_or, IfOk, OnOk, OnErr};
+ghost use Rattle.std.specs.Prelude.{◌≡◌, ◌<◌, ◌≤◌, ◌∷◌, [], ℕ, true, None, OnOk};
 ghost use Rattle.std.specs.FinSet as set;
-ghost use Rattle.pmg_world.specs.Delivering.{IsNoted, delivered_by, is_number, missing};
+ghost use Rattle.pmg_world.specs.Delivering.{AddsDelivered, all_delivered, delivered_by, is_number};
+ghost use Rattle.pmg_world.specs.Keeping.{happened_so};
 ghost use Rattle.pmg_world.specs.Telling.{event_of};
-ghost use Rattle.pmg_group_model.specs.Worlds.{Event as ModelEvent};
-ghost use Rattle.pmg_world.specs.declared.event.LoggedEvent.{LoggedEvent as AnyTold};
 
-use crate::event::{Event, LoggedEvent};
+use crate::event::Event;
 use pmg_join::RangeSet;
+use pmg_node::Reply;
+use pmg_value::Refusal;
 use std::alloc::{AllocError, Global};
 
-/// Which of the frames ever sent were delivered, as far as the events told were looked at.
+/// Which of the frames ever sent were delivered. The last one is put to the others before the next event, so that an event that has
+/// happened takes no memory any more.
 #[derive(Drop)]
 pub(crate) struct Delivered {
-    /// How many of the events were.
-    seen: usize,
-    /// The numbers of the frames.
+    /// The numbers of those that were delivered before the last event.
     frames: RangeSet,
+    /// The number of the one that the last event delivered, if it did.
+    last: Option<u64>,
 }
 
-/// The number of the frame that was delivered by this, if one was.
-fn frame_of(told: &LoggedEvent) -> Option<u64>
-    ensures { (frame : ℕ) → delivered_by frame told.now ≡ is_number frame result }
+/// The number of the frame that the event delivers, where it is answered so, if it does.
+#[tactic(auto, using(crate::proofs::GroupLemmas::no_refusal))]
+fn frame_of(event: &Event, answer: &Result<Reply, Refusal>) -> Option<u64>
+    ensures { (frame : ℕ) → delivered_by frame (happened_so (event_of event.now) answer.now) ≡ is_number frame result }
 {
-    match (&told.event, &told.answer) {
+    match (event, answer) {
         (Event::Deliver(frame), Ok(_)) => Some(*frame),
         _ => None,
     }
 }
 
 impl Delivered {
-    /// No event was looked at.
+    /// No frame was.
     pub(crate) fn new(alloc: Global) -> Delivered
-        ensures { (told : List AnyTold) → IsNoted told result }
+        ensures { all_delivered result ≡ set.empty }
     {
         Delivered {
-            seen: 0,
             frames: RangeSet::new(alloc),
+            last: None,
         }
     }
 
-    /// Looks at the next of the events told.
-    fn note_next(&mut self, told: &[LoggedEvent]) -> Result<(), AllocError>
-        requires { self.old.seen < length told.now }
-        ensures frames { OnOk result ((t : AnyTold) (n : ℕ) → set.contains self.new.frames (suc n)
-            ≡ (set.contains self.old.frames (suc n) || delivered_by (suc n) (slice_index_or told.now self.old.seen t))) }
-        ensures seen { OnOk result (self.new.seen ≡ self.old.seen + 1) }
-        ensures err { OnErr result (self.new ≡ self.old) }
+    /// Puts the last one to the others, so that there is room for another last one.
+    pub(crate) fn make_room(&mut self) -> Result<(), AllocError>
+        ensures same { AddsDelivered (all_delivered self.old) [] (all_delivered self.new) }
+        ensures room { OnOk result (self.new.last ≡ None) }
     {
-        match frame_of(&told[self.seen]) {
-            Some(frame) if frame > 0 => self.frames.insert(frame - 1, frame)?,
-            _ => {}
-        }
-        self.seen += 1;
-        Ok(())
-    }
-
-    /// Looks at all events told since.
-    pub(crate) fn note(&mut self, told: &[LoggedEvent]) -> Result<(), AllocError>
-        requires { IsNoted told.now self.old }
-        ensures noted { IsNoted told.now self.new }
-        ensures seen { OnOk result (self.new.seen ≡ length told.now) }
-    {
-        while self.seen < told.len() {
-            self.note_next(told)?;
+        if let Some(frame) = self.last {
+            self.frames.insert(frame.saturating_sub(1), frame)?;
+            self.last = None;
         }
         Ok(())
     }
 
-    /// The deliveries of the frames, of so many, that were never delivered.
-    pub(crate) fn missing(&self, alloc: Global, count: u64) -> Result<Vec<Event>, AllocError>
-        ensures { IfOk result (λ events. map event_of events.items ≡ map ModelEvent.deliver (missing self.now.frames count)) }
+    /// The event was answered so: there is room for the frame that it delivered.
+    pub(crate) fn note(&mut self, event: &Event, answer: &Result<Reply, Refusal>)
+        requires { self.old.last ≡ None }
+        ensures { AddsDelivered (all_delivered self.old) (happened_so (event_of event.now) answer.now ∷ []) (all_delivered self.new) }
     {
-        let mut events = Vec::new(alloc);
-        for frame in self.frames.level().min(count)..count {
-            if !self.frames.contains(frame + 1) {
-                events.push(Event::Deliver(frame + 1))?;
-            }
-        }
-        Ok(events)
+        self.last = frame_of(event, answer);
+    }
+
+    /// Whether the frame of that number was delivered.
+    pub(crate) fn contains(&self, frame: u64) -> bool
+        ensures { result ≡ set.contains (all_delivered self.now) frame }
+    {
+        self.frames.contains(frame) || self.last == Some(frame)
+    }
+
+    /// A number up to which all frames were delivered, from 1.
+    pub(crate) fn level(&self) -> u64
+        ensures { (n : ℕ) → 0 < n → n ≤ result → set.contains (all_delivered self.now) n ≡ true }
+    {
+        self.frames.level()
     }
 }

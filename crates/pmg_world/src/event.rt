@@ -20,6 +20,7 @@ pub enum Event {
 }
 
 impl Drop for Event {
+    #[inline(always)]
     fn drop(self) {
         match self {
             Event::Put(_, _, _, _) => {}

@@ -1,5 +1,6 @@
 //! The nodes of a group with their clients: each event is one step of the model.
-ghost use Rattle.std.specs.Prelude.{◌≡◌, ◌<◌, ◌++◌, ◌&&◌, length, Err, Option, Some, IfOk, slice_index_or, slice_set};
+ghost use Rattle.std.specs.Prelude.{◌≡◌, ◌<◌, ◌++◌, ◌&&◌, true, false, length, Err, Option, Some, IfOk, slice_get, slice_index_or, slice_set};
+ghost use Rattle.std.specs.Option.{option_map};
 ghost use Rattle.pmg_value.specs.Spelling.{spelling};
 ghost use Rattle.pmg_value.specs.declared.refusal.Refusal.TheVariants as refusals;
 ghost use Rattle.pmg_jobinfo.specs.Jobs.{AreJobs, home_of};
@@ -40,6 +41,17 @@ impl Drop for Group {
     }
 }
 
+/// Whether an allocation failed.
+pub(crate) fn is_short(answer: &Result<Reply, Refusal>) -> bool
+    ensures short { result ≡ true → answer.now ≡ Err refusals.NoMemory }
+    ensures answered { result ≡ false → IsAnswered answer.now }
+{
+    match answer {
+        Err(Refusal::NoMemory) => true,
+        _ => false,
+    }
+}
+
 /// A new node for each that the registry has.
 fn new_nodes(registry: &Registry) -> Result<Vec<Node>, AllocError>
     ensures new { IfOk result (λ nodes. AreNew registry.now (length registry.now.nodes) nodes.items) }
@@ -66,6 +78,13 @@ impl Group {
             caches: Caches::new(alloc),
             sent: VecDeque::new(alloc),
         })
+    }
+
+    /// The node of that index, if the group has one.
+    pub(crate) fn node(&self, node: NodeId) -> Option<&Node>
+        ensures { option_map (λ n. n.now) result ≡ slice_get self.now.nodes.items node }
+    {
+        self.nodes.get(node.index() as usize)
     }
 
     /// An act of the node of that index, whose frames are sent.

@@ -1,53 +1,57 @@
 //! A world that a script plays on, with what was delivered in it.
-ghost use Rattle.std.specs.Prelude.{◌≡◌, ◌<◌, IfOk};
+ghost use Rattle.std.specs.Prelude.{◌≡◌, ◌<◌, IfOk, OnOk};
 ghost use Rattle.std.specs.Option.{option_map};
 ghost use Rattle.pmg_value.specs.Items.{items_in};
 ghost use Rattle.pmg_value.specs.Spelling.{form, plain_of, plains_of, spelling};
 ghost use Rattle.pmg_value.specs.declared.value.Value.TheVariants as values;
 ghost use Rattle.pmg_wire.specs.Fields.{whole_value};
 ghost use Rattle.pmg_store.specs.Dump.{dump};
+ghost use Rattle.pmg_node.specs.Servers.{IsAnswered};
+ghost use Rattle.pmg_node_model.specs.Acts.{Reply as ModelReply};
+ghost use Rattle.pmg_group_model.specs.Worlds.{Event as ModelEvent};
 ghost use Rattle.pmg_world.specs.Asking.{asked_of};
-ghost use Rattle.pmg_world.specs.Stages.{AnswersLine, Flows, IsNew, Performs, dump_at, is_deletion, members_text, server_at, proc_element, proc_elements, procs_in_value};
+ghost use Rattle.pmg_world.specs.Keeping.{replied};
+ghost use Rattle.pmg_world.specs.Stages.{AnswersLine, Flows, HappensOnce, IsNew, Performs, dump_at, is_deletion, members_text, server_at, proc_element, proc_elements, procs_in_value};
 ghost use Rattle.pmg_world.specs.Telling.{event_of};
 
 use crate::asking::LineAsk;
 use crate::delivered::Delivered;
 use crate::event::Event;
+use crate::group::{Group, is_short};
 use crate::reply_lines::{flow_line, members_line, refusal_line, reply_line};
-use crate::world::World;
 use pmg_grouptext::node_id;
 use pmg_jobinfo::Registry;
-use pmg_node::{Node, Request};
+use pmg_node::{Node, Reply, Request};
 use pmg_store::Store;
 use pmg_value::{Array, Items, Key, Proc, Refusal, Value, WatchedWriter};
 use std::alloc::{AllocError, Global};
 use std::marker::Model;
 
-/// A world that runs, and which of its frames were delivered.
+/// A group that runs, and which of its frames were delivered. Whatever happens, some run of the model leads to the state that it is in,
+/// and the laws of every run hold of each that does. What happened is not kept.
 pub(crate) struct Scene {
-    world: World,
+    group: Group,
     delivered: Delivered,
 }
 
 impl Drop for Scene {
     fn drop(self) {
-        let Self { world, delivered } = self;
+        let Self { group, delivered } = self;
     }
 }
 
 impl Model for Scene {
     ghost use Rattle.pmg_node_model.specs.contracts.sent.Sent.{the_row as sent_row};
-    ghost use Rattle.pmg_world.specs.Accounts.{Account, coded_account};
-    ghost use Rattle.pmg_world.specs.Delivering.{IsNoted};
-    ghost use Rattle.pmg_world.specs.contracts.event.LoggedEvent.{the_row as told_row};
+    ghost use Rattle.pmg_world.specs.Delivering.{all_delivered};
+    ghost use Rattle.pmg_world.specs.GroupStates.{GroupState, IsPlayed, coded_group_state, group_state};
 
-    ghost Value = { Account };
+    ghost Value = { GroupState };
 
-    ghost coded = { coded_account sent_row.coded told_row.coded };
+    ghost coded = { coded_group_state sent_row.coded };
 
-    ghost view = { λ a. a.world };
+    ghost view = { λ a. group_state a.group (all_delivered a.delivered) };
 
-    ghost invariant = { λ a. IsNoted a.world.told a.delivered };
+    ghost invariant = { λ a. IsPlayed a.group (all_delivered a.delivered) };
 }
 
 /// Whether the event is a set's deletion.
@@ -108,7 +112,7 @@ impl Scene {
         ensures { IfOk result (λ scene. IsNew registry.now scene) }
     {
         Ok(Scene {
-            world: World::new(registry)?,
+            group: Group::new(registry)?,
             delivered: Delivered::new(alloc),
         })
     }
@@ -117,7 +121,7 @@ impl Scene {
     pub(crate) fn registry(&self) -> &Registry
         ensures { result.now ≡ self.now.jobs }
     {
-        self.world.registry()
+        &self.group.registry
     }
 
     /// What is asked of the world is done, and answered with the text of its reply.
@@ -126,50 +130,72 @@ impl Scene {
         &mut self,
         alloc: Global,
         room: Vec<u8>,
-        asked: LineAsk,
+        asked: &LineAsk,
     ) -> Result<Vec<u8>, AllocError>
-        ensures { IfOk result (λ text. Performs self.old (asked_of asked) text.items self.new) }
+        ensures { IfOk result (λ text. Performs self.old (asked_of asked.now) text.items self.new) }
     {
         match asked {
             LineAsk::Event(event) => self.happen(room, event),
             LineAsk::Unnamed => refusal_line(room, &Refusal::BadParam),
             LineAsk::Flow => self.flow(alloc),
-            LineAsk::Members(node, name) => self.members(alloc, room, node, &name),
-            LineAsk::Dump(node) => self.dump(alloc, room, node),
+            LineAsk::Members(node, name) => self.members(alloc, room, *node, name),
+            LineAsk::Dump(node) => self.dump(alloc, room, *node),
         }
     }
 
     /// The event happens, and is answered with the line of its reply.
-    fn happen(&mut self, room: Vec<u8>, event: Event) -> Result<Vec<u8>, AllocError>
-        ensures { IfOk result (λ text. AnswersLine self.old (event_of event) text.items self.new) }
+    fn happen(&mut self, room: Vec<u8>, event: &Event) -> Result<Vec<u8>, AllocError>
+        ensures { IfOk result (λ text. AnswersLine self.old (event_of event.now) text.items self.new) }
     {
-        let deletes = is_deletion(&event);
-        self.world.step(event)?;
-        match self.world.events().last() {
-            Some(told) => reply_line(room, deletes, &told.answer),
-            None => unreachable!(),
+        let answer = self.step(event);
+        if is_short(&answer) {
+            return Err(AllocError);
         }
+        reply_line(room, is_deletion(event), &answer)
+    }
+
+    /// What happens next, and its answer.
+    fn step(&mut self, event: &Event) -> Result<Reply, Refusal>
+        ensures { IsAnswered result → HappensOnce self.old (event_of event.now) (replied result) self.new }
+    {
+        self.delivered.make_room()?;
+        let answer = self.group.happen(event);
+        self.delivered.note(event, &answer);
+        answer
     }
 
     /// Each frame is delivered that never was.
     fn flow(&mut self, alloc: Global) -> Result<Vec<u8>, AllocError>
         ensures { IfOk result (λ text. Flows self.old text.items self.new) }
     {
-        self.delivered.note(self.world.events())?;
-        let count = self.world.sent().len() as u64;
-        let events = self.delivered.missing(alloc, count)?;
-        match self.world.run(&events) {
-            Ok(()) => flow_line(Vec::new(alloc), events.len() as u64),
-            Err(_) => Err(AllocError),
+        let count = self.group.sent.len() as u64;
+        let mut done = 0;
+        for frame in self.delivered.level().min(count)..count {
+            if !self.delivered.contains(frame + 1) {
+                self.deliver(frame + 1)?;
+                done += 1;
+            }
         }
+        flow_line(Vec::new(alloc), done)
+    }
+
+    /// The frame of that number is delivered.
+    fn deliver(&mut self, frame: u64) -> Result<(), AllocError>
+        ensures { OnOk result ((reply : ModelReply) × HappensOnce self.old (ModelEvent.deliver frame) reply self.new) }
+    {
+        let answer = self.step(&Event::Deliver(frame));
+        if is_short(&answer) {
+            return Err(AllocError);
+        }
+        Ok(())
     }
 
     /// The node of that index, if the group has one.
     fn node(&self, index: u64) -> Option<&Node>
         ensures { option_map (λ n. n.now) result ≡ server_at self.now index }
     {
-        match node_id(self.world.registry(), index) {
-            Some(node) => self.world.node(node),
+        match node_id(&self.group.registry, index) {
+            Some(node) => self.group.node(node),
             None => None,
         }
     }

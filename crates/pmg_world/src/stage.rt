@@ -4,7 +4,7 @@ ghost use Rattle.pmg_store.specs.declared.failure.Failure.TheVariants as failure
 ghost use Rattle.pmg_store.specs.declared.input.TheConstants.{MOST_READS};
 ghost use Rattle.pmg_value.specs.declared.refusal.Refusal.TheVariants as refusals;
 ghost use Rattle.pmg_script.specs.Replays.{Replayed};
-ghost use Rattle.pmg_world.specs.Accounts.{Account};
+ghost use Rattle.pmg_world.specs.GroupStates.{GroupState};
 ghost use Rattle.pmg_script.specs.Scripts.{line_of, texts};
 ghost use Rattle.pmg_world.specs.Stages.{OpensAt, PlaysLine, RegistersAt, Runs, RunsAt, StopsLine, AsksNothing, is_over, ok_line, refused_line};
 ghost use Rattle.pmg_script.specs.declared.lines.LineFault.TheVariants as faults;
@@ -91,7 +91,7 @@ fn run_line(
     ensures malformed { result ≡ Err faults.Malformed → AsksNothing scene.old (line_of line.entry) }
 {
     let asked = ask(alloc, scene.registry(), line)?;
-    let text = scene.perform(alloc, room, asked)?;
+    let text = scene.perform(alloc, room, &asked)?;
     Ok(text)
 }
 
@@ -146,7 +146,7 @@ impl Stage {
     /// Starts the world, and does the first line that asks something of it. A call of its own, since a world that is made takes room.
     #[inline(never)]
     fn start(&mut self, line: Line<'_>, room: Vec<u8>) -> Result<Vec<u8>, LineFault>
-        requires { (w : Account) → self.old ≡ phases.Running w → ⊥ }
+        requires { (w : GroupState) → self.old ≡ phases.Running w → ⊥ }
         ensures ok { IfOk result (λ text. RunsAt self.old (line_of line.entry) text.items self.new) }
         ensures malformed { result ≡ Err faults.Malformed → (text : List ℕ) (v : AnyPhase) → RunsAt self.old (line_of line.entry) text v → ⊥ }
     {

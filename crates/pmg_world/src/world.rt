@@ -1,16 +1,14 @@
 //! The nodes of a group and their clients together, event after event.
-ghost use Rattle.std.specs.Prelude.{◌≡◌, ◌<◌, true, false, [], ◌∷◌, length, take, IfErr, IfOk, OnErr, OnOk, slice_get};
+ghost use Rattle.std.specs.Prelude.{◌≡◌, ◌<◌, [], ◌∷◌, length, take, IfErr, IfOk, OnErr, OnOk, slice_get};
 ghost use Rattle.std.specs.Option.{option_map};
-ghost use Rattle.pmg_node.specs.Servers.{IsAnswered};
-ghost use Rattle.pmg_value.specs.declared.refusal.Refusal.TheVariants as refusals;
 ghost use Rattle.pmg_world.specs.Accounts.{Adds, GoesOn, IsAccountLawful, IsRun};
 
 use crate::event::{Event, LoggedEvent};
-use crate::group::Group;
+use crate::group::{Group, is_short};
 use pmg_jobinfo::Registry;
-use pmg_node::{Node, Reply};
+use pmg_node::Node;
 use pmg_node_model::Sent;
-use pmg_value::{NodeId, Refusal};
+use pmg_value::NodeId;
 use std::alloc::AllocError;
 use std::collections::VecDeque;
 use std::marker::Model;
@@ -48,17 +46,6 @@ impl Model for World {
 pub struct RunFailed {
     /// How many of them happened.
     pub done: usize,
-}
-
-/// Whether an allocation failed.
-fn is_short(answer: &Result<Reply, Refusal>) -> bool
-    ensures short { result ≡ true → answer.now ≡ Err refusals.NoMemory }
-    ensures answered { result ≡ false → IsAnswered answer.now }
-{
-    match answer {
-        Err(Refusal::NoMemory) => true,
-        _ => false,
-    }
 }
 
 impl World {
@@ -102,7 +89,7 @@ impl World {
     pub fn node(&self, node: NodeId) -> Option<&Node>
         ensures { option_map (λ n. n.now) result ≡ slice_get self.now.nodes node }
     {
-        self.group.nodes.get(node.index() as usize)
+        self.group.node(node)
     }
 
     /// What happens next; its answer is the last of `events`. Where an allocation fails, nothing happened.

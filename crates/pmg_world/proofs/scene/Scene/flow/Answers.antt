@@ -1,35 +1,50 @@
-use Rattle.std.proofs.Common.{◌≡◌, ◌∙◌, rules, ap, subst, length, map, take, List}
+use Rattle.std.proofs.Common.{◌≡◌, ◌≤◌, ◌∙◌, ◌+◌, length, arith, rules, sym, ap, subst}
+use Rattle.std.specs.FinSet as set
 use Rattle.std.proofs.lemmas.Result.{IfOk-weaker}
-use Rattle.pmg_world.specs.Accounts.{Account, Adds}
-use Rattle.pmg_world.specs.Delivering.{IsNoted, missing}
+use Rattle.pmg_world.specs.Delivering.{all_delivered}
 use Rattle.pmg_world.specs.ReplyLines.{flow_line}
 use Rattle.pmg_world.specs.Stages.{Flows}
-use Rattle.pmg_group_model.specs.Worlds.{Event}
-use Rattle.pmg_world.specs.declared.event.Event.{Event as ToldEvent}
-use Rattle.pmg_world.specs.declared.event.LoggedEvent.{LoggedEvent}
-use Rattle.pmg_world.proofs.Scenes.{noted_after, flows_all}
+use Rattle.pmg_world.specs.GroupStates.{GroupState, group_state}
+use Rattle.pmg_world.proofs.FlowLemmas.{Flowing, flows_end, flows_first, flows_on, flows_past}
+use Rattle.pmg_world.proofs.StateLemmas.{played_lawful, played_reached}
 use Rattle.pmg_world.proofs.scene.Scene.flow.Goals as goal
+use Rattle.pmg_world.proofs.scene.Scene.flow.Goals.{then-not-contains+in_ok-deliver, else-not-contains}
 
-pub invariant_of-self-in-Ok : goal.invariant_of-self-in-Ok
-invariant_of-self-in-Ok c =
-    noted_after c.self.inside.world.told c.run.new.self.told c.deref.result.now c.note.new.self c.in-Ok.ensures.told
-    (subst (λ (xs : List LoggedEvent). IsNoted xs c.note.new.self) c.events.ensures c.in_ok-note.ensures.noted)
+pub loop-frame-init : goal.loop-frame-init
+loop-frame-init c =
+    let g = c.self.inside.group in
+    let frames = all_delivered c.self.inside.delivered in
+    let least : c.min-frame.result ≤ c.level.result = search rules in
+    let first = flows_first (group_state g frames) c.level.result c.min-frame.result (played_reached g frames c.self.invariant) (played_lawful g frames c.self.invariant) c.level.ensures least in
+    record { within = search rules; flows = subst (λ (w : GroupState). Flowing w w c.min-frame.result 0) c.self.view_is first }
 
-pub returns-in-Ok : goal.returns-in-Ok
-returns-in-Ok c =
-    let count : c.len-count.result ≡ length c.self.inside.world.sent = search rules in
-    let size : c.len.result ≡ length c.in_ok-events.events.items = search rules in
-    let adds = subst (λ (es : List ToldEvent). Adds c.self.inside.world.told es c.run.new.self.told) c.deref.ensures.value c.in-Ok.ensures.told in
-    IfOk-weaker c.flow_line.result (λ text. text.items ≡ flow_line c.len.result) (λ text. Flows c.args.self.now text.items c.run.new.self)
-    (λ text line.
-    subst (λ (w : Account). Flows w text.items c.run.new.self) c.self.view_is
-    (flows_all c.self.inside.world c.run.new.self c.note.new.self c.in_ok-events.events.items text.items c.in-Ok.ensures.jobs
-    (subst (λ (xs : List LoggedEvent). IsNoted xs c.note.new.self) c.events.ensures c.in_ok-note.ensures.noted) (c.in_ok-note.ensures.seen ∙ ap length c.events.ensures)
-    (c.in_ok-events.ensures ∙ ap (λ n. map Event.deliver (missing c.note.new.self.frames n)) count) adds c.in-Ok.ensures.goes_on c.in-Ok.ensures.run c.in-Ok.ensures.lawful
-    (line ∙ ap flow_line size)))
-    c.flow_line.ensures
+pub overflow_add-done : goal.overflow_add-done
+overflow_add-done c = omega (arith, c.loop-frame.invariant.flows.few, c.loop-frame-test.true)
 
-pub invariant_of-self-2 : goal.invariant_of-self-2
-invariant_of-self-2 c =
-    noted_after c.self.inside.world.told c.run.new.self.told (take c.in-Err.field-0.done c.deref.result.now) c.note.new.self c.in-Err.ensures.done
-    (subst (λ (xs : List LoggedEvent). IsNoted xs c.note.new.self) c.events.ensures c.in_ok-note.ensures.noted)
+pub loop-frame-preserved : goal.loop-frame-preserved
+loop-frame-preserved c =
+    let old = c.args.self.now in
+    let mid = c.loop-frame.self in
+    let next = c.loop-frame.frame + 1 in
+    let there : c.contains.result ≡ set.contains mid.delivered next = c.contains.ensures ∙ ap (λ (w : GroupState). set.contains w.delivered next) c.self-in-loop-frame.view_is in
+    record {
+      within = omega (arith, c.loop-frame-test.true);
+      flows =
+          elim c.if-not-contains.branch [
+            | then-not-contains+in_ok-deliver w ↦
+                subst (λ (v : GroupState). Flowing old v next c.if-not-contains.done) (sym w.self-is) (subst (Flowing old w.deliver.new.self next) (sym w.done-is)
+                (flows_on old mid w.deliver.new.self c.loop-frame.frame c.loop-frame.done w.in_ok-deliver.ensures.0 c.loop-frame.invariant.flows (sym there ∙ w.if-not-contains.true) w.in_ok-deliver.ensures.1))
+            | else-not-contains w ↦
+                subst (λ (v : GroupState). Flowing old v next c.if-not-contains.done) (sym w.self-is) (subst (Flowing old mid next) (sym w.done-is)
+                (flows_past old mid c.loop-frame.frame c.loop-frame.done c.loop-frame.invariant.flows (sym there ∙ w.if-not-contains.false)))
+          ];
+    }
+
+pub returns : goal.returns
+returns c =
+    let end : c.loop-frame.frame ≡ c.len-count.result = omega (arith, c.loop-frame.invariant.within, c.loop-frame-test.false) in
+    let all = subst (λ n. Flowing c.args.self.now c.loop-frame.self n c.loop-frame.done) end c.loop-frame.invariant.flows in
+    let sent : c.len-count.result ≡ length c.self.inside.group.sent.items = search rules in
+    let count = sent ∙ ap (λ (w : GroupState). length w.sent) c.self.view_is in
+    IfOk-weaker c.flow_line.result (λ text. text.items ≡ flow_line c.loop-frame.done) (λ text. Flows c.args.self.now text.items c.loop-frame.self)
+    (λ text line. flows_end c.args.self.now c.loop-frame.self c.len-count.result c.loop-frame.done text.items all count line) c.flow_line.ensures
