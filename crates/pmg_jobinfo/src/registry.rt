@@ -198,6 +198,7 @@ impl Registry {
     }
 
     /// The process's home. It is node 0 for one that is none of its namespace, or of one that is not registered.
+    #[inline(always)]
     pub fn home_of(&self, proc: &Proc) -> NodeId
         ensures { result ≡ home_of self.now proc.now }
     {

@@ -36,6 +36,7 @@ pub enum Request {
 }
 
 impl Drop for Request {
+    #[inline(always)]
     fn drop(self) {
         match self {
             Request::Enter(_, _, _) => {}

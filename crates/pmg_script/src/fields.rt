@@ -119,9 +119,9 @@ fn collect_of(word: &[u8]) -> Result<bool, LineFault>
 fn mode_of(word: &[u8]) -> Result<Mode, LineFault>
     ensures { ReadsAllWords (λ m. m) result (mode_in word.now) }
 {
-    if word == b"wait".as_slice() {
+    if matches!(word, b"wait") {
         Ok(Mode::Wait)
-    } else if word == b"now".as_slice() {
+    } else if matches!(word, b"now") {
         Ok(Mode::Now)
     } else if word == b"refresh".as_slice() {
         Ok(Mode::Refresh)
@@ -195,6 +195,7 @@ impl<'a> Words<'a> {
     }
 
     /// The next two words, which name a process.
+    #[inline(always)]
     #[tactic(auto, unfolding(crate::specs::Fields::read_proc_words))]
     pub fn proc(&mut self) -> Result<Named<'a>, LineFault>
         ensures { ReadsWords (λ p. p) result self.new (read_proc_words self.old) }

@@ -69,7 +69,7 @@ fn read_rest<'a>(alloc: Global, word: &[u8], words: &mut Words<'a>) -> Result<Li
     ensures { ReadsAllWords line_of result (said_with word.now words.old) }
 {
     match word {
-        _ if word == b"get".as_slice() => read_get(words),
+        b"get" => read_get(words),
         _ if word == b"put".as_slice() => read_put(alloc, words),
         _ if word == b"commit".as_slice() => read_commit(words),
         _ if word == b"enter".as_slice() => read_enter(alloc, words),

@@ -113,6 +113,7 @@ impl Nspace {
     }
 
     /// The namespace of a name that was tested already.
+    #[inline(always)]
     pub fn from_name(alloc: Global, name: &[u8]) -> Result<Nspace, AllocError>
         requires { IsTrue (is_nspace name.now) }
         ensures { IfOk result (λ n. n ≡ name.now) }
