@@ -112,6 +112,14 @@ impl Word {
         if self.second % BYTE == 0 {
             return Ordering::Equal;
         }
+        self.compare_bytes(other)
+    }
+
+    /// The same, by all bytes, as few words need it. A call of its own, so that the others are compared without a frame on the stack.
+    #[inline(never)]
+    fn compare_bytes(&self, other: &Word) -> Ordering
+        ensures { result ≡ slice_cmp nat_cmp self.now other.now }
+    {
         self.as_bytes().cmp(other.as_bytes())
     }
 }
