@@ -1,10 +1,8 @@
 //! What the words of a line say.
-ghost use Rattle.std.specs.Prelude.{◌≡◌, true};
-ghost use Rattle.std.specs.Char.{is_ascii_digit};
-ghost use Rattle.std.specs.List.{list_all};
+ghost use Rattle.std.specs.Prelude.{◌≡◌};
 ghost use Rattle.pmg_script.specs.Lines.{ReadsWords, ReadsAllWords, read_as, read_words};
 ghost use Rattle.pmg_script.specs.Scripts.{texts};
-ghost use Rattle.pmg_script.specs.Fields.{decimal_value, bounded, number_in, rank_in, scope_in, collect_in, mode_in, value_in, read_proc_words, read_procs, all_numbers, read_proc_list};
+ghost use Rattle.pmg_script.specs.Fields.{number_in, rank_in, scope_in, collect_in, mode_in, value_in, read_proc_words, read_procs, all_numbers, read_proc_list};
 ghost use Rattle.std.specs.Result.{result_ok};
 ghost use Rattle.pmg_wire.specs.Fields.{whole_value};
 
@@ -34,35 +32,21 @@ impl<'a> Model for Named<'a> {
     ghost view = { λ a. record { nspace = a.nspace.now; rank = a.rank } };
 }
 
-/// A number, which is digits alone.
+/// A number, which is digits alone; of a greater one than 64 bits hold, the greatest of these.
 #[tactic(auto, unfolding(crate::specs::Fields::number_in))]
 pub fn number_of(word: &[u8]) -> Result<u64, LineFault>
     ensures { ReadsAllWords (λ n. n) result (number_in word.now) }
 {
-    if !are_digits(word) {
-        return Err(LineFault::Malformed);
-    }
-    Ok(value_of(word))
-}
-
-fn are_digits(word: &[u8]) -> bool
-    ensures { result ≡ list_all is_ascii_digit word.now }
-{
-    word.iter().all(|byte| byte.is_ascii_digit())
-}
-
-/// The number that the digits write; of a greater one than 64 bits hold, the greatest of these.
-fn value_of(digits: &[u8]) -> u64
-    requires { list_all is_ascii_digit digits.now ≡ true }
-    ensures { result ≡ bounded (decimal_value digits.now) }
-{
     let mut value = 0u64;
-    for digit in digits {
+    for digit in word {
+        if !digit.is_ascii_digit() {
+            return Err(LineFault::Malformed);
+        }
         value = value
             .saturating_mul(10)
             .saturating_add(u64::from(*digit - b'0'));
     }
-    value
+    Ok(value)
 }
 
 /// A rank: a number of 32 bits, or `*` for all ranks.
