@@ -3,7 +3,8 @@ ghost use Rattle.std.specs.Prelude.{◌≡◌, ◌++◌, Some, Err, IfOk, OnOk, 
 ghost use Rattle.pmg_value.specs.declared.refusal.Refusal.TheVariants as refusals;
 ghost use Rattle.pmg_node.specs.Acting.{act_of, acted_reply, commit_joins, delivery_joins, joins_in, joins_none, request_of, reply_as, SameAnswer, SameReply};
 ghost use Rattle.pmg_node.specs.Joining.{frame_joins, joins, no_joins};
-ghost use Rattle.pmg_node_model.specs.Acts.{Act as ModelAct, Reply as ModelReply};
+ghost use Rattle.pmg_node_model.specs.Acts.{Act as ModelAct, Reply as ModelReply, Request as ModelRequest};
+ghost use Rattle.pmg_node_parts.specs.Calls.{get_of};
 ghost use Rattle.pmg_node.specs.Replies.{asked_reply, committed_reply, defined_reply, delivery_reply, ended_reply, release_reply, taking_reply};
 ghost use Rattle.pmg_node.specs.Servers.{reply_to, sent_by, after, IsAnswered, Replies, RepliesAct};
 
@@ -16,9 +17,10 @@ use crate::parking::Asked;
 use crate::taking::Taking;
 use pmg_commit::Piece;
 use pmg_frame::Frame;
+use pmg_get::Mode;
 use pmg_node_model::Sent;
 use pmg_scope::Batch;
-use pmg_value::{Proc, Refusal};
+use pmg_value::{Key, Proc, Refusal};
 use std::alloc::AllocError;
 use std::collections::VecDeque;
 
@@ -262,6 +264,25 @@ impl Node {
         }
     }
 
+    /// Answers a process that asks for a key of the target, as `ask` does it, with what is replied to a request.
+    pub fn get(
+        &mut self,
+        proc: &Proc,
+        target: &Proc,
+        key: &Key,
+        mode: Mode,
+        out: &mut VecDeque<Sent>,
+    ) -> Result<Reply, Refusal>
+        ensures reply { RepliesAct reply_as result self.old (ModelAct.request (ModelRequest.ask proc.now (get_of target.now key.now) mode)) }
+        ensures done { IsAnswered result → self.new ≡ after self.old (ModelAct.request (ModelRequest.ask proc.now (get_of target.now key.now) mode)) }
+        ensures sent { IsAnswered result → out.new.items ≡ out.old.items
+            ++ sent_by self.old (ModelAct.request (ModelRequest.ask proc.now (get_of target.now key.now) mode)) }
+        ensures memory { result ≡ Err refusals.NoMemory → self.new ≡ self.old }
+        ensures unsent { result ≡ Err refusals.NoMemory → out.new.items ≡ out.old.items }
+    {
+        reply_of_asked(self.ask(proc, target, key, mode, out))
+    }
+
     /// Answers a request of a process at home at the node, or of the one who runs it.
     pub fn request(&mut self, request: &Request, out: &mut VecDeque<Sent>) -> Result<Reply, Refusal>
         ensures reply { RepliesAct reply_as result self.old (ModelAct.request (request_of request.now)) }
@@ -271,9 +292,7 @@ impl Node {
         ensures unsent { result ≡ Err refusals.NoMemory → out.new.items ≡ out.old.items }
     {
         match request {
-            Request::Ask(mode, proc, target, key) => {
-                reply_of_asked(self.ask(proc, target, key, *mode, out))
-            }
+            Request::Ask(mode, proc, target, key) => self.get(proc, target, key, *mode, out),
             _ => self.serve_alone(request, out),
         }
     }

@@ -3,12 +3,12 @@ ghost use Rattle.std.specs.Prelude.{◌≡◌, ◌||◌, false, IsTrue};
 ghost use Rattle.pmg_value.specs.CheckOrder.{first_of};
 ghost use Rattle.pmg_value.specs.Names.{is_reserved};
 ghost use Rattle.pmg_value.specs.Process.{is_host};
-ghost use Rattle.pmg_jobinfo.specs.Jobs.{is_registered, is_member};
+ghost use Rattle.pmg_jobinfo.specs.Jobs.{home_of, is_registered, is_member};
 ghost use Rattle.pmg_node_model.specs.Acts.{is_misnamed, caller_cause, free_cause};
 
 use crate::node::Node;
 use pmg_jobinfo::Registry;
-use pmg_value::{Nspace, Proc, Refusal};
+use pmg_value::{NodeId, Nspace, Proc, Refusal};
 
 /// Whether the namespace is registered.
 pub fn is_registered(registry: &Registry, nspace: &Nspace) -> bool
@@ -17,14 +17,34 @@ pub fn is_registered(registry: &Registry, nspace: &Nspace) -> bool
     registry.homes(nspace).is_some()
 }
 
-/// Whether the process's namespace is registered, and whether the process is none of it then.
-pub(crate) fn look_up(registry: &Registry, proc: &Proc) -> (bool, bool)
-    ensures registered { result.0 ≡ is_registered registry.now proc.now.nspace }
-    ensures misnamed { result.1 ≡ is_misnamed registry.now proc.now }
+/// What the registry says of a process.
+#[derive(Clone, Copy)]
+pub(crate) struct Listing {
+    /// Whether its namespace is registered.
+    pub is_registered: bool,
+    /// Whether the process is none of its namespace, which is registered.
+    pub is_misnamed: bool,
+    /// Its home: node 0 for one that is none of its namespace, or of one that is not registered.
+    pub home: NodeId,
+}
+
+/// What the registry says of the process, by one look-up.
+pub(crate) fn look_up(registry: &Registry, proc: &Proc) -> Listing
+    ensures registered { result.is_registered ≡ is_registered registry.now proc.now.nspace }
+    ensures misnamed { result.is_misnamed ≡ is_misnamed registry.now proc.now }
+    ensures home { result.home ≡ home_of registry.now proc.now }
 {
-    match registry.homes(&proc.nspace) {
-        Some(homes) => (true, homes.len() <= proc.rank.number() as usize),
-        None => (false, false),
+    let rank = proc.rank.number() as usize;
+    let homes = registry.homes(&proc.nspace);
+    let (is_misnamed, home) = match homes {
+        Some(homes) if rank < homes.len() => (false, homes[rank]),
+        Some(_) => (true, NodeId::from_checked(0)),
+        None => (false, NodeId::from_checked(0)),
+    };
+    Listing {
+        is_registered: homes.is_some(),
+        is_misnamed,
+        home,
     }
 }
 

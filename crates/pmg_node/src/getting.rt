@@ -2,7 +2,7 @@
 ghost use Rattle.std.specs.Prelude.{◌≡◌, false};
 ghost use Rattle.pmg_value.specs.Names.{is_reserved};
 ghost use Rattle.pmg_value.specs.declared.refusal.Refusal.TheVariants as refusals;
-ghost use Rattle.pmg_jobinfo.specs.Jobs.{Jobs};
+ghost use Rattle.pmg_jobinfo.specs.Jobs.{Jobs, home_of};
 ghost use Rattle.pmg_jobinfo.specs.Reserved.{is_general};
 ghost use Rattle.pmg_get.specs.Views.{outcome_of};
 ghost use Rattle.pmg_node_model.specs.Acts.{is_misnamed, target_cause};
@@ -14,7 +14,7 @@ use crate::node::Node;
 use pmg_get::{Answer, Mode};
 use pmg_jobinfo::Registry;
 use pmg_node_parts::BoardPreview;
-use pmg_value::{Key, Proc};
+use pmg_value::{Key, NodeId, Proc};
 
 /// Whether no particular rank is named.
 fn is_general(proc: &Proc) -> bool
@@ -44,10 +44,11 @@ pub fn is_bad_target(registry: &Registry, proc: &Proc, target: &Proc, key: &Key)
 }
 
 impl Node {
-    /// What a get of a key that is not reserved is answered here.
+    /// What a get of a key that is not reserved, of a target that is at home there, is answered here.
     #[tactic(auto, unfolding(pmg_node_model::specs::Holdings::seen_of))]
-    pub(crate) fn answer(&self, target: &Proc, key: &Key, mode: Mode) -> Answer<'_>
-        requires { is_reserved key.now ≡ false }
+    pub(crate) fn answer(&self, target: &Proc, home: NodeId, key: &Key, mode: Mode) -> Answer<'_>
+        requires plain { is_reserved key.now ≡ false }
+        requires home { home ≡ home_of self.now.jobs target.now }
         ensures { outcome_of result ≡ answer_in self.now.jobs self.now.id self.now.holding (get_of target.now key.now) mode }
     {
         let ahead = BoardPreview {
@@ -55,6 +56,6 @@ impl Node {
             near: None,
             far: None,
         };
-        ahead.answer(self.table.registry(), self.id, target, key, mode)
+        ahead.answer(home == self.id, target, key, mode)
     }
 }

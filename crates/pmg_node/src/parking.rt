@@ -7,7 +7,7 @@ ghost use Rattle.pmg_get.specs.Gets.{Outcome};
 ghost use Rattle.pmg_get.specs.Views.{outcome_of};
 ghost use Rattle.pmg_get.specs.declared.view.Mode.{Mode as AskedMode};
 ghost use Rattle.pmg_get.specs.declared.view.Mode.TheVariants as modes;
-ghost use Rattle.pmg_jobinfo.specs.Jobs.{is_registered};
+ghost use Rattle.pmg_jobinfo.specs.Jobs.{home_of, is_registered};
 ghost use Rattle.pmg_jobinfo.specs.Reserved.{is_general};
 ghost use Rattle.pmg_node_model.specs.Acts.{Act, Request, also, free_cause, target_cause, number_cause, is_misnamed, reply_of};
 ghost use Rattle.pmg_node_parts.specs.Calls.{get_of};
@@ -16,13 +16,13 @@ ghost use Rattle.pmg_node_model.specs.Kept.{IsSettled};
 ghost use Rattle.pmg_node.specs.Replies.{asked_reply};
 ghost use Rattle.pmg_node.specs.Servers.{reply_to, sent_by, after, Replies, IsAnswered};
 
-use crate::causes::{is_bad_caller, look_up};
+use crate::causes::{Listing, is_bad_caller, look_up};
 use crate::getting::is_bad_get;
 use crate::node::Node;
 use pmg_get::{Answer, Mode};
 use pmg_node_model::Sent;
 use pmg_node_parts::{Call, hand_out, rollback};
-use pmg_value::{Key, Proc, Refusal, Value};
+use pmg_value::{Key, NodeId, Proc, Refusal, Value};
 use std::alloc::AllocError;
 use std::collections::VecDeque;
 
@@ -48,18 +48,25 @@ fn to_asked(answer: Answer<'_>) -> Result<Asked, Refusal>
 }
 
 impl Node {
-    /// Judges who asks, and for whose key.
-    fn check_target(&self, proc: &Proc, target: &Proc, key: &Key) -> Result<(), Refusal>
+    /// Judges who asks, and for whose key, of whom the registry says this.
+    fn check_target(
+        &self,
+        proc: &Proc,
+        target: &Proc,
+        key: &Key,
+        listing: Listing,
+    ) -> Result<(), Refusal>
+        requires registered { listing.is_registered ≡ is_registered self.now.jobs target.now.nspace }
+        requires misnamed { listing.is_misnamed ≡ is_misnamed self.now.jobs target.now }
         ensures value { result ≡ first_of (also (free_cause self.now.jobs self.now.id self.now.holding proc.now)
             (target_cause self.now.jobs proc.now (get_of target.now key.now))) tt }
         ensures settled { IsSettled self.now.jobs self.now.id self.now.holding }
     {
         let registry = self.table.registry();
-        let (known, misnamed) = look_up(registry, target);
-        if is_bad_get(proc, target, key, misnamed) {
+        if is_bad_get(proc, target, key, listing.is_misnamed) {
             return Err(Refusal::BadParam);
         }
-        if known {
+        if listing.is_registered {
             return self.check_free(proc);
         }
         if is_bad_caller(registry, proc) {
@@ -69,13 +76,22 @@ impl Node {
     }
 
     /// Judges a get: who asks, for whose key, and that there is a number for the request where one is sent.
-    fn check_ask(&self, proc: &Proc, target: &Proc, key: &Key, mode: Mode) -> Result<(), Refusal>
+    fn check_ask(
+        &self,
+        proc: &Proc,
+        target: &Proc,
+        key: &Key,
+        mode: Mode,
+        listing: Listing,
+    ) -> Result<(), Refusal>
+        requires registered { listing.is_registered ≡ is_registered self.now.jobs target.now.nspace }
+        requires misnamed { listing.is_misnamed ≡ is_misnamed self.now.jobs target.now }
         ensures value { result ≡ first_of (also (free_cause self.now.jobs self.now.id self.now.holding proc.now)
             (also (target_cause self.now.jobs proc.now (get_of target.now key.now))
             (number_cause self.now.jobs self.now.id self.now.holding (get_of target.now key.now) mode))) tt }
         ensures settled { IsSettled self.now.jobs self.now.id self.now.holding }
     {
-        if let Err(refusal) = self.check_target(proc, target, key) {
+        if let Err(refusal) = self.check_target(proc, target, key, listing) {
             return Err(refusal);
         }
         self.check_number(target, key, mode)
@@ -95,8 +111,9 @@ impl Node {
         }
     }
 
-    /// What a process is told that asks for a key.
-    fn tell(&self, target: &Proc, key: &Key, mode: Mode) -> Result<Asked, Refusal>
+    /// What a process is told that asks for a key of the target, which is at home there.
+    fn tell(&self, target: &Proc, home: NodeId, key: &Key, mode: Mode) -> Result<Asked, Refusal>
+        requires home { home ≡ home_of self.now.jobs target.now }
         requires known { is_registered self.now.jobs target.now.nspace ≡ true }
         requires named { is_reserved key.now ≡ true → (not (is_general target.now) && is_misnamed self.now.jobs target.now) ≡ false }
         ensures { Replies asked_reply result (reply_of (answer_in self.now.jobs self.now.id self.now.holding (get_of target.now key.now) mode)) }
@@ -104,7 +121,7 @@ impl Node {
         if key.is_reserved() {
             return self.tell_reserved(target, key);
         }
-        to_asked(self.answer(target, key, mode))
+        to_asked(self.answer(target, home, key, mode))
     }
 
     /// The process's get, which finds nothing yet, waits, and the target's home is asked.
@@ -187,10 +204,12 @@ impl Node {
         ensures memory { result ≡ Err refusals.NoMemory → self.new ≡ self.old }
         ensures unsent { result ≡ Err refusals.NoMemory → out.new.items ≡ out.old.items }
     {
-        if let Err(refusal) = self.check_ask(proc, target, key, mode) {
+        let listing = look_up(self.table.registry(), target);
+        let home = listing.home;
+        if let Err(refusal) = self.check_ask(proc, target, key, mode, listing) {
             return Err(refusal);
         }
-        match self.tell(target, key, mode) {
+        match self.tell(target, home, key, mode) {
             Err(refusal) => Err(refusal),
             Ok(Asked::Found(value)) => Ok(Asked::Found(value)),
             Ok(Asked::Parked) => {

@@ -1,9 +1,10 @@
 //! The stores of a node, as they are once pieces are joined into them.
-ghost use Rattle.std.specs.Prelude.{◌≡◌, ◌≤◌, true, is_none, is_some};
+ghost use Rattle.std.specs.Prelude.{◌≡◌, ◌==◌, ◌≤◌, ℕ, true, is_none, is_some};
 ghost use Rattle.std.specs.Option.{option_map};
 ghost use Rattle.pmg_value.specs.Spelling.{spelling};
 ghost use Rattle.pmg_scope.specs.Scripts.{term_key};
 ghost use Rattle.pmg_commit.specs.Data.{level_at, read_at};
+ghost use Rattle.pmg_jobinfo.specs.Jobs.{Jobs, home_of};
 ghost use Rattle.pmg_get.specs.Gets.{Seen, resolve};
 ghost use Rattle.pmg_get.specs.Views.{outcome_of};
 ghost use Rattle.pmg_node_parts.specs.BoardPreview.{near_ahead, far_ahead};
@@ -13,9 +14,8 @@ ghost use Rattle.pmg_commit.specs.declared.piece.TheConstants.{MAX_COMMIT};
 
 use pmg_commit::Piece;
 use pmg_get::{Answer, Mode, View, resolve};
-use pmg_jobinfo::Registry;
 use pmg_store::{Board, Store};
-use pmg_value::{Key, NodeId, Proc, Value};
+use pmg_value::{Key, Proc, Value};
 
 /// A node's stores, and the pieces that are about to be joined: for reads from the node itself, and from other nodes.
 #[derive(Clone, Copy)]
@@ -89,19 +89,13 @@ impl<'a> BoardPreview<'a> {
         resolve(View::Far { far, term }, mode)
     }
 
-    /// What a get of a key that is not reserved is answered at the node.
-    pub fn answer(
-        &self,
-        registry: &Registry,
-        id: NodeId,
-        target: &Proc,
-        key: &Key,
-        mode: Mode,
-    ) -> Answer<'a>
-        ensures { outcome_of result ≡ resolve (plain_seen registry.now id (read_at (near_ahead self.now) target.now) (read_at (far_ahead self.now) target.now)
+    /// What a get of a key that is not reserved is answered at a node, which is the target's home or is not.
+    pub fn answer(&self, is_home: bool, target: &Proc, key: &Key, mode: Mode) -> Answer<'a>
+        ensures { (jobs : Jobs) (id : ℕ) → is_home ≡ (home_of jobs target.now == id)
+            → outcome_of result ≡ resolve (plain_seen jobs id (read_at (near_ahead self.now) target.now) (read_at (far_ahead self.now) target.now)
             (get_of target.now key.now)) mode }
     {
-        if registry.is_home(id, target) {
+        if is_home {
             self.answer_near(target, key, mode)
         } else {
             self.answer_far(target, key, mode)

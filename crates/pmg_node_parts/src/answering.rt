@@ -46,7 +46,7 @@ fn find(
 ) -> Result<Option<Found>, AllocError>
     ensures { IfOk result (λ found. found_as found ≡ outcome_with registry.now id (near_ahead ahead.now) (far_ahead ahead.now) (get_of target.now key.now)) }
 {
-    to_found(ahead.answer(registry, id, target, key, Mode::Wait))
+    to_found(ahead.answer(registry.is_home(id, target), target, key, Mode::Wait))
 }
 
 /// Which of the gets of the target's keys come to be answered, and how.
@@ -93,7 +93,7 @@ fn find_then(
     ensures { IfOk result (λ found. found_as (Some found)
         ≡ outcome_then registry.now id (near_ahead ahead.now) (far_ahead ahead.now) (get_of target.now key.now)) }
 {
-    found_then(ahead.answer(registry, id, target, key, Mode::Now))
+    found_then(ahead.answer(registry.is_home(id, target), target, key, Mode::Now))
 }
 
 /// Whether a get of a key of the target that waits for the reply to the one request gets the reply to the other, of the process.
@@ -307,7 +307,7 @@ fn still_waits(
     ensures { result ≡ still_waits (outcome_with registry.now id (near_ahead ahead.now) (far_ahead ahead.now) (get_of target.now key.now)) }
 {
     matches!(
-        ahead.answer(registry, id, target, key, Mode::Wait),
+        ahead.answer(registry.is_home(id, target), target, key, Mode::Wait),
         Answer::Park
     )
 }
