@@ -6,5 +6,5 @@ mod own;
 mod putting;
 
 pub use caches::Caches;
-pub use own::{own_get, own_key};
+pub use own::{is_own, own_get, own_key};
 pub use putting::{is_bad_put, put_at};

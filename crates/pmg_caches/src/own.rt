@@ -6,7 +6,8 @@ ghost use Rattle.pmg_node.specs.Acting.{reply_as, request_of};
 ghost use Rattle.pmg_node.specs.Servers.{Replies};
 ghost use Rattle.pmg_caches.specs.Caching.{cached_for};
 ghost use Rattle.pmg_caches.specs.OwnKeys.{own_answer, own_key};
-ghost use Rattle.pmg_group_model.specs.Worlds.{reply_or_refusal};
+ghost use Rattle.pmg_group_model.specs.Worlds.{is_own, reply_or_refusal};
+ghost use Rattle.pmg_node_parts.specs.Calls.{get_of};
 
 use crate::caches::Caches;
 use pmg_node::{Node, Reply, Request};
@@ -19,13 +20,20 @@ fn is_general(proc: &Proc) -> bool
     proc.rank.is_wildcard() || proc.rank.is_undef()
 }
 
+/// Whether the process asks for a key of its own that is none of the standard's.
+pub fn is_own(proc: &Proc, target: &Proc, key: &Key) -> bool
+    ensures { result ≡ is_own proc.now (get_of target.now key.now) }
+{
+    proc.cmp(target).is_eq() && !key.is_reserved()
+}
+
 /// The process and the key, where a process asks for a key of its own that is none of the standard's.
 pub fn own_key(request: &Request) -> Option<(&Proc, &Key)>
     ensures { option_map (λ own. (own.0.now, own.1.now)) result ≡ own_key (request_of request.now) }
 {
     match request {
         Request::Ask(_, proc, target, key) => {
-            if proc.cmp(target).is_eq() && !key.is_reserved() {
+            if is_own(proc, target, key) {
                 Some((proc, key))
             } else {
                 None

@@ -10,6 +10,7 @@ use Rattle.std.proofs.lemmas.Cmp.{nat_cmp_total}
 use Rattle.std.proofs.lemmas.List.{map-id, map_push}
 use Rattle.std.proofs.lemmas.List.FromFn.{filter_of_map_range_with_len_more}
 use Rattle.pmg_join.specs.Ranges.{is_between}
+use Rattle.pmg_node_model.specs.Acts.{Reply, Request}
 use Rattle.pmg_world.specs.Delivering.{AddsDelivered, delivered_by, is_number, undelivered, with_number}
 use Rattle.pmg_group_model.specs.Worlds.{Event, Happened}
 
@@ -49,6 +50,10 @@ pub last_noted : (frames : set.FinSet nat_cmp) (last : Option ℕ) (h : Happened
     → AddsDelivered (with_number frames None) (h ∷ []) (with_number frames last)
 last_noted frames last h is n =
     contains_number frames last (suc n) ∙ ap (λ b. set.contains frames (suc n) || b) (sym (is (suc n)) ∙ sym (or_none (delivered_by (suc n) h)))
+
+-- a request delivers none
+pub request_delivers : (frames : set.FinSet nat_cmp) (node : ℕ) (r : Request) (reply : Reply) → AddsDelivered frames (record { event = Event.request node r; reply = reply } ∷ []) frames
+request_delivers frames node r reply n = sym (or_none (set.contains frames (suc n)))
 
 -- ---- what was never delivered
 

@@ -1,5 +1,5 @@
 -- What each event of a world is.
-use Rattle.std.proofs.Common.{◌≡◌, ℕ, zero, suc, ◌<◌, ◌≤◌, Bool, true, false, ◌||◌, cond, List, [], ◌∷◌, length, get_or, Option, Some, None, Result, refl, sym, ap, ◌∙◌, arith}
+use Rattle.std.proofs.Common.{◌≡◌, ℕ, zero, suc, ◌<◌, ◌≤◌, Bool, true, false, ◌||◌, cond, List, [], ◌∷◌, length, get_or, Some, None, Result, refl, sym, ap, ◌∙◌, arith}
 use Rattle.std.specs.FinMap as map
 use Rattle.pmg_value.specs.CheckOrder.{first_of}
 use Rattle.pmg_value.specs.Names.{is_reserved}
@@ -80,41 +80,30 @@ module _ (jobs : Jobs) (w : World) where
   abbrev pub own_due : ℕ → Proc → List ℕ → Result Reply Refusal
   own_due node p key = first_of (own_cause jobs node (w.nodes node) p) (reply_of (found_or (last_put reach.Own key (w.scripts p)) Outcome.absent))
 
-  ask_at_node : (node : ℕ) (p : Proc) (get : Get) (mode : Mode) (b : Bool) → cond {A = Option (Proc × List ℕ)} b (Some (p, get.key)) None ≡ None
-      → cond b (own_get jobs w node p get.key mode) (Doing.at_node node (Act.request (Request.ask p get mode))) ≡ Doing.at_node node (Act.request (Request.ask p get mode))
-  ask_at_node node p get mode true e = absurd cc
-  ask_at_node node p get mode false e = refl
+  -- the answer of the one or the node's
+  abbrev asks_by : Bool → ℕ → Proc → Get → Mode → Doing
+  asks_by own node p get mode = cond own (own_get jobs w node p get.key mode) (Doing.at_node node (Act.request (Request.ask p get mode)))
+
+  pub asks_node : (node : ℕ) (p : Proc) (get : Get) (mode : Mode) → is_own p get ≡ false → requests jobs w node (Request.ask p get mode) ≡ Doing.at_node node (Act.request (Request.ask p get mode))
+  asks_node node p get mode e = ap (λ b. asks_by b node p get mode) e
+
+  pub asks_own : (node : ℕ) (p : Proc) (get : Get) (mode : Mode) → is_own p get ≡ true → requests jobs w node (Request.ask p get mode) ≡ Doing.by_cache (own_due node p get.key) None
+  unfolding resolve
+  asks_own node p get mode e = ap (λ b. asks_by b node p get mode) e
+
+  no_own : {A : Type 0} (x : A) (b : Bool) → cond b (Some x) None ≡ None → b ≡ false
+  no_own x true e = absurd cc
+  no_own x false e = refl
 
   pub at_node_is : (node : ℕ) (r : Request) → own_key r ≡ None → requests jobs w node r ≡ Doing.at_node node (Act.request r)
   at_node_is node (Request.enter p list collect) e = refl
   at_node_is node (Request.leave p) e = refl
-  at_node_is node (Request.ask p get mode) e = ask_at_node node p get mode (is_own p get) e
+  at_node_is node (Request.ask p get mode) e = asks_node node p get mode (no_own (p, get.key) (is_own p get) e)
   at_node_is node (Request.take p) e = refl
   at_node_is node (Request.terminate p) e = refl
   at_node_is node (Request.define name list) e = refl
   at_node_is node (Request.delete name) e = refl
   at_node_is node Request.nudge e = refl
-
-  ask_own : (node : ℕ) (p : Proc) (get : Get) (mode : Mode) (q : Proc) (key : List ℕ) (b : Bool) → cond {A = Option (Proc × List ℕ)} b (Some (p, get.key)) None ≡ Some (q, key)
-      → cond b (own_get jobs w node p get.key mode) (Doing.at_node node (Act.request (Request.ask p get mode))) ≡ Doing.by_cache (own_due node q key) None
-  unfolding resolve
-  ask_own node p get mode q key true e =
-      let both : ◌≡◌ {A = Proc × List ℕ} (p, get.key) (q, key) = cc in
-      ap (λ (x : Proc × List ℕ). Doing.by_cache (own_due node x.0 x.1) None) both
-  ask_own node p get mode q key false e = absurd cc
-
-  nothing_own : {A : Type 0} (q : Proc) (key : List ℕ) → ◌≡◌ {A = Option (Proc × List ℕ)} None (Some (q, key)) → A
-  nothing_own q key e = absurd cc
-
-  pub own_is_due : (node : ℕ) (r : Request) (q : Proc) (key : List ℕ) → own_key r ≡ Some (q, key) → requests jobs w node r ≡ Doing.by_cache (own_due node q key) None
-  own_is_due node (Request.enter p list collect) q key e = nothing_own q key e
-  own_is_due node (Request.leave p) q key e = nothing_own q key e
-  own_is_due node (Request.ask p get mode) q key e = ask_own node p get mode q key (is_own p get) e
-  own_is_due node (Request.take p) q key e = nothing_own q key e
-  own_is_due node (Request.terminate p) q key e = nothing_own q key e
-  own_is_due node (Request.define name list) q key e = nothing_own q key e
-  own_is_due node (Request.delete name) q key e = nothing_own q key e
-  own_is_due node Request.nudge q key e = nothing_own q key e
 
   -- the answer that the client's cache gives is the one that is due
   own_by : (node : ℕ) (s : Server) (c : Cached) (p : Proc) (key : List ℕ) → IsNodeOf jobs node (w.nodes node) s → KeepsFor p c (w.scripts p) → (b : Bool) → is_reserved p.nspace ≡ b

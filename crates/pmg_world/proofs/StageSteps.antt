@@ -1,15 +1,22 @@
 -- What the lines of a script do in each phase.
-use Rattle.std.proofs.Common.{◌≡◌, ◌∙◌, refl, sym, ap, subst, ℕ, List, [], Option, Some, None, Result, Ok, Err, Vec, Bor, Global}
+use Rattle.std.proofs.Common.{◌≡◌, ◌∙◌, refl, sym, ap, subst, ℕ, Bool, true, false, ◌&&◌, List, [], Option, Some, None, Result, Ok, Err, Vec, Bor, Global}
 use Rattle.std.proofs.lemmas.Option.{none-some}
 use Rattle.pmg_value.specs.CheckOrder.{first_of}
 use Rattle.pmg_value.specs.declared.refusal.Refusal.{Refusal}
-use Rattle.pmg_jobinfo.specs.Jobs.{Jobs, opened}
+use Rattle.pmg_value.specs.Names.{is_key}
+use Rattle.pmg_value.specs.declared.process.Proc.{Proc}
+use Rattle.pmg_value.specs.declared.refusal.Refusal.TheVariants as refusals
+use Rattle.pmg_get.specs.declared.view.Mode.{Mode}
+use Rattle.pmg_node_model.specs.Acts.{Request}
+use Rattle.pmg_node_parts.specs.Calls.{get_of}
+use Rattle.pmg_group_model.specs.Worlds.{Event}
+use Rattle.pmg_jobinfo.specs.Jobs.{Jobs, home_of, opened}
 use Rattle.pmg_jobinfo.specs.Refusing.{new_cause}
 use Rattle.pmg_world.specs.GroupStates.{GroupState}
-use Rattle.pmg_world.specs.Asking.{line_asks}
+use Rattle.pmg_world.specs.Asking.{LineAsk, at_home, has_named_nspace, if_named, line_asks}
 use Rattle.pmg_script.specs.Lines.{LineFails as NotRead}
 use Rattle.pmg_script.specs.Scripts.{Line, line_of, said}
-use Rattle.pmg_world.specs.Stages.{AsksNothing, IsNew, Opens, OpensAt, Plays, PlaysLine, PlaysSaid, RegistersAt, Runs, RunsAt, RunsOn, StopsLine, ok_line, refused_line}
+use Rattle.pmg_world.specs.Stages.{AnswersLine, AsksNothing, IsNew, Performs, Opens, OpensAt, Plays, PlaysLine, PlaysSaid, RegistersAt, Runs, RunsAt, RunsOn, StopsLine, ok_line, refused_line}
 use Rattle.pmg_grouptext.specs.Groups.{with_named_space}
 use Rattle.pmg_script.specs.declared.lines.LineFault.{LineFault}
 use Rattle.pmg_script.specs.declared.lines.LineFault.TheVariants as faults
@@ -32,6 +39,32 @@ fault_in (Err e) = e
 pub same_fault : {T : Type 0} (r : Result T LineFault) (y e : LineFault) → r ≡ Err y → y ≡ e → r ≡ Err faults.Malformed → e ≡ faults.Malformed
 unfolding fault_in
 same_fault r y e is same bad = sym same ∙ ap fault_in (sym is ∙ bad)
+
+-- ---- a key is asked for
+
+-- a line that asks for a key, whose names are not all names
+pub get_unnamed : (w : GroupState) (p target : Proc) (mode : Mode) (key text : List ℕ) → (has_named_nspace p && has_named_nspace target && is_key key) ≡ false → text ≡ refused_line refusals.BadParam
+    → Runs w (Line.get p mode target key) text w
+unfolding line_asks Performs
+get_unnamed w p target mode key text is line = record {
+  asked = LineAsk.unnamed;
+  asks = ap (λ (b : Bool). Some (if_named b (at_home w.jobs p (Request.ask p (get_of target key) mode)))) is;
+  performs = (line, refl);
+}
+
+-- one whose names are names, which are these
+pub get_named : (w v : GroupState) (p target : Proc) (mode : Mode) (key text : List ℕ) → (has_named_nspace p && has_named_nspace target && is_key key) ≡ true
+    → (home : ℕ) (q r : Proc) (k : List ℕ) → home ≡ home_of w.jobs q → q ≡ p → r ≡ target → k ≡ key
+    → AnswersLine w (Event.request home (Request.ask q (get_of r k) mode)) text v → Runs w (Line.get p mode target key) text v
+unfolding line_asks Performs
+get_named w v p target mode key text is home q r k at same also name answers =
+    let e : Event.request home (Request.ask q (get_of r k) mode) ≡ at_home w.jobs p (Request.ask p (get_of target key) mode) =
+    (λ i. Event.request ((at ∙ ap (home_of w.jobs) same) i) (Request.ask (same i) (get_of (also i) (name i)) mode)) in
+    record {
+      asked = LineAsk.happens (at_home w.jobs p (Request.ask p (get_of target key) mode));
+      asks = ap (λ (b : Bool). Some (if_named b (at_home w.jobs p (Request.ask p (get_of target key) mode)))) is;
+      performs = subst (λ (x : Event). AnswersLine w x text v) e answers;
+    }
 
 -- ---- the nodes are named
 

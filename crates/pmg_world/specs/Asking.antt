@@ -1,5 +1,5 @@
 -- What a line of a script asks of the world.
-use Rattle.std.specs.Prelude.{ℕ, Bool, ◌&&◌, List, Option, Some, None, if◌then◌else◌}
+use Rattle.std.specs.Prelude.{ℕ, Bool, true, false, ◌&&◌, List, Option, Some, None, if◌then◌else◌}
 use Rattle.std.specs.List.{list_all}
 use Rattle.pmg_value.specs.Names.{is_nspace, is_key}
 use Rattle.pmg_value.specs.Spelling.{spelling}
@@ -49,6 +49,11 @@ at_home jobs p r = Event.request (home_of jobs p) r
 -- the node at which the process sets are defined and deleted
 abbrev pub sets_node : ℕ
 sets_node = 0
+
+-- the line asks for a key
+abbrev pub is_get : Line → Bool
+is_get (Line.get p mode target key) = true
+is_get _ = false
 
 -- What a line asks; nothing is asked of the world by a line that names nodes or registers a namespace, and by an empty one.
 unfoldable pub line_asks : Jobs → Line → Option LineAsk

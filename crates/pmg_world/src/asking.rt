@@ -4,14 +4,12 @@ ghost use Rattle.pmg_value.specs.Names.{is_key};
 ghost use Rattle.pmg_value.specs.Spelling.{spelling};
 ghost use Rattle.pmg_jobinfo.specs.Jobs.{home_of};
 ghost use Rattle.pmg_node_model.specs.Acts.{Request as ModelRequest};
-ghost use Rattle.pmg_node_parts.specs.Calls.{get_of};
-ghost use Rattle.pmg_world.specs.Asking.{LineAsk as ModelAsked, asked_of, line_asks, are_named, at_home, if_named, has_named_nspace, sets_node};
+ghost use Rattle.pmg_world.specs.Asking.{LineAsk as ModelAsked, asked_of, line_asks, are_named, at_home, if_named, is_get, has_named_nspace, sets_node};
 ghost use Rattle.pmg_script.specs.Lines.{ReadsAllWords};
 ghost use Rattle.pmg_script.specs.Scripts.{line_of};
 ghost use Rattle.pmg_group_model.specs.Worlds.{Event as ModelEvent};
 
 use crate::event::Event;
-use pmg_get::Mode;
 use pmg_jobinfo::Registry;
 use pmg_node::Request;
 use pmg_scope::Scope;
@@ -65,8 +63,15 @@ fn are_named(procs: &[Named<'_>]) -> bool
     true
 }
 
+/// Whether the names in a get are names.
+pub(crate) fn is_named_get(proc: &Named<'_>, target: &Named<'_>, key: &[u8]) -> bool
+    ensures { result ≡ (has_named_nspace proc.now && has_named_nspace target.now && is_key key.now) }
+{
+    is_named(proc) && is_named(target) && is_key_text(key)
+}
+
 /// The process of a name that was judged.
-fn proc_of(alloc: Global, named: &Named<'_>) -> Result<Proc, AllocError>
+pub(crate) fn proc_of(alloc: Global, named: &Named<'_>) -> Result<Proc, AllocError>
     requires { IsTrue (has_named_nspace named.now) }
     ensures { IfOk result (λ p. p ≡ named.now) }
 {
@@ -90,7 +95,7 @@ fn procs_of(alloc: Global, named: &[Named<'_>]) -> Result<Vec<Proc>, AllocError>
 }
 
 /// The index of the node that the process is at home at.
-fn home_of(registry: &Registry, proc: &Proc) -> u64
+pub(crate) fn home_of(registry: &Registry, proc: &Proc) -> u64
     ensures { result ≡ home_of registry.now proc.now }
 {
     u64::from(registry.home_of(proc).index())
@@ -170,27 +175,6 @@ fn ask_leave(alloc: Global, registry: &Registry, proc: &Named<'_>) -> Result<Lin
     Ok(LineAsk::Event(Event::Request(home, Request::Leave(proc))))
 }
 
-/// `get NS RANK wait` or `now`, then `NS RANK KEY`
-fn ask_get(
-    alloc: Global,
-    registry: &Registry,
-    proc: &Named<'_>,
-    mode: Mode,
-    target: &Named<'_>,
-    key: &[u8],
-) -> Result<LineAsk, LineFault>
-    ensures { ReadsAllWords asked_of result (Some (if_named (has_named_nspace proc.now && has_named_nspace target.now && is_key key.now) (at_home registry.now proc.now (ModelRequest.ask proc.now (get_of target.now key.now) mode)))) }
-{
-    if !is_named(proc) || !is_named(target) || !is_key_text(key) {
-        return Ok(LineAsk::Unnamed);
-    }
-    let proc = proc_of(alloc, proc)?;
-    let target = proc_of(alloc, target)?;
-    let key = Key::from_text(alloc, key)?;
-    let home = home_of(registry, &proc);
-    Ok(LineAsk::Event(Event::Request(home, Request::Ask(mode, proc, target, key))))
-}
-
 /// `take NS RANK`
 fn ask_take(alloc: Global, registry: &Registry, proc: &Named<'_>) -> Result<LineAsk, LineFault>
     ensures { ReadsAllWords asked_of result (Some (if_named (has_named_nspace proc.now) (at_home registry.now proc.now (ModelRequest.take proc.now)))) }
@@ -244,28 +228,27 @@ fn ask_members(alloc: Global, node: u64, name: &[u8]) -> Result<LineAsk, LineFau
     Ok(LineAsk::Members(node, Key::from_text(alloc, name)?))
 }
 
-/// What the line asks of the world of these jobs. It is malformed where it asks nothing of it.
+/// What the line, which asks for no key, asks of the world of these jobs. It is malformed where it asks nothing of it.
 #[tactic(auto, unfolding(crate::specs::Asking::line_asks))]
-pub(crate) fn ask(alloc: Global, registry: &Registry, line: Line<'_>) -> Result<LineAsk, LineFault>
-    ensures { ReadsAllWords asked_of result (line_asks registry.now (line_of line.entry)) }
+pub(crate) fn ask(alloc: Global, registry: &Registry, line: &Line<'_>) -> Result<LineAsk, LineFault>
+    requires { is_get (line_of line.now) ≡ false }
+    ensures { ReadsAllWords asked_of result (line_asks registry.now (line_of line.now)) }
 {
     match line {
-        Line::Put(proc, scope, value, key) => ask_put(alloc, &proc, scope, value, key),
-        Line::Commit(proc) => ask_commit(alloc, registry, &proc),
-        Line::Enter(proc, collect, list) => ask_enter(alloc, registry, &proc, collect, &list),
-        Line::Leave(proc) => ask_leave(alloc, registry, &proc),
-        Line::Get(proc, mode, target, key) => {
-            ask_get(alloc, registry, &proc, mode, &target, key)
-        }
-        Line::Take(proc) => ask_take(alloc, registry, &proc),
-        Line::End(proc) => ask_end(alloc, registry, &proc),
-        Line::Define(list, name) => ask_define(alloc, &list, name),
+        Line::Put(proc, scope, value, key) => ask_put(alloc, proc, *scope, value.copy()?, key),
+        Line::Commit(proc) => ask_commit(alloc, registry, proc),
+        Line::Enter(proc, collect, list) => ask_enter(alloc, registry, proc, *collect, list),
+        Line::Leave(proc) => ask_leave(alloc, registry, proc),
+        Line::Take(proc) => ask_take(alloc, registry, proc),
+        Line::End(proc) => ask_end(alloc, registry, proc),
+        Line::Define(list, name) => ask_define(alloc, list, name),
         Line::Delete(name) => ask_delete(alloc, name),
-        Line::Deliver(frame) => Ok(LineAsk::Event(Event::Deliver(frame))),
+        Line::Deliver(frame) => Ok(LineAsk::Event(Event::Deliver(*frame))),
         Line::Flow => Ok(LineAsk::Flow),
-        Line::Nudge(node) => Ok(LineAsk::Event(Event::Request(node, Request::Nudge))),
-        Line::Members(node, name) => ask_members(alloc, node, name),
-        Line::Dump(node) => Ok(LineAsk::Dump(node)),
+        Line::Nudge(node) => Ok(LineAsk::Event(Event::Request(*node, Request::Nudge))),
+        Line::Members(node, name) => ask_members(alloc, *node, name),
+        Line::Dump(node) => Ok(LineAsk::Dump(*node)),
         Line::Nothing | Line::Nodes(_) | Line::Space(_, _) => Err(LineFault::Malformed),
+        Line::Get(_, _, _, _) => unreachable!(),
     }
 }

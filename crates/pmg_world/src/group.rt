@@ -1,10 +1,12 @@
 //! The nodes of a group with their clients: each event is one step of the model.
-ghost use Rattle.std.specs.Prelude.{◌≡◌, ◌<◌, ◌++◌, ◌&&◌, true, false, length, Err, Option, Some, IfOk, slice_get, slice_index_or, slice_set};
+ghost use Rattle.std.specs.Prelude.{◌≡◌, ◌<◌, ◌++◌, ◌&&◌, true, false, length, Err, None, Option, Some, IfOk, slice_get, slice_index_or, slice_set};
 ghost use Rattle.std.specs.Option.{option_map};
 ghost use Rattle.pmg_value.specs.Spelling.{spelling};
 ghost use Rattle.pmg_value.specs.declared.refusal.Refusal.TheVariants as refusals;
 ghost use Rattle.pmg_jobinfo.specs.Jobs.{AreJobs, home_of};
-ghost use Rattle.pmg_node_model.specs.Acts.{Act as ModelAct};
+ghost use Rattle.pmg_node_model.specs.Acts.{Act as ModelAct, Request as ModelRequest};
+ghost use Rattle.pmg_node_parts.specs.Calls.{get_of};
+ghost use Rattle.pmg_caches.specs.OwnKeys.{own_key};
 ghost use Rattle.pmg_node.specs.Acting.{act_of, reply_as, request_of};
 ghost use Rattle.pmg_node.specs.Servers.{Server, IsAnswered, RepliesAct, after, sent_by};
 ghost use Rattle.pmg_world.specs.Keeping.{AreNew, Happens, IsGroup, IsSame, Represents};
@@ -13,7 +15,8 @@ ghost use Rattle.pmg_group_model.specs.Worlds.{Event as ModelEvent, start};
 ghost use Rattle.pmg_world.specs.declared.group.Group.{Group as GroupOf};
 
 use crate::event::Event;
-use pmg_caches::{Caches, is_bad_put, own_get, own_key};
+use pmg_caches::{Caches, is_bad_put, is_own, own_get};
+use pmg_get::Mode;
 use pmg_jobinfo::Registry;
 use pmg_node::{Act, Node, Reply, Request};
 use pmg_node_model::Sent;
@@ -164,18 +167,75 @@ impl Group {
         }
     }
 
-    /// At the node of that index, this is asked for.
-    fn request(&mut self, index: u64, request: &Request) -> Result<Reply, Refusal>
+    /// A key of the target is asked for at the node of that index; the frames that it sends are sent.
+    fn get_at(
+        &mut self,
+        index: usize,
+        proc: &Proc,
+        target: &Proc,
+        key: &Key,
+        mode: Mode,
+    ) -> Result<Reply, Refusal>
+        requires { index < length self.old.nodes.items }
+        ensures reply { (d : Server) → RepliesAct reply_as result (slice_index_or self.old.nodes.items index d)
+            (ModelAct.request (ModelRequest.ask proc.now (get_of target.now key.now) mode)) }
+        ensures nodes { (d : Server) → IsAnswered result
+            → self.new.nodes.items ≡ slice_set self.old.nodes.items index (after (slice_index_or self.old.nodes.items index d)
+            (ModelAct.request (ModelRequest.ask proc.now (get_of target.now key.now) mode))) }
+        ensures sent { (d : Server) → IsAnswered result
+            → self.new.sent.items ≡ self.old.sent.items ++ sent_by (slice_index_or self.old.nodes.items index d)
+            (ModelAct.request (ModelRequest.ask proc.now (get_of target.now key.now) mode)) }
+        ensures registry { self.new.registry ≡ self.old.registry }
+        ensures caches { self.new.caches ≡ self.old.caches }
+        ensures memory { result ≡ Err refusals.NoMemory → IsSame self.old self.new }
+    {
+        self.nodes[index].get(proc, target, key, mode, &mut self.sent)
+    }
+
+    /// At the node of that index, the process asks for a key of the target.
+    pub(crate) fn get(
+        &mut self,
+        index: u64,
+        proc: &Proc,
+        target: &Proc,
+        key: &Key,
+        mode: Mode,
+    ) -> Result<Reply, Refusal>
         requires { IsGroup self.old }
+        ensures step { Happens self.old (ModelEvent.request index (ModelRequest.ask proc.now (get_of target.now key.now) mode)) result self.new }
+        ensures memory { result ≡ Err refusals.NoMemory → IsSame self.old self.new }
+    {
+        if index >= self.nodes.len() as u64 {
+            return Err(Refusal::BadParam);
+        }
+        if is_own(proc, target, key) {
+            return own_get(&self.nodes[index as usize], &self.caches, proc, key);
+        }
+        self.get_at(index as usize, proc, target, key, mode)
+    }
+
+    /// At the node of that index, something else is asked for than a key.
+    fn request_other(&mut self, index: u64, request: &Request) -> Result<Reply, Refusal>
+        requires group { IsGroup self.old }
+        requires other { own_key (request_of request.now) ≡ None }
         ensures step { Happens self.old (ModelEvent.request index (request_of request.now)) result self.new }
         ensures memory { result ≡ Err refusals.NoMemory → IsSame self.old self.new }
     {
         if index >= self.nodes.len() as u64 {
             return Err(Refusal::BadParam);
         }
-        match own_key(request) {
-            Some((proc, key)) => own_get(&self.nodes[index as usize], &self.caches, proc, key),
-            None => self.request_at(index as usize, request),
+        self.request_at(index as usize, request)
+    }
+
+    /// At the node of that index, this is asked for.
+    fn request(&mut self, index: u64, request: &Request) -> Result<Reply, Refusal>
+        requires { IsGroup self.old }
+        ensures step { Happens self.old (ModelEvent.request index (request_of request.now)) result self.new }
+        ensures memory { result ≡ Err refusals.NoMemory → IsSame self.old self.new }
+    {
+        match request {
+            Request::Ask(mode, proc, target, key) => self.get(index, proc, target, key, *mode),
+            _ => self.request_other(index, request),
         }
     }
 

@@ -7,10 +7,12 @@ ghost use Rattle.pmg_value.specs.declared.value.Value.TheVariants as values;
 ghost use Rattle.pmg_wire.specs.Fields.{whole_value};
 ghost use Rattle.pmg_store.specs.Dump.{dump};
 ghost use Rattle.pmg_node.specs.Servers.{IsAnswered};
-ghost use Rattle.pmg_node_model.specs.Acts.{Reply as ModelReply};
+ghost use Rattle.pmg_node_model.specs.Acts.{Reply as ModelReply, Request as ModelRequest};
+ghost use Rattle.pmg_node_parts.specs.Calls.{get_of};
 ghost use Rattle.pmg_group_model.specs.Worlds.{Event as ModelEvent};
 ghost use Rattle.pmg_world.specs.Asking.{asked_of};
 ghost use Rattle.pmg_world.specs.Keeping.{replied};
+ghost use Rattle.pmg_world.specs.ReplyLines.{reply_line as reply_text};
 ghost use Rattle.pmg_world.specs.Stages.{AnswersLine, Flows, HappensOnce, IsNew, Performs, dump_at, is_deletion, members_text, server_at, proc_element, proc_elements, procs_in_value};
 ghost use Rattle.pmg_world.specs.Telling.{event_of};
 
@@ -19,6 +21,7 @@ use crate::delivered::Delivered;
 use crate::event::Event;
 use crate::group::{Group, is_short};
 use crate::reply_lines::{flow_line, members_line, refusal_line, reply_line};
+use pmg_get::Mode;
 use pmg_grouptext::node_id;
 use pmg_jobinfo::Registry;
 use pmg_node::{Node, Reply, Request};
@@ -106,6 +109,21 @@ fn dump_of(alloc: Global, store: &Store) -> Result<Vec<u8>, AllocError>
     }
 }
 
+/// The line of what is answered; there is none where an allocation failed.
+fn line_of_answer(
+    room: Vec<u8>,
+    is_deletion: bool,
+    answer: &Result<Reply, Refusal>,
+) -> Result<Vec<u8>, AllocError>
+    ensures answered { IfOk result (λ _. IsAnswered answer.now) }
+    ensures line { IfOk result (λ text. text.items ≡ reply_text is_deletion (replied answer.now)) }
+{
+    if is_short(answer) {
+        return Err(AllocError);
+    }
+    reply_line(room, is_deletion, answer)
+}
+
 impl Scene {
     /// A world of these jobs, in which nothing happened.
     pub(crate) fn new(alloc: Global, registry: &Registry) -> Result<Scene, AllocError>
@@ -147,11 +165,38 @@ impl Scene {
     fn happen(&mut self, room: Vec<u8>, event: &Event) -> Result<Vec<u8>, AllocError>
         ensures { IfOk result (λ text. AnswersLine self.old (event_of event.now) text.items self.new) }
     {
-        let answer = self.step(event);
-        if is_short(&answer) {
-            return Err(AllocError);
-        }
-        reply_line(room, is_deletion(event), &answer)
+        line_of_answer(room, is_deletion(event), &self.step(event))
+    }
+
+    /// At the node of that index, the process asks for a key of the target, and is answered with the line of its reply.
+    pub(crate) fn get(
+        &mut self,
+        room: Vec<u8>,
+        index: u64,
+        proc: &Proc,
+        target: &Proc,
+        key: &Key,
+        mode: Mode,
+    ) -> Result<Vec<u8>, AllocError>
+        ensures { IfOk result (λ text. AnswersLine self.old (ModelEvent.request index (ModelRequest.ask proc.now (get_of target.now key.now) mode)) text.items self.new) }
+    {
+        line_of_answer(room, false, &self.ask(index, proc, target, key, mode))
+    }
+
+    /// The process asks for the key next, and its answer.
+    fn ask(
+        &mut self,
+        index: u64,
+        proc: &Proc,
+        target: &Proc,
+        key: &Key,
+        mode: Mode,
+    ) -> Result<Reply, Refusal>
+        ensures { IsAnswered result
+            → HappensOnce self.old (ModelEvent.request index (ModelRequest.ask proc.now (get_of target.now key.now) mode)) (replied result) self.new }
+    {
+        self.delivered.make_room()?;
+        self.group.get(index, proc, target, key, mode)
     }
 
     /// What happens next, and its answer.

@@ -1,26 +1,28 @@
 //! What does the lines of a script, from the names of the nodes on; and whole scripts.
-ghost use Rattle.std.specs.Prelude.{◌≡◌, ◌≢◌, ◌≤◌, ◌+◌, ◌⊎◌, ℕ, List, Ok, Err, IfOk, IfErr, IfSome, IsSome, OnOk, OnErr};
+ghost use Rattle.std.specs.Prelude.{◌≡◌, ◌≢◌, ◌≤◌, ◌+◌, ◌⊎◌, ℕ, false, List, Ok, Err, IfOk, IfErr, IfSome, IsSome, OnOk, OnErr};
 ghost use Rattle.pmg_store.specs.declared.failure.Failure.TheVariants as failures;
 ghost use Rattle.pmg_store.specs.declared.input.TheConstants.{MOST_READS};
 ghost use Rattle.pmg_value.specs.declared.refusal.Refusal.TheVariants as refusals;
 ghost use Rattle.pmg_script.specs.Replays.{Replayed};
+ghost use Rattle.pmg_world.specs.Asking.{is_get};
 ghost use Rattle.pmg_world.specs.GroupStates.{GroupState};
-ghost use Rattle.pmg_script.specs.Scripts.{line_of, texts};
+ghost use Rattle.pmg_script.specs.Scripts.{Line as ScriptLine, line_of, texts};
 ghost use Rattle.pmg_world.specs.Stages.{OpensAt, PlaysLine, RegistersAt, Runs, RunsAt, StopsLine, AsksNothing, is_over, ok_line, refused_line};
 ghost use Rattle.pmg_script.specs.declared.lines.LineFault.TheVariants as faults;
 ghost use Rattle.pmg_world.specs.declared.phase.Phase.{Phase as AnyPhase};
 ghost use Rattle.pmg_world.specs.declared.phase.Phase.TheVariants as phases;
 
-use crate::asking::ask;
+use crate::asking::{ask, home_of, is_named_get, proc_of};
 use crate::phase::Phase;
 use crate::reply_lines::{refusal_line, reply_line};
 use crate::scene::Scene;
+use pmg_get::Mode;
 use pmg_grouptext::register_space;
 use pmg_jobinfo::Registry;
 use pmg_node::Reply;
-use pmg_script::{Ended, Line, LineFault, Player, play_script, read_line};
+use pmg_script::{Ended, Line, LineFault, Named, Player, play_script, read_line};
 use pmg_store::{Failure, WatchedReader};
-use pmg_value::{Refusal, WatchedWriter};
+use pmg_value::{Key, Refusal, WatchedWriter};
 use std::alloc::{AllocError, Global};
 use std::io::{BufRead, Write};
 use std::marker::Model;
@@ -80,19 +82,62 @@ fn space_line(
     Ok(ok_line(room)?)
 }
 
+/// The world answers `get NS RANK wait` or `now`, then `NS RANK KEY`. Most lines of a script are such, so what one asks is made in its
+/// parts alone, in a call of its own.
+#[inline(never)]
+fn run_get(
+    alloc: Global,
+    room: Vec<u8>,
+    scene: &mut Scene,
+    proc: &Named<'_>,
+    mode: Mode,
+    target: &Named<'_>,
+    key: &[u8],
+) -> Result<Vec<u8>, AllocError>
+    ensures { IfOk result (λ text. Runs scene.old (ScriptLine.get proc.now mode target.now key.now) text.items scene.new) }
+{
+    if !is_named_get(proc, target, key) {
+        return refusal_line(room, &Refusal::BadParam);
+    }
+    let proc = proc_of(alloc, proc)?;
+    let target = proc_of(alloc, target)?;
+    let key = Key::from_text(alloc, key)?;
+    let home = home_of(scene.registry(), &proc);
+    scene.get(room, home, &proc, &target, &key, mode)
+}
+
+/// The world answers what the line, which asks for no key, asks of it.
+fn run_other(
+    alloc: Global,
+    room: Vec<u8>,
+    scene: &mut Scene,
+    line: &Line<'_>,
+) -> Result<Vec<u8>, LineFault>
+    requires { is_get (line_of line.now) ≡ false }
+    ensures ok { IfOk result (λ text. Runs scene.old (line_of line.now) text.items scene.new) }
+    ensures malformed { result ≡ Err faults.Malformed → AsksNothing scene.old (line_of line.now) }
+{
+    let asked = ask(alloc, scene.registry(), line)?;
+    let text = scene.perform(alloc, room, &asked)?;
+    Ok(text)
+}
+
 /// The world answers what the line asks of it.
 fn run_line(
     alloc: Global,
     room: Vec<u8>,
     scene: &mut Scene,
-    line: Line<'_>,
+    line: &Line<'_>,
 ) -> Result<Vec<u8>, LineFault>
-    ensures ok { IfOk result (λ text. Runs scene.old (line_of line.entry) text.items scene.new) }
-    ensures malformed { result ≡ Err faults.Malformed → AsksNothing scene.old (line_of line.entry) }
+    ensures ok { IfOk result (λ text. Runs scene.old (line_of line.now) text.items scene.new) }
+    ensures malformed { result ≡ Err faults.Malformed → AsksNothing scene.old (line_of line.now) }
 {
-    let asked = ask(alloc, scene.registry(), line)?;
-    let text = scene.perform(alloc, room, &asked)?;
-    Ok(text)
+    match line {
+        Line::Get(proc, mode, target, key) => {
+            Ok(run_get(alloc, room, scene, proc, *mode, target, key)?)
+        }
+        other => run_other(alloc, room, scene, other),
+    }
 }
 
 impl Stage {
@@ -145,10 +190,10 @@ impl Stage {
 
     /// Starts the world, and does the first line that asks something of it. A call of its own, since a world that is made takes room.
     #[inline(never)]
-    fn start(&mut self, line: Line<'_>, room: Vec<u8>) -> Result<Vec<u8>, LineFault>
+    fn start(&mut self, line: &Line<'_>, room: Vec<u8>) -> Result<Vec<u8>, LineFault>
         requires { (w : GroupState) → self.old ≡ phases.Running w → ⊥ }
-        ensures ok { IfOk result (λ text. RunsAt self.old (line_of line.entry) text.items self.new) }
-        ensures malformed { result ≡ Err faults.Malformed → (text : List ℕ) (v : AnyPhase) → RunsAt self.old (line_of line.entry) text v → ⊥ }
+        ensures ok { IfOk result (λ text. RunsAt self.old (line_of line.now) text.items self.new) }
+        ensures malformed { result ≡ Err faults.Malformed → (text : List ℕ) (v : AnyPhase) → RunsAt self.old (line_of line.now) text v → ⊥ }
     {
         let Phase::Registering(registry) = &self.phase else {
             return Err(LineFault::Malformed);
@@ -160,9 +205,9 @@ impl Stage {
     }
 
     /// Does a line that asks something of the world, and starts it where it does not run.
-    fn run(&mut self, line: Line<'_>, room: Vec<u8>) -> Result<Vec<u8>, LineFault>
-        ensures ok { IfOk result (λ text. RunsAt self.old (line_of line.entry) text.items self.new) }
-        ensures malformed { result ≡ Err faults.Malformed → (text : List ℕ) (v : AnyPhase) → RunsAt self.old (line_of line.entry) text v → ⊥ }
+    fn run(&mut self, line: &Line<'_>, room: Vec<u8>) -> Result<Vec<u8>, LineFault>
+        ensures ok { IfOk result (λ text. RunsAt self.old (line_of line.now) text.items self.new) }
+        ensures malformed { result ≡ Err faults.Malformed → (text : List ℕ) (v : AnyPhase) → RunsAt self.old (line_of line.now) text v → ⊥ }
     {
         match &mut self.phase {
             Phase::Running(scene) => run_line(self.alloc, room, scene, line),
@@ -183,7 +228,7 @@ impl Player for Stage {
             Line::Nothing => Ok(Vec::new(self.alloc)),
             Line::Nodes(names) => self.open(&names, room),
             Line::Space(nspace, homes) => self.register(nspace, &homes, room),
-            line => self.run(line, room),
+            line => self.run(&line, room),
         }
     }
 

@@ -1,4 +1,4 @@
-use Rattle.std.proofs.Common.{Ok, Err, Result, sym, subst, ◌∙◌}
+use Rattle.std.proofs.Common.{Result, sym, subst, ◌∙◌}
 use Rattle.pmg_value.specs.Answers.{Gives}
 use Rattle.pmg_value.specs.Spelling.{spelling}
 use Rattle.pmg_value.specs.declared.refusal.Refusal.{Refusal}
