@@ -1,5 +1,5 @@
 //! Places in a tree, which are made before they are filled: to make one takes memory, and to fill it takes none.
-ghost use Rattle.std.specs.Prelude.{◌≡◌, ◌<◌, Some, None, cond, IsTrue, OnOk, IfSome, IfNone};
+ghost use Rattle.std.specs.Prelude.{◌≡◌, ◌<◌, is_some, Some, None, cond, IsTrue, OnOk, IfSome, IfNone};
 ghost use Rattle.std.specs.BTreeMap.{get, is_at, btree_map_len, IsUnchanged};
 ghost use Rattle.pmg_lane.specs.Places.{there_at, HasPlace};
 
@@ -17,7 +17,31 @@ pub fn is_past_all<K: Element, V: Drop>(tree: &BTreeMap<K, Option<V>, Global>, k
     }
 }
 
+/// Whether there is a place for the key.
+#[inline(always)]
+fn has_place<K: Element, V: Drop>(tree: &BTreeMap<K, Option<V>, Global>, key: &K) -> bool
+    ensures { result ≡ is_some (get K.cmp tree.now key.now) }
+{
+    !is_past_all(tree, key) && tree.contains_key(key)
+}
+
+/// Makes the first place for the key, an empty one. A call of its own, since mostly a place is there.
+#[inline(never)]
+fn add_place<K: Element, V: Drop>(
+    tree: &mut BTreeMap<K, Option<V>, Global>,
+    key: &K,
+) -> Result<(), AllocError>
+    requires { get K.cmp tree.old key.now ≡ None }
+    ensures same { (q : K) → there_at K.cmp tree.new q ≡ there_at K.cmp tree.old q }
+    ensures place { OnOk result (HasPlace K.cmp tree.new key.now) }
+    ensures stay { (q : K) → HasPlace K.cmp tree.old q → HasPlace K.cmp tree.new q }
+{
+    tree.insert(key.copy()?, None)?;
+    Ok(())
+}
+
 /// Makes an empty place for the key, where there is none.
+#[inline(always)]
 pub fn make_place<K: Element, V: Drop>(
     tree: &mut BTreeMap<K, Option<V>, Global>,
     key: &K,
@@ -26,7 +50,10 @@ pub fn make_place<K: Element, V: Drop>(
     ensures place { OnOk result (HasPlace K.cmp tree.new key.now) }
     ensures stay { (q : K) → HasPlace K.cmp tree.old q → HasPlace K.cmp tree.new q }
 {
-    put_place(tree, key.copy()?)
+    if has_place(tree, key) {
+        return Ok(());
+    }
+    add_place(tree, key)
 }
 
 /// Makes an empty place under the key, where there is none.

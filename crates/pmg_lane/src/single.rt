@@ -1,5 +1,5 @@
 //! What one piece told of a process.
-ghost use Rattle.std.specs.Prelude.{◌≡◌, ◌<◌, ◌≤◌, ◌⊎◌, ℕ, suc, true, map, IfOk, IsTrue};
+ghost use Rattle.std.specs.Prelude.{◌≡◌, ◌<◌, ◌≤◌, ◌⊎◌, ℕ, suc, true, map, IfOk, IsTrue, OnErr};
 ghost use Rattle.std.specs.FinSet as set;
 ghost use Rattle.std.specs.List.{list_all};
 ghost use Rattle.std.specs.Option.{option_map};
@@ -20,6 +20,7 @@ use crate::readings::{Reading, best_with, level_alone, read_alone};
 use pmg_commit::{PieceEntry, are_keys_rising, are_numbered};
 use pmg_value::{Key, Value};
 use std::alloc::{AllocError, Global};
+use std::mem;
 
 /// The most entries that are kept as one piece told them.
 const MAX_SINGLE: usize = 16;
@@ -134,14 +135,17 @@ impl Single {
         best_with(level, key, None, &self.entries)
     }
 
-    /// The same, as what several pieces told.
-    pub fn merged(&self, alloc: Global) -> Result<Merged, AllocError>
-        requires { IsSingle self.now }
+    /// The same, as what several pieces told, to which the entries go over. Where an allocation fails, they stay.
+    pub fn merged(&mut self, alloc: Global) -> Result<Merged, AllocError>
+        requires { IsSingle self.old }
         ensures kept { IfOk result IsMerged }
-        ensures same { IfOk result (λ merged. core (merged_knowledge merged) ≡ core (single_knowledge self.now)) }
+        ensures same { IfOk result (λ merged. core (merged_knowledge merged) ≡ core (single_knowledge self.old)) }
+        ensures err { OnErr result (self.new ≡ self.old) }
     {
         let mut merged = Merged::new(alloc);
-        merged.absorb(self.from, self.to, copies_of(alloc, &self.entries)?)?;
+        merged.make_room(self.from, self.to, &self.entries)?;
+        let entries = mem::replace(&mut self.entries, Vec::new(alloc));
+        merged.take(self.from, self.to, entries);
         Ok(merged)
     }
 
