@@ -10,12 +10,14 @@ use pmg_store::{Failure, MOST_READS, WatchedReader, read_input, store_of_stream}
 use pmg_value::WatchedWriter;
 use std::alloc::Global;
 use std::io::{Read, Write};
+use std::mem;
 
 /// Reads hexadecimal text to its end, prints the dump of the frames that it encodes, and answers the status.
 ///
 /// Nothing is printed before the whole input was read without a fault. Status 1 for a refused input, a read
 /// fault and a write fault, 3 where an allocation failed. A refusal and a read fault print a line, and a reader that failed
-/// is always told as a read fault; where the writer fails, nothing more is printed.
+/// is always told as a read fault; where the writer fails, nothing more is printed. The store is not dropped: the program ends
+/// after its dump.
 pub fn run_dump<R: Read, W: Write>(
     alloc: Global,
     reader: &mut WatchedReader<R>,
@@ -51,5 +53,8 @@ fn dump_text<R: Read, W: Write>(
     let frames = decode_text(alloc, &text)?;
     drop(text);
     let store = store_of_stream(alloc, &frames)?;
-    store.dump(writer)
+    let written = store.dump(writer);
+    // The program ends now, and what it holds goes back as a whole: to take the store apart would only take time.
+    mem::forget(store);
+    written
 }

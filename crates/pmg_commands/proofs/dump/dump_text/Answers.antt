@@ -54,10 +54,10 @@ pub returns-clause-dumps : goal.returns-clause-dumps
 unfolding dump_text
 returns-clause-dumps g c =
     let old = g.W.Write.contents c.args.writer.now.writer in
-    let new = g.W.Write.contents c.dump.new.writer.writer in
+    let new = g.W.Write.contents c.dump-written.new.writer.writer in
     let frames = c.in_ok-frames.frames.items in
-    known_dumps {T = Unit {0}} (g.R.Read.remaining c.args.reader.now.reader) old new c.dump.result input_of c.in_ok-text.text.items
+    known_dumps {T = Unit {0}} (g.R.Read.remaining c.args.reader.now.reader) old new c.dump-written.result input_of c.in_ok-text.text.items
     (λ kept. decoded kept >>= stream_dump) c.in_ok-text.ensures.input
-    (dumps_next old new c.dump.result (decoded c.in_ok-text.text.items) frames stream_dump (rw c.deref.ensures.value at c.in_ok-frames.ensures.bytes)
-    (dumps_next old new c.dump.result (data_told frames) c.in_ok-store.store (λ d. Ok (dump d)) (rw c.deref-2.ensures.value at c.in_ok-store.ensures)
-    c.dump.ensures.dumps))
+    (dumps_next old new c.dump-written.result (decoded c.in_ok-text.text.items) frames stream_dump (rw c.deref.ensures.value at c.in_ok-frames.ensures.bytes)
+    (dumps_next old new c.dump-written.result (data_told frames) c.in_ok-store.store (λ d. Ok (dump d)) (rw c.deref-2.ensures.value at c.in_ok-store.ensures)
+    c.dump-written.ensures.dumps))
