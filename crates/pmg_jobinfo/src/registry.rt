@@ -5,6 +5,7 @@ ghost use Rattle.std.specs.Ordering.{nat_cmp};
 ghost use Rattle.std.specs.Cmp.Lexicographic.{slice_cmp};
 ghost use Rattle.std.specs.FinMap as finite;
 ghost use Rattle.std.specs.Option.{option_map};
+ghost use Rattle.std.specs.BTreeMap.{get};
 ghost use Rattle.pmg_value.specs.Answers.{Gives};
 ghost use Rattle.pmg_value.specs.CheckOrder.{first_of};
 ghost use Rattle.pmg_jobinfo.specs.Jobs.{AreJobs, IsSpace, spaces_of, opened, registered, size_of, home_of, is_node};
@@ -50,6 +51,25 @@ impl Model for Registry {
     ghost invariant = { λ a. AreJobs (jobs_of a.nodes.items a.spaces.entries) };
 }
 
+/// The homes of the namespace's ranks, if it is one of these.
+#[inline(never)]
+fn search<'a>(spaces: &'a BTreeMap<Nspace, Homes>, nspace: &Nspace) -> Option<&'a Homes>
+    ensures { option_map (λ h. h.now) result ≡ get (slice_cmp nat_cmp) spaces.now nspace.now }
+{
+    spaces.get(nspace)
+}
+
+/// The same. Most groups have one namespace, which is found without a search.
+#[inline(always)]
+fn find<'a>(spaces: &'a BTreeMap<Nspace, Homes>, nspace: &Nspace) -> Option<&'a Homes>
+    ensures { option_map (λ h. h.now) result ≡ get (slice_cmp nat_cmp) spaces.now nspace.now }
+{
+    match spaces.first_key_value() {
+        Some((first, homes)) if first == nspace => Some(homes),
+        _ => search(spaces, nspace),
+    }
+}
+
 impl Registry {
     /// A registry of a group with nodes of these names, by index from 0. It keeps the allocator. Refused as
     /// BadParam where there is no name, one is not 1 to 255 bytes of 0x21 to 0x7E, or two are equal; as TooMany
@@ -70,12 +90,12 @@ impl Registry {
     }
 
     /// The homes of the namespace's ranks, if it is registered.
-    #[inline]
+    #[inline(always)]
     pub fn homes(&self, nspace: &Nspace) -> Option<&[NodeId]>
         ensures value { option_map (λ h. h.now) result ≡ finite.get self.now.spaces nspace.now }
         ensures space { IfSome result (λ h. IsSpace (length self.now.nodes) nspace.now h.now) }
     {
-        match self.spaces.get(nspace) {
+        match find(&self.spaces, nspace) {
             Some(homes) => Some(homes.as_slice()),
             None => None,
         }
