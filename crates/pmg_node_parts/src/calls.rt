@@ -192,8 +192,19 @@ impl Calls {
         let _ = self.settle(proc, settled);
     }
 
-    /// Calls are answered: each of these comes in the place of the one that its process is in. It takes no memory.
+    /// Calls are answered: each of these comes in the place of the one that its process is in. It takes no memory. Most acts answer
+    /// none, and then there is no room to be made for one that is looked at.
     pub fn answer(&mut self, answers: Vec<(Proc, Completion)>)
+        ensures { self.new ≡ all_instead self.old answers.items }
+    {
+        if !answers.is_empty() {
+            self.replace_all(answers);
+        }
+    }
+
+    /// Each of these comes in the place of the call that its process is in.
+    #[inline(never)]
+    fn replace_all(&mut self, answers: Vec<(Proc, Completion)>)
         ensures { self.new ≡ all_instead self.old answers.items }
     {
         let mut answers = answers;

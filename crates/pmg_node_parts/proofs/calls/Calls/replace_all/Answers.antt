@@ -2,7 +2,7 @@ use Rattle.std.proofs.Common.{sym, ap, ◌∙◌}
 use Rattle.pmg_node_parts.specs.Calls.{all_instead}
 use Rattle.pmg_node_parts.specs.Codes.{Calls}
 use Rattle.pmg_node_parts.proofs.CallLemmas.{instead-push}
-use Rattle.pmg_node_parts.proofs.calls.Calls.answer.Goals as goal
+use Rattle.pmg_node_parts.proofs.calls.Calls.replace_all.Goals as goal
 
 pub loop-proc-preserved : goal.loop-proc-preserved
 loop-proc-preserved c =

@@ -1,6 +1,6 @@
 use Rattle.std.proofs.Common.{◌≡◌, length}
 use Rattle.pmg_node_parts.specs.Calls.{all_instead}
-use Rattle.pmg_node_parts.proofs.calls.Calls.answer.Given as goal
+use Rattle.pmg_node_parts.proofs.calls.Calls.replace_all.Given as goal
 
 abbrev pub decreases-loop-proc : goal.decreases-loop-proc
 decreases-loop-proc l = length l.answers.items
