@@ -26,7 +26,7 @@ pub fn read_published<R: Wait>(rt: &R, alloc: Global, count: u64) -> Result<u64,
     let asked = make_asked(alloc)?;
     let (mut publisher, mut viewers) = publisher(rt, alloc, 1)?;
     let found = match viewers.pop() {
-        Some(viewer) => published_found(rt, &mut publisher, viewer, &asked, count),
+        Some(viewer) => published_found(rt, alloc, &mut publisher, viewer, &asked, count),
         None => Ok(0),
     };
     publisher.close(rt);
@@ -36,12 +36,15 @@ pub fn read_published<R: Wait>(rt: &R, alloc: Global, count: u64) -> Result<u64,
 /// Publishes the pieces, and then reads.
 fn published_found<R: Wait>(
     rt: &R,
+    alloc: Global,
     publisher: &mut Publisher,
     mut viewer: Viewer,
     asked: &Asked,
     count: u64,
 ) -> Result<u64, Refusal> {
-    publisher.publish(rt, &asked.pieces, &asked.pieces)?;
+    let near = copies_of(alloc, &asked.pieces)?;
+    let far = copies_of(alloc, &asked.pieces)?;
+    publisher.publish(rt, near, far)?;
     let mut found = 0_u64;
     for number in 0..count {
         if let Some(proc) = asked.procs.get((number % 100) as usize) {
@@ -50,6 +53,15 @@ fn published_found<R: Wait>(
         }
     }
     Ok(found)
+}
+
+/// Copies of the pieces, in their order.
+fn copies_of(alloc: Global, pieces: &[Piece]) -> Result<Vec<Piece>, AllocError> {
+    let mut copies = Vec::with_capacity(alloc, pieces.len())?;
+    for piece in pieces {
+        copies.push(piece.copy()?)?;
+    }
+    Ok(copies)
 }
 
 /// Reads so often from a board under a lock, what a viewer reads: how many reads found the value.

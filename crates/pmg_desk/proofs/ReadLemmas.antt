@@ -1,5 +1,5 @@
 -- What a client reads and waits for nobody.
-use Rattle.std.proofs.Common.{◌≡◌, ◌⊎◌, inl, inr, ℕ, Bool, true, false, ◌&&◌, not, cond, List, Option, Some, Result, Ok, Err, refl, sym, ap, subst, ◌∙◌}
+use Rattle.std.proofs.Common.{◌≡◌, inl, inr, ℕ, Bool, true, false, ◌&&◌, not, cond, List, Option, Some, Result, Ok, Err, sym, ap, subst, ◌∙◌}
 use Rattle.std.specs.FinMap as finite
 use Rattle.std.proofs.lemmas.Bool.{not-false}
 use Rattle.pmg_value.specs.Answers.{Gives}
@@ -16,7 +16,7 @@ use Rattle.pmg_jobinfo.specs.Reserved.{is_general}
 use Rattle.pmg_publish.specs.Publications.{far_of, near_of}
 use Rattle.pmg_node_model.proofs.CauseFacts.{NoCause, by_causes}
 use Rattle.pmg_node_model.proofs.KeptSettled.{resolve_parks}
-use Rattle.pmg_node_model.specs.Acts.{Reply, is_misnamed, reply_of, target_cause}
+use Rattle.pmg_node_model.specs.Acts.{is_misnamed, reply_of, target_cause}
 use Rattle.pmg_node_model.specs.Holdings.{Get, NodeState, new_holding, plain_seen, seen_of}
 use Rattle.pmg_node.proofs.AskLemmas.{reserved_found, reserved_named, reserved_refuses, told_first}
 use Rattle.pmg_desk.specs.Clients.{Client, proc_of, puts_of}
@@ -76,36 +76,22 @@ module _ (c : Client) (get : Get) (free : ◌≡◌ {A = Result (Unit {0}) Refus
   pub now_named : is_reserved get.key ≡ true → (not (is_general get.target) && is_misnamed c.jobs get.target) ≡ false
   now_named = reserved_named c.jobs (proc_of c) get (target_free refusals.BadParam none.1.0)
 
--- a read is refused where it has a cause
-pub read_refused : (c d : Client) (get : Get) (e : Refusal) → ◌≡◌ {A = Result (Unit {0}) Refusal} (Err e) (first_of (now_cause c get) tt) → IsReadNow c d get (Err e)
-read_refused c d get e is = subst (ReadsNow c d get (Err e)) is refl
-
 module _ (c d : Client) (get : Get) (result : Result Value Refusal) (free : ◌≡◌ {A = Result (Unit {0}) Refusal} (Ok tt) (first_of (now_cause c get) tt)) where
   abbrev there : Seen
   there = seen_of c.jobs c.node (read_at (near_of d.viewer.log) get.target) (read_at (far_of d.viewer.log) get.target) get
 
-  read_at_all : (own : Bool) → is_own_key (proc_of c) get ≡ own
-      → IsDueOrClosed result (reply_of (resolve (cond own (Seen.own (finite.get (puts_of c).own get.key)) there) modes.Now)) → IsReadNow c d get result
-  read_at_all own is due =
+  read_other : is_own_key (proc_of c) get ≡ false → IsDueOrClosed result (reply_of (resolve there modes.Now)) → IsReadNow c d get result
+  read_other other due =
       subst (ReadsNow c d get result) free
-      (subst (λ (b : Bool). IsDueOrClosed result (reply_of (resolve (cond b (Seen.own (finite.get (puts_of c).own get.key)) there) modes.Now))) (sym is) due)
+      (subst (λ (b : Bool). IsDueOrClosed result (reply_of (resolve (cond b (Seen.own (finite.get (puts_of c).own get.key)) there) modes.Now))) (sym other) due)
 
-  -- else it is told what it put
-  pub read_own : is_own_key (proc_of c) get ≡ true → IsDueOrClosed result (reply_of (resolve (Seen.own (finite.get (puts_of c).own get.key)) modes.Now)) → IsReadNow c d get result
-  read_own = read_at_all true
-
-  -- or what the group tells
+  -- of a key that is none of its own it is told what the group tells
   pub read_reserved : is_own_key (proc_of c) get ≡ false → is_reserved get.key ≡ true → IsDueOrClosed result (reply_of (resolve (reserved_seen c.jobs c.node get) modes.Now))
       → IsReadNow c d get result
-  read_reserved other key due = read_at_all false other (subst (λ (s : Seen). IsDueOrClosed result (reply_of (resolve s modes.Now))) (sym (reserved_by c.jobs c.node _ _ get key)) due)
+  read_reserved other key due = read_other other (subst (λ (s : Seen). IsDueOrClosed result (reply_of (resolve s modes.Now))) (sym (reserved_by c.jobs c.node _ _ get key)) due)
 
   -- or what the stores tell
   pub read_plain : is_own_key (proc_of c) get ≡ false → is_reserved get.key ≡ false
       → IsDueOrClosed result (reply_of (resolve (plain_seen c.jobs c.node (read_at (near_of d.viewer.log) get.target) (read_at (far_of d.viewer.log) get.target) get) modes.Now))
       → IsReadNow c d get result
-  read_plain other key due = read_at_all false other (subst (λ (s : Seen). IsDueOrClosed result (reply_of (resolve s modes.Now))) (sym (plain_by c.jobs c.node _ _ get key)) due)
-
--- where the viewer is closed, or an allocation failed, no answer is due
-pub none_due : (e : Refusal) → (e ≡ refusals.Closed) ⊎ (e ≡ refusals.NoMemory) → (due : Reply) → IsDueOrClosed (Err e) due
-none_due e (inl is) due = subst (λ (x : Refusal). IsDueOrClosed (Err x) due) (sym is) tt
-none_due e (inr is) due = subst (λ (x : Refusal). IsDueOrClosed (Err x) due) (sym is) tt
+  read_plain other key due = read_other other (subst (λ (s : Seen). IsDueOrClosed result (reply_of (resolve s modes.Now))) (sym (plain_by c.jobs c.node _ _ get key)) due)

@@ -150,11 +150,11 @@ impl<'d> Client<'d> {
         rt: &R,
         past: Option<Status>,
         call: Call,
-        act: &Act,
+        act: Act,
     ) -> Result<Reply, Refusal>
         requires { is_put (calling_of call) ≡ false }
-        ensures told { IsEvent result → Tells self.new (act_of act.now) (reply_in reply_as result) }
-        ensures past { IfOk result (λ r. IfSome past (λ status. RepliesPast (proc_of self.old) (status_in status) (act_of act.now) (reply_as r))) }
+        ensures told { IsEvent result → Tells self.new (act_of act) (reply_in reply_as result) }
+        ensures past { IfOk result (λ r. IfSome past (λ status. RepliesPast (proc_of self.old) (status_in status) (act_of act) (reply_as r))) }
         ensures noted { ClientNotes self.old self.new (calling_of call) reply_as result }
         ensures later { IsLater self.old self.new }
     {
@@ -178,7 +178,7 @@ impl<'d> Client<'d> {
         ensures later { IsLater self.old self.new }
     {
         let call = Call::Request(request.copy()?);
-        self.call(rt, past, call, &Act::Request(request))
+        self.call(rt, past, call, Act::Request(request))
     }
 
     /// It commits what it put (PMIx Standard 5.0, PMIx_Commit): the commit's number, from 1. Refused as Terminated, as Busy where a
@@ -190,7 +190,7 @@ impl<'d> Client<'d> {
         ensures later { IsLater self.old self.new }
     {
         let act = Act::Commit(self.proc().copy()?, self.notes.unsealed()?);
-        committed_by(self.call(rt, None, Call::Commit, &act))
+        committed_by(self.call(rt, None, Call::Commit, act))
     }
 
     /// It enters its next fence of these participants, of which it is one; an empty list stands for its namespace (PMIx Standard

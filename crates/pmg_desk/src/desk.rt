@@ -53,13 +53,13 @@ impl Desk {
     }
 
     /// Makes the act at the node.
-    fn act<R: Wait>(&self, rt: &R, act: &Act) -> Result<Reply, Refusal>
-        ensures { IsEvent result → IsReplyTo (act_of act.now) (reply_in reply_as result) }
+    fn act<R: Wait>(&self, rt: &R, act: Act) -> Result<Reply, Refusal>
+        ensures { IsEvent result → IsReplyTo (act_of act) (reply_in reply_as result) }
     {
         let Some(mut held) = self.hold(rt, &WaitFor::Nothing) else {
             return Err(Refusal::Closed);
         };
-        let answer = held.state.act(rt, act);
+        let answer = held.state.perform(rt, act);
         held.wake();
         held.put_back(rt);
         answer
@@ -71,12 +71,12 @@ impl Desk {
         &self,
         rt: &R,
         awaited: &WaitFor<'_>,
-        act: &Act,
+        act: Act,
         viewer: &mut Viewer,
     ) -> Result<AnswerCopies, Refusal>
         requires { viewer.old.book ≡ self.now.place.told.book }
-        ensures told { IfOk result (λ t. IsToldOf self.now.place.registry self.now.place.node (happened act.now t.told) viewer.new.log) }
-        ensures there { IfOk result (λ t. RepliesThere awaited.now (act_of act.now) (reply_in reply_as t.told)) }
+        ensures told { IfOk result (λ t. IsToldOf self.now.place.registry self.now.place.node (happened act t.told) viewer.new.log) }
+        ensures there { IfOk result (λ t. RepliesThere awaited.now (act_of act) (reply_in reply_as t.told)) }
         ensures copy { IfOk result (λ t. reply_in reply_as t.kept ≡ reply_in reply_as t.told) }
         ensures kind { IfOk result (λ t. IsEvent t.told) }
         ensures err { IfErr result (λ e. (e ≡ refusals.NoMemory) ⊎ (e ≡ refusals.Closed)) }
@@ -96,14 +96,14 @@ impl Desk {
     pub fn deliver<R: Wait>(&self, rt: &R, frame: Frame) -> Result<Delivery, Refusal>
         ensures { IsEvent result → IsReplyTo (ModelAct.deliver frame) (reply_in delivery_reply result) }
     {
-        delivery_by(self.act(rt, &Act::Deliver(frame)))
+        delivery_by(self.act(rt, Act::Deliver(frame)))
     }
 
     /// Other nodes are asked again for what is missing.
     pub fn nudge<R: Wait>(&self, rt: &R) -> Result<(), Refusal>
         ensures { IsEvent result → IsReplyTo (ModelAct.request ModelRequest.nudge) (reply_in (λ _. ModelReply.done) result) }
     {
-        nudged_by(self.act(rt, &Act::Request(Request::Nudge)))
+        nudged_by(self.act(rt, Act::Request(Request::Nudge)))
     }
 
     /// Changes the process sets, which is done at node 0: the number of the change, from 1.
@@ -111,7 +111,7 @@ impl Desk {
         requires { IsChange (request_of request) }
         ensures { IsEvent result → IsReplyTo (ModelAct.request (request_of request)) (reply_in ModelReply.defined result) }
     {
-        defined_by(self.act(rt, &Act::Request(request)))
+        defined_by(self.act(rt, Act::Request(request)))
     }
 
     /// A process set of that name and of these members is defined; it is done at node 0 (PMIx Standard 5.0, process sets). The

@@ -1,22 +1,22 @@
 //! What a client reads.
-ghost use Rattle.std.specs.Prelude.{◌≡◌, ◌&&◌, not, false, true, IfErr, IfOk};
+ghost use Rattle.std.specs.Prelude.{◌≡◌, ◌&&◌, ◌==◌, ℕ, not, false, true, Err, IfErr, IfOk};
 ghost use Rattle.std.specs.FinMap as finite;
+ghost use Rattle.std.specs.Option.{option_map};
+ghost use mathlib.Core.List.{IsPrefix};
 ghost use Rattle.pmg_value.specs.CheckOrder.{first_of};
 ghost use Rattle.pmg_value.specs.Names.{is_reserved};
 ghost use Rattle.pmg_value.specs.Spelling.{spelling};
 ghost use Rattle.pmg_value.specs.declared.refusal.Refusal.TheVariants as refusals;
-ghost use Rattle.pmg_commit.specs.Data.{Data, level_at, read_at};
-ghost use Rattle.pmg_jobinfo.specs.Jobs.{is_node, is_registered};
+ghost use Rattle.pmg_commit.specs.Data.{level_at, read_at};
+ghost use Rattle.pmg_jobinfo.specs.Jobs.{Jobs, home_of, is_node, is_registered};
 ghost use Rattle.pmg_jobinfo.specs.Reserved.{is_general};
-ghost use Rattle.pmg_publish.specs.Sights.{IsSight};
 ghost use Rattle.pmg_node_model.specs.Holdings.{plain_seen};
 ghost use Rattle.pmg_publish.specs.Publications.{near_of, far_of};
 ghost use Rattle.pmg_node_parts.specs.Calls.{get_of};
-ghost use Rattle.pmg_get.specs.Gets.{Outcome, Seen, resolve};
-ghost use Rattle.pmg_get.specs.Views.{outcome_of, seen_in};
+ghost use Rattle.pmg_get.specs.Gets.{Seen, resolve};
 ghost use Rattle.pmg_get.specs.declared.view.Mode.{Mode as GetMode};
 ghost use Rattle.pmg_get.specs.declared.view.Mode.TheVariants as modes;
-ghost use Rattle.pmg_node_model.specs.Acts.{Reply as ModelReply, is_misnamed, reply_of};
+ghost use Rattle.pmg_node_model.specs.Acts.{is_misnamed, reply_of};
 ghost use Rattle.pmg_node.specs.Replies.{taking_reply};
 ghost use Rattle.pmg_desk.specs.Clients.{IsLater, is_waiting, proc_of, puts_of};
 ghost use Rattle.pmg_journal.specs.Journals.{IsEvent};
@@ -24,25 +24,13 @@ ghost use Rattle.pmg_desk.specs.Reading.{IsDueOrClosed, IsGot, IsOwnGet, IsReadN
 
 use crate::client::Client;
 use crate::lock::Place;
-use pmg_get::{Answer, Mode, View, resolve};
+use pmg_get::Mode;
 use pmg_jobinfo::Registry;
 use pmg_journal::Call;
-use pmg_node::{Asked, Request, Taking, is_bad_target, is_registered};
-use pmg_publish::Snapshot;
+use pmg_node::{Asked, Listing, Request, Taking, is_bad_get, look_up};
+use pmg_publish::{FarSnapshot, Snapshot, Viewer};
 use pmg_value::{Key, NodeId, Proc, Refusal, Value};
 use std::sync::Wait;
-
-/// What a read that waits for nobody is answered.
-fn answer_now(answer: Answer<'_>) -> Result<Value, Refusal>
-    requires { outcome_of answer ≡ Outcome.parks → ⊥ }
-    ensures { IsDueOrClosed result (reply_of (outcome_of answer.entry)) }
-{
-    match answer {
-        Answer::Found(value) => Ok(value.copy()?),
-        Answer::OutsideScope => Err(Refusal::OutsideScope),
-        Answer::NotFound | Answer::Park => Err(Refusal::NotFound),
-    }
-}
 
 /// The value that was taken; there is always one once a get parked.
 fn value_in(taking: Taking) -> Result<Value, Refusal>
@@ -54,42 +42,46 @@ fn value_in(taking: Taking) -> Result<Value, Refusal>
     }
 }
 
-/// What there is to be seen at the node of a key of the target that is not reserved.
-fn view_of<'a>(
-    registry: &Registry,
-    id: NodeId,
-    target: &Proc,
-    key: &Key,
-    sight: &'a Snapshot,
-) -> View<'a>
-    ensures { (near far : Data) → IsSight near far target.now key.now sight.now
-        → seen_in result ≡ plain_seen registry.now id (read_at near target.now) (read_at far target.now) (get_of target.now key.now) }
+/// What a read of a process at home at the node is answered by what was read of both stores.
+#[tactic(auto, unfolding(pmg_get::specs::Gets::resolve))]
+fn near_now(sight: Snapshot) -> Result<Value, Refusal>
+    ensures { IsDueOrClosed result (reply_of (resolve (Seen.local (option_map spelling sight.near) (option_map spelling sight.far) sight.near_ended) modes.Now)) }
 {
-    if registry.is_home(id, target) {
-        return View::Near {
-            near: sight.near.as_ref(),
-            far: sight.far.as_ref(),
-            term: sight.near_ended,
-        };
-    }
-    View::Far {
-        far: sight.far.as_ref(),
-        term: sight.far_ended,
+    let Snapshot {
+        near,
+        far,
+        near_ended: _,
+        far_ended: _,
+    } = sight;
+    match near {
+        Some(value) => Ok(value),
+        None if far.is_some() => Err(Refusal::OutsideScope),
+        None => Err(Refusal::NotFound),
     }
 }
 
-/// What a read at the node of a key that is not reserved is answered by what was read of both stores.
-fn plain_now(
-    registry: &Registry,
-    id: NodeId,
-    target: &Proc,
-    key: &Key,
-    sight: &Snapshot,
-) -> Result<Value, Refusal>
-    ensures { (near far : Data) → IsSight near far target.now key.now sight.now
-        → IsDueOrClosed result (reply_of (resolve (plain_seen registry.now id (read_at near target.now) (read_at far target.now) (get_of target.now key.now)) modes.Now)) }
+/// What a read of a process at home at another node is answered by what was read of the far store.
+#[tactic(auto, unfolding(pmg_get::specs::Gets::resolve))]
+fn far_now(sight: FarSnapshot) -> Result<Value, Refusal>
+    ensures { IsDueOrClosed result (reply_of (resolve (Seen.remote (option_map spelling sight.value) sight.ended) modes.Now)) }
 {
-    answer_now(resolve(view_of(registry, id, target, key, sight), Mode::Now))
+    match sight.value {
+        Some(value) => Ok(value),
+        None => Err(Refusal::NotFound),
+    }
+}
+
+/// What a viewer reads at a node of a key that is not reserved, of a target that is at home there or at another node.
+fn plain_now(viewer: &mut Viewer, is_near: bool, target: &Proc, key: &Key) -> Result<Value, Refusal>
+    ensures book { viewer.new.book ≡ viewer.old.book }
+    ensures seen { IsPrefix viewer.old.log viewer.new.log }
+    ensures answer { (jobs : Jobs) (id : ℕ) → is_near ≡ (home_of jobs target.now == id)
+        → IsDueOrClosed result (reply_of (resolve (plain_seen jobs id (read_at (near_of viewer.new.log) target.now) (read_at (far_of viewer.new.log) target.now) (get_of target.now key.now)) modes.Now)) }
+{
+    if is_near {
+        return near_now(viewer.read(target, key)?);
+    }
+    far_now(viewer.read_far(target, key)?)
 }
 
 /// What a read at the node of a reserved key is answered, where the target may be named.
@@ -121,18 +113,18 @@ impl Client<'_> {
         }
     }
 
-    /// Judges whose key is read, and that no call of it waits.
-    fn check_now(&self, target: &Proc, key: &Key) -> Result<(), Refusal>
+    /// Judges whose key is read, that is none of its own, by what the registry says of the target; and that no call of it waits.
+    fn check_now(&self, target: &Proc, key: &Key, listing: Listing) -> Result<(), Refusal>
+        requires other { is_own_key (proc_of self.now) (get_of target.now key.now) ≡ false }
+        requires registered { listing.is_registered ≡ is_registered self.now.jobs target.now.nspace }
+        requires misnamed { listing.is_misnamed ≡ is_misnamed self.now.jobs target.now }
         ensures { result ≡ first_of (now_cause self.now (get_of target.now key.now)) tt }
     {
-        let registry = &self.desk.place.registry;
-        if !self.is_own(target, key) {
-            if is_bad_target(registry, self.proc(), target, key) {
-                return Err(Refusal::BadParam);
-            }
-            if !is_registered(registry, &target.nspace) {
-                return Err(Refusal::UnknownNamespace);
-            }
+        if is_bad_get(self.proc(), target, key, listing.is_misnamed) {
+            return Err(Refusal::BadParam);
+        }
+        if !listing.is_registered {
+            return Err(Refusal::UnknownNamespace);
         }
         if self.in_call() {
             return Err(Refusal::Busy);
@@ -142,7 +134,7 @@ impl Client<'_> {
 
     /// What it put under the key last, unless a call of it waits.
     fn free_own(&self, key: &Key) -> Result<Value, Refusal>
-        ensures busy { is_waiting self.now ≡ true → IsDueOrClosed result (ModelReply.refused refusals.Busy) }
+        ensures busy { is_waiting self.now ≡ true → result ≡ Err refusals.Busy }
         ensures answer { (mode : GetMode) → is_waiting self.now ≡ false
             → IsDueOrClosed result (reply_of (resolve (Seen.own (finite.get (puts_of self.now).own key.now)) mode)) }
     {
@@ -214,24 +206,26 @@ impl Client<'_> {
         self.get_as(rt, target, key, Mode::Refresh)
     }
 
-    /// What it reads of the target's key, and waits for nobody.
+    /// What it reads of the target's key, and waits for nobody: of a target at home at another node in the far store alone. Refused as
+    /// BadParam where the target is misnamed or may not be asked for the key, as UnknownNamespace, as Busy where a call of it waits, as
+    /// NotFound, as OutsideScope, as Closed where the desk's publisher is closed, and as NoMemory.
     pub fn get_now(&mut self, target: &Proc, key: &Key) -> Result<Value, Refusal>
         ensures later { IsLater self.old self.new }
         ensures calls { self.new.transcript ≡ self.old.transcript }
         ensures answer { IsReadNow self.old self.new (get_of target.now key.now) result }
     {
-        if let Err(refusal) = self.check_now(target, key) {
-            return Err(refusal);
-        }
         if self.is_own(target, key) {
-            return self.own(key);
+            return self.free_own(key);
         }
         let Place { node, registry, .. } = &self.desk.place;
+        let listing = look_up(registry, target);
+        if let Err(refusal) = self.check_now(target, key, listing) {
+            return Err(refusal);
+        }
         if key.is_reserved() {
             return reserved_now(registry, *node, target, key);
         }
-        let sight = self.viewer.read(target, key)?;
-        plain_now(registry, *node, target, key, &sight)
+        plain_now(&mut self.viewer, listing.home == *node, target, key)
     }
 
     /// The level of the process as other nodes see it. It waits for nobody. Closed where the desk's publisher is closed.

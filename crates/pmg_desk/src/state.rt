@@ -1,6 +1,6 @@
 //! What lies under the lock of a desk.
 ghost use Rattle.std.specs.Prelude.{◌≡◌, ◌⊎◌, ◌+◌, ◌==◌, ◌∷◌, ◌++◌, [], not, true, is_none, is_some, length, IfOk, IfErr, IfSome, IsNone, IsOkUnless, IsSome, OnErr, OnOk, Some, None, Ok, Err};
-ghost use Rattle.std.specs.Option.{option_map};
+ghost use Rattle.std.specs.Option.{option_map, option_to_list};
 ghost use mathlib.Core.List.{IsPrefix};
 ghost use Rattle.pmg_value.specs.declared.refusal.Refusal.TheVariants as refusals;
 ghost use Rattle.pmg_jobinfo.specs.Jobs.{is_node};
@@ -18,8 +18,9 @@ ghost use Rattle.pmg_desk.specs.Publishing.{published_of, published_over};
 ghost use Rattle.pmg_desk.specs.States.{StateGoesOn, IsAt, NothingHappened, Steps};
 ghost use Rattle.pmg_desk.specs.Telling.{IsToldOf, WasFarDump, WasSent};
 
+use pmg_commit::Piece;
 use pmg_jobinfo::Registry;
-use pmg_journal::{AnswerCopies, Journal, copy_of_answer};
+use pmg_journal::{AnswerCopies, Journal, copy_of_act, copy_of_answer};
 use pmg_node::{Act, Joined, Node, Reply, Status};
 use pmg_node_model::Sent;
 use pmg_publish::{MAX_VIEWERS, Publisher, Version, Viewer, publisher};
@@ -107,17 +108,34 @@ fn done_by(node: &mut Node, act: &Act, outbox: &mut VecDeque<Sent>) -> Result<Do
     }
 }
 
+/// The piece as a list, which is empty where there is none.
+fn list_of(alloc: Global, piece: Option<Piece>) -> Result<Vec<Piece>, AllocError>
+    ensures { IfOk result (λ list. list.items ≡ option_to_list piece) }
+{
+    match piece {
+        Some(piece) => Ok(vec![in alloc; piece]?),
+        None => Ok(Vec::new(alloc)),
+    }
+}
+
 /// Publishes what was joined, if something was.
-fn publish<R: Wait>(publisher: &mut Publisher, rt: &R, joined: &Joined) -> Result<(), Refusal>
+fn publish<R: Wait>(
+    publisher: &mut Publisher,
+    rt: &R,
+    alloc: Global,
+    mut joined: Joined,
+) -> Result<(), Refusal>
     ensures book { publisher.new.book ≡ publisher.old.book }
-    ensures ok { OnOk result (publisher.new.log ≡ publisher.old.log ++ published_of (joins_in joined.now)) }
+    ensures ok { OnOk result (publisher.new.log ≡ publisher.old.log ++ published_of (joins_in joined)) }
     ensures open { publisher.old.is_open ≡ true → OnOk result (publisher.new.is_open ≡ true) }
     ensures err { OnErr result (publisher.new.log ≡ publisher.old.log) }
 {
     if joined.near.is_none() && joined.far.is_none() {
         return Ok(());
     }
-    publisher.publish(rt, joined.near.as_slice(), joined.far.as_slice())
+    let near = list_of(alloc, joined.near.take())?;
+    let far = list_of(alloc, joined.far.take())?;
+    publisher.publish(rt, near, far)
 }
 
 /// Two copies of the answer.
@@ -134,6 +152,7 @@ fn two_copies(
 fn publish_done<R: Wait>(
     publisher: &mut Publisher,
     rt: &R,
+    alloc: Global,
     done: Done,
 ) -> Option<(Result<Reply, Refusal>, AnswerCopies)>
     ensures noted { IfSome result (λ r. reply_in reply_as r.0 ≡ reply_in reply_as done.told) }
@@ -148,7 +167,7 @@ fn publish_done<R: Wait>(
     let Ok((noted, kept)) = two_copies(&told) else {
         return None;
     };
-    match publish(publisher, rt, &joined) {
+    match publish(publisher, rt, alloc, joined) {
         Ok(()) => Some((noted, AnswerCopies { told, kept })),
         Err(_) => None,
     }
@@ -162,9 +181,9 @@ fn happen_in<R: Wait>(
     outbox: &mut VecDeque<Sent>,
     publisher: &mut Publisher,
     rt: &R,
-    act: &Act,
+    act: Act,
 ) -> Result<AnswerCopies, Refusal>
-    ensures ok { IfOk result (λ t. StateGoesOn node.old act.now t.told (happened_in journal.old) outbox.old.items publisher.old.log
+    ensures ok { IfOk result (λ t. StateGoesOn node.old act t.told (happened_in journal.old) outbox.old.items publisher.old.log
         node.new (happened_in journal.new) outbox.new.items publisher.new.log) }
     ensures open { publisher.old.is_open ≡ true → OnOk result (publisher.new.is_open ≡ true) }
     ensures kind { IfOk result (λ t. IsEvent t.told) }
@@ -182,13 +201,14 @@ fn happen_in<R: Wait>(
     let Some(whole) = node else {
         return Err(Refusal::Closed);
     };
-    let event = journal.place_for(act)?;
-    let done = done_by(whole, act, outbox)?;
-    let Some((noted, twice)) = publish_done(publisher, rt, done) else {
+    journal.reserve()?;
+    let done = done_by(whole, &act, outbox)?;
+    let alloc = journal.registry.allocator();
+    let Some((noted, twice)) = publish_done(publisher, rt, alloc, done) else {
         *node = None;
         return Err(Refusal::NoMemory);
     };
-    journal.note(event, noted);
+    journal.note(act, noted);
     Ok(twice)
 }
 
@@ -268,9 +288,9 @@ impl State {
 
     /// Does the act, writes it into the journal with its answer, and publishes what it joined. Closed where the node was given
     /// up. NoMemory before the act changes nothing; after it the node is given up, and journal and published store stand.
-    fn happen<R: Wait>(&mut self, rt: &R, act: &Act) -> Result<AnswerCopies, Refusal>
-        ensures event { IfOk result (λ t. happened_in self.new.journal ≡ happened_in self.old.journal ++ happened act.now t.told ∷ []) }
-        ensures step { IfOk result (λ t. IfSome self.old.node (λ s. Steps s act.now t.told self.new.node)) }
+    fn happen<R: Wait>(&mut self, rt: &R, act: Act) -> Result<AnswerCopies, Refusal>
+        ensures event { IfOk result (λ t. happened_in self.new.journal ≡ happened_in self.old.journal ++ happened act t.told ∷ []) }
+        ensures step { IfOk result (λ t. IfSome self.old.node (λ s. Steps s act t.told self.new.node)) }
         ensures kind { IfOk result (λ t. IsEvent t.told) }
         ensures copy { IfOk result (λ t. reply_in reply_as t.kept ≡ reply_in reply_as t.told) }
         ensures err { IfErr result (λ e. (e ≡ refusals.NoMemory) ⊎ (e ≡ refusals.Closed)) }
@@ -291,11 +311,10 @@ impl State {
         happen_in(node, journal, outbox, publisher, rt, act)
     }
 
-    /// Does the act, writes it into the journal with its answer, and publishes what it joined. Closed where the node was given
-    /// up. NoMemory before the act changes nothing; after it the node is given up, and journal and published store stand.
-    pub fn act<R: Wait>(&mut self, rt: &R, act: &Act) -> Result<Reply, Refusal>
-        ensures event { IsEvent result → happened_in self.new.journal ≡ happened_in self.old.journal ++ happened act.now result ∷ [] }
-        ensures step { IsEvent result → IfSome self.old.node (λ s. Steps s act.now result self.new.node) }
+    /// The same, for who keeps no transcript: its answer alone.
+    pub(crate) fn perform<R: Wait>(&mut self, rt: &R, act: Act) -> Result<Reply, Refusal>
+        ensures event { IsEvent result → happened_in self.new.journal ≡ happened_in self.old.journal ++ happened act result ∷ [] }
+        ensures step { IsEvent result → IfSome self.old.node (λ s. Steps s act result self.new.node) }
         ensures none { result ≡ Err refusals.NoMemory → happened_in self.new.journal ≡ happened_in self.old.journal }
         ensures kept { result ≡ Err refusals.Closed → happened_in self.new.journal ≡ happened_in self.old.journal }
         ensures memory { result ≡ Err refusals.NoMemory → (self.new.node ≡ None) ⊎ NothingHappened self.old self.new }
@@ -309,16 +328,35 @@ impl State {
         }
     }
 
+    /// Does the act, writes a copy of it into the journal with its answer, and publishes what it joined. Closed where the node was
+    /// given up. NoMemory before the act changes nothing; after it the node is given up, and journal and published store stand.
+    pub fn act<R: Wait>(&mut self, rt: &R, act: &Act) -> Result<Reply, Refusal>
+        ensures event { IsEvent result → happened_in self.new.journal ≡ happened_in self.old.journal ++ happened act.now result ∷ [] }
+        ensures step { IsEvent result → IfSome self.old.node (λ s. Steps s act.now result self.new.node) }
+        ensures none { result ≡ Err refusals.NoMemory → happened_in self.new.journal ≡ happened_in self.old.journal }
+        ensures kept { result ≡ Err refusals.Closed → happened_in self.new.journal ≡ happened_in self.old.journal }
+        ensures memory { result ≡ Err refusals.NoMemory → (self.new.node ≡ None) ⊎ NothingHappened self.old self.new }
+        ensures shut { self.old.node ≡ None → result ≡ Err refusals.Closed }
+        ensures closed { result ≡ Err refusals.Closed → (self.old.node ≡ None) × NothingHappened self.old self.new }
+        ensures place { IsAt self.old self.new }
+    {
+        if self.is_closed() {
+            return Err(Refusal::Closed);
+        }
+        let copy = copy_of_act(act)?;
+        self.perform(rt, copy)
+    }
+
     /// The same for a client, whose viewer is told of what was published.
     pub fn act_for<R: Wait>(
         &mut self,
         rt: &R,
-        act: &Act,
+        act: Act,
         viewer: &mut Viewer,
     ) -> Result<AnswerCopies, Refusal>
         requires { viewer.old.book ≡ self.old.publisher.book }
-        ensures told { IfOk result (λ t. IsToldOf self.old.journal.registry self.old.journal.node (happened act.now t.told) viewer.new.log) }
-        ensures step { IfOk result (λ t. IfSome self.old.node (λ s. reply_to s (act_of act.now) ≡ reply_in reply_as t.told)) }
+        ensures told { IfOk result (λ t. IsToldOf self.old.journal.registry self.old.journal.node (happened act t.told) viewer.new.log) }
+        ensures step { IfOk result (λ t. IfSome self.old.node (λ s. reply_to s (act_of act) ≡ reply_in reply_as t.told)) }
         ensures shut { self.old.node ≡ None → result ≡ Err refusals.Closed }
         ensures copy { IfOk result (λ t. reply_in reply_as t.kept ≡ reply_in reply_as t.told) }
         ensures kind { IfOk result (λ t. IsEvent t.told) }

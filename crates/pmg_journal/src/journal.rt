@@ -76,16 +76,14 @@ pub fn copy_of_answer(answer: &Result<Reply, Refusal>) -> Result<Result<Reply, R
 }
 
 impl Journal {
-    /// A copy of the act, and a place for it in the journal.
-    pub fn place_for(&mut self, act: &Act) -> Result<Act, AllocError>
-        ensures copy { IfOk result (λ copy. act_of copy ≡ act_of act.now) }
+    /// Makes a place for one event more.
+    pub fn reserve(&mut self) -> Result<(), AllocError>
         ensures place { OnOk result (vec_len self.new.events < vec_capacity self.new.events) }
         ensures node { self.new.node ≡ self.old.node }
         ensures registry { self.new.registry ≡ self.old.registry }
         ensures events { self.new.events.items ≡ self.old.events.items }
     {
-        self.events.reserve(1)?;
-        copy_of_act(act)
+        self.events.reserve(1)
     }
 
     /// The act happened, and was answered so; there is a place for it.

@@ -1,5 +1,7 @@
 -- Pieces that are taken.
-use Rattle.std.proofs.Common.{◌≡◌, ℕ, nat_lt, Bool, true, cond, List, [], refl, sym, ap, ◌∙◌}
+use Rattle.std.proofs.Common.{◌≡◌, ℕ, ◌==◌, nat_lt, Bool, true, false, cond, List, [], length, refl, sym, ap, ◌∙◌, arith}
+use Rattle.std.proofs.lemmas.Bool.Decides.{nat_tests}
+use Rattle.std.proofs.lemmas.List.{nil_from_length}
 use Rattle.pmg_value.specs.declared.process.Proc.{Proc}
 use Rattle.pmg_commit.specs.Data.{Data, absorbed, level_at}
 use Rattle.pmg_commit.specs.Knowledge.{Contribution}
@@ -21,6 +23,13 @@ use Rattle.pmg_node_model.specs.declared.due.ToSend.{ToSend}
 use Rattle.pmg_node.proofs.FrameLemmas.{deliver_by, dues_after}
 use Rattle.pmg_node_model.proofs.KeptAgain.{settled_on, piece_differs}
 use Rattle.pmg_node.proofs.SilentLemmas.{sent_as}
+
+no_length : (n : ℕ) → (n == 0) ≡ true → n ≡ 0
+no_length n e = grind (arith, nat_tests)
+
+-- a list without items
+pub none_due : (dues : List ToSend) → (length dues == 0) ≡ true → dues ≡ []
+none_due dues e = nil_from_length dues (no_length (length dues) e)
 
 -- the node, once the piece is joined, with these calls and marks
 abbrev pub with_piece : Contribution → Calls → Levels → Server → Server
@@ -112,6 +121,13 @@ module _ (s : Server) (c : Contribution) (taken : is_taken s.jobs s.id s.holding
         are left refl refl refl (sym (looks_alike q same) ∙ mapped_calls s.jobs s.id grown (after s a).holding.calls (is_about q) s.holding.calls)
         ∙ ap (asking_again s.jobs s.id left) same
         ∙ piece_tells.due true more
+
+    -- the same, where more commits come to be known, or else nothing is asked for
+    pub piece_asks_if : (q : Proc) → q ≡ c.proc → (dues : List ToSend) → AreAskedAgain s.jobs s.id q s.holding.table s.holding.near (absorbed s.holding.far c) s.holding.calls dues
+        → (b : Bool) → nat_lt (level_at s.holding.far c.proc) (level_at (absorbed s.holding.far c) c.proc) ≡ b → (b ≡ false → dues ≡ [])
+        → dues ≡ due_by s.jobs s.id s.holding a (after s a).holding
+    piece_asks_if q same dues are true more none = piece_asks q same dues are more
+    piece_asks_if q same dues are false more none = none refl ∙ piece_tells.due false more
 
 -- the node once the piece is taken, where its parts are so
 pub piece_moved : (s t : Server) (c : Contribution) → t ≡ s → is_taken s.jobs s.id s.holding.table (frames.Piece c) ≡ true → (near far : Data) (calls : Calls) (marks : Levels) (answers : List (Proc × Completion)) (dues : List ToSend)

@@ -11,7 +11,7 @@ use pmg_jobinfo::Registry;
 use pmg_value::{NodeId, Nspace, Proc, Refusal};
 
 /// Whether the namespace is registered.
-pub fn is_registered(registry: &Registry, nspace: &Nspace) -> bool
+pub(crate) fn is_registered(registry: &Registry, nspace: &Nspace) -> bool
     ensures { result ≡ is_registered registry.now nspace.now }
 {
     registry.homes(nspace).is_some()
@@ -19,7 +19,7 @@ pub fn is_registered(registry: &Registry, nspace: &Nspace) -> bool
 
 /// What the registry says of a process.
 #[derive(Clone, Copy)]
-pub(crate) struct Listing {
+pub struct Listing {
     /// Whether its namespace is registered.
     pub is_registered: bool,
     /// Whether the process is none of its namespace, which is registered.
@@ -29,7 +29,7 @@ pub(crate) struct Listing {
 }
 
 /// What the registry says of the process, by one look-up.
-pub(crate) fn look_up(registry: &Registry, proc: &Proc) -> Listing
+pub fn look_up(registry: &Registry, proc: &Proc) -> Listing
     ensures registered { result.is_registered ≡ is_registered registry.now proc.now.nspace }
     ensures misnamed { result.is_misnamed ≡ is_misnamed registry.now proc.now }
     ensures home { result.home ≡ home_of registry.now proc.now }

@@ -9,10 +9,8 @@ ghost use Rattle.pmg_node_model.specs.Acts.{is_misnamed, target_cause};
 ghost use Rattle.pmg_node_parts.specs.Calls.{get_of};
 ghost use Rattle.pmg_node_model.specs.Holdings.{answer_in, seen_of};
 
-use crate::causes::is_misnamed;
 use crate::node::Node;
 use pmg_get::{Answer, Mode};
-use pmg_jobinfo::Registry;
 use pmg_node_parts::BoardPreview;
 use pmg_value::{Key, NodeId, Proc};
 
@@ -24,7 +22,7 @@ fn is_general(proc: &Proc) -> bool
 }
 
 /// Whether a get may not ask for a key of the target, which is misnamed or is not.
-pub(crate) fn is_bad_get(proc: &Proc, target: &Proc, key: &Key, misnamed: bool) -> bool
+pub fn is_bad_get(proc: &Proc, target: &Proc, key: &Key, misnamed: bool) -> bool
     ensures { (jobs : Jobs) → misnamed ≡ is_misnamed jobs target.now → result ≡ target_cause jobs proc.now (get_of target.now key.now) refusals.BadParam }
 {
     if target.nspace.is_reserved() {
@@ -34,13 +32,6 @@ pub(crate) fn is_bad_get(proc: &Proc, target: &Proc, key: &Key, misnamed: bool) 
         return !is_general(target) && misnamed;
     }
     is_general(target) || proc.cmp(target).is_eq() || misnamed
-}
-
-/// Whether a get may not ask for a key of the target, whatever is registered.
-pub fn is_bad_target(registry: &Registry, proc: &Proc, target: &Proc, key: &Key) -> bool
-    ensures { result ≡ target_cause registry.now proc.now (get_of target.now key.now) refusals.BadParam }
-{
-    is_bad_get(proc, target, key, is_misnamed(registry, target))
 }
 
 impl Node {

@@ -32,9 +32,9 @@ mod taking;
 
 pub use act::{Act, Acted, Joined, Reply, Request};
 pub use asked::Delivery;
-pub use causes::is_registered;
+pub use causes::{Listing, look_up};
 pub use committing::Committed;
-pub use getting::is_bad_target;
+pub use getting::is_bad_get;
 pub use laws::joining_rules;
 pub use leaving::Release;
 pub use node::Node;

@@ -1,5 +1,6 @@
 //! What comes of a piece of a process of another node.
-ghost use Rattle.std.specs.Prelude.{◌≡◌, true, IfOk};
+ghost use Rattle.std.specs.Prelude.{◌≡◌, nat_lt, true, IfOk};
+ghost use Rattle.pmg_commit.specs.Data.{absorbed, level_at};
 ghost use Rattle.pmg_frame.specs.declared.frame.Frame.TheVariants as frames;
 ghost use Rattle.pmg_node_model.specs.Acts.{Act, is_taken};
 ghost use Rattle.pmg_node_parts.specs.Calls.{all_instead};
@@ -39,23 +40,35 @@ impl Node {
         answers_about(&self.table, self.id, &ahead, &self.calls, piece.proc())
     }
 
+    /// Whether more commits of the piece's process come to be known by it.
+    fn rises_by(&self, piece: &Piece) -> bool
+        ensures { result ≡ nat_lt (level_at self.now.holding.far piece.now.proc)
+            (level_at (absorbed self.now.holding.far piece.now) piece.now.proc) }
+    {
+        let far = self.board.far();
+        far.level(piece.proc()) < far.level_with(piece, piece.proc())
+    }
+
     /// What is due once the piece is taken: where more commits of its process come to be known, its home is asked again for
-    /// each get of its keys that will wait still.
+    /// each get of its keys that will wait still; mostly none does, and then the levels are not looked at.
     pub(crate) fn asks_after<'a>(&'a self, piece: &'a Piece) -> Result<Vec<ToSend>, AllocError>
         requires { is_taken self.now.jobs self.now.id self.now.holding.table (frames.Piece piece.now) ≡ true }
         ensures { IfOk result (λ dues. dues.items ≡ due_by self.now.jobs self.now.id self.now.holding
             (Act.deliver (frames.Piece piece.now)) (after self.now (Act.deliver (frames.Piece piece.now))).holding) }
     {
         let proc = piece.proc();
-        let far = self.board.far();
-        if far.level_with(piece, proc) <= far.level(proc) {
-            return Ok(Vec::new(self.table.registry().allocator()));
-        }
         let ahead = BoardPreview {
             board: &self.board,
             near: None,
             far: Some(piece),
         };
-        asks_again(&self.table, self.id, &ahead, &self.calls, proc)
+        let dues = asks_again(&self.table, self.id, &ahead, &self.calls, proc)?;
+        if dues.is_empty() {
+            return Ok(dues);
+        }
+        if self.rises_by(piece) {
+            return Ok(dues);
+        }
+        Ok(Vec::new(self.table.registry().allocator()))
     }
 }

@@ -14,5 +14,5 @@ mod viewer;
 pub use counting::Publication;
 pub use opening::{MAX_VIEWERS, publisher};
 pub use publishing::Publisher;
-pub use sight::Snapshot;
+pub use sight::{FarSnapshot, Snapshot};
 pub use viewer::{Version, Viewer};

@@ -32,7 +32,7 @@ pub fn publisher<R: Wait>(
     let (history, counter) = History::open();
     let mut writer = desk_of(rt, alloc, viewers.max(1), &history)?;
     match viewers_of(alloc, &mut writer, &history, viewers) {
-        Ok(all) => Ok((Publisher::new(alloc, writer, counter, history), all)),
+        Ok(all) => Ok((Publisher::new(writer, counter, history), all)),
         Err(_) => {
             drop(writer.take(rt));
             Err(Refusal::NoMemory)

@@ -16,7 +16,6 @@ use crate::viewer::{Version, Viewer};
 use left_right::writer::Writer;
 use pmg_commit::Piece;
 use pmg_value::Refusal;
-use std::alloc::Global;
 use std::marker::Model;
 use std::mem;
 use std::sync::Wait;
@@ -27,7 +26,6 @@ pub(crate) type Desk = Writer<Shown, Update, Known, InOneList>;
 /// The one who publishes. Contracts see whether it is open, and the list of its publications. It is not dropped: end it by
 /// `close`.
 pub struct Publisher {
-    alloc: Global,
     is_open: bool,
     writer: Option<Desk>,
     counter: Counter,
@@ -55,7 +53,7 @@ impl Model for Publisher {
 
 impl Publisher {
     /// A publisher of this list, by this writer, which shows it.
-    pub(crate) fn new(alloc: Global, writer: Desk, counter: Counter, history: History) -> Publisher
+    pub(crate) fn new(writer: Desk, counter: Counter, history: History) -> Publisher
         requires counter { counter ≡ counter_of history.book }
         requires place { IsOf history.book (known_at writer.desk.place) }
         requires shown { writer.desk.shown.value.history ≡ history }
@@ -63,7 +61,6 @@ impl Publisher {
         ensures { result ≡ record { is_open = true; book = history.book; log = history.log } }
     {
         Publisher {
-            alloc,
             is_open: true,
             writer: Some(writer),
             counter,
@@ -74,9 +71,14 @@ impl Publisher {
     /// Shows viewers the board with these pieces too, all of them at once, as the next publication of its list. It waits for
     /// those who still read the board before the last. NoMemory closes the publisher: what was published stands, and every
     /// later call is Closed.
-    pub fn publish<R: Wait>(&mut self, rt: &R, near: &[Piece], far: &[Piece]) -> Result<(), Refusal>
+    pub fn publish<R: Wait>(
+        &mut self,
+        rt: &R,
+        near: Vec<Piece>,
+        far: Vec<Piece>,
+    ) -> Result<(), Refusal>
         ensures book { self.new.book ≡ self.old.book }
-        ensures ok { OnOk result (self.new.log ≡ self.old.log ++ publication near.now far.now ∷ []) }
+        ensures ok { OnOk result (self.new.log ≡ self.old.log ++ publication near.items far.items ∷ []) }
         ensures open { IsTrue self.new.is_open ↔ IsOk result }
         ensures err { OnErr result (self.new.log ≡ self.old.log) }
         ensures closed { self.old.is_open ≡ false → result ≡ Err refusals.Closed }
@@ -85,21 +87,20 @@ impl Publisher {
         if !self.is_open {
             return Err(Refusal::Closed);
         }
-        let Some(issue) = self.issue_of(near, far) else {
+        let Some(issue) = self.issue_of(Parts { near, far }) else {
             self.is_open = false;
             return Err(Refusal::NoMemory);
         };
         self.show(rt, issue)
     }
 
-    /// The next publication of the list; none where an allocation fails.
-    fn issue_of(&self, near: &[Piece], far: &[Piece]) -> Option<Update>
-        ensures near { IfSome result (λ i. i.parts.near.items ≡ near.now) }
-        ensures far { IfSome result (λ i. i.parts.far.items ≡ far.now) }
+    /// The next publication of the list, of these parts; none where the list cannot be counted any more.
+    fn issue_of(&self, parts: Parts) -> Option<Update>
+        ensures near { IfSome result (λ i. i.parts.near.items ≡ parts.near.items) }
+        ensures far { IfSome result (λ i. i.parts.far.items ≡ parts.far.items) }
         ensures book { IfSome result (λ i. i.history.book ≡ self.now.book) }
-        ensures log { IfSome result (λ i. i.history.log ≡ self.now.log ++ publication near.now far.now ∷ []) }
+        ensures log { IfSome result (λ i. i.history.log ≡ self.now.log ++ publication parts.near.items parts.far.items ∷ []) }
     {
-        let parts = Parts::copies_of(self.alloc, near, far).ok()?;
         let history = self.history.with_publication(&self.counter, &parts)?;
         Some(Update { parts, history })
     }
@@ -153,7 +154,6 @@ impl Publisher {
     /// Ends the publisher. It waits for those who still read, and viewers are Closed from then on.
     pub fn close<R: Wait>(self, rt: &R) {
         let Publisher {
-            alloc: _,
             is_open: _,
             writer,
             counter: _,

@@ -1,6 +1,6 @@
 ghost use Rattle.std.specs.Prelude.{◌≡◌, IfOk};
 ghost use Rattle.std.specs.Option.{option_map};
-ghost use Rattle.pmg_publish.specs.Sights.{IsSight};
+ghost use Rattle.pmg_publish.specs.Sights.{IsFarSight, IsSight};
 
 use pmg_store::Board;
 use pmg_value::{Key, Proc, Value};
@@ -16,6 +16,13 @@ pub struct Snapshot {
     pub far_ended: bool,
 }
 
+/// What is read of a process under a key in the far store alone: the value, and whether the process has ended there.
+#[derive(Drop)]
+pub struct FarSnapshot {
+    pub value: Option<Value>,
+    pub ended: bool,
+}
+
 /// What is read of the process under the key in the board, copied.
 pub(crate) fn sight_of(board: &Board, proc: &Proc, key: &Key) -> Result<Snapshot, AllocError>
     ensures { IfOk result (IsSight board.now.near board.now.far proc.now key.now) }
@@ -27,6 +34,17 @@ pub(crate) fn sight_of(board: &Board, proc: &Proc, key: &Key) -> Result<Snapshot
         far: copy_of(far.value)?,
         near_ended: near.ended,
         far_ended: far.ended,
+    })
+}
+
+/// What is read of the process under the key in the board's far store, copied.
+pub(crate) fn far_sight_of(board: &Board, proc: &Proc, key: &Key) -> Result<FarSnapshot, AllocError>
+    ensures { IfOk result (IsFarSight board.now.far proc.now key.now) }
+{
+    let far = board.far().look(proc, key);
+    Ok(FarSnapshot {
+        value: copy_of(far.value)?,
+        ended: far.ended,
     })
 }
 

@@ -1,4 +1,4 @@
-ghost use Rattle.std.specs.Prelude.{◌≡◌, ◌⊎◌, ◌≤◌, OnErr, IfOk, IfErr};
+ghost use Rattle.std.specs.Prelude.{◌≡◌, ◌⊎◌, ◌≤◌, OnErr, IfOk, IfErr, IfSome, IsSome};
 ghost use mathlib.Core.List.{IsPrefix};
 ghost use Rattle.left_right.specs.Sides.{view as known_at};
 ghost use Rattle.pmg_value.specs.declared.refusal.Refusal.TheVariants as refusals;
@@ -6,13 +6,13 @@ ghost use Rattle.pmg_commit.specs.Data.{level_at};
 ghost use Rattle.pmg_publish.specs.Publications.{near_of, far_of};
 ghost use Rattle.pmg_publish.specs.Boards.{IsMade};
 ghost use Rattle.pmg_publish.specs.Rule.{IsOf};
-ghost use Rattle.pmg_publish.specs.Sights.{IsSight};
+ghost use Rattle.pmg_publish.specs.Sights.{IsFarSight, IsSight};
 ghost use Rattle.pmg_commit.specs.declared.piece.TheConstants.{MAX_COMMIT};
 
 use crate::history::History;
 use crate::rule::{InOneList, Known, Sees};
 use crate::shown::Shown;
-use crate::sight::{Snapshot, sight_of};
+use crate::sight::{FarSnapshot, Snapshot, far_sight_of, sight_of};
 use left_right::reader::{Reader, Reading};
 use pmg_value::{Key, Proc, Refusal};
 use std::marker::Model;
@@ -105,24 +105,34 @@ impl Viewer {
         ensures err { OnErr result (self.new ≡ self.old) }
         ensures refusals { IfErr result (λ e. (e ≡ refusals.Closed) ⊎ (e ≡ refusals.NoMemory)) }
     {
-        let Some(place) = self.place.take() else {
-            unreachable!()
-        };
-        match enter(place, &self.history) {
-            Ok(entered) => {
-                let shown = entered.get();
-                let sight = sight_of(&shown.board, proc, key);
-                let history = shown.history.again();
-                self.place = Some(entered.leave());
-                let sight = sight?;
-                self.history = history;
-                Ok(sight)
-            }
-            Err(place) => {
-                self.place = Some(place);
-                Err(Refusal::Closed)
-            }
-        }
+        let entered = enter_from(&mut self.place, &self.history)?;
+        let shown = entered.get();
+        let sight = sight_of(&shown.board, proc, key);
+        let history = shown.history.again();
+        self.place = Some(entered.leave());
+        let sight = sight?;
+        self.history = history;
+        Ok(sight)
+    }
+
+    /// What is read of the process under the key in the far store alone, in the board that a list of publications makes. The list
+    /// begins with all that this viewer saw before and was told of. Closed where the publisher is closed; NoMemory where the copy
+    /// fails.
+    pub fn read_far(&mut self, proc: &Proc, key: &Key) -> Result<FarSnapshot, Refusal>
+        ensures book { self.new.book ≡ self.old.book }
+        ensures seen { IsPrefix self.old.log self.new.log }
+        ensures read { IfOk result (IsFarSight (far_of self.new.log) proc.now key.now) }
+        ensures err { OnErr result (self.new ≡ self.old) }
+        ensures refusals { IfErr result (λ e. (e ≡ refusals.Closed) ⊎ (e ≡ refusals.NoMemory)) }
+    {
+        let entered = enter_from(&mut self.place, &self.history)?;
+        let shown = entered.get();
+        let sight = far_sight_of(&shown.board, proc, key);
+        let history = shown.history.again();
+        self.place = Some(entered.leave());
+        let sight = sight?;
+        self.history = history;
+        Ok(sight)
     }
 
     /// The level of the process in the far store, in the board that a list of publications makes. The list begins with all
@@ -135,21 +145,34 @@ impl Viewer {
         ensures err { OnErr result (self.new ≡ self.old) }
         ensures refusals { IfErr result (λ e. e ≡ refusals.Closed) }
     {
-        let Some(place) = self.place.take() else {
-            unreachable!()
-        };
-        match enter(place, &self.history) {
-            Ok(entered) => {
-                let shown = entered.get();
-                let level = shown.board.far().level(proc);
-                self.history = shown.history.again();
-                self.place = Some(entered.leave());
-                Ok(level)
-            }
-            Err(place) => {
-                self.place = Some(place);
-                Err(Refusal::Closed)
-            }
+        let entered = enter_from(&mut self.place, &self.history)?;
+        let shown = entered.get();
+        let level = shown.board.far().level(proc);
+        self.history = shown.history.again();
+        self.place = Some(entered.leave());
+        Ok(level)
+    }
+}
+
+/// Takes the place out and enters what is shown by it. Closed, and the place stands there, where what is shown does not go on from
+/// what was seen or told of.
+fn enter_from(place: &mut Option<Place>, history: &History) -> Result<Entered, Refusal>
+    requires place { IsSome place.old × IfSome place.old (λ p. IsOf history.now.book (known_at p.place)) }
+    ensures place { IfOk result (λ r. IsOf history.now.book (known_at r.place)) }
+    ensures book { IfOk result (λ r. r.part.value.history.book ≡ history.now.book) }
+    ensures seen { IfOk result (λ r. IsPrefix history.now.log r.part.value.history.log) }
+    ensures made { IfOk result (λ r. IsMade r.part.value) }
+    ensures back { OnErr result (IsSome place.new × IfSome place.new (λ p. IsOf history.now.book (known_at p.place))) }
+    ensures refusals { IfErr result (λ e. e ≡ refusals.Closed) }
+{
+    let Some(own) = place.take() else {
+        unreachable!()
+    };
+    match enter(own, history) {
+        Ok(entered) => Ok(entered),
+        Err(own) => {
+            *place = Some(own);
+            Err(Refusal::Closed)
         }
     }
 }

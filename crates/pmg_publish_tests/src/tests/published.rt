@@ -49,6 +49,11 @@ fn piece(rt: &impl Abort, alloc: Global, from: u32, value: u32) -> Piece {
     )
 }
 
+// The piece as a list.
+fn list(rt: &impl Abort, alloc: Global, piece: Piece) -> Vec<Piece> {
+    vec![in alloc; piece].expect(rt, MEMORY)
+}
+
 // A publisher and its only viewer.
 fn open_with_viewer<R: Wait>(rt: &R, alloc: Global) -> Result<(Publisher, Viewer), Refusal>
     ensures { IfOk result (λ r. r.1.book ≡ r.0.book) }
@@ -88,18 +93,27 @@ fn read_a(
     )
 }
 
+// What is read under the key a in the far store alone: the number, and whether the process has ended there.
+fn read_far_a(rt: &impl Abort, alloc: Global, viewer: &mut Viewer) -> (Option<u32>, bool) {
+    let proc = process(alloc).expect(rt, MEMORY);
+    let key = key(alloc).expect(rt, MEMORY);
+    let sight = again!(viewer.read_far(&proc, &key)).expect(rt, MEMORY);
+    (number_in(sight.value), sight.ended)
+}
+
 // Publishes 1 near and 2 far.
 fn publish_both<R: Wait + Abort>(rt: &R, alloc: Global, publisher: &mut Publisher) {
-    let near = [piece(rt, alloc, 0, 1)];
-    let far = [piece(rt, alloc, 0, 2)];
-    publisher.publish(rt, &near, &far).expect(rt, MEMORY);
+    let near = list(rt, alloc, piece(rt, alloc, 0, 1));
+    let far = list(rt, alloc, piece(rt, alloc, 0, 2));
+    publisher.publish(rt, near, far).expect(rt, MEMORY);
 }
 
 // Publishes the end of the process far.
 fn publish_end<R: Wait + Abort>(rt: &R, alloc: Global, publisher: &mut Publisher) {
     let key = Key::of_termination();
-    let end = [piece_of(rt, alloc, 1, key, Value::Bool(true))];
-    publisher.publish(rt, &[], &end).expect(rt, MEMORY);
+    let end = list(rt, alloc, piece_of(rt, alloc, 1, key, Value::Bool(true)));
+    let near = Vec::new(alloc);
+    publisher.publish(rt, near, end).expect(rt, MEMORY);
 }
 
 #[test]
@@ -109,9 +123,11 @@ fn both_stores_are_read(rt: HostRuntime) {
     publish_both(&rt, alloc, &mut publisher);
     let read = read_a(&rt, alloc, &mut viewer);
     assert!(rt; read == (Some(1), Some(2), false, false));
+    assert!(rt; read_far_a(&rt, alloc, &mut viewer) == (Some(2), false));
     publish_end(&rt, alloc, &mut publisher);
     let read = read_a(&rt, alloc, &mut viewer);
     assert!(rt; read == (Some(1), Some(2), false, true));
+    assert!(rt; read_far_a(&rt, alloc, &mut viewer) == (Some(2), true));
     publisher.close(&rt);
 }
 
@@ -120,9 +136,10 @@ fn count_readers<R: Wait + Abort>(rt: &R, alloc: Global, count: usize) -> (usize
     requires { count ≤ MAX_VIEWERS }
 {
     let proc = process(alloc).expect(rt, MEMORY);
-    let pieces = [piece(rt, alloc, 0, 1)];
+    let far = list(rt, alloc, piece(rt, alloc, 0, 1));
     let (mut publisher, mut viewers) = publisher(rt, alloc, count).expect(rt, MEMORY);
-    publisher.publish(rt, &[], &pieces).expect(rt, MEMORY);
+    let near = Vec::new(alloc);
+    publisher.publish(rt, near, far).expect(rt, MEMORY);
     let mut readers = 0_usize;
     for viewer in viewers.iter_mut() {
         if viewer.level(&proc) == Ok(1) && viewer.level(&proc) == Ok(1) {
@@ -147,8 +164,8 @@ fn publish_all<R: Wait + Abort>(
     publisher: &mut Publisher,
 ) -> Result<(), Refusal> {
     for from in 0..COMMITS {
-        let pieces = [piece(rt, alloc, from, from + 1)];
-        publisher.publish(rt, &[], &pieces)?;
+        let far = list(rt, alloc, piece(rt, alloc, from, from + 1));
+        publisher.publish(rt, Vec::new(alloc), far)?;
     }
     Ok(())
 }
@@ -202,9 +219,10 @@ fn publish_some<R: Wait + Abort>(
     requires { viewer.old.book ≡ publisher.old.book }
 {
     for from in 0..5 {
-        let pieces = [piece(rt, alloc, from, from + 1)];
-        if publisher.publish(rt, &[], &pieces).is_err() {
-            let closed = publisher.publish(rt, &[], &pieces) == Err(Refusal::Closed);
+        let far = list(rt, alloc, piece(rt, alloc, from, from + 1));
+        if publisher.publish(rt, Vec::new(alloc), far).is_err() {
+            let closed = publisher.publish(rt, Vec::new(alloc), Vec::new(alloc))
+                == Err(Refusal::Closed);
             return (u64::from(from), closed);
         }
         viewer.learn(&publisher.tell());

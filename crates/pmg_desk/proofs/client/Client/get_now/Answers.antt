@@ -1,10 +1,12 @@
 use Rattle.std.proofs.Common.{rules, ◌≡◌, false, true, Result, Ok, subst}
+use Rattle.std.specs.Prelude.{◌==◌}
 use Rattle.pmg_value.specs.CheckOrder.{first_of}
 use Rattle.pmg_value.specs.Names.{is_reserved}
 use Rattle.pmg_value.specs.declared.refusal.Refusal.{Refusal}
 use Rattle.pmg_commit.specs.Data.{read_at}
 use Rattle.pmg_get.specs.Gets.{resolve}
 use Rattle.pmg_get.specs.declared.view.Mode.TheVariants as modes
+use Rattle.pmg_jobinfo.specs.Jobs.{home_of}
 use Rattle.pmg_node_parts.specs.Calls.{get_of}
 use Rattle.pmg_publish.specs.Publications.{far_of, near_of}
 use Rattle.pmg_node_model.specs.Acts.{reply_of}
@@ -32,10 +34,13 @@ returns-clause-answer c =
     let free : ◌≡◌ {A = Result (Unit {0}) Refusal} (Ok tt) (first_of (now_cause d get) tt) = search rules in
     let other : is_own_key (proc_of d) get ≡ false = search rules in
     let key : is_reserved get.key ≡ false = search rules in
-    let near = near_of c.read.new.self.log in
-    let far = far_of c.read.new.self.log in
+    let jobs = c.self.inside.desk.now.place.registry in
+    let id = c.self.inside.desk.now.place.node in
+    let near = near_of c.plain_now.new.viewer.log in
+    let far = far_of c.plain_now.new.viewer.log in
+    let home : c.eq.result ≡ (home_of jobs get.target == id) = search rules in
     let due : IsDueOrClosed c.plain_now.result (reply_of (resolve (plain_seen d.jobs d.node (read_at near get.target) (read_at far get.target) get) modes.Now)) =
     subst (λ (x : Client). IsDueOrClosed c.plain_now.result (reply_of (resolve (plain_seen x.jobs x.node (read_at near get.target) (read_at far get.target) get) modes.Now))) c.self.view_is
-    (c.plain_now.ensures near far c.in_ok-sight.ensures.read) in
-    let later : Client = record { jobs = c.self.inside.desk.now.place.registry; node = c.self.inside.desk.now.place.node; viewer = c.read.new.self; transcript = c.self.inside.notes } in
+    (c.plain_now.ensures.answer jobs id home) in
+    let later : Client = record { jobs = jobs; node = id; viewer = c.plain_now.new.viewer; transcript = c.self.inside.notes } in
     read_plain d later get c.plain_now.result free other key due

@@ -6,5 +6,5 @@ use Rattle.pmg_desk.proofs.lock.Desk.act_for.Goals as goal
 
 pub returns-clause-there : goal.returns-clause-there
 returns-clause-there g c =
-    replies_there c.args.awaited.now c.in-Some.held.state.node (act_of c.args.act.now) (λ (t : AnswerCopies). reply_in reply_as t.told) c.act_for-answer.result c.in-Some.ensures.there
+    replies_there c.args.awaited.now c.in-Some.held.state.node (act_of c.args.act) (λ (t : AnswerCopies). reply_in reply_as t.told) c.act_for-answer.result c.in-Some.ensures.there
     c.act_for-answer.ensures.step c.act_for-answer.ensures.shut
