@@ -9,6 +9,7 @@ pub mod SayingLemmas
 pub mod LaneLemmas
 pub mod SendLemmas
 pub mod StepLemmas
+pub mod JournalSteps
 pub mod ReplaySteps
 pub mod NodeSteps
 pub mod EndSteps

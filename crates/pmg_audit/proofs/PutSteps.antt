@@ -1,9 +1,8 @@
 -- Puts of a client, each a step of the world.
-use Rattle.std.proofs.Common.{◌≡◌, ℕ, Bool, true, false, ◌||◌, cond, List, [], ◌∷◌, ◌++◌, map, Option, Some, Result, Ok, Err, refl, sym, ap, subst, ◌∙◌}
+use Rattle.std.proofs.Common.{◌≡◌, ℕ, Bool, true, false, cond, List, [], ◌∷◌, ◌++◌, map, Option, Some, Result, Ok, Err, refl, sym, ap, subst, ◌∙◌}
 use Rattle.std.specs.FinMap as finite
 use Rattle.std.specs.Option.{unwrap_or}
 use Rattle.pmg_value.specs.CheckOrder.{first_of}
-use Rattle.pmg_value.specs.Names.{is_reserved}
 use Rattle.pmg_value.specs.declared.process.Proc.{Proc}
 use Rattle.pmg_value.specs.declared.refusal.Refusal.{Refusal}
 use Rattle.pmg_value.specs.declared.refusal.Refusal.TheVariants as refusals
@@ -15,15 +14,14 @@ use Rattle.pmg_jobinfo.specs.Jobs.{Jobs, home_of}
 use Rattle.pmg_fence.specs.Entering.{same_proc}
 use Rattle.pmg_fence.specs.Rules.{Scripts}
 use Rattle.pmg_fence.proofs.EntryLemmas.{proc_itself}
-use Rattle.pmg_node_model.specs.Acts.{Reply, also, free_cause, is_misnamed, said_by}
+use Rattle.pmg_node_model.specs.Acts.{Reply, also, free_cause, said_by}
 use Rattle.pmg_node_model.specs.Fitting.{with_said}
-use Rattle.pmg_node_model.specs.Holdings.{NodeState}
 use Rattle.pmg_node_model.specs.declared.sent.Sent.{Sent}
 use Rattle.pmg_node_model.proofs.KeptBasics.{put_other}
 use Rattle.pmg_group_model.specs.Worlds.{Doing, Does, Event, Happened, Run, Step, World, cache_of, reply_or_refusal}
 use Rattle.pmg_caches.specs.Caching.{AllCached, cached_for}
 use Rattle.pmg_world.specs.Keeping.{AreCaches}
-use Rattle.pmg_caches.proofs.CauseLemmas.{due_free, first_bad}
+use Rattle.pmg_caches.proofs.CauseLemmas.{due_free}
 use Rattle.pmg_world.proofs.ClientLemmas.{put_kept}
 use Rattle.pmg_world.proofs.HappenLemmas.{put_is}
 use Rattle.pmg_world.proofs.PutLemmas.{free_client}

@@ -1,125 +1,127 @@
--- Frames that were sent, found by their encoding.
-use Rattle.std.proofs.Common.{◌≡◌, ◌⊎◌, ℕ, suc, Bool, true, false, ◌&&◌, cond, List, [], ◌∷◌, ◌++◌, length, Option, Some, None, IfSome, IsNone, IsSome, inl, inr, refl, sym, ap, subst, ◌∙◌}
+-- Frames that were sent, found by their labels.
+use Rattle.std.proofs.Common.{◌≡◌, ℕ, zero, suc, Bool, true, false, cond, List, [], ◌∷◌, ◌++◌, length, Option, Some, None, IfSome, slice_get, inl, inr, refl, sym, ap, subst, ◌∙◌}
 use Rattle.std.proofs.lemmas.Bool.{false≢true}
-use Rattle.std.proofs.lemmas.Cmp.{lists_total, nat_cmp_total}
+use Rattle.std.proofs.lemmas.Cmp.{nat_cmp_total, tied_itself}
+use Rattle.std.proofs.lemmas.Map.Lookups.{CmpEqualImpliesEq, exact_unsigned}
 use Rattle.std.specs.BTreeMap.{is_at}
-use Rattle.std.specs.Cmp.{Equal-is, eq_by_cmp_equiv, tied_then}
-use Rattle.std.specs.Cmp.Lexicographic.{slice_cmp}
-use Rattle.std.specs.FinMap.{nat_cmp-IsAntisymmetric, slice_cmp-IsAntisymmetric}
+use Rattle.std.specs.Cmp.{Equal-is}
+use Rattle.std.specs.Global.{Vec}
 use Rattle.std.specs.Map.{lookup}
+use Rattle.std.specs.Option.{is_some}
 use Rattle.std.specs.Ordering.{is_eq, nat_cmp, ordering_then}
+use Rattle.std.specs.declared.cmp.Ordering.{Ordering}
+use Rattle.std.specs.declared.cmp.Ordering.TheVariants.{Less, Equal, Greater}
 use Rattle.pmg_value.specs.Lists.{In}
-use Rattle.pmg_value.proofs.ListLemmas.{in_parts}
-use Rattle.pmg_frame.specs.Grammar.{IsSpelt}
-use Rattle.pmg_frame.specs.Versions.{frame_spelling}
-use Rattle.pmg_frame.proofs.FrameLaws.{one_spelling}
+use Rattle.pmg_value.proofs.ListLemmas.{in_append_left, in_append_right, in_parts}
 use Rattle.pmg_node_model.specs.declared.sent.Sent.{Sent}
-use Rattle.pmg_group_model.specs.Worlds.{nth, numbered}
-use Rattle.pmg_audit.specs.Sends.{AreNumbers, IsKeyOf, Key, key_cmp, number_under}
-use Rattle.pmg_audit.proofs.LaneLemmas.{numbered_stays}
+use Rattle.pmg_audit.specs.Labels.{label_cmp, label_of}
+use Rattle.pmg_audit.specs.Sends.{ArePlaced, IsPlaced, NoneAt, places_in, places_under}
+use Rattle.pmg_audit.specs.declared.labels.Label.{Label}
+use Rattle.pmg_audit.proofs.SayingLemmas.{each_in}
 
-pub nothing_sent : AreNumbers [] []
-nothing_sent = record { found = λ key i is. absurd cc; all = λ key s i is. absurd i }
+-- ---- labels
 
--- ---- keys
+both_equal : (a b : Ordering) → ordering_then a b ≡ Equal → (a ≡ Equal) × (b ≡ Equal)
+both_equal Less b e = absurd cc
+both_equal Equal b e = (refl, e)
+both_equal Greater b e = absurd cc
 
-both_true : (a b : Bool) → (a && b) ≡ true → (a ≡ true) × (b ≡ true)
-both_true true true e = (refl, refl)
-both_true true false e = absurd (false≢true e)
-both_true false b e = absurd (false≢true e)
+-- labels that compare alike are one
+exact_labels : CmpEqualImpliesEq label_cmp
+exact_labels a b e =
+    let last = ordering_then (nat_cmp a.to b.to) (nat_cmp a.kind b.kind) in
+    let later = ordering_then (nat_cmp a.other b.other) last in
+    let numbers = both_equal (nat_cmp a.number b.number) (ordering_then (nat_cmp a.of b.of) later) e in
+    let ofs = both_equal (nat_cmp a.of b.of) later numbers.1 in
+    let others = both_equal (nat_cmp a.other b.other) last ofs.1 in
+    let tos = both_equal (nat_cmp a.to b.to) (nat_cmp a.kind b.kind) others.1 in
+    λ i. record {
+      number = exact_unsigned a.number b.number numbers.0 i;
+      of = exact_unsigned a.of b.of ofs.0 i;
+      other = exact_unsigned a.other b.other others.0 i;
+      to = exact_unsigned a.to b.to tos.0 i;
+      kind = exact_unsigned a.kind b.kind tos.1 i;
+    }
 
--- keys that tie say the same
-tied_parts : (a b : Key) → is_at (key_cmp a) b ≡ true → (a.0 ≡ b.0) × (a.1.items ≡ b.1.items)
-tied_parts a b e =
-    let both = both_true (is_eq (nat_cmp a.0 b.0)) (is_eq (slice_cmp nat_cmp a.1.items b.1.items)) (tied_then (nat_cmp a.0 b.0) (slice_cmp nat_cmp a.1.items b.1.items) ∙ e) in
-    (nat_cmp-IsAntisymmetric a.0 b.0 ((Equal-is _).0 both.0), slice_cmp-IsAntisymmetric nat_cmp-IsAntisymmetric a.1.items b.1.items ((Equal-is _).0 both.1))
+tied_label : (a b : Label) → is_at (label_cmp a) b ≡ true → a ≡ b
+tied_label a b e = exact_labels a b ((Equal-is _).0 e)
 
--- and those that say the same tie
-parts_tied : (a b : Key) → a.0 ≡ b.0 → a.1.items ≡ b.1.items → is_at (key_cmp a) b ≡ true
-parts_tied a b node bytes =
-    (λ i. is_eq (ordering_then (nat_cmp (node i) b.0) (slice_cmp nat_cmp (bytes i) b.1.items)))
-    ∙ sym (tied_then (nat_cmp b.0 b.0) (slice_cmp nat_cmp b.1.items b.1.items))
-    ∙ (λ i. (eq_by_cmp_equiv nat_cmp_total).refl b.0 i && (eq_by_cmp_equiv (lists_total nat_cmp_total)).refl b.1.items i)
+-- a label compares alike to itself
+itself : (a : Label) → is_at (label_cmp a) a ≡ true
+itself a =
+    let same : (n : ℕ) → nat_cmp n n ≡ Equal = λ n. tied_itself nat_cmp_total n in
+    λ i. is_eq (ordering_then (same a.number i) (ordering_then (same a.of i) (ordering_then (same a.other i) (ordering_then (same a.to i) (same a.kind i)))))
 
-same_number : (rows : List (Key × ℕ)) (a b : Key) → a.0 ≡ b.0 → a.1.items ≡ b.1.items → number_under rows a ≡ number_under rows b
-same_number rows a b node bytes = λ i. lookup (λ (k : Key). is_eq (ordering_then (nat_cmp (node i) k.0) (slice_cmp nat_cmp (bytes i) k.1.items))) rows
+-- ---- places of frames
 
--- frames that are found in one place are one
-same_sent : (key : Key) (s t : Sent) → IsKeyOf key s → IsKeyOf key t → s ≡ t
-same_sent key s t a b =
-    let node : s.to ≡ t.to = sym a.node ∙ b.node in
-    let bytes : frame_spelling 2 s.frame ++ [] ≡ frame_spelling 2 t.frame ++ [] = ap (λ l. l ++ []) (sym a.bytes ∙ b.bytes) in
-    let one : (u : Sent) → IsKeyOf key u → IsSpelt (record { version = 2; frame = u.frame }) = λ u of. record { version = refl; small = of.small; is = of.valid } in
-    let frame : s.frame ≡ t.frame = (one_spelling (record { version = 2; frame = s.frame }) (record { version = 2; frame = t.frame }) [] [] (one s a) (one t b) bytes).1 in
-    λ i. record { to = node i; frame = frame i }
+get_stays : {A : Type 0} (xs ys : List A) (i : ℕ) (x : A) → slice_get xs i ≡ Some x → slice_get (xs ++ ys) i ≡ Some x
+get_stays [] ys i x is = absurd cc
+get_stays (z ∷ xs) ys zero x is = is
+get_stays (z ∷ xs) ys (suc i) x is = get_stays xs ys i x is
+
+get_last : {A : Type 0} (xs : List A) (x : A) → slice_get (xs ++ x ∷ []) (length xs) ≡ Some x
+get_last [] x = refl
+get_last (y ∷ xs) x = get_last xs x
+
+in_got : {A : Type 0} (xs : List A) (i : ℕ) (x : A) → slice_get xs i ≡ Some x → In x xs
+in_got [] i x is = absurd cc
+in_got (y ∷ xs) zero x is = let same : y ≡ x = cc in inl (sym same)
+in_got (y ∷ xs) (suc i) x is = inr (in_got xs i x is)
 
 -- ---- what is found
 
-number_is : (frames : List Sent) (rows : List (Key × ℕ)) (key : Key) (s : Sent) (i : ℕ) → AreNumbers frames rows → IsKeyOf key s → number_under rows key ≡ Some i → numbered frames i ≡ Some s
-number_is frames rows key s i are is there =
-    let one = are.found key i there in
-    one.1 ∙ ap Some (same_sent key one.0 s one.2 is)
-
-number_none : (frames : List Sent) (rows : List (Key × ℕ)) (key : Key) (s : Sent) → AreNumbers frames rows → IsKeyOf key s → number_under rows key ≡ None → In s frames → ⊥
-number_none frames rows key s are is none i = false≢true (subst IsSome none (are.all key s i is))
-
-pub some_number : (frames : List Sent) (rows : List (Key × ℕ)) (key : Key) (s : Sent) (o : Option ℕ) → AreNumbers frames rows → IsKeyOf key s → o ≡ number_under rows key → IfSome o (λ i. numbered frames i ≡ Some s)
-some_number frames rows key s None are is there = tt
-some_number frames rows key s (Some i) are is there = number_is frames rows key s i are is (sym there)
-
-pub no_number : (frames : List Sent) (rows : List (Key × ℕ)) (key : Key) (s : Sent) (o : Option ℕ) → AreNumbers frames rows → IsKeyOf key s → o ≡ number_under rows key → IsNone o → In s frames → ⊥
-no_number frames rows key s None are is there none i = number_none frames rows key s are is (sym there) i
-no_number frames rows key s (Some n) are is there none i = absurd cc
+-- a frame that is at none of the places under its label was not sent
+pub not_sent : (frames : List Sent) (rows : List (Label × Vec ℕ)) (s : Sent) (o : Option (Vec ℕ)) → ArePlaced frames rows → o ≡ lookup (is_at (label_cmp (label_of s.to s.frame))) rows → NoneAt frames s (places_in o)
+    → In s frames → ⊥
+not_sent frames rows s o are is none i =
+    let place = are.each s i in
+    each_in (λ k. slice_get frames k ≡ Some s → ⊥) (places_in o) place.0 none (subst (λ p. In place.0 (places_in p)) (sym is) place.1) place.2
 
 -- ---- one frame more
 
-last_number : (xs : List Sent) (s : Sent) (n : ℕ) → n ≡ suc (length xs) → numbered (xs ++ s ∷ []) n ≡ Some s
-last_number xs s n is = ap (numbered (xs ++ s ∷ [])) is ∙ last xs
-  where
-    last : (ys : List Sent) → nth (ys ++ s ∷ []) (length ys) ≡ Some s
-    last [] = refl
-    last (y ∷ ys) = last ys
+-- the list is put under the label, and all else stays
+abbrev pub UpdatesAt : List (Label × Vec ℕ) → Label → Vec ℕ → List (Label × Vec ℕ) → Type 0
+UpdatesAt rows label list rows2 = (q : Label) → lookup (is_at (label_cmp q)) rows2 ≡ cond (is_at (label_cmp label) q) (Some list) (lookup (is_at (label_cmp q)) rows)
 
-module _ (frames : List Sent) (rows : List (Key × ℕ)) (key : Key) (s : Sent) (are : AreNumbers frames rows) (is : IsKeyOf key s) where
-  -- it says what an earlier one says
-  pub sent_again : IsSome (number_under rows key) → AreNumbers (frames ++ s ∷ []) rows
-  sent_again there = record {
-    found = λ q i at. let one = are.found q i at in (one.0, numbered_stays frames (s ∷ []) i one.0 one.1, one.2);
-    all = λ q t i of. elim (in_parts frames (s ∷ []) t i) [ inl j ↦ are.all q t j of | inr j ↦ here q t j of ];
-  }
-    where
-      here : (q : Key) (t : Sent) → In t (s ∷ []) → IsKeyOf q t → IsSome (number_under rows q)
-      here q t (inl same) of =
-          let same_node : q.0 ≡ key.0 = of.node ∙ ap (λ (x : Sent). x.to) same ∙ sym is.node in
-          let same_bytes : q.1.items ≡ key.1.items = of.bytes ∙ ap (λ (x : Sent). frame_spelling 2 x.frame) same ∙ sym is.bytes in
-          subst IsSome (sym (same_number rows q key same_node same_bytes)) there
-      here q t (inr later) of = absurd later
+module _ (frames : List Sent) (rows rows2 : List (Label × Vec ℕ)) (s : Sent) (list : Vec ℕ) (are : ArePlaced frames rows) (more : UpdatesAt rows (label_of s.to s.frame) list rows2) where
+  -- the list under the frame's label has all places that were there, and one of the frame
+  module _ (stay : (i : ℕ) → In i (places_under rows (label_of s.to s.frame)) → In i list.items) (here : (i : ℕ) × In i list.items × (slice_get (frames ++ s ∷ []) i ≡ Some s)) where
+    stays_by : (q : Label) (b : Bool) → is_at (label_cmp (label_of s.to s.frame)) q ≡ b → (i : ℕ) → In i (places_under rows q) → In i (places_in (cond b (Some list) (lookup (is_at (label_cmp q)) rows)))
+    stays_by q true tie i there = stay i (subst (λ l. In i (places_under rows l)) (sym (tied_label (label_of s.to s.frame) q tie)) there)
+    stays_by q false tie i there = there
 
-  -- nothing said it before
-  module _ (rows2 : List (Key × ℕ)) (n : ℕ) (n_is : n ≡ suc (length frames)) (more : (q : Key) → number_under rows2 q ≡ cond (is_at (key_cmp key) q) (Some n) (number_under rows q)) where
-    found_by : (q : Key) (i : ℕ) (b : Bool) → is_at (key_cmp key) q ≡ b → cond b (Some n) (number_under rows q) ≡ Some i → (t : Sent) × (numbered (frames ++ s ∷ []) i ≡ Some t) × IsKeyOf q t
-    found_by q i true tie there =
-        let parts = tied_parts key q tie in
-        let number : n ≡ i = cc in
-        (s, last_number frames s i (sym number ∙ n_is), record { node = sym parts.0 ∙ is.node; bytes = sym parts.1 ∙ is.bytes; valid = is.valid; small = is.small })
-    found_by q i false tie there =
-        let one = are.found q i there in
-        (one.0, numbered_stays frames (s ∷ []) i one.0 one.1, one.2)
+    stays : (q : Label) (i : ℕ) → In i (places_under rows q) → In i (places_under rows2 q)
+    stays q i there = subst (λ o. In i (places_in o)) (sym (more q)) (stays_by q (is_at (label_cmp (label_of s.to s.frame)) q) refl i there)
 
-    some_by : (b : Bool) (o : Option ℕ) → IsSome o → IsSome (cond b (Some n) o)
-    some_by true o there = refl
-    some_by false o there = there
+    is_there : IsPlaced (frames ++ s ∷ []) rows2 s
+    is_there =
+        let label = label_of s.to s.frame in
+        let list_is : lookup (is_at (label_cmp label)) rows2 ≡ Some list = more label ∙ ap (λ b. cond b (Some list) (lookup (is_at (label_cmp label)) rows)) (itself label) in
+        (here.0, subst (λ o. In here.0 (places_in o)) (sym list_is) here.1, here.2)
 
-    all_by : (q : Key) (t : Sent) → In t frames ⊎ In t (s ∷ []) → IsKeyOf q t → IsSome (cond (is_at (key_cmp key) q) (Some n) (number_under rows q))
-    all_by q t (inl i) of = some_by (is_at (key_cmp key) q) (number_under rows q) (are.all q t i of)
-    all_by q t (inr (inl same)) of =
-        let same_node : key.0 ≡ q.0 = is.node ∙ ap (λ (x : Sent). x.to) (sym same) ∙ sym of.node in
-        let same_bytes : key.1.items ≡ q.1.items = is.bytes ∙ ap (λ (x : Sent). frame_spelling 2 x.frame) (sym same) ∙ sym of.bytes in
-        subst (λ b. IsSome (cond b (Some n) (number_under rows q))) (sym (parts_tied key q same_node same_bytes)) refl
-    all_by q t (inr (inr later)) of = absurd later
-
-    pub sent_new : AreNumbers (frames ++ s ∷ []) rows2
-    sent_new = record {
-      found = λ q i at. found_by q i (is_at (key_cmp key) q) refl (sym (more q) ∙ at);
-      all = λ q t i of. subst IsSome (sym (more q)) (all_by q t (in_parts frames (s ∷ []) t i) of);
+    placed_more : ArePlaced (frames ++ s ∷ []) rows2
+    placed_more = record {
+      each = λ t i. elim (in_parts frames (s ∷ []) t i) [
+        | inl before ↦
+            let place = are.each t before in
+            (place.0, stays (label_of t.to t.frame) place.0 place.1, get_stays frames (s ∷ []) place.0 t place.2)
+        | inr last ↦ elim last [
+          | inl same ↦ subst (IsPlaced (frames ++ s ∷ []) rows2) (sym same) is_there
+          | inr none ↦ absurd none
+        ]
+      ];
     }
+
+  -- its place is put after those that were there
+  pub placed_last : (old : Option (Vec ℕ)) (next : ℕ) → old ≡ lookup (is_at (label_cmp (label_of s.to s.frame))) rows → list.items ≡ places_in old ++ next ∷ [] → next ≡ length frames → ArePlaced (frames ++ s ∷ []) rows2
+  placed_last old next is items place =
+      placed_more (λ i there. subst (In i) (sym items) (in_append_left (places_in old) (next ∷ []) i (subst (λ o. In i (places_in o)) (sym is) there)))
+      (next, subst (In next) (sym items) (in_append_right (places_in old) (next ∷ []) next (inl refl)), ap (slice_get (frames ++ s ∷ [])) place ∙ get_last frames s)
+
+  -- an earlier one says the same
+  pub placed_again : (o : Option ℕ) → is_some o ≡ true → IfSome o (λ k. slice_get frames k ≡ Some s) → Some list ≡ lookup (is_at (label_cmp (label_of s.to s.frame))) rows → ArePlaced (frames ++ s ∷ []) rows2
+  placed_again None some at is = absurd (false≢true some)
+  placed_again (Some k) some at is =
+      let stay : (i : ℕ) → In i (places_under rows (label_of s.to s.frame)) → In i list.items = λ i there. subst (λ o. In i (places_in o)) (sym is) there in
+      let place = are.each s (in_got frames k s at) in
+      placed_more stay (place.0, stay place.0 place.1, get_stays frames (s ∷ []) place.0 s place.2)

@@ -72,7 +72,7 @@ module _ (lanes : List Lane) (m m2 : Making) (node : ℕ) (e : Event) (lane : La
   there = is.there ∙ ap Some next_is
 
   module _ (done_is : m2.done.items ≡ set done node (k2 + 1))
-      (told : map happened_of m2.told.items ≡ map happened_of m.told.items ++ (puts_told (caller_of (act_of x.act)) (map audited_put x.puts.items) ++ event_happened e (reply_in reply_as x.answer) ∷ []))
+      (told : map happened_of m2.told.items ≡ map happened_of m.told.items ++ (puts_told (caller_of (act_of x.event.act)) (map audited_put x.puts.items) ++ event_happened e (reply_in reply_as x.event.answer) ∷ []))
       (sent : m2.sends.frames.items ≡ m.sends.frames.items ++ x.frames.items) (numbered : AreNumbered m2.sends)
       (awake : m2.awake.items ≡ m.awake.items ++ map (λ (s : Sent). s.to) x.frames.items) where
     done2_is : m2.done.items ≡ set done node (slice_index done node + 1)

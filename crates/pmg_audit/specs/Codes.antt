@@ -23,7 +23,7 @@ audited_due d = made_due (map audited_put d.puts.items) (act_of d.act) (reply_in
 
 -- a move, as code holds it
 abbrev pub move_in : KeptMove → Move
-move_in m = record { puts = map audited_put m.puts.items; act = act_of m.act; reply = reply_in reply_as m.answer; frames = m.frames.items }
+move_in m = record { puts = map audited_put m.puts.items; act = act_of m.event.act; reply = reply_in reply_as m.event.answer; frames = m.frames.items }
 
 -- the moves of a node
 abbrev pub lane_of : Lane → List Move

@@ -2,6 +2,7 @@ pub mod Sameness
 pub mod Moves
 pub mod Dues
 pub mod Orders
+pub mod Labels
 pub mod Sends
 pub mod Runs
 pub mod Agreeing

@@ -1,5 +1,5 @@
 -- Journals in code that are replayed, as far as that has come.
-use Rattle.std.specs.Prelude.{◌≡◌, ◌⊎◌, ℕ, ◌+◌, ◌<◌, true, false, List, [], ◌∷◌, ◌++◌, length, map, slice_index_or, if◌then◌else◌}
+use Rattle.std.specs.Prelude.{◌≡◌, ◌⊎◌, ℕ, ◌+◌, ◌<◌, true, false, List, [], ◌∷◌, ◌++◌, length, map, Some, slice_get, slice_index_or, if◌then◌else◌}
 use Rattle.std.specs.List.{filter}
 use Rattle.pmg_value.specs.Lists.{Each}
 use Rattle.pmg_value.specs.declared.process.Proc.{Proc}
@@ -9,6 +9,7 @@ use Rattle.pmg_jobinfo.specs.Jobs.{Jobs, home_of}
 use Rattle.pmg_node_model.specs.declared.sent.Sent.{Sent}
 use Rattle.pmg_node.specs.Opening.{new_server}
 use Rattle.pmg_node.specs.Servers.{Server, after, reply_to, sent_by}
+use Rattle.pmg_journal.specs.Journals.{happened_in}
 use Rattle.pmg_journal.specs.Replays.{Happening, IsReplay}
 use Rattle.pmg_journal.specs.declared.journal.Journal.{Journal}
 use Rattle.pmg_journal.specs.declared.transcript.Transcript.{Transcript}
@@ -63,6 +64,17 @@ pub record IsReplayed (s : Server) (old : List Saying) (es : List Happening) (r 
   pub home : (p : Proc) → (home_of s.jobs p ≡ s.id → ⊥) → moves_by p (lane_of r.lane) ≡ []
   pub said : AreSaid s (rest_of old) es
   pub lasts : lasts_of new ≡ lasts_of old
+
+-- the node's journal, the first of them, stands there
+pub record IsJournalOf (js : List Journal) (n place : ℕ) : Type 0 where
+  pub journal : Journal
+  pub there : slice_get js place ≡ Some journal
+  pub node : journal.node ≡ n
+  pub tells : happened_in journal ≡ journal_at js n
+
+-- of each other node they tell the same
+abbrev pub KeepsOthers : List Journal → ℕ → List Journal → Type 0
+KeepsOthers old node new = (n : ℕ) → (n ≡ node → ⊥) → journal_at new n ≡ journal_at old n
 
 -- the journals of so many nodes are replayed, and what is said of their events is told
 pub record AreReplayed (jobs : Jobs) (js : List Journal) (old : List Saying) (count : ℕ) (r : AllReplayed) (new : List Saying) : Type 0 where

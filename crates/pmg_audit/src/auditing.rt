@@ -76,12 +76,12 @@ fn are_journals(journals: &[Journal], registry: &Registry) -> bool
 fn replays_with(
     alloc: Global,
     registry: &Registry,
-    journals: &[Journal],
+    journals: &mut [Journal],
     mut sayings: Sayings,
 ) -> Result<AllReplayed, Refusal>
     requires { AreJobs registry.now }
-    ensures ok { IfOk result (λ all. EndsWell registry.now journals.now sayings all) }
-    ensures refused { IfErr result (λ e. EndsFor registry.now journals.now sayings e) }
+    ensures ok { IfOk result (λ all. EndsWell registry.now journals.old sayings all) }
+    ensures refused { IfErr result (λ e. EndsFor registry.now journals.old sayings e) }
 {
     replays_among(alloc, registry, journals, &mut sayings)
 }
@@ -90,12 +90,12 @@ fn replays_with(
 fn replays_among(
     alloc: Global,
     registry: &Registry,
-    journals: &[Journal],
+    journals: &mut [Journal],
     sayings: &mut Sayings,
 ) -> Result<AllReplayed, Refusal>
     requires { AreJobs registry.now }
-    ensures ok { IfOk result (λ all. EndsWell registry.now journals.now sayings.old all) }
-    ensures refused { IfErr result (λ e. EndsFor registry.now journals.now sayings.old e) }
+    ensures ok { IfOk result (λ all. EndsWell registry.now journals.old sayings.old all) }
+    ensures refused { IfErr result (λ e. EndsFor registry.now journals.old sayings.old e) }
 {
     match replay_all(alloc, registry, journals, sayings) {
         Ok(all) => {
@@ -119,12 +119,12 @@ fn replays_among(
 fn replays_of(
     alloc: Global,
     registry: &Registry,
-    journals: &[Journal],
+    journals: &mut [Journal],
     transcripts: &[Transcript],
 ) -> Result<AllReplayed, Refusal>
     requires { AreJobs registry.now }
-    ensures ok { IfOk result (λ all. AreWhole registry.now journals.now transcripts.now all) }
-    ensures refused { IfErr result (λ e. IsReplayFault registry.now journals.now transcripts.now e) }
+    ensures ok { IfOk result (λ all. AreWhole registry.now journals.old transcripts.now all) }
+    ensures refused { IfErr result (λ e. IsReplayFault registry.now journals.old transcripts.now e) }
 {
     match sayings_of(alloc, transcripts) {
         Ok(sayings) => replays_with(alloc, registry, journals, sayings),
@@ -150,22 +150,42 @@ fn run_with(registry: Registry, all: AllReplayed, order: Order) -> Run
 /// The one run of that group that the journals and the transcripts tell.
 fn run_of(
     alloc: Global,
-    registry: &Registry,
-    journals: &[Journal],
+    registry: Registry,
+    journals: &mut [Journal],
     transcripts: &[Transcript],
 ) -> Result<Run, Refusal>
-    requires jobs { AreJobs registry.now }
-    requires journals { AreJournals registry.now journals.now }
-    ensures ok { IfOk result (λ run. IsOneRun journals.now transcripts.now run) }
-    ensures refused { IfErr result (λ e. IsFault journals.now transcripts.now e) }
+    requires jobs { AreJobs registry }
+    requires journals { AreJournals registry journals.old }
+    ensures ok { IfOk result (λ run. IsOneRun journals.old transcripts.now run) }
+    ensures refused { IfErr result (λ e. IsFault journals.old transcripts.now e) }
 {
-    let registry_copy = registry.copy()?;
-    match replays_of(alloc, registry, journals, transcripts) {
+    match replays_of(alloc, &registry, journals, transcripts) {
         Ok(all) => match make_order(alloc, &all.lanes) {
-            Ok(order) => Ok(run_with(registry_copy, all, order)),
+            Ok(order) => Ok(run_with(registry, all, order)),
             Err(refusal) => Err(refusal),
         },
         Err(refusal) => Err(refusal),
+    }
+}
+
+/// The one run that the journals and the transcripts tell; the events are taken out of the journals.
+fn audit_among(
+    alloc: Global,
+    journals: &mut [Journal],
+    transcripts: &[Transcript],
+) -> Result<Run, Refusal>
+    ensures ok { IfOk result (λ run. IsOneRun journals.old transcripts.now run) }
+    ensures refused { IfErr result (λ e. IsFault journals.old transcripts.now e) }
+{
+    match journals.first() {
+        Some(first) => {
+            if !are_journals(journals, &first.registry) {
+                return Err(Refusal::BadParam);
+            }
+            let registry = first.registry.copy()?;
+            run_of(alloc, registry, journals, transcripts)
+        }
+        None => Err(Refusal::BadParam),
     }
 }
 
@@ -176,19 +196,11 @@ fn run_of(
 /// it was sent; each only where none of those before it is there.
 pub fn audit(
     alloc: Global,
-    journals: &[Journal],
+    mut journals: Vec<Journal>,
     transcripts: &[Transcript],
 ) -> Result<Run, Refusal>
-    ensures ok { IfOk result (λ run. IsOneRun journals.now transcripts.now run) }
-    ensures refused { IfErr result (λ e. IsFault journals.now transcripts.now e) }
+    ensures ok { IfOk result (λ run. IsOneRun journals.items transcripts.now run) }
+    ensures refused { IfErr result (λ e. IsFault journals.items transcripts.now e) }
 {
-    match journals.first() {
-        Some(first) => {
-            if !are_journals(journals, &first.registry) {
-                return Err(Refusal::BadParam);
-            }
-            run_of(alloc, &first.registry, journals, transcripts)
-        }
-        None => Err(Refusal::BadParam),
-    }
+    audit_among(alloc, &mut journals, transcripts)
 }

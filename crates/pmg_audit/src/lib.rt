@@ -2,6 +2,7 @@
 #![tactic(auto)]
 
 mod auditing;
+mod labels;
 mod laws;
 mod moves;
 mod ordering;

@@ -1,6 +1,7 @@
 //! What happened at a node, event after event, and what its clients say of it.
 ghost use Rattle.std.specs.Prelude.{◌≡◌};
 
+use pmg_journal::Event;
 use pmg_node::{Act, Reply};
 use pmg_node_model::Sent;
 use pmg_scope::Scope;
@@ -77,10 +78,8 @@ impl Drop for Saying {
 pub(crate) struct Move {
     /// What its client put since its event before.
     pub(crate) puts: Vec<Put>,
-    /// The act.
-    pub(crate) act: Act,
-    /// Its answer.
-    pub(crate) answer: Result<Reply, Refusal>,
+    /// The event, with its answer.
+    pub(crate) event: Event,
     /// The frames that the node sent then.
     pub(crate) frames: VecDeque<Sent>,
 }
@@ -89,8 +88,7 @@ impl Drop for Move {
     fn drop(self) {
         let Self {
             puts,
-            act,
-            answer,
+            event,
             frames,
         } = self;
     }

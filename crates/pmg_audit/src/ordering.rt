@@ -83,7 +83,7 @@ fn event_for(sends: &Sends, node: u64, act: &Act) -> Result<Option<Event>, Alloc
     match act {
         Act::Commit(proc, _) => Ok(Some(Event::Commit(node, proc.copy()?))),
         Act::Request(request) => Ok(Some(Event::Request(node, request.copy()?))),
-        Act::Deliver(frame) => match sends.number_of(node, frame)? {
+        Act::Deliver(frame) => match sends.number_of(node, frame) {
             Some(number) => Ok(Some(Event::Deliver(number))),
             None => Ok(None),
         },
@@ -108,7 +108,7 @@ fn next_at(
         return Ok(None);
     }
     match lanes[node].moves.get(done[node]) {
-        Some(next) => event_for(sends, node as u64, &next.act),
+        Some(next) => event_for(sends, node as u64, &next.event.act),
         None => Ok(None),
     }
 }
@@ -197,8 +197,8 @@ impl Making {
         requires { AreNumbered self.old.sends }
         ensures told { OnOk result (map happened_of self.new.told.items
             ≡ map happened_of self.old.told.items
-            ++ (puts_told (caller_of (act_of next.now.act)) (map audited_put next.now.puts.items)
-            ++ event_happened (event_of event) (reply_in reply_as next.now.answer) ∷ [])) }
+            ++ (puts_told (caller_of (act_of next.now.event.act)) (map audited_put next.now.puts.items)
+            ++ event_happened (event_of event) (reply_in reply_as next.now.event.answer) ∷ [])) }
         ensures done { self.new.done ≡ self.old.done }
         ensures sent { OnOk result (self.new.sends.frames.items
             ≡ self.old.sends.frames.items ++ next.now.frames.items) }
@@ -206,10 +206,10 @@ impl Making {
         ensures awake { OnOk result (self.new.awake.items
             ≡ self.old.awake.items ++ map (λ (s : SentFrame). s.to) next.now.frames.items) }
     {
-        if let Some(proc) = caller_of(&next.act) {
+        if let Some(proc) = caller_of(&next.event.act) {
             tell_puts(&mut self.told, proc, &next.puts)?;
         }
-        let answer = copy_of_answer(&next.answer)?;
+        let answer = copy_of_answer(&next.event.answer)?;
         self.told.push(LoggedEvent { event, answer })?;
         self.send_all(&next.frames)
     }

@@ -5,11 +5,12 @@ ghost use Rattle.pmg_node.specs.Acting.{act_of, reply_as};
 ghost use Rattle.pmg_node.specs.Opening.{new_server};
 ghost use Rattle.pmg_node.specs.Servers.{after, reply_in, reply_to, sent_by};
 ghost use Rattle.pmg_journal.specs.Journals.{happening_of};
+ghost use Rattle.pmg_journal.specs.declared.journal.Journal.{Journal as JournalOf};
 ghost use Rattle.pmg_audit.specs.Agreeing.{IsSaidBy, MayPut};
 ghost use Rattle.pmg_audit.specs.Codes.{lane_of, move_in, audited_put, rest_of, audited_due};
 ghost use Rattle.pmg_audit.specs.Dues.{due_event};
 ghost use Rattle.pmg_audit.specs.Moves.{caller_of};
-ghost use Rattle.pmg_audit.specs.Replaying.{AddsNode, AllMayPut, AllUnsaid, AreReplayed, Continues, HaveHappened, IsAdded, IsUnsaid, RefusesFor, SomeUnsaid, TakesPuts, sent_more, unsent_move};
+ghost use Rattle.pmg_audit.specs.Replaying.{AddsNode, AllMayPut, AllUnsaid, AreReplayed, Continues, HaveHappened, IsAdded, IsJournalOf, IsUnsaid, KeepsOthers, RefusesFor, SomeUnsaid, TakesPuts, sent_more, unsent_move};
 ghost use Rattle.pmg_audit.specs.Runs.{journal_at};
 
 use crate::moves::{Due, Lane, Move, Put, Saying};
@@ -17,12 +18,13 @@ use crate::ordering::caller_of;
 use crate::same::{is_same_act, is_same_answer};
 use crate::sayings::Sayings;
 use pmg_jobinfo::Registry;
-use pmg_journal::{Event, Journal, copy_of_act, copy_of_answer};
+use pmg_journal::{Event, Journal};
 use pmg_node::{Act, Node, Reply};
 use pmg_node_model::Sent;
 use pmg_value::{NodeId, Proc, Refusal};
 use std::alloc::{AllocError, Global};
 use std::collections::VecDeque;
+use std::mem;
 
 /// A journal that is replayed: its node, what happened at it so far, and whether some answer was another.
 pub(crate) struct Replay {
@@ -105,35 +107,32 @@ fn answer_of(
 }
 
 /// The event after these puts, before it is replayed.
-fn move_of(alloc: Global, puts: Vec<Put>, event: &Event) -> Result<Move, AllocError>
-    ensures { IfOk result (λ m. move_in m ≡ unsent_move (map audited_put puts.items) (happening_of event.now)) }
+fn move_of(alloc: Global, puts: Vec<Put>, event: Event) -> Move
+    ensures { move_in result ≡ unsent_move (map audited_put puts.items) (happening_of event) }
 {
-    let act = copy_of_act(&event.act)?;
-    let answer = copy_of_answer(&event.answer)?;
-    Ok(Move {
+    Move {
         puts,
-        act,
-        answer,
+        event,
         frames: VecDeque::new(alloc),
-    })
+    }
 }
 
 /// The event happens at the node; whether its answer is the one that is there. The frames are those that the node sends.
 fn happens_so(node: &mut Node, next: &mut Move) -> Result<bool, AllocError>
-    ensures node { OnOk result (node.new ≡ after node.old (act_of next.old.act)) }
-    ensures next { OnOk result (move_in next.new ≡ sent_more (move_in next.old) (sent_by node.old (act_of next.old.act))) }
-    ensures same { IfOk result (λ same. IsTrue same ↔ (reply_to node.old (act_of next.old.act) ≡ reply_in reply_as next.old.answer)) }
+    ensures node { OnOk result (node.new ≡ after node.old (act_of next.old.event.act)) }
+    ensures next { OnOk result (move_in next.new ≡ sent_more (move_in next.old) (sent_by node.old (act_of next.old.event.act))) }
+    ensures same { IfOk result (λ same. IsTrue same ↔ (reply_to node.old (act_of next.old.event.act) ≡ reply_in reply_as next.old.event.answer)) }
 {
-    let answer = answer_of(node, &next.act, &mut next.frames)?;
-    Ok(is_same_answer(&answer, &next.answer))
+    let answer = answer_of(node, &next.event.act, &mut next.frames)?;
+    Ok(is_same_answer(&answer, &next.event.answer))
 }
 
 impl Replay {
     /// The event happens again at the node, after these puts.
-    fn happen(&mut self, alloc: Global, puts: Vec<Put>, event: &Event) -> Result<(), AllocError>
-        ensures { OnOk result (IsAdded self.old (map audited_put puts.items) (happening_of event.now) self.new) }
+    fn happen(&mut self, alloc: Global, puts: Vec<Put>, event: Event) -> Result<(), AllocError>
+        ensures { OnOk result (IsAdded self.old (map audited_put puts.items) (happening_of event) self.new) }
     {
-        let mut next = move_of(alloc, puts, event)?;
+        let mut next = move_of(alloc, puts, event);
         if !happens_so(&mut self.node, &mut next)? {
             self.is_stale = true;
         }
@@ -145,13 +144,13 @@ impl Replay {
     fn happen_next(
         &mut self,
         alloc: Global,
-        event: &Event,
+        event: Event,
         sayings: &mut Sayings,
     ) -> Result<(), Refusal>
-        ensures ok { OnOk result (Continues self.old sayings.old (happening_of event.now) self.new sayings.new) }
-        ensures refused { IfErr result (λ e. RefusesFor e (IsUnsaid self.old.node sayings.old (happening_of event.now))) }
+        ensures ok { OnOk result (Continues self.old sayings.old (happening_of event) self.new sayings.new) }
+        ensures refused { IfErr result (λ e. RefusesFor e (IsUnsaid self.old.node sayings.old (happening_of event))) }
     {
-        match puts_before(alloc, sayings, &self.node, event) {
+        match puts_before(alloc, sayings, &self.node, &event) {
             Some(puts) => {
                 self.happen(alloc, puts, event)?;
                 Ok(())
@@ -164,13 +163,13 @@ impl Replay {
     fn happen_all(
         &mut self,
         alloc: Global,
-        events: &[Event],
+        events: Vec<Event>,
         sayings: &mut Sayings,
     ) -> Result<(), Refusal>
         requires fresh { self.old.is_stale ≡ false }
         requires empty { lane_of self.old.lane ≡ [] }
-        ensures ok { OnOk result (HaveHappened self.old.node sayings.old (map happening_of events.now) self.new sayings.new) }
-        ensures refused { IfErr result (λ e. RefusesFor e (AllUnsaid self.old.node sayings.old (map happening_of events.now))) }
+        ensures ok { OnOk result (HaveHappened self.old.node sayings.old (map happening_of events.items) self.new sayings.new) }
+        ensures refused { IfErr result (λ e. RefusesFor e (AllUnsaid self.old.node sayings.old (map happening_of events.items))) }
     {
         for event in events {
             if let Err(refusal) = self.happen_next(alloc, event, sayings) {
@@ -199,12 +198,12 @@ fn replay_journal(
     alloc: Global,
     registry: &Registry,
     node: NodeId,
-    events: &[Event],
+    events: Vec<Event>,
     sayings: &mut Sayings,
 ) -> Result<Replay, Refusal>
     requires { node < length registry.now.nodes }
-    ensures ok { IfOk result (λ r. HaveHappened (new_server registry.now node) sayings.old (map happening_of events.now) r sayings.new) }
-    ensures refused { IfErr result (λ e. RefusesFor e (AllUnsaid (new_server registry.now node) sayings.old (map happening_of events.now))) }
+    ensures ok { IfOk result (λ r. HaveHappened (new_server registry.now node) sayings.old (map happening_of events.items) r sayings.new) }
+    ensures refused { IfErr result (λ e. RefusesFor e (AllUnsaid (new_server registry.now node) sayings.old (map happening_of events.items))) }
 {
     let registry = registry.copy()?;
     let server = Node::new(node, registry)?;
@@ -221,16 +220,28 @@ fn replay_journal(
     Ok(replay)
 }
 
-/// The events of the node's journal.
-fn events_of(journals: &[Journal], node: NodeId) -> &[Event]
-    ensures { map happening_of result.now ≡ journal_at journals.now node }
+/// Which of the journals is the node's: the first of them.
+fn place_of(journals: &[Journal], node: NodeId) -> Option<usize>
+    ensures some { IfSome result (λ k. IsJournalOf journals.now node k) }
+    ensures none { IsNone result → journal_at journals.now node ≡ [] }
 {
-    for journal in journals {
-        if journal.node == node {
-            return &journal.events;
+    for index in 0..journals.len() {
+        if journals[index].node == node {
+            return Some(index);
         }
     }
-    &[]
+    None
+}
+
+/// The events of the node's journal, which is left without any.
+fn take_events(alloc: Global, journals: &mut [Journal], node: NodeId) -> Vec<Event>
+    ensures events { map happening_of result.items ≡ journal_at journals.old node }
+    ensures others { KeepsOthers journals.old node journals.new }
+{
+    match place_of(journals, node) {
+        Some(place) => mem::replace(&mut journals[place].events, Vec::new(alloc)),
+        None => Vec::new(alloc),
+    }
 }
 
 /// All journals, replayed: the nodes after them, what happened at each, and whether some answer was another.
@@ -295,20 +306,22 @@ impl AllReplayed {
         nodes
     }
 
-    /// The next node's journal, as it is replayed.
+    /// The next node's journal, as it is replayed. Its events are taken out of it.
     fn replay_next(
         &mut self,
         alloc: Global,
         registry: &Registry,
         node: NodeId,
-        journals: &[Journal],
+        journals: &mut [Journal],
         sayings: &mut Sayings,
     ) -> Result<(), Refusal>
         requires { node < length registry.now.nodes }
-        ensures ok { OnOk result (AddsNode registry.now journals.now node self.old sayings.old self.new sayings.new) }
-        ensures refused { IfErr result (λ e. RefusesFor e (AllUnsaid (new_server registry.now node) sayings.old (journal_at journals.now node))) }
+        ensures ok { OnOk result ((js : List JournalOf) → journal_at js node ≡ journal_at journals.old node
+            → AddsNode registry.now js node self.old sayings.old self.new sayings.new) }
+        ensures refused { IfErr result (λ e. RefusesFor e (AllUnsaid (new_server registry.now node) sayings.old (journal_at journals.old node))) }
+        ensures others { KeepsOthers journals.old node journals.new }
     {
-        let events = events_of(journals, node);
+        let events = take_events(alloc, journals, node);
         match replay_journal(alloc, registry, node, events, sayings) {
             Ok(replay) => {
                 self.add(replay)?;
@@ -319,15 +332,15 @@ impl AllReplayed {
     }
 }
 
-/// The journal of each node is replayed. Refused as Collision where a client says otherwise.
+/// The journal of each node is replayed, and its events are taken out of it. Refused as Collision where a client says otherwise.
 pub(crate) fn replay_all(
     alloc: Global,
     registry: &Registry,
-    journals: &[Journal],
+    journals: &mut [Journal],
     sayings: &mut Sayings,
 ) -> Result<AllReplayed, Refusal>
-    ensures ok { IfOk result (λ all. AreReplayed registry.now journals.now sayings.old (length registry.now.nodes) all sayings.new) }
-    ensures refused { IfErr result (λ e. RefusesFor e (SomeUnsaid registry.now journals.now sayings.old)) }
+    ensures ok { IfOk result (λ all. AreReplayed registry.now journals.old sayings.old (length registry.now.nodes) all sayings.new) }
+    ensures refused { IfErr result (λ e. RefusesFor e (SomeUnsaid registry.now journals.old sayings.old)) }
 {
     let mut all = AllReplayed {
         nodes: Vec::new(alloc),

@@ -1,23 +1,22 @@
 //! Frames that were sent, found by what they say.
-ghost use Rattle.std.specs.Prelude.{◌≡◌, ◌≤◌, ◌++◌, ◌∷◌, [], length, Some, IfOk, IfSome, IsNone, OnOk};
+ghost use Rattle.std.specs.Prelude.{◌≡◌, ◌++◌, ◌∷◌, [], slice_get, Some, IfSome, IsNone, OnOk, IsTrue, ◌↔◌};
 ghost use Rattle.pmg_value.specs.Lists.{In};
-ghost use Rattle.pmg_frame.specs.Grammar.{IsFrame};
-ghost use Rattle.pmg_frame.specs.Versions.{body_spelling, frame_spelling};
 ghost use Rattle.pmg_node_model.specs.Sending.{sent as sent_to};
 ghost use Rattle.pmg_group_model.specs.Worlds.{numbered};
-ghost use Rattle.pmg_audit.specs.Sends.{AreNumbered};
-ghost use Rattle.pmg_frame.specs.declared.frame.TheConstants.{MAX_BODY_SIZE};
+ghost use Rattle.pmg_audit.specs.Sends.{AreNumbered, ArePlaced, NoneAt};
 
+use crate::labels::{Label, label_of};
 use pmg_frame::Frame;
 use pmg_node_model::Sent;
 use std::alloc::{AllocError, Global};
 use std::collections::BTreeMap;
 
-/// Frames that were sent, in their order, and of those that say the same to one node the number of the first.
+/// Frames that were sent, in their order.
 pub(crate) struct Sends {
     alloc: Global,
     pub(crate) frames: Vec<Sent>,
-    numbers: BTreeMap<(u64, Vec<u8>), u64>,
+    /// Under each label the places of the frames that have it, rising, but for frames that say what an earlier one says.
+    places: BTreeMap<Label, Vec<usize>>,
 }
 
 impl Drop for Sends {
@@ -25,22 +24,39 @@ impl Drop for Sends {
         let Self {
             alloc,
             frames,
-            numbers,
+            places,
         } = self;
     }
 }
 
-/// What a frame to the node is found by: the node, and the frame's encoding.
-fn key_of(alloc: Global, node: u64, frame: &Frame) -> Result<(u64, Vec<u8>), AllocError>
-    ensures node { IfOk result (λ key. key.0 ≡ node) }
-    ensures bytes { IfOk result (λ key. key.1.items ≡ frame_spelling 2 frame.now) }
-    ensures valid { OnOk result (IsFrame frame.now) }
-    ensures small { OnOk result (length (body_spelling 2 frame.now) ≤ MAX_BODY_SIZE) }
+/// Whether the frame goes to that node and says the same.
+fn is_sent(sent: &Sent, node: u64, frame: &Frame) -> bool
+    ensures { IsTrue result ↔ (sent.now ≡ sent_to node frame.now) }
 {
-    let encoded = frame.encode(alloc)?;
-    let mut bytes = Vec::new(alloc);
-    bytes.extend_from_slice(encoded.as_slice())?;
-    Ok((node, bytes))
+    sent.to.index() as u64 == node && sent.frame.is_same(frame)
+}
+
+/// Whether the frame at that place goes to the node and says the same.
+fn is_sent_at(frames: &[Sent], place: usize, node: u64, frame: &Frame) -> bool
+    ensures { IsTrue result ↔ (slice_get frames.now place ≡ Some (sent_to node frame.now)) }
+{
+    match frames.get(place) {
+        Some(sent) => is_sent(sent, node, frame),
+        None => false,
+    }
+}
+
+/// Which of these places has a frame that goes to the node and says the same: the first of them.
+fn place_among(frames: &[Sent], places: &[usize], node: u64, frame: &Frame) -> Option<usize>
+    ensures some { IfSome result (λ k. slice_get frames.now k ≡ Some (sent_to node frame.now)) }
+    ensures none { IsNone result → NoneAt frames.now (sent_to node frame.now) places.now }
+{
+    for &place in places {
+        if is_sent_at(frames, place, node, frame) {
+            return Some(place);
+        }
+    }
+    None
 }
 
 impl Sends {
@@ -52,20 +68,42 @@ impl Sends {
         Sends {
             alloc,
             frames: Vec::new(alloc),
-            numbers: BTreeMap::new(alloc),
+            places: BTreeMap::new(alloc),
         }
     }
 
     /// The number of the first frame that was sent to the node and says the same.
-    pub(crate) fn number_of(&self, node: u64, frame: &Frame) -> Result<Option<u64>, AllocError>
+    pub(crate) fn number_of(&self, node: u64, frame: &Frame) -> Option<u64>
         requires { AreNumbered self.now }
-        ensures some { IfOk result (λ o. IfSome o (λ i.
-            numbered self.now.frames.items i ≡ Some (sent_to node frame.now))) }
-        ensures none { IfOk result (λ o. IsNone o
-            → In (sent_to node frame.now) self.now.frames.items → ⊥) }
+        ensures some { IfSome result (λ i.
+            numbered self.now.frames.items i ≡ Some (sent_to node frame.now)) }
+        ensures none { IsNone result
+            → In (sent_to node frame.now) self.now.frames.items → ⊥ }
     {
-        let key = key_of(self.alloc, node, frame)?;
-        Ok(self.numbers.get(&key).copied())
+        let places = self.places.get(&label_of(node, frame))?;
+        let place = place_among(&self.frames, places, node, frame)?;
+        Some(place as u64 + 1)
+    }
+
+    /// The place of the next frame is kept under its label, unless an earlier one says the same.
+    fn keep_place(&mut self, node: u64, frame: &Frame) -> Result<(), AllocError>
+        requires { AreNumbered self.old }
+        ensures frames { self.new.frames ≡ self.old.frames }
+        ensures placed { OnOk result
+            (ArePlaced (self.old.frames.items ++ sent_to node frame.now ∷ []) self.new.places.entries) }
+    {
+        let label = label_of(node, frame);
+        let next = self.frames.len();
+        if let Some(places) = self.places.get_mut(&label) {
+            if place_among(&self.frames, places, node, frame).is_none() {
+                places.push(next)?;
+            }
+            return Ok(());
+        }
+        let mut places = Vec::new(self.alloc);
+        places.push(next)?;
+        self.places.insert(label, places)?;
+        Ok(())
     }
 
     /// The frame is sent after the others.
@@ -75,14 +113,12 @@ impl Sends {
             ≡ self.old.frames.items ++ sent.now ∷ []) }
         ensures numbered { OnOk result (AreNumbered self.new) }
     {
-        let key = key_of(self.alloc, sent.to.index() as u64, &sent.frame)?;
         let frame = sent.frame.copy()?;
+        self.keep_place(sent.to.index() as u64, &frame)?;
         self.frames.push(Sent { to: sent.to, frame })?;
-        if !self.numbers.contains_key(&key) {
-            self.numbers.insert(key, self.frames.len() as u64)?;
-        }
         Ok(())
     }
+
     /// The frames.
     pub(crate) fn into_frames(self) -> Vec<Sent>
         ensures { result ≡ self.frames }
@@ -90,7 +126,7 @@ impl Sends {
         let Sends {
             alloc: _,
             frames,
-            numbers: _,
+            places: _,
         } = self;
         frames
     }

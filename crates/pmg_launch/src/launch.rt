@@ -48,6 +48,6 @@ pub fn run_linked<R: Threads + Wait + Clock + Sync>(
         journals,
         transcripts,
     } = run_unaudited(rt, job, programs, links)?;
-    let run = audit(alloc, &journals, &transcripts)?;
+    let run = audit(alloc, journals, &transcripts)?;
     Ok(Outcome { reports, run })
 }

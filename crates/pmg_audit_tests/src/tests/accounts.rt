@@ -4,9 +4,9 @@
 //! A put and a get of the client's own key stand in the transcript alone; the delivery of a frame, a change of the sets and a nudge
 //! stand in the journal alone; any other line stands in both. Lines that begin with a blank tell of changes.
 use crate::tests::words::{act, answer, key, process, request, scope_of, value, word, words_of};
-use pmg_audit::audit;
+use pmg_audit::{Run, audit};
 use pmg_jobinfo::Registry;
-use pmg_journal::{Call, Called, Event, Journal, Transcript};
+use pmg_journal::{Call, Called, Event, Journal, Transcript, copy_of_act, copy_of_answer};
 use pmg_value::{NodeId, Nspace, Refusal};
 use std::alloc::{AllocError, Global};
 use std::process::Abort;
@@ -227,6 +227,21 @@ fn transcript_of(alloc: Global, proc: &str, lines: &[&str]) -> Result<Transcript
     })
 }
 
+/// A copy, equal to this journal.
+fn copy_of_journal(alloc: Global, journal: &Journal) -> Result<Journal, AllocError> {
+    let mut events = Vec::new(alloc);
+    for event in &journal.events {
+        let act = copy_of_act(&event.act)?;
+        let answer = copy_of_answer(&event.answer)?;
+        events.push(Event { act, answer })?;
+    }
+    Ok(Journal {
+        node: journal.node,
+        registry: journal.registry.copy()?,
+        events,
+    })
+}
+
 impl Accounts {
     /// The accounts that the texts of both nodes tell, with the change.
     pub(crate) fn new(
@@ -262,9 +277,18 @@ impl Accounts {
         Ok(())
     }
 
+    /// The one run that they tell.
+    pub(crate) fn run(&self) -> Result<Run, Refusal> {
+        let mut journals = Vec::new(self.alloc);
+        for journal in &self.journals {
+            journals.push(copy_of_journal(self.alloc, journal)?)?;
+        }
+        audit(self.alloc, journals, &self.transcripts)
+    }
+
     /// How many events the run has, or why there is none. Where an allocation fails that is no answer.
     pub(crate) fn answer(&self, rt: &impl Abort) -> Result<usize, Refusal> {
-        let known = match audit(self.alloc, &self.journals, &self.transcripts) {
+        let known = match self.run() {
             Ok(run) => Ok(Ok(run.events().len())),
             Err(Refusal::NoMemory) => Err(Refusal::NoMemory),
             Err(refusal) => Ok(Err(refusal)),

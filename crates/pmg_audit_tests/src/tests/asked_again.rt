@@ -1,7 +1,7 @@
 //! Audits that are asked for again where an allocation failed in them. This test passes whichever allocation fails.
 use crate::tests::accounts::{Accounts, NO_CHANGE};
 use crate::tests::fences;
-use pmg_audit::{Run, audit};
+use pmg_audit::Run;
 use pmg_node::Request;
 use pmg_value::Refusal;
 use pmg_world::{Event, reply_line};
@@ -65,7 +65,7 @@ fn an_audit_gives_the_run(rt: HostRuntime) -> Result<(), Refusal> {
     let alloc = rt.alloc();
     let texts = [fences::AT_ZERO, fences::AT_ONE];
     let both = again!(Accounts::new(alloc, texts, &NO_CHANGE))?;
-    let run = again!(audit(alloc, &both.journals, &both.transcripts))?;
+    let run = again!(both.run())?;
     let text = again!(lines(alloc, &run))?;
     assert_eq!(rt; str::from_utf8(&text).unwrap_or("no text"), TWO_FENCES);
     Ok(())

@@ -1,13 +1,8 @@
-use Rattle.std.proofs.Common.{◌≡◌, length, Some, slice_get, refl, rules}
-use Rattle.pmg_audit.proofs.AuditLemmas.{none_one, not_one}
+use Rattle.std.proofs.Common.{List, IfErr, subst}
+use Rattle.pmg_journal.specs.declared.journal.Journal.{Journal}
+use Rattle.pmg_audit.specs.Faults.{IsFault}
 use Rattle.pmg_audit.proofs.auditing.audit.Goals as goal
 
-pub returns-then-not-are_journals-clause-refused : goal.returns-then-not-are_journals-clause-refused
-returns-then-not-are_journals-clause-refused c =
-    let is : slice_get c.args.journals.now 0 ≡ Some c.in-Some.first.now = search rules in
-    not_one c.args.journals.now c.in-Some.first.now is (c.if-not-are_journals.ensures.other refl)
-
-pub returns-in-None-clause-refused : goal.returns-in-None-clause-refused
-returns-in-None-clause-refused c =
-    let none : length c.args.journals.now ≡ 0 = search rules in
-    none_one c.args.journals.now none
+pub returns-clause-refused : goal.returns-clause-refused
+returns-clause-refused c =
+    subst (λ (js : List Journal). IfErr c.audit_among.result (λ e. IsFault js c.args.transcripts.now e)) c.deref_mut.ensures.value c.audit_among.ensures.refused

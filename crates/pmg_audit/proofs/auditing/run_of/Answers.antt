@@ -1,4 +1,4 @@
-use Rattle.std.proofs.Common.{List, sym, subst}
+use Rattle.std.proofs.Common.{List, refl, sym, subst}
 use Rattle.pmg_world.specs.Accounts.{Account}
 use Rattle.pmg_audit.specs.Codes.{all_of}
 use Rattle.pmg_audit.specs.Orders.{NoOrder}
@@ -9,19 +9,19 @@ use Rattle.pmg_audit.proofs.auditing.run_of.Goals as goal
 
 pub run_with-requires : goal.run_with-requires
 run_with-requires c =
-    let one = one_by c.args.registry.now c.requires.jobs c.args.journals.now c.args.transcripts.now c.requires.journals c.in-Ok.all c.in-Ok.ensures.ok c.in-Ok-make_order.order
-    c.in_ok-registry_copy.registry_copy c.in_ok-registry_copy.ensures c.deref.result.now c.deref.ensures.value c.in-Ok-make_order.ensures.ok in
+    let one = one_by c.args.registry c.requires.jobs c.args.journals.now c.args.transcripts.now c.requires.journals c.in-Ok.all c.in-Ok.ensures.ok c.in-Ok-make_order.order
+    c.args.registry refl c.deref.result.now c.deref.ensures.value c.in-Ok-make_order.ensures.ok in
     record { run = one.run; lawful = one.lawful }
 
 pub returns-in-Ok-make_order-clause-ok : goal.returns-in-Ok-make_order-clause-ok
 returns-in-Ok-make_order-clause-ok c =
     subst (λ (a : Account). IsOneRun c.args.journals.now c.args.transcripts.now a) (sym c.run_with.ensures)
-    (one_by c.args.registry.now c.requires.jobs c.args.journals.now c.args.transcripts.now c.requires.journals c.in-Ok.all c.in-Ok.ensures.ok c.in-Ok-make_order.order
-    c.in_ok-registry_copy.registry_copy c.in_ok-registry_copy.ensures c.deref.result.now c.deref.ensures.value c.in-Ok-make_order.ensures.ok)
+    (one_by c.args.registry c.requires.jobs c.args.journals.now c.args.transcripts.now c.requires.journals c.in-Ok.all c.in-Ok.ensures.ok c.in-Ok-make_order.order
+    c.args.registry refl c.deref.result.now c.deref.ensures.value c.in-Ok-make_order.ensures.ok)
 
 pub returns-in-Err-make_order-clause-refused : goal.returns-in-Err-make_order-clause-refused
 returns-in-Err-make_order-clause-refused c =
-    let jobs = c.args.registry.now in
+    let jobs = c.args.registry in
     let js = c.args.journals.now in
     let whole = c.in-Ok.ensures.ok in
     order_fault jobs js c.args.transcripts.now (all_of c.in-Ok.all.lanes.items) c.requires.journals whole.moves whole.agreed c.in-Err-make_order.refusal c.in-Err-make_order.ensures.few
@@ -29,4 +29,4 @@ returns-in-Err-make_order-clause-refused c =
 
 pub returns-in-Err-clause-refused : goal.returns-in-Err-clause-refused
 returns-in-Err-clause-refused c =
-    replay_fault c.args.registry.now c.args.journals.now c.args.transcripts.now c.requires.journals c.in-Err.refusal c.in-Err.ensures.refused
+    replay_fault c.args.registry c.args.journals.now c.args.transcripts.now c.requires.journals c.in-Err.refusal c.in-Err.ensures.refused

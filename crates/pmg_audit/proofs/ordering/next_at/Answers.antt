@@ -28,9 +28,9 @@ returns-in-Some c =
     let there : slice_get (moves_at (all_of lanes) n) (slice_index done n) ≡ Some (move_in x) =
     next_of lanes n c.index-lanes-node.result c.deref.result.now (slice_index done n) x inside c.deref.ensures.value c.in-Some.ensures.lookup.0 c.in-Some.ensures.lookup.1 in
     record {
-      some = some_on c.event_for.result (λ e. IsEventOf frames n (act_of x.act) (event_of e)) (λ e. IsNext (all_of lanes) done frames n (event_of e)) c.event_for.ensures.some
+      some = some_on c.event_for.result (λ e. IsEventOf frames n (act_of x.event.act) (event_of e)) (λ e. IsNext (all_of lanes) done frames n (event_of e)) c.event_for.ensures.some
           (λ e is. record { next = move_in x; there = there; event = is });
-      none = none_on c.event_for.result (MayGo n (act_of x.act) frames) (IsReady (all_of lanes) done frames n) c.event_for.ensures.none
+      none = none_on c.event_for.result (MayGo n (act_of x.event.act) frames) (IsReady (all_of lanes) done frames n) c.event_for.ensures.none
           (λ ready. subst (λ o. MayGoNext n o frames) there ready);
     }
 
