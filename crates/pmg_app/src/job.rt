@@ -16,6 +16,7 @@ use pmg_store::{Failure, MOST_READS, WatchedReader, read_input};
 use pmg_value::{NodeId, Refusal, WatchedWriter, WriteFault};
 use std::alloc::Global;
 use std::io::{Read, Write};
+use std::mem;
 use std::sync::Wait;
 use std::thread::Threads;
 use std::time::Clock;
@@ -33,7 +34,7 @@ struct Ran {
 /// Nothing is printed before the job has ended and was audited. Status 1 for a refused job, where a client's program answered a
 /// refusal, for a read fault and a write fault, 3 where an allocation failed, 4 where the audit found a fault. A refusal of the job, a
 /// read fault and an audit's fault print a line, and a reader that failed is always told as a read fault; where the writer fails,
-/// nothing more is printed.
+/// nothing more is printed. What came of the job is not dropped: the program ends after it is printed.
 pub fn run_job<T: Threads + Wait + Clock + Sync, R: Read, W: Write>(
     rt: &T,
     alloc: Global,
@@ -50,7 +51,12 @@ pub fn run_job<T: Threads + Wait + Clock + Sync, R: Read, W: Write>(
     ensures status { IsJobStatus result }
 {
     match read_and_run(rt, alloc, programs, reader) {
-        Ok(ran) => print_outcome(writer, &ran.outcome, &ran.audited),
+        Ok(ran) => {
+            let status = print_outcome(writer, &ran.outcome, &ran.audited);
+            // The program ends now, and what it holds goes back as a whole: to take the run apart would only take time.
+            mem::forget(ran);
+            status
+        }
         Err(failure) => print_failure(writer, failure),
     }
 }
