@@ -5,6 +5,7 @@ use Rattle.pmg_value.specs.declared.refusal.Refusal.{Refusal}
 use Rattle.pmg_value.specs.declared.refusal.Refusal.TheVariants as refusals
 use Rattle.pmg_scope.specs.Cached.{no_puts}
 use Rattle.pmg_jobinfo.specs.Jobs.{Jobs, AreJobs}
+use Rattle.pmg_node.specs.Servers.{Server}
 use Rattle.pmg_journal.specs.Transcripts.{noted_in}
 use Rattle.pmg_journal.specs.declared.journal.Journal.{Journal}
 use Rattle.pmg_journal.specs.declared.transcript.Transcript.{Transcript}
@@ -85,9 +86,10 @@ well_by jobs js first r ss ended = (ss, ended)
 
 -- the run of all journals, replayed and told in an order
 pub one_by : (jobs : Jobs) → AreJobs jobs → (js : List Journal) (ts : List Transcript) → AreJournals jobs js → (r : AllReplayed) → AreWhole jobs js ts r → (o : Order) (registry : Jobs) → registry ≡ jobs
-    → (lanes : List Lane) → lanes ≡ r.lanes.items → AreTold (all_of lanes) (map happened_of o.told.items) o.sent.items
-    → IsOneRun js ts (account_by registry r.nodes.items o.sent.items o.told.items)
-one_by jobs are js ts journals r whole o registry same lanes is order =
-    subst (λ (j : Jobs). IsOneRun js ts (account_by j r.nodes.items o.sent.items o.told.items)) (sym same)
+    → (nodes : List Server) → nodes ≡ r.nodes.items → (lanes : List Lane) → lanes ≡ r.lanes.items → AreTold (all_of lanes) (map happened_of o.told.items) o.sent.items
+    → IsOneRun js ts (account_by registry nodes o.sent.items o.told.items)
+one_by jobs are js ts journals r whole o registry same nodes these lanes is order =
+    subst (λ (j : Jobs). IsOneRun js ts (account_by j nodes o.sent.items o.told.items)) (sym same)
+    (subst (λ (ns : List Server). IsOneRun js ts (account_by jobs ns o.sent.items o.told.items)) (sym these)
     (moves_are_one_run jobs are js ts journals (all_of r.lanes.items) whole.moves whole.put whole.agreed.calls r.nodes.items o.sent.items o.told.items
-    (subst (λ (ls : List Lane). AreTold (all_of ls) (map happened_of o.told.items) o.sent.items) is order) whole.ends)
+    (subst (λ (ls : List Lane). AreTold (all_of ls) (map happened_of o.told.items) o.sent.items) is order) whole.ends))

@@ -1,13 +1,14 @@
 -- Moves of nodes in code, and lists one item further.
-use Rattle.std.proofs.Common.{◌≡◌, ℕ, zero, suc, ◌+◌, ◌<◌, ◌≤◌, List, [], ◌∷◌, ◌++◌, length, map, get_or, take, drop, slice_index, Bool, true, false, nat_lt, ltb, ltb-true, ltb-false, Option, Some, None, slice_get, inl, inr, refl, sym, ap, subst, ◌∙◌, append_assoc, arith}
-use Rattle.std.proofs.lemmas.List.{take_more, map-append, drop_all, length-map}
+use Rattle.std.proofs.Common.{◌≡◌, ℕ, zero, suc, ◌+◌, ◌<◌, ◌≤◌, List, [], ◌∷◌, ◌++◌, length, map, get_or, set, drop, option_to_list, ◌-◌, IfSome, IsNone, Bool, true, false, nat_lt, ltb-true, ltb-false, Option, Some, None, slice_get, inl, inr, refl, sym, ap, subst, ◌∙◌, arith}
+use Rattle.std.proofs.lemmas.List.{length-drop, length-map, map-set, nil_from_length}
 use Rattle.std.proofs.lemmas.Option.{slice_get-get_or, slice_get_past, slice_get-map}
 use Rattle.pmg_value.specs.Lists.{In}
 use Rattle.pmg_value.proofs.ListLemmas.{in_append_left, in_append_right}
 use Rattle.pmg_group_model.specs.Worlds.{nth, numbered}
 use Rattle.pmg_audit.specs.Codes.{all_of, lane_of, move_in}
 use Rattle.pmg_audit.specs.Moves.{Move}
-use Rattle.pmg_audit.specs.Orders.{list_or_none, moves_at, rests}
+use Rattle.pmg_audit.specs.Going.{IsTaken}
+use Rattle.pmg_audit.specs.Orders.{list_or_none, moves_at}
 use Rattle.pmg_audit.specs.declared.moves.Lane.{Lane}
 use Rattle.pmg_audit.specs.declared.moves.Move.{Move as KeptMove}
 
@@ -20,36 +21,29 @@ lane_at lanes n d inside =
     mapped None = None
     mapped (Some l) = Some (lane_of l)
 
+-- the next one of them, taken out
+no_items : (xs ys : List KeptMove) → xs ≡ ys → ys ≡ drop 1 xs → xs ≡ []
+no_items xs ys same rest =
+    let count : length xs ≡ length xs - 1 = ap length (same ∙ rest) ∙ length-drop 1 xs in
+    nil_from_length xs (omega (arith, count))
+
+pub next_taken : (lanes : List Lane) (n : ℕ) (lane lane2 : Lane) (o : Option KeptMove) → n < length lanes → (get_or lanes n lane).moves.items ≡ option_to_list o ++ lane2.moves.items
+    → IfSome o (λ x. IsTaken (all_of lanes) n (move_in x) (all_of (set lanes n lane2)))
+next_taken lanes n lane lane2 None inside items = tt
+next_taken lanes n lane lane2 (Some x) inside items = record {
+  later = lane_of lane2;
+  there = lane_at lanes n lane inside ∙ ap (map move_in) items;
+  left = map-set lane_of lanes n lane2;
+}
+
+pub none_taken : (lanes : List Lane) (n : ℕ) (lane lane2 : Lane) (o : Option KeptMove) → n < length lanes → (get_or lanes n lane).moves.items ≡ option_to_list o ++ lane2.moves.items
+    → lane2.moves.items ≡ drop 1 (get_or lanes n lane).moves.items → IsNone o → moves_at (all_of lanes) n ≡ []
+none_taken lanes n lane lane2 None inside items rest none =
+    lane_at lanes n lane inside ∙ ap (map move_in) (no_items (get_or lanes n lane).moves.items lane2.moves.items items rest)
+none_taken lanes n lane lane2 (Some x) inside items rest none = absurd cc
+
 pub lane_past : (lanes : List Lane) (n : ℕ) → length lanes ≤ n → moves_at (all_of lanes) n ≡ []
 lane_past lanes n past = ap list_or_none (slice_get_past (all_of lanes) n (subst (λ l. l ≤ n) (sym (length-map lanes lane_of)) past))
-
--- the next one of them
-pub next_there : (l : Lane) (k : ℕ) (x : KeptMove) → slice_get l.moves.items k ≡ Some x → slice_get (lane_of l) k ≡ Some (move_in x)
-next_there l k x is = slice_get-map move_in l.moves.items k ∙ (λ i. mapped (is i))
-  where
-    mapped : Option KeptMove → Option Move
-    mapped None = None
-    mapped (Some m) = Some (move_in m)
-
-pub next_none : (l : Lane) (k : ℕ) → slice_get l.moves.items k ≡ None → slice_get (lane_of l) k ≡ None
-next_none l k is = slice_get-map move_in l.moves.items k ∙ (λ i. mapped (is i))
-  where
-    mapped : Option KeptMove → Option Move
-    mapped None = None
-    mapped (Some m) = Some (move_in m)
-
--- what a node's next place has
-pub next_of : (lanes : List Lane) (n : ℕ) (lane : Lane) (items : List KeptMove) (k : ℕ) (x : KeptMove) → n < length lanes → items ≡ (get_or lanes n lane).moves.items
-    → true ≡ ltb k (length items) → x ≡ get_or items k x → slice_get (moves_at (all_of lanes) n) k ≡ Some (move_in x)
-next_of lanes n lane items k x inside is less there =
-    ap (λ l. slice_get l k) (lane_at lanes n lane inside)
-    ∙ next_there (get_or lanes n lane) k x (ap (λ l. slice_get l k) (sym is) ∙ slice_get-get_or items k x (ltb-true k (length items) (sym less)) ∙ ap Some (sym there))
-
-pub none_of : (lanes : List Lane) (n : ℕ) (lane : Lane) (items : List KeptMove) (k : ℕ) → n < length lanes → items ≡ (get_or lanes n lane).moves.items
-    → false ≡ ltb k (length items) → slice_get (moves_at (all_of lanes) n) k ≡ None
-none_of lanes n lane items k inside is more =
-    ap (λ l. slice_get l k) (lane_at lanes n lane inside)
-    ∙ next_none (get_or lanes n lane) k (ap (λ l. slice_get l k) (sym is) ∙ slice_get_past items k (ltb-false k (length items) (sym more)))
 
 -- ---- frames by their numbers
 
@@ -61,12 +55,6 @@ nth_stays (z ∷ xs) ys (suc i) x is = nth_stays xs ys i x is
 pub numbered_stays : {A : Type 0} (xs ys : List A) (i : ℕ) (x : A) → numbered xs i ≡ Some x → numbered (xs ++ ys) i ≡ Some x
 numbered_stays xs ys zero x is = absurd cc
 numbered_stays xs ys (suc i) x is = nth_stays xs ys i x is
-
--- what comes of the items of a list, one item further
-pub map_more : {A B : Type 0} (f : A → B) (before now : List B) (xs : List A) (k : ℕ) (d : A) → k < length xs → now ≡ before ++ map f (take k xs) → now ++ f (get_or xs k d) ∷ [] ≡ before ++ map f (take (k + 1) xs)
-map_more f before now xs k d inside is =
-    ap (λ l. l ++ f (get_or xs k d) ∷ []) is ∙ append_assoc before (map f (take k xs)) (f (get_or xs k d) ∷ [])
-    ∙ ap (λ l. before ++ l) (sym (map-append f (take k xs) (get_or xs k d ∷ [])) ∙ ap (map f) (sym (take_more xs k d inside)))
 
 pub in_get : {A : Type 0} (xs : List A) (k : ℕ) (x : A) → k < length xs → x ≡ get_or xs k x → In x xs
 in_get [] k x inside is = absurd (omega (arith, inside))
@@ -90,11 +78,35 @@ in_next xs k below n less = by (nat_lt n k) refl
 
 -- ---- what is left
 
-pub closed_all : (lanes : List Lane) (done : List ℕ) (k : ℕ) → length lanes ≤ k → ((n : ℕ) → n < k → length (moves_at (all_of lanes) n) ≤ slice_index done n) → (n : ℕ) → rests (all_of lanes) done n ≡ []
-closed_all lanes done k past each n = by (nat_lt n k) refl
+-- nothing is left of a lane without moves
+pub none_at : (lanes : List Lane) (n : ℕ) (lane : Lane) → n < length lanes → lane ≡ get_or lanes n lane → length lane.moves.items ≡ 0 → moves_at (all_of lanes) n ≡ []
+none_at lanes n lane inside is none = lane_at lanes n lane inside ∙ ap lane_of (sym is) ∙ ap (map move_in) (nil_from_length lane.moves.items none)
+
+pub closed_more : (lanes : List Lane) (k : ℕ) (lane : Lane) → k < length lanes → lane ≡ get_or lanes k lane → length lane.moves.items ≡ 0 → ((n : ℕ) → n < k → moves_at (all_of lanes) n ≡ [])
+    → (n : ℕ) → n < k + 1 → moves_at (all_of lanes) n ≡ []
+closed_more lanes k lane inside is none each n less = by (nat_lt n k) refl
   where
-    by : (b : Bool) → nat_lt n k ≡ b → rests (all_of lanes) done n ≡ []
-    by true e = drop_all (slice_index done n) (moves_at (all_of lanes) n) (each n (ltb-true n k e))
+    by : (b : Bool) → nat_lt n k ≡ b → moves_at (all_of lanes) n ≡ []
+    by true e = each n (ltb-true n k e)
+    by false e =
+        let past : k ≤ n = ltb-false n k e in
+        let same : k ≡ n = omega (arith, past, less) in
+        subst (λ i. moves_at (all_of lanes) i ≡ []) same (none_at lanes k lane inside is none)
+
+pub closed_all : (lanes : List Lane) (k : ℕ) → length lanes ≤ k → ((n : ℕ) → n < k → moves_at (all_of lanes) n ≡ []) → (n : ℕ) → moves_at (all_of lanes) n ≡ []
+closed_all lanes k past each n = by (nat_lt n k) refl
+  where
+    by : (b : Bool) → nat_lt n k ≡ b → moves_at (all_of lanes) n ≡ []
+    by true e = each n (ltb-true n k e)
     by false e =
         let out : k ≤ n = ltb-false n k e in
-        ap (drop (slice_index done n)) (lane_past lanes n (omega (arith, past, out))) ∙ drop_all (slice_index done n) [] (omega arith)
+        lane_past lanes n (omega (arith, past, out))
+
+-- the first one of them
+first_of : (xs : List KeptMove) (x : KeptMove) → 0 < length xs → x ≡ get_or xs 0 x → xs ≡ x ∷ drop 1 xs
+first_of [] x some is = absurd (omega (arith, some))
+first_of (y ∷ xs) x some is = ap (λ (z : KeptMove). z ∷ xs) (sym is)
+
+pub next_front : (lanes : List Lane) (n : ℕ) (lane : Lane) (x : KeptMove) → n < length lanes → lane ≡ get_or lanes n lane → 0 < length lane.moves.items → x ≡ get_or lane.moves.items 0 x
+    → moves_at (all_of lanes) n ≡ move_in x ∷ map move_in (drop 1 lane.moves.items)
+next_front lanes n lane x inside is some first = lane_at lanes n lane inside ∙ ap lane_of (sym is) ∙ ap (map move_in) (first_of lane.moves.items x some first)

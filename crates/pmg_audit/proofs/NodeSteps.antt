@@ -9,13 +9,14 @@ use Rattle.pmg_jobinfo.specs.Jobs.{Jobs, home_of}
 use Rattle.pmg_fence.specs.Entering.{same_proc}
 use Rattle.pmg_node.specs.Opening.{new_server}
 use Rattle.pmg_node.specs.Servers.{Server, after}
+use Rattle.pmg_journal.specs.Calling.{caller_of}
 use Rattle.pmg_journal.specs.Replays.{Happening}
 use Rattle.pmg_journal.specs.declared.journal.Journal.{Journal}
 use Rattle.pmg_audit.specs.Agreeing.{AreSaid, BeginsWith, IsSaidBy, rest_after, tail_of}
 use Rattle.pmg_audit.specs.Codes.{all_of, lane_of, rest_of}
 use Rattle.pmg_audit.specs.Dues.{Due, due_in}
 use Rattle.pmg_audit.specs.Faults.{AreStale}
-use Rattle.pmg_audit.specs.Moves.{Move, Replays, caller_of, server_after, event_in}
+use Rattle.pmg_audit.specs.Moves.{Move, Replays, server_after, event_in}
 use Rattle.pmg_audit.specs.Orders.{list_or_none, moves_at}
 use Rattle.pmg_audit.specs.Replaying.{AddsNode, AllUnsaid, AreReplayed, AreUnsaid, HaveHappened, IsReplayed, SomeUnsaid, moves_by}
 use Rattle.pmg_audit.specs.Runs.{journal_at}

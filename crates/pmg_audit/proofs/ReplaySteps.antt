@@ -1,8 +1,10 @@
 -- A journal that is replayed, one event further, and all journals, one node further.
-use Rattle.std.proofs.Common.{◌≡◌, ◌⊎◌, Bool, true, false, cond, List, [], ◌∷◌, ◌++◌, map, Option, Some, None, inl, inr, refl, sym, ap, subst, ◌∙◌, append_assoc}
+use Rattle.std.specs.Prelude.{is_ok}
+use Rattle.std.proofs.Common.{◌≡◌, ◌⊎◌, ℕ, Bool, true, false, cond, List, [], ◌∷◌, ◌++◌, map, Option, Some, None, Result, Ok, Err, inl, inr, refl, sym, ap, subst, ◌∙◌, append_assoc}
 use Rattle.std.proofs.lemmas.Bool.{false≢true}
 use Rattle.std.proofs.lemmas.List.{append-nil, map-append}
 use Rattle.std.specs.Cmp.{Equal-is}
+use Rattle.pmg_value.specs.CheckOrder.{first_of}
 use Rattle.pmg_value.specs.declared.process.Proc.{Proc}
 use Rattle.pmg_value.specs.declared.refusal.Refusal.{Refusal}
 use Rattle.pmg_value.specs.declared.refusal.Refusal.TheVariants as refusals
@@ -10,15 +12,20 @@ use Rattle.pmg_value.proofs.ProcessOrder.{exact_procs}
 use Rattle.pmg_jobinfo.specs.Jobs.{Jobs, home_of}
 use Rattle.pmg_fence.specs.Entering.{same_proc}
 use Rattle.pmg_fence.proofs.EntryLemmas.{proc_itself}
+use Rattle.pmg_node_model.specs.Acts.{free_cause}
 use Rattle.pmg_node.specs.Servers.{Server, after, reply_to, sent_by}
+use Rattle.pmg_journal.specs.Calling.{caller_of, may_call}
+use Rattle.pmg_journal.specs.Records.{IsStep}
 use Rattle.pmg_journal.specs.Replays.{Happening, IsReplay, after_all}
-use Rattle.pmg_journal.proofs.ReplayLemmas.{last_is}
+use Rattle.pmg_journal.specs.declared.record.Step.{Step}
+use Rattle.pmg_journal.proofs.ReplayLemmas.{after_more, id_same, jobs_same, last_is}
 use Rattle.pmg_audit.specs.Agreeing.{AreSaid, BeginsWith, IsSaidBy, MayPut, rest_after, tail_of}
 use Rattle.pmg_audit.specs.Codes.{lane_of, rest_of}
 use Rattle.pmg_audit.specs.Dues.{Due, made_due, due_event, due_in}
-use Rattle.pmg_audit.specs.Moves.{Move, Put, PutsAt, Replays, caller_of, server_after, event_in, is_by, is_caller}
-use Rattle.pmg_audit.specs.Replaying.{AllUnsaid, Continues, HaveHappened, IsAdded, IsReplayed, IsUnsaid, RefusesFor, TakesPuts, move_by, moves_by}
+use Rattle.pmg_audit.specs.Moves.{Move, Put, PutsAt, Replays, server_after, event_in, is_by, is_caller}
+use Rattle.pmg_audit.specs.Replaying.{AllUnsaid, Continues, HaveFollowed, HaveHappened, IsAdded, IsFollowed, IsReplayed, IsUnsaid, IsUnsaidAt, IsWhere, RefusesFor, TakesPuts, TakesPutsAt, move_by, moves_by, replay_at}
 use Rattle.pmg_audit.specs.Taking.{TakesSaying}
+use Rattle.pmg_audit.specs.declared.moves.Lane.{Lane}
 use Rattle.pmg_audit.specs.declared.moves.Saying.{Saying}
 use Rattle.pmg_audit.specs.declared.replaying.Replay.{Replay}
 
@@ -274,3 +281,83 @@ pub refuses_on : (e : Refusal) (P Q : Type 0) → RefusesFor e P → (P → Q) �
 refuses_on refusals.NoMemory P Q is on = tt
 refuses_on refusals.Collision P Q is on = on is
 refuses_on e P Q is on = absurd is
+
+-- ---- at a node of which only the group, the index and the steps are known
+
+-- who is free has no cause to be refused a put, and the other way
+ok_unit : (r : Result (Unit {0}) Refusal) → is_ok r ≡ true → r ≡ Ok tt
+ok_unit (Ok x) is = refl
+ok_unit (Err e) is = absurd (false≢true is)
+
+pub may_of_free : (s : Server) (p : Proc) (puts : List Put) (free : Bool) → free ≡ may_call s p → (puts ≡ []) ⊎ (free ≡ true) → MayPut s p puts
+may_of_free s p puts free is (inl none) = inl none
+may_of_free s p puts free is (inr t) = inr (ok_unit (first_of (free_cause s.jobs s.id s.holding p) tt) (sym is ∙ t))
+
+pub free_of_may : (s : Server) (p : Proc) (puts : List Put) (free : Bool) → free ≡ may_call s p → MayPut s p puts → (puts ≡ []) ⊎ (free ≡ true)
+free_of_may s p puts free is (inl none) = inl none
+free_of_may s p puts free is (inr fits) = inr (is ∙ ap is_ok fits)
+
+pub takes_at : (jobs : Jobs) (node : ℕ) (free : Bool) (old : List Saying) (e : Happening) (puts : List Put) (new : List Saying)
+    → ((s : Server) → IsWhere jobs node free e s → TakesPuts s old e puts new) → TakesPutsAt jobs node free old e puts new
+unfolding TakesPutsAt
+takes_at jobs node free old e puts new by = by
+
+pub takes_there : (jobs : Jobs) (node : ℕ) (free : Bool) (old : List Saying) (e : Happening) (puts : List Put) (new : List Saying) → TakesPutsAt jobs node free old e puts new
+    → (s : Server) → IsWhere jobs node free e s → TakesPuts s old e puts new
+unfolding TakesPutsAt
+takes_there jobs node free old e puts new takes = takes
+
+pub unsaid_at : (jobs : Jobs) (node : ℕ) (free : Bool) (ss : List Saying) (e : Happening)
+    → ((s : Server) → IsWhere jobs node free e s → IsSaidBy s (rest_of ss) (caller_of e.act) e → ⊥) → IsUnsaidAt jobs node free ss e
+unfolding IsUnsaidAt IsUnsaid
+unsaid_at jobs node free ss e by = by
+
+pub unsaid_there : (jobs : Jobs) (node : ℕ) (free : Bool) (ss : List Saying) (e : Happening) → IsUnsaidAt jobs node free ss e → (s : Server) → IsWhere jobs node free e s → IsUnsaid s ss e
+unfolding IsUnsaidAt
+unsaid_there jobs node free ss e unsaid = unsaid
+
+where_is : (jobs : Jobs) (node : ℕ) (e : Happening) (x : Step) (s : Server) → s.jobs ≡ jobs → s.id ≡ node → IsStep s e x → IsWhere jobs node x.is_free e s
+where_is jobs node e x s group index step = record { group = group; index = index; free_is = step.free }
+
+-- what an event adds whose reply and step are known
+added_at : (s : Server) (lane : Lane) (puts : List Put) (e : Happening) (x : Step) (lane2 : Lane) → lane_of lane2 ≡ lane_of lane ++ record { puts = puts; act = e.act; reply = e.reply; frames = x.sent.items } ∷ []
+    → IsStep s e x → reply_to s e.act ≡ e.reply → IsAdded (replay_at s lane) puts e (replay_at (after s e.act) lane2)
+added_at s lane puts e x lane2 is step replies = record {
+  node = refl;
+  lane = is ∙ ap (λ fs. lane_of lane ++ record { puts = puts; act = e.act; reply = e.reply; frames = fs } ∷ []) step.sent;
+  fresh = λ _. (refl, replies);
+  stale = λ t. absurd (false≢true t);
+}
+
+pub follows_by : (jobs : Jobs) (node : ℕ) (lane : Lane) (ss : List Saying) (e : Happening) (x : Step) (puts : List Put) (lane2 : Lane) (ss2 : List Saying) → TakesPutsAt jobs node x.is_free ss e puts ss2
+    → lane_of lane2 ≡ lane_of lane ++ record { puts = puts; act = e.act; reply = e.reply; frames = x.sent.items } ∷ [] → IsFollowed jobs node lane ss e x lane2 ss2
+unfolding IsFollowed
+follows_by jobs node lane ss e x puts lane2 ss2 takes is = λ s group index step replies.
+    continues_by (replay_at s lane) ss e puts (replay_at (after s e.act) lane2) ss2 (takes_there jobs node x.is_free ss e puts ss2 takes s (where_is jobs node e x s group index step))
+    (added_at s lane puts e x lane2 is step replies)
+
+pub followed_none : (s : Server) (ss : List Saying) (lane : Lane) → lane_of lane ≡ [] → HaveFollowed s ss [] lane ss
+unfolding HaveFollowed
+followed_none s ss lane none = happened_none s ss (replay_at s lane) refl none refl
+
+-- one event more is followed, where its step is known
+module _ (s : Server) (first : List Saying) (es : List Happening) (lane : Lane) (ss : List Saying) (done : HaveFollowed s first es lane ss) (e : Happening) (x : Step)
+    (step : IsStep (after_all s es) e x) where
+  pub followed_more : (lane2 : Lane) (ss2 : List Saying) → reply_to (after_all s es) e.act ≡ e.reply → IsFollowed s.jobs s.id lane ss e x lane2 ss2 → HaveFollowed s first (es ++ e ∷ []) lane2 ss2
+  unfolding HaveFollowed IsFollowed
+  followed_more lane2 ss2 replies follows =
+      subst (λ (t : Server). HaveHappened s first (es ++ e ∷ []) (replay_at t lane2) ss2) (sym (after_more s es e))
+      (happened_more s first es (replay_at (after_all s es) lane) ss e (replay_at (after (after_all s es) e.act) lane2) ss2 done
+      (follows (after_all s es) (jobs_same s es) (id_same s es) step replies))
+
+  pub followed_unsaid : (more : List Happening) → IsUnsaidAt s.jobs s.id x.is_free ss e → AllUnsaid s first (es ++ e ∷ more)
+  unfolding HaveFollowed
+  followed_unsaid more unsaid =
+      all_unsaid s first es (replay_at (after_all s es) lane) ss e more done
+      (unsaid_there s.jobs s.id x.is_free ss e unsaid (after_all s es) (where_is s.jobs s.id e x (after_all s es) (jobs_same s es) (id_same s es) step))
+
+-- the node that is there is the one that the events leave
+pub happened_so : (s : Server) (first : List Saying) (es : List Happening) (lane : Lane) (ss : List Saying) (node : Server) → HaveFollowed s first es lane ss → node ≡ after_all s es
+    → HaveHappened s first es (replay_at node lane) ss
+unfolding HaveFollowed
+happened_so s first es lane ss node done is = subst (λ (t : Server). HaveHappened s first es (replay_at t lane) ss) (sym is) done

@@ -9,12 +9,13 @@ use Rattle.pmg_fence.specs.Entering.{same_proc}
 use Rattle.pmg_node_model.specs.Acts.{free_cause}
 use Rattle.pmg_node.specs.Opening.{new_server}
 use Rattle.pmg_node.specs.Servers.{Server, after}
+use Rattle.pmg_journal.specs.Calling.{caller_of}
 use Rattle.pmg_journal.specs.Replays.{Happening, after_all}
 use Rattle.pmg_journal.specs.Transcripts.{noted_in}
 use Rattle.pmg_journal.specs.declared.journal.Journal.{Journal}
 use Rattle.pmg_journal.specs.declared.transcript.Transcript.{Transcript}
 use Rattle.pmg_audit.specs.Dues.{Due, due_event, last_puts, dues_of, takes_all}
-use Rattle.pmg_audit.specs.Moves.{Put, caller_of}
+use Rattle.pmg_audit.specs.Moves.{Put}
 use Rattle.pmg_audit.specs.Runs.{TellsOf, journal_at}
 
 -- no two transcripts are of one process

@@ -1,53 +1,64 @@
 -- How far an order of the moves of several nodes has come.
-use Rattle.std.specs.Prelude.{◌≡◌, ℕ, suc, ◌+◌, ◌<◌, List, [], ◌∷◌, ◌++◌, length, Option, Some, None, slice_get, slice_index, take, drop}
+use Rattle.std.specs.Prelude.{◌≡◌, ℕ, suc, ◌+◌, List, [], ◌∷◌, ◌++◌, length, set}
 use Rattle.std.specs.List.{flat_map}
 use Rattle.pmg_value.specs.Lists.{In, Each}
 use Rattle.pmg_node_model.specs.declared.sent.Sent.{Sent}
 use Rattle.pmg_group_model.specs.Worlds.{Event, Happened}
 use Rattle.pmg_audit.specs.Moves.{Move}
-use Rattle.pmg_audit.specs.Orders.{AreTold, IsEventOf, MayGo, TellsMoves, moves_at, rests}
+use Rattle.pmg_audit.specs.Orders.{AreTold, IsEventOf, MayGo, TellsMoves, moves_at}
 
--- the move may come
-abbrev pub MayGoNext : ℕ → Option Move → List Sent → Type 0
-MayGoNext n None frames = ⊥
-MayGoNext n (Some m) frames = MayGo n m.act frames
+-- the first of these moves of the node may come
+abbrev pub MayGoNext : ℕ → List Move → List Sent → Type 0
+MayGoNext n [] frames = ⊥
+MayGoNext n (m ∷ ms) frames = MayGo n m.act frames
 
--- so many of each node are done; the node's next one may come
-abbrev pub IsReady : List (List Move) → List ℕ → List Sent → ℕ → Type 0
-IsReady all done frames n = MayGoNext n (slice_get (moves_at all n) (slice_index done n)) frames
+-- so much is left of each node; the node's next move may come
+abbrev pub IsReady : List (List Move) → List Sent → ℕ → Type 0
+IsReady rest frames n = MayGoNext n (moves_at rest n) frames
 
--- the event is the node's next one, and may come
-pub record IsNext (all : List (List Move)) (done : List ℕ) (frames : List Sent) (n : ℕ) (e : Event) : Type 0 where
+-- the event is the node's next move, and may come
+pub record IsNext (rest : List (List Move)) (frames : List Sent) (n : ℕ) (e : Event) : Type 0 where
   pub next : Move
-  pub there : slice_get (moves_at all n) (slice_index done n) ≡ Some next
+  pub later : List Move
+  pub there : moves_at rest n ≡ next ∷ later
   pub event : IsEventOf frames n next.act e
 
--- the node has moves that are not done
-abbrev pub IsOpen : List (List Move) → List ℕ → ℕ → Type 0
-IsOpen all done n = slice_index done n < length (moves_at all n)
+-- the move is the node's next one, and without it so much is left
+pub record IsTaken (rest : List (List Move)) (n : ℕ) (m : Move) (rest2 : List (List Move)) : Type 0 where
+  pub later : List Move
+  pub there : moves_at rest n ≡ m ∷ later
+  pub left : rest2 ≡ set rest n later
+
+-- the node has moves that are left
+abbrev pub IsOpen : List (List Move) → ℕ → Type 0
+IsOpen rest n = moves_at rest n ≡ [] → ⊥
 
 -- the frames that these moves sent
 abbrev pub frames_of : List Move → List Sent
 frames_of ms = flat_map (λ (m : Move). m.frames) ms
 
--- So many moves of each node are done, and these frames were sent and these events told by then. What is told of an order of the others
--- is told of all of them, after these.
-pub record IsOrderGoing (all : List (List Move)) (done : List ℕ) (frames : List Sent) (told : List Happened) : Type 0 where
-  pub count : length done ≡ length all
-  pub covered : (n : ℕ) → Each (λ s. In s frames) (frames_of (take (slice_index done n) (moves_at all n)))
-  pub sound : (order : List ℕ) (others : List Happened) (final : List Sent) → TellsMoves (rests all done) frames order others final → AreTold all (told ++ others) final
+-- the moves before what is left of them are done: these frames were sent
+pub record AreDone (frames : List Sent) (ms rest : List Move) : Type 0 where
+  pub done : List Move
+  pub cut : ms ≡ done ++ rest
+  pub sent : Each (λ s. In s frames) (frames_of done)
+
+-- So much is left of all moves, and these frames were sent and these events told by then. What is told of an order of what is left is
+-- told of all of them, after these.
+pub record IsOrderGoing (all rest : List (List Move)) (frames : List Sent) (told : List Happened) : Type 0 where
+  pub covered : (n : ℕ) → AreDone frames (moves_at all n) (moves_at rest n)
+  pub sound : (order : List ℕ) (others : List Happened) (final : List Sent) → TellsMoves (moves_at rest) frames order others final → AreTold all (told ++ others) final
 
 -- how many moves these are, with the frames that they sent
 abbrev pub weight : List Move → ℕ
 weight [] = 0
 weight (m ∷ ms) = suc (length m.frames) + weight ms
 
--- the weight of those that are not done
-abbrev pub left : List (List Move) → List ℕ → ℕ
-left [] ds = 0
-left (ms ∷ all) [] = 0
-left (ms ∷ all) (d ∷ ds) = weight (drop d ms) + left all ds
+-- the weight of all that is left
+abbrev pub left : List (List Move) → ℕ
+left [] = 0
+left (ms ∷ rest) = weight ms + left rest
 
--- some node has moves that are not done
-abbrev pub SomeOpen : List (List Move) → List ℕ → Type 0
-SomeOpen all done = (n : ℕ) × IsOpen all done n
+-- some node has moves that are left
+abbrev pub SomeOpen : List (List Move) → Type 0
+SomeOpen rest = (n : ℕ) × IsOpen rest n

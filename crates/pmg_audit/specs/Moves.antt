@@ -10,6 +10,7 @@ use Rattle.pmg_node_model.specs.Acts.{Act, Reply, Request, free_cause}
 use Rattle.pmg_node_model.specs.declared.sent.Sent.{Sent}
 use Rattle.pmg_node.specs.Servers.{Server, after, reply_to, sent_by}
 use Rattle.pmg_group_model.specs.Worlds.{is_own}
+use Rattle.pmg_journal.specs.Calling.{caller_of}
 use Rattle.pmg_journal.specs.Replays.{Happening, happening}
 use Rattle.pmg_journal.specs.Transcripts.{commit_by}
 
@@ -31,23 +32,6 @@ abbrev pub event_in : Move → Happening
 event_in m = happening m.act m.reply
 
 -- ---- who calls
-
--- the process that makes the request; none where sets are changed, or other nodes are asked again
-abbrev pub caller_in : Request → Option Proc
-caller_in (Request.enter p list collect) = Some p
-caller_in (Request.leave p) = Some p
-caller_in (Request.ask p get mode) = Some p
-caller_in (Request.take p) = Some p
-caller_in (Request.terminate p) = Some p
-caller_in (Request.define name list) = None
-caller_in (Request.delete name) = None
-caller_in Request.nudge = None
-
--- the process that calls; none calls where a frame is delivered, sets are changed, or others are asked again
-abbrev pub caller_of : Act → Option Proc
-caller_of (Act.request r) = caller_in r
-caller_of (Act.commit p b) = Some p
-caller_of (Act.deliver frame) = None
 
 -- the process is the one that calls
 abbrev pub is_caller : Proc → Option Proc → Bool

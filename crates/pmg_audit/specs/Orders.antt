@@ -1,12 +1,13 @@
 -- An order of what happened at several nodes, and what is told in it.
-use Rattle.std.specs.Prelude.{◌≡◌, ℕ, ◌==◌, List, [], ◌∷◌, ◌++◌, map, Option, Some, None, slice_get, slice_index, drop, if◌then◌else◌}
+use Rattle.std.specs.Prelude.{◌≡◌, ℕ, ◌==◌, List, [], ◌∷◌, ◌++◌, map, Option, Some, None, slice_get, if◌then◌else◌}
 use Rattle.pmg_value.specs.Lists.{In}
 use Rattle.pmg_value.specs.declared.process.Proc.{Proc}
 use Rattle.pmg_node_model.specs.Acts.{Act, Reply}
 use Rattle.pmg_node_model.specs.Sending.{sent}
 use Rattle.pmg_node_model.specs.declared.sent.Sent.{Sent}
 use Rattle.pmg_group_model.specs.Worlds.{Event, Happened, numbered}
-use Rattle.pmg_audit.specs.Moves.{Move, Put, caller_of}
+use Rattle.pmg_journal.specs.Calling.{caller_of}
+use Rattle.pmg_audit.specs.Moves.{Move, Put}
 
 -- a frame is delivered after it was sent to the node
 abbrev pub MayGo : ℕ → Act → List Sent → Type 0
@@ -31,10 +32,6 @@ list_or_none (Some ms) = ms
 -- the moves of a node
 abbrev pub moves_at : List (List Move) → ℕ → List Move
 moves_at all n = list_or_none (slice_get all n)
-
--- what is left of them, where so many of each node were done
-abbrev pub rests : List (List Move) → List ℕ → ℕ → List Move
-rests all done n = drop (slice_index done n) (moves_at all n)
 
 -- ---- what is told
 

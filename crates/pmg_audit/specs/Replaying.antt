@@ -1,5 +1,5 @@
 -- Journals in code that are replayed, as far as that has come.
-use Rattle.std.specs.Prelude.{◌≡◌, ◌⊎◌, ℕ, ◌+◌, ◌<◌, true, false, List, [], ◌∷◌, ◌++◌, length, map, Some, slice_get, slice_index_or, if◌then◌else◌}
+use Rattle.std.specs.Prelude.{◌≡◌, ◌⊎◌, ℕ, ◌+◌, ◌<◌, Bool, true, false, List, [], ◌∷◌, ◌++◌, length, map, Some, slice_get, slice_index_or, if◌then◌else◌}
 use Rattle.std.specs.List.{filter}
 use Rattle.pmg_value.specs.Lists.{Each}
 use Rattle.pmg_value.specs.declared.process.Proc.{Proc}
@@ -9,18 +9,22 @@ use Rattle.pmg_jobinfo.specs.Jobs.{Jobs, home_of}
 use Rattle.pmg_node_model.specs.declared.sent.Sent.{Sent}
 use Rattle.pmg_node.specs.Opening.{new_server}
 use Rattle.pmg_node.specs.Servers.{Server, after, reply_to, sent_by}
+use Rattle.pmg_journal.specs.Calling.{caller_of, free_at}
 use Rattle.pmg_journal.specs.Journals.{happened_in}
-use Rattle.pmg_journal.specs.Replays.{Happening, IsReplay}
+use Rattle.pmg_journal.specs.Records.{IsStep}
+use Rattle.pmg_journal.specs.Replays.{Happening, IsReplay, after_all}
 use Rattle.pmg_journal.specs.declared.journal.Journal.{Journal}
+use Rattle.pmg_journal.specs.declared.record.Step.{Step}
 use Rattle.pmg_journal.specs.declared.transcript.Transcript.{Transcript}
 use Rattle.pmg_audit.specs.Agreeing.{AreAgreed, AreSaid, IsSaidBy, MayPut}
 use Rattle.pmg_audit.specs.Codes.{all_of, lane_of, audited_put, rest_of}
 use Rattle.pmg_audit.specs.Dues.{Due, made_due, due_in}
 use Rattle.pmg_audit.specs.Faults.{AreStale}
-use Rattle.pmg_audit.specs.Moves.{Move, Put, PutsAt, Replays, caller_of, server_after, event_in, is_by}
+use Rattle.pmg_audit.specs.Moves.{Move, Put, PutsAt, Replays, server_after, event_in, is_by}
 use Rattle.pmg_audit.specs.Orders.{moves_at}
 use Rattle.pmg_audit.specs.Runs.{AreEnds, AreMoves, ArePut, journal_at}
 use Rattle.pmg_audit.specs.Taking.{SomeLeft, lasts_of}
+use Rattle.pmg_audit.specs.declared.moves.Lane.{Lane}
 use Rattle.pmg_audit.specs.declared.moves.Saying.{Saying}
 use Rattle.pmg_audit.specs.declared.replaying.Replay.{Replay}
 use Rattle.pmg_audit.specs.declared.replaying.AllReplayed.{AllReplayed}
@@ -47,12 +51,22 @@ pub record TakesPuts (s : Server) (old : List Saying) (e : Happening) (puts : Li
   pub rests : (p : Proc) → rest_of old p ≡ (if is_by p e.act then made_due puts e.act e.reply ∷ rest_of new p else rest_of new p)
   pub lasts : lasts_of new ≡ lasts_of old
 
+-- the server is the node of that index in the group, and who calls, if someone does, is free there, or not
+pub record IsWhere (jobs : Jobs) (node : ℕ) (free : Bool) (e : Happening) (s : Server) : Type 0 where
+  pub group : s.jobs ≡ jobs
+  pub index : s.id ≡ node
+  pub free_is : free ≡ free_at s (caller_of e.act)
+
 -- what the event adds to the replay
 pub record IsAdded (r : Replay) (puts : List Put) (e : Happening) (r2 : Replay) : Type 0 where
   pub node : r2.node ≡ after r.node e.act
   pub lane : lane_of r2.lane ≡ lane_of r.lane ++ move_by r.node puts e ∷ []
   pub fresh : r2.is_stale ≡ false → (r.is_stale ≡ false) × (reply_to r.node e.act ≡ e.reply)
   pub stale : r2.is_stale ≡ true → (r.is_stale ≡ true) ⊎ (reply_to r.node e.act ≡ e.reply → ⊥)
+
+-- a replay that came so far, and in which no reply was another
+abbrev pub replay_at : Server → Lane → Replay
+replay_at s lane = record { node = s; lane = lane; is_stale = false }
 
 -- these events are replayed, from the server on, and what is said of them is told
 pub record IsReplayed (s : Server) (old : List Saying) (es : List Happening) (r : Replay) (new : List Saying) : Type 0 where
@@ -71,6 +85,10 @@ pub record IsJournalOf (js : List Journal) (n place : ℕ) : Type 0 where
   pub there : slice_get js place ≡ Some journal
   pub node : journal.node ≡ n
   pub tells : happened_in journal ≡ journal_at js n
+
+-- all journals are of nodes of that group
+abbrev pub AreOf : Jobs → List Journal → Type 0
+AreOf jobs js = Each (λ (j : Journal). j.registry ≡ jobs) js
 
 -- of each other node they tell the same
 abbrev pub KeepsOthers : List Journal → ℕ → List Journal → Type 0
@@ -115,9 +133,26 @@ Continues r ss e r2 ss2 = (s : Server) (first : List Saying) (es : List Happenin
 unfoldable pub HaveHappened : Server → List Saying → List Happening → Replay → List Saying → Type 0
 HaveHappened s first es r ss = IsReplayed s first es r ss
 
+-- these events are replayed, as their replies and steps tell
+unfoldable pub HaveFollowed : Server → List Saying → List Happening → Lane → List Saying → Type 0
+HaveFollowed s first es lane ss = HaveHappened s first es (replay_at (after_all s es) lane) ss
+
+-- wherever the event is replied so and has this step, it is replayed
+unfoldable pub IsFollowed : Jobs → ℕ → Lane → List Saying → Happening → Step → Lane → List Saying → Type 0
+IsFollowed jobs node lane ss e x lane2 ss2 = (s : Server) → s.jobs ≡ jobs → s.id ≡ node → IsStep s e x → reply_to s e.act ≡ e.reply
+    → Continues (replay_at s lane) ss e (replay_at (after s e.act) lane2) ss2
+
+-- at that node, these are the puts before the event, as its caller says
+unfoldable pub TakesPutsAt : Jobs → ℕ → Bool → List Saying → Happening → List Put → List Saying → Type 0
+TakesPutsAt jobs node free old e puts new = (s : Server) → IsWhere jobs node free e s → TakesPuts s old e puts new
+
 -- the event is not the next one that is said
 unfoldable pub IsUnsaid : Server → List Saying → Happening → Type 0
 IsUnsaid s ss e = IsSaidBy s (rest_of ss) (caller_of e.act) e → ⊥
+
+-- nor is it at that node
+unfoldable pub IsUnsaidAt : Jobs → ℕ → Bool → List Saying → Happening → Type 0
+IsUnsaidAt jobs node free ss e = (s : Server) → IsWhere jobs node free e s → IsUnsaid s ss e
 
 -- some of the events is not said
 unfoldable pub AllUnsaid : Server → List Saying → List Happening → Type 0

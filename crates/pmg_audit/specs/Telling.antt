@@ -2,22 +2,23 @@
 use Rattle.std.specs.Prelude.{ℕ, ◌+◌, ◌<◌, List, length, map}
 use Rattle.pmg_value.specs.Lists.{In}
 use Rattle.pmg_world.specs.Telling.{happened_of}
+use Rattle.pmg_audit.specs.Codes.{all_of}
 use Rattle.pmg_audit.specs.Going.{IsOrderGoing, IsReady, left}
 use Rattle.pmg_audit.specs.Moves.{Move}
 use Rattle.pmg_audit.specs.Sends.{AreNumbered}
 use Rattle.pmg_audit.specs.declared.ordering.Making.{Making}
 
--- So far the order has come. Each node whose next move may come is awake.
+-- So far the order of all moves has come. Each node whose next move may come is awake.
 pub record IsMaking (all : List (List Move)) (m : Making) : Type 0 where
-  pub going : IsOrderGoing all m.done.items m.sends.frames.items (map happened_of m.told.items)
+  pub going : IsOrderGoing all (all_of m.lanes.items) m.sends.frames.items (map happened_of m.told.items)
   pub numbered : AreNumbered m.sends
-  pub awake : (n : ℕ) → IsReady all m.done.items m.sends.frames.items n → In n m.awake.items
+  pub awake : (n : ℕ) → IsReady (all_of m.lanes.items) m.sends.frames.items n → In n m.awake.items
 
--- how much is left to do: what the moves weigh that are not done, and how many nodes are to be looked at
-abbrev pub work : List (List Move) → Making → ℕ
-work all m = left all m.done.items + length m.awake.items
+-- how much is left to do: what the moves weigh that are left, and how many nodes are to be looked at
+abbrev pub work : Making → ℕ
+work m = left (all_of m.lanes.items) + length m.awake.items
 
--- the order is made on, and less is left to do
-pub record OrderGoesOn (all : List (List Move)) (m m2 : Making) : Type 0 where
-  pub making : IsMaking all m2
-  pub less : work all m2 < work all m
+-- of whatever moves the order is made, it is made on, and less is left to do
+pub record OrderGoesOn (m m2 : Making) : Type 0 where
+  pub making : (all : List (List Move)) → IsMaking all m → IsMaking all m2
+  pub less : work m2 < work m

@@ -4,7 +4,7 @@ ghost use Rattle.pmg_value.specs.Lists.{Each, In};
 ghost use Rattle.pmg_jobinfo.specs.Jobs.{AreJobs};
 ghost use Rattle.pmg_journal.specs.declared.journal.Journal.{Journal as JournalOf};
 ghost use Rattle.pmg_audit.specs.Faults.{IsFault, IsReplayFault};
-ghost use Rattle.pmg_audit.specs.Replaying.{AreWhole, EndsFor, EndsWell};
+ghost use Rattle.pmg_audit.specs.Replaying.{AreOf, AreWhole, EndsFor, EndsWell};
 ghost use Rattle.pmg_audit.specs.Runs.{AreJournals, HasJournal, IsOneRun, account_by};
 ghost use Rattle.pmg_world.specs.Accounts.{IsAccountLawful, IsRun};
 
@@ -13,17 +13,18 @@ use crate::replaying::{AllReplayed, replay_all};
 use crate::run::Run;
 use crate::sayings::{Sayings, sayings_of};
 use pmg_jobinfo::Registry;
-use pmg_journal::{Journal, Transcript};
+use pmg_journal::{Record, Transcript};
+use pmg_node::Node;
 use pmg_value::{NodeId, Refusal};
 use std::alloc::Global;
 
 /// Whether one of the journals is the node's.
-fn has_journal(journals: &[Journal], node: NodeId) -> bool
+fn has_journal(journals: &[Record], node: NodeId) -> bool
     ensures some { result ≡ true → HasJournal journals.now node }
     ensures none { result ≡ false → Each (λ (j : JournalOf). j.node ≡ node → ⊥) journals.now }
 {
     for journal in journals {
-        if journal.node == node {
+        if journal.node() == node {
             return true;
         }
     }
@@ -31,12 +32,12 @@ fn has_journal(journals: &[Journal], node: NodeId) -> bool
 }
 
 /// Whether each journal is of a node of that group.
-fn are_of(journals: &[Journal], registry: &Registry) -> bool
+fn are_of(journals: &[Record], registry: &Registry) -> bool
     ensures all { result ≡ true → Each (λ (j : JournalOf). j.registry ≡ registry.now) journals.now }
     ensures other { result ≡ false → Each (λ (j : JournalOf). j.registry ≡ registry.now) journals.now → ⊥ }
 {
     for journal in journals {
-        if !journal.registry.is_same(registry) {
+        if !journal.registry().is_same(registry) {
             return false;
         }
     }
@@ -44,7 +45,7 @@ fn are_of(journals: &[Journal], registry: &Registry) -> bool
 }
 
 /// Whether each node of the group has a journal.
-fn have_all(journals: &[Journal], registry: &Registry) -> bool
+fn have_all(journals: &[Record], registry: &Registry) -> bool
     ensures all { result ≡ true → (n : ℕ) → n < length registry.now.nodes → HasJournal journals.now n }
     ensures other { result ≡ false → ((n : ℕ) → n < length registry.now.nodes → HasJournal journals.now n) → ⊥ }
     ensures jobs { AreJobs registry.now }
@@ -58,7 +59,7 @@ fn have_all(journals: &[Journal], registry: &Registry) -> bool
 }
 
 /// Whether there is one journal for each node of that group.
-fn are_journals(journals: &[Journal], registry: &Registry) -> bool
+fn are_journals(journals: &[Record], registry: &Registry) -> bool
     ensures are { result ≡ true → AreJournals registry.now journals.now }
     ensures other { result ≡ false → AreJournals registry.now journals.now → ⊥ }
     ensures jobs { AreJobs registry.now }
@@ -76,10 +77,11 @@ fn are_journals(journals: &[Journal], registry: &Registry) -> bool
 fn replays_with(
     alloc: Global,
     registry: &Registry,
-    journals: &mut [Journal],
+    journals: &mut [Record],
     mut sayings: Sayings,
 ) -> Result<AllReplayed, Refusal>
-    requires { AreJobs registry.now }
+    requires jobs { AreJobs registry.now }
+    requires of { AreOf registry.now journals.old }
     ensures ok { IfOk result (λ all. EndsWell registry.now journals.old sayings all) }
     ensures refused { IfErr result (λ e. EndsFor registry.now journals.old sayings e) }
 {
@@ -90,10 +92,11 @@ fn replays_with(
 fn replays_among(
     alloc: Global,
     registry: &Registry,
-    journals: &mut [Journal],
+    journals: &mut [Record],
     sayings: &mut Sayings,
 ) -> Result<AllReplayed, Refusal>
-    requires { AreJobs registry.now }
+    requires jobs { AreJobs registry.now }
+    requires of { AreOf registry.now journals.old }
     ensures ok { IfOk result (λ all. EndsWell registry.now journals.old sayings.old all) }
     ensures refused { IfErr result (λ e. EndsFor registry.now journals.old sayings.old e) }
 {
@@ -119,10 +122,11 @@ fn replays_among(
 fn replays_of(
     alloc: Global,
     registry: &Registry,
-    journals: &mut [Journal],
+    journals: &mut [Record],
     transcripts: &[Transcript],
 ) -> Result<AllReplayed, Refusal>
-    requires { AreJobs registry.now }
+    requires jobs { AreJobs registry.now }
+    requires of { AreOf registry.now journals.old }
     ensures ok { IfOk result (λ all. AreWhole registry.now journals.old transcripts.now all) }
     ensures refused { IfErr result (λ e. IsReplayFault registry.now journals.old transcripts.now e) }
 {
@@ -132,16 +136,16 @@ fn replays_of(
     }
 }
 
-/// The run of these replays in that order.
-fn run_with(registry: Registry, all: AllReplayed, order: Order) -> Run
-    requires run { IsRun (account_by registry all.nodes.items order.sent.items order.told.items) }
-    requires lawful { IsAccountLawful (account_by registry all.nodes.items order.sent.items order.told.items) }
-    ensures { result ≡ account_by registry all.nodes.items order.sent.items order.told.items }
+/// The run that leaves these nodes, in that order.
+fn run_with(registry: Registry, nodes: Vec<Node>, order: Order) -> Run
+    requires run { IsRun (account_by registry nodes.items order.sent.items order.told.items) }
+    requires lawful { IsAccountLawful (account_by registry nodes.items order.sent.items order.told.items) }
+    ensures { result ≡ account_by registry nodes.items order.sent.items order.told.items }
 {
     let (sent, told) = order.into_parts();
     Run {
         registry,
-        nodes: all.into_nodes(),
+        nodes,
         sent,
         told,
     }
@@ -151,7 +155,7 @@ fn run_with(registry: Registry, all: AllReplayed, order: Order) -> Run
 fn run_of(
     alloc: Global,
     registry: Registry,
-    journals: &mut [Journal],
+    journals: &mut [Record],
     transcripts: &[Transcript],
 ) -> Result<Run, Refusal>
     requires jobs { AreJobs registry }
@@ -160,10 +164,13 @@ fn run_of(
     ensures refused { IfErr result (λ e. IsFault journals.old transcripts.now e) }
 {
     match replays_of(alloc, &registry, journals, transcripts) {
-        Ok(all) => match make_order(alloc, &all.lanes) {
-            Ok(order) => Ok(run_with(registry, all, order)),
-            Err(refusal) => Err(refusal),
-        },
+        Ok(all) => {
+            let (nodes, lanes) = all.into_parts();
+            match make_order(alloc, lanes) {
+                Ok(order) => Ok(run_with(registry, nodes, order)),
+                Err(refusal) => Err(refusal),
+            }
+        }
         Err(refusal) => Err(refusal),
     }
 }
@@ -171,7 +178,7 @@ fn run_of(
 /// The one run that the journals and the transcripts tell; the events are taken out of the journals.
 fn audit_among(
     alloc: Global,
-    journals: &mut [Journal],
+    journals: &mut [Record],
     transcripts: &[Transcript],
 ) -> Result<Run, Refusal>
     ensures ok { IfOk result (λ run. IsOneRun journals.old transcripts.now run) }
@@ -179,24 +186,25 @@ fn audit_among(
 {
     match journals.first() {
         Some(first) => {
-            if !are_journals(journals, &first.registry) {
+            let group = first.registry();
+            if !are_journals(journals, group) {
                 return Err(Refusal::BadParam);
             }
-            let registry = first.registry.copy()?;
+            let registry = group.copy()?;
             run_of(alloc, registry, journals, transcripts)
         }
         None => Err(Refusal::BadParam),
     }
 }
 
-/// The one run that the journals and the transcripts tell. Refused as BadParam where there is not one journal for each node of one
-/// group; as Collision where two transcripts are of one process, a process that made an event has none, one differs from its
+/// The one run that the journals and the transcripts tell. A journal with evidence of who ran its node is not replayed, since it is a
+/// replay; any other is. Refused as BadParam where there is not one journal for each node of one group; as Collision where two transcripts are of one process, a process that made an event has none, one differs from its
 /// process's events in its home's journal, or a put is said to be done that its client's cache refuses, or by a process that was in a
 /// call or had ended; as Stale where the reply of an event is another on replay; as Unordered where no order delivers each frame after
 /// it was sent; each only where none of those before it is there.
 pub fn audit(
     alloc: Global,
-    mut journals: Vec<Journal>,
+    mut journals: Vec<Record>,
     transcripts: &[Transcript],
 ) -> Result<Run, Refusal>
     ensures ok { IfOk result (λ run. IsOneRun journals.items transcripts.now run) }

@@ -1,11 +1,15 @@
 //! What happened at a node, event after event, and what its clients say of it.
 ghost use Rattle.std.specs.Prelude.{◌≡◌};
+ghost use Rattle.pmg_world.specs.Telling.{event_of};
+ghost use Rattle.pmg_audit.specs.Codes.{audited_put};
+ghost use Rattle.pmg_audit.specs.Orders.{put_told};
 
 use pmg_journal::Event;
 use pmg_node::{Act, Reply};
 use pmg_node_model::Sent;
 use pmg_scope::Scope;
 use pmg_value::{Key, Proc, Refusal, Value};
+use pmg_world::Event as WorldEvent;
 use std::collections::VecDeque;
 
 /// A put that is done.
@@ -21,6 +25,16 @@ pub(crate) struct Put {
 impl Drop for Put {
     fn drop(self) {
         let Self { scope, key, value } = self;
+    }
+}
+
+impl Put {
+    /// The put as an event, of that process.
+    pub(crate) fn into_event(self, proc: Proc) -> WorldEvent
+        ensures { event_of result ≡ (put_told proc (audited_put self)).event }
+    {
+        let Put { scope, key, value } = self;
+        WorldEvent::Put(proc, scope, key, value)
     }
 }
 
@@ -94,10 +108,26 @@ impl Drop for Move {
     }
 }
 
-/// The events of one journal, replayed.
+impl Move {
+    /// The puts, the event and the frames.
+    pub(crate) fn into_parts(self) -> (Vec<Put>, Event, VecDeque<Sent>)
+        ensures puts { result.0 ≡ self.puts }
+        ensures event { result.1 ≡ self.event }
+        ensures frames { result.2 ≡ self.frames }
+    {
+        let Move {
+            puts,
+            event,
+            frames,
+        } = self;
+        (puts, event, frames)
+    }
+}
+
+/// The events of one journal, replayed, or what is left of them.
 pub(crate) struct Lane {
     /// The events, in their order.
-    pub(crate) moves: Vec<Move>,
+    pub(crate) moves: VecDeque<Move>,
 }
 
 impl Drop for Lane {

@@ -1,23 +1,22 @@
 //! An order of what happened at several nodes, in which each frame is delivered after it was sent.
-ghost use Rattle.std.specs.Prelude.{◌≡◌, ◌↔◌, ◌⊎◌, ◌<◌, ◌++◌, ℕ, true, false, [], ◌∷◌, length, map, slice_get, Some, IfOk, IfErr, IfSome, IsNone, OnOk};
+ghost use Rattle.std.specs.Prelude.{◌≡◌, ◌⊎◌, ◌<◌, ◌++◌, ℕ, true, false, [], ◌∷◌, map, slice_get, Some, IfOk, IfErr, IfSome, IsNone, OnOk};
 ghost use Rattle.std.specs.Option.{option_map};
 ghost use Rattle.pmg_value.specs.Lists.{In};
 ghost use Rattle.pmg_value.specs.declared.refusal.Refusal.TheVariants as refusals;
-ghost use Rattle.pmg_node.specs.Acting.{act_of, reply_as};
-ghost use Rattle.pmg_node.specs.Servers.{reply_in};
+ghost use Rattle.pmg_node.specs.Acting.{act_of};
 ghost use Rattle.pmg_node_model.specs.declared.sent.Sent.{Sent as SentFrame};
 ghost use Rattle.pmg_world.specs.Telling.{event_of, happened_of};
-ghost use Rattle.pmg_audit.specs.Codes.{all_of, audited_put};
-ghost use Rattle.pmg_audit.specs.Moves.{caller_of};
-ghost use Rattle.pmg_audit.specs.Orders.{AreTold, IsEventOf, MayGo, NoOrder, event_happened, put_told, puts_told, rests};
-ghost use Rattle.pmg_audit.specs.Going.{IsNext, IsReady, SomeOpen};
+ghost use Rattle.pmg_journal.specs.Calling.{caller_of};
+ghost use Rattle.pmg_audit.specs.Codes.{all_of, audited_put, move_in};
+ghost use Rattle.pmg_audit.specs.Orders.{AreTold, IsEventOf, MayGo, NoOrder, event_happened, moves_at, puts_told};
+ghost use Rattle.pmg_audit.specs.Going.{IsNext, IsReady, IsTaken, SomeOpen};
 ghost use Rattle.pmg_audit.specs.Sends.{AreNumbered};
 ghost use Rattle.pmg_audit.specs.Telling.{OrderGoesOn, IsMaking};
 
 use crate::moves::{Lane, Move, Put};
 use crate::sends::Sends;
-use pmg_journal::copy_of_answer;
-use pmg_node::{Act, Reply, Request};
+use pmg_journal::caller_of;
+use pmg_node::{Act, Reply};
 use pmg_node_model::Sent;
 use pmg_value::{Proc, Refusal};
 use pmg_world::{Event, LoggedEvent};
@@ -51,11 +50,11 @@ impl Order {
 
 /// An order that is made, event after event.
 struct Making {
-    /// How many events of each node are told.
-    done: Vec<usize>,
-    /// What is told of them.
+    /// What is left to be told of each node.
+    lanes: Vec<Lane>,
+    /// What is told.
     told: Vec<LoggedEvent>,
-    /// What they sent.
+    /// What was sent.
     sends: Sends,
     /// The nodes to be looked at: no other has an event that may come next.
     awake: VecDeque<usize>,
@@ -64,7 +63,7 @@ struct Making {
 impl Drop for Making {
     fn drop(self) {
         let Self {
-            done,
+            lanes,
             told,
             sends,
             awake,
@@ -91,58 +90,37 @@ fn event_for(sends: &Sends, node: u64, act: &Act) -> Result<Option<Event>, Alloc
 }
 
 /// The next act of the node as an event, if it may come next.
-fn next_at(
-    lanes: &[Lane],
-    done: &[usize],
-    sends: &Sends,
-    node: usize,
-) -> Result<Option<Event>, AllocError>
-    requires done { length done.now ≡ length lanes.now }
-    requires numbered { AreNumbered sends.now }
+fn next_at(lanes: &[Lane], sends: &Sends, node: usize) -> Result<Option<Event>, AllocError>
+    requires { AreNumbered sends.now }
     ensures some { IfOk result (λ o. IfSome o (λ e.
-        IsNext (all_of lanes.now) done.now sends.now.frames.items node (event_of e))) }
+        IsNext (all_of lanes.now) sends.now.frames.items node (event_of e))) }
     ensures none { IfOk result (λ o. IsNone o
-        → IsReady (all_of lanes.now) done.now sends.now.frames.items node → ⊥) }
+        → IsReady (all_of lanes.now) sends.now.frames.items node → ⊥) }
 {
     if node >= lanes.len() {
         return Ok(None);
     }
-    match lanes[node].moves.get(done[node]) {
+    match lanes[node].moves.front() {
         Some(next) => event_for(sends, node as u64, &next.event.act),
         None => Ok(None),
     }
 }
 
-/// The process that calls, if one does.
-pub(crate) fn caller_of(act: &Act) -> Option<&Proc>
-    ensures { option_map (λ p. p.now) result ≡ caller_of (act_of act.now) }
+/// The puts of the process that calls are told, each done; none, where no process calls.
+fn tell_puts(
+    told: &mut Vec<LoggedEvent>,
+    caller: Option<&Proc>,
+    puts: Vec<Put>,
+) -> Result<(), AllocError>
+    ensures { OnOk result (map happened_of told.new.items ≡ map happened_of told.old.items
+        ++ puts_told (option_map (λ p. p.now) caller.entry) (map audited_put puts.items)) }
 {
-    match act {
-        Act::Commit(proc, _) => Some(proc),
-        Act::Deliver(_) => None,
-        Act::Request(request) => match request {
-            Request::Enter(proc, _, _) => Some(proc),
-            Request::Leave(proc) => Some(proc),
-            Request::Ask(_, proc, _, _) => Some(proc),
-            Request::Take(proc) => Some(proc),
-            Request::Terminate(proc) => Some(proc),
-            Request::Define(_, _) => None,
-            Request::Delete(_) => None,
-            Request::Nudge => None,
-        },
-    }
-}
-
-/// The puts of the process are told, each done.
-fn tell_puts(told: &mut Vec<LoggedEvent>, proc: &Proc, puts: &[Put]) -> Result<(), AllocError>
-    ensures { OnOk result (map happened_of told.new.items
-        ≡ map happened_of told.old.items ++ map (put_told proc.now) (map audited_put puts.now)) }
-{
+    let Some(proc) = caller else {
+        return Ok(());
+    };
     for put in puts {
-        let key = put.key.copy()?;
-        let event = Event::Put(proc.copy()?, put.scope, key, put.value.copy()?);
         told.push(LoggedEvent {
-            event,
+            event: put.into_event(proc.copy()?),
             answer: Ok(Reply::Done),
         })?;
     }
@@ -160,81 +138,114 @@ fn all_awake(alloc: Global, count: usize) -> Result<VecDeque<usize>, AllocError>
     Ok(awake)
 }
 
+/// How many events are told of the moves: each one's, and the puts before it.
+fn count_told(moves: &VecDeque<Move>) -> usize {
+    let mut count = 0usize;
+    for next in moves.iter() {
+        count = count.saturating_add(next.puts.len()).saturating_add(1);
+    }
+    count
+}
+
+/// How many events are told of all nodes.
+fn count_all_told(lanes: &[Lane]) -> usize {
+    let mut count = 0usize;
+    for lane in lanes {
+        count = count.saturating_add(count_told(&lane.moves));
+    }
+    count
+}
+
 impl Making {
     /// Nothing is told yet.
-    fn new(alloc: Global, lanes: &[Lane]) -> Result<Making, AllocError>
-        ensures { IfOk result (IsMaking (all_of lanes.now)) }
+    fn new(alloc: Global, lanes: Vec<Lane>) -> Result<Making, AllocError>
+        ensures { IfOk result (IsMaking (all_of lanes.items)) }
     {
+        let told = Vec::with_capacity(alloc, count_all_told(&lanes))?;
+        let awake = all_awake(alloc, lanes.len())?;
         Ok(Making {
-            done: vec![in alloc; 0usize; lanes.len()]?,
-            told: Vec::new(alloc),
+            lanes,
+            told,
             sends: Sends::new(alloc),
-            awake: all_awake(alloc, lanes.len())?,
+            awake,
         })
     }
 
     /// The frames are sent after the others, and who they are sent to is looked at.
-    fn send_all(&mut self, frames: &VecDeque<Sent>) -> Result<(), AllocError>
+    fn send_all(&mut self, frames: VecDeque<Sent>) -> Result<(), AllocError>
         requires { AreNumbered self.old.sends }
+        ensures lanes { self.new.lanes ≡ self.old.lanes }
         ensures told { self.new.told ≡ self.old.told }
-        ensures done { self.new.done ≡ self.old.done }
         ensures sent { OnOk result (self.new.sends.frames.items
-            ≡ self.old.sends.frames.items ++ frames.now.items) }
+            ≡ self.old.sends.frames.items ++ frames.items) }
         ensures numbered { OnOk result (AreNumbered self.new.sends) }
         ensures awake { OnOk result (self.new.awake.items
-            ≡ self.old.awake.items ++ map (λ (s : SentFrame). s.to) frames.now.items) }
+            ≡ self.old.awake.items ++ map (λ (s : SentFrame). s.to) frames.items) }
     {
-        for index in 0..frames.len() {
-            let frame = &frames[index];
-            self.sends.push(frame)?;
-            self.awake.push_back(frame.to.index() as usize)?;
+        for sent in frames {
+            self.awake.push_back(sent.to.index() as usize)?;
+            self.sends.push(sent)?;
         }
         Ok(())
     }
 
-    /// The event is told, after the puts before it, and its frames are sent.
-    fn tell(&mut self, next: &Move, event: Event) -> Result<(), AllocError>
+    /// The move is told as the event, after the puts before it, and its frames are sent.
+    fn tell(&mut self, next: Move, event: Event) -> Result<(), AllocError>
         requires { AreNumbered self.old.sends }
+        ensures lanes { self.new.lanes ≡ self.old.lanes }
         ensures told { OnOk result (map happened_of self.new.told.items
             ≡ map happened_of self.old.told.items
-            ++ (puts_told (caller_of (act_of next.now.event.act)) (map audited_put next.now.puts.items)
-            ++ event_happened (event_of event) (reply_in reply_as next.now.event.answer) ∷ [])) }
-        ensures done { self.new.done ≡ self.old.done }
+            ++ (puts_told (caller_of (move_in next).act) (move_in next).puts
+            ++ event_happened (event_of event) (move_in next).reply ∷ [])) }
         ensures sent { OnOk result (self.new.sends.frames.items
-            ≡ self.old.sends.frames.items ++ next.now.frames.items) }
+            ≡ self.old.sends.frames.items ++ (move_in next).frames) }
         ensures numbered { OnOk result (AreNumbered self.new.sends) }
         ensures awake { OnOk result (self.new.awake.items
-            ≡ self.old.awake.items ++ map (λ (s : SentFrame). s.to) next.now.frames.items) }
+            ≡ self.old.awake.items ++ map (λ (s : SentFrame). s.to) (move_in next).frames) }
     {
-        if let Some(proc) = caller_of(&next.event.act) {
-            tell_puts(&mut self.told, proc, &next.puts)?;
-        }
-        let answer = copy_of_answer(&next.event.answer)?;
+        let (puts, happened, frames) = next.into_parts();
+        tell_puts(&mut self.told, caller_of(&happened.act), puts)?;
+        let answer = happened.into_answer();
         self.told.push(LoggedEvent { event, answer })?;
-        self.send_all(&next.frames)
+        self.send_all(frames)
+    }
+
+    /// Takes the next move of the node out of what is left.
+    fn take_next(&mut self, node: usize) -> Option<Move>
+        ensures some { IfSome result (λ x. IsTaken (all_of self.old.lanes.items) node (move_in x) (all_of self.new.lanes.items)) }
+        ensures none { IsNone result → moves_at (all_of self.old.lanes.items) node ≡ [] }
+        ensures told { self.new.told ≡ self.old.told }
+        ensures sends { self.new.sends ≡ self.old.sends }
+        ensures awake { self.new.awake ≡ self.old.awake }
+    {
+        if node >= self.lanes.len() {
+            return None;
+        }
+        self.lanes[node].moves.pop_front()
     }
 
     /// The node's next event is told.
-    fn go_on(&mut self, lanes: &[Lane], node: usize, event: Event) -> Result<(), AllocError>
-        requires making { IsMaking (all_of lanes.now) self.old }
+    fn go_on(&mut self, node: usize, event: Event) -> Result<(), AllocError>
+        requires numbered { AreNumbered self.old.sends }
         requires awake { In node self.old.awake.items }
-        requires next { IsNext (all_of lanes.now) self.old.done.items self.old.sends.frames.items node (event_of event) }
-        ensures { OnOk result (OrderGoesOn (all_of lanes.now) self.old self.new) }
+        requires next { IsNext (all_of self.old.lanes.items) self.old.sends.frames.items node (event_of event) }
+        ensures { OnOk result (OrderGoesOn self.old self.new) }
     {
-        let place = self.done[node];
-        self.tell(&lanes[node].moves[place], event)?;
-        self.done[node] = place + 1;
+        let Some(next) = self.take_next(node) else {
+            unreachable!();
+        };
+        self.tell(next, event)?;
         Ok(())
     }
 
     /// The first node that is to be looked at goes on, or is not looked at again until something is sent to it.
-    fn look(&mut self, lanes: &[Lane], node: usize) -> Result<(), AllocError>
-        requires making { IsMaking (all_of lanes.now) self.old }
+    fn look(&mut self, node: usize) -> Result<(), AllocError>
+        requires numbered { AreNumbered self.old.sends }
         requires first { slice_get self.old.awake.items 0 ≡ Some node }
-        ensures { OnOk result (OrderGoesOn (all_of lanes.now) self.old self.new) }
+        ensures { OnOk result (OrderGoesOn self.old self.new) }
     {
-        match next_at(lanes, &self.done, &self.sends, node)? {
-            Some(event) => self.go_on(lanes, node, event)?,
+        match next_at(&self.lanes, &self.sends, node)? {
+            Some(event) => self.go_on(node, event)?,
             None => {
                 self.awake.pop_front();
             }
@@ -248,7 +259,7 @@ impl Making {
         ensures told { result.told ≡ self.told }
     {
         let Making {
-            done: _,
+            lanes: _,
             told,
             sends,
             awake: _,
@@ -260,14 +271,13 @@ impl Making {
     }
 }
 
-/// Whether a node has events that are not told.
-fn is_open(lanes: &[Lane], done: &[usize]) -> bool
-    requires { length done.now ≡ length lanes.now }
-    ensures open { result ≡ true → SomeOpen (all_of lanes.now) done.now }
-    ensures closed { result ≡ false → (n : ℕ) → rests (all_of lanes.now) done.now n ≡ [] }
+/// Whether something is left of a node.
+fn is_open(lanes: &[Lane]) -> bool
+    ensures open { result ≡ true → SomeOpen (all_of lanes.now) }
+    ensures closed { result ≡ false → (n : ℕ) → moves_at (all_of lanes.now) n ≡ [] }
 {
-    for node in 0..lanes.len() {
-        if done[node] < lanes[node].moves.len() {
+    for lane in lanes {
+        if !lane.moves.is_empty() {
             return true;
         }
     }
@@ -275,25 +285,25 @@ fn is_open(lanes: &[Lane], done: &[usize]) -> bool
 }
 
 /// All events are told that may be.
-fn make_all(alloc: Global, lanes: &[Lane]) -> Result<Making, AllocError>
-    ensures making { IfOk result (IsMaking (all_of lanes.now)) }
+fn make_all(alloc: Global, lanes: Vec<Lane>) -> Result<Making, AllocError>
+    ensures making { IfOk result (IsMaking (all_of lanes.items)) }
     ensures ended { IfOk result (λ m. m.awake.items ≡ []) }
 {
     let mut making = Making::new(alloc, lanes)?;
     while let Some(&node) = making.awake.front() {
-        making.look(lanes, node)?;
+        making.look(node)?;
     }
     Ok(making)
 }
 
 /// An order of all events. Refused as Unordered where no order delivers each frame after it was sent.
-pub(crate) fn make_order(alloc: Global, lanes: &[Lane]) -> Result<Order, Refusal>
-    ensures ok { IfOk result (λ o. AreTold (all_of lanes.now) (map happened_of o.told.items) o.sent.items) }
-    ensures unordered { IfErr result (λ e. e ≡ refusals.Unordered → NoOrder (all_of lanes.now)) }
+pub(crate) fn make_order(alloc: Global, lanes: Vec<Lane>) -> Result<Order, Refusal>
+    ensures ok { IfOk result (λ o. AreTold (all_of lanes.items) (map happened_of o.told.items) o.sent.items) }
+    ensures unordered { IfErr result (λ e. e ≡ refusals.Unordered → NoOrder (all_of lanes.items)) }
     ensures few { IfErr result (λ e. (e ≡ refusals.NoMemory) ⊎ (e ≡ refusals.Unordered)) }
 {
     let making = make_all(alloc, lanes)?;
-    if is_open(lanes, &making.done) {
+    if is_open(&making.lanes) {
         return Err(Refusal::Unordered);
     }
     Ok(making.into_order())

@@ -1,30 +1,30 @@
 //! Journals that are replayed, each on a node of its own.
 ghost use Rattle.std.specs.Prelude.{◌≡◌, ◌≢◌, ◌<◌, ◌+◌, true, false, [], ◌∷◌, ◌++◌, length, map, List, Some, IfOk, IfErr, IfSome, IsNone, IsTrue, OnOk, ◌↔◌, ◌⊎◌};
-ghost use Rattle.pmg_jobinfo.specs.Jobs.{AreJobs};
+ghost use Rattle.pmg_jobinfo.specs.Jobs.{AreJobs, Jobs};
 ghost use Rattle.pmg_node.specs.Acting.{act_of, reply_as};
 ghost use Rattle.pmg_node.specs.Opening.{new_server};
 ghost use Rattle.pmg_node.specs.Servers.{after, reply_in, reply_to, sent_by};
+ghost use Rattle.pmg_journal.specs.Calling.{caller_of};
 ghost use Rattle.pmg_journal.specs.Journals.{happening_of};
+ghost use Rattle.pmg_journal.specs.Records.{AreSteps, IsEvidence};
+ghost use Rattle.pmg_journal.specs.Replays.{IsReplay};
 ghost use Rattle.pmg_journal.specs.declared.journal.Journal.{Journal as JournalOf};
-ghost use Rattle.pmg_audit.specs.Agreeing.{IsSaidBy, MayPut};
-ghost use Rattle.pmg_audit.specs.Codes.{lane_of, move_in, audited_put, rest_of, audited_due};
+ghost use Rattle.pmg_audit.specs.Agreeing.{MayPut};
+ghost use Rattle.pmg_audit.specs.Codes.{lane_of, move_in, audited_put, audited_due};
 ghost use Rattle.pmg_audit.specs.Dues.{due_event};
-ghost use Rattle.pmg_audit.specs.Moves.{caller_of};
-ghost use Rattle.pmg_audit.specs.Replaying.{AddsNode, AllMayPut, AllUnsaid, AreReplayed, Continues, HaveHappened, IsAdded, IsJournalOf, IsUnsaid, KeepsOthers, RefusesFor, SomeUnsaid, TakesPuts, sent_more, unsent_move};
+ghost use Rattle.pmg_audit.specs.Replaying.{AddsNode, AllMayPut, AllUnsaid, AreOf, AreReplayed, Continues, HaveFollowed, HaveHappened, IsAdded, IsFollowed, IsJournalOf, IsUnsaid, IsUnsaidAt, KeepsOthers, RefusesFor, SomeUnsaid, TakesPutsAt, sent_more, unsent_move};
 ghost use Rattle.pmg_audit.specs.Runs.{journal_at};
 
 use crate::moves::{Due, Lane, Move, Put, Saying};
-use crate::ordering::caller_of;
 use crate::same::{is_same_act, is_same_answer};
 use crate::sayings::Sayings;
 use pmg_jobinfo::Registry;
-use pmg_journal::{Event, Journal};
+use pmg_journal::{Event, Evidence, Record, Step, caller_of, is_free_at};
 use pmg_node::{Act, Node, Reply};
 use pmg_node_model::Sent;
 use pmg_value::{NodeId, Proc, Refusal};
 use std::alloc::{AllocError, Global};
 use std::collections::VecDeque;
-use std::mem;
 
 /// A journal that is replayed: its node, what happened at it so far, and whether some answer was another.
 pub(crate) struct Replay {
@@ -50,20 +50,34 @@ fn is_said(due: &Due, event: &Event) -> bool
     is_same_act(&due.act, &event.act) && is_same_answer(&due.answer, &event.answer)
 }
 
-/// Whether the process may have put that: it put nothing, or it is in no call, and has not ended.
+/// Whether a process may have put that: it put nothing, or it is free, which is to be in no call, and not ended.
+fn may_put_if(is_free: bool, puts: &[Put]) -> bool
+    ensures { IsTrue result ↔ ((map audited_put puts.now ≡ []) ⊎ (is_free ≡ true)) }
+{
+    puts.is_empty() || is_free
+}
+
+/// Whether the process may have put that at the node.
 fn may_put(node: &Node, proc: &Proc, puts: &[Put]) -> bool
     ensures { IsTrue result ↔ MayPut node.now proc.now (map audited_put puts.now) }
 {
     puts.is_empty() || node.check_free(proc).is_ok()
 }
 
-/// The puts of the process before the event, if it says that it made the event, and is at home at the node.
-fn puts_of(sayings: &mut Sayings, node: &Node, proc: &Proc, event: &Event) -> Option<Vec<Put>>
+/// The puts of the process before the event, if it says that it made the event, and is at home at the node. It is free there, or not.
+fn puts_of(
+    sayings: &mut Sayings,
+    registry: &Registry,
+    node: NodeId,
+    is_free: bool,
+    proc: &Proc,
+    event: &Event,
+) -> Option<Vec<Put>>
     requires { caller_of (act_of event.now.act) ≡ Some proc.now }
-    ensures some { IfSome result (λ puts. TakesPuts node.now sayings.old (happening_of event.now) (map audited_put puts.items) sayings.new) }
-    ensures none { IsNone result → IsSaidBy node.now (rest_of sayings.old) (caller_of (act_of event.now.act)) (happening_of event.now) → ⊥ }
+    ensures some { IfSome result (λ puts. TakesPutsAt registry.now node is_free sayings.old (happening_of event.now) (map audited_put puts.items) sayings.new) }
+    ensures none { IsNone result → IsUnsaidAt registry.now node is_free sayings.old (happening_of event.now) }
 {
-    if !node.registry().is_home(node.id(), proc) {
+    if !registry.is_home(node, proc) {
         return None;
     }
     let Some(due) = sayings.take_due(proc) else {
@@ -72,19 +86,26 @@ fn puts_of(sayings: &mut Sayings, node: &Node, proc: &Proc, event: &Event) -> Op
     if !is_said(&due, event) {
         return None;
     }
-    if !may_put(node, proc, &due.puts) {
+    if !may_put_if(is_free, &due.puts) {
         return None;
     }
     Some(due.into_puts())
 }
 
-/// The puts before the event: those of its caller.
-fn puts_before(alloc: Global, sayings: &mut Sayings, node: &Node, event: &Event) -> Option<Vec<Put>>
-    ensures some { IfSome result (λ puts. TakesPuts node.now sayings.old (happening_of event.now) (map audited_put puts.items) sayings.new) }
-    ensures none { IsNone result → IsSaidBy node.now (rest_of sayings.old) (caller_of (act_of event.now.act)) (happening_of event.now) → ⊥ }
+/// The puts before the event: those of its caller, who is free at the node, or not.
+fn puts_before(
+    alloc: Global,
+    sayings: &mut Sayings,
+    registry: &Registry,
+    node: NodeId,
+    is_free: bool,
+    event: &Event,
+) -> Option<Vec<Put>>
+    ensures some { IfSome result (λ puts. TakesPutsAt registry.now node is_free sayings.old (happening_of event.now) (map audited_put puts.items) sayings.new) }
+    ensures none { IsNone result → IsUnsaidAt registry.now node is_free sayings.old (happening_of event.now) }
 {
     match caller_of(&event.act) {
-        Some(proc) => puts_of(sayings, node, proc, event),
+        Some(proc) => puts_of(sayings, registry, node, is_free, proc, event),
         None => Some(Vec::new(alloc)),
     }
 }
@@ -136,7 +157,7 @@ impl Replay {
         if !happens_so(&mut self.node, &mut next)? {
             self.is_stale = true;
         }
-        self.lane.moves.push(next)?;
+        self.lane.moves.push_back(next)?;
         Ok(())
     }
 
@@ -150,7 +171,9 @@ impl Replay {
         ensures ok { OnOk result (Continues self.old sayings.old (happening_of event) self.new sayings.new) }
         ensures refused { IfErr result (λ e. RefusesFor e (IsUnsaid self.old.node sayings.old (happening_of event))) }
     {
-        match puts_before(alloc, sayings, &self.node, &event) {
+        let is_free = is_free_at(&self.node, &event.act);
+        let node = self.node.id();
+        match puts_before(alloc, sayings, self.node.registry(), node, is_free, &event) {
             Some(puts) => {
                 self.happen(alloc, puts, event)?;
                 Ok(())
@@ -210,7 +233,7 @@ fn replay_journal(
     let mut replay = Replay {
         node: server,
         lane: Lane {
-            moves: Vec::new(alloc),
+            moves: VecDeque::new(alloc),
         },
         is_stale: false,
     };
@@ -220,27 +243,138 @@ fn replay_journal(
     Ok(replay)
 }
 
+/// The event happened, as its step tells. Refused as Collision where a client says otherwise.
+fn follow_next(
+    lane: &mut Lane,
+    alloc: Global,
+    registry: &Registry,
+    node: NodeId,
+    event: Event,
+    step: Step,
+    sayings: &mut Sayings,
+) -> Result<(), Refusal>
+    ensures ok { OnOk result (IsFollowed registry.now node lane.old sayings.old (happening_of event) step lane.new sayings.new) }
+    ensures refused { IfErr result (λ e. RefusesFor e (IsUnsaidAt registry.now node step.is_free sayings.old (happening_of event))) }
+{
+    match puts_before(alloc, sayings, registry, node, step.is_free, &event) {
+        Some(puts) => {
+            let frames = step.into_sent();
+            lane.moves.push_back(Move {
+                puts,
+                event,
+                frames,
+            })?;
+            Ok(())
+        }
+        None => Err(Refusal::Collision),
+    }
+}
+
+/// The events happened, as their steps tell. Refused as Collision where a client says otherwise.
+fn follow_all(
+    lane: &mut Lane,
+    alloc: Global,
+    registry: &Registry,
+    node: NodeId,
+    events: Vec<Event>,
+    steps: Vec<Step>,
+    sayings: &mut Sayings,
+) -> Result<(), Refusal>
+    requires replay { IsReplay (new_server registry.now node) (map happening_of events.items) }
+    requires steps { AreSteps (new_server registry.now node) (map happening_of events.items) steps.items }
+    requires empty { lane_of lane.old ≡ [] }
+    ensures ok { OnOk result (HaveFollowed (new_server registry.now node) sayings.old (map happening_of events.items) lane.new sayings.new) }
+    ensures refused { IfErr result (λ e. RefusesFor e (AllUnsaid (new_server registry.now node) sayings.old (map happening_of events.items))) }
+{
+    let mut steps = steps.into_iter();
+    for event in events {
+        let Some(step) = steps.next() else {
+            unreachable!();
+        };
+        if let Err(refusal) = follow_next(lane, alloc, registry, node, event, step, sayings) {
+            return Err(refusal);
+        }
+    }
+    Ok(())
+}
+
+/// The events happened, as the evidence tells, and left the node as it is there. Refused as Collision where a client says otherwise.
+fn follow_journal(
+    alloc: Global,
+    registry: &Registry,
+    node: NodeId,
+    events: Vec<Event>,
+    evidence: Evidence,
+    sayings: &mut Sayings,
+) -> Result<Replay, Refusal>
+    requires { IsEvidence (new_server registry.now node) (map happening_of events.items) evidence }
+    ensures ok { IfOk result (λ r. HaveHappened (new_server registry.now node) sayings.old (map happening_of events.items) r sayings.new) }
+    ensures refused { IfErr result (λ e. RefusesFor e (AllUnsaid (new_server registry.now node) sayings.old (map happening_of events.items))) }
+{
+    let moves = VecDeque::with_capacity(alloc, events.len())?;
+    let mut lane = Lane { moves };
+    let Evidence {
+        steps,
+        node: server,
+    } = evidence;
+    if let Err(refusal) = follow_all(&mut lane, alloc, registry, node, events, steps, sayings) {
+        return Err(refusal);
+    }
+    Ok(Replay {
+        node: server,
+        lane,
+        is_stale: false,
+    })
+}
+
+/// The events happened: as their evidence tells, or, where there is none, again, on a new node. Refused as Collision where a client
+/// says otherwise.
+fn retell_journal(
+    alloc: Global,
+    registry: &Registry,
+    node: NodeId,
+    events: Vec<Event>,
+    evidence: Option<Evidence>,
+    sayings: &mut Sayings,
+) -> Result<Replay, Refusal>
+    requires node { node < length registry.now.nodes }
+    requires evidence { IfSome evidence (IsEvidence (new_server registry.now node) (map happening_of events.items)) }
+    ensures ok { IfOk result (λ r. HaveHappened (new_server registry.now node) sayings.old (map happening_of events.items) r sayings.new) }
+    ensures refused { IfErr result (λ e. RefusesFor e (AllUnsaid (new_server registry.now node) sayings.old (map happening_of events.items))) }
+{
+    match evidence {
+        Some(evidence) => follow_journal(alloc, registry, node, events, evidence, sayings),
+        None => replay_journal(alloc, registry, node, events, sayings),
+    }
+}
+
 /// Which of the journals is the node's: the first of them.
-fn place_of(journals: &[Journal], node: NodeId) -> Option<usize>
+fn place_of(journals: &[Record], node: NodeId) -> Option<usize>
     ensures some { IfSome result (λ k. IsJournalOf journals.now node k) }
     ensures none { IsNone result → journal_at journals.now node ≡ [] }
 {
     for index in 0..journals.len() {
-        if journals[index].node == node {
+        if journals[index].node() == node {
             return Some(index);
         }
     }
     None
 }
 
-/// The events of the node's journal, which is left without any.
-fn take_events(alloc: Global, journals: &mut [Journal], node: NodeId) -> Vec<Event>
-    ensures events { map happening_of result.items ≡ journal_at journals.old node }
+/// The events of the node's journal, which is left without any, and the evidence of it, if there is some.
+fn take_events(
+    alloc: Global,
+    journals: &mut [Record],
+    node: NodeId,
+) -> (Vec<Event>, Option<Evidence>)
+    ensures events { map happening_of result.0.items ≡ journal_at journals.old node }
+    ensures evidence { (jobs : Jobs) → AreOf jobs journals.old → IfSome result.1 (IsEvidence (new_server jobs node) (journal_at journals.old node)) }
+    ensures of { (jobs : Jobs) → AreOf jobs journals.old → AreOf jobs journals.new }
     ensures others { KeepsOthers journals.old node journals.new }
 {
     match place_of(journals, node) {
-        Some(place) => mem::replace(&mut journals[place].events, Vec::new(alloc)),
-        None => Vec::new(alloc),
+        Some(place) => journals[place].take_events(),
+        None => (Vec::new(alloc), None),
     }
 }
 
@@ -294,35 +428,38 @@ impl AllReplayed {
         true
     }
 
-    /// The nodes.
-    pub(crate) fn into_nodes(self) -> Vec<Node>
-        ensures { result ≡ self.nodes }
+    /// The nodes, and what happened at each.
+    pub(crate) fn into_parts(self) -> (Vec<Node>, Vec<Lane>)
+        ensures nodes { result.0 ≡ self.nodes }
+        ensures lanes { result.1 ≡ self.lanes }
     {
         let AllReplayed {
             nodes,
-            lanes: _,
+            lanes,
             is_stale: _,
         } = self;
-        nodes
+        (nodes, lanes)
     }
 
-    /// The next node's journal, as it is replayed. Its events are taken out of it.
+    /// The next node's journal, as it is replayed, or as its evidence tells. Its events are taken out of it.
     fn replay_next(
         &mut self,
         alloc: Global,
         registry: &Registry,
         node: NodeId,
-        journals: &mut [Journal],
+        journals: &mut [Record],
         sayings: &mut Sayings,
     ) -> Result<(), Refusal>
-        requires { node < length registry.now.nodes }
+        requires node { node < length registry.now.nodes }
+        requires of { AreOf registry.now journals.old }
         ensures ok { OnOk result ((js : List JournalOf) → journal_at js node ≡ journal_at journals.old node
             → AddsNode registry.now js node self.old sayings.old self.new sayings.new) }
         ensures refused { IfErr result (λ e. RefusesFor e (AllUnsaid (new_server registry.now node) sayings.old (journal_at journals.old node))) }
+        ensures of { AreOf registry.now journals.new }
         ensures others { KeepsOthers journals.old node journals.new }
     {
-        let events = take_events(alloc, journals, node);
-        match replay_journal(alloc, registry, node, events, sayings) {
+        let (events, evidence) = take_events(alloc, journals, node);
+        match retell_journal(alloc, registry, node, events, evidence, sayings) {
             Ok(replay) => {
                 self.add(replay)?;
                 Ok(())
@@ -332,13 +469,15 @@ impl AllReplayed {
     }
 }
 
-/// The journal of each node is replayed, and its events are taken out of it. Refused as Collision where a client says otherwise.
+/// The journal of each node is replayed, where there is no evidence of it, and its events are taken out of it. Refused as Collision
+/// where a client says otherwise.
 pub(crate) fn replay_all(
     alloc: Global,
     registry: &Registry,
-    journals: &mut [Journal],
+    journals: &mut [Record],
     sayings: &mut Sayings,
 ) -> Result<AllReplayed, Refusal>
+    requires { AreOf registry.now journals.old }
     ensures ok { IfOk result (λ all. AreReplayed registry.now journals.old sayings.old (length registry.now.nodes) all sayings.new) }
     ensures refused { IfErr result (λ e. RefusesFor e (SomeUnsaid registry.now journals.old sayings.old)) }
 {

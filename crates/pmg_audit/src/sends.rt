@@ -107,15 +107,14 @@ impl Sends {
     }
 
     /// The frame is sent after the others.
-    pub(crate) fn push(&mut self, sent: &Sent) -> Result<(), AllocError>
+    pub(crate) fn push(&mut self, sent: Sent) -> Result<(), AllocError>
         requires { AreNumbered self.old }
         ensures frames { OnOk result (self.new.frames.items
-            ≡ self.old.frames.items ++ sent.now ∷ []) }
+            ≡ self.old.frames.items ++ sent ∷ []) }
         ensures numbered { OnOk result (AreNumbered self.new) }
     {
-        let frame = sent.frame.copy()?;
-        self.keep_place(sent.to.index() as u64, &frame)?;
-        self.frames.push(Sent { to: sent.to, frame })?;
+        self.keep_place(sent.to.index() as u64, &sent.frame)?;
+        self.frames.push(sent)?;
         Ok(())
     }
 

@@ -39,6 +39,7 @@ use Rattle.pmg_desk.proofs.exclusive.Exclusive.TheSendSync as Lonely
 use Rattle.counted_slot.proofs.Counted.TheSendSync as Counted
 use Rattle.pmg_journal.specs.contracts.journal.Event as Event
 use Rattle.pmg_journal.specs.contracts.journal.Journal as Journal
+use Rattle.pmg_journal.specs.contracts.record.Step as Step
 use Rattle.pmg_desk.specs.contracts.state.State as State
 use Rattle.pmg_desk.specs.contracts.lock.LockState as LockState
 use Rattle.pmg_desk.specs.contracts.lock.Desk as Desk
@@ -154,8 +155,11 @@ event_send = search (act_part, reply_send, owners, sendable) depth 80 fits 40000
 journal_part : IsSend (Journal.the_field).row
 journal_part = search (registry_send, event_send, owners, sendable) depth 40 fits 20000
 
+step_send : IsSend Step.the_row
+step_send = search (sent_send, owners, sendable) depth 40 fits 20000
+
 state_send : IsSend State.the_row
-state_send = search (node_send, journal_part, sent_send, publisher_send, viewer_send, owners, sendable) depth 60 fits 40000
+state_send = search (node_send, journal_part, step_send, sent_send, publisher_send, viewer_send, owners, sendable) depth 60 fits 40000
 
 told_sync : IsSync Version.the_row
 told_sync = search (history_sync, sendable) depth 40

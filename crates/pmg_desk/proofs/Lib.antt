@@ -14,3 +14,4 @@ mod BoardLemmas
 mod SeenLemmas
 mod ClientLemmas
 mod WaitLemmas
+mod ComeLemmas

@@ -17,9 +17,9 @@ use Rattle.pmg_node.specs.Servers.{Server}
 use Rattle.pmg_desk.specs.declared.state.Parts.{Parts}
 use Rattle.pmg_journal.specs.Journals.{start_of, happened_in}
 use Rattle.pmg_journal.specs.Replays.{Happening, sent_over}
+use Rattle.pmg_journal.proofs.ReplayLemmas.{id_same, jobs_same}
 use Rattle.pmg_desk.specs.States.{IsStateKept, IsLive}
 use Rattle.pmg_desk.specs.Telling.{WasFarDump, WasSent}
-use Rattle.pmg_desk.proofs.ReadyLemmas.{id_same, jobs_same}
 
 -- the answer to a caller who is judged
 abbrev pub judged : Proc → Server → Result (Unit {0}) Refusal

@@ -1,5 +1,5 @@
 -- States and the places of their desks.
-use Rattle.std.proofs.Common.{◌≡◌, ℕ, List, subst, ◌∙◌}
+use Rattle.std.proofs.Common.{◌≡◌, ℕ, List, refl, subst, ◌∙◌}
 use Rattle.pmg_value.specs.declared.process.Proc.{Proc}
 use Rattle.pmg_jobinfo.specs.Jobs.{Jobs}
 use Rattle.pmg_node_model.specs.Kept.{IsOwn}
@@ -11,6 +11,13 @@ use Rattle.pmg_desk.specs.States.{IsAt}
 use Rattle.pmg_desk.specs.Telling.{IsToldOf, WasFarDump, WasSent}
 use Rattle.pmg_desk.specs.declared.lock.Place.{Place}
 use Rattle.pmg_desk.specs.declared.state.Parts.{Parts}
+
+-- the same desk, further on
+pub at_same : (s : Parts) → IsAt s s
+at_same s = record { node = refl; registry = refl; book = refl; taken = refl }
+
+pub at_on : (s t u : Parts) → IsAt s t → IsAt t u → IsAt s u
+at_on s t u at on = record { node = on.node ∙ at.node; registry = on.registry ∙ at.registry; book = on.book ∙ at.book; taken = on.taken ∙ at.taken }
 
 -- a state lies where it lay, whatever happens
 pub lies_on : (p : Place) (s t : Parts) → IsAt s t → LiesAt p s → LiesAt p t

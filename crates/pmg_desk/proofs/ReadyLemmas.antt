@@ -31,7 +31,7 @@ use Rattle.pmg_desk.specs.Publishing.{published_by, published_over}
 use Rattle.pmg_desk.specs.Telling.{IsToldOf, WasReadyAt}
 use Rattle.pmg_desk.proofs.OpenLemmas.{over_first}
 use Rattle.pmg_desk.proofs.BoardLemmas.{publishes_what_is_held}
-use Rattle.pmg_journal.proofs.ReplayLemmas.{last_is}
+use Rattle.pmg_journal.proofs.ReplayLemmas.{id_same, jobs_same, last_is}
 use Rattle.pmg_desk.proofs.SeenLemmas.{far_longer}
 use Rattle.pmg_publish.proofs.Prefixes.{prefix_trans}
 
@@ -92,14 +92,6 @@ published_first s (e ∷ one) two =
       rest.0,
       append_assoc (published_by s e.act) (published_over (after s e.act) one) rest.0 ∙ ap (λ (ps : List Publication). published_by s e.act ++ ps) rest.1,
     )
-
-pub jobs_same : (s : Server) (es : List Happening) → (after_all s es).jobs ≡ s.jobs
-jobs_same s [] = refl
-jobs_same s (e ∷ es) = jobs_same (after s e.act) es
-
-pub id_same : (s : Server) (es : List Happening) → (after_all s es).id ≡ s.id
-id_same s [] = refl
-id_same s (e ∷ es) = id_same (after s e.act) es
 
 replay_first : (s : Server) (one two : List Happening) → IsReplay s (one ++ two) → IsReplay s one
 replay_first s [] two replay = tt

@@ -17,7 +17,7 @@ use crate::client::{Client, copies_of};
 use crate::lock::{Desk, WaitFor};
 use crate::replies::{defined_by, delivery_by, nudged_by};
 use pmg_frame::Frame;
-use pmg_journal::{AnswerCopies, Journal, Transcript};
+use pmg_journal::{AnswerCopies, Journal, Record, Transcript};
 use pmg_node::{Act, Delivery, Reply, Request};
 use pmg_node_model::Sent;
 use pmg_publish::Viewer;
@@ -99,6 +99,20 @@ impl Desk {
         delivery_by(self.act(rt, Act::Deliver(frame)))
     }
 
+    /// Frames of other nodes arrive together: they are delivered one after the other under one lock, and who waits is woken once.
+    /// Refused as Closed and as NoMemory; then the first of them were delivered, and the others were not.
+    pub fn deliver_all<R: Wait>(&self, rt: &R, frames: Vec<Frame>) -> Result<(), Refusal>
+        ensures { IfErr result (λ e. (e ≡ refusals.NoMemory) ⊎ (e ≡ refusals.Closed)) }
+    {
+        let Some(mut held) = self.hold(rt, &WaitFor::Nothing) else {
+            return Err(Refusal::Closed);
+        };
+        let delivered = held.state.deliver_all(rt, frames);
+        held.wake();
+        held.put_back(rt);
+        delivered
+    }
+
     /// Other nodes are asked again for what is missing.
     pub fn nudge<R: Wait>(&self, rt: &R) -> Result<(), Refusal>
         ensures { IsEvent result → IsReplyTo (ModelAct.request ModelRequest.nudge) (reply_in (λ _. ModelReply.done) result) }
@@ -177,23 +191,32 @@ impl Desk {
         }
     }
 
-    /// Ends the desk: its journal.
-    pub fn into_journal<R: Wait>(self, rt: &R) -> Journal
+    /// Ends the desk: its journal, with what is known of it, for an audit.
+    pub fn into_record<R: Wait>(self, rt: &R) -> Record
         ensures node { result.node ≡ self.place.node }
         ensures registry { result.registry ≡ self.place.registry }
         ensures replay { IsJournal result }
     {
         let (place, state) = self.into_state();
         match state {
-            Some(state) => state.into_journal(rt),
+            Some(state) => state.into_record(rt),
             None => {
                 let events = Vec::new(place.registry.allocator());
-                Journal {
+                Record::new(Journal {
                     node: place.node,
                     registry: place.registry,
                     events,
-                }
+                })
             }
         }
+    }
+
+    /// Ends the desk: its journal.
+    pub fn into_journal<R: Wait>(self, rt: &R) -> Journal
+        ensures node { result.node ≡ self.place.node }
+        ensures registry { result.registry ≡ self.place.registry }
+        ensures replay { IsJournal result }
+    {
+        self.into_record(rt).into_journal()
     }
 }

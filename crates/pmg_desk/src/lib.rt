@@ -4,6 +4,7 @@
 mod client;
 mod desk;
 mod exclusive;
+mod happening;
 pub mod laws;
 mod lock;
 mod reading;

@@ -42,7 +42,7 @@ struct LockState {
 }
 
 /// One server as threads share it: its node, its journal and the publisher of its board, under one lock. It is not dropped: end it
-/// by `into_journal`.
+/// by `into_record`.
 pub struct Desk {
     pub(crate) place: Place,
     gate: Mutex<LockState>,
@@ -160,11 +160,11 @@ impl Desk {
         let (found, claim) = self.room.turn(0, 3);
         if found != 0 {
             claim.done();
-            state.into_journal(rt);
+            state.into_record(rt);
             return;
         }
         if let Some(other) = claim.put(Some(Exclusive::new(state)), 0) {
-            other.into_inner().into_journal(rt);
+            other.into_inner().into_record(rt);
         }
     }
 

@@ -1,6 +1,6 @@
 //! What lies under the lock of a desk.
-ghost use Rattle.std.specs.Prelude.{◌≡◌, ◌⊎◌, ◌+◌, ◌==◌, ◌∷◌, ◌++◌, [], not, true, is_none, is_some, length, IfOk, IfErr, IfSome, IsNone, IsOkUnless, IsSome, OnErr, OnOk, Some, None, Ok, Err};
-ghost use Rattle.std.specs.Option.{option_map, option_to_list};
+ghost use Rattle.std.specs.Prelude.{◌≡◌, ◌⊎◌, ◌+◌, ◌==◌, ◌∷◌, ◌++◌, [], not, true, is_none, length, IfOk, IfErr, IfSome, IsSome, OnErr, OnOk, Some, None, Ok, Err};
+ghost use Rattle.std.specs.Option.{option_map};
 ghost use mathlib.Core.List.{IsPrefix};
 ghost use Rattle.pmg_value.specs.declared.refusal.Refusal.TheVariants as refusals;
 ghost use Rattle.pmg_jobinfo.specs.Jobs.{is_node};
@@ -8,20 +8,20 @@ ghost use Rattle.pmg_store.specs.Dump.{dump};
 ghost use Rattle.pmg_value.specs.CheckOrder.{first_of};
 ghost use Rattle.pmg_node_model.specs.Acts.{caller_cause, status_of};
 ghost use Rattle.pmg_node_model.specs.Kept.{IsOwn};
-ghost use Rattle.pmg_node.specs.Acting.{act_of, joins_in, reply_as};
-ghost use Rattle.pmg_node.specs.Joining.{joins};
+ghost use Rattle.pmg_node.specs.Acting.{act_of, reply_as};
 ghost use Rattle.pmg_node.specs.Opening.{new_server};
 ghost use Rattle.pmg_node.specs.Replies.{status_in};
-ghost use Rattle.pmg_node.specs.Servers.{after, reply_in, reply_to, sent_by};
-ghost use Rattle.pmg_journal.specs.Journals.{IsEvent, IsJournal, happened, is_memory, start_of, happened_in};
-ghost use Rattle.pmg_desk.specs.Publishing.{published_of, published_over};
-ghost use Rattle.pmg_desk.specs.States.{StateGoesOn, IsAt, NothingHappened, Steps};
+ghost use Rattle.pmg_node.specs.Servers.{reply_in, reply_to};
+ghost use Rattle.pmg_journal.specs.Journals.{IsEvent, IsJournal, happened, start_of, happened_in};
+ghost use Rattle.pmg_desk.specs.Publishing.{published_over};
+ghost use Rattle.pmg_desk.specs.States.{HaveCome, IsAt, IsStateKept, NothingHappened, SomeHaveCome, Steps};
 ghost use Rattle.pmg_desk.specs.Telling.{IsToldOf, WasFarDump, WasSent};
 
-use pmg_commit::Piece;
+use crate::happening::happen_in;
+use pmg_frame::Frame;
 use pmg_jobinfo::Registry;
-use pmg_journal::{AnswerCopies, Journal, copy_of_act, copy_of_answer};
-use pmg_node::{Act, Joined, Node, Reply, Status};
+use pmg_journal::{AnswerCopies, Evidence, Journal, Record, Step, copy_of_act};
+use pmg_node::{Act, Node, Reply, Status};
 use pmg_node_model::Sent;
 use pmg_publish::{MAX_VIEWERS, Publisher, Version, Viewer, publisher};
 use pmg_store::Store;
@@ -38,6 +38,8 @@ pub struct Parts {
     pub node: Option<Node>,
     /// What happened at the node.
     pub journal: Journal,
+    /// What the node did at each event of the journal.
+    pub steps: Vec<Step>,
     /// The frames that were not taken yet.
     pub outbox: VecDeque<Sent>,
     /// How many frames were taken.
@@ -46,10 +48,12 @@ pub struct Parts {
     pub publisher: Publisher,
     /// The viewers that no client has yet.
     pub viewers: Vec<Viewer>,
+    /// The node as it was when the desk was closed.
+    pub last: Option<Node>,
 }
 
 /// A node with its journal and the publisher of its board, in a box, since each call takes it out of its room and puts it back. It
-/// is not dropped: end it by `into_journal`.
+/// is not dropped: end it by `into_record`.
 pub struct State {
     parts: Box<Parts>,
 }
@@ -66,150 +70,6 @@ impl Model for State {
     ghost view = { λ s. s.parts.value };
 
     ghost invariant = { λ s. IsStateKept s.parts.value };
-}
-
-/// What a node answers to an act, and what it joined.
-#[derive(Drop)]
-struct Done {
-    told: Result<Reply, Refusal>,
-    joined: Joined,
-}
-
-/// Whether an allocation failed.
-fn is_memory(refusal: Refusal) -> bool
-    ensures { result ≡ is_memory refusal }
-{
-    matches!(refusal, Refusal::NoMemory)
-}
-
-/// Does the act. What is sent goes after the frames of the outbox. Refused as NoMemory alone, and then nothing happened.
-fn done_by(node: &mut Node, act: &Act, outbox: &mut VecDeque<Sent>) -> Result<Done, Refusal>
-    ensures reply { IfOk result (λ d. reply_to node.old (act_of act.now) ≡ reply_in reply_as d.told) }
-    ensures kind { IfOk result (λ d. IsEvent d.told) }
-    ensures joined { IfOk result (λ d. joins_in d.joined ≡ joins node.old.jobs node.old.id node.old.holding (act_of act.now)) }
-    ensures done { OnOk result (node.new ≡ after node.old (act_of act.now)) }
-    ensures sent { OnOk result (outbox.new.items ≡ outbox.old.items ++ sent_by node.old (act_of act.now)) }
-    ensures err { OnErr result ((node.new ≡ node.old) × (outbox.new.items ≡ outbox.old.items)) }
-    ensures memory { IsOkUnless result refusals.NoMemory }
-{
-    match node.act_into(act, outbox) {
-        Ok(acted) => Ok(Done {
-            told: Ok(acted.reply),
-            joined: acted.joined,
-        }),
-        Err(refusal) if is_memory(refusal) => Err(Refusal::NoMemory),
-        Err(refusal) => Ok(Done {
-            told: Err(refusal),
-            joined: Joined {
-                near: None,
-                far: None,
-            },
-        }),
-    }
-}
-
-/// The piece as a list, which is empty where there is none.
-fn list_of(alloc: Global, piece: Option<Piece>) -> Result<Vec<Piece>, AllocError>
-    ensures { IfOk result (λ list. list.items ≡ option_to_list piece) }
-{
-    match piece {
-        Some(piece) => Ok(vec![in alloc; piece]?),
-        None => Ok(Vec::new(alloc)),
-    }
-}
-
-/// Publishes what was joined, if something was.
-fn publish<R: Wait>(
-    publisher: &mut Publisher,
-    rt: &R,
-    alloc: Global,
-    mut joined: Joined,
-) -> Result<(), Refusal>
-    ensures book { publisher.new.book ≡ publisher.old.book }
-    ensures ok { OnOk result (publisher.new.log ≡ publisher.old.log ++ published_of (joins_in joined)) }
-    ensures open { publisher.old.is_open ≡ true → OnOk result (publisher.new.is_open ≡ true) }
-    ensures err { OnErr result (publisher.new.log ≡ publisher.old.log) }
-{
-    if joined.near.is_none() && joined.far.is_none() {
-        return Ok(());
-    }
-    let near = list_of(alloc, joined.near.take())?;
-    let far = list_of(alloc, joined.far.take())?;
-    publisher.publish(rt, near, far)
-}
-
-/// Two copies of the answer.
-fn two_copies(
-    answer: &Result<Reply, Refusal>,
-) -> Result<(Result<Reply, Refusal>, Result<Reply, Refusal>), AllocError>
-    ensures first { IfOk result (λ copies. reply_in reply_as copies.0 ≡ reply_in reply_as answer.now) }
-    ensures second { IfOk result (λ copies. reply_in reply_as copies.1 ≡ reply_in reply_as answer.now) }
-{
-    Ok((copy_of_answer(answer)?, copy_of_answer(answer)?))
-}
-
-/// Copies the answer and publishes what was joined.
-fn publish_done<R: Wait>(
-    publisher: &mut Publisher,
-    rt: &R,
-    alloc: Global,
-    done: Done,
-) -> Option<(Result<Reply, Refusal>, AnswerCopies)>
-    ensures noted { IfSome result (λ r. reply_in reply_as r.0 ≡ reply_in reply_as done.told) }
-    ensures told { IfSome result (λ r. r.1.told ≡ done.told) }
-    ensures kept { IfSome result (λ r. reply_in reply_as r.1.kept ≡ reply_in reply_as done.told) }
-    ensures book { publisher.new.book ≡ publisher.old.book }
-    ensures some { IsSome result → publisher.new.log ≡ publisher.old.log ++ published_of (joins_in done.joined) }
-    ensures open { publisher.old.is_open ≡ true → IsSome result → publisher.new.is_open ≡ true }
-    ensures none { IsNone result → publisher.new.log ≡ publisher.old.log }
-{
-    let Done { told, joined } = done;
-    let Ok((noted, kept)) = two_copies(&told) else {
-        return None;
-    };
-    match publish(publisher, rt, alloc, joined) {
-        Ok(()) => Some((noted, AnswerCopies { told, kept })),
-        Err(_) => None,
-    }
-}
-
-/// Does the act of the node, if there is one, writes it into the journal with its answer, and publishes what it joined. An allocation
-/// that fails before the act changes nothing; after it the node is given up, and journal and published store stand.
-fn happen_in<R: Wait>(
-    node: &mut Option<Node>,
-    journal: &mut Journal,
-    outbox: &mut VecDeque<Sent>,
-    publisher: &mut Publisher,
-    rt: &R,
-    act: Act,
-) -> Result<AnswerCopies, Refusal>
-    ensures ok { IfOk result (λ t. StateGoesOn node.old act t.told (happened_in journal.old) outbox.old.items publisher.old.log
-        node.new (happened_in journal.new) outbox.new.items publisher.new.log) }
-    ensures open { publisher.old.is_open ≡ true → OnOk result (publisher.new.is_open ≡ true) }
-    ensures kind { IfOk result (λ t. IsEvent t.told) }
-    ensures copy { IfOk result (λ t. reply_in reply_as t.kept ≡ reply_in reply_as t.told) }
-    ensures events { OnErr result (happened_in journal.new ≡ happened_in journal.old) }
-    ensures log { OnErr result (publisher.new.log ≡ publisher.old.log) }
-    ensures memory { result ≡ Err refusals.NoMemory → (node.new ≡ None) ⊎ ((node.new ≡ node.old) × (outbox.new.items ≡ outbox.old.items) × (publisher.new ≡ publisher.old)) }
-    ensures shut { node.old ≡ None → result ≡ Err refusals.Closed }
-    ensures closed { result ≡ Err refusals.Closed → (node.old ≡ None) × (node.new ≡ node.old) × (outbox.new.items ≡ outbox.old.items) × (publisher.new ≡ publisher.old) }
-    ensures err { IfErr result (λ e. (e ≡ refusals.NoMemory) ⊎ (e ≡ refusals.Closed)) }
-    ensures index { journal.new.node ≡ journal.old.node }
-    ensures registry { journal.new.registry ≡ journal.old.registry }
-    ensures book { publisher.new.book ≡ publisher.old.book }
-{
-    let Some(whole) = node else {
-        return Err(Refusal::Closed);
-    };
-    journal.reserve()?;
-    let done = done_by(whole, &act, outbox)?;
-    let alloc = journal.registry.allocator();
-    let Some((noted, twice)) = publish_done(publisher, rt, alloc, done) else {
-        *node = None;
-        return Err(Refusal::NoMemory);
-    };
-    journal.note(act, noted);
-    Ok(twice)
 }
 
 /// All frames of the outbox, which has none then.
@@ -231,20 +91,26 @@ fn dump_of(alloc: Global, store: &Store) -> Result<Vec<u8>, AllocError>
     }
 }
 
-/// Ends the parts: the journal.
-fn journal_of<R: Wait>(parts: Parts, rt: &R) -> Journal
+/// Ends the parts: the journal, with evidence of it where there is a node, or was one when the desk was closed.
+fn record_of<R: Wait>(parts: Parts, rt: &R) -> Record
+    requires { IsStateKept parts }
     ensures { result ≡ parts.journal }
 {
     let Parts {
-        node: _,
+        node,
         journal,
+        steps,
         outbox: _,
         taken: _,
         publisher,
         viewers: _,
+        last,
     } = parts;
     publisher.close(rt);
-    journal
+    match node.or(last) {
+        Some(node) => Record::with_evidence(journal, Evidence { steps, node }),
+        None => Record::new(journal),
+    }
 }
 
 impl State {
@@ -272,15 +138,17 @@ impl State {
         let parts = Parts {
             node: Some(node),
             journal,
+            steps: Vec::new(alloc),
             outbox: VecDeque::new(alloc),
             taken: 0,
             publisher,
             viewers,
+            last: None,
         };
         match Box::new(alloc, parts) {
             Ok(parts) => Ok(State { parts }),
             Err(failed) => {
-                journal_of(failed.value, rt);
+                record_of(failed.value, rt);
                 Err(Refusal::NoMemory)
             }
         }
@@ -303,12 +171,14 @@ impl State {
         let Parts {
             node,
             journal,
+            steps,
             outbox,
             taken: _,
             publisher,
             viewers: _,
+            last: _,
         } = &mut *self.parts;
-        happen_in(node, journal, outbox, publisher, rt, act)
+        happen_in(node, journal, steps, outbox, publisher, rt, act)
     }
 
     /// The same, for who keeps no transcript: its answer alone.
@@ -326,6 +196,20 @@ impl State {
             Ok(twice) => twice.told,
             Err(refusal) => Err(refusal),
         }
+    }
+
+    /// The frames arrive, one after the other. Where an act fails as in `act`, those before it are delivered, and those after it are
+    /// not.
+    pub fn deliver_all<R: Wait>(&mut self, rt: &R, frames: Vec<Frame>) -> Result<(), Refusal>
+        ensures ok { OnOk result (HaveCome frames.items (happened_in self.old.journal) (happened_in self.new.journal)) }
+        ensures some { OnErr result (SomeHaveCome frames.items (happened_in self.old.journal) (happened_in self.new.journal)) }
+        ensures err { IfErr result (λ e. (e ≡ refusals.NoMemory) ⊎ (e ≡ refusals.Closed)) }
+        ensures place { IsAt self.old self.new }
+    {
+        for frame in frames {
+            let _ = self.happen(rt, Act::Deliver(frame))?;
+        }
+        Ok(())
     }
 
     /// Does the act, writes a copy of it into the journal with its answer, and publishes what it joined. Closed where the node was
@@ -453,11 +337,23 @@ impl State {
         Ok(take_all_frames(&mut parts.outbox, parts.journal.registry.allocator()))
     }
 
-    /// Gives up the node. Journal and published store stand.
+    /// Gives up the node, which is kept as it was for the record. Journal and published store stand.
     pub fn close(&mut self)
-        ensures { self.new ≡ record self.old { node = None } }
+        ensures node { self.new.node ≡ None }
+        ensures last { IsSome self.old.node → self.new.last ≡ self.old.node }
+        ensures journal { self.new.journal ≡ self.old.journal }
+        ensures steps { self.new.steps ≡ self.old.steps }
+        ensures outbox { self.new.outbox ≡ self.old.outbox }
+        ensures taken { self.new.taken ≡ self.old.taken }
+        ensures publisher { self.new.publisher ≡ self.old.publisher }
+        ensures viewers { self.new.viewers ≡ self.old.viewers }
+        ensures kept { self.old.node ≡ None → self.new ≡ self.old }
     {
-        self.parts.node = None;
+        let parts = &mut *self.parts;
+        if parts.node.is_none() {
+            return;
+        }
+        parts.last = parts.node.take();
     }
 
     /// A viewer for one of the processes at home at the node, as long as one is left: there are as many as these processes.
@@ -468,12 +364,12 @@ impl State {
         self.parts.viewers.pop()
     }
 
-    /// Ends the state: the journal.
-    pub fn into_journal<R: Wait>(self, rt: &R) -> Journal
+    /// Ends the state: its journal, with what is known of it.
+    pub fn into_record<R: Wait>(self, rt: &R) -> Record
         ensures journal { result ≡ self.journal }
         ensures replay { IsJournal result }
     {
         let State { parts } = self;
-        journal_of(Box::into_inner(parts), rt)
+        record_of(Box::into_inner(parts), rt)
     }
 }

@@ -1,6 +1,7 @@
 //! Process sets at desks, and the frames that carry them to another node.
 use crate::group::{MEMORY, assert_refused, desk, key_of, proc_of};
 use pmg_desk::Desk;
+use pmg_frame::Frame;
 use pmg_node::Delivery;
 use pmg_value::{Key, Proc, Refusal};
 use std::alloc::Global;
@@ -68,6 +69,43 @@ fn sets_spread_to_the_other_node(rt: HostRuntime) {
     let zero = desk(&rt, alloc, 0).expect(&rt, MEMORY);
     let one = desk(&rt, alloc, 1).expect(&rt, MEMORY);
     assert_sets(&rt, alloc, &zero, &one);
+    zero.into_journal(&rt);
+    one.into_journal(&rt);
+}
+
+// The frames that the desk's node sent, as they go to another desk together.
+fn frames_of<R: Wait>(rt: &R, alloc: Global, desk: &Desk) -> Result<Vec<Frame>, Refusal> {
+    let mut frames = Vec::new(alloc);
+    for sent in desk.take_frames(rt)? {
+        frames.push(sent.frame)?;
+    }
+    Ok(frames)
+}
+
+// Requires that node 1 is told of two changes together, and that it takes nothing any more once its desk is closed.
+fn assert_together<R: Wait + Abort>(rt: &R, alloc: Global, zero: &Desk, one: &Desk) {
+    let name = key_of(rt, alloc, b"s");
+    let members = [proc_of(rt, alloc, 0), proc_of(rt, alloc, 2)];
+    zero.define_set(rt, &name, &members).expect(rt, MEMORY);
+    zero.delete_set(rt, &name).expect(rt, MEMORY);
+    let frames = frames_of(rt, alloc, zero).expect(rt, MEMORY);
+    assert!(rt; frames.len() == 2);
+    one.deliver_all(rt, frames).expect(rt, MEMORY);
+    let told = zero.far_dump(rt).expect(rt, MEMORY);
+    let known = one.far_dump(rt).expect(rt, MEMORY);
+    assert!(rt; told.starts_with(b"proc pmix.host 0 level 2\n") && told == known);
+    one.close(rt);
+    zero.define_set(rt, &name, &members).expect(rt, MEMORY);
+    let frames = frames_of(rt, alloc, zero).expect(rt, MEMORY);
+    assert_refused(rt, one.deliver_all(rt, frames).err(), Refusal::Closed);
+}
+
+#[test]
+fn frames_that_come_together_are_delivered(rt: HostRuntime) {
+    let alloc = rt.alloc();
+    let zero = desk(&rt, alloc, 0).expect(&rt, MEMORY);
+    let one = desk(&rt, alloc, 1).expect(&rt, MEMORY);
+    assert_together(&rt, alloc, &zero, &one);
     zero.into_journal(&rt);
     one.into_journal(&rt);
 }

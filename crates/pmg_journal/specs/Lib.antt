@@ -1,3 +1,5 @@
 pub mod Replays
 pub mod Journals
 pub mod Transcripts
+pub mod Calling
+pub mod Records

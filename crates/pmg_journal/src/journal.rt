@@ -23,6 +23,16 @@ impl Drop for Event {
     }
 }
 
+impl Event {
+    /// The answer.
+    pub fn into_answer(self) -> Result<Reply, Refusal>
+        ensures { result ≡ self.answer }
+    {
+        let Event { act: _, answer } = self;
+        answer
+    }
+}
+
 /// What happened at a node, from its start on.
 #[derive(Drop)]
 pub struct Journal {

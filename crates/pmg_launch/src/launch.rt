@@ -32,8 +32,8 @@ pub fn run<R: Threads + Wait + Clock + Sync>(
 }
 
 /// Runs the job over such links, with these programs for its processes, as `pmg_threads::run_unaudited` does. Once all clients have
-/// ended, the journals of the nodes and the transcripts of the clients are audited. Refused as that is, and as `pmg_audit::audit`
-/// refuses.
+/// ended, what the desks recorded of the nodes and the transcripts of the clients are audited. Refused as that is, and as
+/// `pmg_audit::audit` refuses.
 pub fn run_linked<R: Threads + Wait + Clock + Sync>(
     rt: &R,
     job: Job,
@@ -45,9 +45,9 @@ pub fn run_linked<R: Threads + Wait + Clock + Sync>(
     let alloc = job.registry().allocator();
     let Unaudited {
         reports,
-        journals,
+        records,
         transcripts,
     } = run_unaudited(rt, job, programs, links)?;
-    let run = audit(alloc, journals, &transcripts)?;
+    let run = audit(alloc, records, &transcripts)?;
     Ok(Outcome { reports, run })
 }

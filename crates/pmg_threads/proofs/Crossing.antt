@@ -6,25 +6,28 @@ use Rattle.std.proofs.Crossing.{crosses as owners}
 use Rattle.std_heap.specs.contracts.Global as Heap
 use Rattle.std_heap.specs.contracts.GlobalAllocator.TheImpl.{ghosts}
 use Rattle.crossbeam_channel.specs.contracts.channel.Receiver as Receiver
-use Rattle.pmg_frame.specs.contracts.frame.Frame as Frame
 use Rattle.pmg_value.specs.contracts.process.Proc as Proc
 use Rattle.pmg_publish.proofs.Crossing.{nspace_send, proc_sync}
 use Rattle.pmg_desk.proofs.Crossing.{desk_sync, frame_send, transcript_send}
 use Rattle.pmg_desk.specs.contracts.lock.Desk as Desk
+use Rattle.pmg_threads.specs.contracts.links.Bundle as Bundle
 use Rattle.pmg_threads.specs.contracts.links.Way as Way
 use Rattle.pmg_threads.specs.contracts.links.Ways as Ways
 use Rattle.pmg_threads.specs.contracts.program.Ended as Ended
 use Rattle.pmg_threads.specs.contracts.program.Report as Report
 use Rattle.pmg_threads.specs.contracts.shortage.Shortage as Shortage
 
+bundle_send : IsSend Bundle.the_row
+bundle_send = search (frame_send, owners, sendable) depth 60 fits 40000
+
 way_send : IsSend Way.the_row
-way_send = search (frame_send, owners, sendable) depth 60 fits 40000
+way_send = search (frame_send, bundle_send, owners, sendable) depth 60 fits 40000
 
 pub ways_send : IsSend Ways.the_row
 ways_send = search (way_send, owners, sendable) depth 60 fits 40000
 
-pub receiver_send : IsSend (Receiver.the_row Frame.the_row Heap.the_row ghosts)
-receiver_send = search (frame_send, owners, sendable) depth 60 fits 40000
+pub receiver_send : IsSend (Receiver.the_row Bundle.the_row Heap.the_row ghosts)
+receiver_send = search (bundle_send, owners, sendable) depth 60 fits 40000
 
 proc_part : IsSend (Proc.the_field).row
 proc_part = search (nspace_send, sendable) depth 40

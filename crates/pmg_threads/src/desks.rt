@@ -3,7 +3,7 @@ ghost use Rattle.std.specs.Prelude.{◌≡◌, ◌+◌, length, OnOk, IfOk, vec_
 
 use pmg_desk::Desk;
 use pmg_jobinfo::Registry;
-use pmg_journal::Journal;
+use pmg_journal::Record;
 use pmg_value::{NodeId, Refusal};
 use std::alloc::{AllocError, Global};
 use std::sync::Wait;
@@ -30,7 +30,7 @@ fn push_desks<R: Wait>(rt: &R, registry: &Registry, desks: &mut Vec<Desk>) -> Re
         let id = NodeId::new(index as u32)?;
         let desk = Desk::new(rt, id, registry.copy()?)?;
         if let Err(failed) = desks.push(desk) {
-            failed.value.into_journal(rt);
+            failed.value.into_record(rt);
             return Err(Refusal::NoMemory);
         }
     }
@@ -54,21 +54,21 @@ pub fn is_one_closed<R: Wait>(rt: &R, desks: &[Desk]) -> bool {
     false
 }
 
-/// Ends the desks: their journals. All are ended, also where an allocation fails.
+/// Ends the desks: their journals, with what is known of them. All are ended, also where an allocation fails.
 pub fn end_desks<R: Wait>(
     rt: &R,
     alloc: Global,
     mut desks: Vec<Desk>,
-) -> Result<Vec<Journal>, AllocError> {
-    let mut journals = Vec::new(alloc);
+) -> Result<Vec<Record>, AllocError> {
+    let mut records = Vec::new(alloc);
     let mut is_short = false;
     while let Some(desk) = desks.pop() {
-        let journal = desk.into_journal(rt);
-        is_short = journals.push(journal).is_err() || is_short;
+        let record = desk.into_record(rt);
+        is_short = records.push(record).is_err() || is_short;
     }
     desks.destroy_empty();
     if is_short {
         return Err(AllocError);
     }
-    Ok(journals)
+    Ok(records)
 }

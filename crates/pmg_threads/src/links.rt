@@ -9,6 +9,7 @@ use pmg_node_model::Sent;
 use pmg_value::Refusal;
 use std::alloc::{AllocError, Global};
 use std::collections::VecDeque;
+use std::mem;
 use std::sync::Wait;
 use std::thread;
 use std::time::{Clock, Duration};
@@ -27,12 +28,20 @@ pub struct Links {
     pub nudges: u32,
 }
 
-/// One link: where its frames go, how many it was given, and the one that it holds back.
+/// Frames that go to one node together, in their order.
+#[derive(Drop)]
+pub struct Bundle {
+    /// The frames.
+    pub frames: Vec<Frame>,
+}
+
+/// One link: where its frames go, how many it was given, the one that it holds back, and those that go with its next bundle.
 #[derive(Drop)]
 struct Way {
-    to: Sender<Frame, Global>,
+    to: Sender<Bundle, Global>,
     count: u64,
     held: Option<Frame>,
+    ready: Vec<Frame>,
 }
 
 /// The ends of the links at one node: where its frames go, by the node's index, and where those for it come from.
@@ -43,7 +52,7 @@ pub struct Ends<'d> {
     /// To each node.
     pub(crate) to: Ways,
     /// From all nodes.
-    pub from: Receiver<Frame, Global>,
+    pub from: Receiver<Bundle, Global>,
 }
 
 /// The links from one node, by the index of the node that they lead to.
@@ -59,59 +68,71 @@ fn is_hit(every: u32, count: u64) -> bool {
 }
 
 impl Way {
-    /// Carries one frame more over such a link, and says whether it went as it should. A frame that was held back goes after it.
-    fn carry<R: Wait>(&mut self, rt: &R, links: Links, frame: Frame) -> bool {
+    /// Carries one frame more over such a link. A frame that was held back goes after it.
+    fn carry(&mut self, links: Links, frame: Frame) -> Result<(), AllocError> {
         self.count = self.count.wrapping_add(1);
         let before = self.held.take();
-        self.carry_one(rt, links, frame) && self.give(rt, before)
+        self.carry_one(links, frame)?;
+        if let Some(frame) = before {
+            self.ready.push(frame)?;
+        }
+        Ok(())
     }
 
     /// Carries the frame of this number, holds it back, or loses it.
-    fn carry_one<R: Wait>(&mut self, rt: &R, links: Links, frame: Frame) -> bool {
+    fn carry_one(&mut self, links: Links, frame: Frame) -> Result<(), AllocError> {
         if is_hit(links.lose, self.count) {
-            return true;
+            return Ok(());
         }
         if is_hit(links.repeat, self.count) {
-            return match frame.copy() {
-                Ok(copy) => self.give(rt, Some(copy)) && self.give(rt, Some(frame)),
-                Err(AllocError) => false,
-            };
-        }
-        if is_hit(links.hold, self.count) {
+            self.ready.push(frame.copy()?)?;
+        } else if is_hit(links.hold, self.count) {
             self.held = Some(frame);
-            return true;
+            return Ok(());
         }
-        self.give(rt, Some(frame))
+        self.ready.push(frame)?;
+        Ok(())
     }
 
-    /// Gives the frame to the channel, if there is one.
-    fn give<R: Wait>(&self, rt: &R, frame: Option<Frame>) -> bool {
-        match frame {
-            Some(frame) => self.to.send(rt, frame).is_ok(),
-            None => true,
+    /// Gives the frames that are ready to the channel, if there are some, and says whether it took them.
+    fn give<R: Wait>(&mut self, rt: &R) -> bool {
+        if self.ready.is_empty() {
+            return true;
         }
+        let alloc = *self.ready.allocator();
+        let frames = mem::replace(&mut self.ready, Vec::new(alloc));
+        self.to.send(rt, Bundle { frames }).is_ok()
     }
 }
 
 impl Ways {
-    /// Carries the frames to the links of their nodes, and says whether all of them went.
+    /// Carries the frames over the links to their nodes, those of one node together, and says whether all of them went.
     fn carry<R: Wait>(&mut self, rt: &R, frames: VecDeque<Sent>) -> bool {
         for sent in frames {
             let Some(way) = self.ways.get_mut(sent.to.index() as usize) else {
                 return false;
             };
-            if !way.carry(rt, self.links, sent.frame) {
+            if way.carry(self.links, sent.frame).is_err() {
                 return false;
             }
         }
-        true
+        self.give_all(rt)
+    }
+
+    /// Gives what is ready on each link to its channel, and says whether all of it was taken.
+    fn give_all<R: Wait>(&mut self, rt: &R) -> bool {
+        let mut are_taken = true;
+        for way in self.ways.iter_mut() {
+            are_taken = way.give(rt) && are_taken;
+        }
+        are_taken
     }
 }
 
 /// Links to where the senders send.
 fn ways_of(
     alloc: Global,
-    senders: &[Sender<Frame, Global>],
+    senders: &[Sender<Bundle, Global>],
     links: Links,
 ) -> Result<Ways, AllocError> {
     let mut ways = Vec::with_capacity(alloc, senders.len())?;
@@ -120,6 +141,7 @@ fn ways_of(
             to: sender.clone()?,
             count: 0,
             held: None,
+            ready: Vec::new(alloc),
         })?;
     }
     Ok(Ways { links, ways })
@@ -145,8 +167,8 @@ pub fn link_desks<'d>(
 fn join_ends<'d>(
     alloc: Global,
     desks: &'d [Desk],
-    senders: &[Sender<Frame, Global>],
-    receivers: VecDeque<Receiver<Frame, Global>>,
+    senders: &[Sender<Bundle, Global>],
+    receivers: VecDeque<Receiver<Bundle, Global>>,
     links: Links,
 ) -> Result<Vec<Ends<'d>>, Refusal> {
     let mut ends = Vec::with_capacity(alloc, desks.len())?;
@@ -186,13 +208,13 @@ pub fn deliver_frames<R: Wait>(
     desks: &[Desk],
     shortage: &Shortage,
     desk: &Desk,
-    from: &Receiver<Frame, Global>,
+    from: &Receiver<Bundle, Global>,
 ) {
     for _ in rt.forever() {
-        let Ok(frame) = from.recv(rt) else {
+        let Ok(bundle) = from.recv(rt) else {
             return;
         };
-        if let Err(refusal) = desk.deliver(rt, frame) {
+        if let Err(refusal) = desk.deliver_all(rt, bundle.frames) {
             shortage.note_refusal(rt, refusal);
             close_desks(rt, desks);
             return;

@@ -1,7 +1,7 @@
 //! What the clients of a job run, and what comes of it.
 
 use pmg_desk::Client;
-use pmg_journal::{Journal, Transcript};
+use pmg_journal::{Record, Transcript};
 use pmg_value::{Proc, Refusal};
 use std::alloc::{AllocError, Global};
 use std::marker::Send;
@@ -69,8 +69,8 @@ impl Reported {
 pub struct Unaudited {
     /// The reports of the clients, rising by namespace and rank.
     pub reports: Vec<Report>,
-    /// What happened at each node.
-    pub journals: Vec<Journal>,
+    /// What happened at each node, with what is known of it.
+    pub records: Vec<Record>,
     /// What each client called.
     pub transcripts: Vec<Transcript>,
 }

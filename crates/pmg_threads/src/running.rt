@@ -26,9 +26,10 @@ struct Work<'d> {
 
 /// Runs the job over such links, with these programs for its processes, which rise by namespace and rank: a thread a client, two a
 /// node for the links, and one a node that asks other nodes again, where the links say so. Once all clients have ended, what they
-/// report is told, and what an audit needs: the journals of the nodes and the transcripts of the clients. Refused as BadParam where
-/// the number of programs is not that of the processes; as NoMemory where an allocation failed that a desk cannot go on without, or
-/// a thread cannot be started; and as Closed where a desk was closed for another cause before all clients had ended.
+/// report is told, and what an audit needs: the journals of the nodes, with what is known of them, and the transcripts of the
+/// clients. Refused as BadParam where the number of programs is not that of the processes; as NoMemory where an allocation failed
+/// that a desk cannot go on without, or a thread cannot be started; and as Closed where a desk was closed for another cause before
+/// all clients had ended.
 pub fn run_unaudited<R: Threads + Wait + Clock + Sync>(
     rt: &R,
     job: Job,
@@ -43,7 +44,7 @@ pub fn run_unaudited<R: Threads + Wait + Clock + Sync>(
     let alloc = registry.allocator();
     let desks = open_desks(rt, registry)?;
     let ended = run_group(rt, registry, &desks, &procs, programs, links);
-    let journals = end_desks(rt, alloc, desks);
+    let records = end_desks(rt, alloc, desks);
     let Reported {
         reports,
         transcripts,
@@ -51,7 +52,7 @@ pub fn run_unaudited<R: Threads + Wait + Clock + Sync>(
     } = ended?;
     Ok(Unaudited {
         reports,
-        journals: journals?,
+        records: records?,
         transcripts,
     })
 }

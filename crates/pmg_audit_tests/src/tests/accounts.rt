@@ -6,7 +6,7 @@
 use crate::tests::words::{act, answer, key, process, request, scope_of, value, word, words_of};
 use pmg_audit::{Run, audit};
 use pmg_jobinfo::Registry;
-use pmg_journal::{Call, Called, Event, Journal, Transcript, copy_of_act, copy_of_answer};
+use pmg_journal::{Call, Called, Event, Journal, Record, Transcript, copy_of_act, copy_of_answer};
 use pmg_value::{NodeId, Nspace, Refusal};
 use std::alloc::{AllocError, Global};
 use std::process::Abort;
@@ -279,11 +279,11 @@ impl Accounts {
 
     /// The one run that they tell.
     pub(crate) fn run(&self) -> Result<Run, Refusal> {
-        let mut journals = Vec::new(self.alloc);
+        let mut records = Vec::new(self.alloc);
         for journal in &self.journals {
-            journals.push(copy_of_journal(self.alloc, journal)?)?;
+            records.push(Record::new(copy_of_journal(self.alloc, journal)?))?;
         }
-        audit(self.alloc, journals, &self.transcripts)
+        audit(self.alloc, records, &self.transcripts)
     }
 
     /// How many events the run has, or why there is none. Where an allocation fails that is no answer.

@@ -10,9 +10,9 @@ returns-in-Ok c =
     let ts = c.args.transcripts.now in
     record {
       ok = ok_on c.replays_with.result (EndsWell jobs js c.in-Ok.sayings) (AreWhole jobs js ts) c.replays_with.ensures.ok
-          (whole_by jobs c.requires js ts c.in-Ok.sayings c.in-Ok.ensures.said c.in-Ok.ensures.apart c.in-Ok.ensures.taken);
+          (whole_by jobs c.requires.jobs js ts c.in-Ok.sayings c.in-Ok.ensures.said c.in-Ok.ensures.apart c.in-Ok.ensures.taken);
       refused = err_on c.replays_with.result (EndsFor jobs js c.in-Ok.sayings) (IsReplayFault jobs js ts) c.replays_with.ensures.refused
-          (fault_by jobs c.requires js ts c.in-Ok.sayings c.in-Ok.ensures.said c.in-Ok.ensures.apart c.in-Ok.ensures.taken);
+          (fault_by jobs c.requires.jobs js ts c.in-Ok.sayings c.in-Ok.ensures.said c.in-Ok.ensures.apart c.in-Ok.ensures.taken);
     }
 
 pub returns-in-Err-clause-refused : goal.returns-in-Err-clause-refused

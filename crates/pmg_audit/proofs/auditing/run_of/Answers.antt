@@ -9,15 +9,17 @@ use Rattle.pmg_audit.proofs.auditing.run_of.Goals as goal
 
 pub run_with-requires : goal.run_with-requires
 run_with-requires c =
+    let parts = c.into_parts-nodes in
     let one = one_by c.args.registry c.requires.jobs c.args.journals.now c.args.transcripts.now c.requires.journals c.in-Ok.all c.in-Ok.ensures.ok c.in-Ok-make_order.order
-    c.args.registry refl c.deref.result.now c.deref.ensures.value c.in-Ok-make_order.ensures.ok in
+    c.args.registry refl parts.result.0.items (λ i. (parts.ensures.nodes i).items) parts.result.1.items (λ i. (parts.ensures.lanes i).items) c.in-Ok-make_order.ensures.ok in
     record { run = one.run; lawful = one.lawful }
 
 pub returns-in-Ok-make_order-clause-ok : goal.returns-in-Ok-make_order-clause-ok
 returns-in-Ok-make_order-clause-ok c =
+    let parts = c.into_parts-nodes in
     subst (λ (a : Account). IsOneRun c.args.journals.now c.args.transcripts.now a) (sym c.run_with.ensures)
     (one_by c.args.registry c.requires.jobs c.args.journals.now c.args.transcripts.now c.requires.journals c.in-Ok.all c.in-Ok.ensures.ok c.in-Ok-make_order.order
-    c.args.registry refl c.deref.result.now c.deref.ensures.value c.in-Ok-make_order.ensures.ok)
+    c.args.registry refl parts.result.0.items (λ i. (parts.ensures.nodes i).items) parts.result.1.items (λ i. (parts.ensures.lanes i).items) c.in-Ok-make_order.ensures.ok)
 
 pub returns-in-Err-make_order-clause-refused : goal.returns-in-Err-make_order-clause-refused
 returns-in-Err-make_order-clause-refused c =
@@ -25,7 +27,7 @@ returns-in-Err-make_order-clause-refused c =
     let js = c.args.journals.now in
     let whole = c.in-Ok.ensures.ok in
     order_fault jobs js c.args.transcripts.now (all_of c.in-Ok.all.lanes.items) c.requires.journals whole.moves whole.agreed c.in-Err-make_order.refusal c.in-Err-make_order.ensures.few
-    (λ e. subst (λ (ls : List Lane). NoOrder (all_of ls)) c.deref.ensures.value (c.in-Err-make_order.ensures.unordered e))
+    (λ e. subst (λ (ls : List Lane). NoOrder (all_of ls)) (λ i. (c.into_parts-nodes.ensures.lanes i).items) (c.in-Err-make_order.ensures.unordered e))
 
 pub returns-in-Err-clause-refused : goal.returns-in-Err-clause-refused
 returns-in-Err-clause-refused c =

@@ -1,11 +1,13 @@
-use Rattle.std.proofs.Common.{◌≡◌, ◌<◌, Option, Some, None, Result, Ok, Err, IfOk, IfSome, IsNone, slice_get, slice_index, length, subst, rules}
+use Rattle.std.proofs.Common.{◌≡◌, ◌<◌, Option, Some, None, Result, Ok, Err, IfOk, IfSome, IsNone, List, ◌∷◌, length, map, get_or, drop, sym, ap, subst, ◌∙◌, rules}
 use Rattle.pmg_node.specs.Acting.{act_of}
 use Rattle.pmg_world.specs.Telling.{event_of}
 use Rattle.pmg_world.specs.declared.event.Event.{Event}
 use Rattle.pmg_audit.specs.Codes.{all_of, move_in}
 use Rattle.pmg_audit.specs.Going.{IsNext, IsReady, MayGoNext}
+use Rattle.pmg_audit.specs.Moves.{Move}
 use Rattle.pmg_audit.specs.Orders.{IsEventOf, MayGo, moves_at}
-use Rattle.pmg_audit.proofs.LaneLemmas.{next_of, none_of}
+use Rattle.pmg_audit.specs.declared.moves.Lane.{Lane}
+use Rattle.pmg_audit.proofs.LaneLemmas.{next_front}
 use Rattle.pmg_audit.proofs.ordering.next_at.Goals as goal
 
 some_on : {X : Type 0} (r : Result (Option Event) X) (P Q : Event → Type 0) → IfOk r (λ o. IfSome o P) → ((e : Event) → P e → Q e) → IfOk r (λ o. IfSome o Q)
@@ -21,22 +23,16 @@ pub returns-in-Some : goal.returns-in-Some
 returns-in-Some c =
     let inside : c.args.node < length c.args.lanes.now = search rules in
     let lanes = c.args.lanes.now in
-    let done = c.args.done.now in
     let frames = c.args.sends.now.frames.items in
     let n = c.args.node in
     let x = c.in-Some.next.now in
-    let there : slice_get (moves_at (all_of lanes) n) (slice_index done n) ≡ Some (move_in x) =
-    next_of lanes n c.index-lanes-node.result c.deref.result.now (slice_index done n) x inside c.deref.ensures.value c.in-Some.ensures.lookup.0 c.in-Some.ensures.lookup.1 in
+    let lane = c.index-lanes-node.result in
+    let some : 0 < length lane.moves.items = search rules in
+    let first : x ≡ get_or lane.moves.items 0 x = c.in-Some.ensures.lookup ∙ ap (λ (l : Lane). get_or l.moves.items 0 x) (sym c.index-lanes-node.is) in
+    let there : moves_at (all_of lanes) n ≡ move_in x ∷ map move_in (drop 1 lane.moves.items) = next_front lanes n lane x inside c.index-lanes-node.is some first in
     record {
-      some = some_on c.event_for.result (λ e. IsEventOf frames n (act_of x.event.act) (event_of e)) (λ e. IsNext (all_of lanes) done frames n (event_of e)) c.event_for.ensures.some
-          (λ e is. record { next = move_in x; there = there; event = is });
-      none = none_on c.event_for.result (MayGo n (act_of x.event.act) frames) (IsReady (all_of lanes) done frames n) c.event_for.ensures.none
-          (λ ready. subst (λ o. MayGoNext n o frames) there ready);
+      some = some_on c.event_for.result (λ e. IsEventOf frames n (act_of x.event.act) (event_of e)) (λ e. IsNext (all_of lanes) frames n (event_of e)) c.event_for.ensures.some
+          (λ e is. record { next = move_in x; later = map move_in (drop 1 lane.moves.items); there = there; event = is });
+      none = none_on c.event_for.result (MayGo n (act_of x.event.act) frames) (IsReady (all_of lanes) frames n) c.event_for.ensures.none
+          (λ ready. subst (λ (ms : List Move). MayGoNext n ms frames) there ready);
     }
-
-pub returns-in-None-clause-none : goal.returns-in-None-clause-none
-returns-in-None-clause-none c =
-    let inside : c.args.node < length c.args.lanes.now = search rules in
-    λ e ready. subst (λ o. MayGoNext c.args.node o c.args.sends.now.frames.items)
-    (none_of c.args.lanes.now c.args.node c.index-lanes-node.result c.deref.result.now (slice_index c.args.done.now c.args.node) inside c.deref.ensures.value c.in-None.ensures.lookup.0)
-    ready

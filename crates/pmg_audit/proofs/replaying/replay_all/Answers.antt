@@ -18,6 +18,7 @@ loop-index-preserved c =
     record {
       replayed = node_added jobs js c.args.sayings.now k c.loop-index.all c.loop-index.sayings c.replay_next.new.self c.replay_next.new.sayings c.loop-index.invariant.replayed
           (subst (λ n. AddsNode jobs js n c.loop-index.all c.loop-index.sayings c.replay_next.new.self c.replay_next.new.sayings) node (c.in_default.ensures.ok js (sym (left here next))));
+      of = c.replay_next.ensures.of;
       left = λ n above. c.replay_next.ensures.others n (λ same. absurd (omega (arith, above, same, node))) ∙ left n (omega (arith, above));
     }
 

@@ -9,6 +9,16 @@ invariant_of-self g c =
     let p : Parts = c.deref_mut.result.now in
     let opened : c.self.inside.parts.value ≡ p = search rules in
     let h = c.happen_in in
-    let q : Parts = record { node = h.new.node; journal = h.new.journal; outbox = h.new.outbox; taken = p.taken; publisher = h.new.publisher; viewers = p.viewers } in
+    let q : Parts = record {
+      node = h.new.node;
+      journal = h.new.journal;
+      steps = h.new.steps;
+      outbox = h.new.outbox;
+      taken = p.taken;
+      publisher = h.new.publisher;
+      viewers = p.viewers;
+      last = p.last;
+    } in
     let at : IsAt p q = record { node = h.ensures.index; registry = h.ensures.registry; book = h.ensures.book; taken = refl } in
-    kept_after p q (subst (λ (x : Parts). IsStateKept x) opened c.self.invariant) at refl c.args.act h.result h.ensures.ok h.ensures.open h.ensures.events h.ensures.log h.ensures.memory h.ensures.closed h.ensures.err
+    kept_after p q (subst (λ (x : Parts). IsStateKept x) opened c.self.invariant) at refl refl c.args.act h.result h.ensures.ok h.ensures.step h.ensures.open h.ensures.events h.ensures.log h.ensures.steps
+    h.ensures.memory h.ensures.closed h.ensures.err

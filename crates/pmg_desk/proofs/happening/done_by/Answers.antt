@@ -4,7 +4,7 @@ use Rattle.pmg_node.specs.Servers.{IsAnswered}
 use Rattle.pmg_node.specs.declared.act.Acted.{Acted}
 use Rattle.pmg_journal.specs.Journals.{is_memory}
 use Rattle.pmg_desk.proofs.OpenLemmas.{is_answered, event_by, due_told, refused_joins}
-use Rattle.pmg_desk.proofs.state.done_by.Goals as goal
+use Rattle.pmg_desk.proofs.happening.done_by.Goals as goal
 
 pub returns-in-Err-2-clause-kind : goal.returns-in-Err-2-clause-kind
 returns-in-Err-2-clause-kind c =

@@ -1,0 +1,32 @@
+-- Who calls, and whether it may.
+use Rattle.std.specs.Prelude.{Bool, true, Option, Some, None, is_ok}
+use Rattle.pmg_value.specs.CheckOrder.{first_of}
+use Rattle.pmg_value.specs.declared.process.Proc.{Proc}
+use Rattle.pmg_node_model.specs.Acts.{Act, Request, free_cause}
+use Rattle.pmg_node.specs.Servers.{Server}
+
+-- the process that makes the request; none where sets are changed, or other nodes are asked again
+abbrev pub caller_in : Request → Option Proc
+caller_in (Request.enter p list collect) = Some p
+caller_in (Request.leave p) = Some p
+caller_in (Request.ask p get mode) = Some p
+caller_in (Request.take p) = Some p
+caller_in (Request.terminate p) = Some p
+caller_in (Request.define name list) = None
+caller_in (Request.delete name) = None
+caller_in Request.nudge = None
+
+-- the process that calls; none calls where a frame is delivered, sets are changed, or others are asked again
+abbrev pub caller_of : Act → Option Proc
+caller_of (Act.request r) = caller_in r
+caller_of (Act.commit p b) = Some p
+caller_of (Act.deliver frame) = None
+
+-- whether the process may call at the server: it is in no call there, and has not ended
+abbrev pub may_call : Server → Proc → Bool
+may_call s p = is_ok (first_of (free_cause s.jobs s.id s.holding p) (tt {0}))
+
+-- whether it is so of who calls, if someone does
+abbrev pub free_at : Server → Option Proc → Bool
+free_at s None = true
+free_at s (Some p) = may_call s p
