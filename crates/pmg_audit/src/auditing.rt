@@ -198,10 +198,11 @@ fn audit_among(
 }
 
 /// The one run that the journals and the transcripts tell. A journal with evidence of who ran its node is not replayed, since it is a
-/// replay; any other is. Refused as BadParam where there is not one journal for each node of one group; as Collision where two transcripts are of one process, a process that made an event has none, one differs from its
-/// process's events in its home's journal, or a put is said to be done that its client's cache refuses, or by a process that was in a
-/// call or had ended; as Stale where the reply of an event is another on replay; as Unordered where no order delivers each frame after
-/// it was sent; each only where none of those before it is there.
+/// replay; any other is. Refused as BadParam where there is not one journal for each node of one group; as Collision where two
+/// transcripts are of one process, a process that made an event has none, one differs from its process's events in its home's journal,
+/// or a put is said to be done that its client's cache refuses, or by a process that was in a call or had ended; as Stale where the
+/// reply of an event is another on replay; as Unordered where no order delivers each frame after it was sent; each only where none of
+/// those before it is there.
 pub fn audit(
     alloc: Global,
     mut journals: Vec<Record>,

@@ -9,10 +9,9 @@ use pmg_node_model::Sent;
 use pmg_value::Refusal;
 use std::alloc::{AllocError, Global};
 use std::collections::VecDeque;
-use std::mem;
 use std::sync::Wait;
-use std::thread;
 use std::time::{Clock, Duration};
+use std::{mem, thread};
 
 /// How bad the links of a job are; 0 means never. On each link, from one node to another, frames are counted from 1.
 #[derive(Clone, Copy, Default)]
@@ -180,7 +179,7 @@ fn join_ends<'d>(
 }
 
 /// Carries the frames that the desk's node sent to the links of their nodes, until the desk is closed or one cannot be carried.
-/// Then all desks are closed: clients of other nodes would wait for what this one tells no more. A channel takes no frame where
+/// Then all desks are closed: clients of other nodes would wait for what this one tells no more. A channel takes no bundle where
 /// there is no memory for it.
 pub fn send_frames<R: Wait>(
     rt: &R,
