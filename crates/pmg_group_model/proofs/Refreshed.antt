@@ -31,6 +31,7 @@ use Rattle.pmg_node_model.specs.declared.sent.Sent.{Sent}
 use Rattle.pmg_node_model.proofs.CallFacts.{call-called}
 use Rattle.pmg_node_model.proofs.CauseFacts.{NoCause, by_causes, caller_is, free_is, neither_cause}
 use Rattle.pmg_node_model.proofs.Moving.{Moves, StaysOrMoves, does_call}
+use Rattle.pmg_node_model.proofs.AnewCalls.{refreshing_settled, was_taken}
 use Rattle.pmg_node_model.proofs.Sealing.{level_raised}
 use Rattle.pmg_group_model.specs.Laws.{Wanted, reply_outcome, unless_taken, wanted_after, seen_at, Good}
 use Rattle.pmg_group_model.specs.Refreshes.{wanted_anew, StaysIn}
@@ -38,7 +39,7 @@ use Rattle.pmg_group_model.specs.Worlds.{World, Event, Doing, ActStep, Does, Ste
 use Rattle.pmg_group_model.proofs.Counting.{IsFresh, AllFresh, acted, node_then, all_sent, step_fresh, always_fresh}
 use Rattle.pmg_group_model.proofs.Hearing.{refused_silent}
 use Rattle.pmg_group_model.proofs.Leaving.{step_grows}
-use Rattle.pmg_group_model.proofs.Replied.{refreshing_settled, refreshed_settled, was_taken, answer_anew, far_then}
+use Rattle.pmg_group_model.proofs.Replied.{refreshed_settled, answer_anew, far_then}
 use Rattle.pmg_group_model.proofs.Rising.{wanted_of}
 use Rattle.pmg_group_model.proofs.Runs.{each_in, always_good}
 use Rattle.pmg_group_model.proofs.Seeing.{answer_sees, seen_grown}

@@ -1,5 +1,5 @@
 -- What an act does to the call of a get that asks anew.
-use Rattle.std.proofs.Common.{◌≡◌, ℕ, Bool, true, false, cond, List, Option, Some, None, refl, sym, ap, subst, ◌∙◌}
+use Rattle.std.proofs.Common.{◌≡◌, ℕ, Bool, true, false, List, Option, Some, None, refl, sym, ap, subst, ◌∙◌}
 use Rattle.std.specs.Option.{option_map}
 use Rattle.std.proofs.lemmas.Bool.{false≢true}
 use Rattle.pmg_value.specs.Signatures.{FenceName}
@@ -10,9 +10,10 @@ use Rattle.pmg_jobinfo.specs.Jobs.{Jobs}
 use Rattle.pmg_fence.specs.Tables.{gone_by}
 use Rattle.pmg_get.specs.Gets.{Outcome}
 use Rattle.pmg_get.specs.declared.view.Mode.TheVariants as modes
-use Rattle.pmg_node_model.specs.Acts.{Act, Reply, is_taken, done_as, receives, does}
+use Rattle.pmg_node_model.specs.Acts.{Act, is_taken, receives, does}
 use Rattle.pmg_node_model.specs.Holdings.{Get, CallState, NodeState, call_of, with_far, joined, answer_in, is_ready_at, settled_by, released_by, settle, settled}
 use Rattle.pmg_node_model.proofs.CallFacts.{call-settled}
+use Rattle.pmg_node_model.proofs.AnewCalls.{replied_to, was_taken}
 
 -- the call of a get that asks anew
 abbrev pub is_anew : CallState → Bool
@@ -48,36 +49,13 @@ module _ (jobs : Jobs) (id : ℕ) (h : NodeState) (c : CallState) (anew : is_ane
   pub settled_anew : (p : Proc) → call_of (settled jobs id h) p ≡ Some c → call_of h p ≡ Some c
   settled_anew p e = anew_before (call_of h p) (sym (call-settled jobs id h p) ∙ e)
 
-pub refreshing_settled : (jobs : Jobs) (id : ℕ) (h : NodeState) (p : Proc) (get : Get) (number : ℕ) → call_of h p ≡ Some (CallState.refreshing get number)
-    → call_of (settled jobs id h) p ≡ Some (CallState.refreshing get number)
-refreshing_settled jobs id h p get number e = call-settled jobs id h p ∙ ap (option_map (settle jobs id h)) e
-
 pub refreshed_settled : (jobs : Jobs) (id : ℕ) (h : NodeState) (p : Proc) (get : Get) (outcome : Outcome) → call_of h p ≡ Some (CallState.refreshed get outcome)
     → call_of (settled jobs id h) p ≡ Some (CallState.refreshed get outcome)
 refreshed_settled jobs id h p get outcome e = call-settled jobs id h p ∙ ap (option_map (settle jobs id h)) e
 
 -- ---- a reply answers it
 
--- once the reply is taken
-abbrev replied_to : Jobs → ℕ → NodeState → RefreshReply → Bool → NodeState
-replied_to jobs id h r taken = (cond taken (done_as Reply.taken (receives jobs id h (frames.RefreshReply r))) (done_as Reply.ignored h)).left
-
 module _ (jobs : Jobs) (id : ℕ) (h : NodeState) (p : Proc) (r : RefreshReply) (get : Get) (number : ℕ) (outcome : Outcome) (was : call_of h p ≡ Some (CallState.refreshing get number)) where
-  -- where the get is answered, the reply was taken
-  taken_if : (b : Bool) → is_taken jobs id h.table (frames.RefreshReply r) ≡ b → call_of (replied_to jobs id h r b) p ≡ Some (CallState.refreshed get outcome)
-      → is_taken jobs id h.table (frames.RefreshReply r) ≡ true
-  taken_if true is now = is
-  taken_if false is now = absurd (apart (sym was ∙ now))
-    where
-      apart : Some (CallState.refreshing get number) ≡ Some (CallState.refreshed get outcome) → ⊥
-      apart e = cc
-
-  pub was_taken : (a : Act) → a ≡ Act.deliver (frames.RefreshReply r) → call_of (does jobs id h a).left p ≡ Some (CallState.refreshed get outcome)
-      → is_taken jobs id h.table (frames.RefreshReply r) ≡ true
-  unfolding does
-  was_taken a is now =
-      taken_if (is_taken jobs id h.table (frames.RefreshReply r)) refl (subst (λ x. call_of (does jobs id h x).left p ≡ Some (CallState.refreshed get outcome)) is now)
-
   -- with what is known then
   known_then : (b : Bool) → b ≡ true → answer_in jobs id (with_far h (joined h.far (told_by r))) get modes.Now ≡ answer_in jobs id (replied_to jobs id h r b) get modes.Now
   unfolding receives
@@ -89,7 +67,7 @@ module _ (jobs : Jobs) (id : ℕ) (h : NodeState) (p : Proc) (r : RefreshReply) 
   unfolding does
   answer_anew a is now =
       subst (λ x. answer_in jobs id (with_far h (joined h.far (told_by r))) get modes.Now ≡ answer_in jobs id (does jobs id h x).left get modes.Now) (sym is)
-      (known_then (is_taken jobs id h.table (frames.RefreshReply r)) (was_taken a is now))
+      (known_then (is_taken jobs id h.table (frames.RefreshReply r)) (was_taken jobs id h p r get number outcome was a is now))
 
   far_of : (b : Bool) → b ≡ true → joined h.far (told_by r) ≡ (replied_to jobs id h r b).far
   unfolding receives
@@ -99,4 +77,4 @@ module _ (jobs : Jobs) (id : ℕ) (h : NodeState) (p : Proc) (r : RefreshReply) 
   pub far_then : (a : Act) → a ≡ Act.deliver (frames.RefreshReply r) → call_of (does jobs id h a).left p ≡ Some (CallState.refreshed get outcome)
       → joined h.far (told_by r) ≡ (does jobs id h a).left.far
   unfolding does
-  far_then a is now = subst (λ x. joined h.far (told_by r) ≡ (does jobs id h x).left.far) (sym is) (far_of (is_taken jobs id h.table (frames.RefreshReply r)) (was_taken a is now))
+  far_then a is now = subst (λ x. joined h.far (told_by r) ≡ (does jobs id h x).left.far) (sym is) (far_of (is_taken jobs id h.table (frames.RefreshReply r)) (was_taken jobs id h p r get number outcome was a is now))

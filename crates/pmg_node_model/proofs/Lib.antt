@@ -13,6 +13,7 @@ pub mod Moving
 pub mod Settling
 pub mod Growing
 pub mod AfterActs
+pub mod AnewCalls
 pub mod CallEnds
 pub mod Reading
 pub mod Names

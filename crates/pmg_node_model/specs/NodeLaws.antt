@@ -3,6 +3,7 @@ use Rattle.std.specs.Prelude.{◌≡◌, ◌⊎◌, ℕ, ◌≤◌, true, false,
 use Rattle.pmg_value.specs.Signatures.{Signature, FenceName}
 use Rattle.pmg_value.specs.declared.process.Proc.{Proc}
 use Rattle.pmg_pset.specs.Sets.{host}
+use Rattle.pmg_frame.specs.Refreshing.{RefreshReply}
 use Rattle.pmg_frame.specs.declared.frame.Frame.TheVariants as frames
 use Rattle.pmg_jobinfo.specs.Jobs.{Jobs, AreJobs, home_of}
 use Rattle.pmg_fence.specs.Rules.{Scripts}
@@ -11,7 +12,7 @@ use Rattle.pmg_fence.specs.Tables.{has_name, is_old, fence_of, gone_by}
 use Rattle.pmg_dmodex.specs.Levels.{node_level as held_at}
 use Rattle.pmg_get.specs.Gets.{Outcome}
 use Rattle.pmg_get.specs.declared.view.Mode.TheVariants as modes
-use Rattle.pmg_node_model.specs.Acts.{Request, Act, signature_of, is_peer, says, acts}
+use Rattle.pmg_node_model.specs.Acts.{Request, Act, signature_of, is_peer, is_taken, says, acts}
 use Rattle.pmg_node_model.specs.Fitting.{Fits, FitsAct, FitsHost, is_refusal, unless_refused}
 use Rattle.pmg_node_model.specs.Holdings.{Get, CallState, NodeState, call_of, is_ready_at, answer_in}
 use Rattle.pmg_node_model.specs.Kept.{top_in, HasTwo, AreAnswered, AreUnready, ReleasedRight}
@@ -42,6 +43,20 @@ AnswersStay =
 -- each get that is answered has an answer, and so it is after each act: a get waits exactly where it cannot be answered
 abbrev pub AnsweredHave : Type 0
 AnsweredHave = (jobs : Jobs) (node : ℕ) (h : NodeState) (a : Act) → AreAnswered jobs node h → AreAnswered jobs node (acts jobs node h a).left
+
+-- the act is the delivery of the reply to the request of that number, and the node takes it: the reply tells of the get's target
+abbrev pub BringsReply : Jobs → ℕ → NodeState → Get → ℕ → Act → Type 0
+BringsReply jobs node h get number a =
+    (r : RefreshReply) × (a ≡ Act.deliver (frames.RefreshReply r)) × (is_taken jobs node h.table (frames.RefreshReply r) ≡ true)
+    × (r.request ≡ number) × (r.told.proc ≡ get.target)
+
+-- a get that asks anew waits until that reply comes, or its process ends; no other act ends it (PMIx Standard 5.0,
+-- PMIX_GET_REFRESH_CACHE)
+abbrev pub RefreshingStays : Type 0
+RefreshingStays =
+    (jobs : Jobs) (node : ℕ) (h : NodeState) (a : Act) (p : Proc) (get : Get) (number : ℕ) → call_of h p ≡ Some (CallState.refreshing get number)
+    → (BringsReply jobs node h get number a → ⊥) → (a ≡ Act.request (Request.terminate p) → ⊥)
+    → call_of (acts jobs node h a).left p ≡ Some (CallState.refreshing get number)
 
 -- ---- releases
 

@@ -4,6 +4,7 @@ use Rattle.pmg_node_model.proofs.Names.{names_come, tops_come, two_stay, names_s
 use Rattle.pmg_node_model.proofs.Reading.{answers_stay, answered_have}
 use Rattle.pmg_node_model.proofs.Releasing.{released_where_ready}
 use Rattle.pmg_node_model.proofs.AfterActs.{parked_wait, ready_frees, freed_by_ready, freed_stays}
+use Rattle.pmg_node_model.proofs.AnewCalls.{refreshing_stays}
 use Rattle.pmg_node_model.proofs.laws.node_rules.Goals as goal
 
 pub returns : goal.returns
@@ -12,6 +13,7 @@ returns c = record {
   parked_wait = parked_wait;
   answers_stay = answers_stay;
   answered_have = answered_have;
+  refreshing_stays = refreshing_stays;
   ready_frees = ready_frees;
   freed_by_ready = freed_by_ready;
   freed_stays = freed_stays;
