@@ -51,7 +51,7 @@ both = j0 ∷ j1 ∷ []
 abbrev pub entering : Proc → Act
 entering p = Act.request (Request.enter p both true)
 
-not_busy : (h : NodeState) (p : Proc) → call_of h p ≡ None → NoCause (busy_cause h p)
+pub not_busy : (h : NodeState) (p : Proc) → call_of h p ≡ None → NoCause (busy_cause h p)
 not_busy h p idle = (refl, (refl, (refl, (refl, (refl, (ap (λ (o : Option CallState). is_some o) idle, (refl, (refl, (refl, (refl, (refl, tt)))))))))))
 
 -- one that calls well, and is in no call
@@ -66,7 +66,7 @@ good_list = (
   ((λ i. (is_there i && not (j0_is_member i)) || ((is_there i && not (j1_is_member i)) || false)), ((λ i. not (is_there i) || (not (is_there i) || false)), (refl, (refl, (refl, (refl, (refl, (refl, (refl, (refl, tt)))))))))),
 )
 
-few : set.len (set.from_list {R = proc_cmp} both) ≡ 2
+pub few : set.len (set.from_list {R = proc_cmp} both) ≡ 2
 few = len-from_list procs_total both rising
 
 -- a process that takes part, where no fence has a name

@@ -40,17 +40,17 @@ use Rattle.pmg_group_model.proofs.Seeing.{answer_sees}
 use Rattle.pmg_group_model.proofs.Starting.{no_level}
 
 -- one step of a node, which sends what this program sends, where the act is done so
-chosen_step : (id : ℕ) (h : NodeState) → IsServer two id h → (a : Act) (r : Reply) (new : NodeState) → acts two id h a ≡ done_as r new
+pub chosen_step : (id : ℕ) (h : NodeState) → IsServer two id h → (a : Act) (r : Reply) (new : NodeState) → acts two id h a ≡ done_as r new
     → NodeStep two id h a r new (chosen two id h finite.empty a).frames
 chosen_step id h server a r new is =
     subst (λ (d : Done). NodeStep two id h a d.reply d.left (chosen two id h finite.empty a).frames) is (chosen_is_step two are_jobs id h server finite.empty a)
 
 -- it stays a server
-server_then : (id : ℕ) (h : NodeState) → IsServer two id h → (a : Act) (r : Reply) (new : NodeState) → acts two id h a ≡ done_as r new → IsServer two id new
+pub server_then : (id : ℕ) (h : NodeState) → IsServer two id h → (a : Act) (r : Reply) (new : NodeState) → acts two id h a ≡ done_as r new → IsServer two id new
 server_then id h server a r new is = subst (λ (d : Done). IsServer two id d.left) is (server_stays two id h a server)
 
 -- what is sent where the act is done so
-chosen_then : (id : ℕ) (h : NodeState) (a : Act) (r : Reply) (new : NodeState) → acts two id h a ≡ done_as r new
+pub chosen_then : (id : ℕ) (h : NodeState) (a : Act) (r : Reply) (new : NodeState) → acts two id h a ≡ done_as r new
     → (chosen two id h finite.empty a).frames ≡ cond (is_quiet r) [] (sends (sealer_of new) (marked_by_act finite.empty a) (due_by two id h a new)).frames
 unfolding chosen
 chosen_then id h a r new is =
@@ -68,10 +68,10 @@ it_commits : Run two (start two) (commits_before []) world_committed
 unfolding Run
 it_commits = run_committed [] world_committed refl
 
-good_then : Good two world_committed
+pub good_then : Good two world_committed
 good_then = always_good two are_jobs (commits_before []) world_committed it_commits
 
-abbrev its_calls : List Call
+abbrev pub its_calls : List Call
 its_calls = its_put ∷ Call.commit ∷ []
 
 -- ---- node 1 asks for it
@@ -138,21 +138,21 @@ ask_taken : (t : Fences) → is_taken two 0 t (frames.DirectAsk its_ask) ≡ tru
 unfolding is_taken
 ask_taken t = (λ i. is_peer two 0 1 && (j0_is_member i || is_host j0) && (home_of_j0 i == 0))
 
-unfoldable telling_0 : NodeState
+unfoldable pub telling_0 : NodeState
 telling_0 = settled two 0 committed_0
 
 tells : acts two 0 committed_0 being_asked ≡ done_as Reply.taken telling_0
 unfolding receives telling_0
 tells = takes_frame 0 committed_0 (frames.DirectAsk its_ask) (ask_taken committed_0.table) ∙ (λ i. done_as Reply.taken (settled two 0 (holds_unless (nat_lt 0 (committed_level i)) committed_0 1 j0 0)))
 
-abbrev told : Sealed
+abbrev pub told : Sealed
 told = sealer_of telling_0 j0
 
-told_level : told.level ≡ 1
+pub told_level : told.level ≡ 1
 unfolding telling_0
 told_level = committed_level
 
-told_proc : told.proc ≡ j0
+pub told_proc : told.proc ≡ j0
 unfolding telling_0
 told_proc = committed_proc
 

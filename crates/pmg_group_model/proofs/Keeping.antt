@@ -49,7 +49,7 @@ one_more k n level o p true false is before more e = let le = before e in omega 
 one_more k n level o p false c is before more e = more e
 
 -- who made a k-th entry made k
-level_some : (s : Script) (g : Signature) (k level : ℕ) → level_before s g k ≡ Some level → k ≤ enters s g
+pub level_some : (s : Script) (g : Signature) (k level : ℕ) → level_before s g k ≡ Some level → k ≤ enters s g
 unfolding level_before
 level_some [] g k level e = absurd cc
 level_some (Call.put scope key value ∷ cs) g k level e = level_some cs g k level e

@@ -27,4 +27,8 @@ pub mod ExampleRun
 pub mod ExampleGet
 pub mod ExampleCommit
 pub mod ExampleMeeting
-mod ExampleWaiting
+pub mod ExampleWaiting
+mod ExampleRefreshing
+pub mod ExampleLone
+pub mod ExampleEntering
+mod ExampleRounds

@@ -8,13 +8,17 @@ use Rattle.pmg_scope.specs.declared.scope.Scope.TheVariants as scopes
 use Rattle.pmg_frame.specs.Fences.{name_fields, fence_name, participants_of}
 use Rattle.pmg_jobinfo.specs.Jobs.{Jobs, AreJobs, opened, registered}
 use Rattle.pmg_fence.specs.Entering.{same_proc}
+use Rattle.pmg_fence.specs.Tables.{has_name, is_old}
 use Rattle.pmg_get.specs.Gets.{Outcome}
 use Rattle.pmg_get.specs.declared.view.Mode.TheVariants as modes
 use Rattle.pmg_node_model.specs.Acts.{Request, Reply}
 use Rattle.pmg_node_model.specs.Fitting.{last_fence}
 use Rattle.pmg_node_model.specs.Holdings.{Get}
+use Rattle.pmg_node_model.specs.Sending.{WaitsIn}
 use Rattle.pmg_group_model.specs.Worlds.{World, Event, Happened, Run, start}
-use Rattle.pmg_group_model.specs.Laws.{Leaves, answer_as, answers}
+use Rattle.pmg_group_model.specs.Laws.{Leaves, answer_as, answers, reply_outcome}
+use Rattle.pmg_group_model.specs.Lawful.{asks_with, leaves_with, takes_with}
+use Rattle.pmg_group_model.specs.Refreshes.{StaysIn, wanted_anew}
 
 -- two nodes, and a process at each
 abbrev pub two : Jobs
@@ -123,3 +127,58 @@ unfoldable pub RunOfWaiting : Type 0
 RunOfWaiting =
     (w : World) × Run two (start two) asks_and_waits w × (v : World) × Run two w (takes_the_value ∷ []) v
     × (answers j1 j0 None (asks_and_waits ++ takes_the_value ∷ []) ≡ answer_as its_key modes.Wait (Outcome.found its_value) ∷ [])
+
+-- ---- a get that asks anew
+
+-- what is before the get: one process puts a value for all and commits it
+abbrev pub puts_it : List Happened
+puts_it =
+    happened_with (Event.put j0 scopes.Global its_key.key its_value) Reply.done
+    ∷ happened_with (Event.commit first_node j0) (Reply.committed 1)
+    ∷ []
+
+-- while the get waits: the request comes to the home of the key's process, then the reply comes
+abbrev pub asked_and_replied : List Happened
+asked_and_replied = happened_with (Event.deliver 1) Reply.taken ∷ happened_with (Event.deliver 2) Reply.taken ∷ []
+
+-- The other process asks for the key anew and has to wait. After the reply it takes the answer.
+abbrev pub asks_anew_and_takes : List Happened
+asks_anew_and_takes = puts_it ++ asks_with second_node j1 its_key ∷ (asked_and_replied ++ takes_with second_node j1 (Reply.found its_value) ∷ [])
+
+-- There is a run of these events. The process stays in its get until it takes an answer, which is told as a get's that looks only
+-- at what its node holds. So all that the refresh theorem asks for is there.
+unfoldable pub RunOfRefreshing : Type 0
+RunOfRefreshing =
+    (w : World) × Run two (start two) asks_anew_and_takes w × StaysIn j1 (wanted_anew its_key) asked_and_replied
+    × (reply_outcome (Reply.found its_value) ≡ Some (Outcome.found its_value))
+    × (answers j1 j0 None asks_anew_and_takes ≡ answer_as its_key modes.Now (Outcome.found its_value) ∷ [])
+
+-- ---- a fence that is entered three times
+
+-- one node, and both processes there
+abbrev pub lone : Jobs
+lone = registered (opened (codes "n0" ∷ [])) (codes "j") (0 ∷ 0 ∷ [])
+
+-- the fence of that instance of both that collects no data
+abbrev pub round : ℕ → FenceName
+round k = fence_name (name_fields false k (j0 ∷ j1 ∷ []))
+
+-- the process enters the fence of that instance
+abbrev pub enters_round : ℕ → Proc → Happened
+enters_round k p = happened_with (Event.request first_node (Request.enter p (j0 ∷ j1 ∷ []) false)) (Reply.entered k)
+
+-- both enter the fence of that instance, and leave it
+abbrev pub both_meet : ℕ → List Happened
+both_meet k = enters_round k j0 ∷ enters_round k j1 ∷ leaves_with first_node j0 k [] ∷ leaves_with first_node j1 k [] ∷ []
+
+-- Both meet twice. Then the first process enters a third time.
+abbrev pub meet_twice_and_wait : List Happened
+meet_twice_and_wait = both_meet 1 ++ (both_meet 2 ++ enters_round 3 j0 ∷ [])
+
+-- There is a run of these events, of jobs as every group's are. At its end the first process waits in the third fence, whose name the
+-- node has, and the first fence is old: the node has forgotten it. So a process does wait at a node that forgot something.
+unfoldable pub RunOfThree : Type 0
+RunOfThree =
+    AreJobs lone × (w : World) × Run lone (start lone) meet_twice_and_wait w
+    × WaitsIn lone first_node (w.nodes first_node) (round 3) j0 × (has_name (w.nodes first_node).table (round 3) ≡ true)
+    × (is_old (w.nodes first_node).table (round 1) ≡ true) × (has_name (w.nodes first_node).table (round 1) ≡ false)

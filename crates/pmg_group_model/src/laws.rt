@@ -1,4 +1,4 @@
-ghost use Rattle.pmg_group_model.specs.Examples.{RunOfTwo, RunOfMeeting, RunOfWaiting};
+ghost use Rattle.pmg_group_model.specs.Examples.{RunOfTwo, RunOfMeeting, RunOfRefreshing, RunOfThree, RunOfWaiting};
 ghost use Rattle.pmg_group_model.specs.Forgetting.{KeepsTwo, KeepsWaiting};
 ghost use Rattle.pmg_group_model.specs.Laws.{AlwaysGood, ScriptsAreTold, OneHeader};
 ghost use Rattle.pmg_group_model.specs.Lawful.{Always, AnswersNeverFall, FenceTheorem, RefreshesAnew, ReleasesAlike, ReleasesWhole};
@@ -27,14 +27,19 @@ pub fn every_interleaving()
     ensures refresh_theorem { Always RefreshesAnew }
 {}
 
-/// Three runs of two nodes with a process each, step by step. In the first, one process ends; the other enters a fence of both that
-/// collects data, waits for the other node's header, then for the commit that the header names, and is released, told that the
-/// one is gone; and then a get of a key of that one is answered. In the second, the one process puts a value and commits it, and
-/// both enter; the other one waits in the same way, is released, told that nobody is gone, and finds the value. So the laws of
-/// every run speak of releases and of gets that do happen (PMIx Standard 5.0, PMIx_Fence, PMIX_COLLECT_DATA). In the third a get
-/// waits, the home of its key's process is asked, and the answer is taken: a get that waited counts as answered then.
+/// Five runs of small groups, step by step. The first four are of two nodes with a process each. In the first, one process ends; the
+/// other enters a fence of both that collects data, waits for the other node's header, then for the commit that the header names, and
+/// is released, told that the one is gone; and then a get of a key of that one is answered. In the second, the one process puts a value
+/// and commits it, and both enter; the other one waits in the same way, is released, told that nobody is gone, and finds the value. So
+/// the laws of every run speak of releases and of gets that do happen (PMIx Standard 5.0, PMIx_Fence, PMIX_COLLECT_DATA). In the third a
+/// get waits, the home of its key's process is asked, and the answer is taken: a get that waited counts as answered then. In the fourth
+/// a get asks anew, the home replies, and the answer is taken: the refresh theorem speaks of such a get. The fifth is of one node with
+/// two processes. Both enter and leave two fences of one signature, then one of them waits in the third, and the node has forgotten the
+/// first: the node keeps a fence in which a process waits, though it forgets others.
 pub fn worked_runs()
     ensures run_of_two { RunOfTwo }
     ensures run_of_meeting { RunOfMeeting }
     ensures run_of_waiting { RunOfWaiting }
+    ensures run_of_refreshing { RunOfRefreshing }
+    ensures run_of_three { RunOfThree }
 {}
