@@ -5,7 +5,9 @@ pub mod ActLemmas
 pub mod JoiningLemmas
 pub mod ReplyLemmas
 pub mod NodeInside
+pub mod MarksKept
 pub mod NodeKept
+pub mod NodeMarked
 pub mod OpenLemmas
 pub mod FrameLemmas
 pub mod PieceLemmas

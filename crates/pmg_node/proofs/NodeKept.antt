@@ -18,6 +18,7 @@ use Rattle.pmg_node.specs.Servers.{Server, after, HasSealers, IsNode}
 use Rattle.pmg_node_model.proofs.CallEnds.{ends_left, asks_left}
 use Rattle.pmg_node_model.proofs.KeptActs.{server_stays}
 use Rattle.pmg_node_model.proofs.KeptBasics.{act_cases}
+use Rattle.pmg_node.proofs.MarksKept.{mark_stays}
 
 still_there : (h : NodeState) (by : Proc) (z : Sealed) (p : Proc) (b : Bool) → is_some (finite.get h.sealers p) ≡ true → is_some (finite.get (cond b h.sealers (finite.insert h.sealers by z)) p) ≡ true
 still_there h by z p true there = there
@@ -79,4 +80,5 @@ node_stays s a is = record {
   node = is.node;
   server = server_stays s.jobs s.id s.holding a is.server;
   sealers = sealers_stay s.jobs s.id s.holding is.sealers a;
+  marks = λ p node i peer. mark_stays p node s.jobs s.id s.holding s.marks a (is.marks p node i peer);
 }

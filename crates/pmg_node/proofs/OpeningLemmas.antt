@@ -28,6 +28,7 @@ use Rattle.pmg_node.specs.Content.{AreOpen, server_of}
 use Rattle.pmg_node.specs.Opening.{new_server}
 use Rattle.pmg_node.specs.Servers.{HasSealers, IsNode}
 use Rattle.pmg_node_model.proofs.KeptActs.{new_is_server}
+use Rattle.pmg_node.proofs.MarksKept.{new_has_marks}
 
 -- each of them has its place
 fresh_at : (ps : List Proc) (p : Proc) → In p ps → is_some (at_key proc_cmp p (map (λ p. (p, fresh p)) ps)) ≡ true
@@ -46,7 +47,7 @@ new_has jobs id p own =
     ∙ fresh_at (procs_at jobs id) p (own_are_listed jobs id p own.0 own.1)
 
 pub new_is_node : (jobs : Jobs) (id : ℕ) → AreJobs jobs → is_node jobs id ≡ true → IsNode (new_server jobs id)
-new_is_node jobs id are is = record { jobs = are; node = is; server = new_is_server jobs id; sealers = new_has jobs id }
+new_is_node jobs id are is = record { jobs = are; node = is; server = new_is_server jobs id; sealers = new_has jobs id; marks = new_has_marks jobs id }
 
 -- and these parts make it
 pub new_parts : (jobs : Jobs) (id : ℕ) (table : Known) (board : Board) (sealers : AllSealed) (sets : Sealed) (calls : Calls) (held : Requests) (marks : Levels)

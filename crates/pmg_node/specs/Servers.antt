@@ -3,6 +3,7 @@ use Rattle.std.specs.Prelude.{◌≡◌, ◌⊎◌, ◌≤◌, ℕ, List, is_som
 use Rattle.std.specs.Coded.{Coded, code_by, coded×, coded_ℕ}
 use Rattle.std.specs.FinMap as finite
 use Rattle.std.specs.FinSet as set
+use Rattle.pmg_value.specs.Lists.{In}
 use Rattle.pmg_value.specs.declared.process.Proc.{Proc}
 use Rattle.pmg_value.specs.declared.refusal.Refusal.{Refusal}
 use Rattle.pmg_value.specs.declared.refusal.Refusal.TheVariants as refusals
@@ -10,10 +11,11 @@ use Rattle.pmg_frame.specs.declared.fence_name.TheConstants.{MAX_INSTANCE}
 use Rattle.pmg_frame.specs.declared.signature.TheConstants.{MAX_PARTICIPANTS}
 use Rattle.pmg_jobinfo.specs.Jobs.{Jobs, AreJobs, coded_jobs, is_node}
 use Rattle.pmg_fence.specs.Tables.{count_of}
-use Rattle.pmg_dmodex.specs.Levels.{Levels, coded_levels}
-use Rattle.pmg_node_model.specs.Acts.{Act, Request, Reply, acts, signature_of}
+use Rattle.pmg_dmodex.specs.Levels.{Levels, coded_levels, node_level as mark_at}
+use Rattle.pmg_node_model.specs.Acts.{Act, Request, Reply, acts, is_peer, signature_of}
 use Rattle.pmg_node_model.specs.Choosing.{chosen}
 use Rattle.pmg_node_parts.specs.Codes.{coded_holding}
+use Rattle.pmg_node_parts.specs.Marking.{senders}
 use Rattle.pmg_node_model.specs.Holdings.{NodeState}
 use Rattle.pmg_node_model.specs.Kept.{IsOwn, IsServer}
 use Rattle.pmg_node_model.specs.declared.sent.Sent.{Sent}
@@ -90,9 +92,14 @@ IsAnswered (Err e) = Unit {0}
 abbrev pub HasSealers : Jobs → ℕ → NodeState → Type 0
 HasSealers jobs id h = (p : Proc) → IsOwn jobs id p → is_some (finite.get h.sealers p) ≡ true
 
+-- each process whose commits the node may send has a mark at each other node of the group
+abbrev pub HasMarks : Jobs → ℕ → Levels → Type 0
+HasMarks jobs id marks = (p : Proc) (node : ℕ) → In p (senders jobs id) → is_peer jobs id node ≡ true → is_some (mark_at marks p node) ≡ true
+
 -- what a node keeps
 pub record IsNode (s : Server) : Type 0 where
   pub jobs : AreJobs s.jobs
   pub node : is_node s.jobs s.id ≡ true
   pub server : IsServer s.jobs s.id s.holding
   pub sealers : HasSealers s.jobs s.id s.holding
+  pub marks : HasMarks s.jobs s.id s.marks

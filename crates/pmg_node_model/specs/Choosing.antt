@@ -1,5 +1,5 @@
 -- Which frames this program sends, and in which order.
-use Rattle.std.specs.Prelude.{ℕ, Bool, false, ◌&&◌, ◌==◌, not, nat_lt, nat_le, List, [], ◌∷◌, ◌++◌, map, length, Option, Some, None, is_none, if◌then◌else◌}
+use Rattle.std.specs.Prelude.{ℕ, Bool, false, ◌&&◌, ◌==◌, not, nat_lt, nat_le, List, [], ◌∷◌, ◌++◌, map, length, Option, Some, None, is_some, is_none, if◌then◌else◌}
 use Rattle.std.specs.FinMap as finite
 use Rattle.std.specs.FinSet as set
 use Rattle.std.specs.List.{filter, flat_map, list_any}
@@ -181,15 +181,19 @@ due_by jobs id old (Act.deliver frame) new = due_by_frame jobs id old frame new
 abbrev pub mark_of : Levels → ℕ → Proc → ℕ
 mark_of marks node p = unwrap_or (mark_at marks p node) 0
 
+-- a node's mark for the process is set to the level, where it has one: each process whose commits are sent has one at each other node
+abbrev pub with_mark : Levels → Proc → ℕ → ℕ → Levels
+with_mark marks p node level = if is_some (mark_at marks p node) then with_level marks p node level else marks
+
 -- a piece that is sent, and a reply, sets its receiver's mark to its end
 abbrev pub marked_by : Levels → ℕ → Frame → Levels
-marked_by marks to (frames.Piece c) = with_level marks c.proc to c.to
+marked_by marks to (frames.Piece c) = with_mark marks c.proc to c.to
 marked_by marks to (frames.Header hd) = marks
 marked_by marks to (frames.FenceAsk a) = marks
 marked_by marks to (frames.RangeAsk a) = marks
 marked_by marks to (frames.DirectAsk a) = marks
 marked_by marks to (frames.RefreshAsk a) = marks
-marked_by marks to (frames.RefreshReply r) = with_level marks r.told.proc to r.told.to
+marked_by marks to (frames.RefreshReply r) = with_mark marks r.told.proc to r.told.to
 
 -- the marks, once the frame is sent
 abbrev pub marked : Levels → Sent → Levels
@@ -198,7 +202,7 @@ marked marks s = marked_by marks s.to s.frame
 -- a node that asks for commits says what it knows
 abbrev pub asked_marks : Levels → Option CommitAsk → Levels
 asked_marks marks None = marks
-asked_marks marks (Some a) = with_level marks a.proc a.node a.level
+asked_marks marks (Some a) = with_mark marks a.proc a.node a.level
 
 -- the commits that an act asks an own process's home for, be it anew
 abbrev pub named_by : Act → Option CommitAsk

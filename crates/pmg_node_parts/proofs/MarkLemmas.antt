@@ -38,6 +38,12 @@ module _ (m : Levels) (p : Proc) (n : ℕ) where
       (finite.get-insert procs_total m p (finite.insert (levels_of m p) n y) p
       ∙ ap (λ (b : Bool). cond b (Some (finite.insert (levels_of m p) n y)) (finite.get m p)) ((eq_by_cmp_equiv procs_total).refl p))
 
+  -- a level that is set is there
+  pub set_there : (y : ℕ) → is_some (node_level (with_level m p n y) p n) ≡ true
+  set_there y =
+      ap (λ (l : NodeLevels). is_some (finite.get l n)) (inner_is y) ∙ ap is_some (finite.get-insert nat_cmp_total (levels_of m p) n y n)
+      ∙ ap (λ (b : Bool). is_some (cond b (Some y) (finite.get (levels_of m p) n))) ((eq_by_cmp_equiv nat_cmp_total).refl n)
+
   -- a level that is set back is as it was
   pub set_back_is : (x y : ℕ) → node_level m p n ≡ Some x → with_level (with_level m p n y) p n x ≡ m
   set_back_is x y e =

@@ -1,5 +1,5 @@
 -- What goes out, one after the other, and a mark that goes with it.
-use Rattle.std.proofs.Common.{◌≡◌, ℕ, Bool, true, false, List, [], ◌∷◌, ◌++◌, Option, Some, None, is_some, refl, sym, ap, subst, ◌∙◌}
+use Rattle.std.proofs.Common.{◌≡◌, ℕ, Bool, true, false, List, [], ◌∷◌, ◌++◌, Option, Some, None, is_some, cond, refl, sym, ap, subst, ◌∙◌}
 use Rattle.std.specs.Prelude.{Result, Ok, Err, if◌then◌else◌}
 use Rattle.std.specs.Option.{option_to_list}
 use Rattle.std.proofs.lemmas.List.{append_assoc, append-nil}
@@ -11,7 +11,7 @@ use Rattle.pmg_frame.specs.Fences.{CommitAsk}
 use Rattle.pmg_frame.specs.declared.frame.Frame.{Frame}
 use Rattle.pmg_frame.specs.declared.frame.Frame.TheVariants as frames
 use Rattle.pmg_dmodex.specs.Levels.{Levels, node_level, with_level}
-use Rattle.pmg_node_model.specs.Choosing.{frame_for, marked_by, marked_if, sends}
+use Rattle.pmg_node_model.specs.Choosing.{frame_for, marked_by, marked_if, sends, with_mark}
 use Rattle.pmg_node_parts.specs.Marking.{mark_by, marks_back, AreSet}
 use Rattle.pmg_node_model.specs.declared.due.ToSend.{ToSend}
 use Rattle.pmg_node_parts.specs.declared.due.MarkUndo.{MarkUndo}
@@ -44,11 +44,11 @@ sends_frames sealer m (c ∷ cs) d =
     (option_to_list (frame_for sealer (sends sealer (marked_if m (frame_for sealer m c)) cs).marks d)))
 
 -- the marks once a frame is sent that sets this one, if any
-abbrev pub with_mark : Levels → ℕ → Option (Proc × ℕ) → Levels
-with_mark m to None = m
-with_mark m to (Some mark) = with_level m mark.0 to mark.1
+abbrev pub marked_so : Levels → ℕ → Option (Proc × ℕ) → Levels
+marked_so m to None = m
+marked_so m to (Some mark) = with_mark m mark.0 to mark.1
 
-pub mark_set : (m : Levels) (to : ℕ) (frame : Frame) → with_mark m to (mark_by frame) ≡ marked_by m to frame
+pub mark_set : (m : Levels) (to : ℕ) (frame : Frame) → marked_so m to (mark_by frame) ≡ marked_by m to frame
 mark_set m to (frames.Piece c) = refl
 mark_set m to (frames.Header hd) = refl
 mark_set m to (frames.FenceAsk a) = refl
@@ -56,6 +56,14 @@ mark_set m to (frames.RangeAsk a) = refl
 mark_set m to (frames.DirectAsk a) = refl
 mark_set m to (frames.RefreshAsk a) = refl
 mark_set m to (frames.RefreshReply r) = refl
+
+-- a mark is set where there is one
+module _ (m : Levels) (p : Proc) (node level : ℕ) (o : Option ℕ) (there : o ≡ node_level m p node) where
+  pub mark_missing : o ≡ None → m ≡ with_mark m p node level
+  mark_missing none = sym (ap (λ (x : Option ℕ). cond (is_some x) (with_level m p node level) m) (sym there ∙ none))
+
+  pub mark_there : (n : ℕ) → o ≡ Some n → with_level m p node level ≡ with_mark m p node level
+  mark_there n some = sym (ap (λ (x : Option ℕ). cond (is_some x) (with_level m p node level) m) (sym there ∙ some))
 
 module _ (m after : Levels) (bs : List MarkUndo) (b : MarkUndo) (x y : ℕ) (was : node_level m b.proc b.node ≡ Some x) (keeps : b.level ≡ x) (is : after ≡ with_level m b.proc b.node y) where
   -- a mark that is set can be set back

@@ -2,7 +2,7 @@
 ghost use Rattle.std.specs.Prelude.{◌≡◌, ◌++◌, true, is_some, length, take, IfOk, OnOk, OnErr};
 ghost use Rattle.std.specs.Option.{option_map, option_to_list};
 ghost use Rattle.pmg_dmodex.specs.Levels.{node_level, with_level};
-ghost use Rattle.pmg_node_model.specs.Choosing.{asked_marks, frame_for, marked, marked_if, sends};
+ghost use Rattle.pmg_node_model.specs.Choosing.{asked_marks, frame_for, marked, marked_if, sends, with_mark};
 ghost use Rattle.pmg_node_parts.specs.Owns.{sealed_of};
 ghost use Rattle.pmg_node_parts.specs.Marking.{mark_by, marks_back, AreSet};
 
@@ -68,7 +68,8 @@ struct Going {
     before: Vec<MarkUndo>,
 }
 
-/// Sets the mark of the node for the process, and keeps what it was before.
+/// Sets the mark of the node for the process, where there is one, and keeps what it was before. A node has a mark for each process
+/// whose commits it sends, at each other node.
 fn set_level(
     marks: &mut Marks,
     node: NodeId,
@@ -76,12 +77,12 @@ fn set_level(
     level: u64,
     before: &mut Vec<MarkUndo>,
 ) -> Result<(), AllocError>
-    ensures ok { OnOk result (marks.new ≡ with_level marks.old proc.now node level) }
+    ensures ok { OnOk result (marks.new ≡ with_mark marks.old proc.now node level) }
     ensures back { marks_back marks.new before.new.items ≡ marks_back marks.old before.old.items }
     ensures set { AreSet marks.old before.old.items → AreSet marks.new before.new.items }
 {
     let Some(was) = marks.get(node, proc) else {
-        return Err(AllocError);
+        return Ok(());
     };
     let proc_before = proc.copy()?;
     before.push(MarkUndo {

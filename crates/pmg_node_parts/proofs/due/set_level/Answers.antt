@@ -3,8 +3,14 @@ use Rattle.pmg_value.specs.declared.process.Proc.{Proc}
 use Rattle.pmg_dmodex.specs.Levels.{node_level, with_level}
 use Rattle.pmg_node_parts.specs.Marking.{marks_back, AreSet}
 use Rattle.pmg_node_parts.specs.declared.due.MarkUndo.{MarkUndo}
-use Rattle.pmg_node_parts.proofs.SendLemmas.{mark_back, marks_set}
+use Rattle.pmg_node_parts.proofs.SendLemmas.{mark_back, mark_missing, mark_there, marks_set}
 use Rattle.pmg_node_parts.proofs.due.set_level.Goals as goal
+
+pub returns-in_default-clause-ok : goal.returns-in_default-clause-ok
+returns-in_default-clause-ok c = mark_missing c.args.marks.now c.args.proc.now c.args.node c.args.level c.get.result c.get.ensures c.in_default.is
+
+pub returns-clause-ok : goal.returns-clause-ok
+returns-clause-ok c = c.in_ok-set.ensures.ok ∙ mark_there c.args.marks.now c.args.proc.now c.args.node c.args.level c.get.result c.get.ensures c.in-Some.was c.in-Some.is
 
 pub returns-clause-back : goal.returns-clause-back
 returns-clause-back c =

@@ -9,6 +9,7 @@ use Rattle.pmg_node.specs.Servers.{IsNode, after}
 use Rattle.pmg_node.proofs.FrameLemmas.{Takes, below_is, not_below_is, direct_taken, reaches_as, direct_steps, ignores, waits_for, with_marks}
 use Rattle.pmg_node.proofs.NodeInside.{server_in}
 use Rattle.pmg_node.proofs.NodeKept.{node_stays}
+use Rattle.pmg_node.proofs.NodeMarked.{content_after}
 use Rattle.pmg_node.proofs.OpenLemmas.{still_open}
 use Rattle.pmg_node.proofs.node.Node.deliver_direct_ask.Goals as goal
 
@@ -30,6 +31,19 @@ returns-then-level c =
     direct_steps (server_in inside) c.args.self.now c.self.view_is (subst IsNode c.self.view_is c.self.invariant.node) c.args.ask.now taken true below _ _ c.args.out.now.items _ due
     c.in_ok-handed.ensures.marks c.in_ok-handed.ensures.frames in
     record { reply = its.reply; ok = its.ok; sent = its.sent; err = search rules; unsent = search rules }
+
+pub invariant_of-self-then-level : goal.invariant_of-self-then-level
+invariant_of-self-then-level c =
+    let inside = c.self.inside in
+    let taken = direct_taken c.args.self.now.jobs c.args.self.now.id c.args.self.now.holding.table c.args.ask.now ∙ sym c.is_asked.ensures ∙ c.if-not-is_asked.false in
+    let below =
+    reaches_as inside.own _ c.args.ask.now.proc _ _ _ true c.level-2.ensures.value c.proc-2.ensures.value c.level-3.ensures.value
+    (below_is c.level-2.result c.level-3.result c.if-level.true) in
+    let due = c.in_ok-dues.ensures ∙ (λ i. answering_by (sealed_of inside.own) (c.node.ensures i) (c.proc.ensures.value i) (c.level.ensures.value i)) in
+    let its =
+    direct_steps (server_in inside) c.args.self.now c.self.view_is (subst IsNode c.self.view_is c.self.invariant.node) c.args.ask.now taken true below _ _ c.args.out.now.items _ due
+    c.in_ok-handed.ensures.marks c.in_ok-handed.ensures.frames in
+    content_after inside c.self.invariant c.args.self.now c.self.view_is (Act.deliver (frames.DirectAsk c.args.ask.now)) c.hand_out.new.marks its.ok
 
 module _ (c : goal.In_default) where
   its : Takes c.args.self.now (frames.DirectAsk c.args.ask.now) (with_marks c.hand_out.new.marks (waits_for c.args.ask.now (server_in c.self.inside))) c.args.out.now.items c.hand_out.new.out.items

@@ -40,6 +40,18 @@ returns-in-Some c =
       unsent = search rules;
     }
 
+pub invariant_of-self-in-Some : goal.invariant_of-self-in-Some
+invariant_of-self-in-Some c =
+    let i = c.self.inside in
+    let hd = c.in-Some.header in
+    let t = i.table in
+    let there = sym c.in-Some.is ∙ c.in_ok-header.ensures ∙ ap (λ f. option_map (header t.node f) (present t.jobs t.node t.fences f)) c.name.ensures in
+    let marks = c.in_ok-tell_node.ensures.marks ∙ ap (λ n. (sends_in i (telling_by hd n)).marks) c.node.ensures in
+    let steps =
+    told_steps i c.args.self.now c.self.view_is c.self.invariant c.args.ask.now (sym c.is_asked_for.ensures ∙ c.if-not-is_asked_for.false)
+    hd there c.tell_node.new.marks marks in
+    steps.kept
+
 steps : (c : goal.In_ok-change_fence)
     → let i = c.self.inside in let then = c.change_fence.new in
     Steps c.args.self.now (Act.deliver (frames.FenceAsk c.args.ask.now)) Reply.taken then.table i.id i.held.anew (server_with i then.table then.calls then.marks)
