@@ -1,19 +1,20 @@
 -- A server with its clients' caches, and the frames of it that wait.
-use Rattle.std.specs.Prelude.{◌≡◌, ℕ, ◌++◌, List, [], ◌∷◌, Option, Some, None, Result, refl}
+use Rattle.std.specs.Prelude.{◌≡◌, ◌⊎◌, ℕ, ◌++◌, List, [], ◌∷◌, Option, Some, None, Result, Ok, Err, refl}
 use Rattle.std.specs.Coded.{Coded, code_by, coded×, coded_list, coded_option}
 use Rattle.std.specs.FinMap as finite
 use Rattle.pmg_value.specs.Rows.{changed_at}
 use Rattle.pmg_value.specs.declared.process.Proc.{Proc}
 use Rattle.pmg_value.specs.declared.refusal.Refusal.{Refusal}
+use Rattle.pmg_value.specs.declared.refusal.Refusal.TheVariants as refusals
 use Rattle.pmg_scope.specs.Cached.{after_commit, unsealed_of, with_put}
 use Rattle.pmg_scope.specs.declared.scope.Scope.{Scope}
 use Rattle.pmg_commit.specs.Knowledge.{Contribution}
 use Rattle.pmg_frame.specs.declared.frame.Frame.{Frame}
-use Rattle.pmg_node_model.specs.Acts.{Act, Request}
+use Rattle.pmg_node_model.specs.Acts.{Act, Reply, Request}
 use Rattle.pmg_node_model.specs.declared.sent.Sent.{Sent}
 use Rattle.pmg_node.specs.Acting.{reply_as}
 use Rattle.pmg_node.specs.Joining.{Joins, joins, no_joins}
-use Rattle.pmg_node.specs.Servers.{Server, Replies, RepliesAct, after, coded_server, reply_to, sent_by}
+use Rattle.pmg_node.specs.Servers.{Server, IsAccepted, Replies, RepliesAct, after, coded_server, reply_to, sent_by}
 use Rattle.pmg_node.specs.declared.act.Reply.{Reply as GivenReply}
 use Rattle.pmg_group_model.specs.Worlds.{reply_or_refusal}
 use Rattle.pmg_caches.specs.Caching.{AllCached, cached_for, coded_all_cached}
@@ -68,6 +69,17 @@ abbrev pub link_committed : Linked → Proc → Linked
 link_committed l p =
     let done = link_after l (commit_of l p) in
     record { node = done.node; caches = changed_at l.caches p (after_commit (cached_for l.caches p)); waiting = done.waiting; joined = done.joined }
+
+-- A refusal of a commit is the one that is due. NoMemory is told only where the commit would be accepted, or would pass a limit:
+-- whether it does is known only by a copy of what was put.
+abbrev pub RefusesCommit : Refusal → Reply → Type 0
+RefusesCommit refusals.NoMemory due = IsAccepted due ⊎ (due ≡ Reply.refused refusals.TooMany)
+RefusesCommit e due = due ≡ Reply.refused e
+
+-- a commit is answered with what is due, or an allocation failed that it takes
+abbrev pub RepliesCommit : Result GivenReply Refusal → Reply → Type 0
+RepliesCommit (Ok r) due = due ≡ reply_as r
+RepliesCommit (Err e) due = RefusesCommit e due
 
 -- A request is answered so: a get of a key of one's own by what one's client put, any other request by the node.
 abbrev pub RepliesBy : Option (Proc × List ℕ) → Linked → Request → Result GivenReply Refusal → Type 0

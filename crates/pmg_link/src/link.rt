@@ -5,12 +5,14 @@ ghost use Rattle.pmg_value.specs.Answers.{Gives};
 ghost use Rattle.pmg_value.specs.CheckOrder.{first_of};
 ghost use Rattle.pmg_value.specs.Spelling.{spelling};
 ghost use Rattle.pmg_value.specs.declared.refusal.Refusal.TheVariants as refusals;
+ghost use Rattle.pmg_scope.specs.Cached.{unsealed_of};
 ghost use Rattle.pmg_node.specs.Acting.{act_of, joins_in, reply_as, request_of};
 ghost use Rattle.pmg_node.specs.Joining.{no_joins};
-ghost use Rattle.pmg_node.specs.Servers.{reply_in, reply_to, IsAnswered, RepliesAct};
+ghost use Rattle.pmg_node.specs.Servers.{reply_to, IsAnswered, RepliesAct};
+ghost use Rattle.pmg_node.specs.declared.act.Reply.{Reply as GivenReply};
 ghost use Rattle.pmg_node_model.specs.Acts.{Act as ModelAct};
 ghost use Rattle.pmg_caches.specs.Caching.{cached_for, put_cause_at};
-ghost use Rattle.pmg_link.specs.Links.{after_request, commit_of, link_after, link_committed, link_with_put, new_link, DeliversNext, RepliesRequest};
+ghost use Rattle.pmg_link.specs.Links.{after_request, commit_of, link_after, link_committed, link_with_put, new_link, DeliversNext, RefusesCommit, RepliesCommit, RepliesRequest};
 
 use crate::inbox::Inbox;
 use pmg_caches::{Caches, own_get, own_key, put_at};
@@ -66,6 +68,14 @@ fn nothing() -> Joined
     }
 }
 
+/// The process's commit of what its client put since the last one.
+fn commit_act(caches: &Caches, proc: &Proc) -> Result<Act, AllocError>
+    ensures { IfOk result (λ a. act_of a ≡ ModelAct.commit proc.now (unsealed_of (cached_for caches.now proc.now))) }
+{
+    let batch = caches.unsealed(proc)?;
+    Ok(Act::Commit(proc.copy()?, batch))
+}
+
 impl Link {
     /// A link of that node: nobody put anything, no frame waits, and nothing was joined. It keeps the allocator of the node's registry.
     pub fn new(node: Node) -> Link
@@ -113,16 +123,34 @@ impl Link {
         put_at(&self.node, &mut self.caches, proc, scope, key, value)
     }
 
+    /// Refuses a commit for which memory lacks: for who calls where that is due, and else as NoMemory.
+    fn refuse_commit(&mut self, proc: &Proc) -> Refusal
+        ensures reply { RefusesCommit result (reply_to self.old.node (commit_of self.old proc.now)) }
+        ensures after { IsAnswered {X = GivenReply} (Err result) → self.new ≡ link_after self.old (commit_of self.old proc.now) }
+        ensures memory { result ≡ refusals.NoMemory → self.new ≡ self.old }
+    {
+        match self.node.check_free(proc) {
+            Ok(()) => Refusal::NoMemory,
+            Err(refusal) => {
+                self.joined = nothing();
+                refusal
+            }
+        }
+    }
+
     /// The process commits what it put since its last commit (PMIx Standard 5.0, PMIx_Commit). Refused as the node refuses the
-    /// commit, and then what it put waits for the next one; and as NoMemory, which changes nothing.
+    /// commit, and then what it put waits for the next one; and as NoMemory, which changes nothing. NoMemory comes only where the
+    /// commit would be accepted, or would pass a limit: whether it does is known only by a copy of what was put.
     pub fn commit(&mut self, proc: &Proc) -> Result<Reply, Refusal>
-        ensures reply { IsAnswered result → reply_to self.old.node (commit_of self.old proc.now) ≡ reply_in reply_as result }
+        ensures reply { RepliesCommit result (reply_to self.old.node (commit_of self.old proc.now)) }
         ensures done { OnOk result (self.new ≡ link_committed self.old proc.now) }
         ensures refused { OnErr result (IsAnswered result → self.new ≡ link_after self.old (commit_of self.old proc.now)) }
         ensures memory { result ≡ Err refusals.NoMemory → self.new ≡ self.old }
     {
-        let batch = self.caches.unsealed(proc)?;
-        let reply = self.act(&Act::Commit(proc.copy()?, batch))?;
+        let Ok(act) = commit_act(&self.caches, proc) else {
+            return Err(self.refuse_commit(proc));
+        };
+        let reply = self.act(&act)?;
         self.caches.mark_sealed(proc);
         Ok(reply)
     }
