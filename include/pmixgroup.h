@@ -69,7 +69,7 @@ typedef struct pmixgroup_node {
 #define PMIXGROUP_IGNORED 3u /* the frame does not concern the node */
 
 /* Codes of calls that are refused. */
-#define PMIXGROUP_NO_MEMORY 16u          /* an allocation failed */
+#define PMIXGROUP_NO_MEMORY 16u          /* an allocation failed, once names, keys and numbers were judged */
 #define PMIXGROUP_BAD_PARAM 17u          /* an argument is outside its rules */
 #define PMIXGROUP_NOT_FOUND 18u          /* nothing is there under that name */
 #define PMIXGROUP_OUTSIDE_SCOPE 19u      /* the value's scope does not reach who asks */

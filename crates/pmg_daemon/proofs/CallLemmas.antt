@@ -1,19 +1,22 @@
 -- Calls, what is due of them, and the link then.
 use Rattle.std.proofs.Common.{◌≡◌, ◌≢◌, ◌⊎◌, ℕ, ◌+◌, ◌<◌, Bool, true, false, cond, List, [], ◌∷◌, Option, Some, None, Result, Ok, Err, IfOk, OnErr, OnOk, inl, inr, refl, sym, ap, subst, ◌∙◌, arith, lit<}
-use Rattle.pmg_value.specs.CheckOrder.{first_in}
+use Rattle.pmg_value.specs.Answers.{IsAnswer}
+use Rattle.pmg_value.specs.CheckOrder.{check_order, first_in, first_of}
+use Rattle.pmg_value.specs.Names.{is_nspace}
 use Rattle.pmg_value.specs.Refusals.{number_of}
 use Rattle.pmg_value.specs.declared.process.Proc.{Proc}
 use Rattle.pmg_value.specs.declared.refusal.Refusal.{Refusal}
 use Rattle.pmg_value.specs.declared.refusal.Refusal.TheVariants as refusals
 use Rattle.pmg_node_model.specs.Acts.{Act, Reply, Request}
 use Rattle.pmg_node.specs.Acting.{reply_as}
-use Rattle.pmg_node.specs.Servers.{IsAnswered, RefusesAct, Server, reply_in, reply_to}
+use Rattle.pmg_node.specs.Servers.{IsAccepted, IsAnswered, RefusesAct, Server, reply_in, reply_to}
 use Rattle.pmg_node.specs.declared.act.Reply.{Reply as GivenReply}
 use Rattle.pmg_node.specs.declared.act.Reply.TheVariants as replies
 use Rattle.pmg_caches.proofs.CauseLemmas.{replied_due, same_error}
-use Rattle.pmg_link.specs.Links.{Linked, RepliesBy, commit_of, link_after, link_committed}
-use Rattle.pmg_daemon.specs.Arguments.{FailsArguments}
-use Rattle.pmg_daemon.specs.Calls.{ProcCall, after_commit_due, call_after, call_due, request_due_by, said_after, said_due}
+use Rattle.pmg_group_model.specs.Worlds.{reply_or_refusal}
+use Rattle.pmg_link.specs.Links.{Linked, RefusesCommit, RepliesBy, RepliesCommit, commit_of, link_after, link_committed}
+use Rattle.pmg_daemon.specs.Arguments.{AreJudged, FailsArguments, proc_said}
+use Rattle.pmg_daemon.specs.Calls.{ProcCall, MayBeDone, after_commit_due, call_after, call_due, request_due_by, said_after, said_due}
 use Rattle.pmg_daemon.specs.Codes.{reply_code}
 use Rattle.pmg_daemon.specs.Daemons.{FailsNaming, Made, Makes}
 use Rattle.pmg_daemon.specs.declared.codes.TheConstants.{NO_MEMORY, REFUSED}
@@ -50,6 +53,33 @@ pub request_told : (own : Option (Proc × List ℕ)) (l : Linked) (r : Request) 
 request_told None l r (Ok reply) is told = is
 request_told None l r (Err e) is told = act_refused l.node (Act.request r) e told is
 request_told (Some own) l r answer is told = sym (replied_due answer _ is told)
+
+-- a put that is short of memory would be done
+pub put_may_be : (cause : Refusal → Bool) → IsAnswer (first_of cause (tt {0})) → MayBeDone (reply_or_refusal (first_of cause Reply.done))
+put_may_be cause free = by_answer (first_of cause (tt {0})) refl free
+  where
+    by_answer : (r : Result (Unit {0}) Refusal) → first_of cause (tt {0}) ≡ r → IsAnswer r → MayBeDone (reply_or_refusal (first_of cause Reply.done))
+    by_answer (Ok u) is ok = inl (subst IsAccepted (sym (ap reply_or_refusal (first_ok check_order cause (tt {0}) u Reply.done is))) tt)
+    by_answer (Err e) is none = absurd none
+
+-- and so would a request, or it passes a limit
+pub request_may_be : (own : Option (Proc × List ℕ)) (l : Linked) (r : Request) (answer : Result GivenReply Refusal) → RepliesBy own l r answer → answer ≡ Err refusals.NoMemory
+    → MayBeDone (request_due_by own l r)
+request_may_be own l r answer is short = by_key own (subst (RepliesBy own l r) short is)
+  where
+    by_key : (own : Option (Proc × List ℕ)) → RepliesBy own l r (Err refusals.NoMemory) → MayBeDone (request_due_by own l r)
+    by_key None (inl free) = inl free
+    by_key None (inr spent) = inr spent.0
+    by_key (Some key) free = inl free
+
+-- a commit is answered what is due of it
+pub commit_told : (answer : Result GivenReply Refusal) (due : Reply) → RepliesCommit answer due → IsAnswered answer → due ≡ reply_in reply_as answer
+commit_told (Ok reply) due is told = is
+commit_told (Err e) due is told = refused e is told
+  where
+    refused : (x : Refusal) → RefusesCommit x due → IsAnswered {X = GivenReply} (Err x) → due ≡ Reply.refused x
+    refused refusals.NoMemory is told = absurd told
+    refused x is told = is
 
 -- a commit that is answered is committed
 committed_by : (r : GivenReply) (l : Linked) (p : Proc) → after_commit_due (reply_as r) l p ≡ link_committed l p
@@ -127,6 +157,7 @@ module _ (due : Result ProcCall Refusal) (d e : Daemon) (code : ℕ) (inboxes : 
     reply = λ small. ap reply_as kept ∙ sym (made.told tt);
     refused = λ big. absurd (grind (arith, unrefused r, is, big));
     memory = λ short. absurd (grind (arith, unrefused r, is, short));
+    judged = λ short. absurd (grind (arith, unrefused r, is, short));
     inboxes = inboxes;
   }
 
@@ -137,6 +168,7 @@ module _ (due : Result ProcCall Refusal) (d e : Daemon) (code : ℕ) (inboxes : 
     reply = λ small. absurd (grind (arith, is, refused_code x, small));
     refused = λ big. kept;
     memory = λ short. absurd (other (grind (arith, is, refused_code x, short)));
+    judged = λ short. absurd (other (grind (arith, is, refused_code x, short)));
     inboxes = inboxes;
   }
 
@@ -150,6 +182,7 @@ module _ (due : Result ProcCall Refusal) (d e : Daemon) (code : ℕ) (inboxes : 
           reply = λ small. absurd (grind (arith, none, small));
           refused = λ big. kept;
           memory = λ is. made.memory (ap Err short);
+          judged = λ is. made.judged (ap Err short);
           inboxes = inboxes;
         }
     | inr other ↦ makes_other x other made is kept
@@ -164,7 +197,7 @@ module _ (due : Result ProcCall Refusal) (d e : Daemon) (code : ℕ) (inboxes : 
 pub made_by : (call : ProcCall) (due : Result ProcCall Refusal) (l m : Linked) (answer : Result GivenReply Refusal) → due ≡ Ok call → (IsAnswered answer → call_due l call ≡ reply_in reply_as answer)
     → (IsAnswered answer → m ≡ call_after l call) → (answer ≡ Err refusals.NoMemory → m ≡ l) → Made due l answer m
 made_by call due l m answer is told after memory =
-    subst (λ (x : Result ProcCall Refusal). Made x l answer m) (sym is) (record { told = told; after = after; memory = memory })
+    subst (λ (x : Result ProcCall Refusal). Made x l answer m) (sym is) (record { told = told; after = after; memory = memory; judged = λ short. tt })
 
 -- arguments that say no call
 pub made_none : (e : Refusal) (due : Result ProcCall Refusal) (l : Linked) → FailsArguments e due → Made due l (Err e) l
@@ -172,8 +205,12 @@ made_none e due l fails = record {
   told = λ answered. told e fails answered;
   after = λ answered. after e fails answered;
   memory = λ short. refl;
+  judged = λ short. judged short;
 }
   where
+    judged : ◌≡◌ {A = Result GivenReply Refusal} (Err e) (Err refusals.NoMemory) → AreJudged due
+    judged short = let same : e ≡ refusals.NoMemory = cc in subst (λ (x : Refusal). FailsArguments x due) same fails
+
     told : (e : Refusal) → FailsArguments e due → IsAnswered {X = GivenReply} (Err e) → said_due l due ≡ Reply.refused e
     told refusals.NoMemory fails answered = absurd answered
     told e fails answered = ap (said_due l) fails
@@ -185,7 +222,13 @@ made_none e due l fails = record {
 -- ---- processes that are named
 
 -- a process that is none is told by its code
-pub fails_naming : (e : Refusal) (due : Result Proc Refusal) → FailsArguments e due → FailsNaming due (REFUSED + number_of e)
-fails_naming refusals.NoMemory (Ok p) fails = refl
-fails_naming refusals.NoMemory (Err x) fails = inl refl
-fails_naming e due fails = subst (λ (x : Result Proc Refusal). FailsNaming x (REFUSED + number_of e)) (sym fails) (inr refl)
+pub fails_naming : (nspace : List ℕ) (rank : ℕ) (e : Refusal) → FailsArguments e (proc_said nspace rank) → FailsNaming (proc_said nspace rank) (REFUSED + number_of e)
+fails_naming nspace rank e fails = by_refusal e (is_nspace nspace) fails
+  where
+    due : Bool → Result Proc Refusal
+    due named = cond named (Ok (record { nspace = nspace; rank = rank })) (Err refusals.BadParam)
+
+    by_refusal : (x : Refusal) (named : Bool) → FailsArguments x (due named) → FailsNaming (due named) (REFUSED + number_of x)
+    by_refusal refusals.NoMemory true fails = refl
+    by_refusal refusals.NoMemory false fails = absurd fails
+    by_refusal x named fails = subst (λ (r : Result Proc Refusal). FailsNaming r (REFUSED + number_of x)) (sym fails) refl

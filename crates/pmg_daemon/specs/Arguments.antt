@@ -16,9 +16,15 @@ use Rattle.pmg_node_model.specs.Acts.{Request}
 use Rattle.pmg_node_parts.specs.Calls.{get_of}
 use Rattle.pmg_daemon.specs.Calls.{ProcCall}
 
--- Arguments fail with this refusal: the one that is due, or an allocation failed.
+-- Arguments are refused for nothing, or only for bytes that are no value: a value is judged only as it is read.
+abbrev pub AreJudged : {Y : Type 0} → Result Y Refusal → Type 0
+AreJudged (Ok y) = Unit {0}
+AreJudged (Err (refusals.BadFrame f)) = Unit {0}
+AreJudged (Err e) = ⊥
+
+-- Arguments fail with this refusal: the one that is due; or an allocation failed, which is told only once they are judged.
 abbrev pub FailsArguments : {Y : Type 0} → Refusal → Result Y Refusal → Type 0
-FailsArguments refusals.NoMemory due = Unit {0}
+FailsArguments refusals.NoMemory due = AreJudged due
 FailsArguments e due = due ≡ Err e
 
 -- What was read of arguments, seen by view, is what they say, unless an allocation failed.

@@ -1,13 +1,14 @@
 -- What a process asks of its node through a link, what is due, and what the link is then.
-use Rattle.std.specs.Prelude.{ℕ, List, Option, Some, None, Result, Ok, Err}
+use Rattle.std.specs.Prelude.{◌≡◌, ◌⊎◌, ℕ, List, Option, Some, None, Result, Ok, Err}
 use Rattle.pmg_value.specs.CheckOrder.{first_of}
 use Rattle.pmg_value.specs.Spelling.{spelling}
 use Rattle.pmg_value.specs.declared.process.Proc.{Proc}
 use Rattle.pmg_value.specs.declared.refusal.Refusal.{Refusal}
+use Rattle.pmg_value.specs.declared.refusal.Refusal.TheVariants as refusals
 use Rattle.pmg_scope.specs.declared.scope.Scope.{Scope}
 use Rattle.pmg_node_model.specs.Acts.{Act, Reply, Request}
 use Rattle.pmg_node.specs.Acting.{request_of}
-use Rattle.pmg_node.specs.Servers.{reply_to}
+use Rattle.pmg_node.specs.Servers.{IsAccepted, reply_to}
 use Rattle.pmg_group_model.specs.Worlds.{reply_or_refusal}
 use Rattle.pmg_caches.specs.Caching.{cached_for, put_cause_at}
 use Rattle.pmg_caches.specs.OwnKeys.{own_answer, own_key}
@@ -41,6 +42,10 @@ unfoldable pub call_due : Linked → ProcCall → Reply
 call_due l (ProcCall.put p scope key value) = reply_or_refusal (put_due l p scope key value)
 call_due l (ProcCall.commit p) = reply_to l.node (commit_of l p)
 call_due l (ProcCall.request r) = request_due_by (own_key r) l r
+
+-- A call is accepted, or passes a limit: for some the limit is judged only by copies.
+abbrev pub MayBeDone : Reply → Type 0
+MayBeDone due = IsAccepted due ⊎ (due ≡ Reply.refused refusals.TooMany)
 
 -- the link after a put that is due this
 abbrev pub after_put : Result Reply Refusal → Linked → Proc → Scope → List ℕ → List ℕ → Linked

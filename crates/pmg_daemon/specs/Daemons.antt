@@ -11,26 +11,30 @@ use Rattle.pmg_node.specs.Servers.{IsAnswered, reply_in}
 use Rattle.pmg_node.specs.declared.act.Reply.{Reply as GivenReply}
 use Rattle.pmg_node_model.specs.Acts.{Reply, Status, status_of}
 use Rattle.pmg_link.specs.Links.{Linked}
-use Rattle.pmg_daemon.specs.Arguments.{and_then, key_said, proc_said}
+use Rattle.pmg_daemon.specs.Arguments.{AreJudged, and_then, key_said, proc_said}
 use Rattle.pmg_daemon.specs.Calls.{ProcCall, said_after, said_due}
 use Rattle.pmg_daemon.specs.Codes.{Fills, number_or, reply_code, status_number}
 use Rattle.pmg_daemon.specs.declared.codes.TheConstants.{DONE, IDLE, NO_MEMORY, REFUSED}
 use Rattle.pmg_daemon.specs.declared.daemon.Daemon.{Daemon}
 
--- What the arguments say is answered so: with what is due, and then the link is as it leaves it; or an allocation failed, and nothing changed.
+-- What the arguments say is answered so: with what is due, and then the link is as it leaves it; or an allocation failed once they were
+-- judged, and nothing changed.
 pub record Made (due : Result ProcCall Refusal) (l : Linked) (answer : Result GivenReply Refusal) (m : Linked) : Type 0 where
   pub told : IsAnswered answer → said_due l due ≡ reply_in reply_as answer
   pub after : IsAnswered answer → m ≡ said_after l due
   pub memory : answer ≡ Err refusals.NoMemory → m ≡ l
+  pub judged : answer ≡ Err refusals.NoMemory → AreJudged due
 
 -- A call is made that the arguments say: its code tells what is due, the link is then as the call leaves it, and what is replied is kept;
--- a refusal leaves the reply that was kept. NoMemory leaves everything. No call changes what waits to be delivered.
+-- a refusal leaves the reply that was kept. NoMemory leaves everything, and is told only once the arguments are judged: names, keys and
+-- numbers that are refused are refused whether there is memory or not. No call changes what waits to be delivered.
 pub record Makes (due : Result ProcCall Refusal) (d : Daemon) (code : ℕ) (e : Daemon) : Type 0 where
   pub told : code ≢ NO_MEMORY → code ≡ reply_code (said_due d.link due)
   pub link : code ≢ NO_MEMORY → e.link ≡ said_after d.link due
   pub reply : code < REFUSED → reply_as e.reply ≡ said_due d.link due
   pub refused : REFUSED ≤ code → e.reply ≡ d.reply
   pub memory : code ≡ NO_MEMORY → e.link ≡ d.link
+  pub judged : code ≡ NO_MEMORY → AreJudged due
   pub inboxes : e.inboxes ≡ d.inboxes
 
 -- A call that may tell a number tells that of its reply; a refusal leaves the number.
@@ -43,10 +47,10 @@ abbrev pub NamesNext : Result Proc Refusal → List Proc → List Proc → Type 
 NamesNext (Ok p) old new = new ≡ old ++ p ∷ []
 NamesNext (Err e) old new = ⊥
 
--- why none was named: memory lacked, or it is none
+-- why none was named: memory lacked for one, or it is none
 abbrev pub FailsNaming : Result Proc Refusal → ℕ → Type 0
 FailsNaming (Ok p) code = code ≡ NO_MEMORY
-FailsNaming (Err e) code = (code ≡ NO_MEMORY) ⊎ (code ≡ REFUSED + number_of e)
+FailsNaming (Err e) code = code ≡ REFUSED + number_of e
 
 -- A process is named after those that were named, or why not is told, and nothing changes.
 pub record Names (d : Daemon) (nspace : List ℕ) (rank code : ℕ) (e : Daemon) : Type 0 where

@@ -1,5 +1,6 @@
 //! What a process asks of its node, read from bytes and numbers.
-ghost use Rattle.std.specs.Prelude.{◌≡◌, Err};
+ghost use Rattle.std.specs.Prelude.{◌≡◌, Err, IfOk, IsTrue};
+ghost use Rattle.pmg_value.specs.Names.{is_nspace};
 ghost use Rattle.pmg_value.specs.Spelling.{spelling};
 ghost use Rattle.pmg_value.specs.declared.refusal.Refusal.TheVariants as refusals;
 ghost use Rattle.pmg_node.specs.Acting.{reply_as};
@@ -21,15 +22,15 @@ ghost use Rattle.pmg_daemon.specs.Arguments.{
   take_said,
   value_said,
 };
-ghost use Rattle.pmg_daemon.specs.Calls.{call_after, call_due, proc_call_of};
+ghost use Rattle.pmg_daemon.specs.Calls.{call_after, call_due, proc_call_of, MayBeDone};
 
 use pmg_get::Mode;
 use pmg_link::Link;
 use pmg_node::{Reply, Request};
 use pmg_scope::Scope;
-use pmg_value::{Key, Nspace, Proc, Rank, Refusal, Value, copy_all};
+use pmg_value::{Key, Nspace, Proc, Rank, Refusal, Value, copy_all, is_key_text, is_nspace_name};
 use pmg_wire::value_from_bytes;
-use std::alloc::Global;
+use std::alloc::{AllocError, Global};
 
 /// What a process asks of its node.
 pub(crate) enum ProcCall {
@@ -57,6 +58,7 @@ impl ProcCall {
         ensures reply { IsAnswered result → call_due link.old (proc_call_of self) ≡ reply_in reply_as result }
         ensures after { IsAnswered result → link.new ≡ call_after link.old (proc_call_of self) }
         ensures memory { result ≡ Err refusals.NoMemory → link.new ≡ link.old }
+        ensures accepted { result ≡ Err refusals.NoMemory → MayBeDone (call_due link.old (proc_call_of self)) }
     {
         match self {
             ProcCall::Put(proc, scope, key, value) => match link.put(&proc, scope, key, value) {
@@ -74,6 +76,15 @@ pub(crate) fn proc_said(alloc: Global, nspace: &[u8], rank: u32) -> Result<Proc,
     ensures { ReadsArguments (λ p. p) result (proc_said nspace.now rank) }
 {
     let nspace = Nspace::read_any(alloc, nspace)?;
+    Ok(Proc::new(nspace, Rank::new(rank)))
+}
+
+/// The process of that namespace, whose name was judged, and that rank.
+fn proc_named(alloc: Global, nspace: &[u8], rank: u32) -> Result<Proc, AllocError>
+    requires { IsTrue (is_nspace nspace.now) }
+    ensures { IfOk result (λ p. p ≡ record { nspace = nspace.now; rank = rank }) }
+{
+    let nspace = Nspace::from_name(alloc, nspace)?;
     Ok(Proc::new(nspace, Rank::new(rank)))
 }
 
@@ -130,9 +141,12 @@ pub(crate) fn put_said(
 ) -> Result<ProcCall, Refusal>
     ensures { ReadsArguments proc_call_of result (put_said nspace.now rank scope key.now value.now) }
 {
-    let proc = proc_said(alloc, nspace, rank)?;
+    if !is_nspace_name(nspace) || !is_key_text(key) {
+        return Err(Refusal::BadParam);
+    }
     let scope = scope_said(scope)?;
-    let key = key_said(alloc, key)?;
+    let proc = proc_named(alloc, nspace, rank)?;
+    let key = Key::from_text(alloc, key)?;
     let value = value_said(alloc, value)?;
     Ok(ProcCall::Put(proc, scope, key, value))
 }
@@ -182,10 +196,13 @@ pub(crate) fn get_said(
 ) -> Result<ProcCall, Refusal>
     ensures { ReadsArguments proc_call_of result (get_said nspace.now rank target.now target_rank key.now mode) }
 {
-    let proc = proc_said(alloc, nspace, rank)?;
-    let target = proc_said(alloc, target, target_rank)?;
-    let key = key_said(alloc, key)?;
+    if !is_nspace_name(nspace) || !is_nspace_name(target) || !is_key_text(key) {
+        return Err(Refusal::BadParam);
+    }
     let mode = mode_said(mode)?;
+    let proc = proc_named(alloc, nspace, rank)?;
+    let target = proc_named(alloc, target, target_rank)?;
+    let key = Key::from_text(alloc, key)?;
     Ok(ProcCall::Request(Request::Ask(mode, proc, target, key)))
 }
 
