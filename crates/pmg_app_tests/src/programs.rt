@@ -311,3 +311,67 @@ impl<R: Wait + Send + Drop> Program for Refreshing<R> {
         }
     }
 }
+
+/// A client that twice puts a number, meets all in a fence that collects no data, and gets what each other one put anew.
+#[derive(Drop)]
+pub struct Rounds<R: Wait> {
+    pub rt: R,
+    pub alloc: Global,
+}
+
+// Gets the key of each other process anew.
+fn get_all_anew<R: Wait>(
+    rt: &R,
+    client: &mut Client<'_>,
+    procs: &[Proc],
+    key: &Key,
+) -> Result<(), Refusal> {
+    for proc in procs {
+        if proc != client.proc() {
+            client.get_refresh(rt, proc, key)?;
+        }
+    }
+    Ok(())
+}
+
+// Puts the number, meets all, and gets what the others put anew.
+fn refresh_round<R: Wait>(
+    rt: &R,
+    client: &mut Client<'_>,
+    procs: &[Proc],
+    key: &Key,
+    number: u32,
+) -> Result<(), Refusal> {
+    client.put(Scope::Global, key.copy()?, Value::U32(number))?;
+    client.commit(rt)?;
+    client.fence(rt, procs, false)?;
+    get_all_anew(rt, client, procs, key)
+}
+
+impl<R: Wait + Send + Drop> Program for Rounds<R> {
+    fn run(
+        &mut self,
+        client: &mut Client<'_>,
+        procs: &[Proc],
+        _out: &mut Vec<u8>,
+    ) -> Result<(), Refusal> {
+        let key = Key::read(self.alloc, b"a")?;
+        refresh_round(&self.rt, client, procs, &key, 1)?;
+        refresh_round(&self.rt, client, procs, &key, 2)
+    }
+}
+
+/// A client that has no memory for its report.
+#[derive(Drop)]
+pub struct Unwritten;
+
+impl Program for Unwritten {
+    fn run(
+        &mut self,
+        _client: &mut Client<'_>,
+        _procs: &[Proc],
+        _out: &mut Vec<u8>,
+    ) -> Result<(), Refusal> {
+        Err(Refusal::NoMemory)
+    }
+}

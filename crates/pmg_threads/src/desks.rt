@@ -1,37 +1,45 @@
 //! The desks of a job: one a node.
-ghost use Rattle.std.specs.Prelude.{◌≡◌, ◌+◌, length, OnOk, IfOk, vec_len};
+ghost use Rattle.std.specs.Prelude.{◌≡◌, [], OnOk, IfOk};
+ghost use Rattle.pmg_jobinfo.specs.Jobs.{AreJobs, Jobs};
+ghost use Rattle.pmg_threads.specs.Running.{AreDesks, AreNodeJournals};
 
 use pmg_desk::Desk;
 use pmg_jobinfo::Registry;
 use pmg_journal::Record;
-use pmg_value::{NodeId, Refusal};
+use pmg_value::NodeId;
 use std::alloc::{AllocError, Global};
 use std::sync::Wait;
 
-/// Opens the desks of the group's nodes, by index.
-pub fn open_desks<R: Wait>(rt: &R, registry: &Registry) -> Result<Vec<Desk>, Refusal>
-    ensures { IfOk result (λ desks. vec_len desks ≡ length registry.now.nodes) }
+/// Opens the desks of the group's nodes, by index. The nodes of a job have few processes, so that a desk is refused for lack of memory
+/// only.
+pub fn open_desks<R: Wait>(rt: &R, registry: &Registry) -> Result<Vec<Desk>, AllocError>
+    ensures desks { IfOk result (λ desks. AreDesks registry.now desks.items) }
+    ensures jobs { AreJobs registry.now }
 {
     let mut desks = Vec::new(registry.allocator());
     match push_desks(rt, registry, &mut desks) {
         Ok(()) => Ok(desks),
-        Err(refusal) => {
+        Err(failed) => {
             let _ = end_desks(rt, registry.allocator(), desks);
-            Err(refusal)
+            Err(failed)
         }
     }
 }
 
-/// Puts the desks of the group's nodes behind those that are there.
-fn push_desks<R: Wait>(rt: &R, registry: &Registry, desks: &mut Vec<Desk>) -> Result<(), Refusal>
-    ensures { OnOk result (vec_len desks.new ≡ vec_len desks.old + length registry.now.nodes) }
+/// Fills the list with the desks of the group's nodes.
+fn push_desks<R: Wait>(rt: &R, registry: &Registry, desks: &mut Vec<Desk>) -> Result<(), AllocError>
+    requires { desks.old.items ≡ [] }
+    ensures desks { OnOk result (AreDesks registry.now desks.new.items) }
+    ensures jobs { AreJobs registry.now }
 {
     for index in 0..registry.node_count() {
-        let id = NodeId::new(index as u32)?;
-        let desk = Desk::new(rt, id, registry.copy()?)?;
+        let id = NodeId::from_checked(index as u32);
+        let Ok(desk) = Desk::new(rt, id, registry.copy()?) else {
+            return Err(AllocError);
+        };
         if let Err(failed) = desks.push(desk) {
             failed.value.into_record(rt);
-            return Err(Refusal::NoMemory);
+            return Err(AllocError);
         }
     }
     Ok(())
@@ -54,12 +62,14 @@ pub fn is_one_closed<R: Wait>(rt: &R, desks: &[Desk]) -> bool {
     false
 }
 
-/// Ends the desks: their journals, with what is known of them. All are ended, also where an allocation fails.
+/// Ends the desks: their journals in the same order, with what is known of them. All are ended, also where an allocation fails.
 pub fn end_desks<R: Wait>(
     rt: &R,
     alloc: Global,
     mut desks: Vec<Desk>,
-) -> Result<Vec<Record>, AllocError> {
+) -> Result<Vec<Record>, AllocError>
+    ensures { (jobs : Jobs) → AreDesks jobs desks.items → IfOk result (λ records. AreNodeJournals jobs records.items) }
+{
     let mut records = Vec::new(alloc);
     let mut is_short = false;
     while let Some(desk) = desks.pop() {
@@ -70,5 +80,6 @@ pub fn end_desks<R: Wait>(
     if is_short {
         return Err(AllocError);
     }
+    records.reverse();
     Ok(records)
 }

@@ -22,8 +22,8 @@ pub struct Links {
     pub repeat: u32,
     /// Each other one of such a number goes out after the next frame of its link.
     pub hold: u32,
-    /// How often each node is told to ask others again for what is missing, a millisecond apart. After that every desk is closed, so
-    /// that a job ends whose frames were lost.
+    /// How often each node asks others again for what is missing: a millisecond apart or later, and only while no frame is on its
+    /// way. After that every desk is closed, so that a job ends whose frames were lost.
     pub nudges: u32,
 }
 
@@ -43,7 +43,8 @@ struct Way {
     ready: Vec<Frame>,
 }
 
-/// The ends of the links at one node: where its frames go, by the node's index, and where those for it come from.
+/// The ends of the links at one node: where its frames go, by the node's index, where those for it come from, and what all links
+/// carry.
 #[derive(Drop)]
 pub struct Ends<'d> {
     /// The node's desk.
@@ -52,6 +53,14 @@ pub struct Ends<'d> {
     pub(crate) to: Ways,
     /// From all nodes.
     pub from: Receiver<Bundle, Global>,
+    /// What is on its way, to all nodes.
+    pub(crate) traffic: Traffic,
+}
+
+/// What is on its way between nodes: the channels of all nodes, from which nothing is taken here.
+#[derive(Drop)]
+pub(crate) struct Traffic {
+    channels: Vec<Receiver<Bundle, Global>>,
 }
 
 /// The links from one node, by the index of the node that they lead to.
@@ -93,38 +102,62 @@ impl Way {
         Ok(())
     }
 
-    /// Gives the frames that are ready to the channel, if there are some, and says whether it took them.
-    fn give<R: Wait>(&mut self, rt: &R) -> bool {
+    /// Gives the frames that are ready to the channel, if there are some. Errors: `Closed` if the node takes no more frames,
+    /// `NoMemory` if the channel cannot grow.
+    fn give<R: Wait>(&mut self, rt: &R) -> Result<(), Refusal> {
         if self.ready.is_empty() {
-            return true;
+            return Ok(());
         }
         let alloc = *self.ready.allocator();
         let frames = mem::replace(&mut self.ready, Vec::new(alloc));
-        self.to.send(rt, Bundle { frames }).is_ok()
+        match self.to.send(rt, Bundle { frames }) {
+            Ok(()) => Ok(()),
+            Err(error) if error.is_disconnected() => Err(Refusal::Closed),
+            Err(_) => Err(Refusal::NoMemory),
+        }
     }
 }
 
 impl Ways {
-    /// Carries the frames over the links to their nodes, those of one node together, and says whether all of them went.
-    fn carry<R: Wait>(&mut self, rt: &R, frames: VecDeque<Sent>) -> bool {
+    /// Carries the frames over the links to their nodes, those of one node together. Errors: `BadParam` if no link leads to a
+    /// frame's node, `NoMemory` if a link cannot keep a frame, and those of `Way::give`.
+    fn carry<R: Wait>(&mut self, rt: &R, frames: VecDeque<Sent>) -> Result<(), Refusal> {
         for sent in frames {
             let Some(way) = self.ways.get_mut(sent.to.index() as usize) else {
-                return false;
+                return Err(Refusal::BadParam);
             };
-            if way.carry(self.links, sent.frame).is_err() {
-                return false;
-            }
+            way.carry(self.links, sent.frame)?;
         }
         self.give_all(rt)
     }
 
-    /// Gives what is ready on each link to its channel, and says whether all of it was taken.
-    fn give_all<R: Wait>(&mut self, rt: &R) -> bool {
-        let mut are_taken = true;
+    /// Gives what is ready on each link to its channel, up to the first that does not take it. Errors: those of `Way::give`.
+    fn give_all<R: Wait>(&mut self, rt: &R) -> Result<(), Refusal> {
         for way in self.ways.iter_mut() {
-            are_taken = way.give(rt) && are_taken;
+            way.give(rt)?;
         }
-        are_taken
+        Ok(())
+    }
+}
+
+impl Traffic {
+    /// The traffic over these channels.
+    fn over(alloc: Global, receivers: &[Receiver<Bundle, Global>]) -> Result<Traffic, AllocError> {
+        let mut channels = Vec::with_capacity(alloc, receivers.len())?;
+        for receiver in receivers {
+            channels.push(receiver.clone()?)?;
+        }
+        Ok(Traffic { channels })
+    }
+
+    /// Another look at the traffic.
+    fn copy(&self) -> Result<Traffic, AllocError> {
+        Traffic::over(*self.channels.allocator(), &self.channels)
+    }
+
+    /// Whether no bundle waits to be delivered.
+    fn is_still(&self) -> bool {
+        self.channels.iter().all(|channel| channel.is_empty())
     }
 }
 
@@ -151,13 +184,13 @@ pub fn link_desks<'d>(
     alloc: Global,
     desks: &'d [Desk],
     links: Links,
-) -> Result<Vec<Ends<'d>>, Refusal> {
+) -> Result<Vec<Ends<'d>>, AllocError> {
     let mut senders = Vec::with_capacity(alloc, desks.len())?;
-    let mut receivers = VecDeque::new(alloc);
+    let mut receivers = Vec::with_capacity(alloc, desks.len())?;
     for _ in desks {
         let (to, from) = unbounded(alloc)?;
         senders.push(to)?;
-        receivers.push_back(from)?;
+        receivers.push(from)?;
     }
     join_ends(alloc, desks, &senders, receivers, links)
 }
@@ -167,13 +200,20 @@ fn join_ends<'d>(
     alloc: Global,
     desks: &'d [Desk],
     senders: &[Sender<Bundle, Global>],
-    receivers: VecDeque<Receiver<Bundle, Global>>,
+    receivers: Vec<Receiver<Bundle, Global>>,
     links: Links,
-) -> Result<Vec<Ends<'d>>, Refusal> {
+) -> Result<Vec<Ends<'d>>, AllocError> {
     let mut ends = Vec::with_capacity(alloc, desks.len())?;
+    let all = Traffic::over(alloc, &receivers)?;
     for (desk, from) in desks.iter().zip(receivers) {
         let to = ways_of(alloc, senders, links)?;
-        ends.push(Ends { desk, to, from })?;
+        let traffic = all.copy()?;
+        ends.push(Ends {
+            desk,
+            to,
+            from,
+            traffic,
+        })?;
     }
     Ok(ends)
 }
@@ -192,8 +232,8 @@ pub fn send_frames<R: Wait>(
         let Ok(frames) = desk.take_frames(rt) else {
             break;
         };
-        if !to.carry(rt, frames) {
-            shortage.note(rt);
+        if let Err(refusal) = to.carry(rt, frames) {
+            shortage.note_refusal(rt, refusal);
             break;
         }
     }
@@ -221,18 +261,30 @@ pub fn deliver_frames<R: Wait>(
     }
 }
 
-/// Tells the desk's node so many times, a millisecond apart, to ask others again for what is missing, until the desk is closed. Then
-/// all desks are closed.
+/// Waits a millisecond, and longer while a frame is on its way: it may bring what is missing, or ask for it. Returns at once after the
+/// desk is closed.
+fn pause<R: Wait + Clock>(rt: &R, desk: &Desk, traffic: &Traffic) {
+    for _ in rt.forever() {
+        thread::sleep(rt, Duration::from_millis(1));
+        if traffic.is_still() || desk.is_closed(rt) {
+            return;
+        }
+    }
+}
+
+/// Tells the desk's node so many times, with a pause between two, to ask others again for what is missing, until the desk is closed.
+/// Then all desks are closed.
 pub fn nudge_desk<R: Wait + Clock>(
     rt: &R,
     desks: &[Desk],
     shortage: &Shortage,
     desk: &Desk,
+    traffic: &Traffic,
     nudges: u32,
 ) {
     for turn in 0..nudges {
         if turn > 0 {
-            thread::sleep(rt, Duration::from_millis(1));
+            pause(rt, desk, traffic);
         }
         match desk.nudge(rt) {
             Ok(()) => {}

@@ -1,4 +1,7 @@
 //! What the clients of a job run, and what comes of it.
+ghost use Rattle.std.specs.Prelude.{◌++◌, ◌∷◌, [], List, OnOk};
+ghost use Rattle.pmg_value.specs.declared.process.Proc.{Proc as AnyProc};
+ghost use Rattle.pmg_threads.specs.Running.{TellAll};
 
 use pmg_desk::Client;
 use pmg_journal::{Record, Transcript};
@@ -9,7 +12,8 @@ use std::marker::Send;
 /// What one client of a job runs.
 pub trait Program: Send + Drop {
     /// Runs as the client, among these processes of the job, rising by namespace and rank. What it puts behind `out` is its
-    /// report. A client whose program answers a refusal is terminated.
+    /// report. A client whose program answers a refusal is terminated. A client whose program answers Ok is not: who waits for it in a
+    /// fence waits on.
     fn run(
         &mut self,
         client: &mut Client<'_>,
@@ -29,11 +33,14 @@ pub struct Report {
     pub answer: Result<(), Refusal>,
 }
 
-/// What came of one client, and what it called.
+/// What came of one client: what its program wrote and answered, and what the client called. Whose it is, the launcher knows.
 #[derive(Drop)]
 pub(crate) struct Ended {
-    pub(crate) report: Report,
+    pub(crate) text: Vec<u8>,
+    pub(crate) answer: Result<(), Refusal>,
     pub(crate) transcript: Transcript,
+    /// Whether a desk was closed before it had ended.
+    pub(crate) is_cut: bool,
 }
 
 /// What the clients of a job report, and what they called.
@@ -47,7 +54,9 @@ pub(crate) struct Reported {
 
 impl Reported {
     /// Nothing is reported yet.
-    pub(crate) fn new(alloc: Global) -> Reported {
+    pub(crate) fn new(alloc: Global) -> Reported
+        ensures { TellAll [] result.reports.items result.transcripts.items }
+    {
         Reported {
             reports: Vec::new(alloc),
             transcripts: Vec::new(alloc),
@@ -55,11 +64,28 @@ impl Reported {
         }
     }
 
-    /// One client more has ended.
-    pub(crate) fn push(&mut self, ended: Ended) -> Result<(), AllocError> {
-        let Ended { report, transcript } = ended;
-        self.reports.push(report)?;
-        self.transcripts.push(transcript)?;
+    /// Adds what came of the client of the process.
+    pub(crate) fn push(&mut self, proc: &Proc, ended: Ended) -> Result<(), AllocError>
+        ensures { (procs : List AnyProc) → TellAll procs self.old.reports.items self.old.transcripts.items
+            → OnOk result (TellAll (procs ++ proc.now ∷ []) self.new.reports.items self.new.transcripts.items) }
+    {
+        let Ended {
+            text,
+            answer,
+            transcript,
+            is_cut,
+        } = ended;
+        let Transcript { proc: _, calls } = transcript;
+        self.is_cut = self.is_cut || is_cut;
+        self.reports.push(Report {
+            proc: proc.copy()?,
+            text,
+            answer,
+        })?;
+        self.transcripts.push(Transcript {
+            proc: proc.copy()?,
+            calls,
+        })?;
         Ok(())
     }
 }
@@ -69,8 +95,8 @@ impl Reported {
 pub struct Unaudited {
     /// The reports of the clients, rising by namespace and rank.
     pub reports: Vec<Report>,
-    /// What happened at each node, with what is known of it.
+    /// What happened at each node, by index, with what is known of it.
     pub records: Vec<Record>,
-    /// What each client called.
+    /// What each client called, in the order of the reports.
     pub transcripts: Vec<Transcript>,
 }

@@ -1,5 +1,8 @@
 //! A job is run: its desks, the threads of its links and of its clients.
-ghost use Rattle.std.specs.Prelude.{◌≡◌, length};
+ghost use Rattle.std.specs.Prelude.{◌≡◌, length, map, IfErr, IfOk, vec_len};
+ghost use Rattle.pmg_jobinfo.specs.Jobs.{AreJobs};
+ghost use Rattle.pmg_desk.specs.Clients.{proc_of};
+ghost use Rattle.pmg_threads.specs.Running.{IsCutShort, IsFull, IsRunRefusal, IsUnaudited, TellAll};
 
 use crate::desks::{close_desks, end_desks, is_one_closed, open_desks};
 use crate::links::{Ends, Links, deliver_frames, link_desks, nudge_desk, send_frames};
@@ -10,10 +13,10 @@ use pmg_jobfile::Job;
 use pmg_jobinfo::Registry;
 use pmg_journal::Transcript;
 use pmg_value::{Proc, Refusal};
-use std::alloc::Global;
+use std::alloc::{AllocError, Global};
 use std::sync::Wait;
 use std::thread;
-use std::thread::Threads;
+use std::thread::{JoinHandle, Threads};
 use std::time::Clock;
 
 /// What the thread of one client has to do.
@@ -21,7 +24,6 @@ use std::time::Clock;
 struct Work<'d> {
     program: Box<dyn Program>,
     client: Client<'d>,
-    report: Report,
 }
 
 /// Runs the job over such links, with these programs for its processes, which rise by namespace and rank: a thread a client, two a
@@ -35,7 +37,11 @@ pub fn run_unaudited<R: Threads + Wait + Clock + Sync>(
     job: Job,
     programs: Vec<Box<dyn Program>>,
     links: Links,
-) -> Result<Unaudited, Refusal> {
+) -> Result<Unaudited, Refusal>
+    ensures full { IfOk result (λ _. IsFull job (vec_len programs)) }
+    ensures ok { IfOk result (IsUnaudited job) }
+    ensures refused { IfErr result (IsRunRefusal job (vec_len programs)) }
+{
     let procs = job.procs()?;
     if programs.len() != procs.len() {
         return Err(Refusal::BadParam);
@@ -66,7 +72,11 @@ fn run_group<R: Threads + Wait + Clock + Sync>(
     programs: Vec<Box<dyn Program>>,
     links: Links,
 ) -> Result<Reported, Refusal>
-    requires { length desks.now ≡ length registry.now.nodes }
+    requires jobs { AreJobs registry.now }
+    requires desks { length desks.now ≡ length registry.now.nodes }
+    requires programs { vec_len programs ≡ length procs.now }
+    ensures told { IfOk result (λ r. TellAll procs.now r.reports.items r.transcripts.items) }
+    ensures refused { IfErr result IsCutShort }
 {
     let alloc = registry.allocator();
     let work = share_out(rt, registry, desks, procs, programs)?;
@@ -81,38 +91,38 @@ fn share_out<'d, R: Wait>(
     desks: &'d [Desk],
     procs: &[Proc],
     programs: Vec<Box<dyn Program>>,
-) -> Result<Vec<Work<'d>>, Refusal>
-    requires { length desks.now ≡ length registry.now.nodes }
+) -> Result<Vec<Work<'d>>, AllocError>
+    requires jobs { AreJobs registry.now }
+    requires desks { length desks.now ≡ length registry.now.nodes }
+    requires programs { vec_len programs ≡ length procs.now }
+    ensures { IfOk result (λ work. map (λ one. proc_of one.client) work.items ≡ procs.now) }
 {
     let mut work = Vec::with_capacity(registry.allocator(), procs.len())?;
-    for (proc, program) in procs.iter().zip(programs) {
+    for program in programs {
+        let proc = &procs[work.len()];
         work.push(work_of(rt, registry, desks, proc, program)?)?;
     }
     Ok(work)
 }
 
-/// The work of the process's client, which runs the program.
+/// The work of the process's client, which runs the program. No desk is closed yet, and the process is at home at its desk and has no
+/// other client, so that its desk refuses it for lack of memory only.
 fn work_of<'d, R: Wait>(
     rt: &R,
     registry: &Registry,
     desks: &'d [Desk],
     proc: &Proc,
     program: Box<dyn Program>,
-) -> Result<Work<'d>, Refusal>
-    requires { length desks.now ≡ length registry.now.nodes }
+) -> Result<Work<'d>, AllocError>
+    requires jobs { AreJobs registry.now }
+    requires desks { length desks.now ≡ length registry.now.nodes }
+    ensures { IfOk result (λ one. proc_of one.client ≡ proc.now) }
 {
-    let home = registry.home(proc)?;
-    let report = Report {
-        proc: proc.copy()?,
-        text: Vec::new(registry.allocator()),
-        answer: Ok(()),
-    };
-    let client = desks[home.index() as usize].client(rt, proc)?;
-    Ok(Work {
-        program,
-        client,
-        report,
-    })
+    let home = registry.home_of(proc).index() as usize;
+    match desks[home].client(rt, proc) {
+        Ok(client) => Ok(Work { program, client }),
+        Err(_) => Err(AllocError),
+    }
 }
 
 /// Starts the threads of the links, runs the clients, and closes the desks, so that the links end.
@@ -124,16 +134,28 @@ fn run_threads<R: Threads + Wait + Clock + Sync>(
     ends: Vec<Ends<'_>>,
     nudges: u32,
     work: Vec<Work<'_>>,
-) -> Result<Reported, Refusal> {
+) -> Result<Reported, Refusal>
+    requires { vec_len work ≡ length procs.now }
+    ensures told { IfOk result (λ r. TellAll procs.now r.reports.items r.transcripts.items) }
+    ensures refused { IfErr result IsCutShort }
+{
     let shortage = Shortage::new();
     let noted = &shortage;
     let reported = thread::scope(
         thread::scope_env(),
         rt,
-        move |scope| -> Result<Reported, Refusal> {
+        move |scope| -> Result<Reported, AllocError>
+            requires { vec_len work ≡ length procs.now }
+            ensures { IfOk result (λ r. TellAll procs.entry.now r.reports.items r.transcripts.items) }
+        {
             let mut all_started = true;
             for one in ends {
-                let Ends { desk, to, from } = one;
+                let Ends {
+                    desk,
+                    to,
+                    from,
+                    traffic,
+                } = one;
                 let sends = scope
                     .spawn(move || send_frames(rt, desks, noted, desk, to))
                     .is_ok();
@@ -142,14 +164,14 @@ fn run_threads<R: Threads + Wait + Clock + Sync>(
                     .is_ok();
                 let asks = nudges == 0
                     || scope
-                        .spawn(move || nudge_desk(rt, desks, noted, desk, nudges))
+                        .spawn(move || nudge_desk(rt, desks, noted, desk, &traffic, nudges))
                         .is_ok();
                 all_started = all_started && sends && delivers && asks;
             }
             let reported = if all_started {
                 tell_clients(rt, alloc, desks, procs, work)
             } else {
-                Err(Refusal::NoMemory)
+                Err(AllocError)
             };
             close_desks(rt, desks);
             reported
@@ -160,7 +182,10 @@ fn run_threads<R: Threads + Wait + Clock + Sync>(
 
 /// What was reported, where no desk was closed before all clients had ended. Else NoMemory where an allocation failed in a call of a
 /// client, or in one of the links, which is known once these have ended; and Closed where a desk was closed for another cause.
-fn judge(reported: Reported, is_noted: bool) -> Result<Reported, Refusal> {
+fn judge(reported: Reported, is_noted: bool) -> Result<Reported, Refusal>
+    ensures same { IfOk result (λ r. r ≡ reported) }
+    ensures refused { IfErr result IsCutShort }
+{
     if !reported.is_cut {
         return Ok(reported);
     }
@@ -170,7 +195,7 @@ fn judge(reported: Reported, is_noted: bool) -> Result<Reported, Refusal> {
     Err(Refusal::Closed)
 }
 
-/// Runs the clients, a thread each: what they report and what they called, once all have ended, and whether a desk was closed meanwhile.
+/// Runs the clients, a thread each: what they report and what they called, once all have ended, and whether a desk was closed before.
 /// Where a thread cannot be started every desk is closed.
 fn tell_clients<R: Threads + Wait + Sync>(
     rt: &R,
@@ -178,38 +203,57 @@ fn tell_clients<R: Threads + Wait + Sync>(
     desks: &[Desk],
     procs: &[Proc],
     work: Vec<Work<'_>>,
-) -> Result<Reported, Refusal> {
+) -> Result<Reported, AllocError>
+    requires { vec_len work ≡ length procs.now }
+    ensures { IfOk result (λ r. TellAll procs.now r.reports.items r.transcripts.items) }
+{
     thread::scope(
         thread::scope_env(),
         rt,
-        move |scope| -> Result<Reported, Refusal> {
+        move |scope| -> Result<Reported, AllocError>
+            requires { vec_len work ≡ length procs.now }
+            ensures { IfOk result (λ r. TellAll procs.entry.now r.reports.items r.transcripts.items) }
+        {
             let mut threads = Vec::new(alloc);
             for one in work {
-                let Work {
-                    program,
-                    client,
-                    report,
-                } = one;
+                let Work { program, client } = one;
                 let started = scope.spawn(move || run_client(
-                    rt, desks, procs, program, client, report,
+                    rt, alloc, desks, procs, program, client,
                 ));
-                let is_started = match started {
-                    Ok(thread) => threads.push(thread).is_ok(),
-                    Err(_) => false,
+                let Ok(thread) = started else {
+                    return Err(give_up(rt, desks));
                 };
-                if !is_started {
-                    close_desks(rt, desks);
-                    return Err(Refusal::NoMemory);
+                if threads.push(thread).is_err() {
+                    return Err(give_up(rt, desks));
                 }
             }
-            let mut reported = Reported::new(alloc);
-            for thread in threads {
-                reported.push(thread.join(rt))?;
-            }
-            reported.is_cut = is_one_closed(rt, desks);
-            Ok(reported)
+            join_clients(rt, alloc, procs, threads)
         },
     )
+}
+
+/// Closes the desks, where the clients of a job cannot all be started, so that those that were started end.
+fn give_up<R: Wait>(rt: &R, desks: &[Desk]) -> AllocError {
+    close_desks(rt, desks);
+    AllocError
+}
+
+/// Joins the threads of the clients, by process.
+fn join_clients<R: Threads>(
+    rt: &R,
+    alloc: Global,
+    procs: &[Proc],
+    threads: Vec<JoinHandle<Ended>>,
+) -> Result<Reported, AllocError>
+    requires { vec_len threads ≡ length procs.now }
+    ensures { IfOk result (λ r. TellAll procs.now r.reports.items r.transcripts.items) }
+{
+    let mut reported = Reported::new(alloc);
+    for thread in threads {
+        let proc = &procs[reported.reports.len()];
+        reported.push(proc, thread.join(rt))?;
+    }
+    Ok(reported)
 }
 
 /// Whether an allocation failed in a call of a client.
@@ -219,30 +263,38 @@ fn is_short(reports: &[Report]) -> bool {
         .any(|report| report.answer == Err(Refusal::NoMemory))
 }
 
-/// Runs the program of one client. Where it answers a refusal the client is terminated.
+/// Runs the program of one client. Where it answers a refusal the client is terminated. A desk that is closed later than each client
+/// looks at the desks, as its last act, was closed after all clients had ended.
 fn run_client<R: Wait>(
     rt: &R,
+    alloc: Global,
     desks: &[Desk],
     procs: &[Proc],
     mut program: Box<dyn Program>,
     mut client: Client<'_>,
-    mut report: Report,
 ) -> Ended {
-    report.answer = program.run(&mut client, procs, &mut report.text);
-    let transcript = if report.answer.is_err() {
-        terminate(rt, desks, client, &mut report)
+    let mut text = Vec::new(alloc);
+    let mut answer = program.run(&mut client, procs, &mut text);
+    let transcript = if answer.is_err() {
+        terminate(rt, desks, client, &mut answer)
     } else {
         client.into_transcript()
     };
-    Ended { report, transcript }
+    let is_cut = is_one_closed(rt, desks);
+    Ended {
+        text,
+        answer,
+        transcript,
+        is_cut,
+    }
 }
 
-/// Terminates the client; where that is refused, every desk is closed, and the report tells of an allocation that failed.
+/// Terminates the client; where that is refused, every desk is closed, and the answer tells of an allocation that failed.
 fn terminate<R: Wait>(
     rt: &R,
     desks: &[Desk],
     client: Client<'_>,
-    report: &mut Report,
+    answer: &mut Result<(), Refusal>,
 ) -> Transcript {
     match client.terminate(rt) {
         Ok(transcript) => transcript,
@@ -250,7 +302,7 @@ fn terminate<R: Wait>(
             close_desks(rt, desks);
             let Unended { refusal, client } = unended;
             if refusal == Refusal::NoMemory {
-                report.answer = Err(refusal);
+                *answer = Err(refusal);
             }
             client.into_transcript()
         }
