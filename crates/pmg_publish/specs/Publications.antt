@@ -12,9 +12,10 @@ pub record Publications : Type 0 where
   pub book : Book
   pub log : List Publication
 
--- What a publisher has published, and whether it is open.
+-- What a publisher has published, whether it is open, and whether viewers read it, who go on at a publisher that is not open any more.
 pub record Published : Type 0 where
   pub is_open : Bool
+  pub is_read : Bool
   pub book : Book
   pub log : List Publication
 

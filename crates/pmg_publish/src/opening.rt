@@ -24,7 +24,7 @@ pub fn publisher<R: Wait>(
     viewers: usize,
 ) -> Result<(Publisher, Vec<Viewer>), Refusal>
     requires { viewers ≤ MAX_VIEWERS }
-    ensures publisher { IfOk result (λ r. (r.0.is_open ≡ true) × (r.0.log ≡ [])) }
+    ensures publisher { IfOk result (λ r. (r.0.is_open ≡ true) × (r.0.is_read ≡ true) × (r.0.log ≡ [])) }
     ensures count { IfOk result (λ r. vec_len r.1 ≡ viewers) }
     ensures viewers { IfOk result (λ r. All (λ v. (v.book ≡ r.0.book) × (v.log ≡ [])) r.1.items) }
     ensures err { IsOkUnless result refusals.NoMemory }

@@ -33,7 +33,7 @@ pub struct Publisher {
 }
 
 impl Model for Publisher {
-    ghost use Rattle.std.specs.Prelude.{◌≡◌, [], true, IfSome, IsSome};
+    ghost use Rattle.std.specs.Prelude.{◌≡◌, [], true, is_some, IfSome, IsSome};
     ghost use Rattle.std.specs.Prelude.{drop as after};
     ghost use Rattle.left_right.specs.Sides.{view as known_at};
     ghost use Rattle.pmg_publish.specs.Publications.{Published};
@@ -42,7 +42,7 @@ impl Model for Publisher {
 
     ghost Value = { Published };
 
-    ghost view = { λ p. record { is_open = p.is_open; book = p.history.book; log = p.history.log } };
+    ghost view = { λ p. record { is_open = p.is_open; is_read = is_some p.writer; book = p.history.book; log = p.history.log } };
 
     ghost invariant = { λ p. (p.counter ≡ counter_of p.history.book)
         × (p.is_open ≡ true → IsSome p.writer)
@@ -58,7 +58,7 @@ impl Publisher {
         requires place { IsOf history.book (known_at writer.desk.place) }
         requires shown { writer.desk.shown.value.history ≡ history }
         requires pending { after writer.behind writer.log.items ≡ [] }
-        ensures { result ≡ record { is_open = true; book = history.book; log = history.log } }
+        ensures { result ≡ record { is_open = true; is_read = true; book = history.book; log = history.log } }
     {
         Publisher {
             is_open: true,
@@ -69,8 +69,8 @@ impl Publisher {
     }
 
     /// Shows viewers the board with these pieces too, all of them at once, as the next publication of its list. It waits for
-    /// those who still read the board before the last. NoMemory closes the publisher: what was published stands, and every
-    /// later call is Closed.
+    /// those who still read the board before the last. NoMemory closes the publisher: what was published stands, viewers go on
+    /// reading it, and every later call is Closed.
     pub fn publish<R: Wait>(
         &mut self,
         rt: &R,
@@ -80,6 +80,7 @@ impl Publisher {
         ensures book { self.new.book ≡ self.old.book }
         ensures ok { OnOk result (self.new.log ≡ self.old.log ++ publication near.items far.items ∷ []) }
         ensures open { IsTrue self.new.is_open ↔ IsOk result }
+        ensures readers { self.new.is_read ≡ self.old.is_read }
         ensures err { OnErr result (self.new.log ≡ self.old.log) }
         ensures closed { self.old.is_open ≡ false → result ≡ Err refusals.Closed }
         ensures memory { self.old.is_open ≡ true → IsOkUnless result refusals.NoMemory }
