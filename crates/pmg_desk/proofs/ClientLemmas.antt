@@ -1,20 +1,20 @@
 -- What a client is told of its calls.
-use Rattle.std.specs.Prelude.{IfErr, IfOk}
+use Rattle.std.specs.Prelude.{IfErr, IfOk, OnOk}
 use Rattle.std.proofs.Common.{◌≡◌, ◌⊎◌, inl, inr, ℕ, List, [], ◌∷◌, ◌++◌, Result, Ok, Err, sym, ap, subst}
 use Rattle.pmg_value.specs.declared.refusal.Refusal.{Refusal}
 use Rattle.pmg_value.specs.declared.refusal.Refusal.TheVariants as refusals
 use Rattle.pmg_jobinfo.specs.Jobs.{Jobs}
 use Rattle.pmg_node_model.specs.Acts.{Act, Reply}
+use Rattle.pmg_node.specs.Acting.{act_of, reply_as}
 use Rattle.pmg_node.specs.Servers.{reply_in}
 use Rattle.pmg_node.specs.declared.act.Act.{Act as GivenAct}
 use Rattle.pmg_node.specs.declared.act.Reply.{Reply as GivenReply}
-use Rattle.pmg_publish.specs.declared.counting.Publication.{Publication}
 use Rattle.pmg_desk.specs.Answered.{SameReplies}
 use Rattle.pmg_journal.specs.Journals.{IsEvent, happened}
-use Rattle.pmg_desk.specs.Kinds.{IsReplyTo}
-use Rattle.pmg_journal.specs.Replays.{happening}
+use Rattle.pmg_journal.specs.Knowing.{GoesOnBy}
 use Rattle.pmg_journal.specs.Transcripts.{Calling, Noted, NotesCall, noted}
-use Rattle.pmg_desk.specs.Telling.{IsToldOf}
+use Rattle.pmg_desk.specs.Clients.{Client, Tells, journal_of, proc_of}
+use Rattle.pmg_desk.specs.Telling.{IsKnown, WasReplied}
 use Rattle.pmg_journal.specs.declared.notes.AnswerCopies.{AnswerCopies}
 
 -- a call that an allocation failed, or at a closed desk, is no event
@@ -22,11 +22,16 @@ no_event : (e : Refusal) → (e ≡ refusals.NoMemory) ⊎ (e ≡ refusals.Close
 no_event e (inl is) event = subst (λ (x : Refusal). IsEvent {X = GivenReply} (Err x)) is event
 no_event e (inr is) event = subst (λ (x : Refusal). IsEvent {X = GivenReply} (Err x)) is event
 
-pub told_by : (jobs : Jobs) (id : ℕ) (a : GivenAct) (answer : Result AnswerCopies Refusal) (result : Result GivenReply Refusal) (known : List Publication)
-    → IfOk answer (λ t. IsToldOf jobs id (happened a t.told) known) → IfErr answer (λ e. (e ≡ refusals.NoMemory) ⊎ (e ≡ refusals.Closed))
-    → IfOk answer (λ t. result ≡ t.told) → IfErr answer (λ e. result ≡ Err e) → IsEvent result → IsToldOf jobs id (happened a result) known
-told_by jobs id a (Ok t) result known told err is refused event = subst (λ (r : Result GivenReply Refusal). IsToldOf jobs id (happened a r) known) (sym is) told
-told_by jobs id a (Err e) result known told err is refused event = absurd (no_event e err (subst IsEvent refused event))
+-- a client that was told of what its call was answered was told of what the call's result is
+pub told_by : (c d : Client) (a : GivenAct) (answer : Result AnswerCopies Refusal) (result : Result GivenReply Refusal)
+    → IfOk answer (λ t. GoesOnBy (proc_of c) (journal_of c) (journal_of d) (happened a t.told)) → OnOk answer (IsKnown d.jobs d.node (journal_of d) d.viewer.log)
+    → IfErr answer (λ e. (e ≡ refusals.NoMemory) ⊎ (e ≡ refusals.Closed)) → IfOk answer (λ t. result ≡ t.told) → IfErr answer (λ e. result ≡ Err e)
+    → IsEvent result → Tells c d (act_of a) (reply_in reply_as result)
+told_by c d a (Ok t) result told knows err is refused event = record {
+  goes_on = subst (λ (r : Result GivenReply Refusal). GoesOnBy (proc_of c) (journal_of c) (journal_of d) (happened a r)) (sym is) told;
+  knows = knows;
+}
+told_by c d a (Err e) result told knows err is refused event = absurd (no_event e err (subst IsEvent refused event))
 
 -- the same answer in another form
 module _ {X Y : Type 0} (view : X → Reply) (other : Y → Reply) where
@@ -58,10 +63,10 @@ module _ {X Y : Type 0} (view : X → Reply) (other : Y → Reply) where
   same_noted old more call (Err e) (Ok y) same is = absurd same
 
   -- so who was told of the one was told of the other
-  pub same_told : (jobs : Jobs) (id : ℕ) (a : Act) (known : List Publication) (r : Result X Refusal) (q : Result Y Refusal) → SameReplies view other r q
-      → (IsEvent q → IsToldOf jobs id (happening a (reply_in other q)) known) → IsEvent r → IsToldOf jobs id (happening a (reply_in view r)) known
-  same_told jobs id a known r q same told event =
-      subst (λ (z : Reply). IsToldOf jobs id (happening a z) known) (sym (same_reply r q same)) (told (same_event r q same event))
+  pub same_told : (c d : Client) (a : Act) (r : Result X Refusal) (q : Result Y Refusal) → SameReplies view other r q → (IsEvent q → Tells c d a (reply_in other q)) → IsEvent r
+      → Tells c d a (reply_in view r)
+  same_told c d a r q same told event = subst (Tells c d a) (sym (same_reply r q same)) (told (same_event r q same event))
 
-  pub same_given : (a : Act) (r : Result X Refusal) (q : Result Y Refusal) → SameReplies view other r q → (IsEvent q → IsReplyTo a (reply_in other q)) → IsEvent r → IsReplyTo a (reply_in view r)
-  same_given a r q same told event = subst (IsReplyTo a) (sym (same_reply r q same)) (told (same_event r q same event))
+  pub same_given : (jobs : Jobs) (id : ℕ) (a : Act) (r : Result X Refusal) (q : Result Y Refusal) → SameReplies view other r q → (IsEvent q → WasReplied jobs id a (reply_in other q)) → IsEvent r
+      → WasReplied jobs id a (reply_in view r)
+  same_given jobs id a r q same told event = subst (WasReplied jobs id a) (sym (same_reply r q same)) (told (same_event r q same event))

@@ -37,6 +37,10 @@ use Rattle.pmg_scope.specs.contracts.cache.Cache as Cache
 use Rattle.pmg_publish.specs.contracts.viewer.Version as Version
 use Rattle.pmg_desk.proofs.exclusive.Exclusive.TheSendSync as Lonely
 use Rattle.counted_slot.proofs.Counted.TheSendSync as Counted
+use Rattle.logbook.proofs.tokens.Seen.TheSendSync as Seen
+use Rattle.logbook.proofs.word.Word.TheSendSync as Word
+use Rattle.pmg_history.specs.contracts.appender.Appender as Appender
+use Rattle.pmg_history.specs.contracts.history.History as History
 use Rattle.pmg_journal.specs.contracts.journal.Event as Event
 use Rattle.pmg_journal.specs.contracts.journal.Journal as Journal
 use Rattle.pmg_journal.specs.contracts.record.Step as Step
@@ -158,8 +162,20 @@ journal_part = search (registry_send, event_send, owners, sendable) depth 40 fit
 step_send : IsSend Step.the_row
 step_send = search (sent_send, owners, sendable) depth 40 fits 20000
 
+known_send : IsSend (History.the_row Event.the_row)
+known_send = search (Seen.the_send, sendable) depth 40
+
+known_part : IsSend (History.the_field Event.the_row).row
+known_part = search (Seen.the_send, sendable) depth 40
+
+known_sync : IsSync (History.the_row Event.the_row)
+known_sync = search (Seen.the_sync, sendable) depth 40
+
+list_part : IsSend (Appender.the_field Event.the_row).row
+list_part = search (known_part, Word.the_send, sendable) depth 40
+
 state_send : IsSend State.the_row
-state_send = search (node_send, journal_part, step_send, sent_send, publisher_send, viewer_send, owners, sendable) depth 60 fits 40000
+state_send = search (node_send, journal_part, list_part, step_send, sent_send, publisher_send, viewer_send, owners, sendable) depth 60 fits 40000
 
 told_sync : IsSync Version.the_row
 told_sync = search (history_sync, sendable) depth 40
@@ -168,7 +184,7 @@ gate_send : IsSend LockState.the_row
 gate_send = search (proc_send, maps, owners, sendable) depth 60 fits 20000
 
 pub desk_sync : IsSync Desk.the_row
-desk_sync = search (registry_sync, told_sync, gate_send, state_send, Lonely.the_send, Lonely.the_sync, Counted.the_sync, owners, sendable) depth 80 fits 40000
+desk_sync = search (registry_sync, known_sync, told_sync, gate_send, state_send, Lonely.the_send, Lonely.the_sync, Counted.the_sync, owners, sendable) depth 80 fits 40000
 
 pub transcript_send : IsSend (Transcript.the_field).row
 transcript_send = search (values, proc_part, key_send, value_part, request_part, reply_send, owners, sendable) depth 80 fits 40000
@@ -180,4 +196,4 @@ notes_send : IsSend ClientLog.the_row
 notes_send = search (transcript_send, cache_send, sendable) depth 40
 
 pub client_send : (l : NamedLft) → IsSend (Client.the_row l)
-client_send l = search (desk_sync, viewer_send, notes_send, sendable) depth 40
+client_send l = search (desk_sync, viewer_send, known_send, notes_send, sendable) depth 40

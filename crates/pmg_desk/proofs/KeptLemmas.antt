@@ -1,5 +1,5 @@
 -- What an act leaves under the lock.
-use Rattle.std.proofs.Common.{◌≡◌, ◌⊎◌, inl, inr, ℕ, true, List, [], ◌∷◌, ◌++◌, All, Option, Some, None, Result, Ok, Err, ◌+◌, length, drop, refl, sym, ap, subst, ◌∙◌}
+use Rattle.std.proofs.Common.{◌≡◌, ◌⊎◌, inl, inr, ℕ, true, List, [], ◌∷◌, ◌++◌, All, Option, Some, None, Result, Ok, Err, ◌+◌, length, map, drop, refl, sym, ap, subst, ◌∙◌}
 use Rattle.std.specs.Option.{option_or}
 use Rattle.std.specs.Prelude.{IfSome, IfOk, IfErr, IsSome, OnErr, OnOk}
 use Rattle.std.proofs.lemmas.Bool.{false≢true}
@@ -15,11 +15,13 @@ use Rattle.pmg_node.specs.Servers.{Server, after, reply_in, sent_by}
 use Rattle.pmg_node.specs.declared.act.Act.{Act}
 use Rattle.pmg_node.specs.declared.act.Reply.{Reply}
 use Rattle.pmg_publish.specs.Publications.{Publications, Published}
+use Rattle.pmg_history.specs.Entries.{Entries}
+use Rattle.pmg_journal.specs.declared.journal.Event.{Event}
 use Rattle.pmg_journal.specs.declared.journal.Journal.{Journal}
 use Rattle.pmg_desk.specs.declared.state.Parts.{Parts}
 use Rattle.pmg_journal.specs.declared.notes.AnswerCopies.{AnswerCopies}
 use Rattle.pmg_journal.specs.Calling.{caller_of, free_at}
-use Rattle.pmg_journal.specs.Journals.{IsJournal, happened, start_of, happened_in}
+use Rattle.pmg_journal.specs.Journals.{IsJournal, happened, happening_of, start_of, happened_in}
 use Rattle.pmg_journal.specs.Records.{AreSteps, IsEvidence, IsStep}
 use Rattle.pmg_journal.specs.Replays.{Happening, IsReplay, after_all}
 use Rattle.pmg_journal.specs.declared.record.Evidence.{Evidence}
@@ -42,7 +44,13 @@ steps_on n s a answer out out' first x xs xs' is free count sends sent pushed = 
 none_is : (n : Option Server) (P : Type 0) → n ≡ None → IsSome n → P
 none_is n P none some = absurd (false≢true (subst (λ (x : Option Server). IsSome x) none some))
 
-module _ (p q : Parts) (kept : IsStateKept p) (at : IsAt p q) (viewers : q.viewers.items ≡ p.viewers.items) (last : q.last ≡ p.last) where
+module _
+    (p q : Parts)
+    (kept : IsStateKept p)
+    (at : IsAt p q)
+    (viewers : q.viewers.items ≡ p.viewers.items)
+    (last : q.last ≡ p.last)
+    (read : q.publisher.is_read ≡ p.publisher.is_read) where
   start_same : start_of p.journal ≡ start_of q.journal
   start_same = λ i. new_server (sym at.registry i) (sym at.node i)
 
@@ -53,8 +61,9 @@ module _ (p q : Parts) (kept : IsStateKept p) (at : IsAt p q) (viewers : q.viewe
 
   -- after one act more
   pub kept_on : (a : Act) (answer : Result Reply Refusal) → StateGoesOn p.node a answer (happened_in p.journal) p.outbox.items p.publisher.log q.node (happened_in q.journal) q.outbox.items q.publisher.log
-      → StepsGoOn p.node a answer p.steps.items q.steps.items → (p.publisher.is_open ≡ true → q.publisher.is_open ≡ true) → IsStateKept q
-  kept_on a answer goes step opened = by_node p.node refl goes step
+      → StepsGoOn p.node a answer p.steps.items q.steps.items → (p.list.log ≡ p.journal.events.items → q.list.log ≡ q.journal.events.items)
+      → (p.publisher.is_open ≡ true → q.publisher.is_open ≡ true) → IsStateKept q
+  kept_on a answer goes step listed opened = by_node p.node refl goes step
     where
       live_at : (s : Server) → p.node ≡ Some s → IsLive (start_of p.journal) (happened_in p.journal) p.taken p.outbox.items s
       live_at s is = subst (λ (n : Option Server). IfSome n (IsLive (start_of p.journal) (happened_in p.journal) p.taken p.outbox.items)) is kept.live
@@ -79,7 +88,9 @@ module _ (p q : Parts) (kept : IsStateKept p) (at : IsAt p q) (viewers : q.viewe
                 (subst (λ (x : Server). IsLive x (happened_in q.journal) q.taken q.outbox.items (after s (act_of a))) start_same
                 (subst (λ (t : ℕ). IsLive (start_of p.journal) (happened_in q.journal) t q.outbox.items (after s (act_of a))) (sym at.taken)
                 (subst (λ (out : List Sent). IsLive (start_of p.journal) (happened_in q.journal) p.taken out (after s (act_of a))) (sym moves.outbox) lives)));
+            list = λ _. listed (kept.list some);
             open_then = λ _. opened (kept.open_then some);
+            read = read ∙ kept.read;
             viewers = viewers_still;
             steps = subst (λ (x : Server). AreSteps x (happened_in q.journal) q.steps.items) start_same
                 (subst (λ (es : List Happening). AreSteps (start_of p.journal) es q.steps.items) (sym moves.event)
@@ -89,13 +100,15 @@ module _ (p q : Parts) (kept : IsStateKept p) (at : IsAt p q) (viewers : q.viewe
           }
 
   -- where nothing happened, or the node was given up
-  pub kept_still : happened_in q.journal ≡ happened_in p.journal → q.publisher.log ≡ p.publisher.log → q.steps.items ≡ p.steps.items
-      → (q.node ≡ None) ⊎ ((q.node ≡ p.node) × (q.outbox.items ≡ p.outbox.items) × (q.publisher ≡ p.publisher)) → IsStateKept q
-  kept_still events log steps ends = record {
+  pub kept_still : q.journal.events.items ≡ p.journal.events.items → q.publisher.log ≡ p.publisher.log → q.steps.items ≡ p.steps.items
+      → (q.node ≡ None) ⊎ ((q.node ≡ p.node) × (q.list ≡ p.list) × (q.outbox.items ≡ p.outbox.items) × (q.publisher ≡ p.publisher)) → IsStateKept q
+  kept_still items log steps ends = record {
     journal = subst (λ (x : Server). IsReplay x (happened_in q.journal)) start_same (subst (IsReplay (start_of p.journal)) (sym events) kept.journal);
     published = log ∙ kept.published ∙ ap (published_over (start_of p.journal)) (sym events) ∙ ap (λ (x : Server). published_over x (happened_in q.journal)) start_same;
     live = by_end ends;
+    list = list_by ends;
     open_then = open_by ends;
+    read = read ∙ kept.read;
     viewers = viewers_still;
     steps = subst (λ (x : Server). AreSteps x (happened_in q.journal) q.steps.items) start_same
         (subst (λ (es : List Happening). AreSteps (start_of p.journal) es q.steps.items) (sym events)
@@ -106,41 +119,51 @@ module _ (p q : Parts) (kept : IsStateKept p) (at : IsAt p q) (viewers : q.viewe
     none_last = none_by ends;
   }
     where
-      open_by : (q.node ≡ None) ⊎ ((q.node ≡ p.node) × (q.outbox.items ≡ p.outbox.items) × (q.publisher ≡ p.publisher)) → IsSome q.node → q.publisher.is_open ≡ true
-      open_by (inl none) some = none_is q.node (q.publisher.is_open ≡ true) none some
-      open_by (inr same) some = ap (λ (x : Published). x.is_open) same.2 ∙ kept.open_then (subst (λ (n : Option Server). IsSome n) same.0 some)
+      events : happened_in q.journal ≡ happened_in p.journal
+      events = ap (map happening_of) items
 
-      none_by : (q.node ≡ None) ⊎ ((q.node ≡ p.node) × (q.outbox.items ≡ p.outbox.items) × (q.publisher ≡ p.publisher)) → IsSome q.node → q.last ≡ None
+      list_by : (q.node ≡ None) ⊎ ((q.node ≡ p.node) × (q.list ≡ p.list) × (q.outbox.items ≡ p.outbox.items) × (q.publisher ≡ p.publisher)) → IsSome q.node → q.list.log ≡ q.journal.events.items
+      list_by (inl none) some = none_is q.node (q.list.log ≡ q.journal.events.items) none some
+      list_by (inr same) some =
+          ap (λ (x : Entries Event). x.log) same.1 ∙ kept.list (subst (λ (n : Option Server). IsSome n) same.0 some) ∙ sym items
+
+      open_by : (q.node ≡ None) ⊎ ((q.node ≡ p.node) × (q.list ≡ p.list) × (q.outbox.items ≡ p.outbox.items) × (q.publisher ≡ p.publisher)) → IsSome q.node → q.publisher.is_open ≡ true
+      open_by (inl none) some = none_is q.node (q.publisher.is_open ≡ true) none some
+      open_by (inr same) some = ap (λ (x : Published). x.is_open) same.3 ∙ kept.open_then (subst (λ (n : Option Server). IsSome n) same.0 some)
+
+      none_by : (q.node ≡ None) ⊎ ((q.node ≡ p.node) × (q.list ≡ p.list) × (q.outbox.items ≡ p.outbox.items) × (q.publisher ≡ p.publisher)) → IsSome q.node → q.last ≡ None
       none_by (inl none) some = none_is q.node (q.last ≡ None) none some
       none_by (inr same) some = last ∙ kept.none_last (subst (λ (n : Option Server). IsSome n) same.0 some)
 
-      by_end : (q.node ≡ None) ⊎ ((q.node ≡ p.node) × (q.outbox.items ≡ p.outbox.items) × (q.publisher ≡ p.publisher)) → IfSome q.node (IsLive (start_of q.journal) (happened_in q.journal) q.taken q.outbox.items)
+      by_end : (q.node ≡ None) ⊎ ((q.node ≡ p.node) × (q.list ≡ p.list) × (q.outbox.items ≡ p.outbox.items) × (q.publisher ≡ p.publisher)) → IfSome q.node (IsLive (start_of q.journal) (happened_in q.journal) q.taken q.outbox.items)
       by_end (inl none) = subst (λ (n : Option Server). IfSome n (IsLive (start_of q.journal) (happened_in q.journal) q.taken q.outbox.items)) (sym none) tt
       by_end (inr same) =
           subst (λ (n : Option Server). IfSome n (IsLive (start_of q.journal) (happened_in q.journal) q.taken q.outbox.items)) (sym same.0)
           (subst (λ (x : Server). IfSome p.node (IsLive x (happened_in q.journal) q.taken q.outbox.items)) start_same
           (subst (λ (es : List Happening). IfSome p.node (IsLive (start_of p.journal) es q.taken q.outbox.items)) (sym events)
           (subst (λ (t : ℕ). IfSome p.node (IsLive (start_of p.journal) (happened_in p.journal) t q.outbox.items)) (sym at.taken)
-          (subst (λ (out : List Sent). IfSome p.node (IsLive (start_of p.journal) (happened_in p.journal) p.taken out)) (sym same.1) kept.live))))
+          (subst (λ (out : List Sent). IfSome p.node (IsLive (start_of p.journal) (happened_in p.journal) p.taken out)) (sym same.2) kept.live))))
 
   -- after an act, whatever comes of it
   pub kept_after : (a : Act) (r : Result AnswerCopies Refusal)
       → IfOk r (λ t. StateGoesOn p.node a t.told (happened_in p.journal) p.outbox.items p.publisher.log q.node (happened_in q.journal) q.outbox.items q.publisher.log)
       → IfOk r (λ t. StepsGoOn p.node a t.told p.steps.items q.steps.items)
-      → (p.publisher.is_open ≡ true → OnOk r (q.publisher.is_open ≡ true)) → OnErr r (happened_in q.journal ≡ happened_in p.journal) → OnErr r (q.publisher.log ≡ p.publisher.log)
+      → (p.list.log ≡ p.journal.events.items → OnOk r (q.list.log ≡ q.journal.events.items))
+      → (p.publisher.is_open ≡ true → OnOk r (q.publisher.is_open ≡ true)) → OnErr r (q.journal.events.items ≡ p.journal.events.items) → OnErr r (q.publisher.log ≡ p.publisher.log)
       → OnErr r (q.steps.items ≡ p.steps.items)
-      → (r ≡ Err refusals.NoMemory → (q.node ≡ None) ⊎ ((q.node ≡ p.node) × (q.outbox.items ≡ p.outbox.items) × (q.publisher ≡ p.publisher)))
-      → (r ≡ Err refusals.Closed → (p.node ≡ None) × (q.node ≡ p.node) × (q.outbox.items ≡ p.outbox.items) × (q.publisher ≡ p.publisher))
+      → (r ≡ Err refusals.NoMemory → (q.node ≡ None) ⊎ ((q.node ≡ p.node) × (q.list ≡ p.list) × (q.outbox.items ≡ p.outbox.items) × (q.publisher ≡ p.publisher)))
+      → (r ≡ Err refusals.Closed → (p.node ≡ None) × (q.node ≡ p.node) × (q.list ≡ p.list) × (q.outbox.items ≡ p.outbox.items) × (q.publisher ≡ p.publisher))
       → IfErr r (λ e. (e ≡ refusals.NoMemory) ⊎ (e ≡ refusals.Closed)) → IsStateKept q
-  kept_after a (Ok t) goes step opened events log steps memory closed which = kept_on a t.told goes step opened
-  kept_after a (Err e) goes step opened events log steps memory closed (inl is) = kept_still events log steps (memory (λ i. Err (is i)))
-  kept_after a (Err e) goes step opened events log steps memory closed (inr is) = let shut = closed (λ i. Err (is i)) in kept_still events log steps (inr (shut.1, shut.2, shut.3))
+  kept_after a (Ok t) goes step listed opened items log steps memory closed which = kept_on a t.told goes step listed opened
+  kept_after a (Err e) goes step listed opened items log steps memory closed (inl is) = kept_still items log steps (memory (λ i. Err (is i)))
+  kept_after a (Err e) goes step listed opened items log steps memory closed (inr is) = let shut = closed (λ i. Err (is i)) in kept_still items log steps (inr (shut.1, shut.2, shut.3, shut.4))
 
 -- where the journal, the steps, the publisher and the viewers are the same
 module _
     (p q : Parts)
     (kept : IsStateKept p)
     (journal : q.journal ≡ p.journal)
+    (list : q.list ≡ p.list)
     (steps : q.steps ≡ p.steps)
     (publisher : q.publisher ≡ p.publisher)
     (viewers : q.viewers ≡ p.viewers) where
@@ -166,7 +189,9 @@ module _
         (subst (λ (j : Journal). IfSome p.node (IsLive (start_of j) (happened_in j) q.taken q.outbox.items)) (sym journal)
         (subst (λ (out : List Sent). IfSome p.node (IsLive (start_of p.journal) (happened_in p.journal) q.taken out)) (sym out)
         (subst (λ (t : ℕ). IfSome p.node (IsLive (start_of p.journal) (happened_in p.journal) t [])) (sym taken) (by_node p.node kept.live))));
+    list = λ some. ap (λ (x : Entries Event). x.log) list ∙ kept.list (subst (λ (n : Option Server). IsSome n) node some) ∙ (λ i. (sym journal i).events.items);
     open_then = λ some. ap (λ (x : Published). x.is_open) publisher ∙ kept.open_then (subst (λ (n : Option Server). IsSome n) node some);
+    read = ap (λ (x : Published). x.is_read) publisher ∙ kept.read;
     viewers = viewers_same;
     steps = steps_same;
     last = subst (λ (n : Option Server). IfSome n (λ x. x ≡ after_all (start_of q.journal) (happened_in q.journal))) (sym last)
@@ -185,7 +210,9 @@ module _
     journal = subst IsJournal (sym journal) kept.journal;
     published = published_same;
     live = subst (λ (n : Option Server). IfSome n (IsLive (start_of q.journal) (happened_in q.journal) q.taken q.outbox.items)) (sym node) tt;
+    list = none_is q.node (q.list.log ≡ q.journal.events.items) node;
     open_then = none_is q.node (q.publisher.is_open ≡ true) node;
+    read = ap (λ (x : Published). x.is_read) publisher ∙ kept.read;
     viewers = viewers_same;
     steps = steps_same;
     last = subst (λ (n : Option Server). IfSome n (λ x. x ≡ after_all (start_of q.journal) (happened_in q.journal))) (sym last)

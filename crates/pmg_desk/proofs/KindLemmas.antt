@@ -1,10 +1,9 @@
 -- Each act is given a reply of its kind.
-use Rattle.std.specs.Prelude.{IfOk, IfSome}
-use Rattle.std.proofs.Common.{◌≡◌, ℕ, Bool, true, false, cond, List, Option, Some, None, Result, Ok, Err, refl, subst}
+use Rattle.std.specs.Prelude.{IfOk}
+use Rattle.std.proofs.Common.{◌≡◌, ℕ, Bool, true, false, cond, Result, Ok, Err, subst}
 use Rattle.pmg_value.specs.CheckOrder.{check_order}
 use Rattle.pmg_value.specs.declared.process.Proc.{Proc}
 use Rattle.pmg_value.specs.declared.refusal.Refusal.{Refusal}
-use Rattle.pmg_value.specs.declared.refusal.Refusal.TheVariants as refusals
 use Rattle.pmg_jobinfo.specs.Jobs.{Jobs}
 use Rattle.pmg_frame.specs.declared.frame.Frame.{Frame}
 use Rattle.pmg_get.specs.Gets.{Outcome}
@@ -12,19 +11,18 @@ use Rattle.pmg_get.specs.declared.view.Mode.{Mode}
 use Rattle.pmg_node_model.specs.Acts.{Act, Reply, Request, acts, cause, does, done_as, is_taken, receives, reply_of, serves}
 use Rattle.pmg_node_model.specs.Holdings.{Get, NodeState, answer_in, call_of}
 use Rattle.pmg_node_model.proofs.CallEnds.{leaves_reply, takes_reply, asks_reply}
-use Rattle.pmg_node.specs.Acting.{act_of, reply_as}
+use Rattle.pmg_node.specs.Acting.{reply_as}
 use Rattle.pmg_node.specs.Kinds.{IsDefined}
 use Rattle.pmg_node.specs.Opening.{new_server}
-use Rattle.pmg_node.specs.Servers.{Server, reply_in}
-use Rattle.pmg_node.specs.declared.act.Act.{Act as GivenAct}
+use Rattle.pmg_node.specs.Servers.{Server, reply_in, reply_to}
 use Rattle.pmg_node.specs.declared.act.Reply.{Reply as GivenReply}
 use Rattle.pmg_node.specs.declared.act.Reply.TheVariants as replies
-use Rattle.pmg_publish.specs.declared.counting.Publication.{Publication}
 use Rattle.pmg_journal.specs.Journals.{IsEvent}
-use Rattle.pmg_desk.specs.Kinds.{IsChange, IsKind, IsReplyTo, OrRefused, Tell}
-use Rattle.pmg_journal.specs.Replays.{after_all, happening}
-use Rattle.pmg_desk.specs.States.{Steps}
-use Rattle.pmg_desk.specs.Telling.{IsToldOf}
+use Rattle.pmg_desk.specs.Clients.{Client, Tells}
+use Rattle.pmg_desk.specs.Kinds.{IsChange, IsKind, OrRefused, Tell}
+use Rattle.pmg_journal.specs.Replays.{after_all}
+use Rattle.pmg_desk.specs.Telling.{WasReplied}
+use Rattle.pmg_desk.proofs.TellLemmas.{replied_so, until}
 use Rattle.pmg_desk.proofs.OpenLemmas.{over_first}
 use Rattle.pmg_journal.proofs.ReplayLemmas.{last_is}
 
@@ -68,13 +66,9 @@ module _ (jobs : Jobs) (id : ℕ) (h : NodeState) where
   acts_kind : (a : Act) → IsKind a (acts jobs id h a).reply
   acts_kind a = over_first jobs id h (IsKind a) (does jobs id h a) check_order (cause jobs id h a) (λ e is. refused_kind a e) (does_kind a)
 
--- a reply that some server gives to an act is of its kind
-pub kind_of : (a : Act) (r : Reply) → IsReplyTo a r → IsKind a r
-kind_of a r some = subst (IsKind a) some.is (acts_kind some.server.jobs some.server.id some.server.holding a)
-
--- what a viewer was told of ends with a reply that a server gave
-pub told_reply : (jobs : Jobs) (id : ℕ) (a : Act) (r : Reply) (known : List Publication) → IsToldOf jobs id (happening a r) known → IsReplyTo a r
-told_reply jobs id a r known told = record { server = after_all (new_server jobs id) told.es; is = last_is (new_server jobs id) told.es a r told.replay }
+-- a reply that a server gives to an act is of its kind
+kind_of : (s : Server) (a : Act) (r : Reply) → reply_to s a ≡ r → IsKind a r
+kind_of s a r is = subst (IsKind a) is (acts_kind s.jobs s.id s.holding a)
 
 -- a reply of code is no refusal
 pub plain : (P : Reply → Type 0) (r : GivenReply) → OrRefused P (reply_as r) → P (reply_as r)
@@ -92,13 +86,16 @@ plain P (replies.Ended number) such = such
 plain P (replies.Defined number) such = such
 
 -- so what is answered to an act is of its kind, unless it is refused
-pub answer_kind : (a : Act) (r : Result GivenReply Refusal) → (IsEvent r → IsReplyTo a (reply_in reply_as r)) → IfOk r (λ x. Tell a (reply_as x))
-answer_kind a (Ok x) told = plain (Tell a) x (kind_of a (reply_as x) (told tt))
-answer_kind a (Err e) told = tt
+pub answer_kind : (jobs : Jobs) (id : ℕ) (a : Act) (r : Result GivenReply Refusal) → (IsEvent r → WasReplied jobs id a (reply_in reply_as r)) → IfOk r (λ x. Tell a (reply_as x))
+answer_kind jobs id a (Ok x) told =
+    let it : WasReplied jobs id a (reply_as x) = told tt in
+    plain (Tell a) x (kind_of (after_all (new_server jobs id) it.es) a (reply_as x) (last_is (new_server jobs id) it.es a (reply_as x) it.replay))
+answer_kind jobs id a (Err e) told = tt
 
-pub told_kind : (jobs : Jobs) (id : ℕ) (a : Act) (r : Result GivenReply Refusal) (known : List Publication) → (IsEvent r → IsToldOf jobs id (happening a (reply_in reply_as r)) known)
-    → IfOk r (λ x. Tell a (reply_as x))
-told_kind jobs id a r known told = answer_kind a r (λ event. told_reply jobs id a (reply_in reply_as r) known (told event))
+pub told_kind : (c d : Client) (a : Act) (r : Result GivenReply Refusal) → (IsEvent r → Tells c d a (reply_in reply_as r)) → IfOk r (λ x. Tell a (reply_as x))
+told_kind c d a (Ok x) told =
+    plain (Tell a) x (kind_of (after_all (new_server d.jobs d.node) (until c d a (reply_as x) (told tt))) a (reply_as x) (replied_so c d a (reply_as x) (told tt)))
+told_kind c d a (Err e) told = tt
 
 -- a change of the process sets is told its number
 pub change_kind : (q : Request) (r : Result GivenReply Refusal) → IsChange q → IfOk r (λ x. Tell (Act.request q) (reply_as x)) → IfOk r (λ x. IsDefined (reply_as x))
@@ -111,9 +108,3 @@ change_kind (Request.ask p get mode) (Ok x) change kind = absurd change
 change_kind (Request.take p) (Ok x) change kind = absurd change
 change_kind (Request.terminate p) (Ok x) change kind = absurd change
 change_kind Request.nudge (Ok x) change kind = absurd change
-
--- what an open desk answered is what its node replied
-pub replied : (node left : Option Server) (a : GivenAct) (r : Result GivenReply Refusal) → (IsEvent r → IfSome node (λ s. Steps s a r left)) → (node ≡ None → r ≡ Err refusals.Closed) → IsEvent r
-    → IsReplyTo (act_of a) (reply_in reply_as r)
-replied None left a r step shut event = absurd (subst IsEvent (shut refl) event)
-replied (Some s) left a r step shut event = record { server = s; is = (step event).0 }

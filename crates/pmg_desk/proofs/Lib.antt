@@ -6,7 +6,6 @@ mod TakeLemmas
 pub mod Crossing
 mod OwnLemmas
 mod ReadLemmas
-mod GetLemmas
 mod PlaceLemmas
 mod ReadyLemmas
 mod OutLemmas
@@ -15,3 +14,8 @@ mod SeenLemmas
 mod ClientLemmas
 mod WaitLemmas
 mod ComeLemmas
+mod OthersLemmas
+mod TellLemmas
+mod CallLemmas
+mod KnownLemmas
+mod GetLemmas

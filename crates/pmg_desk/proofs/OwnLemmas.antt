@@ -11,23 +11,23 @@ use Rattle.pmg_get.specs.Gets.{Seen, resolve}
 use Rattle.pmg_get.specs.declared.view.Mode.{Mode}
 use Rattle.pmg_node_parts.specs.Calls.{get_of}
 use Rattle.pmg_node_model.specs.Acts.{reply_of}
-use Rattle.pmg_desk.specs.Reading.{IsDueOrClosed, is_own_key}
+use Rattle.pmg_desk.specs.Reading.{GivesDue, is_own_key}
 
-found_due : (mode : Mode) (v : Value) → IsDueOrClosed (Ok v) (reply_of (resolve (Seen.own (Some (spelling v))) mode))
+found_due : (mode : Mode) (v : Value) → GivesDue (Ok v) (reply_of (resolve (Seen.own (Some (spelling v))) mode))
 unfolding resolve
 found_due mode v = refl
 
-none_due : (mode : Mode) → IsDueOrClosed (Err refusals.NotFound) (reply_of (resolve (Seen.own None) mode))
+none_due : (mode : Mode) → GivesDue (Err refusals.NotFound) (reply_of (resolve (Seen.own None) mode))
 unfolding resolve
 none_due mode = refl
 
 -- the value that was put last
-pub own_found : (o : Option (List ℕ)) (v : Value) → Some (spelling v) ≡ o → (mode : Mode) → IsDueOrClosed (Ok v) (reply_of (resolve (Seen.own o) mode))
-own_found o v is mode = subst (λ (x : Option (List ℕ)). IsDueOrClosed (Ok v) (reply_of (resolve (Seen.own x) mode))) is (found_due mode v)
+pub own_found : (o : Option (List ℕ)) (v : Value) → Some (spelling v) ≡ o → (mode : Mode) → GivesDue (Ok v) (reply_of (resolve (Seen.own o) mode))
+own_found o v is mode = subst (λ (x : Option (List ℕ)). GivesDue (Ok v) (reply_of (resolve (Seen.own x) mode))) is (found_due mode v)
 
 -- nothing was put
-pub own_none : (o : Option (List ℕ)) → None ≡ o → (mode : Mode) → IsDueOrClosed (Err refusals.NotFound) (reply_of (resolve (Seen.own o) mode))
-own_none o is mode = subst (λ (x : Option (List ℕ)). IsDueOrClosed (Err refusals.NotFound) (reply_of (resolve (Seen.own x) mode))) is (none_due mode)
+pub own_none : (o : Option (List ℕ)) → None ≡ o → (mode : Mode) → GivesDue (Err refusals.NotFound) (reply_of (resolve (Seen.own o) mode))
+own_none o is mode = subst (λ (x : Option (List ℕ)). GivesDue (Err refusals.NotFound) (reply_of (resolve (Seen.own x) mode))) is (none_due mode)
 
 -- a key of its own is one of its own process
 pub own_target : (p target : Proc) (key : List ℕ) → is_own_key p (get_of target key) ≡ true → p ≡ target

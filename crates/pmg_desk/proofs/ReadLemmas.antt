@@ -1,4 +1,5 @@
 -- What a client reads and waits for nobody.
+use Rattle.std.specs.Prelude.{MatchBool}
 use Rattle.std.proofs.Common.{◌≡◌, inl, inr, ℕ, Bool, true, false, ◌&&◌, not, cond, List, Option, Some, Result, Ok, Err, sym, ap, subst, ◌∙◌}
 use Rattle.std.specs.FinMap as finite
 use Rattle.std.proofs.lemmas.Bool.{not-false}
@@ -20,7 +21,7 @@ use Rattle.pmg_node_model.specs.Acts.{is_misnamed, reply_of, target_cause}
 use Rattle.pmg_node_model.specs.Holdings.{Get, NodeState, new_holding, plain_seen, seen_of}
 use Rattle.pmg_node.proofs.AskLemmas.{reserved_found, reserved_named, reserved_refuses, told_first}
 use Rattle.pmg_desk.specs.Clients.{Client, proc_of, puts_of}
-use Rattle.pmg_desk.specs.Reading.{IsDueOrClosed, IsReadNow, ReadsNow, is_own_key, now_cause, reserved_seen}
+use Rattle.pmg_desk.specs.Reading.{GivesDue, IsDueOrClosed, IsDueTo, IsReadNow, ReadsNow, is_own_key, now_cause, reserved_seen}
 
 -- a get that waits for nobody does not park
 pub now_tells : (seen : Seen) → resolve seen modes.Now ≡ Outcome.parks → ⊥
@@ -43,17 +44,16 @@ plain_by jobs id nears fars get is = ap (λ (b : Bool). cond b (reserved_seen jo
 -- what the registry answers is due
 pub reserved_due : (jobs : Jobs) (id : ℕ) (get : Get) → is_node jobs id ≡ true → is_reserved get.key ≡ true → is_registered jobs get.target.nspace ≡ true
     → (not (is_general get.target) && is_misnamed jobs get.target) ≡ false → (r : Result Value Refusal) → Gives Some r (told_first jobs id get)
-    → IsDueOrClosed r (reply_of (resolve (reserved_seen jobs id get) modes.Now))
-reserved_due jobs id get node key known named r gives = subst (λ (s : Seen). IsDueOrClosed r (reply_of (resolve s modes.Now))) (reserved_by jobs id _ _ get key) (due r gives)
+    → GivesDue r (reply_of (resolve (reserved_seen jobs id get) modes.Now))
+reserved_due jobs id get node key known named r gives = subst (λ (s : Seen). GivesDue r (reply_of (resolve s modes.Now))) (reserved_by jobs id _ _ get key) (due r gives)
   where
     nothing : NodeState
     nothing = new_holding jobs id
 
     due : (r : Result Value Refusal) → Gives Some r (told_first jobs id get)
-        → IsDueOrClosed r (reply_of (resolve (seen_of jobs id (read_at nothing.near get.target) (read_at nothing.far get.target) get) modes.Now))
+        → GivesDue r (reply_of (resolve (seen_of jobs id (read_at nothing.near get.target) (read_at nothing.far get.target) get) modes.Now))
     due (Ok v) is = reserved_found jobs id get nothing modes.Now key node known named v is
     due (Err refusals.NoMemory) is = tt
-    due (Err refusals.Closed) is = tt
     due (Err e) is = reserved_refuses jobs id get nothing modes.Now key node known named e is
 
 module _ (c : Client) (get : Get) (free : ◌≡◌ {A = Result (Unit {0}) Refusal} (Ok tt) (first_of (now_cause c get) tt)) (other : is_own_key (proc_of c) get ≡ false) where
@@ -80,18 +80,20 @@ module _ (c d : Client) (get : Get) (result : Result Value Refusal) (free : ◌�
   abbrev there : Seen
   there = seen_of c.jobs c.node (read_at (near_of d.viewer.log) get.target) (read_at (far_of d.viewer.log) get.target) get
 
-  read_other : is_own_key (proc_of c) get ≡ false → IsDueOrClosed result (reply_of (resolve there modes.Now)) → IsReadNow c d get result
-  read_other other due =
+  read_other : (reserved : Bool) → is_own_key (proc_of c) get ≡ false → is_reserved get.key ≡ reserved → MatchBool (not reserved) (IsDueOrClosed result (reply_of (resolve there modes.Now))) (GivesDue result (reply_of (resolve there modes.Now)))
+      → IsReadNow c d get result
+  read_other reserved other key due =
       subst (ReadsNow c d get result) free
-      (subst (λ (b : Bool). IsDueOrClosed result (reply_of (resolve (cond b (Seen.own (finite.get (puts_of c).own get.key)) there) modes.Now))) (sym other) due)
+      (subst (λ (b : Bool). IsDueTo (not b && not (is_reserved get.key)) result (reply_of (resolve (cond b (Seen.own (finite.get (puts_of c).own get.key)) there) modes.Now))) (sym other)
+      (subst (λ (b : Bool). IsDueTo (not b) result (reply_of (resolve there modes.Now))) (sym key) due))
 
   -- of a key that is none of its own it is told what the group tells
-  pub read_reserved : is_own_key (proc_of c) get ≡ false → is_reserved get.key ≡ true → IsDueOrClosed result (reply_of (resolve (reserved_seen c.jobs c.node get) modes.Now))
+  pub read_reserved : is_own_key (proc_of c) get ≡ false → is_reserved get.key ≡ true → GivesDue result (reply_of (resolve (reserved_seen c.jobs c.node get) modes.Now))
       → IsReadNow c d get result
-  read_reserved other key due = read_other other (subst (λ (s : Seen). IsDueOrClosed result (reply_of (resolve s modes.Now))) (sym (reserved_by c.jobs c.node _ _ get key)) due)
+  read_reserved other key due = read_other true other key (subst (λ (s : Seen). GivesDue result (reply_of (resolve s modes.Now))) (sym (reserved_by c.jobs c.node _ _ get key)) due)
 
   -- or what the stores tell
   pub read_plain : is_own_key (proc_of c) get ≡ false → is_reserved get.key ≡ false
       → IsDueOrClosed result (reply_of (resolve (plain_seen c.jobs c.node (read_at (near_of d.viewer.log) get.target) (read_at (far_of d.viewer.log) get.target) get) modes.Now))
       → IsReadNow c d get result
-  read_plain other key due = read_other other (subst (λ (s : Seen). IsDueOrClosed result (reply_of (resolve s modes.Now))) (sym (plain_by c.jobs c.node _ _ get key)) due)
+  read_plain other key due = read_other false other key (subst (λ (s : Seen). IsDueOrClosed result (reply_of (resolve s modes.Now))) (sym (plain_by c.jobs c.node _ _ get key)) due)

@@ -1,7 +1,8 @@
 -- Whoever is released was so at a time when its fence was ready.
 use Rattle.std.specs.Prelude.{IfOk}
-use Rattle.std.proofs.Common.{◌≡◌, ◌≤◌, ◌⊎◌, inl, inr, ℕ, true, List, [], ◌∷◌, ◌++◌, Option, Some, None, Result, Ok, Err, refl, sym, ap, subst, ◌∙◌}
+use Rattle.std.proofs.Common.{◌≡◌, ◌≤◌, ◌⊎◌, inl, inr, ℕ, Bool, true, List, [], ◌∷◌, ◌++◌, Option, Some, None, Result, Ok, Err, refl, sym, ap, subst, ◌∙◌}
 use Rattle.std.proofs.lemmas.List.{append_assoc}
+use Rattle.std.proofs.lemmas.Option.{same_Some}
 use Rattle.std.specs.FinMap as finite
 use mathlib.Core.List.{IsPrefix}
 use Rattle.pmg_value.specs.CheckOrder.{check_order}
@@ -9,13 +10,12 @@ use Rattle.pmg_value.specs.Process.{proc_cmp}
 use Rattle.pmg_value.specs.Signatures.{FenceName}
 use Rattle.pmg_value.specs.declared.process.Proc.{Proc}
 use Rattle.pmg_value.specs.declared.refusal.Refusal.{Refusal}
-use Rattle.pmg_jobinfo.specs.Jobs.{Jobs}
 use Rattle.pmg_commit.specs.Data.{Data, level_at}
 use Rattle.pmg_fence.proofs.FitLemmas.{ready_stays}
 use Rattle.pmg_fence.proofs.OldLemmas.{ready_young}
-use Rattle.pmg_fence.specs.Tables.{gone_by}
+use Rattle.pmg_fence.specs.Tables.{fence_of, gone_by}
 use Rattle.pmg_node_model.proofs.AfterActs.{freed_by_ready}
-use Rattle.pmg_node_model.specs.Acts.{Act, Reply, Request, cause, does, leaves, serves}
+use Rattle.pmg_node_model.specs.Acts.{Act, Reply, Request, cause, does, leaves, serves, signature_of}
 use Rattle.pmg_node_model.specs.Holdings.{CallState, NodeState, call_of, is_ready_at}
 use Rattle.pmg_node.specs.Opening.{new_server}
 use Rattle.pmg_node.specs.Replies.{release_reply}
@@ -24,14 +24,17 @@ use Rattle.pmg_node.specs.declared.leaving.Release.{Release}
 use Rattle.pmg_node.specs.declared.leaving.Release.TheVariants as releases
 use Rattle.pmg_publish.specs.Publications.{far_of}
 use Rattle.pmg_publish.specs.declared.counting.Publication.{Publication}
-use Rattle.pmg_desk.specs.Clients.{Client, KnowsReady, Tells, proc_of}
+use Rattle.pmg_desk.specs.Clients.{Client, IsInFence, IsLater, KnowsReady, ReleasedFrom, ReleasedFromOwn, Tells, listed_fence, journal_of, proc_of}
 use Rattle.pmg_journal.specs.Journals.{IsEvent}
-use Rattle.pmg_journal.specs.Replays.{Happening, IsReplay, after_all, happening}
+use Rattle.pmg_journal.specs.Knowing.{AreOfOthers}
+use Rattle.pmg_journal.specs.Replays.{Happening, after_all, happening}
 use Rattle.pmg_desk.specs.Publishing.{published_by, published_over}
-use Rattle.pmg_desk.specs.Telling.{IsToldOf, WasReadyAt}
+use Rattle.pmg_desk.specs.Telling.{WasReadyAt, call_at, fence_of_call}
 use Rattle.pmg_desk.proofs.OpenLemmas.{over_first}
+use Rattle.pmg_desk.proofs.OthersLemmas.{fence_stays}
+use Rattle.pmg_desk.proofs.TellLemmas.{after_both, ends_so, knows_so, replied_so, until}
 use Rattle.pmg_desk.proofs.BoardLemmas.{publishes_what_is_held}
-use Rattle.pmg_journal.proofs.ReplayLemmas.{id_same, jobs_same, last_is}
+use Rattle.pmg_journal.proofs.ReplayLemmas.{id_same, jobs_same}
 use Rattle.pmg_desk.proofs.SeenLemmas.{far_longer}
 use Rattle.pmg_publish.proofs.Prefixes.{prefix_trans}
 
@@ -93,79 +96,95 @@ published_first s (e ∷ one) two =
       append_assoc (published_by s e.act) (published_over (after s e.act) one) rest.0 ∙ ap (λ (ps : List Publication). published_by s e.act ++ ps) rest.1,
     )
 
-replay_first : (s : Server) (one two : List Happening) → IsReplay s (one ++ two) → IsReplay s one
-replay_first s [] two replay = tt
-replay_first s (e ∷ one) two replay = (replay.0, replay_first (after s e.act) one two replay.1)
+-- so the client knows of a time when its fence was ready
+module _ (c d : Client) (p : Proc) (n : ℕ) (gone : List Proc) (proc : p ≡ proc_of c) (told : Tells c d (Act.request (Request.leave p)) (Reply.released n gone)) where
+  abbrev leave : Act
+  leave = Act.request (Request.leave p)
 
--- so the client's viewer knows of a time when its fence was ready
-pub ready_told : (jobs : Jobs) (id : ℕ) (p : Proc) (n : ℕ) (gone : List Proc) (known : List Publication)
-    → IsToldOf jobs id (happening (Act.request (Request.leave p)) (Reply.released n gone)) known → WasReadyAt jobs id p n gone known
-ready_told jobs id p n gone known told = at_first (released_by (after_all start es) p n gone (last_is start es leave (Reply.released n gone) replay))
-  where
-    start : Server
-    start = new_server jobs id
+  abbrev start : Server
+  start = new_server d.jobs d.node
 
-    leave : Act
-    leave = Act.request (Request.leave p)
+  abbrev es : List Happening
+  es = until c d leave (Reply.released n gone) told
 
-    es : List Happening
-    es = told.es
+  shown : IsPrefix (published_over start (es ++ happening leave (Reply.released n gone) ∷ [])) d.viewer.log
+  shown = (knows_so c d leave (Reply.released n gone) told).is_known
 
-    replay : IsReplay start (es ++ happening leave (Reply.released n gone) ∷ [])
-    replay = told.replay
+  nobody : (f : FenceName) → IsReleased p f gone start → ⊥
+  nobody f is = by_none (sym (finite.get-empty proc_cmp p) ∙ is)
+    where
+      by_none : None ≡ Some (CallState.released f gone) → ⊥
+      by_none same = cc
 
-    shown : IsPrefix (published_over start (es ++ happening leave (Reply.released n gone) ∷ [])) known
-    shown = told.is_known
+  -- what is known of a process is no less than what the node held at any time before
+  more_known : (one two : List Happening) → es ≡ one ++ two → (q : Proc) → level_at (after_all start one).holding.far q ≤ level_at (far_of d.viewer.log) q
+  more_known one two is q =
+      let all : IsPrefix (published_over start es) d.viewer.log = prefix_trans (published_over start es) _ d.viewer.log (published_first start es (happening leave (Reply.released n gone) ∷ [])) shown in
+      let first : IsPrefix (published_over start one) d.viewer.log =
+      prefix_trans (published_over start one) _ d.viewer.log (published_first start one two) (subst (λ (xs : List Happening). IsPrefix (published_over start xs) d.viewer.log) is all) in
+      subst (λ (x : Data). level_at x q ≤ level_at (far_of d.viewer.log) q) (publishes_what_is_held d.jobs d.node one).1
+      (subst (λ (ps : List Publication). level_at (far_of (published_over start one)) q ≤ level_at (far_of ps) q) first.1 (far_longer (published_over start one) first.0 q))
 
-    nobody : (f : FenceName) → IsReleased p f gone start → ⊥
-    nobody f is = by_none (sym (finite.get-empty proc_cmp p) ∙ is)
-      where
-        by_none : None ≡ Some (CallState.released f gone) → ⊥
-        by_none same = cc
+  made : (f : FenceName) → IsReleased p f gone (after_all start es) → (one two : List Happening) → es ≡ one ++ two → IsReadyThen p f gone (after_all start one)
+      → WasReadyAt d.jobs d.node p f gone (journal_of d) d.viewer.log
+  made f released one two is ready =
+      let then : is_ready_at d.jobs d.node (after_all start one).holding f ≡ true =
+      (λ i. is_ready_at (sym (jobs_same start one) i) (sym (id_same start one) i) (after_all start one).holding f) ∙ ready.0 in
+      let table = (after_all start one).holding.table in
+      record {
+        es = one;
+        later = two;
+        last = happening leave (Reply.released n gone);
+        is_journal = ends_so c d leave (Reply.released n gone) told ∙ ap (λ (xs : List Happening). xs ++ happening leave (Reply.released n gone) ∷ []) is;
+        released = subst (λ (xs : List Happening). IsReleased p f gone (after_all start xs)) is released;
+        ready = then;
+        gone_then = ready.1 ∙ (λ i. gone_by (jobs_same start one i) (id_same start one i) table f);
+        levels_known = ready_stays d.jobs d.node table table f (level_at (after_all start one).holding.far) (level_at (far_of d.viewer.log)) (λ young other ls there. there)
+            (ready_young d.jobs d.node table f (level_at (after_all start one).holding.far) then) (more_known one two is) then;
+      }
 
-    -- what was published until it left is known
-    until : IsPrefix (published_over start es) known
-    until = prefix_trans (published_over start es) _ known (published_first start es (happening leave (Reply.released n gone) ∷ [])) shown
+  -- the fence is the one that the process was in, by what its client knew before
+  its_fence : (f : FenceName) → IsReleased p f gone (after_all start es) → fence_of_call (call_at d.jobs d.node (journal_of c) p) ≡ Some f
+  its_fence f is =
+      let others : AreOfOthers p told.goes_on.others = subst (λ (q : Proc). AreOfOthers q told.goes_on.others) (sym proc) told.goes_on.are_of_others in
+      sym (fence_stays p (after_all start (journal_of c)) told.goes_on.others others) ∙ ap (λ (s : Server). fence_of_call (call_of s.holding p)) (sym (after_both start (journal_of c) told.goes_on.others))
+      ∙ ap fence_of_call is
 
-    -- what is known of a process is no less than what the node held at any time before
-    more_known : (one two : List Happening) → es ≡ one ++ two → (q : Proc) → level_at (after_all start one).holding.far q ≤ level_at (far_of known) q
-    more_known one two is q =
-        let first : IsPrefix (published_over start one) known =
-        prefix_trans (published_over start one) _ known (published_first start one two) (subst (λ (xs : List Happening). IsPrefix (published_over start xs) known) is until) in
-        subst (λ (d : Data). level_at d q ≤ level_at (far_of known) q) (publishes_what_is_held jobs id one).1
-        (subst (λ (ps : List Publication). level_at (far_of (published_over start one)) q ≤ level_at (far_of ps) q) first.1 (far_longer (published_over start one) first.0 q))
-
-    made : (f : FenceName) → IsReleased p f gone (after_all start es) → f.instance ≡ n → (one two : List Happening) → es ≡ one ++ two → IsReadyThen p f gone (after_all start one)
-        → WasReadyAt jobs id p n gone known
-    made f released same one two is ready =
-        let then : is_ready_at jobs id (after_all start one).holding f ≡ true =
-        (λ i. is_ready_at (sym (jobs_same start one) i) (sym (id_same start one) i) (after_all start one).holding f) ∙ ready.0 in
-        let table = (after_all start one).holding.table in
-        record {
-          es = one;
-          later = two;
-          fence = f;
-          replay = subst (IsReplay start) is (replay_first start es (happening leave (Reply.released n gone) ∷ []) replay);
-          released = subst (λ (xs : List Happening). IsReleased p f gone (after_all start xs)) is released;
-          of_instance = same;
-          ready = then;
-          gone_then = ready.1 ∙ (λ i. gone_by (jobs_same start one i) (id_same start one i) table f);
-          is_known = subst (λ (xs : List Happening). IsPrefix (published_over start xs) known) is until;
-          levels_known = ready_stays jobs id table table f (level_at (after_all start one).holding.far) (level_at (far_of known)) (λ young other ls there. there)
-              (ready_young jobs id table f (level_at (after_all start one).holding.far) then) (more_known one two is) then;
-        }
-
-    at_first : (f : FenceName) × (call_of (after_all start es).holding p ≡ Some (CallState.released f gone)) × (f.instance ≡ n) → WasReadyAt jobs id p n gone known
-    at_first (f, is, same) = by_way (since p f gone start es is)
-      where
-        by_way : IsReleased p f gone start ⊎ ((one : List Happening) × (two : List Happening) × (es ≡ one ++ two) × IsReadyThen p f gone (after_all start one)) → WasReadyAt jobs id p n gone known
-        by_way (inl old) = absurd (nobody f old)
-        by_way (inr (one, two, way, ready)) = made f is same one two way ready
+  ready_told : (f : FenceName) × (fence_of_call (call_at d.jobs d.node (journal_of c) p) ≡ Some f) × (f.instance ≡ n) × WasReadyAt d.jobs d.node p f gone (journal_of d) d.viewer.log
+  ready_told = at_first (released_by (after_all start es) p n gone (replied_so c d leave (Reply.released n gone) told))
+    where
+      at_first : (f : FenceName) × (call_of (after_all start es).holding p ≡ Some (CallState.released f gone)) × (f.instance ≡ n)
+          → (f : FenceName) × (fence_of_call (call_at d.jobs d.node (journal_of c) p) ≡ Some f) × (f.instance ≡ n) × WasReadyAt d.jobs d.node p f gone (journal_of d) d.viewer.log
+      at_first (f, is, same) = (f, its_fence f is, same, by_way (since p f gone start es is))
+        where
+          by_way : IsReleased p f gone start ⊎ ((one : List Happening) × (two : List Happening) × (es ≡ one ++ two) × IsReadyThen p f gone (after_all start one))
+              → WasReadyAt d.jobs d.node p f gone (journal_of d) d.viewer.log
+          by_way (inl old) = absurd (nobody f old)
+          by_way (inr (one, two, way, ready)) = made f is one two way ready
 
 -- who is answered so knows it
-pub ready_known : (d : Client) (p : Proc) (r : Result Release Refusal) → proc_of d ≡ p → (IsEvent r → Tells d (Act.request (Request.leave p)) (reply_in release_reply r)) → IfOk r (KnowsReady d)
-ready_known d p (Err e) same told = tt
-ready_known d p (Ok releases.Idle) same told = tt
-ready_known d p (Ok releases.Waiting) same told = tt
-ready_known d p (Ok (releases.Released instance gone)) same told =
-    subst (λ (q : Proc). WasReadyAt d.jobs d.node q instance gone.items d.viewer.log) (sym same) (ready_told d.jobs d.node p instance gone.items d.viewer.log (told tt))
+pub ready_known : (c d : Client) (p : Proc) (r : Result Release Refusal) → IsLater c d → p ≡ proc_of c → (IsEvent r → Tells c d (Act.request (Request.leave p)) (reply_in release_reply r)) → IfOk r (ReleasedFrom c d)
+ready_known c d p (Err e) later proc told = tt
+ready_known c d p (Ok releases.Idle) later proc told = tt
+ready_known c d p (Ok releases.Waiting) later proc told = tt
+ready_known c d p (Ok (releases.Released instance gone)) later proc told =
+    let it = ready_told c d p instance gone.items proc (told tt) in (
+      it.0,
+      (λ i. fence_of_call (call_at (sym later.jobs i) (sym later.node i) (journal_of c) (sym proc i))) ∙ it.1,
+      it.2,
+      subst (λ (q : Proc). WasReadyAt d.jobs d.node q it.0 gone.items (journal_of d) d.viewer.log) (proc ∙ sym later.proc) it.3,
+    )
+
+-- of the fence of a list that was entered before
+pub own_known : (c mid d : Client) (list : List Proc) (collect : Bool) (k : ℕ) (r : Result Release Refusal) → IsLater c mid → IsLater mid d → IsInFence mid (listed_fence c list collect k)
+    → IfOk r (ReleasedFrom mid d) → IfOk r (ReleasedFromOwn d list collect)
+own_known c mid d list collect k (Err e) first then is released = tt
+own_known c mid d list collect k (Ok releases.Idle) first then is released = tt
+own_known c mid d list collect k (Ok releases.Waiting) first then is released = tt
+own_known c mid d list collect k (Ok (releases.Released instance gone)) first then is released =
+    let f = released.0 in
+    let same : listed_fence c list collect k ≡ f = same_Some _ _ (sym is ∙ released.1) in
+    let number : k ≡ instance = ap (λ (x : FenceName). x.instance) same ∙ released.2 in
+    let its : f ≡ listed_fence d list collect instance =
+    sym same ∙ (λ i. fence_of (signature_of (sym (then.jobs ∙ first.jobs) i) (sym (then.proc ∙ first.proc) i) list collect) (number i)) in
+    subst (λ (x : FenceName). KnowsReady d x gone.items) its released.3

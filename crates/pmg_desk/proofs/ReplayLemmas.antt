@@ -1,18 +1,14 @@
 -- What a replay with one event more publishes, and what is live then.
 use Rattle.std.proofs.Common.{◌≡◌, ℕ, ◌+◌, ◌-◌, ◌≤◌, List, [], ◌∷◌, ◌++◌, length, drop, sym, ap, subst, ◌∙◌, arith}
 use Rattle.std.proofs.lemmas.List.{append-nil, append_assoc, drop-append-le, drop_all, length-append, length-drop}
-use mathlib.Core.List.{IsPrefix}
-use Rattle.pmg_jobinfo.specs.Jobs.{Jobs}
 use Rattle.pmg_node_model.specs.Acts.{Act, Reply}
 use Rattle.pmg_node_model.specs.declared.sent.Sent.{Sent}
-use Rattle.pmg_node.specs.Opening.{new_server}
 use Rattle.pmg_node.specs.Servers.{Server, after, reply_to, sent_by}
 use Rattle.pmg_publish.specs.declared.counting.Publication.{Publication}
 use Rattle.pmg_journal.specs.Replays.{Happening, IsReplay, after_all, happening, sent_over}
 use Rattle.pmg_journal.proofs.ReplayLemmas.{after_more, replay_more, sent_more}
 use Rattle.pmg_desk.specs.Publishing.{published_by, published_over}
 use Rattle.pmg_desk.specs.States.{IsLive}
-use Rattle.pmg_desk.specs.Telling.{IsToldOf}
 
 pub published_more : (s : Server) (es : List Happening) (e : Happening) → published_over s (es ++ e ∷ []) ≡ published_over s es ++ published_by (after_all s es) e.act
 published_more s [] e = append-nil (published_by s e.act)
@@ -67,12 +63,3 @@ live_taken start es taken out s live = record {
 
     within : taken ≤ length (sent_over start es) → length out ≡ length (sent_over start es) - taken → taken + length out ≤ length (sent_over start es)
     within bound same = omega arith
-
--- what is known that begins with what was published
-pub told_of : (jobs : Jobs) (id : ℕ) (es more : List Happening) (e : Happening) (log known : List Publication) → more ≡ es ++ e ∷ [] → IsReplay (new_server jobs id) more
-    → log ≡ published_over (new_server jobs id) more → IsPrefix log known → IsToldOf jobs id e known
-told_of jobs id es more e log known is replay shown prefix = record {
-  es = es;
-  replay = subst (IsReplay (new_server jobs id)) is replay;
-  is_known = subst (λ (ps : List Publication). IsPrefix ps known) (shown ∙ ap (published_over (new_server jobs id)) is) prefix;
-}

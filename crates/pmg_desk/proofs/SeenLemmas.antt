@@ -41,7 +41,9 @@ use Rattle.pmg_publish.specs.declared.counting.Publication.{Publication}
 use Rattle.pmg_journal.specs.Journals.{IsEvent}
 use Rattle.pmg_journal.specs.Replays.{Happening, IsReplay, after_all, happening}
 use Rattle.pmg_desk.specs.Publishing.{published_over}
-use Rattle.pmg_desk.specs.Telling.{IsToldOf}
+use Rattle.pmg_desk.specs.Clients.{Client, Tells}
+use Rattle.pmg_desk.specs.Telling.{IsKnown}
+use Rattle.pmg_desk.proofs.TellLemmas.{knows_so, until}
 use Rattle.pmg_desk.proofs.BoardLemmas.{publishes_what_is_held}
 
 no_more : (a b c : ℕ) → a ≤ b → b ≤ c → a ≤ c
@@ -192,15 +194,18 @@ committed_last s [] p b n is replay =
 committed_last s (e ∷ es) p b n is replay = committed_last (after s e.act) es p b n (in_on s e.act is) replay.1
 
 -- a client that was told its commit's number sees it
-committed_is_seen : (jobs : Jobs) (id : ℕ) (p : Proc) (b : Unsealed) (n : ℕ) (known : List Publication) → IsToldOf jobs id (happening (Act.commit p b) (Reply.committed n)) known → n ≤ level_at (far_of known) p
-committed_is_seen jobs id p b n known told =
-    let all : List Happening = told.es ++ happening (Act.commit p b) (Reply.committed n) ∷ [] in
+committed_is_seen : (jobs : Jobs) (id : ℕ) (p : Proc) (b : Unsealed) (n : ℕ) (es : List Happening) (known : List Publication)
+    → IsKnown jobs id (es ++ happening (Act.commit p b) (Reply.committed n) ∷ []) known → n ≤ level_at (far_of known) p
+committed_is_seen jobs id p b n es known told =
+    let all : List Happening = es ++ happening (Act.commit p b) (Reply.committed n) ∷ [] in
     let shown : n ≤ level_at (far_of (published_over (new_server jobs id) all)) p =
-    subst (λ (d : Data). n ≤ level_at d p) (sym (publishes_what_is_held jobs id all).1) (committed_last (new_server jobs id) told.es p b n (in_new jobs id) told.replay) in
+    subst (λ (d : Data). n ≤ level_at d p) (sym (publishes_what_is_held jobs id all).1) (committed_last (new_server jobs id) es p b n (in_new jobs id) told.replay) in
     subst (λ (ps : List Publication). n ≤ level_at (far_of ps) p) told.is_known.1
     (no_more _ _ _ shown (far_longer (published_over (new_server jobs id) all) told.is_known.0 p))
 
-pub commit_is_seen : (jobs : Jobs) (id : ℕ) (p : Proc) (b : Unsealed) (r : Result ℕ Refusal) (known : List Publication)
-    → (IsEvent r → IsToldOf jobs id (happening (Act.commit p b) (reply_in Reply.committed r)) known) → IfOk r (λ n. n ≤ level_at (far_of known) p)
-commit_is_seen jobs id p b (Ok n) known told = committed_is_seen jobs id p b n known (told tt)
-commit_is_seen jobs id p b (Err e) known told = tt
+pub commit_is_seen : (c d : Client) (p : Proc) (b : Unsealed) (r : Result ℕ Refusal) → (IsEvent r → Tells c d (Act.commit p b) (reply_in Reply.committed r))
+    → IfOk r (λ n. n ≤ level_at (far_of d.viewer.log) p)
+commit_is_seen c d p b (Ok n) told =
+    let it : Tells c d (Act.commit p b) (Reply.committed n) = told tt in
+    committed_is_seen d.jobs d.node p b n (until c d (Act.commit p b) (Reply.committed n) it) d.viewer.log (knows_so c d (Act.commit p b) (Reply.committed n) it)
+commit_is_seen c d p b (Err e) told = tt

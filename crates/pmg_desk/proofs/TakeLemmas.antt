@@ -22,15 +22,14 @@ use Rattle.pmg_node.specs.Kinds.{IsTaking}
 use Rattle.pmg_node.specs.Opening.{new_server}
 use Rattle.pmg_node.specs.Servers.{Server, after, reply_in, reply_to}
 use Rattle.pmg_node.specs.declared.act.Reply.{Reply as GivenReply}
-use Rattle.pmg_publish.specs.declared.counting.Publication.{Publication}
 use Rattle.pmg_journal.specs.Journals.{IsEvent}
 use Rattle.pmg_desk.specs.Kinds.{OrRefused}
-use Rattle.pmg_journal.specs.Replays.{Happening, after_all, happening}
-use Rattle.pmg_desk.specs.Telling.{IsToldOf}
+use Rattle.pmg_journal.specs.Replays.{Happening, after_all}
+use Rattle.pmg_desk.specs.Clients.{Client, Tells}
 use Rattle.pmg_desk.proofs.KindLemmas.{plain}
 use Rattle.pmg_desk.proofs.OpenLemmas.{over_first}
 use Rattle.pmg_desk.proofs.ReadLemmas.{now_tells}
-use Rattle.pmg_journal.proofs.ReplayLemmas.{last_is}
+use Rattle.pmg_desk.proofs.TellLemmas.{replied_so, until}
 
 -- whatever is answered has an outcome that is told
 abbrev HasOutcome : Option CallState → Type 0
@@ -118,16 +117,12 @@ taking_told s p have =
     (takes_told s.holding p (call_of s.holding p) (have p))
 
 -- so who takes is told a value, or that there is none yet
-pub told_taking : (jobs : Jobs) (id : ℕ) (p : Proc) (r : Result GivenReply Refusal) (known : List Publication)
-    → (IsEvent r → IsToldOf jobs id (happening (Act.request (Request.take p)) (reply_in reply_as r)) known) → IfOk r (λ x. IsTaking (reply_as x))
-told_taking jobs id p (Err e) known told = tt
-told_taking jobs id p (Ok x) known told = plain IsTaking x (subst (OrRefused IsTaking) is (taking_told (after_all start it.es) p (outcomes_after start it.es (nobody_asked jobs id))))
+pub told_taking : (c d : Client) (p : Proc) (r : Result GivenReply Refusal) → (IsEvent r → Tells c d (Act.request (Request.take p)) (reply_in reply_as r)) → IfOk r (λ x. IsTaking (reply_as x))
+told_taking c d p (Err e) told = tt
+told_taking c d p (Ok x) told = plain IsTaking x (subst (OrRefused IsTaking) is (taking_told (after_all (new_server d.jobs d.node) es) p (outcomes_after (new_server d.jobs d.node) es (nobody_asked d.jobs d.node))))
   where
-    start : Server
-    start = new_server jobs id
+    es : List Happening
+    es = until c d (Act.request (Request.take p)) (reply_as x) (told tt)
 
-    it : IsToldOf jobs id (happening (Act.request (Request.take p)) (reply_as x)) known
-    it = told tt
-
-    is : reply_to (after_all start it.es) (Act.request (Request.take p)) ≡ reply_as x
-    is = last_is start it.es (Act.request (Request.take p)) (reply_as x) it.replay
+    is : reply_to (after_all (new_server d.jobs d.node) es) (Act.request (Request.take p)) ≡ reply_as x
+    is = replied_so c d (Act.request (Request.take p)) (reply_as x) (told tt)

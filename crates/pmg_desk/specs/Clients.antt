@@ -1,33 +1,42 @@
 -- Clients as contracts see them.
-use Rattle.std.specs.Prelude.{◌≡◌, ℕ, Bool, false, List, Result, Ok, Err, refl}
+use Rattle.std.specs.Prelude.{◌≡◌, ◌⊎◌, ℕ, Bool, false, List, Some, Result, Ok, Err, refl}
 use Rattle.std.specs.Coded.{Coded, code_by, coded×, coded_ℕ}
 use mathlib.Core.List.{IsPrefix}
+use Rattle.pmg_value.specs.Signatures.{FenceName}
 use Rattle.pmg_value.specs.declared.process.Proc.{Proc}
 use Rattle.pmg_value.specs.declared.refusal.Refusal.{Refusal}
 use Rattle.pmg_scope.specs.Cached.{Cached, Unsealed, no_puts, unsealed_of}
 use Rattle.pmg_jobinfo.specs.Jobs.{Jobs, coded_jobs}
+use Rattle.pmg_fence.specs.Tables.{fence_of}
+use Rattle.pmg_history.specs.Entries.{Entries}
 use Rattle.pmg_publish.specs.Publications.{Publications}
-use Rattle.pmg_node_model.specs.Acts.{Act, Reply, Request}
+use Rattle.pmg_node_model.specs.Acts.{Act, Reply, Request, signature_of}
 use Rattle.pmg_node.specs.Replies.{release_reply}
 use Rattle.pmg_node.specs.declared.leaving.Release.{Release}
 use Rattle.pmg_node.specs.declared.leaving.Release.TheVariants as releases
-use Rattle.pmg_journal.specs.Replays.{happening}
-use Rattle.pmg_desk.specs.Telling.{IsToldOf, WasReadyAt}
+use Rattle.pmg_node.specs.Servers.{reply_in}
+use Rattle.pmg_journal.specs.Knowing.{GoesOnBy, happened_by}
+use Rattle.pmg_journal.specs.Replays.{Happening, happening}
+use Rattle.pmg_journal.specs.declared.journal.Event.{Event}
+use Rattle.pmg_desk.specs.Telling.{IsKnown, WasReadyAt, call_at, fence_of_call}
 use Rattle.pmg_journal.specs.Transcripts.{Calling, Noted, NotesCall, cached_after, noted_in, waits_after}
 use Rattle.pmg_journal.specs.declared.transcript.Transcript.{Transcript}
 
--- A client: the group and the index of its node, what its viewer knows of what is published there, and what it called.
+-- A client: the group and the index of its node, what its viewer knows of what is published there, what it knows of the journal of the
+-- node, and what it called.
 pub record Client : Type 0 where
   pub jobs : Jobs
   pub node : ℕ
   pub viewer : Publications
+  pub known : Entries Event
   pub transcript : Transcript
 
--- a client as a tuple, by the codes of what a viewer knows and of a transcript
-abbrev pub coded_client : Coded Publications → Coded Transcript → Coded Client
-coded_client viewer transcript =
-    code_by (Jobs × (ℕ × (Publications × Transcript))) (coded× coded_jobs (coded× coded_ℕ (coded× viewer transcript))) (λ c. (c.jobs, (c.node, (c.viewer, c.transcript))))
-    (λ p. record { jobs = p.0; node = p.1.0; viewer = p.1.1.0; transcript = p.1.1.1 }) (λ _. refl)
+-- a client as a tuple, by the codes of what a viewer knows, of what is known of a journal, and of a transcript
+abbrev pub coded_client : Coded Publications → Coded (Entries Event) → Coded Transcript → Coded Client
+coded_client viewer known transcript =
+    code_by (Jobs × (ℕ × (Publications × (Entries Event × Transcript)))) (coded× coded_jobs (coded× coded_ℕ (coded× viewer (coded× known transcript))))
+    (λ c. (c.jobs, (c.node, (c.viewer, (c.known, c.transcript)))))
+    (λ p. record { jobs = p.0; node = p.1.0; viewer = p.1.1.0; known = p.1.1.1.0; transcript = p.1.1.1.1 }) (λ _. refl)
 
 -- its process
 abbrev pub proc_of : Client → Proc
@@ -45,13 +54,18 @@ batch_of c = unsealed_of (puts_of c)
 abbrev pub is_waiting : Client → Bool
 is_waiting c = waits_after false (noted_in c.transcript)
 
--- the same client later: at its node, of its process; its viewer knows all that it knew
+-- what it knows of the journal of its node
+abbrev pub journal_of : Client → List Happening
+journal_of c = happened_by c.known
+
+-- the same client later: at its node, of its process; it knows all that it knew, of what is published and of the journal
 pub record IsLater (c d : Client) : Type 0 where
   pub jobs : d.jobs ≡ c.jobs
   pub node : d.node ≡ c.node
   pub proc : proc_of d ≡ proc_of c
   pub book : d.viewer.book ≡ c.viewer.book
   pub seen : IsPrefix c.viewer.log d.viewer.log
+  pub journal : IsPrefix (journal_of c) (journal_of d)
 
 -- the client's transcript has the call with its reply at its end
 abbrev pub ClientNotes : Client → Client → Calling → {X : Type 0} → (X → Reply) → Result X Refusal → Type 0
@@ -69,12 +83,39 @@ NotesFence c d list collect result =
     × NotesCall (noted_in c.transcript) mid (Calling.request (Request.enter (proc_of c) list collect)) Reply.entered entry
     × NotesLeave mid (noted_in d.transcript) (Calling.request (Request.leave (proc_of c))) entry result
 
--- The client was told of a board that some journal of its node makes, which is a replay and ends with that act and that reply.
-abbrev pub Tells : Client → Act → Reply → Type 0
-Tells d act reply = IsToldOf d.jobs d.node (happening act reply) d.viewer.log
+-- The client knows more of the journal of its node: what it knew before, then what others did, and then this act of its own with this
+-- reply; and it knows the board that this journal publishes.
+pub record Tells (c d : Client) (act : Act) (reply : Reply) : Type 0 where
+  pub goes_on : GoesOnBy (proc_of c) (journal_of c) (journal_of d) (happening act reply)
+  pub knows : IsKnown d.jobs d.node (journal_of d) d.viewer.log
 
--- who is released knows of a time when its own fence was ready
-abbrev pub KnowsReady : Client → Release → Type 0
-KnowsReady d (releases.Released instance gone) = WasReadyAt d.jobs d.node (proc_of d) instance gone.items d.viewer.log
-KnowsReady d releases.Idle = Unit {0}
-KnowsReady d releases.Waiting = Unit {0}
+-- at the end of what it knows of the journal the client's process is in the fence, or is released from it
+abbrev pub IsInFence : Client → FenceName → Type 0
+IsInFence c f = fence_of_call (call_at c.jobs c.node (journal_of c) (proc_of c)) ≡ Some f
+
+-- the client's process was released from the fence when it was ready
+abbrev pub KnowsReady : Client → FenceName → List Proc → Type 0
+KnowsReady d f gone = WasReadyAt d.jobs d.node (proc_of d) f gone (journal_of d) d.viewer.log
+
+-- who is released was so from the fence that it was in, of that instance
+abbrev pub ReleasedFrom : Client → Client → Release → Type 0
+ReleasedFrom c d (releases.Released instance gone) = (f : FenceName) × IsInFence c f × (f.instance ≡ instance) × KnowsReady d f gone.items
+ReleasedFrom c d releases.Idle = Unit {0}
+ReleasedFrom c d releases.Waiting = Unit {0}
+
+-- the fence of the list of that instance
+abbrev pub listed_fence : Client → List Proc → Bool → ℕ → FenceName
+listed_fence c list collect instance = fence_of (signature_of c.jobs (proc_of c) list collect) instance
+
+-- who is released was so from the fence of this list
+abbrev pub ReleasedFromOwn : Client → List Proc → Bool → Release → Type 0
+ReleasedFromOwn d list collect (releases.Released instance gone) = KnowsReady d (listed_fence d list collect instance) gone.items
+ReleasedFromOwn d list collect releases.Idle = Unit {0}
+ReleasedFromOwn d list collect releases.Waiting = Unit {0}
+
+-- What a client that meets in a fence is told: of its entry, where that was refused; else of its entry, and then of its leave.
+abbrev pub TellsFence : Client → Client → List Proc → Bool → Result Release Refusal → Type 0
+TellsFence c d list collect result =
+    (Tells c d (Act.request (Request.enter (proc_of c) list collect)) (reply_in release_reply result))
+    ⊎ ((mid : Client) × (instance : ℕ) × Tells c mid (Act.request (Request.enter (proc_of c) list collect)) (Reply.entered instance)
+    × Tells mid d (Act.request (Request.leave (proc_of c))) (reply_in release_reply result))

@@ -1,8 +1,6 @@
 -- Which replies an act may be given.
-use Rattle.std.specs.Prelude.{◌≡◌}
 use Rattle.pmg_node_model.specs.Acts.{Act, Reply, Request}
 use Rattle.pmg_node.specs.Kinds.{IsAsked, IsCommitted, IsDefined, IsDelivery, IsDone, IsEnded, IsEntered, IsRelease}
-use Rattle.pmg_node.specs.Servers.{Server, reply_to}
 
 -- What an act of this kind is told, where it is not refused. What a taking is told hangs on what was asked before it.
 abbrev pub Tell : Act → Reply → Type 0
@@ -25,11 +23,6 @@ OrRefused P r = P r
 -- a refusal, or what an act of this kind is told otherwise
 abbrev pub IsKind : Act → Reply → Type 0
 IsKind a r = OrRefused (Tell a) r
-
--- the reply is one that some server gives to the act
-pub record IsReplyTo (a : Act) (r : Reply) : Type 0 where
-  pub server : Server
-  pub is : reply_to server a ≡ r
 
 -- a change of the process sets
 abbrev pub IsChange : Request → Type 0

@@ -1,12 +1,15 @@
 -- Where a state lies.
-use Rattle.std.specs.Prelude.{◌≡◌, true}
+use Rattle.std.specs.Prelude.{◌≡◌, true, []}
 use Rattle.pmg_jobinfo.specs.Jobs.{is_node}
 use Rattle.pmg_desk.specs.declared.lock.Place.{Place}
 use Rattle.pmg_desk.specs.declared.state.Parts.{Parts}
 
--- the state is that of this desk: of its node, which is one of its group, and with its publisher
+-- the state is that of this desk: of its node, which is one of its group, with its list of events, of which nothing was known at the
+-- start, and with its publisher
 pub record LiesAt (p : Place) (s : Parts) : Type 0 where
   pub node : s.journal.node ≡ p.node
   pub registry : s.journal.registry ≡ p.registry
+  pub list : s.list.book ≡ p.list.book
+  pub start : p.list.log ≡ []
   pub book : s.publisher.book ≡ p.told.book
   pub is_node : is_node p.registry p.node ≡ true

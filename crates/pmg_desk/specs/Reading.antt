@@ -1,5 +1,5 @@
 -- What a client reads.
-use Rattle.std.specs.Prelude.{◌≡◌, ◌⊎◌, ℕ, Bool, ◌&&◌, not, false, true, List, Result, Ok, Err, if◌then◌else◌}
+use Rattle.std.specs.Prelude.{◌≡◌, ◌⊎◌, ℕ, Bool, ◌&&◌, not, false, true, List, MatchBool, Result, Ok, Err, if◌then◌else◌}
 use Rattle.std.specs.FinMap as finite
 use Rattle.std.specs.Option.{option_map}
 use Rattle.pmg_value.specs.CheckOrder.{first_of}
@@ -19,11 +19,10 @@ use Rattle.pmg_get.specs.declared.view.Mode.TheVariants as modes
 use Rattle.pmg_publish.specs.Publications.{near_of, far_of}
 use Rattle.pmg_node_model.specs.Acts.{Act, Reply, Request, reply_of, target_cause}
 use Rattle.pmg_node_model.specs.Holdings.{Get, seen_of}
-use Rattle.pmg_node.specs.Replies.{asked_reply, taking_reply}
+use Rattle.pmg_node.specs.Replies.{asked_reply}
 use Rattle.pmg_node.specs.Servers.{reply_in}
 use Rattle.pmg_node.specs.declared.parking.Asked.{Asked}
 use Rattle.pmg_node.specs.declared.parking.Asked.TheVariants as askeds
-use Rattle.pmg_node.specs.declared.taking.Taking.{Taking}
 use Rattle.pmg_desk.specs.Clients.{Client, Tells, is_waiting, proc_of, puts_of}
 use Rattle.pmg_journal.specs.Transcripts.{Calling, Noted, NotesCall, noted_in}
 
@@ -45,17 +44,29 @@ abbrev pub seen_by : Client → Data → Data → Get → Seen
 seen_by c near far get =
     if is_own_key (proc_of c) get then Seen.own (finite.get (puts_of c).own get.key) else seen_of c.jobs c.node (read_at near get.target) (read_at far get.target) get
 
--- the answer is the one that is due; the viewer may be closed, and an allocation may fail
+-- the answer is the one that is due; an allocation may fail
+abbrev pub GivesDue : Result Value Refusal → Reply → Type 0
+GivesDue (Ok value) due = due ≡ Reply.found (spelling value)
+GivesDue (Err refusals.NoMemory) due = Unit {0}
+GivesDue (Err e) due = due ≡ Reply.refused e
+
+-- it is, or the viewer is closed
 abbrev pub IsDueOrClosed : Result Value Refusal → Reply → Type 0
-IsDueOrClosed (Ok value) due = due ≡ Reply.found (spelling value)
-IsDueOrClosed (Err refusals.NoMemory) due = Unit {0}
 IsDueOrClosed (Err refusals.Closed) due = Unit {0}
-IsDueOrClosed (Err e) due = due ≡ Reply.refused e
+IsDueOrClosed answer due = GivesDue answer due
+
+-- a viewer reads the key: it is none of the process's own, and none of the standard's
+abbrev pub is_viewed : Client → Get → Bool
+is_viewed c get = not (is_own_key (proc_of c) get) && not (is_reserved get.key)
+
+-- the answer is the one that is due; where a viewer reads it may be closed
+abbrev pub IsDueTo : Bool → Result Value Refusal → Reply → Type 0
+IsDueTo viewed answer due = MatchBool viewed (IsDueOrClosed answer due) (GivesDue answer due)
 
 -- what is read, once causes were looked for: the refusal, or what is due by what the viewer knows afterwards
 abbrev pub ReadsNow : Client → Client → Get → Result Value Refusal → Result Unit Refusal → Type 0
 ReadsNow c d get result (Err e) = result ≡ Err e
-ReadsNow c d get result (Ok _) = IsDueOrClosed result (reply_of (resolve (seen_by c (near_of d.viewer.log) (far_of d.viewer.log) get) modes.Now))
+ReadsNow c d get result (Ok _) = IsDueTo (is_viewed c get) result (reply_of (resolve (seen_by c (near_of d.viewer.log) (far_of d.viewer.log) get) modes.Now))
 
 -- What is read: a refusal where there is a cause, else what a get that waits for nobody is answered in the board that the list of
 -- publications makes which the viewer knows afterwards.
@@ -64,23 +75,17 @@ IsReadNow c d get result = ReadsNow c d get result (first_of (now_cause c get) t
 
 -- ---- gets that may wait
 
--- what comes of a get that was replied so; there is always something to take once it parked
-abbrev pub got_in : Reply → Result (List ℕ) Refusal
-got_in (Reply.found value) = Ok value
-got_in (Reply.refused e) = Err e
-got_in r = Err refusals.NotFound
+-- a value that is found, as a reply
+abbrev pub found_reply : Value → Reply
+found_reply v = Reply.found (spelling v)
 
--- what comes of a get, with the value as its canonical bytes
-abbrev pub got_as : Result Value Refusal → Result (List ℕ) Refusal
-got_as (Ok value) = Ok (spelling value)
-got_as (Err e) = Err e
-
--- The client was told of a board that a journal of its node makes; that ends with the client's question, or with its taking of the
--- answer, and with the reply that this comes of.
-abbrev pub IsGot : Client → Get → Mode → Result Value Refusal → Type 0
-IsGot c get mode result =
-    (r : Reply) × (got_in r ≡ got_as result)
-    × ((Tells c (Act.request (Request.ask (proc_of c) get mode)) r) ⊎ (Tells c (Act.request (Request.take (proc_of c))) r))
+-- The client was told of its question, which was answered so at once; or of its question, which parked, and then of its taking, which was
+-- answered so.
+abbrev pub TellsGet : Client → Client → Get → Mode → Result Value Refusal → Type 0
+TellsGet c d get mode result =
+    (Tells c d (Act.request (Request.ask (proc_of c) get mode)) (reply_in found_reply result))
+    ⊎ ((mid : Client) × Tells c mid (Act.request (Request.ask (proc_of c) get mode)) Reply.parked
+    × Tells mid d (Act.request (Request.take (proc_of c))) (reply_in found_reply result))
 
 -- the call that asks for the key
 abbrev pub asking_call : Client → Get → Mode → Calling
@@ -89,8 +94,7 @@ asking_call c get mode = Calling.request (Request.ask (proc_of c) get mode)
 -- after the question of a get, which was answered so: its taking is noted where it parked, else nothing more
 abbrev pub NotesTaking : List Noted → List Noted → Calling → Result Asked Refusal → Result Value Refusal → Type 0
 NotesTaking old new take (Ok (askeds.Found value)) result = (result ≡ Ok value) × (new ≡ old)
-NotesTaking old new take (Ok askeds.Parked) result =
-    (answer : Result Taking Refusal) × NotesCall old new take taking_reply answer × (got_in (reply_in taking_reply answer) ≡ got_as result)
+NotesTaking old new take (Ok askeds.Parked) result = NotesCall old new take found_reply result
 NotesTaking old new take (Err e) result = (result ≡ Err e) × (new ≡ old)
 
 -- A get stands in the transcript as its question and its taking.
@@ -101,6 +105,6 @@ NotesGet c d get mode result =
 
 -- A get of a key of its own: refused where a call of it waits, else what it put last; as one question in the transcript.
 pub record IsOwnGet (c d : Client) (get : Get) (mode : Mode) (result : Result Value Refusal) : Type 0 where
-  pub busy : is_waiting c ≡ true → IsDueOrClosed result (Reply.refused refusals.Busy)
-  pub answer : is_waiting c ≡ false → IsDueOrClosed result (reply_of (resolve (Seen.own (finite.get (puts_of c).own get.key)) mode))
-  pub noted : NotesCall (noted_in c.transcript) (noted_in d.transcript) (asking_call c get mode) (λ (v : Value). Reply.found (spelling v)) result
+  pub busy : is_waiting c ≡ true → GivesDue result (Reply.refused refusals.Busy)
+  pub answer : is_waiting c ≡ false → GivesDue result (reply_of (resolve (Seen.own (finite.get (puts_of c).own get.key)) mode))
+  pub noted : NotesCall (noted_in c.transcript) (noted_in d.transcript) (asking_call c get mode) found_reply result

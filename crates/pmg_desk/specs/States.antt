@@ -24,28 +24,33 @@ pub record IsLive (start : Server) (es : List Happening) (taken : ℕ) (outbox :
   pub outbox_is : outbox ≡ drop taken (sent_over start es)
   pub bound : taken ≤ length (sent_over start es)
 
--- What is kept: the journal is a replay with these steps, what is published is what it published, and while there is a node it is the
--- replay's, the publisher is open, and no last node is kept. The last node, if one is kept, is the replay's too.
+-- What is kept: the journal is a replay with these steps, what is published is what it published, and viewers read it. While there is a
+-- node it is the replay's, the journal is the list that clients know prefixes of, the publisher is open, and no last node is kept. The
+-- last node, if one is kept, is the replay's too.
 pub record IsStateKept (p : Parts) : Type 0 where
   pub journal : IsJournal p.journal
   pub published : p.publisher.log ≡ published_over (start_of p.journal) (happened_in p.journal)
   pub live : IfSome p.node (IsLive (start_of p.journal) (happened_in p.journal) p.taken p.outbox.items)
+  pub list : IsSome p.node → p.list.log ≡ p.journal.events.items
   pub open_then : IsSome p.node → p.publisher.is_open ≡ true
+  pub read : p.publisher.is_read ≡ true
   pub viewers : All (λ (v : Publications). v.book ≡ p.publisher.book) p.viewers.items
   pub steps : AreSteps (start_of p.journal) (happened_in p.journal) p.steps.items
   pub last : IfSome p.last (λ s. s ≡ after_all (start_of p.journal) (happened_in p.journal))
   pub none_last : IsSome p.node → p.last ≡ None
 
--- the same desk: its node's index and group, its publisher's book, and the frames that were taken
+-- the same desk: its node's index and group, the books of its journal and of its publisher, and the frames that were taken
 pub record IsAt (p q : Parts) : Type 0 where
   pub node : q.journal.node ≡ p.journal.node
   pub registry : q.journal.registry ≡ p.journal.registry
+  pub list : q.list.book ≡ p.list.book
   pub book : q.publisher.book ≡ p.publisher.book
   pub taken : q.taken ≡ p.taken
 
 -- nothing happened
 pub record NothingHappened (p q : Parts) : Type 0 where
   pub node : q.node ≡ p.node
+  pub list : q.list ≡ p.list
   pub outbox : q.outbox.items ≡ p.outbox.items
   pub publisher : q.publisher ≡ p.publisher
 

@@ -1,5 +1,5 @@
 //! A client: one process of a node, as one thread calls its server.
-ghost use Rattle.std.specs.Prelude.{◌≡◌, ◌≢◌, ◌≤◌, ◌⊎◌, ◌∷◌, ◌++◌, ℕ, [], false, true, Err, IfErr, IfOk, IfSome};
+ghost use Rattle.std.specs.Prelude.{◌≡◌, ◌≢◌, ◌≤◌, ◌∷◌, ◌++◌, ℕ, [], false, true, Err, IfErr, IfOk, IfSome};
 ghost use Rattle.pmg_value.specs.CheckOrder.{first_of};
 ghost use Rattle.pmg_value.specs.Spelling.{spelling};
 ghost use Rattle.pmg_commit.specs.Data.{level_at};
@@ -11,14 +11,15 @@ ghost use Rattle.pmg_node.specs.Acting.{act_of, reply_as, request_of};
 ghost use Rattle.pmg_node.specs.Replies.{asked_reply, release_reply, status_in, taking_reply};
 ghost use Rattle.pmg_node.specs.Servers.{reply_in};
 ghost use Rattle.pmg_desk.specs.Awaiting.{RepliesPast, RepliesThere};
-ghost use Rattle.pmg_desk.specs.Clients.{IsLater, KnowsReady, ClientNotes, NotesFence, Tells, batch_of, is_waiting, proc_of, puts_of};
+ghost use Rattle.pmg_desk.specs.Clients.{IsLater, IsInFence, ReleasedFrom, ReleasedFromOwn, ClientNotes, NotesFence, Tells, TellsFence, batch_of, listed_fence, is_waiting, journal_of, proc_of, puts_of};
 ghost use Rattle.pmg_journal.specs.Journals.{IsEvent};
 ghost use Rattle.pmg_journal.specs.Transcripts.{Answers, Calling, NotesCall, calling_of, is_put, noted, noted_in, put_cause_of};
 
 use crate::lock::{Desk, WaitFor};
 use crate::replies::{asked_by, committed_by, ended_by, entered_by, release_by, taking_by};
 use pmg_get::Mode;
-use pmg_journal::{Call, ClientLog, Transcript};
+use pmg_history::History;
+use pmg_journal::{Call, ClientLog, Event, Transcript};
 use pmg_node::{Act, Asked, Release, Reply, Request, Status, Taking};
 use pmg_publish::Viewer;
 use pmg_scope::Scope;
@@ -31,6 +32,7 @@ use std::sync::Wait;
 pub struct Client<'d> {
     pub(crate) desk: &'d Desk,
     pub(crate) viewer: Viewer,
+    pub(crate) known: History<Event>,
     pub(crate) notes: ClientLog,
 }
 
@@ -39,6 +41,7 @@ impl Drop for Client<'_> {
         let Self {
             desk,
             viewer,
+            known,
             notes,
         } = self;
     }
@@ -49,20 +52,25 @@ impl<'d> Model for Client<'d> {
     ghost use Rattle.pmg_jobinfo.specs.Jobs.{is_node};
     ghost use Rattle.pmg_desk.specs.Clients.{Client as ModelClient, coded_client};
     ghost use Rattle.pmg_journal.specs.contracts.transcript.Transcript.{the_row as transcript_row};
+    ghost use Rattle.pmg_journal.specs.contracts.journal.Event.{the_row as event_row};
+    ghost use Rattle.pmg_history.specs.contracts.history.History.{the_row as known_row};
     ghost use Rattle.pmg_publish.specs.contracts.viewer.Viewer.{the_row as viewer_row};
 
     ghost Value = { ModelClient };
 
-    ghost coded = { coded_client viewer_row.coded transcript_row.coded };
+    ghost coded = { coded_client viewer_row.coded (known_row event_row).coded transcript_row.coded };
 
     ghost view = { λ c. record {
       jobs = c.desk.now.place.registry;
       node = c.desk.now.place.node;
       viewer = c.viewer;
+      known = c.known;
       transcript = c.notes;
     } };
 
-    ghost invariant = { λ c. (c.viewer.book ≡ c.desk.now.place.told.book) × (is_node c.desk.now.place.registry c.desk.now.place.node ≡ true) };
+    ghost invariant = { λ c. (c.viewer.book ≡ c.desk.now.place.told.book)
+        × (c.known.book ≡ c.desk.now.place.list.book)
+        × (is_node c.desk.now.place.registry c.desk.now.place.node ≡ true) };
 }
 
 /// A client that did not end.
@@ -99,14 +107,17 @@ impl<'d> Client<'d> {
     /// A client that has called nothing.
     pub(crate) fn new(desk: &'d Desk, viewer: Viewer, transcript: Transcript) -> Client<'d>
         requires book { viewer.book ≡ desk.now.place.told.book }
+        requires list { desk.now.place.list.log ≡ [] }
         requires node { is_node desk.now.place.registry desk.now.place.node ≡ true }
         requires start { transcript.calls.items ≡ [] }
         ensures node { (result.jobs ≡ desk.now.place.registry) × (result.node ≡ desk.now.place.node) }
         ensures transcript { result.transcript ≡ transcript }
+        ensures journal { journal_of result ≡ [] }
     {
         Client {
             desk,
             viewer,
+            known: desk.place.list.again(),
             notes: ClientLog::new(desk.place.registry.allocator(), transcript),
         }
     }
@@ -153,15 +164,16 @@ impl<'d> Client<'d> {
         act: Act,
     ) -> Result<Reply, Refusal>
         requires { is_put (calling_of call) ≡ false }
-        ensures told { IsEvent result → Tells self.new (act_of act) (reply_in reply_as result) }
+        ensures told { IsEvent result → Tells self.old self.new (act_of act) (reply_in reply_as result) }
         ensures past { IfOk result (λ r. IfSome past (λ status. RepliesPast (proc_of self.old) (status_in status) (act_of act) (reply_as r))) }
         ensures noted { ClientNotes self.old self.new (calling_of call) reply_as result }
         ensures later { IsLater self.old self.new }
     {
         self.notes.reserve()?;
         let desk = self.desk;
-        let awaited = awaited_by(&self.notes.transcript().proc, past);
-        let answer = desk.act_for(rt, &awaited, act, &mut self.viewer);
+        let proc = &self.notes.transcript().proc;
+        let awaited = awaited_by(proc, past);
+        let answer = desk.act_for(rt, &awaited, proc, act, &mut self.viewer, &mut self.known);
         self.notes.end(call, answer)
     }
 
@@ -172,7 +184,7 @@ impl<'d> Client<'d> {
         past: Option<Status>,
         request: Request,
     ) -> Result<Reply, Refusal>
-        ensures told { IsEvent result → Tells self.new (ModelAct.request (request_of request)) (reply_in reply_as result) }
+        ensures told { IsEvent result → Tells self.old self.new (ModelAct.request (request_of request)) (reply_in reply_as result) }
         ensures past { IfOk result (λ r. IfSome past (λ status. RepliesPast (proc_of self.old) (status_in status) (ModelAct.request (request_of request)) (reply_as r))) }
         ensures noted { ClientNotes self.old self.new (Calling.request (request_of request)) reply_as result }
         ensures later { IsLater self.old self.new }
@@ -184,7 +196,7 @@ impl<'d> Client<'d> {
     /// It commits what it put (PMIx Standard 5.0, PMIx_Commit): the commit's number, from 1. Refused as Terminated, as Busy where a
     /// call of it waits, as TooMany past 2^32 - 1 commits, as Closed, and as NoMemory.
     pub fn commit<R: Wait>(&mut self, rt: &R) -> Result<u64, Refusal>
-        ensures told { IsEvent result → Tells self.new (ModelAct.commit (proc_of self.old) (batch_of self.old)) (reply_in ModelReply.committed result) }
+        ensures told { IsEvent result → Tells self.old self.new (ModelAct.commit (proc_of self.old) (batch_of self.old)) (reply_in ModelReply.committed result) }
         ensures seen { IfOk result (λ n. n ≤ level_at (far_of self.new.viewer.log) (proc_of self.old)) }
         ensures noted { ClientNotes self.old self.new Calling.commit ModelReply.committed result }
         ensures later { IsLater self.old self.new }
@@ -196,8 +208,9 @@ impl<'d> Client<'d> {
     /// It enters its next fence of these participants, of which it is one; an empty list stands for its namespace (PMIx Standard
     /// 5.0, PMIx_Fence): the instance of the fence, from 1. A collecting fence shows each participant's commits.
     pub fn enter<R: Wait>(&mut self, rt: &R, list: &[Proc], collect: bool) -> Result<u64, Refusal>
-        ensures told { IsEvent result → Tells self.new (ModelAct.request (ModelRequest.enter (proc_of self.old) list.now collect))
+        ensures told { IsEvent result → Tells self.old self.new (ModelAct.request (ModelRequest.enter (proc_of self.old) list.now collect))
             (reply_in ModelReply.entered result) }
+        ensures entered { IfOk result (λ n. IsInFence self.new (listed_fence self.old list.now collect n)) }
         ensures noted { ClientNotes self.old self.new (Calling.request (ModelRequest.enter (proc_of self.old) list.now collect)) ModelReply.entered result }
         ensures later { IsLater self.old self.new }
     {
@@ -209,9 +222,9 @@ impl<'d> Client<'d> {
     /// It waits until it is released from the fence that it entered, and leaves it: the instance, and the participants that were
     /// gone.
     pub fn leave<R: Wait>(&mut self, rt: &R) -> Result<Release, Refusal>
-        ensures told { IsEvent result → Tells self.new (ModelAct.request (ModelRequest.leave (proc_of self.old))) (reply_in release_reply result) }
+        ensures told { IsEvent result → Tells self.old self.new (ModelAct.request (ModelRequest.leave (proc_of self.old))) (reply_in release_reply result) }
         ensures waited { IfOk result (λ r. r ≢ Release.Waiting) }
-        ensures ready { IfOk result (KnowsReady self.new) }
+        ensures ready { IfOk result (ReleasedFrom self.old self.new) }
         ensures noted { ClientNotes self.old self.new (Calling.request (ModelRequest.leave (proc_of self.old))) release_reply result }
         ensures later { IsLater self.old self.new }
     {
@@ -226,10 +239,9 @@ impl<'d> Client<'d> {
         list: &[Proc],
         collect: bool,
     ) -> Result<Release, Refusal>
-        ensures told { IsEvent result → (Tells self.new (ModelAct.request (ModelRequest.enter (proc_of self.old) list.now collect)) (reply_in release_reply result))
-            ⊎ (Tells self.new (ModelAct.request (ModelRequest.leave (proc_of self.old))) (reply_in release_reply result)) }
+        ensures told { IsEvent result → TellsFence self.old self.new list.now collect result }
         ensures waited { IfOk result (λ r. r ≢ Release.Waiting) }
-        ensures ready { IfOk result (KnowsReady self.new) }
+        ensures ready { IfOk result (ReleasedFromOwn self.new list.now collect) }
         ensures noted { NotesFence self.old self.new list.now collect result }
         ensures later { IsLater self.old self.new }
     {
@@ -245,7 +257,7 @@ impl<'d> Client<'d> {
         key: &Key,
         mode: Mode,
     ) -> Result<Asked, Refusal>
-        ensures told { IsEvent result → Tells self.new (ModelAct.request (ModelRequest.ask (proc_of self.old) (get_of target.now key.now) mode))
+        ensures told { IsEvent result → Tells self.old self.new (ModelAct.request (ModelRequest.ask (proc_of self.old) (get_of target.now key.now) mode))
             (reply_in asked_reply result) }
         ensures noted { ClientNotes self.old self.new (Calling.request (ModelRequest.ask (proc_of self.old) (get_of target.now key.now) mode)) asked_reply result }
         ensures later { IsLater self.old self.new }
@@ -256,7 +268,7 @@ impl<'d> Client<'d> {
 
     /// It waits until its get is answered, and takes the answer.
     pub fn take<R: Wait>(&mut self, rt: &R) -> Result<Taking, Refusal>
-        ensures told { IsEvent result → Tells self.new (ModelAct.request (ModelRequest.take (proc_of self.old))) (reply_in taking_reply result) }
+        ensures told { IsEvent result → Tells self.old self.new (ModelAct.request (ModelRequest.take (proc_of self.old))) (reply_in taking_reply result) }
         ensures waited { IfOk result (λ r. r ≢ Taking.Waiting) }
         ensures noted { ClientNotes self.old self.new (Calling.request (ModelRequest.take (proc_of self.old))) taking_reply result }
         ensures later { IsLater self.old self.new }
@@ -272,6 +284,7 @@ impl<'d> Client<'d> {
         let Client {
             desk: _,
             viewer: _,
+            known: _,
             notes,
         } = self;
         notes.into_transcript()
@@ -297,7 +310,7 @@ impl<'d> Client<'d> {
 
     /// It ends: the number of its last commit, which is its end.
     fn end<R: Wait>(&mut self, rt: &R) -> Result<u64, Refusal>
-        ensures told { IsEvent result → Tells self.new (ModelAct.request (ModelRequest.terminate (proc_of self.old))) (reply_in ModelReply.ended result) }
+        ensures told { IsEvent result → Tells self.old self.new (ModelAct.request (ModelRequest.terminate (proc_of self.old))) (reply_in ModelReply.ended result) }
         ensures noted { ClientNotes self.old self.new (Calling.request (ModelRequest.terminate (proc_of self.old))) ModelReply.ended result }
         ensures later { IsLater self.old self.new }
     {

@@ -1,5 +1,5 @@
 //! What is asked of a desk by who runs its node.
-ghost use Rattle.std.specs.Prelude.{◌≡◌, ◌⊎◌, [], IfErr, IfOk};
+ghost use Rattle.std.specs.Prelude.{◌≡◌, ◌⊎◌, [], IfErr, IfOk, OnErr, OnOk};
 ghost use mathlib.Core.List.{IsPrefix};
 ghost use Rattle.pmg_value.specs.declared.refusal.Refusal.TheVariants as refusals;
 ghost use Rattle.pmg_node_model.specs.Acts.{Act as ModelAct, Reply as ModelReply, Request as ModelRequest};
@@ -8,16 +8,18 @@ ghost use Rattle.pmg_node.specs.Acting.{act_of, reply_as, request_of};
 ghost use Rattle.pmg_node.specs.Replies.{delivery_reply};
 ghost use Rattle.pmg_node.specs.Servers.{reply_in};
 ghost use Rattle.pmg_desk.specs.Awaiting.{RepliesThere};
-ghost use Rattle.pmg_desk.specs.Clients.{proc_of};
+ghost use Rattle.pmg_desk.specs.Clients.{journal_of, proc_of};
 ghost use Rattle.pmg_journal.specs.Journals.{IsEvent, IsJournal, happened};
-ghost use Rattle.pmg_desk.specs.Kinds.{IsChange, IsReplyTo};
-ghost use Rattle.pmg_desk.specs.Telling.{IsToldOf, WasFarDump, WasSent};
+ghost use Rattle.pmg_journal.specs.Knowing.{GoesOnBy, happened_by};
+ghost use Rattle.pmg_desk.specs.Kinds.{IsChange};
+ghost use Rattle.pmg_desk.specs.Telling.{IsKnown, WasFarDump, WasReplied, WasSent};
 
 use crate::client::{Client, copies_of};
 use crate::lock::{Desk, WaitFor};
 use crate::replies::{defined_by, delivery_by, nudged_by};
 use pmg_frame::Frame;
-use pmg_journal::{AnswerCopies, Journal, Record, Transcript};
+use pmg_history::History;
+use pmg_journal::{AnswerCopies, Event, Journal, Record, Transcript};
 use pmg_node::{Act, Delivery, Reply, Request};
 use pmg_node_model::Sent;
 use pmg_publish::Viewer;
@@ -34,6 +36,7 @@ impl Desk {
         ensures node { IfOk result (λ c. (c.jobs ≡ self.now.place.registry) × (c.node ≡ self.now.place.node)) }
         ensures home { IfOk result (λ _. IsOwn self.now.place.registry self.now.place.node proc.now) }
         ensures calls { IfOk result (λ c. c.transcript.calls.items ≡ []) }
+        ensures journal { IfOk result (λ c. journal_of c ≡ []) }
     {
         let calls = Vec::new(self.place.registry.allocator());
         let transcript = Transcript {
@@ -54,47 +57,50 @@ impl Desk {
 
     /// Makes the act at the node.
     fn act<R: Wait>(&self, rt: &R, act: Act) -> Result<Reply, Refusal>
-        ensures { IsEvent result → IsReplyTo (act_of act) (reply_in reply_as result) }
+        ensures { IsEvent result → WasReplied self.now.place.registry self.now.place.node (act_of act) (reply_in reply_as result) }
     {
         let Some(mut held) = self.hold(rt, &WaitFor::Nothing) else {
             return Err(Refusal::Closed);
         };
         let answer = held.state.perform(rt, act);
-        held.wake();
-        held.put_back(rt);
-        answer
+        held.end_with(rt, answer)
     }
 
-    /// Makes the act at the node for a client, once that is there which it waits for. The client's viewer is told of what was
-    /// published.
+    /// Makes the act at the node for the client of the process, once that is there which it waits for. The client is told of what was
+    /// published, and of all of the journal.
     pub(crate) fn act_for<R: Wait>(
         &self,
         rt: &R,
         awaited: &WaitFor<'_>,
+        proc: &Proc,
         act: Act,
         viewer: &mut Viewer,
+        known: &mut History<Event>,
     ) -> Result<AnswerCopies, Refusal>
-        requires { viewer.old.book ≡ self.now.place.told.book }
-        ensures told { IfOk result (λ t. IsToldOf self.now.place.registry self.now.place.node (happened act t.told) viewer.new.log) }
+        requires viewer { viewer.old.book ≡ self.now.place.told.book }
+        requires known { known.old.book ≡ self.now.place.list.book }
+        ensures told { IfOk result (λ t. GoesOnBy proc.now (happened_by known.old) (happened_by known.new) (happened act t.told)) }
+        ensures knows { OnOk result (IsKnown self.now.place.registry self.now.place.node (happened_by known.new) viewer.new.log) }
         ensures there { IfOk result (λ t. RepliesThere awaited.now (act_of act) (reply_in reply_as t.told)) }
         ensures copy { IfOk result (λ t. reply_in reply_as t.kept ≡ reply_in reply_as t.told) }
         ensures kind { IfOk result (λ t. IsEvent t.told) }
         ensures err { IfErr result (λ e. (e ≡ refusals.NoMemory) ⊎ (e ≡ refusals.Closed)) }
+        ensures none { OnErr result ((viewer.new ≡ viewer.old) × (known.new ≡ known.old)) }
         ensures seen { IsPrefix viewer.old.log viewer.new.log }
         ensures book { viewer.new.book ≡ viewer.old.book }
+        ensures more { IsPrefix (happened_by known.old) (happened_by known.new) }
+        ensures list { known.new.book ≡ known.old.book }
     {
         let Some(mut held) = self.hold(rt, awaited) else {
             return Err(Refusal::Closed);
         };
-        let answer = held.state.act_for(rt, act, viewer);
-        held.wake();
-        held.put_back(rt);
-        answer
+        let answer = held.state.act_for(rt, proc, act, viewer, known);
+        held.end_with(rt, answer)
     }
 
     /// A frame of another node arrives.
     pub fn deliver<R: Wait>(&self, rt: &R, frame: Frame) -> Result<Delivery, Refusal>
-        ensures { IsEvent result → IsReplyTo (ModelAct.deliver frame) (reply_in delivery_reply result) }
+        ensures { IsEvent result → WasReplied self.now.place.registry self.now.place.node (ModelAct.deliver frame) (reply_in delivery_reply result) }
     {
         delivery_by(self.act(rt, Act::Deliver(frame)))
     }
@@ -108,14 +114,12 @@ impl Desk {
             return Err(Refusal::Closed);
         };
         let delivered = held.state.deliver_all(rt, frames);
-        held.wake();
-        held.put_back(rt);
-        delivered
+        held.end_with(rt, delivered)
     }
 
     /// Other nodes are asked again for what is missing.
     pub fn nudge<R: Wait>(&self, rt: &R) -> Result<(), Refusal>
-        ensures { IsEvent result → IsReplyTo (ModelAct.request ModelRequest.nudge) (reply_in (λ _. ModelReply.done) result) }
+        ensures { IsEvent result → WasReplied self.now.place.registry self.now.place.node (ModelAct.request ModelRequest.nudge) (reply_in (λ _. ModelReply.done) result) }
     {
         nudged_by(self.act(rt, Act::Request(Request::Nudge)))
     }
@@ -123,7 +127,7 @@ impl Desk {
     /// Changes the process sets, which is done at node 0: the number of the change, from 1.
     fn change_sets<R: Wait>(&self, rt: &R, request: Request) -> Result<u64, Refusal>
         requires { IsChange (request_of request) }
-        ensures { IsEvent result → IsReplyTo (ModelAct.request (request_of request)) (reply_in ModelReply.defined result) }
+        ensures { IsEvent result → WasReplied self.now.place.registry self.now.place.node (ModelAct.request (request_of request)) (reply_in ModelReply.defined result) }
     {
         defined_by(self.act(rt, Act::Request(request)))
     }
@@ -131,7 +135,7 @@ impl Desk {
     /// A process set of that name and of these members is defined; it is done at node 0 (PMIx Standard 5.0, process sets). The
     /// number of the change, from 1.
     pub fn define_set<R: Wait>(&self, rt: &R, name: &Key, list: &[Proc]) -> Result<u64, Refusal>
-        ensures { IsEvent result → IsReplyTo (ModelAct.request (ModelRequest.define name.now list.now)) (reply_in ModelReply.defined result) }
+        ensures { IsEvent result → WasReplied self.now.place.registry self.now.place.node (ModelAct.request (ModelRequest.define name.now list.now)) (reply_in ModelReply.defined result) }
     {
         let alloc = self.place.registry.allocator();
         self.change_sets(rt, Request::Define(name.copy()?, copies_of(alloc, list)?))
@@ -139,7 +143,7 @@ impl Desk {
 
     /// The process set of that name is deleted; it is done at node 0. The number of the change, from 1.
     pub fn delete_set<R: Wait>(&self, rt: &R, name: &Key) -> Result<u64, Refusal>
-        ensures { IsEvent result → IsReplyTo (ModelAct.request (ModelRequest.delete name.now)) (reply_in ModelReply.defined result) }
+        ensures { IsEvent result → WasReplied self.now.place.registry self.now.place.node (ModelAct.request (ModelRequest.delete name.now)) (reply_in ModelReply.defined result) }
     {
         self.change_sets(rt, Request::Delete(name.copy()?))
     }
@@ -184,10 +188,8 @@ impl Desk {
 
     /// Closes the desk.
     pub fn close<R: Wait>(&self, rt: &R) {
-        if let Some(mut held) = self.hold(rt, &WaitFor::Nothing) {
-            held.state.close();
-            held.wake();
-            held.put_back(rt);
+        if let Some(held) = self.hold(rt, &WaitFor::Nothing) {
+            held.close(rt);
         }
     }
 

@@ -1,16 +1,18 @@
 //! An act that happens at a node, is noted, and is published.
-ghost use Rattle.std.specs.Prelude.{◌≡◌, ◌⊎◌, ◌++◌, true, drop, IfOk, IfErr, IfSome, IsNone, IsOkUnless, IsSome, OnErr, OnOk, None, Err};
+ghost use Rattle.std.specs.Prelude.{◌≡◌, ◌⊎◌, ◌<◌, ◌++◌, ◌∷◌, [], true, drop, IfOk, IfErr, IfSome, IsNone, IsOkUnless, IsSome, OnErr, OnOk, None, Err, vec_capacity, vec_len};
 ghost use Rattle.std.specs.Option.{option_to_list};
+ghost use mathlib.Core.List.{IsPrefix};
 ghost use Rattle.pmg_value.specs.declared.refusal.Refusal.TheVariants as refusals;
 ghost use Rattle.pmg_node.specs.Acting.{act_of, joins_in, reply_as};
 ghost use Rattle.pmg_node.specs.Joining.{joins};
 ghost use Rattle.pmg_node.specs.Servers.{after, reply_in, reply_to, sent_by};
-ghost use Rattle.pmg_journal.specs.Journals.{IsEvent, is_memory, happened_in};
+ghost use Rattle.pmg_journal.specs.Journals.{IsEvent, is_memory, happened, happened_in, happening_of};
 ghost use Rattle.pmg_desk.specs.Publishing.{published_of};
 ghost use Rattle.pmg_desk.specs.States.{StateGoesOn, StepsGoOn};
 
 use pmg_commit::Piece;
-use pmg_journal::{AnswerCopies, Journal, Step, copy_of_answer, is_free_at};
+use pmg_history::{Appender, History};
+use pmg_journal::{AnswerCopies, Event, Journal, Step, copy_of_answer, is_free_at};
 use pmg_node::{Act, Joined, Node, Reply};
 use pmg_node_model::Sent;
 use pmg_publish::Publisher;
@@ -79,6 +81,7 @@ fn publish<R: Wait>(
     ensures book { publisher.new.book ≡ publisher.old.book }
     ensures ok { OnOk result (publisher.new.log ≡ publisher.old.log ++ published_of (joins_in joined)) }
     ensures open { publisher.old.is_open ≡ true → OnOk result (publisher.new.is_open ≡ true) }
+    ensures read { publisher.new.is_read ≡ publisher.old.is_read }
     ensures err { OnErr result (publisher.new.log ≡ publisher.old.log) }
 {
     if joined.near.is_none() && joined.far.is_none() {
@@ -87,16 +90,6 @@ fn publish<R: Wait>(
     let near = list_of(alloc, joined.near.take())?;
     let far = list_of(alloc, joined.far.take())?;
     publisher.publish(rt, near, far)
-}
-
-/// Two copies of the answer.
-fn two_copies(
-    answer: &Result<Reply, Refusal>,
-) -> Result<(Result<Reply, Refusal>, Result<Reply, Refusal>), AllocError>
-    ensures first { IfOk result (λ copies. reply_in reply_as copies.0 ≡ reply_in reply_as answer.now) }
-    ensures second { IfOk result (λ copies. reply_in reply_as copies.1 ≡ reply_in reply_as answer.now) }
-{
-    Ok((copy_of_answer(answer)?, copy_of_answer(answer)?))
 }
 
 /// Copies of the frames of the outbox from that place on.
@@ -116,61 +109,118 @@ fn frames_from(
     Ok(frames)
 }
 
-/// Copies the frames that were sent, which are those of the outbox from that place on, and the answer, and publishes what was joined.
-fn publish_done<R: Wait>(
-    publisher: &mut Publisher,
-    rt: &R,
-    alloc: Global,
-    outbox: &VecDeque<Sent>,
-    first: usize,
-    done: Done,
-) -> Option<(VecDeque<Sent>, Result<Reply, Refusal>, AnswerCopies)>
-    ensures sent { IfSome result (λ r. r.0.items ≡ drop first outbox.now.items) }
-    ensures noted { IfSome result (λ r. reply_in reply_as r.1 ≡ reply_in reply_as done.told) }
-    ensures told { IfSome result (λ r. r.2.told ≡ done.told) }
-    ensures kept { IfSome result (λ r. reply_in reply_as r.2.kept ≡ reply_in reply_as done.told) }
-    ensures book { publisher.new.book ≡ publisher.old.book }
-    ensures some { IsSome result → publisher.new.log ≡ publisher.old.log ++ published_of (joins_in done.joined) }
-    ensures open { publisher.old.is_open ≡ true → IsSome result → publisher.new.is_open ≡ true }
-    ensures none { IsNone result → publisher.new.log ≡ publisher.old.log }
-{
-    let Done { told, joined } = done;
-    let Ok(sent) = frames_from(alloc, outbox, first) else {
-        return None;
-    };
-    let Ok((noted, kept)) = two_copies(&told) else {
-        return None;
-    };
-    match publish(publisher, rt, alloc, joined) {
-        Ok(()) => Some((sent, noted, AnswerCopies { told, kept })),
-        Err(_) => None,
+/// What an act leaves for the journal: the event, what the node did, and the answer for who asked and for its transcript.
+struct Written {
+    event: Event,
+    sent: VecDeque<Sent>,
+    twice: AnswerCopies,
+}
+
+impl Drop for Written {
+    fn drop(self) {
+        let Self { event, sent, twice } = self;
     }
 }
 
+impl Written {
+    /// Writes the event into the journal and what the node did into the steps, for which there are places: the answer.
+    fn write(self, journal: &mut Journal, steps: &mut Vec<Step>, is_free: bool) -> AnswerCopies
+        requires place { vec_len journal.old.events < vec_capacity journal.old.events }
+        requires step { vec_len steps.old < vec_capacity steps.old }
+        ensures answer { result ≡ self.twice }
+        ensures events { journal.new.events.items ≡ journal.old.events.items ++ self.event ∷ [] }
+        ensures index { journal.new.node ≡ journal.old.node }
+        ensures registry { journal.new.registry ≡ journal.old.registry }
+        ensures steps { steps.new.items ≡ steps.old.items ++ record { is_free = is_free; sent = self.sent } ∷ [] }
+    {
+        let Written { event, sent, twice } = self;
+        journal.note(event);
+        steps.push_reserved(Step { is_free, sent });
+        twice
+    }
+}
+
+/// Copies the frames that were sent, which are those of the outbox from that place on, and the answer.
+fn written_by(
+    alloc: Global,
+    outbox: &VecDeque<Sent>,
+    first: usize,
+    act: Act,
+    told: Result<Reply, Refusal>,
+) -> Result<Written, AllocError>
+    ensures event { IfOk result (λ w. happening_of w.event ≡ happened act told) }
+    ensures sent { IfOk result (λ w. w.sent.items ≡ drop first outbox.now.items) }
+    ensures told { IfOk result (λ w. w.twice.told ≡ told) }
+    ensures kept { IfOk result (λ w. reply_in reply_as w.twice.kept ≡ reply_in reply_as told) }
+{
+    let sent = frames_from(alloc, outbox, first)?;
+    let answer = copy_of_answer(&told)?;
+    let kept = copy_of_answer(&told)?;
+    Ok(Written {
+        event: Event { act, answer },
+        sent,
+        twice: AnswerCopies { told, kept },
+    })
+}
+
+/// Adds the event to the list, and publishes what was joined. None where an allocation fails: then the list may have the event, and
+/// nothing is published.
+fn publish_written<R: Wait>(
+    list: &mut Appender<Event>,
+    publisher: &mut Publisher,
+    rt: &R,
+    alloc: Global,
+    known: &History<Event>,
+    event: &Event,
+    joined: Joined,
+) -> Option<()>
+    requires known { known.now.book ≡ list.old.book }
+    ensures list { IsSome result → list.new.log ≡ list.old.log ++ event.now ∷ [] }
+    ensures known { IsSome result → IsPrefix known.now.log list.old.log }
+    ensures of_list { list.new.book ≡ list.old.book }
+    ensures book { publisher.new.book ≡ publisher.old.book }
+    ensures some { IsSome result → publisher.new.log ≡ publisher.old.log ++ published_of (joins_in joined) }
+    ensures open { publisher.old.is_open ≡ true → IsSome result → publisher.new.is_open ≡ true }
+    ensures read { publisher.new.is_read ≡ publisher.old.is_read }
+    ensures none { IsNone result → publisher.new.log ≡ publisher.old.log }
+{
+    if list.append(known, event).is_err() {
+        return None;
+    }
+    publish(publisher, rt, alloc, joined).ok()
+}
+
 /// Does the act of the node, if there is one, writes it into the journal with its answer and what the node did into the steps, and
-/// publishes what it joined. An allocation that fails before the act changes nothing; after it the node is given up, and journal,
-/// steps and published store stand.
+/// publishes what it joined; what somebody knows of the journal is a prefix of it. An allocation that fails before the act changes
+/// nothing; after it the node is given up, and journal, steps and published store stand.
 pub(crate) fn happen_in<R: Wait>(
     node: &mut Option<Node>,
     journal: &mut Journal,
+    list: &mut Appender<Event>,
     steps: &mut Vec<Step>,
     outbox: &mut VecDeque<Sent>,
     publisher: &mut Publisher,
     rt: &R,
     act: Act,
+    known: &History<Event>,
 ) -> Result<AnswerCopies, Refusal>
+    requires known { known.now.book ≡ list.old.book }
     ensures ok { IfOk result (λ t. StateGoesOn node.old act t.told (happened_in journal.old) outbox.old.items publisher.old.log
         node.new (happened_in journal.new) outbox.new.items publisher.new.log) }
     ensures step { IfOk result (λ t. StepsGoOn node.old act t.told steps.old.items steps.new.items) }
+    ensures list { list.old.log ≡ journal.old.events.items → OnOk result (list.new.log ≡ journal.new.events.items) }
+    ensures known { OnOk result (IsPrefix known.now.log list.old.log) }
+    ensures of_list { list.new.book ≡ list.old.book }
     ensures open { publisher.old.is_open ≡ true → OnOk result (publisher.new.is_open ≡ true) }
+    ensures read { publisher.new.is_read ≡ publisher.old.is_read }
     ensures kind { IfOk result (λ t. IsEvent t.told) }
     ensures copy { IfOk result (λ t. reply_in reply_as t.kept ≡ reply_in reply_as t.told) }
-    ensures events { OnErr result (happened_in journal.new ≡ happened_in journal.old) }
+    ensures events { OnErr result (journal.new.events.items ≡ journal.old.events.items) }
     ensures steps { OnErr result (steps.new.items ≡ steps.old.items) }
     ensures log { OnErr result (publisher.new.log ≡ publisher.old.log) }
-    ensures memory { result ≡ Err refusals.NoMemory → (node.new ≡ None) ⊎ ((node.new ≡ node.old) × (outbox.new.items ≡ outbox.old.items) × (publisher.new ≡ publisher.old)) }
+    ensures memory { result ≡ Err refusals.NoMemory → (node.new ≡ None) ⊎ ((node.new ≡ node.old) × (list.new ≡ list.old) × (outbox.new.items ≡ outbox.old.items) × (publisher.new ≡ publisher.old)) }
     ensures shut { node.old ≡ None → result ≡ Err refusals.Closed }
-    ensures closed { result ≡ Err refusals.Closed → (node.old ≡ None) × (node.new ≡ node.old) × (outbox.new.items ≡ outbox.old.items) × (publisher.new ≡ publisher.old) }
+    ensures closed { result ≡ Err refusals.Closed → (node.old ≡ None) × (node.new ≡ node.old) × (list.new ≡ list.old) × (outbox.new.items ≡ outbox.old.items) × (publisher.new ≡ publisher.old) }
     ensures err { IfErr result (λ e. (e ≡ refusals.NoMemory) ⊎ (e ≡ refusals.Closed)) }
     ensures index { journal.new.node ≡ journal.old.node }
     ensures registry { journal.new.registry ≡ journal.old.registry }
@@ -183,13 +233,15 @@ pub(crate) fn happen_in<R: Wait>(
     steps.reserve(1)?;
     let is_free = is_free_at(whole, &act);
     let first = outbox.len();
-    let done = done_by(whole, &act, outbox)?;
+    let Done { told, joined } = done_by(whole, &act, outbox)?;
     let alloc = journal.registry.allocator();
-    let Some((sent, noted, twice)) = publish_done(publisher, rt, alloc, outbox, first, done) else {
+    let Ok(written) = written_by(alloc, outbox, first, act, told) else {
         *node = None;
         return Err(Refusal::NoMemory);
     };
-    journal.note(act, noted);
-    steps.push_reserved(Step { is_free, sent });
-    Ok(twice)
+    if publish_written(list, publisher, rt, alloc, known, &written.event, joined).is_none() {
+        *node = None;
+        return Err(Refusal::NoMemory);
+    }
+    Ok(written.write(journal, steps, is_free))
 }

@@ -1,5 +1,6 @@
 //! The lock of a desk, and what waits for it.
-ghost use Rattle.std.specs.Prelude.{◌≡◌, IfSome, IfOk, true};
+ghost use Rattle.std.specs.Prelude.{◌≡◌, Err, IfSome, IfOk, IsSome, is_some, true};
+ghost use Rattle.pmg_value.specs.declared.refusal.Refusal.TheVariants as refusals;
 ghost use Rattle.pmg_desk.specs.Awaiting.{IsThere};
 ghost use Rattle.pmg_desk.specs.Places.{LiesAt};
 ghost use Rattle.pmg_jobinfo.specs.Jobs.{is_node};
@@ -8,18 +9,22 @@ ghost use Rattle.pmg_node_model.specs.Kept.{IsOwn};
 use crate::exclusive::Exclusive;
 use crate::state::State;
 use counted_slot::{Counted, Fits};
+use pmg_history::History;
 use pmg_jobinfo::Registry;
+use pmg_journal::Event;
 use pmg_node::Status;
 use pmg_publish::{Version, Viewer};
 use pmg_value::{NodeId, Proc, Refusal};
 use std::collections::BTreeMap;
 use std::sync::{Condvar, Mutex, MutexGuard, Wait};
 
-/// Which desk it is: its node's index, its group, and its publisher, by what that told at the start.
+/// Which desk it is: its node's index, its group, its journal, as the list that it was at the start, and its publisher, by what that
+/// told at the start.
 #[derive(Drop)]
 pub struct Place {
     pub(crate) node: NodeId,
     pub(crate) registry: Registry,
+    pub(crate) list: History<Event>,
     pub(crate) told: Version,
 }
 
@@ -100,10 +105,12 @@ impl LockState {
     }
 }
 
-/// The lock, with what lies under it. It is not dropped: end it by `put_back`.
+/// The lock, with what lies under it, and whether the desk was open when it was taken. It is not dropped: end it by `put_back`, by
+/// `end_with` where something happened, or by `close`.
 pub(crate) struct DeskGuard<'d> {
     desk: &'d Desk,
     gate: MutexGuard<'d, LockState>,
+    was_open: bool,
     pub(crate) state: State,
 }
 
@@ -121,6 +128,7 @@ impl Desk {
         let place = Place {
             node: id,
             registry: copy,
+            list: state.tell_list(),
             told: state.tell(),
         };
         let room = Counted::new(Some(Exclusive::new(state)), &place);
@@ -174,6 +182,7 @@ impl Desk {
         ensures there { IfSome result (λ h. IsThere awaited.now h.state.node) }
         ensures state { IfSome result (λ h. LiesAt self.now.place h.state) }
         ensures desk { IfSome result (λ h. h.desk.now ≡ self.now) }
+        ensures open { IfSome result (λ h. h.was_open ≡ is_some h.state.node) }
     {
         let mut gate = self.gate.lock(rt);
         for _ in rt.forever() {
@@ -182,6 +191,7 @@ impl Desk {
                 return Some(DeskGuard {
                     desk: self,
                     gate,
+                    was_open: !state.is_closed(),
                     state,
                 });
             }
@@ -241,7 +251,9 @@ impl DeskGuard<'_> {
         ensures book { IfOk result (λ v. v.book ≡ self.old.state.publisher.book) }
         ensures home { IfOk result (λ _. IsOwn self.old.state.journal.registry self.old.state.journal.node proc) }
         ensures state { (p : _) → LiesAt p self.old.state → LiesAt p self.new.state }
+        ensures node { self.new.state.node ≡ self.old.state.node }
         ensures desk { self.new.desk.now ≡ self.old.desk.now }
+        ensures open { self.new.was_open ≡ self.old.was_open }
     {
         match self.state.check_caller(&proc) {
             Some(Ok(())) => {}
@@ -258,8 +270,8 @@ impl DeskGuard<'_> {
         }
     }
 
-    /// Something happened: wakes who waits for frames where there are some, and the clients that wait where one of them can go on.
-    pub(crate) fn wake(&mut self)
+    /// Wakes who waits for frames where there are some, and the clients that wait where one of them can go on.
+    fn wake(&mut self)
         ensures state { self.new.state ≡ self.old.state }
         ensures desk { self.new.desk.now ≡ self.old.desk.now }
     {
@@ -274,11 +286,51 @@ impl DeskGuard<'_> {
     }
 
     /// Puts the state back, and gives the lock up.
-    pub(crate) fn put_back<R: Wait>(self, rt: &R)
+    fn release<R: Wait>(self, rt: &R)
         requires { LiesAt self.desk.now.place self.state }
     {
-        let DeskGuard { desk, gate, state } = self;
+        let DeskGuard {
+            desk,
+            gate,
+            was_open: _,
+            state,
+        } = self;
         desk.put_in(rt, state);
         drop(gate);
+    }
+
+    /// Gives the lock up after a look at the state, which closed no desk.
+    pub(crate) fn put_back<R: Wait>(self, rt: &R)
+        requires state { LiesAt self.desk.now.place self.state }
+        requires open { self.was_open ≡ true → IsSome self.state.node }
+    {
+        self.release(rt);
+    }
+
+    /// Gives the lock up after something that is answered so, and wakes who can go on: the answer. The desk is open if it was, unless
+    /// the answer is NoMemory.
+    pub(crate) fn end_with<R: Wait, T>(
+        mut self,
+        rt: &R,
+        answer: Result<T, Refusal>,
+    ) -> Result<T, Refusal>
+        requires state { LiesAt self.desk.now.place self.state }
+        requires open { self.was_open ≡ true → (answer ≡ Err refusals.NoMemory → ⊥) → IsSome self.state.node }
+        ensures { result ≡ answer }
+    {
+        if self.was_open {
+            self.wake();
+        }
+        self.release(rt);
+        answer
+    }
+
+    /// Closes the desk, wakes who waits at it, and gives the lock up.
+    pub(crate) fn close<R: Wait>(mut self, rt: &R)
+        requires { LiesAt self.desk.now.place self.state }
+    {
+        self.state.close();
+        self.wake();
+        self.release(rt);
     }
 }

@@ -1,5 +1,5 @@
 //! What a client reads.
-ghost use Rattle.std.specs.Prelude.{◌≡◌, ◌&&◌, ◌==◌, ℕ, not, false, true, Err, IfErr, IfOk};
+ghost use Rattle.std.specs.Prelude.{◌≡◌, ◌≢◌, ◌&&◌, ◌==◌, ℕ, not, false, true, Err, IfErr, IfOk};
 ghost use Rattle.std.specs.FinMap as finite;
 ghost use Rattle.std.specs.Option.{option_map};
 ghost use mathlib.Core.List.{IsPrefix};
@@ -17,10 +17,9 @@ ghost use Rattle.pmg_get.specs.Gets.{Seen, resolve};
 ghost use Rattle.pmg_get.specs.declared.view.Mode.{Mode as GetMode};
 ghost use Rattle.pmg_get.specs.declared.view.Mode.TheVariants as modes;
 ghost use Rattle.pmg_node_model.specs.Acts.{is_misnamed, reply_of};
-ghost use Rattle.pmg_node.specs.Replies.{taking_reply};
 ghost use Rattle.pmg_desk.specs.Clients.{IsLater, is_waiting, proc_of, puts_of};
 ghost use Rattle.pmg_journal.specs.Journals.{IsEvent};
-ghost use Rattle.pmg_desk.specs.Reading.{IsDueOrClosed, IsGot, IsOwnGet, IsReadNow, NotesGet, got_as, got_in, is_own_key, now_cause, reserved_seen};
+ghost use Rattle.pmg_desk.specs.Reading.{GivesDue, IsDueOrClosed, IsOwnGet, IsReadNow, NotesGet, TellsGet, is_own_key, now_cause, reserved_seen};
 
 use crate::client::Client;
 use crate::lock::Place;
@@ -32,13 +31,15 @@ use pmg_publish::{FarSnapshot, Snapshot, Viewer};
 use pmg_value::{Key, NodeId, Proc, Refusal, Value};
 use std::sync::Wait;
 
-/// The value that was taken; there is always one once a get parked.
-fn value_in(taking: Taking) -> Result<Value, Refusal>
-    ensures { got_in (taking_reply taking) ≡ got_as result }
+/// Returns the value that was taken: a get that parked is answered by one, once the client need not wait.
+fn value_in(taking: Taking) -> Value
+    requires idle { taking ≢ Taking.Idle }
+    requires waiting { taking ≢ Taking.Waiting }
+    ensures { taking ≡ Taking.Found result }
 {
     match taking {
-        Taking::Found(value) => Ok(value),
-        Taking::Idle | Taking::Waiting => Err(Refusal::NotFound),
+        Taking::Found(value) => value,
+        Taking::Idle | Taking::Waiting => unreachable!(),
     }
 }
 
@@ -90,7 +91,7 @@ fn reserved_now(registry: &Registry, id: NodeId, target: &Proc, key: &Key) -> Re
     requires key { is_reserved key.now ≡ true }
     requires known { is_registered registry.now target.now.nspace ≡ true }
     requires named { (not (is_general target.now) && is_misnamed registry.now target.now) ≡ false }
-    ensures { IsDueOrClosed result (reply_of (resolve (reserved_seen registry.now id (get_of target.now key.now)) modes.Now)) }
+    ensures { GivesDue result (reply_of (resolve (reserved_seen registry.now id (get_of target.now key.now)) modes.Now)) }
 {
     registry.reserved(id, target, key)
 }
@@ -105,7 +106,7 @@ impl Client<'_> {
 
     /// What it put under the key last, sealed or not.
     fn own(&self, key: &Key) -> Result<Value, Refusal>
-        ensures { (mode : GetMode) → IsDueOrClosed result (reply_of (resolve (Seen.own (finite.get (puts_of self.now).own key.now)) mode)) }
+        ensures { (mode : GetMode) → GivesDue result (reply_of (resolve (Seen.own (finite.get (puts_of self.now).own key.now)) mode)) }
     {
         match self.notes.own(key) {
             Some(value) => Ok(value.copy()?),
@@ -136,7 +137,7 @@ impl Client<'_> {
     fn free_own(&self, key: &Key) -> Result<Value, Refusal>
         ensures busy { is_waiting self.now ≡ true → result ≡ Err refusals.Busy }
         ensures answer { (mode : GetMode) → is_waiting self.now ≡ false
-            → IsDueOrClosed result (reply_of (resolve (Seen.own (finite.get (puts_of self.now).own key.now)) mode)) }
+            → GivesDue result (reply_of (resolve (Seen.own (finite.get (puts_of self.now).own key.now)) mode)) }
     {
         if self.in_call() {
             return Err(Refusal::Busy);
@@ -166,7 +167,7 @@ impl Client<'_> {
     ) -> Result<Value, Refusal>
         ensures later { IsLater self.old self.new }
         ensures own { is_own_key (proc_of self.old) (get_of target.now key.now) ≡ true → IsOwnGet self.old self.new (get_of target.now key.now) mode result }
-        ensures told { is_own_key (proc_of self.old) (get_of target.now key.now) ≡ false → IsEvent result → IsGot self.new (get_of target.now key.now) mode result }
+        ensures told { is_own_key (proc_of self.old) (get_of target.now key.now) ≡ false → IsEvent result → TellsGet self.old self.new (get_of target.now key.now) mode result }
         ensures noted { is_own_key (proc_of self.old) (get_of target.now key.now) ≡ false → NotesGet self.old self.new (get_of target.now key.now) mode result }
     {
         if self.is_own(target, key) {
@@ -174,7 +175,7 @@ impl Client<'_> {
         }
         match self.ask(rt, target, key, mode)? {
             Asked::Found(value) => Ok(value),
-            Asked::Parked => value_in(self.take(rt)?),
+            Asked::Parked => Ok(value_in(self.take(rt)?)),
         }
     }
 
@@ -182,7 +183,7 @@ impl Client<'_> {
     pub fn get<R: Wait>(&mut self, rt: &R, target: &Proc, key: &Key) -> Result<Value, Refusal>
         ensures later { IsLater self.old self.new }
         ensures own { is_own_key (proc_of self.old) (get_of target.now key.now) ≡ true → IsOwnGet self.old self.new (get_of target.now key.now) modes.Wait result }
-        ensures told { is_own_key (proc_of self.old) (get_of target.now key.now) ≡ false → IsEvent result → IsGot self.new (get_of target.now key.now) modes.Wait result }
+        ensures told { is_own_key (proc_of self.old) (get_of target.now key.now) ≡ false → IsEvent result → TellsGet self.old self.new (get_of target.now key.now) modes.Wait result }
         ensures noted { is_own_key (proc_of self.old) (get_of target.now key.now) ≡ false → NotesGet self.old self.new (get_of target.now key.now) modes.Wait result }
     {
         self.get_as(rt, target, key, Mode::Wait)
@@ -200,7 +201,7 @@ impl Client<'_> {
     ) -> Result<Value, Refusal>
         ensures later { IsLater self.old self.new }
         ensures own { is_own_key (proc_of self.old) (get_of target.now key.now) ≡ true → IsOwnGet self.old self.new (get_of target.now key.now) modes.Refresh result }
-        ensures told { is_own_key (proc_of self.old) (get_of target.now key.now) ≡ false → IsEvent result → IsGot self.new (get_of target.now key.now) modes.Refresh result }
+        ensures told { is_own_key (proc_of self.old) (get_of target.now key.now) ≡ false → IsEvent result → TellsGet self.old self.new (get_of target.now key.now) modes.Refresh result }
         ensures noted { is_own_key (proc_of self.old) (get_of target.now key.now) ≡ false → NotesGet self.old self.new (get_of target.now key.now) modes.Refresh result }
     {
         self.get_as(rt, target, key, Mode::Refresh)

@@ -1,5 +1,5 @@
 //! What lies under the lock of a desk.
-ghost use Rattle.std.specs.Prelude.{◌≡◌, ◌⊎◌, ◌+◌, ◌==◌, ◌∷◌, ◌++◌, [], not, true, is_none, length, IfOk, IfErr, IfSome, IsSome, OnErr, OnOk, Some, None, Ok, Err};
+ghost use Rattle.std.specs.Prelude.{◌≡◌, ◌⊎◌, ◌+◌, ◌==◌, ◌∷◌, ◌++◌, [], not, true, false, is_none, length, map, drop, IfOk, IfErr, IfSome, IsSome, OnErr, OnOk, Some, None, Ok, Err};
 ghost use Rattle.std.specs.Option.{option_map};
 ghost use mathlib.Core.List.{IsPrefix};
 ghost use Rattle.pmg_value.specs.declared.refusal.Refusal.TheVariants as refusals;
@@ -12,15 +12,19 @@ ghost use Rattle.pmg_node.specs.Acting.{act_of, reply_as};
 ghost use Rattle.pmg_node.specs.Opening.{new_server};
 ghost use Rattle.pmg_node.specs.Replies.{status_in};
 ghost use Rattle.pmg_node.specs.Servers.{reply_in, reply_to};
-ghost use Rattle.pmg_journal.specs.Journals.{IsEvent, IsJournal, happened, start_of, happened_in};
+ghost use Rattle.pmg_journal.specs.Journals.{IsEvent, IsJournal, happened, start_of, happened_in, happening_of};
+ghost use Rattle.pmg_journal.specs.Knowing.{AreOfOthers, GoesOnBy, happened_by};
 ghost use Rattle.pmg_desk.specs.Publishing.{published_over};
 ghost use Rattle.pmg_desk.specs.States.{HaveCome, IsAt, IsStateKept, NothingHappened, SomeHaveCome, Steps};
-ghost use Rattle.pmg_desk.specs.Telling.{IsToldOf, WasFarDump, WasSent};
+ghost use Rattle.pmg_desk.specs.Telling.{IsKnown, WasFarDump, WasReplied, WasSent};
 
 use crate::happening::happen_in;
 use pmg_frame::Frame;
+use pmg_history::{Appender, History};
 use pmg_jobinfo::Registry;
-use pmg_journal::{AnswerCopies, Evidence, Journal, Record, Step, copy_of_act};
+use pmg_journal::{
+    AnswerCopies, Event, Evidence, Journal, Record, Step, copy_of_act, has_event_by,
+};
 use pmg_node::{Act, Node, Reply, Status};
 use pmg_node_model::Sent;
 use pmg_publish::{MAX_VIEWERS, Publisher, Version, Viewer, publisher};
@@ -38,6 +42,8 @@ pub struct Parts {
     pub node: Option<Node>,
     /// What happened at the node.
     pub journal: Journal,
+    /// The journal as a list, of which clients know prefixes.
+    pub list: Appender<Event>,
     /// What the node did at each event of the journal.
     pub steps: Vec<Step>,
     /// The frames that were not taken yet.
@@ -99,6 +105,7 @@ fn record_of<R: Wait>(parts: Parts, rt: &R) -> Record
     let Parts {
         node,
         journal,
+        list: _,
         steps,
         outbox: _,
         taken: _,
@@ -138,6 +145,7 @@ impl State {
         let parts = Parts {
             node: Some(node),
             journal,
+            list: Appender::open(),
             steps: Vec::new(alloc),
             outbox: VecDeque::new(alloc),
             taken: 0,
@@ -154,9 +162,19 @@ impl State {
         }
     }
 
-    /// Does the act, writes it into the journal with its answer, and publishes what it joined. Closed where the node was given
-    /// up. NoMemory before the act changes nothing; after it the node is given up, and journal and published store stand.
-    fn happen<R: Wait>(&mut self, rt: &R, act: Act) -> Result<AnswerCopies, Refusal>
+    /// Does the act, writes it into the journal with its answer, and publishes what it joined. What somebody knows of the journal is
+    /// a prefix of it. Closed where the node was given up. NoMemory before the act changes nothing; after it the node is given up,
+    /// and journal and published store stand.
+    fn happen<R: Wait>(
+        &mut self,
+        rt: &R,
+        act: Act,
+        known: &History<Event>,
+    ) -> Result<AnswerCopies, Refusal>
+        requires { known.now.book ≡ self.old.list.book }
+        ensures known { OnOk result (IsPrefix known.now.log self.old.journal.events.items) }
+        ensures list { OnOk result (self.new.list.log ≡ self.new.journal.events.items) }
+        ensures replay { IsJournal self.new.journal }
         ensures event { IfOk result (λ t. happened_in self.new.journal ≡ happened_in self.old.journal ++ happened act t.told ∷ []) }
         ensures step { IfOk result (λ t. IfSome self.old.node (λ s. Steps s act t.told self.new.node)) }
         ensures kind { IfOk result (λ t. IsEvent t.told) }
@@ -164,6 +182,7 @@ impl State {
         ensures err { IfErr result (λ e. (e ≡ refusals.NoMemory) ⊎ (e ≡ refusals.Closed)) }
         ensures none { OnErr result (happened_in self.new.journal ≡ happened_in self.old.journal) }
         ensures memory { result ≡ Err refusals.NoMemory → (self.new.node ≡ None) ⊎ NothingHappened self.old self.new }
+        ensures open { IsSome self.old.node → (result ≡ Err refusals.NoMemory → ⊥) → IsSome self.new.node }
         ensures shut { self.old.node ≡ None → result ≡ Err refusals.Closed }
         ensures closed { result ≡ Err refusals.Closed → (self.old.node ≡ None) × NothingHappened self.old self.new }
         ensures place { IsAt self.old self.new }
@@ -171,6 +190,7 @@ impl State {
         let Parts {
             node,
             journal,
+            list,
             steps,
             outbox,
             taken: _,
@@ -178,21 +198,26 @@ impl State {
             viewers: _,
             last: _,
         } = &mut *self.parts;
-        happen_in(node, journal, steps, outbox, publisher, rt, act)
+        happen_in(
+            node, journal, list, steps, outbox, publisher, rt, act, known,
+        )
     }
 
     /// The same, for who keeps no transcript: its answer alone.
     pub(crate) fn perform<R: Wait>(&mut self, rt: &R, act: Act) -> Result<Reply, Refusal>
+        ensures replied { IsEvent result → WasReplied self.old.journal.registry self.old.journal.node (act_of act) (reply_in reply_as result) }
         ensures event { IsEvent result → happened_in self.new.journal ≡ happened_in self.old.journal ++ happened act result ∷ [] }
         ensures step { IsEvent result → IfSome self.old.node (λ s. Steps s act result self.new.node) }
         ensures none { result ≡ Err refusals.NoMemory → happened_in self.new.journal ≡ happened_in self.old.journal }
         ensures kept { result ≡ Err refusals.Closed → happened_in self.new.journal ≡ happened_in self.old.journal }
         ensures memory { result ≡ Err refusals.NoMemory → (self.new.node ≡ None) ⊎ NothingHappened self.old self.new }
+        ensures open { IsSome self.old.node → (result ≡ Err refusals.NoMemory → ⊥) → IsSome self.new.node }
         ensures shut { self.old.node ≡ None → result ≡ Err refusals.Closed }
         ensures closed { result ≡ Err refusals.Closed → (self.old.node ≡ None) × NothingHappened self.old self.new }
         ensures place { IsAt self.old self.new }
     {
-        match self.happen(rt, act) {
+        let all = self.parts.list.tell();
+        match self.happen(rt, act, &all) {
             Ok(twice) => twice.told,
             Err(refusal) => Err(refusal),
         }
@@ -203,11 +228,13 @@ impl State {
     pub fn deliver_all<R: Wait>(&mut self, rt: &R, frames: Vec<Frame>) -> Result<(), Refusal>
         ensures ok { OnOk result (HaveCome frames.items (happened_in self.old.journal) (happened_in self.new.journal)) }
         ensures some { OnErr result (SomeHaveCome frames.items (happened_in self.old.journal) (happened_in self.new.journal)) }
+        ensures open { IsSome self.old.node → (result ≡ Err refusals.NoMemory → ⊥) → IsSome self.new.node }
         ensures err { IfErr result (λ e. (e ≡ refusals.NoMemory) ⊎ (e ≡ refusals.Closed)) }
         ensures place { IsAt self.old self.new }
     {
         for frame in frames {
-            let _ = self.happen(rt, Act::Deliver(frame))?;
+            let all = self.parts.list.tell();
+            let _ = self.happen(rt, Act::Deliver(frame), &all)?;
         }
         Ok(())
     }
@@ -231,26 +258,50 @@ impl State {
         self.perform(rt, copy)
     }
 
-    /// The same for a client, whose viewer is told of what was published.
+    /// Returns whether the process made an event of the journal past those that are known.
+    fn made_more(&self, proc: &Proc, known: &History<Event>) -> bool
+        ensures { result ≡ false → AreOfOthers proc.now (map happening_of (drop (length known.now.log) self.now.journal.events.items)) }
+    {
+        match self.parts.journal.events.get(known.count() as usize..) {
+            Some(rest) => has_event_by(rest, proc),
+            None => true,
+        }
+    }
+
+    /// Does the act for the client of the process, as `act`, and tells it what was published and all of the journal: that begins
+    /// with what the client knew, goes on with what others did, and ends with this act. Closed where the process did more than the
+    /// client knows.
     pub fn act_for<R: Wait>(
         &mut self,
         rt: &R,
+        proc: &Proc,
         act: Act,
         viewer: &mut Viewer,
+        known: &mut History<Event>,
     ) -> Result<AnswerCopies, Refusal>
-        requires { viewer.old.book ≡ self.old.publisher.book }
-        ensures told { IfOk result (λ t. IsToldOf self.old.journal.registry self.old.journal.node (happened act t.told) viewer.new.log) }
+        requires viewer { viewer.old.book ≡ self.old.publisher.book }
+        requires known { known.old.book ≡ self.old.list.book }
+        ensures told { IfOk result (λ t. GoesOnBy proc.now (happened_by known.old) (happened_by known.new) (happened act t.told)) }
+        ensures knows { OnOk result (IsKnown self.old.journal.registry self.old.journal.node (happened_by known.new) viewer.new.log) }
         ensures step { IfOk result (λ t. IfSome self.old.node (λ s. reply_to s (act_of act) ≡ reply_in reply_as t.told)) }
+        ensures open { IsSome self.old.node → (result ≡ Err refusals.NoMemory → ⊥) → IsSome self.new.node }
         ensures shut { self.old.node ≡ None → result ≡ Err refusals.Closed }
         ensures copy { IfOk result (λ t. reply_in reply_as t.kept ≡ reply_in reply_as t.told) }
         ensures kind { IfOk result (λ t. IsEvent t.told) }
         ensures err { IfErr result (λ e. (e ≡ refusals.NoMemory) ⊎ (e ≡ refusals.Closed)) }
+        ensures none { OnErr result ((viewer.new ≡ viewer.old) × (known.new ≡ known.old)) }
         ensures seen { IsPrefix viewer.old.log viewer.new.log }
         ensures book { viewer.new.book ≡ viewer.old.book }
+        ensures more { IsPrefix (happened_by known.old) (happened_by known.new) }
+        ensures list { known.new.book ≡ known.old.book }
         ensures place { IsAt self.old self.new }
     {
-        let twice = self.happen(rt, act)?;
+        if self.made_more(proc, known) {
+            return Err(Refusal::Closed);
+        }
+        let twice = self.happen(rt, act, known)?;
         viewer.learn(&self.tell());
+        *known = self.parts.list.tell();
         Ok(twice)
     }
 
@@ -261,6 +312,13 @@ impl State {
         ensures published { result.log ≡ published_over (start_of self.now.journal) (happened_in self.now.journal) }
     {
         self.parts.publisher.tell()
+    }
+
+    /// Returns the journal, as all that is known of it.
+    pub fn tell_list(&self) -> History<Event>
+        ensures { result ≡ self.now.list }
+    {
+        self.parts.list.tell()
     }
 
     /// Whether the node was given up.
@@ -324,6 +382,7 @@ impl State {
         ensures shut { self.old.node ≡ None → result ≡ Err refusals.Closed }
         ensures node { self.new.node ≡ self.old.node }
         ensures journal { self.new.journal ≡ self.old.journal }
+        ensures list { self.new.list ≡ self.old.list }
         ensures publisher { self.new.publisher ≡ self.old.publisher }
     {
         let parts = &mut *self.parts;
@@ -342,6 +401,7 @@ impl State {
         ensures node { self.new.node ≡ None }
         ensures last { IsSome self.old.node → self.new.last ≡ self.old.node }
         ensures journal { self.new.journal ≡ self.old.journal }
+        ensures list { self.new.list ≡ self.old.list }
         ensures steps { self.new.steps ≡ self.old.steps }
         ensures outbox { self.new.outbox ≡ self.old.outbox }
         ensures taken { self.new.taken ≡ self.old.taken }
@@ -359,6 +419,7 @@ impl State {
     /// A viewer for one of the processes at home at the node, as long as one is left: there are as many as these processes.
     pub fn take_viewer(&mut self) -> Option<Viewer>
         ensures book { IfSome result (λ v. v.book ≡ self.old.publisher.book) }
+        ensures node { self.new.node ≡ self.old.node }
         ensures place { IsAt self.old self.new }
     {
         self.parts.viewers.pop()

@@ -1,7 +1,8 @@
 -- Who calls, and whether it may.
-use Rattle.std.specs.Prelude.{Bool, true, Option, Some, None, is_ok}
+use Rattle.std.specs.Prelude.{Bool, true, false, Option, Some, None, is_ok}
 use Rattle.pmg_value.specs.CheckOrder.{first_of}
 use Rattle.pmg_value.specs.declared.process.Proc.{Proc}
+use Rattle.pmg_fence.specs.Entering.{same_proc}
 use Rattle.pmg_node_model.specs.Acts.{Act, Request, free_cause}
 use Rattle.pmg_node.specs.Servers.{Server}
 
@@ -30,3 +31,12 @@ may_call s p = is_ok (first_of (free_cause s.jobs s.id s.holding p) (tt {0}))
 abbrev pub free_at : Server → Option Proc → Bool
 free_at s None = true
 free_at s (Some p) = may_call s p
+
+-- the process is the one that calls
+abbrev pub is_caller : Proc → Option Proc → Bool
+is_caller p None = false
+is_caller p (Some q) = same_proc p q
+
+-- whether the process calls
+abbrev pub is_by : Proc → Act → Bool
+is_by p a = is_caller p (caller_of a)

@@ -3,3 +3,4 @@ pub mod Journals
 pub mod Transcripts
 pub mod Calling
 pub mod Records
+pub mod Knowing

@@ -1,12 +1,15 @@
 //! What happened at a node, one event after the other.
-ghost use Rattle.std.specs.Prelude.{◌≡◌, ◌<◌, ◌∷◌, ◌++◌, [], IfOk, OnOk, vec_capacity, vec_len};
+ghost use Rattle.std.specs.Prelude.{◌≡◌, ◌<◌, ◌∷◌, ◌++◌, [], map, IfOk, OnOk, vec_capacity, vec_len};
+ghost use Rattle.std.specs.List.{list_any};
 ghost use Rattle.pmg_node.specs.Acting.{act_of, reply_as};
 ghost use Rattle.pmg_node.specs.Servers.{reply_in};
-ghost use Rattle.pmg_journal.specs.Journals.{happened, happened_in};
+ghost use Rattle.pmg_journal.specs.Journals.{happening_of};
+ghost use Rattle.pmg_journal.specs.Calling.{is_by};
 
+use crate::record::caller_of;
 use pmg_jobinfo::Registry;
 use pmg_node::{Act, Reply};
-use pmg_value::{NodeId, Refusal, copy_all};
+use pmg_value::{NodeId, Proc, Refusal, copy_all};
 use std::alloc::AllocError;
 
 /// What was asked of a node, and what it answered.
@@ -85,6 +88,20 @@ pub fn copy_of_answer(answer: &Result<Reply, Refusal>) -> Result<Result<Reply, R
     }
 }
 
+/// Returns whether the process made one of the events.
+pub fn has_event_by(events: &[Event], proc: &Proc) -> bool
+    ensures { result ≡ list_any (λ e. is_by proc.now e.act) (map happening_of events.now) }
+{
+    for event in events {
+        if let Some(caller) = caller_of(&event.act) {
+            if proc.cmp(caller).is_eq() {
+                return true;
+            }
+        }
+    }
+    false
+}
+
 impl Journal {
     /// Makes a place for one event more.
     pub fn reserve(&mut self) -> Result<(), AllocError>
@@ -96,13 +113,13 @@ impl Journal {
         self.events.reserve(1)
     }
 
-    /// The act happened, and was answered so; there is a place for it.
-    pub fn note(&mut self, act: Act, answer: Result<Reply, Refusal>)
+    /// Adds the event, for which there is a place.
+    pub fn note(&mut self, event: Event)
         requires place { vec_len self.old.events < vec_capacity self.old.events }
         ensures node { self.new.node ≡ self.old.node }
         ensures registry { self.new.registry ≡ self.old.registry }
-        ensures events { happened_in self.new ≡ happened_in self.old ++ happened act answer ∷ [] }
+        ensures events { self.new.events.items ≡ self.old.events.items ++ event ∷ [] }
     {
-        self.events.push_reserved(Event { act, answer });
+        self.events.push_reserved(event);
     }
 }

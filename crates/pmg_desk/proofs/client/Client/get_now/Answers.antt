@@ -12,7 +12,7 @@ use Rattle.pmg_publish.specs.Publications.{far_of, near_of}
 use Rattle.pmg_node_model.specs.Acts.{reply_of}
 use Rattle.pmg_node_model.specs.Holdings.{plain_seen}
 use Rattle.pmg_desk.specs.Clients.{Client, proc_of}
-use Rattle.pmg_desk.specs.Reading.{IsDueOrClosed, is_own_key, now_cause, reserved_seen}
+use Rattle.pmg_desk.specs.Reading.{GivesDue, IsDueOrClosed, is_own_key, now_cause, reserved_seen}
 use Rattle.pmg_desk.proofs.ReadLemmas.{read_plain, read_reserved}
 use Rattle.pmg_desk.proofs.client.Client.get_now.Goals as goal
 
@@ -23,8 +23,8 @@ returns-then-is_reserved-clause-answer c =
     let free : ◌≡◌ {A = Result (Unit {0}) Refusal} (Ok tt) (first_of (now_cause d get) tt) = search rules in
     let other : is_own_key (proc_of d) get ≡ false = search rules in
     let key : is_reserved get.key ≡ true = search rules in
-    let due : IsDueOrClosed c.reserved_now.result (reply_of (resolve (reserved_seen d.jobs d.node get) modes.Now)) =
-    subst (λ (x : Client). IsDueOrClosed c.reserved_now.result (reply_of (resolve (reserved_seen x.jobs x.node get) modes.Now))) c.self.view_is c.reserved_now.ensures in
+    let due : GivesDue c.reserved_now.result (reply_of (resolve (reserved_seen d.jobs d.node get) modes.Now)) =
+    subst (λ (x : Client). GivesDue c.reserved_now.result (reply_of (resolve (reserved_seen x.jobs x.node get) modes.Now))) c.self.view_is c.reserved_now.ensures in
     read_reserved d d get c.reserved_now.result free other key due
 
 pub returns-clause-answer : goal.returns-clause-answer
@@ -42,5 +42,5 @@ returns-clause-answer c =
     let due : IsDueOrClosed c.plain_now.result (reply_of (resolve (plain_seen d.jobs d.node (read_at near get.target) (read_at far get.target) get) modes.Now)) =
     subst (λ (x : Client). IsDueOrClosed c.plain_now.result (reply_of (resolve (plain_seen x.jobs x.node (read_at near get.target) (read_at far get.target) get) modes.Now))) c.self.view_is
     (c.plain_now.ensures.answer jobs id home) in
-    let later : Client = record { jobs = jobs; node = id; viewer = c.plain_now.new.viewer; transcript = c.self.inside.notes } in
+    let later : Client = record { jobs = jobs; node = id; viewer = c.plain_now.new.viewer; known = c.self.inside.known; transcript = c.self.inside.notes } in
     read_plain d later get c.plain_now.result free other key due

@@ -1,4 +1,4 @@
-use Rattle.std.proofs.Common.{rules, ◌≡◌, sym, ◌∙◌}
+use Rattle.std.proofs.Common.{rules, ◌≡◌}
 use Rattle.pmg_node_model.specs.Acts.{Act, Request}
 use Rattle.pmg_node.specs.Acting.{reply_as}
 use Rattle.pmg_node.specs.Replies.{release_reply}
@@ -10,12 +10,13 @@ use Rattle.pmg_desk.proofs.WaitLemmas.{leave_waited}
 use Rattle.pmg_desk.proofs.client.Client.leave.Goals as goal
 
 pub release_by-requires : goal.release_by-requires
-release_by-requires g c = told_kind _ _ (Act.request (Request.leave _)) c.request.result _ c.request.ensures.told
+release_by-requires g c = told_kind _ _ (Act.request (Request.leave _)) c.request.result c.request.ensures.told
 
 pub returns-clause-ready : goal.returns-clause-ready
 returns-clause-ready g c =
     let copy : c.in_ok-copy.field-0 ≡ proc_of c.args.self.now = search rules in
-    ready_known c.request.new.self _ c.release_by.result (c.request.ensures.later.proc ∙ sym copy) (same_told release_reply reply_as _ _ (Act.request (Request.leave _)) _ c.release_by.result c.request.result c.release_by.ensures c.request.ensures.told)
+    ready_known c.args.self.now c.request.new.self c.in_ok-copy.field-0 c.release_by.result c.request.ensures.later copy
+    (same_told release_reply reply_as _ _ (Act.request (Request.leave _)) c.release_by.result c.request.result c.release_by.ensures c.request.ensures.told)
 
 pub returns-clause-waited : goal.returns-clause-waited
 returns-clause-waited g c =

@@ -5,7 +5,7 @@ use Rattle.pmg_desk.proofs.WaitLemmas.{take_waited}
 use Rattle.pmg_desk.proofs.client.Client.take.Goals as goal
 
 pub taking_by-requires : goal.taking_by-requires
-taking_by-requires g c = told_taking _ _ _ c.request.result _ c.request.ensures.told
+taking_by-requires g c = told_taking _ _ _ c.request.result c.request.ensures.told
 
 pub returns-clause-waited : goal.returns-clause-waited
 returns-clause-waited g c =

@@ -6,7 +6,7 @@ use Rattle.pmg_desk.proofs.lock.Desk.change_sets.Goals as goal
 
 pub defined_by-requires : goal.defined_by-requires
 defined_by-requires g c =
-    change_kind (request_of c.args.request) c.act.result c.requires (answer_kind (Act.request (request_of c.args.request)) c.act.result c.act.ensures)
+    change_kind (request_of c.args.request) c.act.result c.requires (answer_kind _ _ (Act.request (request_of c.args.request)) c.act.result c.act.ensures)
 
 pub returns : goal.returns
-returns g c = same_given Reply.defined reply_as (Act.request (request_of c.args.request)) c.defined_by.result c.act.result c.defined_by.ensures c.act.ensures
+returns g c = same_given Reply.defined reply_as _ _ (Act.request (request_of c.args.request)) c.defined_by.result c.act.result c.defined_by.ensures c.act.ensures

@@ -8,4 +8,4 @@ pub invariant_of-self-2 : goal.invariant_of-self-2
 invariant_of-self-2 c =
     let p : Parts = c.deref_mut-parts.result.now in
     let opened : c.self.inside.parts.value ≡ p = search rules in
-    kept_closed p _ (subst (λ (x : Parts). IsStateKept x) opened c.self.invariant) refl refl refl refl (search rules) (search rules)
+    kept_closed p _ (subst (λ (x : Parts). IsStateKept x) opened c.self.invariant) refl refl refl refl refl (search rules) (search rules)

@@ -12,6 +12,7 @@ invariant_of-self g c =
     let q : Parts = record {
       node = h.new.node;
       journal = h.new.journal;
+      list = h.new.list;
       steps = h.new.steps;
       outbox = h.new.outbox;
       taken = p.taken;
@@ -19,6 +20,9 @@ invariant_of-self g c =
       viewers = p.viewers;
       last = p.last;
     } in
-    let at : IsAt p q = record { node = h.ensures.index; registry = h.ensures.registry; book = h.ensures.book; taken = refl } in
-    kept_after p q (subst (λ (x : Parts). IsStateKept x) opened c.self.invariant) at refl refl c.args.act h.result h.ensures.ok h.ensures.step h.ensures.open h.ensures.events h.ensures.log h.ensures.steps
+    let at : IsAt p q = record { node = h.ensures.index; registry = h.ensures.registry; list = h.ensures.of_list; book = h.ensures.book; taken = refl } in
+    kept_after p q (subst (λ (x : Parts). IsStateKept x) opened c.self.invariant) at refl refl h.ensures.read c.args.act h.result h.ensures.ok h.ensures.step h.ensures.list h.ensures.open h.ensures.events h.ensures.log h.ensures.steps
     h.ensures.memory h.ensures.closed h.ensures.err
+
+pub returns-clause-replay : goal.returns-clause-replay
+returns-clause-replay g c = (invariant_of-self g c).journal

@@ -1,0 +1,23 @@
+-- What is known of a journal, from call to call.
+use Rattle.std.specs.Prelude.{◌≡◌, false, List, ◌∷◌, ◌++◌, [], map}
+use Rattle.std.specs.List.{list_any}
+use Rattle.pmg_value.specs.declared.process.Proc.{Proc}
+use Rattle.pmg_history.specs.Entries.{Entries}
+use Rattle.pmg_journal.specs.Calling.{is_by}
+use Rattle.pmg_journal.specs.Journals.{happening_of}
+use Rattle.pmg_journal.specs.Replays.{Happening}
+use Rattle.pmg_journal.specs.declared.journal.Event.{Event}
+
+-- The process made none of these events.
+abbrev pub AreOfOthers : Proc → List Happening → Type 0
+AreOfOthers p es = list_any (λ e. is_by p e.act) es ≡ false
+
+-- The journal begins with what was known before, goes on with events of others, and ends with this event.
+pub record GoesOnBy (p : Proc) (old new : List Happening) (e : Happening) : Type 0 where
+  pub others : List Happening
+  pub list : new ≡ old ++ (others ++ e ∷ [])
+  pub are_of_others : AreOfOthers p others
+
+-- the known prefix of a journal, as what happened
+abbrev pub happened_by : Entries Event → List Happening
+happened_by known = map happening_of known.log
