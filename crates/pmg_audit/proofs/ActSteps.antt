@@ -25,9 +25,10 @@ use Rattle.pmg_world.proofs.ClientLemmas.{commit_seals, frame_keeps, request_kee
 use Rattle.pmg_world.proofs.HappenLemmas.{at_node_is, commit_there, frame_there, request_there}
 use Rattle.pmg_journal.specs.Replays.{happening}
 use Rattle.pmg_journal.specs.Transcripts.{commit_by}
-use Rattle.pmg_audit.specs.Moves.{Seals, cache_then, is_by, is_own_ask}
+use Rattle.pmg_audit.specs.Moves.{Seals, cache_then, is_own_ask}
 use Rattle.pmg_audit.specs.Orders.{IsEventOf}
 use Rattle.pmg_audit.specs.Runs.{place_of}
+use Rattle.pmg_journal.specs.Calling.{is_by}
 
 -- ---- replies of commits
 

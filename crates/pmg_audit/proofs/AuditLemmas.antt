@@ -20,7 +20,8 @@ use Rattle.pmg_audit.specs.declared.ordering.Order.{Order}
 use Rattle.pmg_audit.proofs.OneRun.{moves_are_one_run}
 use Rattle.pmg_world.specs.Telling.{happened_of}
 use Rattle.pmg_audit.specs.Replaying.{AreEnded, AreWhole, EndsFor, EndsWell, RefusesFor, SomeUnsaid}
-use Rattle.pmg_audit.specs.Runs.{AreJournals, AreMoves, IsOneRun, account_by}
+use Rattle.pmg_audit.specs.OneRun.{IsOneRun}
+use Rattle.pmg_audit.specs.Runs.{AreJournals, AreMoves, account_by}
 use Rattle.pmg_audit.specs.Taking.{AreSayings}
 use Rattle.pmg_audit.specs.declared.moves.Saying.{Saying}
 use Rattle.pmg_audit.specs.declared.replaying.AllReplayed.{AllReplayed}
@@ -91,5 +92,5 @@ pub one_by : (jobs : Jobs) → AreJobs jobs → (js : List Journal) (ts : List T
 one_by jobs are js ts journals r whole o registry same nodes these lanes is order =
     subst (λ (j : Jobs). IsOneRun js ts (account_by j nodes o.sent.items o.told.items)) (sym same)
     (subst (λ (ns : List Server). IsOneRun js ts (account_by jobs ns o.sent.items o.told.items)) (sym these)
-    (moves_are_one_run jobs are js ts journals (all_of r.lanes.items) whole.moves whole.put whole.agreed.calls r.nodes.items o.sent.items o.told.items
+    (moves_are_one_run jobs are js ts journals (all_of r.lanes.items) whole.moves whole.put whole.agreed r.nodes.items o.sent.items o.told.items
     (subst (λ (ls : List Lane). AreTold (all_of ls) (map happened_of o.told.items) o.sent.items) is order) whole.ends))

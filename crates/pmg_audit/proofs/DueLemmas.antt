@@ -11,7 +11,8 @@ use Rattle.pmg_node_model.specs.Acts.{Act, Reply, Request}
 use Rattle.pmg_journal.specs.Transcripts.{Calling, Noted, cached_by, commit_by, noted, noted_of}
 use Rattle.pmg_journal.specs.declared.transcript.Called.{Called}
 use Rattle.pmg_audit.specs.Dues.{Due, act_by, act_said, made_due, due_in, due_of, dues, is_passed, put_by_call, due_put, puts_after, puts_next, takes_put, takes_all}
-use Rattle.pmg_audit.specs.Moves.{AllPut, Move, Put, PutsFit, Seals, cache_then, is_by, is_own_ask, put_all}
+use Rattle.pmg_audit.specs.Moves.{AllPut, Move, Put, PutsFit, Seals, cache_then, is_own_ask, put_all}
+use Rattle.pmg_journal.specs.Calling.{is_by}
 
 -- ---- events that are said, as moves
 

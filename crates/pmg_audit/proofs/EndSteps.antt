@@ -20,7 +20,7 @@ use Rattle.pmg_journal.specs.declared.transcript.Transcript.{Transcript}
 use Rattle.pmg_audit.specs.Agreeing.{AreAgreed, AreOfOtherProcs, AreSaid, MayPut, MayPutLast, home_after, said_for}
 use Rattle.pmg_audit.specs.Codes.{all_of, audited_put, rest_of, audited_due}
 use Rattle.pmg_audit.specs.Dues.{Due, due_event, due_in, last_puts, dues_of, takes_all}
-use Rattle.pmg_audit.specs.Moves.{Move, Put, PutsFit, event_in, is_by}
+use Rattle.pmg_audit.specs.Moves.{Move, Put, PutsFit, event_in}
 use Rattle.pmg_audit.specs.Orders.{moves_at}
 use Rattle.pmg_audit.specs.Replaying.{AllMayPut, AreReplayed, AreWhole, MayPutAt, SomeUnsaid, moves_by}
 use Rattle.pmg_audit.specs.Runs.{ArePut, TellsOf, journal_at}
@@ -31,6 +31,7 @@ use Rattle.pmg_audit.specs.declared.replaying.AllReplayed.{AllReplayed}
 use Rattle.pmg_audit.proofs.DueLemmas.{none_fit, said_fit}
 use Rattle.pmg_audit.proofs.ReplaySteps.{end_is}
 use Rattle.pmg_audit.proofs.SayingLemmas.{procs_by, rest_is}
+use Rattle.pmg_journal.specs.Calling.{is_by}
 
 abbrev IsTaken : Transcript → Type 0
 IsTaken t = takes_all no_puts (noted_in t) ≡ true

@@ -118,10 +118,10 @@ module _ (jobs : Jobs) (are : AreJobs jobs) (js : List Journal) (all : List (Lis
 
 -- journals that are replayed and told in an order are one run
 pub moves_are_one_run : MovesAreOneRun
-moves_are_one_run jobs are js ts journals all moves put calls nodes frames told order ends = record {
+moves_are_one_run jobs are js ts journals all moves put agreed nodes frames told order ends = record {
   run = is_run jobs are js all moves put nodes frames told order ends;
   lawful = is_kept jobs are js all moves put nodes frames told order ends;
   journals = journals;
   events = λ n inside. (woven jobs are js all moves put frames (map happened_of told) order).events n ∙ moves.events n inside;
-  calls = calls;
+  agreed = agreed;
 }

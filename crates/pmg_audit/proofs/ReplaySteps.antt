@@ -14,7 +14,7 @@ use Rattle.pmg_fence.specs.Entering.{same_proc}
 use Rattle.pmg_fence.proofs.EntryLemmas.{proc_itself}
 use Rattle.pmg_node_model.specs.Acts.{free_cause}
 use Rattle.pmg_node.specs.Servers.{Server, after, reply_to, sent_by}
-use Rattle.pmg_journal.specs.Calling.{caller_of, may_call}
+use Rattle.pmg_journal.specs.Calling.{caller_of, is_by, is_caller, may_call}
 use Rattle.pmg_journal.specs.Records.{IsStep}
 use Rattle.pmg_journal.specs.Replays.{Happening, IsReplay, after_all}
 use Rattle.pmg_journal.specs.declared.record.Step.{Step}
@@ -22,7 +22,7 @@ use Rattle.pmg_journal.proofs.ReplayLemmas.{after_more, id_same, jobs_same, last
 use Rattle.pmg_audit.specs.Agreeing.{AreSaid, BeginsWith, IsSaidBy, MayPut, rest_after, tail_of}
 use Rattle.pmg_audit.specs.Codes.{lane_of, rest_of}
 use Rattle.pmg_audit.specs.Dues.{Due, made_due, due_event, due_in}
-use Rattle.pmg_audit.specs.Moves.{Move, Put, PutsAt, Replays, server_after, event_in, is_by, is_caller}
+use Rattle.pmg_audit.specs.Moves.{Move, Put, PutsAt, Replays, server_after, event_in}
 use Rattle.pmg_audit.specs.Replaying.{AllUnsaid, Continues, HaveFollowed, HaveHappened, IsAdded, IsFollowed, IsReplayed, IsUnsaid, IsUnsaidAt, IsWhere, RefusesFor, TakesPuts, TakesPutsAt, move_by, moves_by, replay_at}
 use Rattle.pmg_audit.specs.Taking.{TakesSaying}
 use Rattle.pmg_audit.specs.declared.moves.Lane.{Lane}

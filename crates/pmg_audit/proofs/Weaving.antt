@@ -25,8 +25,8 @@ use Rattle.pmg_world.proofs.ActLemmas.{act_keeps, act_steps}
 use Rattle.pmg_world.proofs.PutLemmas.{free_at}
 use Rattle.pmg_group_model.proofs.RunLemmas.{next_run, run_both, run_none}
 use Rattle.pmg_world.proofs.StartLemmas.{some_server}
-use Rattle.pmg_journal.specs.Calling.{caller_of}
-use Rattle.pmg_audit.specs.Moves.{AllPut, FitsMove, Move, Put, PutsAt, PutsFit, Replays, Seals, cache_next, cache_then, server_after, event_in, is_by, is_caller, is_own_ask, put_all}
+use Rattle.pmg_journal.specs.Calling.{caller_of, is_by, is_caller}
+use Rattle.pmg_audit.specs.Moves.{AllPut, FitsMove, Move, Put, PutsAt, PutsFit, Replays, Seals, cache_next, cache_then, server_after, event_in, is_own_ask, put_all}
 use Rattle.pmg_audit.specs.Orders.{IsEventOf, TellsMoves, event_happened, put_rest, puts_told}
 use Rattle.pmg_audit.specs.Runs.{events_at, place_of, with_place}
 use Rattle.pmg_audit.proofs.ActSteps.{IsDone, act_done}

@@ -6,6 +6,7 @@ pub mod Labels
 pub mod Sends
 pub mod Runs
 pub mod Agreeing
+pub mod OneRun
 pub mod Going
 pub mod Codes
 pub mod Reading

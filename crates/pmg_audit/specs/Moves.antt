@@ -5,12 +5,11 @@ use Rattle.pmg_value.specs.declared.process.Proc.{Proc}
 use Rattle.pmg_scope.specs.Cached.{Cached, put_cause, unsealed_of, with_put}
 use Rattle.pmg_scope.specs.declared.scope.Scope.{Scope}
 use Rattle.pmg_jobinfo.specs.Jobs.{home_of}
-use Rattle.pmg_fence.specs.Entering.{same_proc}
 use Rattle.pmg_node_model.specs.Acts.{Act, Reply, Request, free_cause}
 use Rattle.pmg_node_model.specs.declared.sent.Sent.{Sent}
 use Rattle.pmg_node.specs.Servers.{Server, after, reply_to, sent_by}
 use Rattle.pmg_group_model.specs.Worlds.{is_own}
-use Rattle.pmg_journal.specs.Calling.{caller_of}
+use Rattle.pmg_journal.specs.Calling.{caller_of, is_by}
 use Rattle.pmg_journal.specs.Replays.{Happening, happening}
 use Rattle.pmg_journal.specs.Transcripts.{commit_by}
 
@@ -32,15 +31,6 @@ abbrev pub event_in : Move → Happening
 event_in m = happening m.act m.reply
 
 -- ---- who calls
-
--- the process is the one that calls
-abbrev pub is_caller : Proc → Option Proc → Bool
-is_caller p None = false
-is_caller p (Some q) = same_proc p q
-
--- whether the process calls
-abbrev pub is_by : Proc → Act → Bool
-is_by p a = is_caller p (caller_of a)
 
 -- a get of a key of one's own, which no node is asked for
 abbrev pub is_own_ask : Act → Bool

@@ -9,7 +9,7 @@ use Rattle.pmg_jobinfo.specs.Jobs.{Jobs, home_of}
 use Rattle.pmg_node_model.specs.declared.sent.Sent.{Sent}
 use Rattle.pmg_node.specs.Opening.{new_server}
 use Rattle.pmg_node.specs.Servers.{Server, after, reply_to, sent_by}
-use Rattle.pmg_journal.specs.Calling.{caller_of, free_at}
+use Rattle.pmg_journal.specs.Calling.{caller_of, free_at, is_by}
 use Rattle.pmg_journal.specs.Journals.{happened_in}
 use Rattle.pmg_journal.specs.Records.{IsStep}
 use Rattle.pmg_journal.specs.Replays.{Happening, IsReplay, after_all}
@@ -20,7 +20,7 @@ use Rattle.pmg_audit.specs.Agreeing.{AreAgreed, AreSaid, IsSaidBy, MayPut}
 use Rattle.pmg_audit.specs.Codes.{all_of, lane_of, audited_put, rest_of}
 use Rattle.pmg_audit.specs.Dues.{Due, made_due, due_in}
 use Rattle.pmg_audit.specs.Faults.{AreStale}
-use Rattle.pmg_audit.specs.Moves.{Move, Put, PutsAt, Replays, server_after, event_in, is_by}
+use Rattle.pmg_audit.specs.Moves.{Move, Put, PutsAt, Replays, server_after, event_in}
 use Rattle.pmg_audit.specs.Orders.{moves_at}
 use Rattle.pmg_audit.specs.Runs.{AreEnds, AreMoves, ArePut, journal_at}
 use Rattle.pmg_audit.specs.Taking.{SomeLeft, lasts_of}

@@ -1,4 +1,4 @@
--- Journals and transcripts of one run.
+-- What a run, journals and transcripts tell of each node and each process.
 use Rattle.std.specs.Prelude.{◌≡◌, ℕ, ◌<◌, ◌==◌, List, [], ◌∷◌, length, map, Option, Some, None, slice_index_or, if◌then◌else◌}
 use Rattle.std.specs.List.{filter}
 use Rattle.std.specs.Option.{option_map}
@@ -13,16 +13,16 @@ use Rattle.pmg_node_model.specs.declared.sent.Sent.{Sent}
 use Rattle.pmg_node.specs.Opening.{new_server}
 use Rattle.pmg_node.specs.Servers.{Server}
 use Rattle.pmg_group_model.specs.Worlds.{Event, Happened, cache_of, numbered, said_in}
-use Rattle.pmg_world.specs.Accounts.{Account, IsAccountLawful, IsRun}
-use Rattle.pmg_world.specs.Telling.{happened_of}
+use Rattle.pmg_world.specs.Accounts.{Account}
 use Rattle.pmg_world.specs.declared.event.LoggedEvent.{LoggedEvent}
 use Rattle.pmg_journal.specs.Journals.{happened_in}
 use Rattle.pmg_journal.specs.Replays.{Happening, happening}
 use Rattle.pmg_journal.specs.declared.journal.Journal.{Journal}
 use Rattle.pmg_journal.specs.declared.transcript.Transcript.{Transcript}
 use Rattle.pmg_audit.specs.Dues.{due_event, dues_of}
-use Rattle.pmg_audit.specs.Moves.{Move, PutsFit, Replays, server_after, event_in, is_by}
+use Rattle.pmg_audit.specs.Moves.{Move, PutsFit, Replays, server_after, event_in}
 use Rattle.pmg_audit.specs.Orders.{moves_at}
+use Rattle.pmg_journal.specs.Calling.{is_by}
 
 -- ---- what a run tells of its nodes
 
@@ -93,13 +93,3 @@ pub record AreEnds (jobs : Jobs) (all : List (List Move)) (nodes : List Server) 
 -- a world in code of these jobs, nodes, frames and events
 abbrev pub account_by : Jobs → List Server → List Sent → List LoggedEvent → Account
 account_by jobs nodes frames told = record { jobs = jobs; nodes = nodes; sent = frames; told = told }
-
--- The account is a run of the model, of which the laws of every run hold. What it tells of each node is the node's journal, each event
--- once and in its order, each commit with what its client put since the one before; and what each process made at its home is its
--- transcript.
-pub record IsOneRun (js : List Journal) (ts : List Transcript) (a : Account) : Type 0 where
-  pub run : IsRun a
-  pub lawful : IsAccountLawful a
-  pub journals : AreJournals a.jobs js
-  pub events : (n : ℕ) → n < length a.jobs.nodes → events_at a.jobs (λ _. []) a.sent n (map happened_of a.told) ≡ journal_at js n
-  pub calls : Each (TellsOf a.jobs js) ts

@@ -5,7 +5,8 @@ ghost use Rattle.pmg_jobinfo.specs.Jobs.{AreJobs};
 ghost use Rattle.pmg_journal.specs.declared.journal.Journal.{Journal as JournalOf};
 ghost use Rattle.pmg_audit.specs.Faults.{IsFault, IsReplayFault};
 ghost use Rattle.pmg_audit.specs.Replaying.{AreOf, AreWhole, EndsFor, EndsWell};
-ghost use Rattle.pmg_audit.specs.Runs.{AreJournals, HasJournal, IsOneRun, account_by};
+ghost use Rattle.pmg_audit.specs.OneRun.{IsOneRun};
+ghost use Rattle.pmg_audit.specs.Runs.{AreJournals, HasJournal, account_by};
 ghost use Rattle.pmg_world.specs.Accounts.{IsAccountLawful, IsRun};
 
 use crate::ordering::{Order, make_order};

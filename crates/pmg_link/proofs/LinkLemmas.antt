@@ -1,6 +1,6 @@
 -- Acts that are refused join nothing; and what a commit is due for which memory lacks.
 use Rattle.std.specs.Prelude.{if◌then◌else◌}
-use Rattle.std.proofs.Common.{◌≡◌, ◌⊎◌, Bool, true, false, cond, Ok, Err, inl, inr, refl, sym, ap, subst}
+use Rattle.std.proofs.Common.{◌≡◌, Bool, true, false, cond, Ok, Err, inl, inr, refl, sym, ap, subst}
 use Rattle.pmg_value.specs.CheckOrder.{first_of}
 use Rattle.pmg_value.specs.declared.refusal.Refusal.{Refusal}
 use Rattle.pmg_value.specs.declared.refusal.Refusal.TheVariants as refusals

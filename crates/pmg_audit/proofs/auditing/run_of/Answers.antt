@@ -2,7 +2,7 @@ use Rattle.std.proofs.Common.{List, refl, sym, subst}
 use Rattle.pmg_world.specs.Accounts.{Account}
 use Rattle.pmg_audit.specs.Codes.{all_of}
 use Rattle.pmg_audit.specs.Orders.{NoOrder}
-use Rattle.pmg_audit.specs.Runs.{IsOneRun}
+use Rattle.pmg_audit.specs.OneRun.{IsOneRun}
 use Rattle.pmg_audit.specs.declared.moves.Lane.{Lane}
 use Rattle.pmg_audit.proofs.AuditLemmas.{one_by, order_fault, replay_fault}
 use Rattle.pmg_audit.proofs.auditing.run_of.Goals as goal
