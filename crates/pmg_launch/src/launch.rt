@@ -1,6 +1,7 @@
 //! A job is run, and then audited.
-ghost use Rattle.std.specs.Prelude.{IfOk};
-ghost use Rattle.pmg_launch.specs.Audited.{IsAudited};
+ghost use Rattle.std.specs.Prelude.{IfErr, IfOk, vec_len};
+ghost use Rattle.pmg_threads.specs.Running.{IsFull};
+ghost use Rattle.pmg_launch.specs.Audited.{IsLaunchRefusal, IsOutcome};
 
 use pmg_audit::{Run, audit};
 use pmg_jobfile::Job;
@@ -26,7 +27,9 @@ pub fn run<R: Threads + Wait + Clock + Sync>(
     job: Job,
     programs: Vec<Box<dyn Program>>,
 ) -> Result<Outcome, Refusal>
-    ensures audited { IfOk result (λ o. IsAudited o.run) }
+    ensures full { IfOk result (λ _. IsFull job (vec_len programs)) }
+    ensures audited { IfOk result (IsOutcome job) }
+    ensures refused { IfErr result (IsLaunchRefusal job (vec_len programs)) }
 {
     run_linked(rt, job, programs, Links::default())
 }
@@ -40,7 +43,9 @@ pub fn run_linked<R: Threads + Wait + Clock + Sync>(
     programs: Vec<Box<dyn Program>>,
     links: Links,
 ) -> Result<Outcome, Refusal>
-    ensures audited { IfOk result (λ o. IsAudited o.run) }
+    ensures full { IfOk result (λ _. IsFull job (vec_len programs)) }
+    ensures audited { IfOk result (IsOutcome job) }
+    ensures refused { IfErr result (IsLaunchRefusal job (vec_len programs)) }
 {
     let alloc = job.registry().allocator();
     let Unaudited {

@@ -1,5 +1,5 @@
 -- Lists whose items fit their indexes, and what the first processes told.
-use Rattle.std.proofs.Common.{◌≡◌, ℕ, zero, suc, ◌+◌, ◌<◌, List, [], ◌∷◌, ◌++◌, length, map, take, get_or, refl, sym, ap, subst, ◌∙◌, arith}
+use Rattle.std.proofs.Common.{◌≡◌, ℕ, suc, ◌+◌, ◌<◌, List, [], ◌∷◌, ◌++◌, length, take, get_or, sym, ap, subst, ◌∙◌, arith}
 use Rattle.std.proofs.lemmas.List.{length-append, length-map, length-take-le, take_more}
 use Rattle.pmg_value.specs.declared.process.Proc.{Proc}
 use Rattle.pmg_journal.specs.declared.transcript.Transcript.{Transcript}

@@ -1,4 +1,4 @@
-use Rattle.std.proofs.Common.{◌≡◌, ◌+◌, ◌++◌, ◌∷◌, [], ℕ, length, reverse, sym, ap, subst, ◌∙◌, rules, arith}
+use Rattle.std.proofs.Common.{◌≡◌, ◌+◌, ◌++◌, ◌∷◌, [], length, reverse, sym, ap, subst, ◌∙◌, rules, arith}
 use Rattle.std.proofs.lemmas.List.{length-append, reverse-append}
 use Rattle.pmg_threads.specs.Running.{FitFrom, IsDeskOf, IsNodeJournal}
 use Rattle.pmg_threads.proofs.RunLemmas.{fit_less}

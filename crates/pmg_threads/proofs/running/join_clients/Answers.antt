@@ -1,6 +1,5 @@
-use Rattle.std.proofs.Common.{◌≡◌, ◌+◌, ◌<◌, ℕ, List, length, take, get_or, rules, arith}
+use Rattle.std.proofs.Common.{◌≡◌, ◌+◌, ◌<◌, length, take, rules, arith}
 use Rattle.std.specs.Vec.Iter.{into_iter_items}
-use Rattle.pmg_threads.specs.Running.{TellAll}
 use Rattle.pmg_threads.proofs.RunLemmas.{tell_next}
 use Rattle.pmg_threads.proofs.running.join_clients.Goals as goal
 

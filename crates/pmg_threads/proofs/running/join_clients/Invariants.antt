@@ -1,4 +1,4 @@
-use Rattle.std.proofs.Common.{◌≡◌, ◌+◌, List, length, take}
+use Rattle.std.proofs.Common.{◌≡◌, ◌+◌, length, take}
 use Rattle.std.specs.Vec.Iter.{into_iter_items}
 use Rattle.pmg_threads.specs.Running.{TellAll}
 use Rattle.pmg_threads.proofs.running.join_clients.Given as goal

@@ -1,4 +1,4 @@
-use Rattle.std.proofs.Common.{◌≡◌, ◌+◌, List, length, map, take}
+use Rattle.std.proofs.Common.{◌≡◌, ◌+◌, length, map, take}
 use Rattle.std.specs.Vec.Iter.{into_iter_items}
 use Rattle.pmg_desk.specs.Clients.{proc_of}
 use Rattle.pmg_threads.proofs.running.share_out.Given as goal
