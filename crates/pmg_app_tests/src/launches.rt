@@ -1,7 +1,5 @@
 //! Jobs that are run, with reports found by hand.
-use crate::programs::{
-    Fencing, Meeting, Refreshing, Refused, Reporting, Rounds, number_in, push_line,
-};
+use crate::programs::{Fencing, Meeting, Refreshing, Refused, Reporting, number_in, push_line};
 use crate::words::{MEMORY, give_up_where};
 use pmg_audit::Run;
 use pmg_jobfile::Job;
@@ -18,12 +16,6 @@ use std::time::Clock;
 /// The runs of one job that are compared.
 const RUNS: u32 = 200;
 
-/// The runs of a job whose nodes stop asking again long before it can end.
-const CUT_RUNS: u32 = 500;
-
-/// The runs of a job whose clients get each other's keys anew, while nodes ask again all the time.
-const REFRESHED_RUNS: u32 = 20;
-
 const TWO_NODES: &[u8] = br#"{"nodes":["n0","n1"],"spaces":[{"name":"j","homes":[0,0,1,1]}]}"#;
 
 const TWO_CLIENTS: &[u8] = br#"{"nodes":["n0"],"spaces":[{"name":"j","homes":[0,0]}]}"#;
@@ -34,9 +26,6 @@ const FOUR_ADDRESSES: &str =
     "client j 0 found 3 own 1\nclient j 1 found 3 own 1\nclient j 2 found 3 own 1\nclient j 3 found 3 own 1\n\
     proc j 0 level 1\n  string:6a2f30 addr\nproc j 1 level 1\n  string:6a2f31 addr\n\
     proc j 2 level 1\n  string:6a2f32 addr\nproc j 3 level 1\n  string:6a2f33 addr\n";
-
-const FOUR_NODES: &[u8] =
-    br#"{"nodes":["a","b","c","d"],"spaces":[{"name":"j","homes":[0,1,2,3,0,1,2,3]}]}"#;
 
 const MOST: &[u8] = br#"{"nodes":["a","b","c","d","e","f","g","h"],"spaces":[
     {"name":"k","homes":[0,1,2,3,4,5,6,7,0,1,2,3,4,5,6,7]},{"name":"j","homes":[7,7,7,6,5,4,3,2,1,0,0,0,1,2,3,4]}]}"#;
@@ -139,68 +128,6 @@ fn bad_links_change_no_report(rt: HostRuntime) {
             programs.push(exchange).expect(&rt, MEMORY);
         }
         assert_addresses(&rt, alloc, programs, links_at(turn));
-    }
-}
-
-// Requires that a job of eight processes with these programs ends as Closed, where it does not end well, over links that lose frames
-// and stop asking again at once.
-fn assert_cut<R: Threads + Wait + Clock + Sync + Abort>(
-    rt: &R,
-    alloc: Global,
-    programs: Vec<Box<dyn Program>>,
-) {
-    let links = Links {
-        lose: 3,
-        repeat: 0,
-        hold: 0,
-        nudges: 2,
-    };
-    let job = Job::read(alloc, FOUR_NODES).expect(rt, MEMORY);
-    if let Err(refusal) = run_linked(rt, job, programs, links) {
-        give_up_where(rt, refusal == Refusal::NoMemory);
-        assert!(rt; refusal == Refusal::Closed);
-    }
-}
-
-// A job that is cut short answers Closed, and never NoMemory: a link that finds its channel closed lacks no memory.
-#[test]
-fn a_job_that_is_cut_short_is_closed(rt: HostRuntime) {
-    let alloc = rt.alloc();
-    for _ in 0..CUT_RUNS {
-        let mut programs: Vec<Box<dyn Program>> = Vec::new(alloc);
-        for _ in 0..8 {
-            let exchange = Box::new(alloc, Exchange::new(rt, alloc)).expect(&rt, MEMORY);
-            programs.push(exchange).expect(&rt, MEMORY);
-        }
-        assert_cut(&rt, alloc, programs);
-    }
-}
-
-// Requires that eight clients of four nodes with these programs end well, over good links, though nodes ask again all the time.
-fn assert_rounds<R: Threads + Wait + Clock + Sync + Abort>(
-    rt: &R,
-    alloc: Global,
-    programs: Vec<Box<dyn Program>>,
-) {
-    let job = Job::read(alloc, FOUR_NODES).expect(rt, MEMORY);
-    let outcome = run_linked(rt, job, programs, links_of(0, 0, 0)).expect(rt, MEMORY);
-    check_memory(rt, &outcome.reports);
-    for report in &outcome.reports {
-        assert!(rt; report.answer == Ok(()));
-    }
-}
-
-// What nodes ask again starves no get: they ask only while nothing is on its way.
-#[test]
-fn gets_end_beside_nudges(rt: HostRuntime) {
-    let alloc = rt.alloc();
-    for _ in 0..REFRESHED_RUNS {
-        let mut programs: Vec<Box<dyn Program>> = Vec::new(alloc);
-        for _ in 0..8 {
-            let rounds = Box::new(alloc, Rounds { rt, alloc }).expect(&rt, MEMORY);
-            programs.push(rounds).expect(&rt, MEMORY);
-        }
-        assert_rounds(&rt, alloc, programs);
     }
 }
 
