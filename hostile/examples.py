@@ -21,6 +21,11 @@ def is_whole(output):
     return all(LINE.fullmatch(line) for line in output.splitlines()) and (not output or output.endswith(b"\n"))
 
 
+def clients(output):
+    """The clients that have a line in a job's output, in its order."""
+    return re.findall(rb"^client (\S+ \d+) ", output, re.MULTILINE)
+
+
 class Example:
     """An example, and how the program may end on it."""
 
@@ -46,7 +51,9 @@ class Example:
             return True
         if self.command == "replay":
             return ran.status == 3 and follows(ran.output, self.output, NO_MEMORY)
-        return self.command == "run" and ran.status == 1 and is_whole(ran.output)
+        if self.command != "run" or ran.status != 1:
+            return False
+        return is_whole(ran.output) and clients(ran.output) == clients(self.output)
 
     def may_lack_input(self, _, ran):
         """A read failed."""

@@ -1,26 +1,59 @@
 -- The command `run`.
-use Rattle.std.specs.Prelude.{◌≡◌, ◌⊎◌, ℕ, Bool, true, false, List, [], ◌++◌, codes, is_ok, slice_get, if◌then◌else◌}
+use Rattle.std.specs.Prelude.{◌≡◌, ◌⊎◌, ◌&&◌, ◌==◌, ℕ, Bool, true, false, List, [], ◌++◌, codes, decimal, is_ok, length, min, slice_get, IfSome, if◌then◌else◌}
 use Rattle.std.specs.List.{flat_map, list_all}
+use Rattle.std.specs.declared.option.Option.{Option}
 use Rattle.std.specs.declared.result.Result.{Result}
 use Rattle.std.specs.declared.result.Result.TheVariants.{Ok, Err}
 use Rattle.pmg_value.specs.RefusalText.{refusal_text}
+use Rattle.pmg_value.specs.declared.process.Proc.{Proc}
 use Rattle.pmg_value.specs.declared.refusal.Refusal.{Refusal}
 use Rattle.pmg_value.specs.declared.refusal.Refusal.TheVariants as refusals
 use Rattle.pmg_store.specs.declared.failure.Failure.{Failure}
 use Rattle.pmg_store.specs.declared.failure.Failure.TheVariants.{Refused}
+use Rattle.pmg_store.specs.Input.{input_of}
+use Rattle.pmg_store.specs.Outcomes.{FailsInput, or_failure}
+use Rattle.pmg_jobinfo.specs.Jobs.{Jobs}
+use Rattle.pmg_jobinfo.specs.Procs.{all_procs}
+use Rattle.pmg_jobfile.specs.Reading.{GivesJob}
 use Rattle.pmg_audit.specs.RunDumps.{dump_due}
 use Rattle.pmg_world.specs.Accounts.{Account}
 use Rattle.pmg_launch.specs.declared.launch.Outcome.{Outcome}
+use Rattle.pmg_launch.specs.Audited.{IsLaunchRefusal, IsOutcome}
 use Rattle.pmg_threads.specs.declared.program.Report.{Report}
-use Rattle.pmg_commands.specs.Output.{Output, IsStatus, failure_output}
+use Rattle.pmg_commands.specs.Output.{Output, IsStatus, Prints, failure_output}
 
 -- the client's program answered no refusal
 abbrev pub is_done : Report → Bool
 is_done r = is_ok r.answer
 
--- what the clients reported, in their order
+-- the answer is NoMemory
+abbrev pub is_no_memory : Result (Unit {0}) Refusal → Bool
+is_no_memory (Err refusals.NoMemory) = true
+is_no_memory answer = false
+
+-- the client's program had no memory for its report: it wrote nothing, and answered NoMemory
+abbrev pub is_unreported : Report → Bool
+is_unreported r = (length r.text.items == 0) && is_no_memory r.answer
+
+-- a client by its process, as `client j 0`
+unfoldable pub client_name : Proc → List ℕ
+client_name p = codes "client " ++ (p.nspace ++ codes " ") ++ decimal p.rank
+
+-- a refusal, behind the client
+unfoldable pub client_refusal : Refusal → List ℕ
+client_refusal e = codes " refused " ++ refusal_text e ++ codes "\n"
+
+-- the line of a client that had no memory for its report, `client j 0 refused 0 NoMemory`
+unfoldable pub unreported_line : Proc → List ℕ
+unreported_line p = client_name p ++ client_refusal refusals.NoMemory
+
+-- what is printed of a client: what its program wrote, or the line of one that had no memory for its report
+unfoldable pub report_text : Report → List ℕ
+report_text r = if is_unreported r then unreported_line r.proc else r.text.items
+
+-- what is printed of the clients, in their order
 unfoldable pub reports_text : List Report → List ℕ
-reports_text reports = flat_map (λ r. r.text.items) reports
+reports_text reports = flat_map report_text reports
 
 -- the text; nothing, where there is a failure
 abbrev pub text_due : Result (List ℕ) Failure → List ℕ
@@ -71,3 +104,37 @@ job_output (Err failure) = job_failure failure
 -- the statuses of the command
 abbrev pub IsJobStatus : ℕ → Type 0
 IsJobStatus status = IsStatus status ⊎ (status ≡ 4)
+
+-- The bytes describe the job of that group, where they are known.
+abbrev pub Describes : Option (List ℕ) → Jobs → Type 0
+Describes known jobs = IfSome known (λ text. GivesJob text (Ok jobs))
+
+-- The outcome is that of the job that was read: each of its processes reported, and the run of its group was audited.
+pub record IsOutcomeOf (known : Option (List ℕ)) (o : Outcome) : Type 0 where
+  pub jobs : Jobs
+  pub described : Describes known jobs
+  pub outcome : IsOutcome jobs o
+
+-- The job that was read was refused as it was run, with this many programs at hand, or as its run was audited.
+pub record IsRefusedRun (known : Option (List ℕ)) (programs : ℕ) (e : Refusal) : Type 0 where
+  pub jobs : Jobs
+  pub described : Describes known jobs
+  pub refusal : IsLaunchRefusal jobs (min programs (length (all_procs jobs))) e
+
+-- Why nothing comes of a job: its text was not read, or what was read is refused, as no job or as it was run.
+abbrev pub FailsJob : Option (List ℕ) → ℕ → Failure → Type 0
+FailsJob known programs (Refused e) =
+    IfSome known (λ text. FailsInput (Refused e) (or_failure (input_of text)))
+    ⊎ (IfSome known (λ text. GivesJob text (Err e)) ⊎ IsRefusedRun known programs e)
+FailsJob known programs failure = IfSome known (λ text. FailsInput failure (or_failure (input_of text)))
+
+-- what comes of a job: an outcome of the job that was read, or the failure
+abbrev pub ComesOf : Option (List ℕ) → ℕ → Result Outcome Failure → Type 0
+ComesOf known programs (Ok o) = IsOutcomeOf known o
+ComesOf known programs (Err failure) = FailsJob known programs failure
+
+-- What `run` prints of a job, with its status, where this many programs are at hand: what came of it, or why nothing did.
+pub record PrintsJob {E : Type 0} (known : Option (List ℕ)) (programs : ℕ) (old new : Option (List ℕ)) (write : Option E) (status : ℕ) : Type 0 where
+  pub result : Result Outcome Failure
+  pub comes : ComesOf known programs result
+  pub printed : Prints old new write status (job_output result)

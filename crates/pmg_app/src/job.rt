@@ -1,11 +1,10 @@
 //! The command `run`.
-ghost use Rattle.std.specs.Prelude.{◌≡◌, ◌≤◌, ◌+◌, ◌⊎◌, Err, IfOk, IsNone, IsSome, IsTrue, Ok, OnErr, Result};
+ghost use Rattle.std.specs.Prelude.{◌≡◌, ◌≤◌, ◌+◌, ◌⊎◌, Err, IfErr, IfOk, IsNone, IsSome, IsTrue, Ok, OnErr, Some, vec_len};
 ghost use Rattle.std.specs.List.{list_all};
 ghost use Rattle.pmg_value.specs.Written.{Writes};
-ghost use Rattle.pmg_store.specs.declared.failure.Failure.{Failure as AnyFailure};
 ghost use Rattle.pmg_store.specs.declared.failure.Failure.TheVariants as failures;
-ghost use Rattle.pmg_launch.specs.declared.launch.Outcome.{Outcome as AnyOutcome};
-ghost use Rattle.pmg_app.specs.Job.{IsJobStatus, audit_output, audited_text, far_text, is_audit_fault, is_done, job_failure, job_output, outcome_status, outcome_text, reports_text};
+ghost use Rattle.pmg_value.specs.declared.refusal.Refusal.TheVariants as refusals;
+ghost use Rattle.pmg_app.specs.Job.{FailsJob, IsJobStatus, IsOutcomeOf, PrintsJob, audit_output, audited_text, client_name, far_text, is_audit_fault, is_done, is_unreported, job_failure, job_output, outcome_status, outcome_text, report_text, reports_text, unreported_line};
 ghost use Rattle.pmg_commands.specs.Output.{IsStatus, Prints, TellsReadFault};
 
 use pmg_audit::Run;
@@ -13,7 +12,7 @@ use pmg_commands::{AUDIT_FAULT, DONE, FAILED, conclude, finish, write_refusal};
 use pmg_jobfile::Job;
 use pmg_launch::{Outcome, Program, Report, run};
 use pmg_store::{Failure, MOST_READS, WatchedReader, read_input};
-use pmg_value::{NodeId, Refusal, WatchedWriter, WriteFault};
+use pmg_value::{NodeId, Proc, Refusal, WatchedWriter, WriteFault};
 use std::alloc::Global;
 use std::io::{Read, Write};
 use std::mem;
@@ -31,7 +30,8 @@ struct Ran {
 /// Reads a job as JSON to its end, runs these programs as its processes, by namespace and rank, prints their reports, the far dump
 /// of node 0 and `audit ok`, and answers the status. Programs past the number of the processes are dropped.
 ///
-/// Nothing is printed before the job has ended and was audited. Status 1 for a refused job, where a client's program answered a
+/// Nothing is printed before the job has ended and was audited. A client whose program had no memory for its report has the line
+/// `client NS RANK refused 0 NoMemory`. Status 1 for a refused job, where a client's program answered a
 /// refusal, for a read fault and a write fault, 3 where an allocation failed, 4 where the audit found a fault. A refusal of the job, a
 /// read fault and an audit's fault print a line, and a reader that failed is always told as a read fault; where the writer fails,
 /// nothing more is printed. What came of the job is not dropped: the program ends after it is printed.
@@ -42,8 +42,8 @@ pub fn run_job<T: Threads + Wait + Clock + Sync, R: Read, W: Write>(
     reader: &mut WatchedReader<R>,
     writer: &mut WatchedWriter<W>,
 ) -> u8
-    ensures printed { (outcome : Result AnyOutcome AnyFailure)
-        × Prints (W.contents writer.old.writer) (W.contents writer.new.writer) writer.new.failure result (job_output outcome) }
+    ensures printed { PrintsJob (R.remaining reader.old.reader) (vec_len programs) (W.contents writer.old.writer)
+        (W.contents writer.new.writer) writer.new.failure result }
     ensures read_fault { TellsReadFault (W.contents writer.old.writer) (W.contents writer.new.writer)
         reader.old.failure reader.new.failure writer.new.failure result }
     ensures flushed { IsNone writer.new.failure → IsTrue writer.new.is_flushed }
@@ -68,6 +68,8 @@ fn read_and_run<T: Threads + Wait + Clock + Sync, R: Read>(
     programs: Vec<Box<dyn Program>>,
     reader: &mut WatchedReader<R>,
 ) -> Result<Ran, Failure>
+    ensures outcome { IfOk result (λ ran. IsOutcomeOf (R.remaining reader.old.reader) ran.outcome) }
+    ensures refused { IfErr result (FailsJob (R.remaining reader.old.reader) (vec_len programs)) }
     ensures audited { IfOk result (λ ran. ran.audited.items ≡ audited_text ran.outcome.run) }
     ensures failed { IsSome reader.new.failure → IsSome reader.old.failure ⊎ (result
         ≡ Err failures.Read) }
@@ -85,7 +87,10 @@ fn run_text<T: Threads + Wait + Clock + Sync>(
     alloc: Global,
     mut programs: Vec<Box<dyn Program>>,
     text: Vec<u8>,
-) -> Result<Outcome, Refusal> {
+) -> Result<Outcome, Refusal>
+    ensures outcome { IfOk result (IsOutcomeOf (Some text.items)) }
+    ensures refused { IfErr result (λ e. FailsJob (Some text.items) (vec_len programs) (failures.Refused e)) }
+{
     let job = Job::read(alloc, &text)?;
     drop(text);
     programs.truncate(job.procs()?.len());
@@ -94,7 +99,8 @@ fn run_text<T: Threads + Wait + Clock + Sync>(
 
 /// The far dump of the first node, as the run leaves it; nothing, where the group has no nodes.
 fn far_dump(alloc: Global, run: &Run) -> Result<Vec<u8>, Refusal>
-    ensures { IfOk result (λ text. text.items ≡ far_text run.now) }
+    ensures ok { IfOk result (λ text. text.items ≡ far_text run.now) }
+    ensures err { IfErr result (λ e. e ≡ refusals.NoMemory) }
 {
     let mut writer = WatchedWriter::new(Vec::new(alloc));
     match run.dump(NodeId::new(0)?, &mut writer) {
@@ -106,7 +112,8 @@ fn far_dump(alloc: Global, run: &Run) -> Result<Vec<u8>, Refusal>
 /// The same, and that the run was audited.
 #[tactic(auto, unfolding(crate::specs::Job::audited_text))]
 fn audited_text(alloc: Global, run: &Run) -> Result<Vec<u8>, Refusal>
-    ensures { IfOk result (λ text. text.items ≡ audited_text run.now) }
+    ensures ok { IfOk result (λ text. text.items ≡ audited_text run.now) }
+    ensures err { IfErr result (λ e. e ≡ refusals.NoMemory) }
 {
     let mut text = far_dump(alloc, run)?;
     text.extend_from_slice(b"audit ok\n")?;
@@ -183,9 +190,58 @@ fn write_reports<W: Write>(
     ensures failed { OnErr result (IsSome writer.new.failure) }
 {
     for report in reports {
-        writer.put_text(&report.text)?;
+        write_report(writer, report)?;
     }
     Ok(())
+}
+
+/// Writes what the client's program wrote, or the line of one that had no memory for its report.
+#[tactic(auto, unfolding(crate::specs::Job::report_text))]
+fn write_report<W: Write>(
+    writer: &mut WatchedWriter<W>,
+    report: &Report,
+) -> Result<(), WriteFault>
+    ensures text { Writes (W.contents writer.old.writer) (W.contents writer.new.writer) result (report_text report.now) }
+    ensures failed { OnErr result (IsSome writer.new.failure) }
+{
+    if is_unreported(report) {
+        write_unreported(writer, &report.proc)
+    } else {
+        writer.put_text(&report.text)
+    }
+}
+
+/// Whether the client's program had no memory for its report: it wrote nothing, and answered NoMemory.
+fn is_unreported(report: &Report) -> bool
+    ensures { result ≡ is_unreported report.now }
+{
+    report.text.is_empty() && matches!(report.answer, Err(Refusal::NoMemory))
+}
+
+/// Writes the line of a client that had no memory for its report.
+#[tactic(auto, using(pmg_value::proofs::WrittenLemmas::written_in_parts), unfolding(crate::specs::Job::unreported_line, crate::specs::Job::client_refusal))]
+fn write_unreported<W: Write>(
+    writer: &mut WatchedWriter<W>,
+    proc: &Proc,
+) -> Result<(), WriteFault>
+    ensures text { Writes (W.contents writer.old.writer) (W.contents writer.new.writer) result (unreported_line proc.now) }
+    ensures failed { OnErr result (IsSome writer.new.failure) }
+{
+    write_client_name(writer, proc)?;
+    write_refusal(writer, b" refused ", &Refusal::NoMemory)
+}
+
+/// Writes `client`, the namespace and the rank.
+#[tactic(auto, using(pmg_value::proofs::WrittenLemmas::written_in_parts), unfolding(crate::specs::Job::client_name))]
+fn write_client_name<W: Write>(
+    writer: &mut WatchedWriter<W>,
+    proc: &Proc,
+) -> Result<(), WriteFault>
+    ensures text { Writes (W.contents writer.old.writer) (W.contents writer.new.writer) result (client_name proc.now) }
+    ensures failed { OnErr result (IsSome writer.new.failure) }
+{
+    writer.put_texts(b"client ", proc.nspace.as_bytes(), b" ")?;
+    writer.put_number(u64::from(proc.rank.number()))
 }
 
 /// The status of the outcome where all was printed.

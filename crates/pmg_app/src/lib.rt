@@ -2,14 +2,12 @@
 //! script or a job says. Each command of the program is a function over a reader and a writer, which answers the status.
 #![tactic(auto)]
 
-ghost use Rattle.std.specs.Prelude.{◌≡◌, ◌≤◌, ◌+◌, ◌⊎◌, ℕ, IfOk, IfSome, IsNone, IsTrue, Result};
-ghost use Rattle.pmg_launch.specs.declared.launch.Outcome.{Outcome};
-ghost use Rattle.pmg_store.specs.declared.failure.Failure.{Failure as Failed};
+ghost use Rattle.std.specs.Prelude.{◌≡◌, ◌≤◌, ◌+◌, ◌⊎◌, ℕ, IfOk, IfSome, IsNone, IsTrue, vec_len};
 ghost use Rattle.pmg_commands.specs.CommandLine.{HasStatus};
 ghost use Rattle.pmg_commands.specs.Dump.{dump_output};
-ghost use Rattle.pmg_app.specs.Job.{job_output};
+ghost use Rattle.pmg_app.specs.Job.{PrintsJob};
 ghost use Rattle.pmg_commands.specs.Merge.{merge_output};
-ghost use Rattle.pmg_commands.specs.Output.{Prints, PrintsFor, TellsReadFault};
+ghost use Rattle.pmg_commands.specs.Output.{PrintsFor, TellsReadFault};
 ghost use Rattle.pmg_app.specs.Replay.{PrintsReplies};
 
 mod job;
@@ -62,8 +60,8 @@ pub fn carry_out<T: AllocGlobal + Threads + Wait + Clock + Sync, R: BufRead, W: 
     ensures replay { chosen ≡ Chosen.Replay → IfSome (R.remaining reader.old.reader) (λ text.
         PrintsReplies text (R.remaining reader.new.reader) (W.contents writer.old.writer) (W.contents writer.new.writer)
         reader.old.failure reader.new.failure writer.new.failure result) }
-    ensures run { chosen ≡ Chosen.Run → (outcome : Result Outcome Failed)
-        × Prints (W.contents writer.old.writer) (W.contents writer.new.writer) writer.new.failure result (job_output outcome) }
+    ensures run { chosen ≡ Chosen.Run → PrintsJob (R.remaining reader.old.reader) (vec_len programs)
+        (W.contents writer.old.writer) (W.contents writer.new.writer) writer.new.failure result }
     ensures shown { (status : ℕ) → chosen ≡ Chosen.Shown status
         → (result ≡ status) × (reader.new ≡ reader.old) × (writer.new ≡ writer.old) }
     ensures flushed { IsTrue writer.old.is_flushed → IsNone writer.new.failure

@@ -1,5 +1,5 @@
 //! Jobs that are run, with reports found by hand.
-use crate::programs::{Fencing, Meeting, Refreshing, Refused, Reporting, number_in, push_line};
+use crate::programs::{Asking, Fencing, Meeting, Refreshing, Refused, Reporting, number_in, push_line};
 use crate::words::{MEMORY, give_up_where};
 use pmg_audit::Run;
 use pmg_jobfile::Job;
@@ -16,11 +16,21 @@ use std::time::Clock;
 /// The runs of one job that are compared.
 const RUNS: u32 = 200;
 
+/// The runs of a job whose desks are closed while frames are on their way.
+const CUT_RUNS: u32 = 500;
+
+/// The runs of a job whose nodes ask again all the time.
+const ASKING_RUNS: u32 = 20;
+
 const TWO_NODES: &[u8] = br#"{"nodes":["n0","n1"],"spaces":[{"name":"j","homes":[0,0,1,1]}]}"#;
 
 const TWO_CLIENTS: &[u8] = br#"{"nodes":["n0"],"spaces":[{"name":"j","homes":[0,0]}]}"#;
 
 const ACROSS: &[u8] = br#"{"nodes":["n0","n1"],"spaces":[{"name":"j","homes":[0,1]}]}"#;
+
+const FOUR_NODES: &[u8] = br#"{"nodes":["a","b","c","d"],"spaces":[{"name":"j","homes":[0,0,1,1,2,2,3,3]}]}"#;
+
+const ASKED: &[u8] = b"c1\ne1\nl1\nf1\nf1\nf1\nf1\nf1\nf1\nf1\ne2\nl2\nc2\ne3\nl3\nf2\nf2\nf2\nf2\nf2\nf2\nf2\ne4\nl4\n";
 
 const FOUR_ADDRESSES: &str =
     "client j 0 found 3 own 1\nclient j 1 found 3 own 1\nclient j 2 found 3 own 1\nclient j 3 found 3 own 1\n\
@@ -128,6 +138,67 @@ fn bad_links_change_no_report(rt: HostRuntime) {
             programs.push(exchange).expect(&rt, MEMORY);
         }
         assert_addresses(&rt, alloc, programs, links_at(turn));
+    }
+}
+
+// Requires that the job of eight processes ends, or is closed, with these programs over links that lose each third frame and whose nodes
+// ask again twice only.
+fn assert_closed<R: Threads + Wait + Clock + Sync + Abort>(
+    rt: &R,
+    alloc: Global,
+    programs: Vec<Box<dyn Program>>,
+) {
+    let links = Links {
+        lose: 3,
+        repeat: 0,
+        hold: 0,
+        nudges: 2,
+    };
+    let job = Job::read(alloc, FOUR_NODES).expect(rt, MEMORY);
+    let refusal = run_linked(rt, job, programs, links).err();
+    give_up_where(rt, refusal == Some(Refusal::NoMemory));
+    assert!(rt; matches!(refusal, None | Some(Refusal::Closed)));
+}
+
+// A frame that comes to a desk that is closed is no lack of memory.
+#[test]
+fn a_job_that_is_cut_short_lacks_no_memory(rt: HostRuntime) {
+    let alloc = rt.alloc();
+    for _ in 0..CUT_RUNS {
+        let mut programs: Vec<Box<dyn Program>> = Vec::new(alloc);
+        for _ in 0..8 {
+            let exchange = Box::new(alloc, Exchange::new(rt, alloc)).expect(&rt, MEMORY);
+            programs.push(exchange).expect(&rt, MEMORY);
+        }
+        assert_closed(&rt, alloc, programs);
+    }
+}
+
+// Requires that each of the eight processes with these programs is told each number, while nodes ask again for 20 seconds.
+fn assert_asked<R: Threads + Wait + Clock + Sync + Abort>(
+    rt: &R,
+    alloc: Global,
+    programs: Vec<Box<dyn Program>>,
+) {
+    let job = Job::read(alloc, FOUR_NODES).expect(rt, MEMORY);
+    let outcome = run_linked(rt, job, programs, links_of(0, 0, 0)).expect(rt, MEMORY);
+    check_memory(rt, &outcome.reports);
+    for report in &outcome.reports {
+        assert_report(rt, report, Ok(()), ASKED);
+    }
+}
+
+// Gets that ask anew are answered however often nodes ask again beside them.
+#[test]
+fn nudges_starve_no_get(rt: HostRuntime) {
+    let alloc = rt.alloc();
+    for _ in 0..ASKING_RUNS {
+        let mut programs: Vec<Box<dyn Program>> = Vec::new(alloc);
+        for _ in 0..8 {
+            let asking = Box::new(alloc, Asking { rt, alloc }).expect(&rt, MEMORY);
+            programs.push(asking).expect(&rt, MEMORY);
+        }
+        assert_asked(&rt, alloc, programs);
     }
 }
 

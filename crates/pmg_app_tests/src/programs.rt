@@ -85,6 +85,24 @@ impl Program for Refused {
     }
 }
 
+/// A client that reports that text, and then has no memory.
+#[derive(Drop)]
+pub struct Lacking {
+    pub text: &'static [u8],
+}
+
+impl Program for Lacking {
+    fn run(
+        &mut self,
+        _client: &mut Client<'_>,
+        _procs: &[Proc],
+        out: &mut Vec<u8>,
+    ) -> Result<(), Refusal> {
+        out.extend_from_slice(self.text)?;
+        Err(Refusal::NoMemory)
+    }
+}
+
 /// A client that meets all in a fence and tells how many were gone.
 #[derive(Drop)]
 pub struct Fencing<R: Wait> {
@@ -309,5 +327,46 @@ impl<R: Wait + Send + Drop> Program for Refreshing<R> {
         } else {
             get_thrice(&self.rt, client, procs, first, &key, out)
         }
+    }
+}
+
+/// A client that twice puts a number, meets all, and asks each other client anew for its number. It reports what it is told.
+#[derive(Drop)]
+pub struct Asking<R: Wait> {
+    pub rt: R,
+    pub alloc: Global,
+}
+
+// Asks each other client anew for its number, and reports it.
+fn ask_others<R: Wait>(
+    rt: &R,
+    client: &mut Client<'_>,
+    procs: &[Proc],
+    key: &Key,
+    out: &mut Vec<u8>,
+) -> Result<(), Refusal> {
+    for proc in procs {
+        if proc != client.proc() {
+            get_number_anew(rt, client, proc, key, out)?;
+        }
+    }
+    Ok(())
+}
+
+impl<R: Wait + Send + Drop> Program for Asking<R> {
+    fn run(
+        &mut self,
+        client: &mut Client<'_>,
+        procs: &[Proc],
+        out: &mut Vec<u8>,
+    ) -> Result<(), Refusal> {
+        let key = Key::read(self.alloc, b"a")?;
+        for number in 1..3 {
+            commit_number(&self.rt, client, &key, number, out)?;
+            meet(&self.rt, client, procs, false, out)?;
+            ask_others(&self.rt, client, procs, &key, out)?;
+            meet(&self.rt, client, procs, false, out)?;
+        }
+        Ok(())
     }
 }

@@ -1,5 +1,5 @@
-use Rattle.std.proofs.Common.{Err}
+use Rattle.std.proofs.Common.{Err, Ok}
 use Rattle.pmg_app.proofs.job.run_job.Goals as goal
 
 pub returns-in-Err-clause-printed : goal.returns-in-Err-clause-printed
-returns-in-Err-clause-printed g c = (Err c.in-Err.failure, c.print_failure.ensures.printed)
+returns-in-Err-clause-printed g c = record { result = Err c.in-Err.failure; comes = c.read_and_run.ensures.refused; printed = c.print_failure.ensures.printed }
