@@ -1,10 +1,14 @@
-"""The examples: inputs of the program, with what it prints for them and the status that it ends with, as README.md says."""
+"""The examples: inputs of the program, with what it prints for them and the status that it ends with, as README.md says; and the steps of
+the tutorial."""
 import collections
 import glob
+import itertools
 import os
 import re
 
 HERE = os.path.dirname(os.path.realpath(__file__))
+ROOT = os.path.dirname(HERE)
+TUTORIAL = "docs/TUTORIAL.md"
 Example = collections.namedtuple("Example", "name command data output status")
 
 
@@ -54,6 +58,15 @@ def rows_of(command):
             data = text_of(it.removeprefix(b"|") for number, it in enumerate(inputs) if number == bar or number not in bars)
             which = "" if bar is None else " " + inputs[bar].decode().rstrip("\n")
             yield Example(f"{command}.rows {name}{which}", command, data, output, int(status or 0))
+
+
+def steps():
+    """The steps of the tutorial: its blocks are in turn a shell line and what it prints."""
+    page = read(os.path.join(ROOT, TUTORIAL)).decode()
+    blocks = re.findall(r"^```(\w*)\n(.*?)^```$", page, re.MULTILINE | re.DOTALL)
+    for (kind, line), (after, output) in itertools.zip_longest(blocks[::2], blocks[1::2], fillvalue=("", "")):
+        is_step = (kind, after) == ("sh", "")
+        yield Example(f"{TUTORIAL} {line.strip()}", None, line if is_step else "", output.encode() if is_step else None, 0)
 
 
 def examples():
