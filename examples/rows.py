@@ -1,5 +1,5 @@
-"""The examples: inputs of the program, with what it prints for them and the status that it ends with, as README.md says; and the steps of
-the tutorial."""
+"""The examples: inputs of the program, with what it prints for them and the status that it ends with, as README.md says; and the shell
+lines of the pages that a newcomer reads."""
 import collections
 import glob
 import itertools
@@ -8,7 +8,8 @@ import re
 
 HERE = os.path.dirname(os.path.realpath(__file__))
 ROOT = os.path.dirname(HERE)
-TUTORIAL = "docs/TUTORIAL.md"
+# The pages whose blocks are in turn shell lines and their outputs, beside blocks of other kinds.
+PASTED = ["README.md", "docs/TUTORIAL.md"]
 Example = collections.namedtuple("Example", "name command data output status")
 
 
@@ -60,13 +61,17 @@ def rows_of(command):
             yield Example(f"{command}.rows {name}{which}", command, data, output, int(status or 0))
 
 
-def steps():
-    """The steps of the tutorial: its blocks are in turn a shell line and what it prints."""
-    page = read(os.path.join(ROOT, TUTORIAL)).decode()
-    blocks = re.findall(r"^```(\w*)\n(.*?)^```$", page, re.MULTILINE | re.DOTALL)
+def steps_of(page):
+    """The shell lines of a page, each with its output, which is the next block; what is no such pair differs from any output."""
+    text = read(os.path.join(ROOT, page)).decode()
+    blocks = [it for it in re.findall(r"^```(\w*)\n(.*?)^```$", text, re.MULTILINE | re.DOTALL) if it[0] in ("sh", "")]
     for (kind, line), (after, output) in itertools.zip_longest(blocks[::2], blocks[1::2], fillvalue=("", "")):
         is_step = (kind, after) == ("sh", "")
-        yield Example(f"{TUTORIAL} {line.strip()}", None, line if is_step else "", output.encode() if is_step else None, 0)
+        yield Example(f"{page} {line.strip()}", None, line if is_step else "", output.encode() if is_step else None, 0)
+
+
+def steps():
+    return [step for page in PASTED for step in steps_of(page)]
 
 
 def examples():
