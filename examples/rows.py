@@ -1,10 +1,15 @@
-"""The examples: inputs of the program, with what it prints for them and the status that it ends with, as README.md says."""
+"""The examples: inputs of the program, with what it prints for them and the status that it ends with, as README.md says; and the shell
+lines of the pages that a newcomer reads."""
 import collections
 import glob
+import itertools
 import os
 import re
 
 HERE = os.path.dirname(os.path.realpath(__file__))
+ROOT = os.path.dirname(HERE)
+# The pages whose blocks are in turn shell lines and their outputs, beside blocks of other kinds.
+PASTED = ["README.md", "docs/TUTORIAL.md"]
 Example = collections.namedtuple("Example", "name command data output status")
 
 
@@ -54,6 +59,19 @@ def rows_of(command):
             data = text_of(it.removeprefix(b"|") for number, it in enumerate(inputs) if number == bar or number not in bars)
             which = "" if bar is None else " " + inputs[bar].decode().rstrip("\n")
             yield Example(f"{command}.rows {name}{which}", command, data, output, int(status or 0))
+
+
+def steps_of(page):
+    """The shell lines of a page, each with its output, which is the next block; what is no such pair differs from any output."""
+    text = read(os.path.join(ROOT, page)).decode()
+    blocks = [it for it in re.findall(r"^```(\w*)\n(.*?)^```$", text, re.MULTILINE | re.DOTALL) if it[0] in ("sh", "")]
+    for (kind, line), (after, output) in itertools.zip_longest(blocks[::2], blocks[1::2], fillvalue=("", "")):
+        is_step = (kind, after) == ("sh", "")
+        yield Example(f"{page} {line.strip()}", None, line if is_step else "", output.encode() if is_step else None, 0)
+
+
+def steps():
+    return [step for page in PASTED for step in steps_of(page)]
 
 
 def examples():
