@@ -3,5 +3,6 @@ pub mod Laws
 pub mod Maps
 pub mod Numbers
 pub mod Pairs
+pub mod Places
 pub mod Ranges
 pub mod Sets

@@ -1,13 +1,13 @@
 -- Maps are joined key by key.
 use Rattle.std.proofs.Common.{◌≡◌, refl, ap}
-use Rattle.std.specs.Prelude.{⊤, List, Option, Some, None, if◌then◌else◌}
+use Rattle.std.specs.Prelude.{⊤, Option, Some, None, IfSome, if◌then◌else◌}
 use Rattle.std.specs.Option.{option_map}
 use Rattle.std.specs.Ordering.{eq_by_cmp}
 use Rattle.std.specs.declared.cmp.Ordering.{Ordering}
-use Rattle.std.specs.Map.{lookup}
-use Rattle.std.specs.BTreeMap.{BTreeMap, is_at}
+use Rattle.std.specs.BTreeMap.{BTreeMap, get}
 use Rattle.pmg_value.specs.Maps.{join_options, join_to}
 use Rattle.pmg_join.specs.Joins.{JoinLaws, JoinOrder}
+use Rattle.pmg_join.specs.Places.{there_at}
 
 -- nothing is within anything, and what is there only within what is there
 abbrev pub OptionWithin : {M : Type 0} → (M → M → Type 0) → Option M → Option M → Type 0
@@ -15,13 +15,19 @@ OptionWithin Within None b = ⊤
 OptionWithin Within (Some a) None = ⊥
 OptionWithin Within (Some a) (Some b) = Within a b
 
--- what the entries have at a key, by its meaning
-abbrev pub meant_by : {K J M : Type 0} → (K → K → Ordering) → (J → M) → List (K × J) → K → Option M
-meant_by R meaning entries key = option_map meaning (lookup (is_at (R key)) entries)
+-- what a map has at a key, by its meaning; an empty place is only room
+abbrev pub meant_at : {K J M : Type 0} → (K → K → Ordering) → (J → M) → BTreeMap K (Option J) → K → Option M
+meant_at R meaning table key = option_map meaning (there_at R table key)
 
--- what a map has at a key, by its meaning
-abbrev pub meant_at : {K J M : Type 0} → (K → K → Ordering) → (J → M) → BTreeMap K J → K → Option M
-meant_at R meaning table key = meant_by R meaning table.entries key
+-- the place, if it is there, has room to take the part: any part, if it is empty
+abbrev pub IsRoomFor : {J : Type 0} → (J → J → Type 0) → J → Option (Option J) → Type 0
+IsRoomFor HasRoom part None = ⊥
+IsRoomFor HasRoom part (Some None) = Unit {0}
+IsRoomFor HasRoom part (Some (Some there)) = HasRoom there part
+
+-- there is room in the one map to take each part of the other
+abbrev pub HaveRoomFor : {K J : Type 0} → (K → K → Ordering) → (J → J → Type 0) → BTreeMap K (Option J) → BTreeMap K (Option J) → Type 0
+HaveRoomFor {K} R HasRoom table other = (key : K) → IfSome (there_at R other key) (λ part. IsRoomFor HasRoom part (get R table key))
 
 -- two maps joined: at each key the values of both, joined
 abbrev pub join_at_keys : {K M : Type 0} → (M → M → M) → (K → Option M) → (K → Option M) → K → Option M

@@ -1,7 +1,7 @@
 ghost use Rattle.std.specs.Prelude.{◌≡◌, OnOk, OnErr, IfOk, IfErr};
 ghost use Rattle.pmg_join.specs.Joins.{JoinLaws, JoinOrder};
 
-use std::alloc::{AllocError, AllocFailed};
+use std::alloc::{AllocError, AllocFailed, Global};
 
 /// What can be joined. Its meaning is what contracts speak of; `Within` is an order of meanings, in which the
 /// join of two is the least that both are within.
@@ -28,6 +28,43 @@ pub trait Join: Drop {
     ghost laws: { JoinLaws joined };
 
     ghost order: { JoinOrder joined Within };
+}
+
+/// What is joined in two phases: `make_room` takes all memory and changes no meaning, and `take` joins without memory. `join` is
+/// the two in a row. Several joins are made together or not at all where room is made for each before any of them takes.
+pub trait TwoPhaseJoin: Join {
+    /// There is room in the first to take the second.
+    ghost HasRoom: { Self → Self → Type 0 };
+
+    /// Makes all room to take the other one. The meaning stays, also where an allocation fails.
+    fn make_room(&mut self, other: &Self) -> Result<(), AllocError>
+        ensures same { Self.meaning self.new ≡ Self.meaning self.old }
+        ensures room { OnOk result (HasRoom self.new other.now) };
+
+    /// Joins the other one into this one, which has room for it.
+    fn take(&mut self, other: Self)
+        requires { HasRoom self.old other }
+        ensures { Self.meaning self.new ≡ Self.joined (Self.meaning self.old) (Self.meaning other) };
+}
+
+/// What can take changes of a kind, each of which means what it adds.
+pub trait Absorb<C>: Drop {
+    ghost Meaning: { Type 0 };
+
+    ghost meaning: { Self → Meaning };
+
+    ghost joined: { Meaning → Meaning → Meaning };
+
+    ghost told: { C → Meaning };
+
+    /// One that has taken this change alone.
+    fn of_change(alloc: Global, change: C) -> Result<Self, AllocError>
+        ensures { IfOk result (λ one. meaning one ≡ told change) };
+
+    /// Takes the change. Where an allocation fails, the meaning stays.
+    fn take_change(&mut self, change: C) -> Result<(), AllocError>
+        ensures ok { OnOk result (meaning self.new ≡ joined (meaning self.old) (told change)) }
+        ensures err { OnErr result (meaning self.new ≡ meaning self.old) };
 }
 
 /// A join is associative, commutative and idempotent, and in its order the least that both are within.

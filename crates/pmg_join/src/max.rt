@@ -1,6 +1,6 @@
 ghost use Rattle.std.specs.Prelude.{◌≡◌, max, IsOk, OnOk, OnErr, IfOk, IfErr};
 
-use crate::join::Join;
+use crate::join::{Join, TwoPhaseJoin};
 use std::alloc::{AllocError, AllocFailed};
 
 /// A number that only grows: its join is the greater one.
@@ -58,5 +58,17 @@ impl Join for MaxU64 {
     {
         self.value = self.value.max(other.value);
         Ok(())
+    }
+}
+
+impl TwoPhaseJoin for MaxU64 {
+    ghost HasRoom = { λ m n. Unit {0} };
+
+    fn make_room(&mut self, other: &MaxU64) -> Result<(), AllocError> {
+        Ok(())
+    }
+
+    fn take(&mut self, other: MaxU64) {
+        self.value = self.value.max(other.value);
     }
 }

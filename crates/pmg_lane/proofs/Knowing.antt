@@ -15,7 +15,7 @@ use Rattle.pmg_commit.specs.Entries.{Entry}
 use Rattle.pmg_commit.specs.EntryOrder.{entries_total, exact_entries}
 use Rattle.pmg_commit.specs.Levels.{level}
 use Rattle.pmg_commit.specs.CoreLaws.{Has}
-use Rattle.pmg_lane.specs.Places.{placed}
+use Rattle.pmg_join.specs.Places.{placed}
 use Rattle.pmg_lane.specs.Entries.{late_cmp, read_under, late_at, entry_under, late_entry, HasEntry, late_list, entries_list}
 use Rattle.pmg_lane.specs.Merged.{merged_knowledge, merged_level}
 use Rattle.pmg_lane.specs.Waiting.{IsStocked, waiting_list}

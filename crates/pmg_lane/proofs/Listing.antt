@@ -13,7 +13,7 @@ use Rattle.std.proofs.lemmas.Map.Keys.{sorted_head, sorted_tail}
 use Rattle.std.proofs.lemmas.Map.Lookups.{CmpEqualImpliesEq}
 use Rattle.pmg_value.specs.Lists.{In}
 use Rattle.pmg_commit.specs.Entries.{Entry}
-use Rattle.pmg_lane.specs.Places.{placed}
+use Rattle.pmg_join.specs.Places.{placed}
 use Rattle.pmg_lane.proofs.Settling.{some_is}
 
 -- ---- rows, of which the first was taken

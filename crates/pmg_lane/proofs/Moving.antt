@@ -11,7 +11,7 @@ use Rattle.std.specs.Map.{lookup}
 use Rattle.std.proofs.lemmas.Map.Lookups.{CmpEqualImpliesEq, exact_bytes}
 use Rattle.pmg_value.specs.declared.value.Value.{Value}
 use Rattle.pmg_commit.specs.Entries.{Entry}
-use Rattle.pmg_lane.specs.Places.{placed, there_at}
+use Rattle.pmg_join.specs.Places.{placed, there_at}
 use Rattle.pmg_lane.specs.Entries.{late_cmp, entry_under, late_entry, HasEntry, HasPlaces, PlacesStay, ReadsWithin, LateFrom, Settles, NoneLeft}
 use Rattle.pmg_lane.specs.declared.entries.Entries.{Entries}
 use Rattle.pmg_lane.specs.declared.entries.Stamp.{Stamp}

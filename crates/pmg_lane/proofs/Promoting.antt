@@ -14,7 +14,7 @@ use Rattle.std.proofs.lemmas.Bool.{false≢true}
 use Rattle.pmg_value.specs.Lists.{In}
 use Rattle.pmg_value.specs.declared.value.Value.{Value}
 use Rattle.pmg_commit.specs.Entries.{Entry}
-use Rattle.pmg_lane.specs.Places.{placed, there_at, HasPlace}
+use Rattle.pmg_join.specs.Places.{placed, there_at, HasPlace}
 use Rattle.pmg_lane.specs.Entries.{late_cmp, late_entry, read_under, late_at, HasEntry, HasPlaces, ReadsWithin, IsRoomyTo, Settles, NoneLeft}
 use Rattle.pmg_lane.specs.declared.entries.Entries.{Entries}
 use Rattle.pmg_lane.proofs.Settling.{exact_late, some_is, accounts_more}

@@ -24,7 +24,7 @@ use Rattle.pmg_commit.specs.Knowledge.{union, read, numbers_between}
 use Rattle.pmg_commit.specs.CoreLaws.{Has, has_union, union_has_left, union_has_right, level-union}
 use Rattle.pmg_commit.proofs.Rules.{numbers_are_between}
 use Rattle.pmg_commit.proofs.ReadLaws.{IsBest, best_of_all, best_read, read_best}
-use Rattle.pmg_lane.specs.Places.{there_at}
+use Rattle.pmg_join.specs.Places.{there_at}
 use Rattle.pmg_lane.specs.Entries.{late_cmp, late_entry, read_under, late_at, late_list}
 use Rattle.pmg_lane.specs.Merged.{merged_knowledge, merged_level, told, IsMerged, level_joined}
 use Rattle.pmg_lane.specs.Waiting.{IsStocked, waiting_list}

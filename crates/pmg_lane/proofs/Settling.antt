@@ -16,7 +16,7 @@ use Rattle.pmg_value.specs.Spelling.{spelling}
 use Rattle.pmg_value.specs.declared.value.Value.{Value}
 use Rattle.pmg_commit.specs.Entries.{Entry, is_later}
 use Rattle.pmg_commit.specs.EntryOrder.{Below, Later, is_later-Decides, below_cases, superseded_trans}
-use Rattle.pmg_lane.specs.Places.{placed, there_at, HasPlace}
+use Rattle.pmg_join.specs.Places.{placed, there_at, HasPlace}
 use Rattle.pmg_lane.specs.Entries.{late_cmp, entry_under, late_entry, read_under, late_at, HasEntry, ReadsWithin, Accounts, Settles, NoneLeft, beats, exceeds, LateFrom, HoldAlike, IsRoomyTo}
 use Rattle.pmg_lane.specs.declared.entries.Entries.{Entries}
 use Rattle.pmg_lane.specs.declared.entries.Stamp.{Stamp}

@@ -10,7 +10,7 @@ use Rattle.pmg_value.specs.Spelling.{spelling}
 use Rattle.pmg_value.specs.declared.value.Value.{Value}
 use Rattle.pmg_commit.specs.Entries.{Entry, is_later}
 use Rattle.pmg_commit.specs.EntryOrder.{Superseded}
-use Rattle.pmg_lane.specs.Places.{there_at, HasPlace}
+use Rattle.pmg_join.specs.Places.{there_at, HasPlace}
 use Rattle.pmg_lane.specs.declared.entries.Entries.{Entries}
 use Rattle.pmg_lane.specs.declared.entries.Stamp.{Stamp}
 

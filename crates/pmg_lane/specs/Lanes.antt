@@ -5,6 +5,7 @@ use Rattle.pmg_value.specs.Lists.{is_chain}
 use Rattle.pmg_commit.specs.Entries.{Entry, best_of_two}
 use Rattle.pmg_commit.specs.Levels.{level}
 use Rattle.pmg_commit.specs.Knowledge.{Knowledge}
+use Rattle.pmg_commit.specs.Cores.{Core, core_of}
 use Rattle.pmg_commit.specs.Pieces.{entry_of, is_numbered, is_key_rising}
 use Rattle.pmg_commit.specs.declared.piece.TheConstants.{MAX_COMMIT}
 use Rattle.pmg_lane.specs.Merged.{merged_knowledge, merged_reading, told, IsMerged, HasMergedRoom, HaveMergedRooms}
@@ -26,6 +27,10 @@ single_reading s level key = fold (best_of_two level key) None (map entry_of s.e
 abbrev pub known_by : Track → Knowledge
 known_by (tracks.Single s) = single_knowledge s
 known_by (tracks.Merged m) = merged_knowledge m
+
+-- what a track knows, as a core
+abbrev pub core_in : Track → Core
+core_in t = core_of (known_by t)
 
 -- the entry of a track that is read under the key at that level, which may not be reached yet
 abbrev pub reading_of : Track → ℕ → List ℕ → Option Entry

@@ -2,6 +2,5 @@ pub mod Entries
 pub mod Joining
 pub mod Lanes
 pub mod Merged
-pub mod Places
 pub mod Readings
 pub mod Waiting

@@ -3,7 +3,7 @@ ghost use Rattle.std.specs.Prelude.{◌≡◌, ◌⊎◌, ◌↔◌, ◌<◌, �
 ghost use Rattle.pmg_value.specs.Spelling.{spelling};
 ghost use Rattle.pmg_commit.specs.Entries.{Entry, best_of_two};
 ghost use Rattle.pmg_lane.specs.Entries.{read_under, late_at, late_list, late_cmp, entry_under, late_entry, beats, exceeds, IsReadIn, IsLateIn, HasEntry, HoldAlike, PlacesStay, HasPlaces, ReadsWithin, IsRoomyTo, LateFrom, LatePast, Settles, NoneLeft, place_count};
-ghost use Rattle.pmg_lane.specs.Places.{there_at, HasPlace};
+ghost use Rattle.pmg_join.specs.Places.{there_at, HasPlace};
 ghost use Rattle.pmg_lane.specs.Readings.{seen_entry};
 ghost use Rattle.std.specs.Option.{option_map, option_to_list};
 ghost use Rattle.std.specs.List.{fold};
@@ -13,9 +13,9 @@ ghost use Rattle.pmg_commit.specs.Pieces.{entry_of};
 ghost use Rattle.std.specs.Ordering.{nat_cmp};
 ghost use Rattle.std.specs.Cmp.Lexicographic.{slice_cmp};
 
-use crate::places::{make_place, pop_place, put_place};
 use crate::readings::{Reading, better};
 use pmg_commit::PieceEntry;
+use pmg_join::{make_place, pop_place, put_place};
 use pmg_value::{Copied, Key, Value, copy_rows};
 use std::alloc::{AllocError, Global};
 use std::collections::BTreeMap;

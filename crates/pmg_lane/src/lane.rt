@@ -1,15 +1,16 @@
-ghost use Rattle.std.specs.Prelude.{◌≡◌, ◌≤◌, ◌<◌, map, nat_lt, Some, None, OnOk, OnErr, IfOk, IfErr, if◌then◌else◌};
+ghost use Rattle.std.specs.Prelude.{◌≡◌, ◌≤◌, nat_lt, Some, None, OnOk, OnErr, IfOk, if◌then◌else◌};
 ghost use Rattle.std.specs.FinSet as set;
 ghost use Rattle.std.specs.Option.{option_map};
 ghost use Rattle.pmg_value.specs.Spelling.{spelling};
 ghost use Rattle.pmg_commit.specs.Levels.{level};
-ghost use Rattle.pmg_commit.specs.Knowledge.{nothing, knowledge_of, read};
+ghost use Rattle.pmg_commit.specs.Knowledge.{nothing, knowledge_of, read, union};
 ghost use Rattle.pmg_commit.specs.Cores.{core_of, join_cores};
 ghost use Rattle.pmg_commit.specs.declared.piece.TheConstants.{MAX_COMMIT};
+ghost use Rattle.pmg_lane.specs.Lanes.{core_in, known_by, level_of, IsTrack, ShowsReads};
 
-use crate::track::Track;
+use crate::track::{Reads, Track};
 use pmg_commit::{Piece, PieceEntry};
-use pmg_join::Join;
+use pmg_join::{Absorb, Join, TwoPhaseJoin};
 use pmg_value::{Key, Value};
 use std::alloc::{AllocError, AllocFailed, Global};
 use std::marker::Model;
@@ -22,14 +23,15 @@ pub struct Lane {
 }
 
 impl Model for Lane {
-    ghost use Rattle.pmg_commit.specs.Cores.{Core, core_of, coded_core};
-    ghost use Rattle.pmg_lane.specs.Lanes.{known_by, IsTrack};
+    ghost use Rattle.pmg_lane.specs.Lanes.{IsTrack};
+    ghost use Rattle.pmg_lane.specs.declared.track.Track.{Track};
+    ghost use Rattle.pmg_lane.specs.contracts.track.Track.{the_row as track_row};
 
-    ghost Value = { Core };
+    ghost Value = { Track };
 
-    ghost coded = { coded_core };
+    ghost coded = { track_row.coded };
 
-    ghost view = { λ a. core_of (known_by a.track) };
+    ghost view = { λ a. a.track };
 
     ghost invariant = { λ a. IsTrack a.track };
 }
@@ -37,7 +39,7 @@ impl Model for Lane {
 impl Lane {
     /// A lane that has taken nothing. It keeps the allocator.
     pub fn new(alloc: Global) -> Lane
-        ensures { result ≡ core_of nothing }
+        ensures { core_in result ≡ core_of nothing }
     {
         Lane {
             alloc,
@@ -49,33 +51,15 @@ impl Lane {
     /// known. It takes time in proportion to its entries and to the late entries that are read then, and to the logarithm
     /// of what is held. Where memory is wanting, the lane stays as it is.
     pub fn absorb(&mut self, piece: &Piece) -> Result<(), AllocError>
-        ensures ok { OnOk result (self.new ≡ join_cores self.old (core_of (knowledge_of piece.now))) }
-        ensures err { OnErr result (self.new ≡ self.old) }
+        ensures ok { OnOk result (core_in self.new ≡ join_cores (core_in self.old) (core_of (knowledge_of piece.now))) }
+        ensures err { OnErr result (core_in self.new ≡ core_in self.old) }
     {
-        let entries = copies_of(self.alloc, piece.entries())?;
-        self.track
-            .absorb(self.alloc, piece.from(), piece.to(), entries)
-    }
-
-    /// Takes all that the other lane has taken. It takes time in proportion to what the other one holds and to the late
-    /// entries that are read then, and to the logarithm of what this one holds. Where an allocation fails, this one stays
-    /// as it is, and the other one is handed back.
-    pub fn join(&mut self, other: Lane) -> Result<(), AllocFailed<Lane>>
-        ensures ok { OnOk result (self.new ≡ join_cores self.old other) }
-        ensures err { OnErr result (self.new ≡ self.old) }
-        ensures handed_back { IfErr result (λ e. e.value ≡ other) }
-    {
-        if let Err(_) = self.track.make_rooms(self.alloc, &other.track) {
-            return Err(AllocFailed { value: other });
-        }
-        let Lane { track, .. } = other;
-        self.track.take_all(track);
-        Ok(())
+        self.take_change(piece.copy()?)
     }
 
     /// The greatest n such that the commits 1 to n were all taken, 0 if the first was not.
     pub fn level(&self) -> u64
-        ensures value { result ≡ level self.now.knowledge.numbers }
+        ensures value { result ≡ level_of self.now }
         ensures bound { result ≤ MAX_COMMIT }
     {
         self.track.level()
@@ -83,7 +67,7 @@ impl Lane {
 
     /// Whether the commit of that number was taken.
     pub fn taken(&self, n: u64) -> bool
-        ensures { result ≡ set.contains self.now.knowledge.numbers n }
+        ensures { result ≡ set.contains (known_by self.now).numbers n }
     {
         self.track.taken(n)
     }
@@ -91,14 +75,14 @@ impl Lane {
     /// The value under the key: of the entries up to the level, that of the greatest commit, and at equal numbers the
     /// greater one (PMIx Standard 5.0, PMIx_Get; the level is this project's).
     pub fn read(&self, key: &Key) -> Option<&Value>
-        ensures { option_map (λ v. spelling v.now) result ≡ read self.now.knowledge key.now }
+        ensures { option_map (λ v. spelling v.now) result ≡ read (known_by self.now) key.now }
     {
         self.track.read(key)
     }
 
     /// The level once the piece, which is one of the process, is taken too.
     pub fn level_with(&self, piece: &Piece) -> u64
-        ensures value { result ≡ level (join_cores self.now (core_of (knowledge_of piece.now))).knowledge.numbers }
+        ensures value { result ≡ level (union (known_by self.now) (knowledge_of piece.now)).numbers }
         ensures bound { result ≤ MAX_COMMIT }
     {
         self.track.level_with(piece.from(), piece.to())
@@ -108,7 +92,7 @@ impl Lane {
     /// to the piece's entries and to the late entries that are read then, and to the logarithm of what is held.
     pub fn read_with<'a>(&'a self, piece: &'a Piece, key: &Key) -> Option<&'a Value>
         ensures { option_map (λ v. spelling v.now) result
-            ≡ read (join_cores self.now (core_of (knowledge_of piece.now))).knowledge key.now }
+            ≡ read (union (known_by self.now) (knowledge_of piece.now)) key.now }
     {
         self.track
             .read_with(piece.from(), piece.to(), piece.entries(), key)
@@ -116,21 +100,18 @@ impl Lane {
 
     /// The level, where it is below the one that is wanted: the commits after it are missing.
     pub fn missing_after(&self, want: u64) -> Option<u64>
-        ensures { result ≡ (if nat_lt (level self.now.knowledge.numbers) want
-            then Some (level self.now.knowledge.numbers) else None) }
+        ensures { result ≡ (if nat_lt (level_of self.now) want then Some (level_of self.now) else None) }
     {
         let level = self.level();
         if level < want { Some(level) } else { None }
     }
 
-    /// A copy, equal to this lane.
-    pub fn copy(&self) -> Result<Lane, AllocError>
-        ensures { IfOk result (λ lane. lane ≡ self.now) }
+    /// The keys in their order, with what is read under each where something is.
+    pub fn reads(&self) -> Reads<'_>
+        ensures shown { ShowsReads self.now result }
+        ensures kept { IsTrack self.now }
     {
-        Ok(Lane {
-            alloc: self.alloc,
-            track: self.track.copy(self.alloc)?,
-        })
+        self.track.reads()
     }
 }
 
@@ -149,10 +130,11 @@ impl Join for Lane {
     ghost use Rattle.pmg_commit.specs.Cores.{Core, join_cores};
     ghost use Rattle.pmg_commit.specs.Within.{CoreWithin};
     ghost use Rattle.pmg_lane.specs.Joining.{cores_joined, cores_ordered};
+    ghost use Rattle.pmg_lane.specs.Lanes.{core_in};
 
     ghost Meaning = { Core };
 
-    ghost meaning = { λ lane. lane };
+    ghost meaning = { core_in };
 
     ghost joined = { join_cores };
 
@@ -163,10 +145,63 @@ impl Join for Lane {
     ghost order = { cores_ordered };
 
     fn copy(&self) -> Result<Lane, AllocError> {
-        Lane::copy(self)
+        Ok(Lane {
+            alloc: self.alloc,
+            track: self.track.copy(self.alloc)?,
+        })
     }
 
     fn join(&mut self, other: Lane) -> Result<(), AllocFailed<Lane>> {
-        Lane::join(self, other)
+        if let Err(_) = self.make_room(&other) {
+            return Err(AllocFailed { value: other });
+        }
+        self.take(other);
+        Ok(())
+    }
+}
+
+impl TwoPhaseJoin for Lane {
+    ghost use Rattle.pmg_lane.specs.Lanes.{HaveRooms};
+
+    ghost HasRoom = { HaveRooms };
+
+    /// It takes time in proportion to what the other one holds and to the late entries that are read then, and to the
+    /// logarithm of what this one holds.
+    fn make_room(&mut self, other: &Lane) -> Result<(), AllocError> {
+        self.track.make_rooms(self.alloc, &other.track)
+    }
+
+    fn take(&mut self, other: Lane) {
+        let Lane { track, .. } = other;
+        self.track.take_all(track);
+    }
+}
+
+impl Absorb<Piece> for Lane {
+    ghost use Rattle.pmg_commit.specs.Cores.{Core, core_of, join_cores};
+    ghost use Rattle.pmg_commit.specs.Knowledge.{knowledge_of};
+    ghost use Rattle.pmg_lane.specs.Lanes.{core_in};
+
+    ghost Meaning = { Core };
+
+    ghost meaning = { core_in };
+
+    ghost joined = { join_cores };
+
+    ghost told = { λ piece. core_of (knowledge_of piece) };
+
+    /// A lane that has taken the piece alone.
+    fn of_change(alloc: Global, piece: Piece) -> Result<Lane, AllocError> {
+        let (_, from, to, entries) = piece.into_parts();
+        Ok(Lane {
+            alloc,
+            track: Track::of(alloc, from, to, entries)?,
+        })
+    }
+
+    /// Takes the piece, which is one of the process, as `absorb` does, without copies of the entries.
+    fn take_change(&mut self, piece: Piece) -> Result<(), AllocError> {
+        let (_, from, to, entries) = piece.into_parts();
+        self.track.absorb(self.alloc, from, to, entries)
     }
 }

@@ -17,6 +17,7 @@ use Rattle.pmg_value.specs.contracts.value.Value as Value
 use Rattle.pmg_commit.specs.contracts.piece.Piece as Piece
 use Rattle.pmg_commit.specs.contracts.piece.PieceEntry as PieceEntry
 use Rattle.pmg_lane.specs.contracts.entries.Stamp as Stamp
+use Rattle.pmg_lane.specs.contracts.lane.Lane as Lane
 use Rattle.pmg_lane.specs.contracts.merged.Merged as Merged
 use Rattle.pmg_lane.specs.contracts.single.Single as Single
 use Rattle.pmg_lane.specs.contracts.track.Track as Track
@@ -83,11 +84,17 @@ track_send = search (single_send, merged_send, entry_send, key_send, value_send,
 track_sync : IsSync Track.the_row
 track_sync = search (single_sync, merged_sync, entry_sync, key_sync, value_sync, stamp_sync, maps, sendable, owners) depth 60 fits 20000
 
+lane_send : IsSend Lane.the_row
+lane_send = search (track_send, single_send, merged_send, entry_send, key_send, value_send, stamp_send, maps, sendable, owners) depth 60 fits 20000
+
+lane_sync : IsSync Lane.the_row
+lane_sync = search (track_sync, single_sync, merged_sync, entry_sync, key_sync, value_sync, stamp_sync, maps, sendable, owners) depth 60 fits 20000
+
 store_send : IsSend Store.the_row
-store_send = search (proc_send, track_send, maps, owners, sendable) depth 40
+store_send = search (proc_send, lane_send, maps, owners, sendable) depth 40
 
 store_sync : IsSync Store.the_row
-store_sync = search (proc_sync, track_sync, maps, owners, sendable) depth 40
+store_sync = search (proc_sync, lane_sync, maps, owners, sendable) depth 40
 
 pub board_send : IsSend (Board.the_field).row
 board_send = search (store_send, sendable) depth 40

@@ -1,4 +1,4 @@
--- What the dump of tracks is made of.
+-- What the dump of lanes is made of.
 use Rattle.std.proofs.Common.{ℕ, ◌<◌, List, [], ◌∷◌, ◌++◌, ◌≡◌, map, refl, sym, ap, ◌∙◌}
 use Rattle.std.specs.Prelude.{Option, Some, None, nat_lt, if◌then◌else◌}
 use Rattle.std.specs.Option.{option_map}
@@ -24,8 +24,8 @@ use Rattle.pmg_commit.specs.Knowledge.{Knowledge, core}
 use Rattle.pmg_commit.specs.CoreLaws.{numbers-core}
 use Rattle.pmg_commit.proofs.ReadLaws.{read-core}
 use Rattle.pmg_lane.specs.Entries.{entry_under}
-use Rattle.pmg_lane.specs.Lanes.{known_by, level_of}
-use Rattle.pmg_lane.specs.Places.{placed, there_at}
+use Rattle.pmg_lane.specs.Lanes.{core_in, known_by, level_of}
+use Rattle.pmg_join.specs.Places.{placed, there_at}
 use Rattle.pmg_lane.specs.declared.entries.Stamp.{Stamp}
 use Rattle.pmg_lane.specs.Merged.{merged_knowledge, IsMerged}
 use Rattle.pmg_lane.specs.declared.merged.Merged.{Merged}
@@ -33,12 +33,12 @@ use Rattle.pmg_lane.specs.declared.track.Track.{Track}
 use Rattle.pmg_lane.specs.declared.track.Track.TheVariants as tracks
 use Rattle.pmg_lane.proofs.Merging.{read_known}
 use Rattle.pmg_store.specs.Dump.{key_line, proc_line, reads_of, known_text, dump}
-use Rattle.pmg_store.specs.Tables.{filled_before, filled, lines_of, track_text, place_text, tracked_procs}
-use Rattle.pmg_store.specs.Tracks.{core_in, held_in, data_in}
+use Rattle.pmg_store.specs.Tables.{filled_before, filled, lines_of, lane_text, place_text, procs_of_lanes}
+use Rattle.pmg_store.specs.Lanes.{data_in}
 use Rattle.pmg_store.proofs.Filled.{find-filled, sorted_filled}
 use Rattle.pmg_store.proofs.Ordered.{entries_are, sorted_from}
 use Rattle.pmg_store.proofs.ReadTable.{get-reads_of}
-use Rattle.pmg_store.proofs.TrackData.{get-data_in, known_in}
+use Rattle.pmg_store.proofs.LaneData.{get-data_in, known_in}
 
 -- ---- one process
 
@@ -86,27 +86,27 @@ core_text p k =
     λ i. lines_with p (level (numbers-core k i)) (table i)
 
 -- ---- all processes
--- the tracks in their order are the data's entries
+-- the lanes in their order are the data's entries
 pub entries_in : (places : BTreeMap Proc (Option Track)) → IsOrdered proc_cmp places → finite.entries (data_in places) ≡ filled core_in places.entries
 entries_in places ordered =
     let es = places.entries in
     let sorted = sorted_from proc_cmp (filled core_in es) (sorted_filled proc_cmp core_in es ordered) in
     entries_are procs_total exact_procs (data_in places) (filled core_in es) sorted (λ q. get-data_in places q ∙ sym (find-filled proc_cmp core_in exact_procs es ordered q))
 
-pub keys_in : (places : BTreeMap Proc (Option Track)) → IsOrdered proc_cmp places → tracked_procs places.entries ≡ finite.keys (data_in places)
+pub keys_in : (places : BTreeMap Proc (Option Track)) → IsOrdered proc_cmp places → procs_of_lanes places.entries ≡ finite.keys (data_in places)
 keys_in places ordered = ap (λ rows. map (λ (e : Proc × Core). e.0) rows) (sym (entries_in places ordered))
 
 module _ (places : BTreeMap Proc (Option Track)) where
-  -- what is known of the process of a track
-  known_of_track : (p : Proc) (t : Track) → get proc_cmp places p ≡ Some (Some t) → known (data_in places) p ≡ core (known_by t)
-  known_of_track p t there = known_in places p ∙ ap (λ o. knowledge_in (held_in (placed o))) there
+  -- what is known of the process of a lane
+  known_of_lane : (p : Proc) (t : Track) → get proc_cmp places p ≡ Some (Some t) → known (data_in places) p ≡ core (known_by t)
+  known_of_lane p t there = known_in places p ∙ ap (λ o. knowledge_in (option_map core_in (placed o))) there
 
   place_lines : (p : Proc) (place : Option Track) (es : List (Proc × Option Track)) → get proc_cmp places p ≡ Some place
       → flat_map (λ p. known_text p (known (data_in places) p)) (map (λ e. e.0) (filled_before core_in p place (filled core_in es)))
-      ≡ track_text p place ++ flat_map (λ p. known_text p (known (data_in places) p)) (map (λ e. e.0) (filled core_in es))
+      ≡ lane_text p place ++ flat_map (λ p. known_text p (known (data_in places) p)) (map (λ e. e.0) (filled core_in es))
   place_lines p None es there = refl
   place_lines p (Some t) es there =
-      ap (λ k. known_text p k ++ flat_map (λ p. known_text p (known (data_in places) p)) (map (λ e. e.0) (filled core_in es))) (known_of_track p t there)
+      ap (λ k. known_text p k ++ flat_map (λ p. known_text p (known (data_in places) p)) (map (λ e. e.0) (filled core_in es))) (known_of_lane p t there)
       ∙ ap (λ text. text ++ flat_map (λ p. known_text p (known (data_in places) p)) (map (λ e. e.0) (filled core_in es))) (core_text p (known_by t))
 
   -- the lines of those whose places are in the tree

@@ -12,7 +12,7 @@ use Rattle.std.specs.BTreeMap.{is_at}
 use Rattle.std.specs.Map.{lookup, keys_of}
 use Rattle.std.specs.FinMap.Entries.{find}
 use Rattle.std.proofs.lemmas.Map.Lookups.{CmpEqualImpliesEq}
-use Rattle.pmg_lane.specs.Places.{placed}
+use Rattle.pmg_join.specs.Places.{placed}
 use Rattle.pmg_store.specs.Tables.{filled}
 
 module _ {K V X : Type 0} (f : V → X) where

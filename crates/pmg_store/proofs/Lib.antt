@@ -3,6 +3,7 @@ pub mod DumpLemmas
 pub mod EveryTaking
 pub mod Filled
 pub mod InputLemmas
+pub mod LaneData
 pub mod Ordered
 pub mod MergeLaws
 pub mod MergeLemmas
@@ -10,8 +11,6 @@ pub mod OutcomeLemmas
 pub mod ReaderLemmas
 pub mod ReadTable
 pub mod Telling
-pub mod TrackData
-pub mod TrackSteps
 pub mod ToldLemmas
 pub mod HonestDataLaws
 pub mod HonestPieces

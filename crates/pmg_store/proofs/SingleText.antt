@@ -178,7 +178,7 @@ single_text p s n kept at some =
     first_told p (tracks.Single s) n at some
     ∙ ap (λ lines. proc_line p n ++ flat_map key_line lines) (entries_are nat_list_cmp_total (finite.slice_cmp-IsAntisymmetric finite.nat_cmp-IsAntisymmetric) (reads_of k) rows sorted answers)
 
--- ---- what a track shows
+-- ---- what a lane shows
 -- the rows that are shown
 abbrev pub shown_rows : Reads → List (List ℕ × List ℕ)
 shown_rows (reads.Few entries) = rows_told entries.now
@@ -189,7 +189,7 @@ abbrev pub AreShownInOrder : Reads → Type 0
 AreShownInOrder (reads.Few entries) = Unit {0}
 AreShownInOrder (reads.Many places) = IsOrdered (slice_cmp nat_cmp) places.now
 
--- the lines of a process are its own, and those of what its track shows
+-- the lines of a process are its own, and those of what its lane shows
 pub shown_text : (p : Proc) (t : Track) (r : Reads) (n : ℕ) → IsTrack t → ShowsReads t r → n ≡ level_of t → 0 < n → AreShownInOrder r
     → known_text p (known_by t) ≡ proc_line p n ++ flat_map key_line (shown_rows r)
 shown_text p (tracks.Single s) (reads.Few entries) n kept shows at some ordered =

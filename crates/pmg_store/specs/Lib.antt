@@ -9,6 +9,6 @@ pub mod Pieces
 pub mod Readers
 pub mod Tables
 pub mod Told
-pub mod Tracks
+pub mod Lanes
 pub mod HonestData
 pub mod HonestStores

@@ -3,11 +3,10 @@ use Rattle.std.specs.Prelude.{ℕ, List, [], ◌∷◌, map, Option, Some, None}
 use Rattle.pmg_value.specs.declared.process.Proc.{Proc}
 use Rattle.pmg_value.specs.Spelling.{spelling}
 use Rattle.pmg_commit.specs.declared.piece.PieceEntry.{PieceEntry}
-use Rattle.pmg_lane.specs.Lanes.{known_by}
+use Rattle.pmg_lane.specs.Lanes.{core_in, known_by}
 use Rattle.pmg_lane.specs.declared.entries.Stamp.{Stamp}
 use Rattle.pmg_lane.specs.declared.track.Track.{Track}
 use Rattle.pmg_store.specs.Dump.{known_text}
-use Rattle.pmg_store.specs.Tracks.{core_in}
 
 -- a place before others, if it is not empty, with what is in it as f shows it
 abbrev pub filled_before : {K V X : Type 0} → (V → X) → K → Option V → List (K × X) → List (K × X)
@@ -27,15 +26,15 @@ lines_of places = filled (λ s. spelling s.value) places
 abbrev pub rows_told : List PieceEntry → List (List ℕ × List ℕ)
 rows_told entries = map (λ e. (e.key, spelling e.value)) entries
 
--- the lines of a process, if there is a track
-abbrev pub track_text : Proc → Option Track → List ℕ
-track_text p None = []
-track_text p (Some t) = known_text p (known_by t)
+-- the lines of a process, if there is a lane
+abbrev pub lane_text : Proc → Option Track → List ℕ
+lane_text p None = []
+lane_text p (Some t) = known_text p (known_by t)
 
 -- the lines of a process in its place
 abbrev pub place_text : Proc × Option Track → List ℕ
-place_text place = track_text place.0 place.1
+place_text place = lane_text place.0 place.1
 
--- the processes that have tracks
-abbrev pub tracked_procs : List (Proc × Option Track) → List Proc
-tracked_procs places = map (λ e. e.0) (filled core_in places)
+-- the processes that have lanes
+abbrev pub procs_of_lanes : List (Proc × Option Track) → List Proc
+procs_of_lanes places = map (λ e. e.0) (filled core_in places)

@@ -7,13 +7,13 @@ ghost use Rattle.std.specs.BTreeMap.{IsOrdered};
 ghost use Rattle.pmg_value.specs.Process.{proc_cmp};
 ghost use Rattle.pmg_value.specs.Spelling.{spelling};
 ghost use Rattle.pmg_value.specs.Written.{Writes};
-ghost use Rattle.pmg_lane.specs.Lanes.{known_by, IsTrack};
+ghost use Rattle.pmg_lane.specs.Lanes.{known_by};
 ghost use Rattle.pmg_store.specs.Dump.{value_text, key_line, proc_line, known_text, dump};
 ghost use Rattle.pmg_store.specs.Tables.{lines_of, place_text, rows_told};
-ghost use Rattle.pmg_store.specs.Tracks.{data_in, AreTracks};
+ghost use Rattle.pmg_store.specs.Lanes.{data_in};
 
 use pmg_commit::PieceEntry;
-use pmg_lane::{Reads, Stamp, Track};
+use pmg_lane::{Lane, Reads, Stamp};
 use pmg_value::{Key, Proc, Value, WatchedWriter, WriteFault};
 use std::alloc::Global;
 use std::collections::BTreeMap;
@@ -86,54 +86,51 @@ fn put_proc_line<W: Write>(
     writer.put_number_between(b" level ", level, b"\n")
 }
 
-// The lines of the process, of which the track knows.
+// The lines of the process, of which the lane knows.
 fn put_proc<W: Write>(
     writer: &mut WatchedWriter<W>,
     proc: &Proc,
-    track: &Track,
+    lane: &Lane,
 ) -> Result<(), WriteFault>
-    requires { IsTrack track.now }
     ensures text { Writes (W.contents writer.old.writer) (W.contents writer.new.writer)
-        result (known_text proc.now (known_by track.now)) }
+        result (known_text proc.now (known_by lane.now)) }
     ensures failed { OnErr result (IsSome writer.new.failure) }
 {
-    let level = track.level();
+    let level = lane.level();
     if level == 0 {
         return Ok(());
     }
     put_proc_line(writer, proc, level)?;
-    match track.reads() {
+    match lane.reads() {
         Reads::Few(entries) => put_entry_lines(writer, entries),
         Reads::Many(reads) => put_key_lines(writer, reads),
     }
 }
 
-// The lines of the processes, of which the tracks know.
+// The lines of the processes, of which the lanes know.
 fn put_procs<W: Write>(
     writer: &mut WatchedWriter<W>,
-    places: &BTreeMap<Proc, Option<Track>, Global>,
+    places: &BTreeMap<Proc, Option<Lane>, Global>,
 ) -> Result<(), WriteFault>
-    requires { AreTracks places.now }
     ensures lines { Writes (W.contents writer.old.writer) (W.contents writer.new.writer)
         result (flat_map place_text places.now.entries) }
     ensures failed { OnErr result (IsSome writer.new.failure) }
     ensures ordered { IsOrdered proc_cmp places.now }
 {
     for (proc, place) in places.iter() {
-        if let Some(track) = place {
-            put_proc(writer, proc, track)?;
+        if let Some(lane) = place {
+            put_proc(writer, proc, lane)?;
         }
     }
     Ok(())
 }
 
-/// Writes the dump of what the tracks know, in time in proportion to what they hold. Where the writer fails, a prefix of it was
+/// Writes the dump of what the lanes know, in time in proportion to what they hold. Where the writer fails, a prefix of it was
 /// written.
-pub fn dump_tracks<W: Write>(
+pub fn dump_lanes<W: Write>(
     writer: &mut WatchedWriter<W>,
-    places: &BTreeMap<Proc, Option<Track>, Global>,
+    places: &BTreeMap<Proc, Option<Lane>, Global>,
 ) -> Result<(), WriteFault>
-    requires { AreTracks places.now }
     ensures text { Writes (W.contents writer.old.writer) (W.contents writer.new.writer)
         result (dump (data_in places.now)) }
     ensures failed { OnErr result (IsSome writer.new.failure) }

@@ -9,7 +9,6 @@ mod laws;
 mod merge;
 mod store;
 mod stream;
-mod tracks;
 
 pub use board::Board;
 pub use failure::Failure;

@@ -1,29 +1,32 @@
 ghost use Rattle.std.specs.Prelude.{◌≡◌, ◌≢◌, ◌≤◌, ℕ, Some, None, OnOk, OnErr, IfOk, IfErr, IsSome, is_some};
 ghost use Rattle.std.specs.FinMap as finite;
 ghost use Rattle.std.specs.Option.{option_map};
+ghost use Rattle.std.specs.BTreeMap.{IsOrdered};
+ghost use Rattle.pmg_value.specs.Process.{proc_cmp};
 ghost use Rattle.pmg_value.specs.Spelling.{spelling};
 ghost use Rattle.pmg_scope.specs.Scripts.{term_key};
 ghost use Rattle.pmg_commit.specs.Data.{join_data, absorbed, level_at, read_at, taken_at};
 ghost use Rattle.pmg_store.specs.Dump.{dump};
 ghost use Rattle.pmg_store.specs.Outcomes.{Dumps};
 ghost use Rattle.pmg_store.specs.Pieces.{data_of, is_of};
+ghost use Rattle.pmg_store.specs.Tables.{procs_of_lanes};
 ghost use Rattle.pmg_commit.specs.declared.piece.TheConstants.{MAX_COMMIT};
 
-use crate::dump::dump_tracks;
+use crate::dump::dump_lanes;
 use crate::failure::Failure;
-use crate::tracks::Tracks;
 use pmg_commit::Piece;
-use pmg_join::Join;
-use pmg_lane::{copies_of, level_alone, read_alone};
+use pmg_join::{Join, MapJoin, TwoPhaseJoin, put_change};
+use pmg_lane::{Lane, level_alone, read_alone};
 use pmg_value::{Key, Proc, Value, WatchedWriter};
 use std::alloc::{AllocError, AllocFailed, Global};
+use std::collections::BTreeMap;
 use std::io::Write;
 use std::marker::Model;
 
 /// What is known of all processes: the core of what the pieces that were taken tell of each.
 #[derive(Drop)]
 pub struct Store {
-    tracks: Tracks,
+    lanes: MapJoin<Proc, Lane>,
 }
 
 impl Model for Store {
@@ -33,11 +36,9 @@ impl Model for Store {
 
     ghost coded = { coded_data };
 
-    ghost use Rattle.pmg_store.specs.Tracks.{data_in, AreTracks};
+    ghost use Rattle.pmg_store.specs.Lanes.{data_in};
 
-    ghost view = { λ a. data_in a.tracks.places };
-
-    ghost invariant = { λ a. AreTracks a.tracks.places };
+    ghost view = { λ a. data_in a.lanes.table };
 }
 
 /// What is read of a process under a key: the value, and whether the process has ended.
@@ -78,7 +79,7 @@ impl Store {
         ensures { result ≡ finite.empty }
     {
         Store {
-            tracks: Tracks::new(alloc),
+            lanes: MapJoin::new(alloc),
         }
     }
 
@@ -89,9 +90,7 @@ impl Store {
         ensures ok { OnOk result (self.new ≡ absorbed self.old piece.now) }
         ensures err { OnErr result (self.new ≡ self.old) }
     {
-        let entries = copies_of(self.tracks.allocator(), piece.entries())?;
-        self.tracks
-            .absorb(piece.proc(), piece.from(), piece.to(), entries)
+        self.take(piece.copy()?)
     }
 
     /// What `absorb` does, without copies of the entries. Where an allocation fails, the piece is dropped.
@@ -99,15 +98,15 @@ impl Store {
         ensures ok { OnOk result (self.new ≡ absorbed self.old piece) }
         ensures err { OnErr result (self.new ≡ self.old) }
     {
-        let (proc, from, to, entries) = piece.into_parts();
-        self.tracks.absorb(&proc, from, to, entries)
+        let proc = piece.proc().copy()?;
+        put_change(&mut self.lanes, proc, piece)
     }
 
     /// A store of these pieces alone, with the allocator of this one.
     pub fn of_pieces(&self, pieces: &[Piece]) -> Result<Store, AllocError>
         ensures { IfOk result (λ s. s ≡ data_of pieces.now) }
     {
-        let mut store = Store::new(self.tracks.allocator());
+        let mut store = Store::new(self.lanes.allocator());
         for piece in pieces {
             store.absorb(piece)?;
         }
@@ -122,11 +121,11 @@ impl Store {
         ensures err { OnErr result (self.new ≡ self.old) }
         ensures handed_back { IfErr result (λ e. e.value ≡ other) }
     {
-        if let Err(_) = self.tracks.make_rooms(&other.tracks) {
+        if let Err(_) = self.lanes.make_room(&other.lanes) {
             return Err(AllocFailed { value: other });
         }
-        let Store { tracks } = other;
-        self.tracks.take_all(tracks);
+        let Store { lanes } = other;
+        self.lanes.take(lanes);
         Ok(())
     }
 
@@ -135,8 +134,8 @@ impl Store {
         ensures value { result ≡ level_at self.now proc.now }
         ensures bound { result ≤ MAX_COMMIT }
     {
-        match self.tracks.get(proc) {
-            Some(track) => track.level(),
+        match self.lanes.get(proc) {
+            Some(lane) => lane.level(),
             None => 0,
         }
     }
@@ -145,8 +144,8 @@ impl Store {
     pub fn taken(&self, proc: &Proc, n: u64) -> bool
         ensures { result ≡ taken_at self.now proc.now n }
     {
-        match self.tracks.get(proc) {
-            Some(track) => track.taken(n),
+        match self.lanes.get(proc) {
+            Some(lane) => lane.taken(n),
             None => false,
         }
     }
@@ -156,8 +155,8 @@ impl Store {
     pub fn read(&self, proc: &Proc, key: &Key) -> Option<&Value>
         ensures { option_map (λ v. spelling v.now) result ≡ read_at self.now proc.now key.now }
     {
-        match self.tracks.get(proc) {
-            Some(track) => track.read(key),
+        match self.lanes.get(proc) {
+            Some(lane) => lane.read(key),
             None => None,
         }
     }
@@ -171,8 +170,8 @@ impl Store {
         if !is_of(proc, piece) {
             return self.level(proc);
         }
-        match self.tracks.get(proc) {
-            Some(track) => track.level_with(piece.from(), piece.to()),
+        match self.lanes.get(proc) {
+            Some(lane) => lane.level_with(piece),
             None => level_alone(piece.from(), piece.to()),
         }
     }
@@ -185,8 +184,8 @@ impl Store {
         if !is_of(proc, piece) {
             return self.read(proc, key);
         }
-        match self.tracks.get(proc) {
-            Some(track) => track.read_with(piece.from(), piece.to(), piece.entries(), key),
+        match self.lanes.get(proc) {
+            Some(lane) => lane.read_with(piece, key),
             None => read_alone(piece.from(), piece.to(), piece.entries(), key),
         }
     }
@@ -213,10 +212,10 @@ impl Store {
         ensures value { option_map (λ v. spelling v.now) result.value ≡ read_at self.now proc.now key.now }
         ensures ended { result.ended ≡ is_some (read_at self.now proc.now term_key) }
     {
-        match self.tracks.get(proc) {
-            Some(track) => {
-                let value = track.read(key);
-                let term = track.read(&Key::of_termination());
+        match self.lanes.get(proc) {
+            Some(lane) => {
+                let value = lane.read(key);
+                let term = lane.read(&Key::of_termination());
                 Look {
                     value,
                     ended: term.is_some(),
@@ -233,7 +232,7 @@ impl Store {
     pub fn processes(&self) -> Result<Vec<Proc>, AllocError>
         ensures { IfOk result (λ procs. procs.items ≡ finite.keys self.now) }
     {
-        Ok(self.tracks.processes()?)
+        Ok(processes_in(self.lanes.allocator(), self.lanes.places())?)
     }
 
     /// Writes the dump: for each process of level 1 or more, by namespace and rank, a line with its level; then
@@ -245,7 +244,7 @@ impl Store {
         ensures write_fault { IfErr result (λ e. e ≡ Failure.Write → IsSome writer.new.failure) }
         ensures no_read_fault { IfErr result (λ e. e ≢ Failure.Read) }
     {
-        dump_tracks(writer, self.tracks.places())?;
+        dump_lanes(writer, self.lanes.places())?;
         Ok(())
     }
 
@@ -254,7 +253,7 @@ impl Store {
         ensures { IfOk result (λ s. s ≡ self.now) }
     {
         Ok(Store {
-            tracks: self.tracks.copy()?,
+            lanes: self.lanes.copy()?,
         })
     }
 }
@@ -264,6 +263,23 @@ fn is_of(proc: &Proc, piece: &Piece) -> bool
     ensures { result ≡ is_of proc.now piece.now }
 {
     proc.cmp(piece.proc()).is_eq()
+}
+
+/// Copies of the processes that have lanes, in their order.
+fn processes_in(
+    alloc: Global,
+    places: &BTreeMap<Proc, Option<Lane>, Global>,
+) -> Result<Vec<Proc>, AllocError>
+    ensures all { IfOk result (λ procs. procs.items ≡ procs_of_lanes places.now.entries) }
+    ensures ordered { IsOrdered proc_cmp places.now }
+{
+    let mut procs = Vec::new(alloc);
+    for (proc, place) in places.iter() {
+        if let Some(_) = place {
+            procs.push(proc.copy()?)?;
+        }
+    }
+    Ok(procs)
 }
 
 /// Joins the others into the two stores, into both or into none: room is made in both before they take anything.
@@ -278,9 +294,9 @@ pub fn join_both(
     ensures near_err { OnErr result (near.new ≡ near.old) }
     ensures far_err { OnErr result (far.new ≡ far.old) }
 {
-    near.tracks.make_rooms(&near_more.tracks)?;
-    far.tracks.make_rooms(&far_more.tracks)?;
-    near.tracks.take_all(near_more.tracks);
-    far.tracks.take_all(far_more.tracks);
+    near.lanes.make_room(&near_more.lanes)?;
+    far.lanes.make_room(&far_more.lanes)?;
+    near.lanes.take(near_more.lanes);
+    far.lanes.take(far_more.lanes);
     Ok(())
 }

@@ -132,34 +132,35 @@ fn sets_have_keys_and_processes(rt: HostRuntime) {
     assert!(rt; !has_rank(&rt, alloc, 1, 2));
 }
 
-// The map to which these ranges were put, each under its key.
-fn map_of(rt: &impl Abort, alloc: Global, rows: &[(u64, u64, u64)]) -> MapJoin<u64, RangeSet> {
+// The map to which these numbers were put, each under its key.
+fn map_of(rt: &impl Abort, alloc: Global, rows: &[(u64, u64)]) -> MapJoin<u64, MaxU64> {
     let mut map = MapJoin::new(alloc);
-    for (key, from, to) in rows {
-        map.put(*key, range(rt, alloc, *from, *to))
-            .expect(rt, MEMORY);
+    for (key, number) in rows {
+        map.put(*key, MaxU64::new(*number)).expect(rt, MEMORY);
     }
     map
 }
 
-// What is under the keys 1 to 3.
-fn map_text(rt: &impl Abort, alloc: Global, map: &MapJoin<u64, RangeSet>) -> Vec<u8> {
+// What is under the keys 1 to 4, and a dash where nothing is.
+fn map_text(rt: &impl Abort, alloc: Global, map: &MapJoin<u64, MaxU64>) -> Vec<u8> {
     let mut text = Vec::new(alloc);
-    for key in 1..4 {
-        if let Some(set) = map.get(&key) {
-            show(&mut text, set).expect(rt, MEMORY);
+    for key in 1..5 {
+        match map.get(&key) {
+            Some(number) => push_number(&mut text, number.value()).expect(rt, MEMORY),
+            None => text.push(b'-').expect(rt, MEMORY),
         }
+        text.push(b';').expect(rt, MEMORY);
     }
     text
 }
 
 #[test]
 fn maps_join_key_by_key(rt: HostRuntime) {
-    let first = map_of(&rt, rt.alloc(), &[(1, 0, 2), (1, 8, 9), (2, 0, 1)]);
-    let second = map_of(&rt, rt.alloc(), &[(1, 1, 4)]);
+    let first = map_of(&rt, rt.alloc(), &[(4, 2), (1, 8), (2, 5), (1, 3)]);
+    let second = map_of(&rt, rt.alloc(), &[(1, 9), (2, 4)]);
     let all = join_both(&rt, &first, second);
-    let text = map_text(&rt, rt.alloc(), &all);
-    assert!(rt; text.as_slice() == b"12349 4;1 1;".as_slice());
+    assert!(rt; map_text(&rt, rt.alloc(), &first).as_slice() == b"8;5;-;2;".as_slice());
+    assert!(rt; map_text(&rt, rt.alloc(), &all).as_slice() == b"9;5;-;2;".as_slice());
 }
 
 // A set of each of these ranges.

@@ -5,7 +5,7 @@ use Rattle.std.specs.Ordering.{nat_cmp}
 use Rattle.std.specs.Cmp.Lexicographic.{slice_cmp}
 use Rattle.pmg_value.specs.Lists.{In}
 use Rattle.pmg_value.proofs.RowLemmas.{key_there}
-use Rattle.pmg_lane.specs.Places.{HasPlace}
+use Rattle.pmg_join.specs.Places.{HasPlace}
 use Rattle.pmg_lane.specs.Entries.{late_cmp}
 use Rattle.pmg_lane.proofs.Settling.{exact_late}
 use Rattle.pmg_lane.proofs.Listing.{rows_above, rows_sorted}

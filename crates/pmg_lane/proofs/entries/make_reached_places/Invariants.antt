@@ -4,7 +4,7 @@ use Rattle.std.specs.List.Sorted.{IsStrictlySortedBy}
 use Rattle.std.specs.Ordering.{nat_cmp}
 use Rattle.std.specs.Cmp.Lexicographic.{slice_cmp}
 use Rattle.pmg_value.specs.Lists.{In}
-use Rattle.pmg_lane.specs.Places.{there_at, HasPlace}
+use Rattle.pmg_join.specs.Places.{there_at, HasPlace}
 use Rattle.pmg_lane.specs.Entries.{late_cmp}
 use Rattle.pmg_lane.proofs.entries.make_reached_places.Given as goal
 

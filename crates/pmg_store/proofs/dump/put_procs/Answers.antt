@@ -22,17 +22,17 @@ loop-proc-init g c =
 pub loop-proc-preserved-in-Continue-1 : goal.loop-proc-preserved-in-Continue-1
 loop-proc-preserved-in-Continue-1 g c =
     let next = c.next.new.self in
-    let here : c.loop-proc.proc-iterator ≡ (c.in-Some.proc.now, Some c.in-Some-place.track) ∷ next = c.in-Some.ensures.steps ∙ ap (λ place. (c.in-Some.proc.now, place) ∷ next) c.in-Some-place.is in
+    let here : c.loop-proc.proc-iterator ≡ (c.in-Some.proc.now, Some c.in-Some-place.lane) ∷ next = c.in-Some.ensures.steps ∙ ap (λ place. (c.in-Some.proc.now, place) ∷ next) c.in-Some-place.is in
     record {
-      lines = more_written _ _ _ (place_text (c.in-Some.proc.now, Some c.in-Some-place.track)) _ _ _ (ap (λ es. flat_map place_text es) here) c.loop-proc.invariant.lines c.in_ok-put_proc.ensures.text.1;
+      lines = more_written _ _ _ (place_text (c.in-Some.proc.now, Some c.in-Some-place.lane)) _ _ _ (ap (λ es. flat_map place_text es) here) c.loop-proc.invariant.lines c.in_ok-put_proc.ensures.text.1;
       found = (subst (AllByRecursion (λ e. get proc_cmp c.args.places.now e.0 ≡ Some e.1)) here c.loop-proc.invariant.found).1;
     }
 
 pub returns-in_err-put_proc-clause-lines : goal.returns-in_err-put_proc-clause-lines
 returns-in_err-put_proc-clause-lines g c =
     let next = c.next.new.self in
-    let here : c.loop-proc.proc-iterator ≡ (c.in-Some.proc.now, Some c.in-Some-place.track) ∷ next = c.in-Some.ensures.steps ∙ ap (λ place. (c.in-Some.proc.now, place) ∷ next) c.in-Some-place.is in
-    let lines = place_text (c.in-Some.proc.now, Some c.in-Some-place.track) in
+    let here : c.loop-proc.proc-iterator ≡ (c.in-Some.proc.now, Some c.in-Some-place.lane) ∷ next = c.in-Some.ensures.steps ∙ ap (λ place. (c.in-Some.proc.now, place) ∷ next) c.in-Some-place.is in
+    let lines = place_text (c.in-Some.proc.now, Some c.in-Some-place.lane) in
     (front_written _ _ _ lines _ _ _ (ap (λ es. flat_map place_text es) here) c.loop-proc.invariant.lines c.in_err-put_proc.ensures.text.0, search rules)
 
 pub returns-clause-lines : goal.returns-clause-lines

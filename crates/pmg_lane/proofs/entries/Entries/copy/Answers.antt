@@ -1,5 +1,5 @@
 use Rattle.std.proofs.Common.{ap}
-use Rattle.pmg_lane.specs.Places.{placed}
+use Rattle.pmg_join.specs.Places.{placed}
 use Rattle.std.specs.Option.{option_map}
 use Rattle.pmg_lane.specs.Entries.{entry_under, late_entry}
 use Rattle.pmg_lane.proofs.entries.Entries.copy.Goals as goal

@@ -1,7 +1,7 @@
 use Rattle.std.proofs.Common.{arith, subst}
 use Rattle.std.specs.BTreeMap.{is_at}
 use Rattle.std.proofs.lemmas.Bool.{false≢true}
-use Rattle.pmg_lane.specs.Places.{HasPlace}
+use Rattle.pmg_join.specs.Places.{HasPlace}
 use Rattle.pmg_lane.specs.Entries.{late_cmp}
 use Rattle.pmg_lane.proofs.Promoting.{number_first, no_places}
 use Rattle.pmg_lane.proofs.entries.Entries.pop_reached.Goals as goal

@@ -1,7 +1,7 @@
 use Rattle.std.proofs.Common.{sym, subst, ◌∙◌}
 use Rattle.std.specs.Ordering.{nat_cmp}
 use Rattle.std.specs.Cmp.Lexicographic.{slice_cmp}
-use Rattle.pmg_lane.specs.Places.{HasPlace}
+use Rattle.pmg_join.specs.Places.{HasPlace}
 use Rattle.pmg_lane.specs.Entries.{late_cmp}
 use Rattle.pmg_lane.proofs.Settling.{roomy_reads}
 use Rattle.pmg_lane.proofs.Moving.{has_stays}

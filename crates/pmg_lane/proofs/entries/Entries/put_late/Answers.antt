@@ -2,7 +2,7 @@ use Rattle.std.proofs.Common.{ℕ, List, ◌≡◌, refl, sym, ap, ◌∙◌, ru
 use Rattle.std.specs.Prelude.{Some}
 use Rattle.std.specs.Option.{is_some, option_map}
 use Rattle.pmg_value.specs.Spelling.{spelling}
-use Rattle.pmg_lane.specs.Places.{placed}
+use Rattle.pmg_join.specs.Places.{placed}
 use Rattle.pmg_lane.specs.Entries.{late_entry, exceeds}
 use Rattle.pmg_lane.specs.declared.entries.Entries.{Entries}
 use Rattle.pmg_lane.proofs.Settling.{exact_late, late_settles, late_from, late_kept, alike_late, settles_alike, late_alike, filled_at, left_at, filled_stay}

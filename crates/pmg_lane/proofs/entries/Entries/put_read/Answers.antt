@@ -2,7 +2,7 @@ use Rattle.std.proofs.Common.{◌≡◌, refl, sym, ap, ◌∙◌, rules}
 use Rattle.std.specs.Prelude.{Some}
 use Rattle.std.specs.Option.{is_some, option_map}
 use Rattle.std.proofs.lemmas.Map.Lookups.{exact_bytes}
-use Rattle.pmg_lane.specs.Places.{placed}
+use Rattle.pmg_join.specs.Places.{placed}
 use Rattle.pmg_lane.specs.Entries.{entry_under, beats}
 use Rattle.pmg_lane.specs.declared.entries.Entries.{Entries}
 use Rattle.pmg_lane.specs.declared.entries.Stamp.{Stamp}

@@ -7,7 +7,7 @@ use Rattle.std.specs.BTreeMap.{get}
 use Rattle.std.specs.Map.{keys_of}
 use Rattle.std.proofs.lemmas.List.Elements.{recursion_from_All}
 use Rattle.pmg_commit.specs.Entries.{best_of_two}
-use Rattle.pmg_lane.specs.Places.{placed}
+use Rattle.pmg_join.specs.Places.{placed}
 use Rattle.pmg_lane.specs.Entries.{late_cmp, late_at, late_entry}
 use Rattle.pmg_lane.specs.Readings.{seen_entry}
 use Rattle.pmg_lane.proofs.Listing.{rows_above, rows_sorted}

@@ -1,18 +1,7 @@
-use Rattle.std.proofs.Common.{map, ap, ◌∙◌}
-use Rattle.std.proofs.lemmas.Result.{on_ok_weaker, on_err_weaker}
+use Rattle.std.proofs.Common.{ap, ◌∙◌}
+use Rattle.std.proofs.lemmas.Result.{on_ok_weaker}
 use Rattle.pmg_commit.specs.Data.{absorbed}
-use Rattle.pmg_commit.specs.Pieces.{entry_of}
-use Rattle.pmg_lane.proofs.LaneCores.{told_is}
-use Rattle.pmg_store.proofs.TrackData.{same_data, taken_data}
 use Rattle.pmg_store.proofs.store.Store.absorb.Goals as goal
 
 pub returns-clause-ok : goal.returns-clause-ok
-returns-clause-ok c =
-    let piece = c.args.piece.now in
-    let told = told_is piece _ _ _ c.from.ensures.value c.to.ensures.value (ap (map entry_of) c.in_ok-entries.ensures ∙ c.entries.ensures) in
-    on_ok_weaker c.absorb.result
-    (λ taken. taken_data c.self.inside.tracks.places c.absorb.new.self.places piece _ _ c.proc.ensures.value told taken ∙ ap (λ d. absorbed d piece) c.self.view_is)
-    c.absorb.ensures.taken
-
-pub returns-clause-err : goal.returns-clause-err
-returns-clause-err c = on_err_weaker c.absorb.result (λ same. same_data c.self.inside.tracks.places c.absorb.new.self.places same ∙ c.self.view_is) c.absorb.ensures.same
+returns-clause-ok c = on_ok_weaker c.take.result (λ taken. taken ∙ ap (absorbed c.args.self.now) c.in_ok-copy.ensures) c.take.ensures.ok

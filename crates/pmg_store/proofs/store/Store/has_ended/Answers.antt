@@ -2,7 +2,7 @@ use Rattle.std.proofs.Common.{ap, ◌∙◌}
 use Rattle.std.specs.Prelude.{is_some}
 use Rattle.pmg_value.specs.Spelling.{spelling}
 use Rattle.pmg_commit.specs.Data.{read_at}
-use Rattle.pmg_store.proofs.TrackData.{is_read_alike}
+use Rattle.pmg_store.proofs.LaneData.{is_read_alike}
 use Rattle.pmg_store.proofs.store.Store.has_ended.Goals as goal
 
 pub returns : goal.returns
