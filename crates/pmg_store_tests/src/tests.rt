@@ -4,6 +4,7 @@ mod frames;
 mod lanes;
 mod making;
 mod plain;
+mod sets;
 mod spelled;
 mod stores;
 mod streams;
