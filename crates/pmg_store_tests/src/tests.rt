@@ -1,5 +1,6 @@
 //! The tests, and what they share.
 mod asked_again;
+mod copies;
 mod frames;
 mod lanes;
 mod making;
