@@ -22,9 +22,7 @@ use crate::happening::happen_in;
 use pmg_frame::Frame;
 use pmg_history::{Appender, History};
 use pmg_jobinfo::Registry;
-use pmg_journal::{
-    AnswerCopies, Event, Evidence, Journal, Record, Step, copy_of_act, has_event_by,
-};
+use pmg_journal::{AnswerCopies, Event, Evidence, Journal, Record, Step, has_event_by};
 use pmg_node::{Act, Node, Reply, Status};
 use pmg_node_model::Sent;
 use pmg_publish::{MAX_VIEWERS, Publisher, Told, Viewer, publisher};
@@ -258,7 +256,7 @@ impl State {
         if self.is_closed() {
             return Err(Refusal::Closed);
         }
-        let copy = copy_of_act(act)?;
+        let copy = act.copy()?;
         self.perform(rt, copy)
     }
 
