@@ -203,7 +203,7 @@ fn audit_among(
 /// transcripts are of one process, a process that made an event has none, one differs from its process's events in its home's journal,
 /// or a put is said to be done that its client's cache refuses, or by a process that was in a call or had ended; as Stale where the
 /// reply of an event is another on replay; as Unordered where no order delivers each frame after it was sent; each only where none of
-/// those before it is there.
+/// those before it is there; and as NoMemory.
 pub fn audit(
     alloc: Global,
     mut journals: Vec<Record>,

@@ -155,7 +155,8 @@ impl Sealer {
         self.far.rollback(before.far);
     }
 
-    /// Makes the next commit, and gives its number. Refused as `commit` is; a refused commit changes nothing.
+    /// Makes the next commit, and gives its number. A refused commit changes nothing. Errors: `TooMany` past 4,294,967,294 commits or
+    /// the limits of what is sealed for a reach; `NoMemory`.
     pub fn seal(&mut self, batch: &Batch) -> Result<u64, Refusal>
         ensures answer { Gives (λ n. n) result (seal_answer self.old batch.now) }
         ensures ok { OnOk result (self.new ≡ sealed_with self.old batch.now) }

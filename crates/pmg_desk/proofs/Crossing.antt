@@ -34,7 +34,7 @@ use Rattle.pmg_node.specs.contracts.act.Request as Request
 use Rattle.pmg_node.specs.contracts.act.Reply as Reply
 use Rattle.pmg_scope.specs.contracts.batch.Batch as Batch
 use Rattle.pmg_scope.specs.contracts.cache.Cache as Cache
-use Rattle.pmg_publish.specs.contracts.viewer.Version as Version
+use Rattle.pmg_publish.specs.contracts.viewer.Told as Told
 use Rattle.pmg_desk.proofs.exclusive.Exclusive.TheSendSync as Lonely
 use Rattle.counted_slot.proofs.Counted.TheSendSync as Counted
 use Rattle.logbook.proofs.tokens.Seen.TheSendSync as Seen
@@ -177,7 +177,7 @@ list_part = search (known_part, Word.the_send, sendable) depth 40
 state_send : IsSend State.the_row
 state_send = search (node_send, journal_part, list_part, step_send, sent_send, publisher_send, viewer_send, owners, sendable) depth 60 fits 40000
 
-told_sync : IsSync Version.the_row
+told_sync : IsSync Told.the_row
 told_sync = search (history_sync, sendable) depth 40
 
 gate_send : IsSend LockState.the_row

@@ -1,27 +1,30 @@
 -- What a client is told of the journal by an act.
 use Rattle.std.specs.Prelude.{IfErr, IfOk, IfSome, IsSome, OnErr, OnOk}
-use Rattle.std.proofs.Common.{◌≡◌, ◌⊎◌, inl, inr, List, [], ◌∷◌, ◌++◌, length, drop, map, Option, Some, None, Result, Ok, Err, refl, sym, ap, subst, ◌∙◌, append_assoc}
-use Rattle.std.proofs.lemmas.List.{append-nil, map-append}
+use Rattle.std.proofs.Common.{◌≡◌, ◌⊎◌, ◌+◌, inl, inr, arith, List, [], ◌∷◌, ◌++◌, length, drop, map, Option, Some, None, Result, Ok, Err, refl, sym, ap, subst, ◌∙◌, append_assoc}
+use Rattle.std.proofs.lemmas.List.{append-nil, length-append, map-append}
 use Rattle.std.proofs.Math.Seq.{drop-append_seam}
 use mathlib.Core.List.{IsPrefix}
 use Rattle.pmg_value.specs.declared.process.Proc.{Proc}
 use Rattle.pmg_value.specs.declared.refusal.Refusal.{Refusal}
 use Rattle.pmg_value.specs.declared.refusal.Refusal.TheVariants as refusals
+use Rattle.pmg_node_model.specs.declared.sent.Sent.{Sent}
 use Rattle.pmg_node.specs.Acting.{act_of, reply_as}
 use Rattle.pmg_node.specs.Opening.{new_server}
 use Rattle.pmg_node.specs.Servers.{Server, reply_in}
 use Rattle.pmg_node.specs.declared.act.Act.{Act}
 use Rattle.pmg_node.specs.declared.act.Reply.{Reply}
 use Rattle.pmg_history.specs.Entries.{Entries}
+use Rattle.pmg_publish.specs.Publications.{Publications}
 use Rattle.pmg_publish.specs.declared.counting.Publication.{Publication}
+use Rattle.pmg_publish.proofs.Prefixes.{prefix_whole}
 use Rattle.pmg_journal.specs.Journals.{IsJournal, happened, happened_in, happening_of, start_of}
 use Rattle.pmg_journal.specs.Knowing.{AreOfOthers, GoesOnBy, happened_by}
 use Rattle.pmg_journal.specs.Replays.{Happening, IsReplay}
 use Rattle.pmg_journal.specs.declared.journal.Event.{Event}
 use Rattle.pmg_journal.specs.declared.journal.Journal.{Journal}
 use Rattle.pmg_journal.specs.declared.notes.AnswerCopies.{AnswerCopies}
-use Rattle.pmg_desk.specs.Publishing.{published_over}
-use Rattle.pmg_desk.specs.States.{IsStateKept, Steps}
+use Rattle.pmg_desk.specs.Publishing.{published_by, published_over}
+use Rattle.pmg_desk.specs.States.{IsStateKept, StateGoesOn, Steps}
 use Rattle.pmg_desk.specs.Telling.{IsKnown, WasReplied}
 use Rattle.pmg_desk.specs.declared.state.Parts.{Parts}
 
@@ -78,6 +81,25 @@ knows_on (Ok x) new list j k log known registry node replay shown pre same is =
       replay = subst (λ (xs : List Happening). IsReplay (new_server j.registry j.node) xs) es (subst (λ (s : Server). IsReplay s (happened_in k)) start replay);
       is_known = subst (λ (ps : List Publication). IsPrefix ps known) (shown ∙ (λ i. published_over (start i) (es i))) pre;
     }
+
+-- what was published before the act is published after it
+pub published_still : (s left : Option Server) (a : Act) (r : Result AnswerCopies Refusal) (es es' : List Happening) (out out' : List Sent) (log log' : List Publication)
+    → IfOk r (λ t. StateGoesOn s a t.told es out log left es' out' log') → OnOk r (IsPrefix log log')
+published_still s left a (Err e) es es' out out' log log' goes = tt
+published_still None left a (Ok t) es es' out out' log log' goes = absurd goes
+published_still (Some s) left a (Ok t) es es' out out' log log' goes = (published_by s (act_of a), sym goes.published)
+
+-- two lists that begin each other are one
+prefix_both : (xs ys : List Publication) → IsPrefix xs ys → IsPrefix ys xs → xs ≡ ys
+prefix_both xs ys p q =
+    let longer : length xs ≡ length ys + length q.0 = ap length (sym q.1) ∙ length-append ys q.0 in
+    prefix_whole xs ys p (omega (arith, longer))
+
+-- a viewer that saw no more than it is told knows all that, and no more
+pub knows_all : (old new told : Publications) → IsPrefix old.log told.log → IsPrefix told.log new.log → (new ≡ old) ⊎ (new ≡ told) → new.log ≡ told.log
+knows_all old new told less more (inl same) =
+    prefix_both new.log told.log (subst (λ (v : Publications). IsPrefix v.log told.log) (sym same) less) more
+knows_all old new told less more (inr same) = ap (λ (v : Publications). v.log) same
 
 -- what is answered was replied at the end of a replay
 pub replied_on : (j k : Journal) (a : Act) (r : Result Reply Refusal) → k.registry ≡ j.registry → k.node ≡ j.node → IsJournal k → happened_in k ≡ happened_in j ++ happened a r ∷ []

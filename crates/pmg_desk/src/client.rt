@@ -194,7 +194,7 @@ impl<'d> Client<'d> {
     }
 
     /// It commits what it put (PMIx Standard 5.0, PMIx_Commit): the commit's number, from 1. Refused as Terminated, as Busy where a
-    /// call of it waits, as TooMany past 2^32 - 1 commits, as Closed, and as NoMemory.
+    /// call of it waits, as TooMany past 4,294,967,294 commits or the limits of what is sealed, as Closed, and as NoMemory.
     pub fn commit<R: Wait>(&mut self, rt: &R) -> Result<u64, Refusal>
         ensures told { IsEvent result → Tells self.old self.new (ModelAct.commit (proc_of self.old) (batch_of self.old)) (reply_in ModelReply.committed result) }
         ensures seen { IfOk result (λ n. n ≤ level_at (far_of self.new.viewer.log) (proc_of self.old)) }
@@ -206,7 +206,8 @@ impl<'d> Client<'d> {
     }
 
     /// It enters its next fence of these participants, of which it is one; an empty list stands for its namespace (PMIx Standard
-    /// 5.0, PMIx_Fence): the instance of the fence, from 1. A collecting fence shows each participant's commits.
+    /// 5.0, PMIx_Fence): the instance of the fence, from 1. A collecting fence shows each participant's commits. Errors: `BadParam`,
+    /// `UnknownNamespace`, `Terminated`, `Busy`, `NotAParticipant`, `TooMany`, `Closed`, `NoMemory`.
     pub fn enter<R: Wait>(&mut self, rt: &R, list: &[Proc], collect: bool) -> Result<u64, Refusal>
         ensures told { IsEvent result → Tells self.old self.new (ModelAct.request (ModelRequest.enter (proc_of self.old) list.now collect))
             (reply_in ModelReply.entered result) }
@@ -220,7 +221,7 @@ impl<'d> Client<'d> {
     }
 
     /// It waits until it is released from the fence that it entered, and leaves it: the instance, and the participants that were
-    /// gone.
+    /// gone. Errors: `Terminated`, `Closed`, `NoMemory`.
     pub fn leave<R: Wait>(&mut self, rt: &R) -> Result<Release, Refusal>
         ensures told { IsEvent result → Tells self.old self.new (ModelAct.request (ModelRequest.leave (proc_of self.old))) (reply_in release_reply result) }
         ensures waited { IfOk result (λ r. r ≢ Release.Waiting) }
@@ -232,7 +233,9 @@ impl<'d> Client<'d> {
         release_by(self.request(rt, Some(Status::InFence), request))
     }
 
-    /// It enters its next fence of these participants, waits until it is released, and leaves it.
+    /// It enters its next fence of these participants, waits until it is released, and leaves it. Errors: `BadParam`,
+    /// `UnknownNamespace`, `Terminated`, `Busy`, `NotAParticipant`, `TooMany`; `Closed` and `NoMemory`, where `in_call` says whether
+    /// it entered.
     pub fn fence<R: Wait>(
         &mut self,
         rt: &R,
@@ -266,7 +269,8 @@ impl<'d> Client<'d> {
         asked_by(self.request(rt, None, request))
     }
 
-    /// It waits until its get is answered, and takes the answer.
+    /// It waits until its get is answered, and takes the answer. Errors: `NotFound`, `OutsideScope`, `Terminated`, `Closed`,
+    /// `NoMemory`.
     pub fn take<R: Wait>(&mut self, rt: &R) -> Result<Taking, Refusal>
         ensures told { IsEvent result → Tells self.old self.new (ModelAct.request (ModelRequest.take (proc_of self.old))) (reply_in taking_reply result) }
         ensures waited { IfOk result (λ r. r ≢ Taking.Waiting) }
@@ -290,7 +294,7 @@ impl<'d> Client<'d> {
         notes.into_transcript()
     }
 
-    /// It ends (PMIx Standard 5.0, PMIx_Finalize): its transcript.
+    /// It ends (PMIx Standard 5.0, PMIx_Finalize): its transcript. Errors: `Terminated`, `Closed`, `NoMemory`, with the client.
     pub fn terminate<R: Wait>(mut self, rt: &R) -> Result<Transcript, Unended<'d>>
         ensures proc { IfOk result (λ t. t.proc ≡ proc_of self.entry) }
         ensures noted { IfOk result (λ t. (n : ℕ)

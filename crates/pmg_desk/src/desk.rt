@@ -98,7 +98,7 @@ impl Desk {
         held.end_with(rt, answer)
     }
 
-    /// A frame of another node arrives.
+    /// Delivers a frame of another node. Errors: `Closed`, `NoMemory`.
     pub fn deliver<R: Wait>(&self, rt: &R, frame: Frame) -> Result<Delivery, Refusal>
         ensures { IsEvent result → WasReplied self.now.place.registry self.now.place.node (ModelAct.deliver frame) (reply_in delivery_reply result) }
     {
@@ -117,7 +117,7 @@ impl Desk {
         held.end_with(rt, delivered)
     }
 
-    /// Other nodes are asked again for what is missing.
+    /// Asks other nodes again for what is missing. Errors: `Closed`, `NoMemory`.
     pub fn nudge<R: Wait>(&self, rt: &R) -> Result<(), Refusal>
         ensures { IsEvent result → WasReplied self.now.place.registry self.now.place.node (ModelAct.request ModelRequest.nudge) (reply_in (λ _. ModelReply.done) result) }
     {
@@ -132,8 +132,8 @@ impl Desk {
         defined_by(self.act(rt, Act::Request(request)))
     }
 
-    /// A process set of that name and of these members is defined; it is done at node 0 (PMIx Standard 5.0, process sets). The
-    /// number of the change, from 1.
+    /// Defines a process set of that name and of these members, at node 0, and returns the number of the change, from 1 (PMIx
+    /// Standard 5.0, process sets). Errors: `BadParam`, `UnknownNamespace`, `NotMine`, `Exists`, `TooMany`, `Closed`, `NoMemory`.
     pub fn define_set<R: Wait>(&self, rt: &R, name: &Key, list: &[Proc]) -> Result<u64, Refusal>
         ensures { IsEvent result → WasReplied self.now.place.registry self.now.place.node (ModelAct.request (ModelRequest.define name.now list.now)) (reply_in ModelReply.defined result) }
     {
@@ -141,7 +141,8 @@ impl Desk {
         self.change_sets(rt, Request::Define(name.copy()?, copies_of(alloc, list)?))
     }
 
-    /// The process set of that name is deleted; it is done at node 0. The number of the change, from 1.
+    /// Deletes the process set of that name, at node 0, and returns the number of the change, from 1. Errors: `BadParam`, `NotMine`,
+    /// `NotFound`, `TooMany`, `Closed`, `NoMemory`.
     pub fn delete_set<R: Wait>(&self, rt: &R, name: &Key) -> Result<u64, Refusal>
         ensures { IsEvent result → WasReplied self.now.place.registry self.now.place.node (ModelAct.request (ModelRequest.delete name.now)) (reply_in ModelReply.defined result) }
     {

@@ -13,3 +13,4 @@ mod state;
 
 pub use client::{Client, Unended};
 pub use lock::Desk;
+pub use pmg_journal::{Journal, Transcript};

@@ -1,5 +1,5 @@
 //! The lock of a desk, and what waits for it.
-ghost use Rattle.std.specs.Prelude.{◌≡◌, Err, IfSome, IfOk, IsSome, is_some, true};
+ghost use Rattle.std.specs.Prelude.{◌≡◌, Err, IfSome, IfOk, IsOkUnless, IsSome, is_some, true};
 ghost use Rattle.pmg_value.specs.declared.refusal.Refusal.TheVariants as refusals;
 ghost use Rattle.pmg_desk.specs.Awaiting.{IsThere};
 ghost use Rattle.pmg_desk.specs.Places.{LiesAt};
@@ -13,7 +13,7 @@ use pmg_history::History;
 use pmg_jobinfo::Registry;
 use pmg_journal::Event;
 use pmg_node::Status;
-use pmg_publish::{Version, Viewer};
+use pmg_publish::{Told, Viewer};
 use pmg_value::{NodeId, Proc, Refusal};
 use std::collections::BTreeMap;
 use std::sync::{Condvar, Mutex, MutexGuard, Wait};
@@ -25,7 +25,7 @@ pub struct Place {
     pub(crate) node: NodeId,
     pub(crate) registry: Registry,
     pub(crate) list: History<Event>,
-    pub(crate) told: Version,
+    pub(crate) told: Told,
 }
 
 /// A state lies at the place of its desk, whatever happens.
@@ -115,12 +115,12 @@ pub(crate) struct DeskGuard<'d> {
 }
 
 impl Desk {
-    /// A new server of the node of that index in the group. Refused as TooMany where more than 65,536 processes are at home
-    /// there, and as NoMemory.
+    /// Opens a new server of the node of that index in the group. Errors: `NoMemory` alone.
     pub fn new<R: Wait>(rt: &R, id: NodeId, registry: Registry) -> Result<Desk, Refusal>
         requires { is_node registry id ≡ true }
         ensures node { IfOk result (λ d. d.place.node ≡ id) }
         ensures registry { IfOk result (λ d. d.place.registry ≡ registry) }
+        ensures memory { IsOkUnless result refusals.NoMemory }
     {
         let alloc = registry.allocator();
         let copy = registry.copy()?;

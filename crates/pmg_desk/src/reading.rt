@@ -179,7 +179,9 @@ impl Client<'_> {
         }
     }
 
-    /// It gets the target's key (PMIx Standard 5.0, PMIx_Get), and waits until there is something to answer.
+    /// It gets the target's key (PMIx Standard 5.0, PMIx_Get), and waits until there is something to answer. Errors: `BadParam`,
+    /// `UnknownNamespace`, `Terminated`, `Busy`, `NotFound`, `OutsideScope`; `Closed` and `NoMemory`, where `in_call` says whether the
+    /// get waits.
     pub fn get<R: Wait>(&mut self, rt: &R, target: &Proc, key: &Key) -> Result<Value, Refusal>
         ensures later { IsLater self.old self.new }
         ensures own { is_own_key (proc_of self.old) (get_of target.now key.now) ≡ true → IsOwnGet self.old self.new (get_of target.now key.now) modes.Wait result }
@@ -190,9 +192,9 @@ impl Client<'_> {
     }
 
     /// It gets the target's key anew (PMIx Standard 5.0, PMIX_GET_REFRESH_CACHE). Where the target is at home at another node, that
-    /// node is asked what it has, and the get waits for the reply; any other key is told as it is there now. TooMany where no number
-    /// is left for the request. Where it is refused as NoMemory or Closed, `in_call` says whether the get waits, and `take` takes the
-    /// answer.
+    /// node is asked what it has, and the get waits for the reply; any other key is told as it is there now. Errors: `BadParam`,
+    /// `UnknownNamespace`, `Terminated`, `Busy`, `NotFound`, `OutsideScope`; `TooMany` where no number is left for the request; `Closed`
+    /// and `NoMemory`, where `in_call` says whether the get waits, and `take` takes the answer.
     pub fn get_refresh<R: Wait>(
         &mut self,
         rt: &R,

@@ -1,5 +1,5 @@
 //! What lies under the lock of a desk.
-ghost use Rattle.std.specs.Prelude.{◌≡◌, ◌⊎◌, ◌+◌, ◌==◌, ◌∷◌, ◌++◌, [], not, true, false, is_none, length, map, drop, IfOk, IfErr, IfSome, IsSome, OnErr, OnOk, Some, None, Ok, Err};
+ghost use Rattle.std.specs.Prelude.{◌≡◌, ◌⊎◌, ◌+◌, ◌==◌, ◌∷◌, ◌++◌, [], not, true, false, is_none, length, map, drop, IfOk, IfErr, IfSome, IsOkUnless, IsSome, OnErr, OnOk, Some, None, Ok, Err};
 ghost use Rattle.std.specs.Option.{option_map};
 ghost use mathlib.Core.List.{IsPrefix};
 ghost use Rattle.pmg_value.specs.declared.refusal.Refusal.TheVariants as refusals;
@@ -22,12 +22,10 @@ use crate::happening::happen_in;
 use pmg_frame::Frame;
 use pmg_history::{Appender, History};
 use pmg_jobinfo::Registry;
-use pmg_journal::{
-    AnswerCopies, Event, Evidence, Journal, Record, Step, copy_of_act, has_event_by,
-};
+use pmg_journal::{AnswerCopies, Event, Evidence, Journal, Record, Step, has_event_by};
 use pmg_node::{Act, Node, Reply, Status};
 use pmg_node_model::Sent;
-use pmg_publish::{MAX_VIEWERS, Publisher, Version, Viewer, publisher};
+use pmg_publish::{MAX_VIEWERS, Publisher, Told, Viewer, publisher};
 use pmg_store::Store;
 use pmg_value::{NodeId, Proc, Refusal, WatchedWriter};
 use std::alloc::{AllocError, Global};
@@ -121,20 +119,21 @@ fn record_of<R: Wait>(parts: Parts, rt: &R) -> Record
 }
 
 impl State {
-    /// A new node of the group, of that index, of which nothing is told yet. Refused as TooMany where more than 65,536
-    /// processes are at home at the node; and as NoMemory.
+    /// Opens a new node of the group, of that index, of which nothing is told yet. Errors: `NoMemory` alone. A group has at most
+    /// 65,536 processes, as many as a publisher may have viewers.
     pub fn new<R: Wait>(rt: &R, id: NodeId, registry: Registry) -> Result<State, Refusal>
         requires { is_node registry id ≡ true }
         ensures node { IfOk result (λ s. s.node ≡ Some (new_server registry id)) }
         ensures events { IfOk result (λ s. s.journal.events.items ≡ []) }
         ensures index { IfOk result (λ s. s.journal.node ≡ id) }
         ensures registry { IfOk result (λ s. s.journal.registry ≡ registry) }
+        ensures memory { IsOkUnless result refusals.NoMemory }
     {
         let alloc = registry.allocator();
         let node = Node::new(id, registry.copy()?)?;
         let count = registry.procs_at(id)?.len();
         if count > MAX_VIEWERS {
-            return Err(Refusal::TooMany);
+            return Err(Refusal::NoMemory);
         }
         let (publisher, viewers) = publisher(rt, alloc, count)?;
         let journal = Journal {
@@ -174,6 +173,7 @@ impl State {
         requires { known.now.book ≡ self.old.list.book }
         ensures known { OnOk result (IsPrefix known.now.log self.old.journal.events.items) }
         ensures list { OnOk result (self.new.list.log ≡ self.new.journal.events.items) }
+        ensures published { OnOk result (IsPrefix self.old.publisher.log self.new.publisher.log) }
         ensures replay { IsJournal self.new.journal }
         ensures event { IfOk result (λ t. happened_in self.new.journal ≡ happened_in self.old.journal ++ happened act t.told ∷ []) }
         ensures step { IfOk result (λ t. IfSome self.old.node (λ s. Steps s act t.told self.new.node)) }
@@ -239,8 +239,10 @@ impl State {
         Ok(())
     }
 
-    /// Does the act, writes a copy of it into the journal with its answer, and publishes what it joined. Closed where the node was
-    /// given up. NoMemory before the act changes nothing; after it the node is given up, and journal and published store stand.
+    /// Does the act, writes a copy of it into the journal with its answer, and publishes what it joined. Errors: those of the node's
+    /// call (`BadParam`, `NotFound`, `OutsideScope`, `UnknownNamespace`, `NotMine`, `Busy`, `Terminated`, `NotAParticipant`, `TooMany`,
+    /// `Exists`); `Closed` where the node was given up; `NoMemory`, which before the act changes nothing. After the act the node is
+    /// given up then, and journal and published store stand.
     pub fn act<R: Wait>(&mut self, rt: &R, act: &Act) -> Result<Reply, Refusal>
         ensures event { IsEvent result → happened_in self.new.journal ≡ happened_in self.old.journal ++ happened act.now result ∷ [] }
         ensures step { IsEvent result → IfSome self.old.node (λ s. Steps s act.now result self.new.node) }
@@ -254,7 +256,7 @@ impl State {
         if self.is_closed() {
             return Err(Refusal::Closed);
         }
-        let copy = copy_of_act(act)?;
+        let copy = act.copy()?;
         self.perform(rt, copy)
     }
 
@@ -268,9 +270,23 @@ impl State {
         }
     }
 
+    /// Returns whether the process did something that its client does not know, or the client's viewer saw something that is not
+    /// published here. Neither is so in any run: a process has one client, and the publisher shows nothing else.
+    fn is_apart(&self, proc: &Proc, viewer: &Viewer, known: &History<Event>) -> bool
+        requires { viewer.now.book ≡ self.now.publisher.book }
+        ensures others { result ≡ false → AreOfOthers proc.now (map happening_of (drop (length known.now.log) self.now.journal.events.items)) }
+        ensures published { result ≡ false → IsPrefix viewer.now.log self.now.publisher.log }
+    {
+        if self.parts.publisher.has_published(viewer) {
+            return self.made_more(proc, known);
+        }
+        true
+    }
+
     /// Does the act for the client of the process, as `act`, and tells it what was published and all of the journal: that begins
-    /// with what the client knew, goes on with what others did, and ends with this act. Closed where the process did more than the
-    /// client knows.
+    /// with what the client knew, goes on with what others did, and ends with this act. What the viewer saw before was published
+    /// before, and then it is told of all that is published. Closed where the process did more than the client knows, or the viewer
+    /// saw more than was published.
     pub fn act_for<R: Wait>(
         &mut self,
         rt: &R,
@@ -283,6 +299,8 @@ impl State {
         requires known { known.old.book ≡ self.old.list.book }
         ensures told { IfOk result (λ t. GoesOnBy proc.now (happened_by known.old) (happened_by known.new) (happened act t.told)) }
         ensures knows { OnOk result (IsKnown self.old.journal.registry self.old.journal.node (happened_by known.new) viewer.new.log) }
+        ensures published { OnOk result (IsPrefix viewer.old.log self.old.publisher.log) }
+        ensures all_published { OnOk result (viewer.new.log ≡ self.new.publisher.log) }
         ensures step { IfOk result (λ t. IfSome self.old.node (λ s. reply_to s (act_of act) ≡ reply_in reply_as t.told)) }
         ensures open { IsSome self.old.node → (result ≡ Err refusals.NoMemory → ⊥) → IsSome self.new.node }
         ensures shut { self.old.node ≡ None → result ≡ Err refusals.Closed }
@@ -296,7 +314,7 @@ impl State {
         ensures list { known.new.book ≡ known.old.book }
         ensures place { IsAt self.old self.new }
     {
-        if self.made_more(proc, known) {
+        if self.is_apart(proc, viewer, known) {
             return Err(Refusal::Closed);
         }
         let twice = self.happen(rt, act, known)?;
@@ -306,7 +324,7 @@ impl State {
     }
 
     /// What was published so far.
-    pub fn tell(&self) -> Version
+    pub fn tell(&self) -> Told
         ensures told { result ≡ record { book = self.now.publisher.book; log = self.now.publisher.log } }
         ensures journal { IsJournal self.now.journal }
         ensures published { result.log ≡ published_over (start_of self.now.journal) (happened_in self.now.journal) }

@@ -1,4 +1,5 @@
 //! The tests, and what they share.
 mod fences;
+mod gets;
 mod making;
 mod requests;

@@ -7,7 +7,7 @@ use crate::reading::get_frame;
 use bytes::BytesMut;
 use pmg_value::{Cause, Fault, Refusal};
 use pmg_wire::Cursor;
-use std::alloc::Global;
+use std::alloc::{AllocError, Global};
 use std::marker::Model;
 
 /// What a stream found in the bytes that it was fed: the frames that are whole now, and the fault that
@@ -109,6 +109,20 @@ impl Stream {
         }
     }
 
+    /// Returns a copy, which goes on by itself.
+    pub fn copy(&self) -> Result<Stream, AllocError>
+        ensures { IfOk result (λ copy. copy ≡ self.now) }
+    {
+        let mut held = BytesMut::new(self.alloc);
+        held.extend_from_slice(self.held.as_slice())?;
+        Ok(Stream {
+            alloc: self.alloc,
+            held,
+            offset: self.offset,
+            is_closed: self.is_closed,
+        })
+    }
+
     /// Whether it is closed, as it is after a fault.
     pub fn is_closed(&self) -> bool
         ensures { result ≡ not (is_some self.now) }
@@ -148,8 +162,8 @@ impl Stream {
         }
     }
 
-    /// The end of the stream: Ok where no part of a frame is left over. Refused as Cut, at the offset of
-    /// the frame of which a part is left, and as Closed on a closed stream.
+    /// The end of the stream: Ok where no part of a frame is left over. Errors: `BadFrame` with cause
+    /// Cut, at the offset of the frame that is cut; `Closed` on a closed stream.
     pub fn finish(&self) -> Result<(), Refusal>
         ensures { result ≡ finished self.now }
     {

@@ -1,16 +1,16 @@
 //! What happened at a node, one event after the other.
 ghost use Rattle.std.specs.Prelude.{◌≡◌, ◌<◌, ◌∷◌, ◌++◌, [], map, IfOk, OnOk, vec_capacity, vec_len};
 ghost use Rattle.std.specs.List.{list_any};
-ghost use Rattle.pmg_node.specs.Acting.{act_of, reply_as};
+ghost use Rattle.pmg_node.specs.Acting.{reply_as};
 ghost use Rattle.pmg_node.specs.Servers.{reply_in};
-ghost use Rattle.pmg_journal.specs.Journals.{happening_of};
+ghost use Rattle.pmg_journal.specs.Journals.{happened_in, happening_of};
 ghost use Rattle.pmg_journal.specs.Calling.{is_by};
 
 use crate::record::caller_of;
 use pmg_jobinfo::Registry;
 use pmg_node::{Act, Reply};
-use pmg_value::{NodeId, Proc, Refusal, copy_all};
-use std::alloc::AllocError;
+use pmg_value::{NodeId, Proc, Refusal};
+use std::alloc::{AllocError, Global};
 
 /// What was asked of a node, and what it answered.
 pub struct Event {
@@ -27,6 +27,15 @@ impl Drop for Event {
 }
 
 impl Event {
+    /// Returns a copy, which tells the same.
+    pub fn copy(&self) -> Result<Event, AllocError>
+        ensures { IfOk result (λ copy. happening_of copy ≡ happening_of self.now) }
+    {
+        let act = self.act.copy()?;
+        let answer = copy_of_answer(&self.answer)?;
+        Ok(Event { act, answer })
+    }
+
     /// The answer.
     pub fn into_answer(self) -> Result<Reply, Refusal>
         ensures { result ≡ self.answer }
@@ -47,43 +56,12 @@ pub struct Journal {
     pub events: Vec<Event>,
 }
 
-/// A copy, the same act.
-pub fn copy_of_act(act: &Act) -> Result<Act, AllocError>
-    ensures { IfOk result (λ copy. act_of copy ≡ act_of act.now) }
-{
-    Ok(match act {
-        Act::Request(request) => Act::Request(request.copy()?),
-        Act::Commit(proc, batch) => Act::Commit(proc.copy()?, batch.copy()?),
-        Act::Deliver(frame) => Act::Deliver(frame.copy()?),
-    })
-}
-
-/// A copy, the same reply.
-fn copy_of_reply(reply: &Reply) -> Result<Reply, AllocError>
-    ensures { IfOk result (λ copy. reply_as copy ≡ reply_as reply.now) }
-{
-    Ok(match reply {
-        Reply::Done => Reply::Done,
-        Reply::Committed(number) => Reply::Committed(*number),
-        Reply::Entered(instance) => Reply::Entered(*instance),
-        Reply::Idle => Reply::Idle,
-        Reply::Waiting => Reply::Waiting,
-        Reply::Released(instance, gone) => Reply::Released(*instance, copy_all(gone)?),
-        Reply::Found(value) => Reply::Found(value.copy()?),
-        Reply::Parked => Reply::Parked,
-        Reply::Taken => Reply::Taken,
-        Reply::Ignored => Reply::Ignored,
-        Reply::Ended(number) => Reply::Ended(*number),
-        Reply::Defined(number) => Reply::Defined(*number),
-    })
-}
-
-/// A copy, the same answer.
+/// Returns a copy, the same answer.
 pub fn copy_of_answer(answer: &Result<Reply, Refusal>) -> Result<Result<Reply, Refusal>, AllocError>
     ensures { IfOk result (λ copy. reply_in reply_as copy ≡ reply_in reply_as answer.now) }
 {
     match answer {
-        Ok(reply) => Ok(Ok(copy_of_reply(reply)?)),
+        Ok(reply) => Ok(Ok(reply.copy()?)),
         Err(refusal) => Ok(Err(*refusal)),
     }
 }
@@ -102,7 +80,33 @@ pub fn has_event_by(events: &[Event], proc: &Proc) -> bool
     false
 }
 
+/// Returns copies of the events, which tell the same.
+fn copies_of(alloc: Global, events: &[Event]) -> Result<Vec<Event>, AllocError>
+    ensures { IfOk result (λ copies. map happening_of copies.items ≡ map happening_of events.now) }
+{
+    let mut copies = Vec::new(alloc);
+    for event in events {
+        copies.push(event.copy()?)?;
+    }
+    Ok(copies)
+}
+
 impl Journal {
+    /// Returns a copy, which tells the same.
+    pub fn copy(&self) -> Result<Journal, AllocError>
+        ensures node { IfOk result (λ copy. copy.node ≡ self.now.node) }
+        ensures registry { IfOk result (λ copy. copy.registry ≡ self.now.registry) }
+        ensures events { IfOk result (λ copy. happened_in copy ≡ happened_in self.now) }
+    {
+        let registry = self.registry.copy()?;
+        let events = copies_of(registry.allocator(), &self.events)?;
+        Ok(Journal {
+            node: self.node,
+            registry,
+            events,
+        })
+    }
+
     /// Makes a place for one event more.
     pub fn reserve(&mut self) -> Result<(), AllocError>
         ensures place { OnOk result (vec_len self.new.events < vec_capacity self.new.events) }

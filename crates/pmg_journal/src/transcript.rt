@@ -1,9 +1,12 @@
 //! What a client called, one call after the other.
-ghost use Rattle.std.specs.Prelude.{◌≡◌};
+ghost use Rattle.std.specs.Prelude.{◌≡◌, IfOk, map};
+ghost use Rattle.pmg_journal.specs.Transcripts.{calling_of, noted_in, noted_of};
 
+use crate::journal::copy_of_answer;
 use pmg_node::{Reply, Request};
 use pmg_scope::Scope;
 use pmg_value::{Key, Proc, Refusal, Value};
+use std::alloc::{AllocError, Global};
 
 /// What a client called.
 pub enum Call {
@@ -25,6 +28,19 @@ impl Drop for Call {
     }
 }
 
+impl Call {
+    /// Returns a copy, the same call.
+    pub fn copy(&self) -> Result<Call, AllocError>
+        ensures { IfOk result (λ copy. calling_of copy ≡ calling_of self.now) }
+    {
+        Ok(match self {
+            Call::Put(scope, key, value) => Call::Put(*scope, key.copy()?, value.copy()?),
+            Call::Commit => Call::Commit,
+            Call::Request(request) => Call::Request(request.copy()?),
+        })
+    }
+}
+
 /// A call with its answer.
 pub struct Called {
     /// What was called.
@@ -39,6 +55,17 @@ impl Drop for Called {
     }
 }
 
+impl Called {
+    /// Returns a copy, which tells the same.
+    pub fn copy(&self) -> Result<Called, AllocError>
+        ensures { IfOk result (λ copy. noted_of copy ≡ noted_of self.now) }
+    {
+        let call = self.call.copy()?;
+        let answer = copy_of_answer(&self.answer)?;
+        Ok(Called { call, answer })
+    }
+}
+
 /// What a client called, from its start on, but for its reads that wait for nobody. A fence stands there as an entry and a leave,
 /// a get as a question and, where that waits, a take. A call that an allocation failed may be missing.
 #[derive(Drop)]
@@ -47,4 +74,27 @@ pub struct Transcript {
     pub proc: Proc,
     /// What it called, in its order.
     pub calls: Vec<Called>,
+}
+
+/// Returns copies of the calls, which tell the same.
+fn copies_of(alloc: Global, calls: &[Called]) -> Result<Vec<Called>, AllocError>
+    ensures { IfOk result (λ copies. map noted_of copies.items ≡ map noted_of calls.now) }
+{
+    let mut copies = Vec::new(alloc);
+    for called in calls {
+        copies.push(called.copy()?)?;
+    }
+    Ok(copies)
+}
+
+impl Transcript {
+    /// Returns a copy, which tells the same.
+    pub fn copy(&self) -> Result<Transcript, AllocError>
+        ensures proc { IfOk result (λ copy. copy.proc ≡ self.now.proc) }
+        ensures calls { IfOk result (λ copy. noted_in copy ≡ noted_in self.now) }
+    {
+        let proc = self.proc.copy()?;
+        let calls = copies_of(*self.calls.allocator(), &self.calls)?;
+        Ok(Transcript { proc, calls })
+    }
 }

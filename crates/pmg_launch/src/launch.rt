@@ -21,7 +21,7 @@ pub struct Outcome {
 }
 
 /// Runs the job, with these programs for its processes, which rise by namespace and rank, over links that lose no frame, repeat none
-/// and hold none back, as `run_linked` does.
+/// and hold none back. Errors: `BadParam`, `Collision`, `Unordered`, `Closed` and `NoMemory`, as `run_linked` has them.
 pub fn run<R: Threads + Wait + Clock + Sync>(
     rt: &R,
     job: Job,
@@ -35,8 +35,9 @@ pub fn run<R: Threads + Wait + Clock + Sync>(
 }
 
 /// Runs the job over such links, with these programs for its processes, as `pmg_threads::run_unaudited` does. Once all clients have
-/// ended, what the desks recorded of the nodes and the transcripts of the clients are audited. Refused as that is, and as
-/// `pmg_audit::audit` refuses.
+/// ended, what the desks recorded of the nodes and the transcripts of the clients are audited. Errors: `BadParam` where there is not
+/// one program for each process; `Closed` where a desk was closed before all clients had ended; `Collision` and `Unordered` where the
+/// audit finds a fault; `NoMemory`.
 pub fn run_linked<R: Threads + Wait + Clock + Sync>(
     rt: &R,
     job: Job,

@@ -4,4 +4,5 @@
 mod launch;
 
 pub use launch::{Outcome, run, run_linked};
+pub use pmg_jobfile::Job;
 pub use pmg_threads::{Exchange, Links, Program, Report};

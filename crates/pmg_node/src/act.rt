@@ -1,6 +1,6 @@
 //! What is asked of a node, and what it replies, as one call takes and gives it.
 ghost use Rattle.std.specs.Prelude.{◌≡◌, IfOk, IfSome, IsNone};
-ghost use Rattle.pmg_node.specs.Acting.{reply_as, request_of};
+ghost use Rattle.pmg_node.specs.Acting.{act_of, reply_as, request_of};
 ghost use Rattle.pmg_node.specs.Kinds.{IsAsked, IsRelease, IsTaking};
 ghost use Rattle.pmg_node.specs.Replies.{asked_reply, release_reply, taking_reply};
 
@@ -93,6 +93,19 @@ impl Drop for Act {
     }
 }
 
+impl Act {
+    /// Returns a copy, the same act.
+    pub fn copy(&self) -> Result<Act, AllocError>
+        ensures { IfOk result (λ copy. act_of copy ≡ act_of self.now) }
+    {
+        Ok(match self {
+            Act::Request(request) => Act::Request(request.copy()?),
+            Act::Commit(proc, batch) => Act::Commit(proc.copy()?, batch.copy()?),
+            Act::Deliver(frame) => Act::Deliver(frame.copy()?),
+        })
+    }
+}
+
 /// What a node replies to an act that it does not refuse.
 pub enum Reply {
     /// It is done.
@@ -141,6 +154,26 @@ impl Drop for Reply {
 }
 
 impl Reply {
+    /// Returns a copy, the same reply.
+    pub fn copy(&self) -> Result<Reply, AllocError>
+        ensures { IfOk result (λ copy. reply_as copy ≡ reply_as self.now) }
+    {
+        Ok(match self {
+            Reply::Done => Reply::Done,
+            Reply::Committed(number) => Reply::Committed(*number),
+            Reply::Entered(instance) => Reply::Entered(*instance),
+            Reply::Idle => Reply::Idle,
+            Reply::Waiting => Reply::Waiting,
+            Reply::Released(instance, gone) => Reply::Released(*instance, copy_all(gone)?),
+            Reply::Found(value) => Reply::Found(value.copy()?),
+            Reply::Parked => Reply::Parked,
+            Reply::Taken => Reply::Taken,
+            Reply::Ignored => Reply::Ignored,
+            Reply::Ended(number) => Reply::Ended(*number),
+            Reply::Defined(number) => Reply::Defined(*number),
+        })
+    }
+
     /// What a process that leaves a fence is told, if it is told that.
     pub fn into_release(self) -> Option<Release>
         ensures some { IfSome result (λ x. release_reply x ≡ reply_as self) }

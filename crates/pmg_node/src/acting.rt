@@ -230,7 +230,8 @@ impl Node {
         }
     }
 
-    /// The process commits the batch (PMIx Standard 5.0, PMIx_Commit): the commit's number. Refused as `commit_joined` is.
+    /// Commits the process's batch, and returns the commit's number (PMIx Standard 5.0, PMIx_Commit). Errors: `BadParam`,
+    /// `UnknownNamespace`, `NotMine`, `Terminated`, `Busy`, `TooMany` and `NoMemory`, as `commit_joined` has them.
     pub fn commit(
         &mut self,
         proc: &Proc,
@@ -297,7 +298,9 @@ impl Node {
         }
     }
 
-    /// Does what is asked, as `act_into` does it, with the reply alone.
+    /// Does what is asked, as `act_into` does it, with the reply alone. Errors: those of the call that makes the act, of `BadParam`,
+    /// `NotFound`, `OutsideScope`, `UnknownNamespace`, `NotMine`, `Busy`, `Terminated`, `NotAParticipant`, `TooMany`, `Exists` and
+    /// `NoMemory`.
     pub fn act(&mut self, act: &Act, out: &mut VecDeque<Sent>) -> Result<Reply, Refusal>
         ensures reply { RepliesAct reply_as result self.old (act_of act.now) }
         ensures done { IsAnswered result → self.new ≡ after self.old (act_of act.now) }

@@ -92,8 +92,9 @@ impl Sets {
         }
     }
 
-    /// Defines the set of these processes, and gives the number of the host's commit that tells of it. Refused as
-    /// `put_set` is; a refused definition changes nothing.
+    /// Defines the set of these processes, and gives the number of the host's commit that tells of it. A refused definition changes
+    /// nothing. Errors: `BadParam` for a name that begins with `pmix`, without members, or for one that no group may register;
+    /// `Exists`; `TooMany` past the limits of members, of a value and of a sealer; `NoMemory`.
     pub fn define(&mut self, name: Key, members: Vec<Proc>) -> Result<u64, Refusal>
         ensures answer { Gives (λ n. n) result (first_of (define_cause self.old name members.items) (suc self.old.level)) }
         ensures ok { OnOk result (self.new ≡ set_changed self.old name (proc_bytes (each_once members.items))) }
@@ -120,8 +121,8 @@ impl Sets {
         self.change(name, Vec::new(self.alloc))
     }
 
-    /// Deletes the set of that name, and gives the number of the host's commit that tells of it. Refused as `remove_set`
-    /// is; where it is refused the set stays.
+    /// Deletes the set of that name, and gives the number of the host's commit that tells of it. Where it is refused the set stays.
+    /// Errors: `NotFound`; `TooMany` past the limits of sealing; `NoMemory`.
     pub fn delete(&mut self, name: &Key) -> Result<u64, Refusal>
         ensures answer { Gives (λ n. n) result (first_of (delete_cause self.old name.now) (suc self.old.level)) }
         ensures ok { OnOk result (self.new ≡ set_changed self.old name.now no_members) }

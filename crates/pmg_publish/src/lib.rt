@@ -15,4 +15,4 @@ pub use counting::Publication;
 pub use opening::{MAX_VIEWERS, publisher};
 pub use publishing::Publisher;
 pub use sight::{FarSnapshot, Snapshot};
-pub use viewer::{Version, Viewer};
+pub use viewer::{Told, Viewer};

@@ -12,7 +12,7 @@ use crate::history::History;
 use crate::parts::Parts;
 use crate::rule::{InOneList, Known, Sees};
 use crate::shown::{Shown, Update};
-use crate::viewer::{Version, Viewer};
+use crate::viewer::{Told, Viewer};
 use left_right::writer::Writer;
 use pmg_commit::Piece;
 use pmg_value::Refusal;
@@ -135,10 +135,10 @@ impl Publisher {
     }
 
     /// What was published so far. It tells nobody by itself: a viewer learns it.
-    pub fn tell(&self) -> Version
+    pub fn tell(&self) -> Told
         ensures { result ≡ record { book = self.now.book; log = self.now.log } }
     {
-        Version {
+        Told {
             history: self.history.again(),
         }
     }

@@ -25,11 +25,11 @@ type Entered = Reading<Shown, Known, InOneList>;
 
 /// What a publisher had published when it told so. Contracts see it as that prefix of its list.
 #[derive(Drop)]
-pub struct Version {
+pub struct Told {
     pub(crate) history: History,
 }
 
-impl Model for Version {
+impl Model for Told {
     ghost use Rattle.pmg_publish.specs.Publications.{Publications};
 
     ghost Value = { Publications };
@@ -84,7 +84,7 @@ impl Viewer {
     }
 
     /// From now on the viewer sees no less than what it was told of.
-    pub fn learn(&mut self, told: &Version)
+    pub fn learn(&mut self, told: &Told)
         requires { told.now.book ≡ self.old.book }
         ensures book { self.new.book ≡ self.old.book }
         ensures seen { IsPrefix self.old.log self.new.log }

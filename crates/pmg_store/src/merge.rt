@@ -128,7 +128,7 @@ pub fn merge_inputs<W: Write>(
 /// of the streams one after the other as one stream.
 ///
 /// More than 64 streams are refused as TooMany, and none is read. The first fault of the first stream that has one
-/// is told with the stream's number, counted from 1. Any error of a reader is a read fault, and told as one. Nothing is
+/// is told as BadFrame with the stream's number, counted from 1. Any error of a reader is a read fault, and told as one. Nothing is
 /// written before all streams were read without a fault; where the writer fails, a prefix of the dump was written. Each reader is
 /// read at most 67,108,865 times.
 pub fn merge_streams<R: Read, W: Write>(

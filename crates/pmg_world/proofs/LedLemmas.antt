@@ -1,20 +1,24 @@
 -- A world in code, as it is led by its events.
-use Rattle.std.proofs.Common.{◌≡◌, ℕ, suc, ◌<◌, List, [], ◌∷◌, ◌++◌, map, length, take, get_or, Result, refl, sym, ap, subst, ◌∙◌, append_assoc}
+use Rattle.std.proofs.Common.{◌≡◌, ◌⊎◌, ℕ, suc, ◌<◌, true, List, [], ◌∷◌, ◌++◌, map, length, take, get_or, Result, refl, sym, ap, subst, ◌∙◌, append_assoc}
 use Rattle.std.proofs.Math.Seq.{take-suc}
 use Rattle.std.proofs.lemmas.List.{map-append}
 use Rattle.pmg_value.specs.declared.refusal.Refusal.{Refusal}
 use Rattle.pmg_jobinfo.specs.Jobs.{AreJobs, Jobs}
 use Rattle.pmg_fence.proofs.LineLemmas.{append_empty}
+use Rattle.pmg_fence.specs.Tables.{has_name}
 use Rattle.pmg_fence.specs.Rules.{Scripts}
 use Rattle.pmg_node.specs.Servers.{IsAnswered, Server}
 use Rattle.pmg_node.specs.declared.act.Reply.{Reply as GivenReply}
 use Rattle.pmg_world.specs.Accounts.{Account, Adds, GoesOn, IsAccountLawful, IsLed, IsLedBy, IsRun, LeadsTo, account_of}
+use Rattle.pmg_world.specs.KeptFences.{KeepFences, KeepsFences}
 use Rattle.pmg_world.specs.Keeping.{AreCaches, Happens, IsGroup, IsNodeOf, IsSame, Represents, happened_so}
 use Rattle.pmg_world.specs.Telling.{event_of, happened_of}
 use Rattle.pmg_node_model.specs.Holdings.{NodeState}
-use Rattle.pmg_node_model.specs.Kept.{IsServer}
+use Rattle.pmg_node_model.specs.Kept.{IsServer, top_in}
+use Rattle.pmg_node_model.specs.Sending.{WaitsIn}
 use Rattle.pmg_group_model.specs.Worlds.{World, Event, Happened, Run, start}
 use Rattle.pmg_group_model.specs.Lawful.{IsLawful}
+use Rattle.pmg_group_model.proofs.Keeping.{keeps_two, keeps_waiting}
 use Rattle.pmg_group_model.proofs.ToldScripts.{scripts_are_told}
 use Rattle.pmg_world.specs.declared.event.Event.{Event as ToldEvent}
 use Rattle.pmg_world.specs.declared.event.LoggedEvent.{LoggedEvent}
@@ -78,6 +82,19 @@ run_kept jobs are told w run xs ys cut =
 pub led_kept : (g : Group) (told : List LoggedEvent) → IsLed g told → IsAccountLawful (account_of g told)
 unfolding IsLedBy IsAccountLawful
 led_kept g told led xs ys cut = run_kept g.registry led.2.jobs (map happened_of told) led.0 led.1 xs ys cut
+
+-- each node keeps two fences of a signature, and those in which its processes wait
+keeps_at : (jobs : Jobs) → AreJobs jobs → (told : List Happened) (w : World) → Run jobs (start jobs) told w → (node : ℕ) (s : Server) → s.holding ≡ w.nodes node → KeepsFences jobs node s
+keeps_at jobs are told w run node s holds = record {
+  two = λ f. subst (λ (h : NodeState). has_name h.table f ≡ true → (f.instance ≡ top_in h.table f.signature) ⊎ (suc f.instance ≡ top_in h.table f.signature)) (sym holds)
+      (keeps_two jobs are told w run node f);
+  waiting = λ f p. subst (λ (h : NodeState). WaitsIn jobs node h f p → has_name h.table f ≡ true) (sym holds) (keeps_waiting jobs are told w run node f p);
+}
+
+pub led_fences : (g : Group) (told : List LoggedEvent) → IsLed g told → KeepFences (account_of g told)
+unfolding IsLedBy KeepFences
+led_fences g told led node d inside =
+    keeps_at g.registry led.2.jobs (map happened_of told) led.0 led.1 node (get_or g.nodes.items node d) (led.2.nodes.each node d inside).holds
 
 -- an event more, and the world that it leads to
 pub record More (old new : Group) (told : List Happened) (h : Happened) (w : World) : Type 0 where

@@ -2,6 +2,7 @@ pub mod ReplyLines
 pub mod Telling
 pub mod Keeping
 pub mod Accounts
+pub mod KeptFences
 pub mod Asking
 pub mod Delivering
 pub mod GroupStates

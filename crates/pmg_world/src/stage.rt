@@ -243,8 +243,8 @@ impl Player for Stage {
 /// Does the lines of a script on a new stage, and writes their replies, each before the next line is read. It says how the script ended.
 ///
 /// The first line that says something names the nodes; where they are refused, the script is over. Namespaces come next, and then
-/// what happens. What a line of no form, and one out of its order, is refused as, and what more than `INPUT_LIMIT` bytes are, is said
-/// at `play_script`.
+/// what happens. Errors: `BadFrame` with cause Script for a line of no form or out of its order, and with cause Input past `INPUT_LIMIT`
+/// bytes, as `play_script` has them; `NoMemory`; a read or write fault.
 pub fn replay<R: BufRead, W: Write>(
     alloc: Global,
     stage: &mut Stage,

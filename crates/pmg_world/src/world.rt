@@ -2,6 +2,7 @@
 ghost use Rattle.std.specs.Prelude.{◌≡◌, ◌<◌, [], ◌∷◌, length, take, IfErr, IfOk, OnErr, OnOk, slice_get};
 ghost use Rattle.std.specs.Option.{option_map};
 ghost use Rattle.pmg_world.specs.Accounts.{Adds, GoesOn, IsAccountLawful, IsRun};
+ghost use Rattle.pmg_world.specs.KeptFences.{KeepFences};
 
 use crate::event::{Event, LoggedEvent};
 use crate::group::{Group, is_short};
@@ -56,6 +57,7 @@ impl World {
         ensures sent { IfOk result (λ w. w.sent ≡ []) }
         ensures run { IfOk result IsRun }
         ensures lawful { IfOk result IsAccountLawful }
+        ensures fences { IfOk result KeepFences }
     {
         let group = Group::new(registry)?;
         Ok(World {
@@ -100,6 +102,7 @@ impl World {
         ensures goes_on { GoesOn self.old self.new }
         ensures run { IsRun self.new }
         ensures lawful { IsAccountLawful self.new }
+        ensures fences { KeepFences self.new }
     {
         self.told.reserve(1)?;
         let answer = self.group.happen(&event);
@@ -119,6 +122,7 @@ impl World {
         ensures goes_on { GoesOn self.old self.new }
         ensures run { IsRun self.new }
         ensures lawful { IsAccountLawful self.new }
+        ensures fences { KeepFences self.new }
     {
         if self.told.reserve(events.len()).is_err() {
             return Err(RunFailed { done: 0 });

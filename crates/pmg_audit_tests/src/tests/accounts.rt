@@ -6,7 +6,7 @@
 use crate::tests::words::{act, answer, key, process, request, scope_of, value, word, words_of};
 use pmg_audit::{Run, audit};
 use pmg_jobinfo::Registry;
-use pmg_journal::{Call, Called, Event, Journal, Record, Transcript, copy_of_act, copy_of_answer};
+use pmg_journal::{Call, Called, Event, Journal, Record, Transcript};
 use pmg_value::{NodeId, Nspace, Refusal};
 use std::alloc::{AllocError, Global};
 use std::process::Abort;
@@ -227,21 +227,6 @@ fn transcript_of(alloc: Global, proc: &str, lines: &[&str]) -> Result<Transcript
     })
 }
 
-/// A copy, equal to this journal.
-fn copy_of_journal(alloc: Global, journal: &Journal) -> Result<Journal, AllocError> {
-    let mut events = Vec::new(alloc);
-    for event in &journal.events {
-        let act = copy_of_act(&event.act)?;
-        let answer = copy_of_answer(&event.answer)?;
-        events.push(Event { act, answer })?;
-    }
-    Ok(Journal {
-        node: journal.node,
-        registry: journal.registry.copy()?,
-        events,
-    })
-}
-
 impl Accounts {
     /// The accounts that the texts of both nodes tell, with the change.
     pub(crate) fn new(
@@ -281,7 +266,7 @@ impl Accounts {
     pub(crate) fn run(&self) -> Result<Run, Refusal> {
         let mut records = Vec::new(self.alloc);
         for journal in &self.journals {
-            records.push(Record::new(copy_of_journal(self.alloc, journal)?))?;
+            records.push(Record::new(journal.copy()?))?;
         }
         audit(self.alloc, records, &self.transcripts)
     }

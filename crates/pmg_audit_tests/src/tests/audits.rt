@@ -137,6 +137,17 @@ fn each_process_has_its_transcript(rt: HostRuntime) {
 }
 
 #[test]
+fn transcripts_given_twice_are_a_collision(rt: HostRuntime) {
+    let mut accounts = exchange_of(&rt, rt.alloc());
+    let others = exchange_of(&rt, rt.alloc());
+    for transcript in &others.transcripts {
+        let copy = transcript.copy().expect(&rt, MEMORY);
+        accounts.transcripts.push(copy).expect(&rt, MEMORY);
+    }
+    assert!(rt; accounts.answer(&rt) == Err(Refusal::Collision));
+}
+
+#[test]
 fn a_missing_transcript_is_a_collision(rt: HostRuntime) {
     let mut accounts = exchange_of(&rt, rt.alloc());
     let _last = accounts.transcripts.pop();

@@ -1,6 +1,6 @@
 use Rattle.std.proofs.Common.{subst, sym}
 use Rattle.pmg_world.specs.Accounts.{IsLed}
-use Rattle.pmg_world.proofs.LedLemmas.{led_kept, led_run, led_start}
+use Rattle.pmg_world.proofs.LedLemmas.{led_fences, led_kept, led_run, led_start}
 use Rattle.pmg_world.proofs.world.World.new.Goals as goal
 
 led : (c : goal.After-new-2) → IsLed c.in_ok-group.group c.new-2.result.items
@@ -14,3 +14,6 @@ returns-clause-run c = led_run c.in_ok-group.group c.new-2.result.items (led c)
 
 pub returns-clause-lawful : goal.returns-clause-lawful
 returns-clause-lawful c = led_kept c.in_ok-group.group c.new-2.result.items (led c)
+
+pub returns-clause-fences : goal.returns-clause-fences
+returns-clause-fences c = led_fences c.in_ok-group.group c.new-2.result.items (led c)

@@ -1,10 +1,11 @@
 use Rattle.std.proofs.Common.{◌≡◌, List, [], length, take, sym, ap, subst, ◌∙◌, add-one, arith}
 use Rattle.std.proofs.Math.Seq.{take-length}
 use Rattle.pmg_world.specs.Accounts.{Account, Adds, GoesOn, IsAccountLawful, IsLed, IsRun, account_of}
+use Rattle.pmg_world.specs.KeptFences.{KeepFences}
 use Rattle.pmg_world.specs.declared.event.LoggedEvent.{LoggedEvent}
 use Rattle.pmg_world.specs.declared.group.Group.{Group}
 use Rattle.pmg_world.specs.declared.event.Event.{Event as ToldEvent}
-use Rattle.pmg_world.proofs.LedLemmas.{adds_alike, adds_next, adds_none, goes_on_more, goes_on_same, led_kept, led_run}
+use Rattle.pmg_world.proofs.LedLemmas.{adds_alike, adds_next, adds_none, goes_on_more, goes_on_same, led_fences, led_kept, led_run}
 use Rattle.pmg_world.proofs.world.World.run.Goals as goal
 
 -- a world with room for more is the world that it was
@@ -21,6 +22,9 @@ module _ (group : Group) (old new : List LoggedEvent) (now : Account) (led : IsL
   kept_still : IsAccountLawful (account_of group new)
   kept_still = subst (λ (l : List LoggedEvent). IsAccountLawful (account_of group l)) (sym kept) (led_kept group old led)
 
+  fences_still : KeepFences (account_of group new)
+  fences_still = subst (λ (l : List LoggedEvent). KeepFences (account_of group l)) (sym kept) (led_fences group old led)
+
   goes_on_still : GoesOn now (account_of group new)
   goes_on_still = goes_on_same now (account_of group new) same_world
 
@@ -34,6 +38,7 @@ loop-done-init c =
       ap (λ (a : Account). a.jobs) (same_world group old new now c.self.invariant c.self.view_is c.reserve.ensures.items),
       run_still group old new now c.self.invariant c.self.view_is c.reserve.ensures.items,
       kept_still group old new now c.self.invariant c.self.view_is c.reserve.ensures.items,
+      fences_still group old new now c.self.invariant c.self.view_is c.reserve.ensures.items,
       goes_on_still group old new now c.self.invariant c.self.view_is c.reserve.ensures.items,
     )
 
@@ -49,6 +54,9 @@ returns-then-is_err-clause-run c = run_still c.self.inside.group c.self.inside.t
 pub returns-then-is_err-clause-lawful : goal.returns-then-is_err-clause-lawful
 returns-then-is_err-clause-lawful c = kept_still c.self.inside.group c.self.inside.told.items c.reserve.new.self.items c.args.self.now c.self.invariant c.self.view_is c.reserve.ensures.items
 
+pub returns-then-is_err-clause-fences : goal.returns-then-is_err-clause-fences
+returns-then-is_err-clause-fences c = fences_still c.self.inside.group c.self.inside.told.items c.reserve.new.self.items c.args.self.now c.self.invariant c.self.view_is c.reserve.ensures.items
+
 pub loop-done-preserved : goal.loop-done-preserved
 loop-done-preserved c = (
   adds_next c.args.self.now.told c.loop-done.self.told c.step.new.self.told c.args.events.now _ c.loop-done.done _ c.loop-done-test.true c.index-events-done.is (add-one c.loop-done.done) c.loop-done.invariant.0
@@ -56,7 +64,8 @@ loop-done-preserved c = (
   c.in_default-step.ensures.jobs ∙ c.loop-done.invariant.1,
   c.in_default-step.ensures.run,
   c.in_default-step.ensures.lawful,
-  goes_on_more c.args.self.now c.loop-done.self c.step.new.self c.loop-done.invariant.1 c.loop-done.invariant.4 c.in_default-step.ensures.goes_on,
+  c.in_default-step.ensures.fences,
+  goes_on_more c.args.self.now c.loop-done.self c.step.new.self c.loop-done.invariant.1 c.loop-done.invariant.5 c.in_default-step.ensures.goes_on,
 )
 
 pub returns-in-Err-clause-done : goal.returns-in-Err-clause-done
@@ -65,7 +74,7 @@ returns-in-Err-clause-done c =
 
 pub returns-in-Err-clause-goes_on : goal.returns-in-Err-clause-goes_on
 returns-in-Err-clause-goes_on c =
-    subst (λ (a : Account). GoesOn c.args.self.now a) (sym c.in-Err.ensures.err) c.loop-done.invariant.4
+    subst (λ (a : Account). GoesOn c.args.self.now a) (sym c.in-Err.ensures.err) c.loop-done.invariant.5
 
 pub returns-clause-told : goal.returns-clause-told
 returns-clause-told c =

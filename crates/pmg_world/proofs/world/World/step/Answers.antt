@@ -2,7 +2,7 @@ use Rattle.std.proofs.Common.{List, [], ◌∷◌, ◌++◌, map, refl, sym, ap,
 use Rattle.pmg_world.specs.Accounts.{Account, GoesOn, IsLed, IsLedBy, account_of}
 use Rattle.pmg_world.specs.Telling.{event_of, happened_of}
 use Rattle.pmg_world.specs.declared.event.LoggedEvent.{LoggedEvent}
-use Rattle.pmg_world.proofs.LedLemmas.{adds_one, goes_on_same, happens_jobs, led_goes_on, led_group, led_kept, led_more, led_run, same_account, same_led, told_more}
+use Rattle.pmg_world.proofs.LedLemmas.{adds_one, goes_on_same, happens_jobs, led_goes_on, led_group, led_fences, led_kept, led_more, led_run, same_account, same_led, told_more}
 use Rattle.pmg_world.proofs.world.World.step.Goals as goal
 
 pub invariant_of-self : goal.invariant_of-self
@@ -13,6 +13,9 @@ returns-in_err-reserve-clause-run c = led_run c.self.inside.group c.reserve.new.
 
 pub returns-in_err-reserve-clause-lawful : goal.returns-in_err-reserve-clause-lawful
 returns-in_err-reserve-clause-lawful c = led_kept c.self.inside.group c.reserve.new.self.items (subst (IsLed c.self.inside.group) (sym c.reserve.ensures.items) c.self.invariant)
+
+pub returns-in_err-reserve-clause-fences : goal.returns-in_err-reserve-clause-fences
+returns-in_err-reserve-clause-fences c = led_fences c.self.inside.group c.reserve.new.self.items (subst (IsLed c.self.inside.group) (sym c.reserve.ensures.items) c.self.invariant)
 
 pub returns-in_err-reserve-clause-goes_on : goal.returns-in_err-reserve-clause-goes_on
 returns-in_err-reserve-clause-goes_on c =
@@ -43,6 +46,12 @@ returns-then-is_short-clause-run c =
 pub returns-then-is_short-clause-lawful : goal.returns-then-is_short-clause-lawful
 returns-then-is_short-clause-lawful c =
     led_kept c.happen-answer.new.self c.reserve.new.self.items
+    (same_led c.self.inside.group c.happen-answer.new.self (map happened_of c.reserve.new.self.items) (c.happen-answer.ensures.memory (c.is_short.ensures.short c.if-is_short.true))
+    (subst (IsLed c.self.inside.group) (sym c.reserve.ensures.items) c.self.invariant))
+
+pub returns-then-is_short-clause-fences : goal.returns-then-is_short-clause-fences
+returns-then-is_short-clause-fences c =
+    led_fences c.happen-answer.new.self c.reserve.new.self.items
     (same_led c.self.inside.group c.happen-answer.new.self (map happened_of c.reserve.new.self.items) (c.happen-answer.ensures.memory (c.is_short.ensures.short c.if-is_short.true))
     (subst (IsLed c.self.inside.group) (sym c.reserve.ensures.items) c.self.invariant))
 
@@ -80,6 +89,9 @@ returns-clause-run c = led_run c.happen-answer.new.self c.push_reserved.new.self
 
 pub returns-clause-lawful : goal.returns-clause-lawful
 returns-clause-lawful c = led_kept c.happen-answer.new.self c.push_reserved.new.self.items (led_after c)
+
+pub returns-clause-fences : goal.returns-clause-fences
+returns-clause-fences c = led_fences c.happen-answer.new.self c.push_reserved.new.self.items (led_after c)
 
 pub returns-clause-goes_on : goal.returns-clause-goes_on
 returns-clause-goes_on c =
