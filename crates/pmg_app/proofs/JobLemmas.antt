@@ -1,6 +1,7 @@
 -- What comes of a job that is read from bytes that may be known.
-use Rattle.std.proofs.Common.{◌≡◌, ℕ, Bool, true, false, nat_le, List, length, Option, Some, None, Ok, Err, inl, inr, refl, sym, subst}
-use Rattle.std.specs.Prelude.{IfSome, if◌then◌else◌}
+use Rattle.std.proofs.Common.{◌≡◌, ℕ, ◌+◌, ◌-◌, min, arith, Bool, true, false, nat_le, List, length, Option, Some, None, Result, Ok, Err, inl, inr, refl, sym, ap, subst, ◌∙◌}
+use Rattle.std.specs.Prelude.{IfErr, IfOk, IfSome, if◌then◌else◌}
+use Rattle.std.proofs.lemmas.Grind.{common_steps}
 use Rattle.pmg_value.specs.declared.refusal.Refusal.{Refusal}
 use Rattle.pmg_value.specs.declared.refusal.Refusal.TheVariants as refusals
 use Rattle.pmg_store.specs.declared.failure.Failure.{Failure}
@@ -9,7 +10,10 @@ use Rattle.pmg_store.specs.declared.input.TheConstants.{INPUT_LIMIT}
 use Rattle.pmg_store.specs.Input.{input_of, too_much_input}
 use Rattle.pmg_store.specs.Outcomes.{FailsInput, or_failure}
 use Rattle.pmg_store.proofs.OutcomeLemmas.{ok_is}
+use Rattle.pmg_jobinfo.specs.Jobs.{Jobs}
+use Rattle.pmg_jobinfo.specs.Procs.{all_procs}
 use Rattle.pmg_jobfile.specs.Reading.{GivesJob}
+use Rattle.pmg_launch.specs.Audited.{IsLaunchRefusal, IsOutcome}
 use Rattle.pmg_launch.specs.declared.launch.Outcome.{Outcome}
 use Rattle.pmg_app.specs.Job.{FailsJob, IsOutcomeOf, IsRefusedRun}
 
@@ -57,3 +61,22 @@ unread known programs (failures.Refused e) fails = inl fails
 unread known programs (failures.InStream stream fault) fails = fails
 unread known programs failures.Read fails = fails
 unread known programs failures.Write fails = fails
+
+-- a job that was run has the outcome of the text that describes it
+pub outcome_of : (r : Result Outcome Refusal) (text : List ℕ) (jobs : Jobs) → GivesJob text (Ok jobs) → IfOk r (IsOutcome jobs) → IfOk r (IsOutcomeOf (Some text))
+outcome_of (Ok o) text jobs described is = record { jobs = jobs; described = described; outcome = is }
+outcome_of (Err e) text jobs described is = tt
+
+-- the programs that are left where no more than n are kept
+fewer : (left programs n : ℕ) → left + (programs - n) ≡ programs → left ≡ min programs n
+fewer left programs n is = grind (arith, common_steps)
+
+-- a job that was refused as it was run or audited
+pub refusal_of : (r : Result Outcome Refusal) (text : List ℕ) (jobs : Jobs) (programs left n : ℕ) → n ≡ length (all_procs jobs) → left + (programs - n) ≡ programs →
+    GivesJob text (Ok jobs) → IfErr r (IsLaunchRefusal jobs left) → IfErr r (λ e. FailsJob (Some text) programs (failures.Refused e))
+refusal_of (Ok o) text jobs programs left n count cut described refused = tt
+refusal_of (Err e) text jobs programs left n count cut described refused = inr (inr (record {
+  jobs = jobs;
+  described = described;
+  refusal = subst (λ m. IsLaunchRefusal jobs m e) (fewer left programs n cut ∙ ap (min programs) count) refused;
+}))

@@ -197,10 +197,7 @@ fn write_reports<W: Write>(
 
 /// Writes what the client's program wrote, or the line of one that had no memory for its report.
 #[tactic(auto, unfolding(crate::specs::Job::report_text))]
-fn write_report<W: Write>(
-    writer: &mut WatchedWriter<W>,
-    report: &Report,
-) -> Result<(), WriteFault>
+fn write_report<W: Write>(writer: &mut WatchedWriter<W>, report: &Report) -> Result<(), WriteFault>
     ensures text { Writes (W.contents writer.old.writer) (W.contents writer.new.writer) result (report_text report.now) }
     ensures failed { OnErr result (IsSome writer.new.failure) }
 {
@@ -220,10 +217,7 @@ fn is_unreported(report: &Report) -> bool
 
 /// Writes the line of a client that had no memory for its report.
 #[tactic(auto, using(pmg_value::proofs::WrittenLemmas::written_in_parts), unfolding(crate::specs::Job::unreported_line, crate::specs::Job::client_refusal))]
-fn write_unreported<W: Write>(
-    writer: &mut WatchedWriter<W>,
-    proc: &Proc,
-) -> Result<(), WriteFault>
+fn write_unreported<W: Write>(writer: &mut WatchedWriter<W>, proc: &Proc) -> Result<(), WriteFault>
     ensures text { Writes (W.contents writer.old.writer) (W.contents writer.new.writer) result (unreported_line proc.now) }
     ensures failed { OnErr result (IsSome writer.new.failure) }
 {
@@ -233,10 +227,7 @@ fn write_unreported<W: Write>(
 
 /// Writes `client`, the namespace and the rank.
 #[tactic(auto, using(pmg_value::proofs::WrittenLemmas::written_in_parts), unfolding(crate::specs::Job::client_name))]
-fn write_client_name<W: Write>(
-    writer: &mut WatchedWriter<W>,
-    proc: &Proc,
-) -> Result<(), WriteFault>
+fn write_client_name<W: Write>(writer: &mut WatchedWriter<W>, proc: &Proc) -> Result<(), WriteFault>
     ensures text { Writes (W.contents writer.old.writer) (W.contents writer.new.writer) result (client_name proc.now) }
     ensures failed { OnErr result (IsSome writer.new.failure) }
 {

@@ -1,5 +1,7 @@
 //! Jobs that are run, with reports found by hand.
-use crate::programs::{Asking, Fencing, Meeting, Refreshing, Refused, Reporting, number_in, push_line};
+use crate::programs::{
+    Asking, Fencing, Meeting, Refreshing, Refused, Reporting, number_in, push_line,
+};
 use crate::words::{MEMORY, give_up_where};
 use pmg_audit::Run;
 use pmg_jobfile::Job;
@@ -28,9 +30,11 @@ const TWO_CLIENTS: &[u8] = br#"{"nodes":["n0"],"spaces":[{"name":"j","homes":[0,
 
 const ACROSS: &[u8] = br#"{"nodes":["n0","n1"],"spaces":[{"name":"j","homes":[0,1]}]}"#;
 
-const FOUR_NODES: &[u8] = br#"{"nodes":["a","b","c","d"],"spaces":[{"name":"j","homes":[0,0,1,1,2,2,3,3]}]}"#;
+const FOUR_NODES: &[u8] =
+    br#"{"nodes":["a","b","c","d"],"spaces":[{"name":"j","homes":[0,0,1,1,2,2,3,3]}]}"#;
 
-const ASKED: &[u8] = b"c1\ne1\nl1\nf1\nf1\nf1\nf1\nf1\nf1\nf1\ne2\nl2\nc2\ne3\nl3\nf2\nf2\nf2\nf2\nf2\nf2\nf2\ne4\nl4\n";
+const ASKED: &[u8] =
+    b"c1\ne1\nl1\nf1\nf1\nf1\nf1\nf1\nf1\nf1\ne2\nl2\nc2\ne3\nl3\nf2\nf2\nf2\nf2\nf2\nf2\nf2\ne4\nl4\n";
 
 const FOUR_ADDRESSES: &str =
     "client j 0 found 3 own 1\nclient j 1 found 3 own 1\nclient j 2 found 3 own 1\nclient j 3 found 3 own 1\n\
