@@ -15,7 +15,7 @@ use Rattle.pmg_jobinfo.specs.Procs.{all_procs}
 use Rattle.pmg_jobfile.specs.Reading.{GivesJob}
 use Rattle.pmg_launch.specs.Audited.{IsLaunchRefusal, IsOutcome}
 use Rattle.pmg_launch.specs.declared.launch.Outcome.{Outcome}
-use Rattle.pmg_app.specs.Job.{FailsJob, IsOutcomeOf, IsRefusedRun}
+use Rattle.pmg_app.specs.Job.{FailsJob, IsOutcomeOf}
 
 taken_whole : (fits : Bool) (bytes text : List ℕ) → (if fits then Ok bytes else Err too_much_input) ≡ Ok text → bytes ≡ text
 taken_whole true bytes text is = cc

@@ -1,4 +1,4 @@
-use Rattle.std.proofs.Common.{Err, Ok}
+use Rattle.std.proofs.Common.{Err}
 use Rattle.pmg_app.proofs.job.run_job.Goals as goal
 
 pub returns-in-Err-clause-printed : goal.returns-in-Err-clause-printed

@@ -1,6 +1,5 @@
-use Rattle.std.proofs.Common.{rules, arith, ◌<◌, ◌≤◌, ℕ, List, length, ap, subst, ◌∙◌}
+use Rattle.std.proofs.Common.{rules, arith, ◌<◌, ◌≤◌, length, ap, subst}
 use Rattle.std.specs.Io.KnownBytes.{Appends}
-use Rattle.pmg_threads.specs.declared.program.Report.{Report}
 use Rattle.pmg_value.specs.Written.{AppendsFront}
 use Rattle.pmg_value.proofs.FlatLemmas.{flat_front, flat_more, flat_all}
 use Rattle.pmg_value.proofs.WrittenLemmas.{front_of_all}
