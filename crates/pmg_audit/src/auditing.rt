@@ -15,7 +15,7 @@ use crate::run::Run;
 use crate::sayings::{Sayings, sayings_of};
 use pmg_jobinfo::Registry;
 use pmg_journal::{Record, Transcript};
-use pmg_node::Node;
+use pmg_node::Server;
 use pmg_value::{NodeId, Refusal};
 use std::alloc::Global;
 
@@ -138,7 +138,7 @@ fn replays_of(
 }
 
 /// The run that leaves these nodes, in that order.
-fn run_with(registry: Registry, nodes: Vec<Node>, order: Order) -> Run
+fn run_with(registry: Registry, nodes: Vec<Server>, order: Order) -> Run
     requires run { IsRun (account_by registry nodes.items order.sent.items order.told.items) }
     requires lawful { IsAccountLawful (account_by registry nodes.items order.sent.items order.told.items) }
     ensures { result ≡ account_by registry nodes.items order.sent.items order.told.items }

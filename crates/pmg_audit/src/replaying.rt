@@ -20,7 +20,7 @@ use crate::same::{is_same_act, is_same_answer};
 use crate::sayings::Sayings;
 use pmg_jobinfo::Registry;
 use pmg_journal::{Event, Evidence, Record, Step, caller_of, is_free_at};
-use pmg_node::{Act, Node, Reply};
+use pmg_node::{Act, Server, Reply};
 use pmg_node_model::Sent;
 use pmg_value::{NodeId, Proc, Refusal};
 use std::alloc::{AllocError, Global};
@@ -28,7 +28,7 @@ use std::collections::VecDeque;
 
 /// A journal that is replayed: its node, what happened at it so far, and whether some answer was another.
 pub(crate) struct Replay {
-    pub(crate) node: Node,
+    pub(crate) node: Server,
     pub(crate) lane: Lane,
     pub(crate) is_stale: bool,
 }
@@ -58,7 +58,7 @@ fn may_put_if(is_free: bool, puts: &[Put]) -> bool
 }
 
 /// Whether the process may have put that at the node.
-fn may_put(node: &Node, proc: &Proc, puts: &[Put]) -> bool
+fn may_put(node: &Server, proc: &Proc, puts: &[Put]) -> bool
     ensures { IsTrue result ↔ MayPut node.now proc.now (map audited_put puts.now) }
 {
     puts.is_empty() || node.check_free(proc).is_ok()
@@ -112,7 +112,7 @@ fn puts_before(
 
 /// The node's answer to the act, and the frames that it sends.
 fn answer_of(
-    node: &mut Node,
+    node: &mut Server,
     act: &Act,
     frames: &mut VecDeque<Sent>,
 ) -> Result<Result<Reply, Refusal>, AllocError>
@@ -139,7 +139,7 @@ fn move_of(alloc: Global, puts: Vec<Put>, event: Event) -> Move
 }
 
 /// The event happens at the node; whether its answer is the one that is there. The frames are those that the node sends.
-fn happens_so(node: &mut Node, next: &mut Move) -> Result<bool, AllocError>
+fn happens_so(node: &mut Server, next: &mut Move) -> Result<bool, AllocError>
     ensures node { OnOk result (node.new ≡ after node.old (act_of next.old.event.act)) }
     ensures next { OnOk result (move_in next.new ≡ sent_more (move_in next.old) (sent_by node.old (act_of next.old.event.act))) }
     ensures same { IfOk result (λ same. IsTrue same ↔ (reply_to node.old (act_of next.old.event.act) ≡ reply_in reply_as next.old.event.answer)) }
@@ -203,7 +203,7 @@ impl Replay {
     }
 
     /// The node and what happened at it.
-    fn into_parts(self) -> (Node, Lane)
+    fn into_parts(self) -> (Server, Lane)
         ensures node { result.0 ≡ self.node }
         ensures lane { result.1 ≡ self.lane }
     {
@@ -229,7 +229,7 @@ fn replay_journal(
     ensures refused { IfErr result (λ e. RefusesFor e (AllUnsaid (new_server registry.now node) sayings.old (map happening_of events.items))) }
 {
     let registry = registry.copy()?;
-    let server = Node::new(node, registry)?;
+    let server = Server::new(node, registry)?;
     let mut replay = Replay {
         node: server,
         lane: Lane {
@@ -380,7 +380,7 @@ fn take_events(
 
 /// All journals, replayed: the nodes after them, what happened at each, and whether some answer was another.
 pub(crate) struct AllReplayed {
-    pub(crate) nodes: Vec<Node>,
+    pub(crate) nodes: Vec<Server>,
     pub(crate) lanes: Vec<Lane>,
     pub(crate) is_stale: bool,
 }
@@ -429,7 +429,7 @@ impl AllReplayed {
     }
 
     /// The nodes, and what happened at each.
-    pub(crate) fn into_parts(self) -> (Vec<Node>, Vec<Lane>)
+    pub(crate) fn into_parts(self) -> (Vec<Server>, Vec<Lane>)
         ensures nodes { result.0 ≡ self.nodes }
         ensures lanes { result.1 ≡ self.lanes }
     {

@@ -6,7 +6,7 @@ ghost use Rattle.pmg_world.specs.Accounts.{IsAccountLawful, IsRun};
 ghost use Rattle.pmg_audit.specs.RunDumps.{dump_due};
 
 use pmg_jobinfo::Registry;
-use pmg_node::Node;
+use pmg_node::Server;
 use pmg_node_model::Sent;
 use pmg_store::Failure;
 use pmg_value::{NodeId, Refusal, WatchedWriter};
@@ -18,7 +18,7 @@ use std::marker::Model;
 /// nodes after them. It is a run of the model, and the laws of every run hold of it.
 pub struct Run {
     pub(crate) registry: Registry,
-    pub(crate) nodes: Vec<Node>,
+    pub(crate) nodes: Vec<Server>,
     pub(crate) sent: Vec<Sent>,
     pub(crate) told: Vec<LoggedEvent>,
 }
@@ -75,7 +75,7 @@ impl Run {
     }
 
     /// The node of that index after all that happened, if the group has one.
-    pub fn node(&self, node: NodeId) -> Option<&Node>
+    pub fn node(&self, node: NodeId) -> Option<&Server>
         ensures { option_map (λ n. n.now) result ≡ slice_get self.now.nodes node }
     {
         self.nodes.get(node.index() as usize)

@@ -1,7 +1,7 @@
 use crate::processes::{process, processes};
 use pmg_frame::{FenceName, Frame, Header, Local, Signature, State, Stream};
 use pmg_jobinfo::Registry;
-use pmg_node::{Act, Node};
+use pmg_node::{Act, Server};
 use pmg_node_model::Sent;
 use pmg_value::{NodeId, Nspace, Refusal};
 use std::alloc::Global;
@@ -83,19 +83,19 @@ fn registry(alloc: Global) -> Result<Registry, Refusal> {
 }
 
 /// The node 0 of the group.
-fn told_node(alloc: Global) -> Result<Node, Refusal> {
+fn told_node(alloc: Global) -> Result<Server, Refusal> {
     let node = NodeId::new(0)?;
     let registry = registry(alloc)?;
     if !registry.has_node(node) {
         return Err(Refusal::BadParam);
     }
-    Ok(Node::new(node, registry)?)
+    Ok(Server::new(node, registry)?)
 }
 
 /// Hands the node the header of the instance of that number as bytes: how many frames it took.
 fn tell(
     alloc: Global,
-    node: &mut Node,
+    node: &mut Server,
     signature: &Signature,
     version: u8,
     instance: u64,

@@ -10,7 +10,7 @@ ghost use Rattle.pmg_group_model.specs.Worlds.{is_own, reply_or_refusal};
 ghost use Rattle.pmg_node_parts.specs.Calls.{get_of};
 
 use crate::caches::Caches;
-use pmg_node::{Node, Reply, Request};
+use pmg_node::{Server, Reply, Request};
 use pmg_value::{Key, Proc, Refusal};
 
 /// Whether no particular rank is named.
@@ -50,7 +50,7 @@ pub fn own_key(request: &Request) -> Option<(&Proc, &Key)>
 }
 
 /// A process gets a key of its own at the node.
-pub fn own_get(node: &Node, caches: &Caches, proc: &Proc, key: &Key) -> Result<Reply, Refusal>
+pub fn own_get(node: &Server, caches: &Caches, proc: &Proc, key: &Key) -> Result<Reply, Refusal>
     ensures { Replies reply_as result (reply_or_refusal (own_answer node.now (cached_for caches.now proc.now) proc.now key.now)) }
 {
     if is_general(proc) {

@@ -11,7 +11,7 @@ ghost use Rattle.pmg_scope.specs.declared.scope.Reach.TheVariants as reach;
 ghost use Rattle.pmg_caches.specs.Caching.{cached_for, put_cause_at};
 
 use crate::caches::Caches;
-use pmg_node::Node;
+use pmg_node::Server;
 use pmg_scope::{Reach, Scope, includes};
 use pmg_value::{Key, Proc, Refusal, Value};
 
@@ -25,7 +25,7 @@ pub fn is_bad_put(scope: Scope, key: &Key) -> bool
 /// The process puts the value under the key, in its client's cache (PMIx Standard 5.0, PMIx_Put). Refused where the node refuses
 /// who calls, and as `Cache::put` is; a refused put changes nothing.
 pub fn put_at(
-    node: &Node,
+    node: &Server,
     caches: &mut Caches,
     proc: &Proc,
     scope: Scope,

@@ -29,7 +29,7 @@ use crate::last_puts::SealedPut;
 use crate::piece::{MAX_COMMIT, Piece};
 use crate::stamps::{Stamps, StampsUndo};
 use pmg_scope::{Batch, Reach};
-use pmg_value::{Key, Proc, Refusal, Value};
+use pmg_value::{Copied, Key, Proc, Refusal, Value};
 use std::alloc::{AllocError, Global};
 use std::marker::Model;
 
@@ -290,6 +290,12 @@ impl Sealer {
             near: self.near.copy(self.alloc)?,
             far: self.far.copy(self.alloc)?,
         })
+    }
+}
+
+impl Copied for Sealer {
+    fn copy(&self) -> Result<Sealer, AllocError> {
+        Sealer::copy(self)
     }
 }
 

@@ -19,7 +19,7 @@ use crate::codes::{DONE, NO_MEMORY, answer_code, refusal_code};
 use pmg_grouptext::read_group;
 use pmg_jobinfo::Registry;
 use pmg_link::{Inbox, Link};
-use pmg_node::{Node, Reply};
+use pmg_node::{Server, Reply};
 use pmg_value::{NodeId, Proc, Refusal};
 use std::alloc::{AllocError, Global};
 
@@ -70,7 +70,7 @@ impl Daemon {
         let inboxes = new_inboxes(alloc, registry.node_count())?;
         Ok(Daemon {
             alloc,
-            link: Link::new(Node::new(id, registry)?),
+            link: Link::new(Server::new(id, registry)?),
             inboxes,
             list: Vec::new(alloc),
             reply: Reply::Done,

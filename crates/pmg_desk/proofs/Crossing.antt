@@ -28,7 +28,7 @@ use Rattle.pmg_node_parts.specs.contracts.call.Call as CallState
 use Rattle.pmg_node_parts.specs.contracts.calls.Calls as Calls
 use Rattle.pmg_dmodex.specs.contracts.marks.Marks as Marks
 use Rattle.pmg_dmodex.specs.contracts.pending.Pending as Pending
-use Rattle.pmg_node.specs.contracts.node.Node as Node
+use Rattle.pmg_node.specs.contracts.server.Server as Server
 use Rattle.pmg_node.specs.contracts.act.Act as Act
 use Rattle.pmg_node.specs.contracts.act.Request as Request
 use Rattle.pmg_node.specs.contracts.act.Reply as Reply
@@ -132,8 +132,8 @@ marks_send = search (proc_send, maps, owners, sendable) depth 60 fits 20000
 pending_send : IsSend Pending.the_row
 pending_send = search (proc_send, maps, owners, sendable) depth 60 fits 20000
 
-node_send : IsSend Node.the_row
-node_send = search (table_send, board_send, own_part, calls_send, marks_send, pending_send, sendable) depth 40 fits 20000
+server_send : IsSend Server.the_row
+server_send = search (table_send, board_send, own_part, calls_send, marks_send, pending_send, sendable) depth 40 fits 20000
 
 batch_send : IsSend Batch.the_row
 batch_send = search (values, key_send, value_send, owners, sendable) depth 60 fits 20000
@@ -175,7 +175,7 @@ list_part : IsSend (Appender.the_field Event.the_row).row
 list_part = search (known_part, Word.the_send, sendable) depth 40
 
 state_send : IsSend State.the_row
-state_send = search (node_send, journal_part, list_part, step_send, sent_send, publisher_send, viewer_send, owners, sendable) depth 60 fits 40000
+state_send = search (server_send, journal_part, list_part, step_send, sent_send, publisher_send, viewer_send, owners, sendable) depth 60 fits 40000
 
 told_sync : IsSync Told.the_row
 told_sync = search (history_sync, sendable) depth 40

@@ -13,7 +13,7 @@ ghost use Rattle.pmg_desk.specs.States.{StateGoesOn, StepsGoOn};
 use pmg_commit::Piece;
 use pmg_history::{Appender, History};
 use pmg_journal::{AnswerCopies, Event, Journal, Step, copy_of_answer, is_free_at};
-use pmg_node::{Act, Joined, Node, Reply};
+use pmg_node::{Act, Joined, Server, Reply};
 use pmg_node_model::Sent;
 use pmg_publish::Publisher;
 use pmg_value::Refusal;
@@ -36,7 +36,7 @@ fn is_memory(refusal: Refusal) -> bool
 }
 
 /// Does the act. What is sent goes after the frames of the outbox. Refused as NoMemory alone, and then nothing happened.
-fn done_by(node: &mut Node, act: &Act, outbox: &mut VecDeque<Sent>) -> Result<Done, Refusal>
+fn done_by(node: &mut Server, act: &Act, outbox: &mut VecDeque<Sent>) -> Result<Done, Refusal>
     ensures reply { IfOk result (λ d. reply_to node.old (act_of act.now) ≡ reply_in reply_as d.told) }
     ensures kind { IfOk result (λ d. IsEvent d.told) }
     ensures joined { IfOk result (λ d. joins_in d.joined ≡ joins node.old.jobs node.old.id node.old.holding (act_of act.now)) }
@@ -53,10 +53,7 @@ fn done_by(node: &mut Node, act: &Act, outbox: &mut VecDeque<Sent>) -> Result<Do
         Err(refusal) if is_memory(refusal) => Err(Refusal::NoMemory),
         Err(refusal) => Ok(Done {
             told: Err(refusal),
-            joined: Joined {
-                near: None,
-                far: None,
-            },
+            joined: Joined::nothing(),
         }),
     }
 }
@@ -194,7 +191,7 @@ fn publish_written<R: Wait>(
 /// publishes what it joined; what somebody knows of the journal is a prefix of it. An allocation that fails before the act changes
 /// nothing; after it the node is given up, and journal, steps and published store stand.
 pub(crate) fn happen_in<R: Wait>(
-    node: &mut Option<Node>,
+    node: &mut Option<Server>,
     journal: &mut Journal,
     list: &mut Appender<Event>,
     steps: &mut Vec<Step>,

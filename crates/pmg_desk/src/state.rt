@@ -23,7 +23,7 @@ use pmg_frame::Frame;
 use pmg_history::{Appender, History};
 use pmg_jobinfo::Registry;
 use pmg_journal::{AnswerCopies, Event, Evidence, Journal, Record, Step, has_event_by};
-use pmg_node::{Act, Node, Reply, Status};
+use pmg_node::{Act, Server, Reply, Status};
 use pmg_node_model::Sent;
 use pmg_publish::{MAX_VIEWERS, Publisher, Told, Viewer, publisher};
 use pmg_store::Store;
@@ -37,7 +37,7 @@ use std::sync::Wait;
 /// The parts of a state.
 pub struct Parts {
     /// The node; none where the desk is closed.
-    pub node: Option<Node>,
+    pub node: Option<Server>,
     /// What happened at the node.
     pub journal: Journal,
     /// The journal as a list, of which clients know prefixes.
@@ -53,7 +53,7 @@ pub struct Parts {
     /// The viewers that no client has yet.
     pub viewers: Vec<Viewer>,
     /// The node as it was when the desk was closed.
-    pub last: Option<Node>,
+    pub last: Option<Server>,
 }
 
 /// A node with its journal and the publisher of its board, in a box, since each call takes it out of its room and puts it back. It
@@ -130,7 +130,7 @@ impl State {
         ensures memory { IsOkUnless result refusals.NoMemory }
     {
         let alloc = registry.allocator();
-        let node = Node::new(id, registry.copy()?)?;
+        let node = Server::new(id, registry.copy()?)?;
         let count = registry.procs_at(id)?.len();
         if count > MAX_VIEWERS {
             return Err(Refusal::NoMemory);

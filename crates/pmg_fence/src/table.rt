@@ -26,7 +26,7 @@ use crate::owns::Owns;
 use crate::series::SeriesUndo;
 use pmg_frame::{FenceName, Header, Local, MAX_INSTANCE, Signature, State};
 use pmg_jobinfo::Registry;
-use pmg_value::{NodeId, Proc, Refusal};
+use pmg_value::{NodeId, Proc, Refusal, copy_queue};
 use std::alloc::AllocError;
 use std::collections::VecDeque;
 use std::marker::Model;
@@ -117,17 +117,6 @@ fn told_in(fence: Option<&Fence>, home: u32, proc: &Proc) -> Option<Entry>
     }
 }
 
-/// The same headers, with the same allocator.
-fn copy_headers(headers: &VecDeque<Header>) -> Result<VecDeque<Header>, AllocError>
-    ensures { IfOk result (λ copy. copy.items ≡ headers.now.items) }
-{
-    let mut copies = VecDeque::with_capacity(*headers.allocator(), headers.len())?;
-    for header in headers.iter() {
-        copies.push_back(header.copy()?)?;
-    }
-    Ok(copies)
-}
-
 /// What a table was before a change, by which that can be taken back: how many headers waited, and what was known of the
 /// fence or of the process.
 #[derive(Drop)]
@@ -186,7 +175,7 @@ impl Table {
             registry: self.registry.copy()?,
             series: self.series.copy()?,
             ends: self.ends.copy()?,
-            waiting: copy_headers(&self.waiting)?,
+            waiting: copy_queue(&self.waiting)?,
             owns: self.owns.copy()?,
         })
     }

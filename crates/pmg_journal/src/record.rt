@@ -8,7 +8,7 @@ ghost use Rattle.pmg_journal.specs.Records.{IsEvidence};
 
 use crate::journal::{Event, Journal};
 use pmg_jobinfo::Registry;
-use pmg_node::{Act, Node, Request};
+use pmg_node::{Act, Server, Request};
 use pmg_node_model::Sent;
 use pmg_value::{NodeId, Proc};
 use std::collections::VecDeque;
@@ -45,7 +45,7 @@ pub struct Evidence {
     /// What the node did at each event, in their order.
     pub steps: Vec<Step>,
     /// The node after all of them.
-    pub node: Node,
+    pub node: Server,
 }
 
 /// The journal of a node and, where it was kept by who ran the node, evidence of it.
@@ -92,7 +92,7 @@ pub fn caller_of(act: &Act) -> Option<&Proc>
 }
 
 /// Whether the process that calls, if one does, is in no call at the node, and has not ended.
-pub fn is_free_at(node: &Node, act: &Act) -> bool
+pub fn is_free_at(node: &Server, act: &Act) -> bool
     ensures { result ≡ free_at node.now (caller_of (act_of act.now)) }
 {
     match caller_of(act) {

@@ -17,7 +17,7 @@ ghost use Rattle.pmg_link.specs.Links.{after_request, commit_of, link_after, lin
 use crate::inbox::Inbox;
 use pmg_caches::{Caches, own_get, own_key, put_at};
 use pmg_frame::Frame;
-use pmg_node::{Act, Joined, Node, Reply, Request};
+use pmg_node::{Act, Joined, Server, Reply, Request};
 use pmg_node_model::Sent;
 use pmg_scope::Scope;
 use pmg_value::{Key, Proc, Refusal, Value};
@@ -28,7 +28,7 @@ use std::marker::Model;
 /// A server with what its clients put and the frames that it sent and nobody took yet, for one who carries frames between servers:
 /// calls of clients are handed in, and frames are taken out, in the order in which they were sent.
 pub struct Link {
-    node: Node,
+    node: Server,
     caches: Caches,
     waiting: VecDeque<Sent>,
     joined: Joined,
@@ -58,16 +58,6 @@ impl Model for Link {
     ghost view = { λ a. record { node = a.node; caches = a.caches; waiting = a.waiting.items; joined = joins_in a.joined } };
 }
 
-/// What an act that is refused joins.
-fn nothing() -> Joined
-    ensures { joins_in result ≡ no_joins }
-{
-    Joined {
-        near: None,
-        far: None,
-    }
-}
-
 /// The process's commit of what its client put since the last one.
 fn commit_act(caches: &Caches, proc: &Proc) -> Result<Act, AllocError>
     ensures { IfOk result (λ a. act_of a ≡ ModelAct.commit proc.now (unsealed_of (cached_for caches.now proc.now))) }
@@ -78,7 +68,7 @@ fn commit_act(caches: &Caches, proc: &Proc) -> Result<Act, AllocError>
 
 impl Link {
     /// A link of that node: nobody put anything, no frame waits, and nothing was joined. It keeps the allocator of the node's registry.
-    pub fn new(node: Node) -> Link
+    pub fn new(node: Server) -> Link
         ensures { result ≡ new_link node }
     {
         let alloc = node.registry().allocator();
@@ -86,7 +76,7 @@ impl Link {
             node,
             caches: Caches::new(alloc),
             waiting: VecDeque::new(alloc),
-            joined: nothing(),
+            joined: Joined::nothing(),
         }
     }
 
@@ -105,7 +95,7 @@ impl Link {
             }
             Err(Refusal::NoMemory) => Err(Refusal::NoMemory),
             Err(refusal) => {
-                self.joined = nothing();
+                self.joined = Joined::nothing();
                 Err(refusal)
             }
         }
@@ -132,7 +122,7 @@ impl Link {
         match self.node.check_free(proc) {
             Ok(()) => Refusal::NoMemory,
             Err(refusal) => {
-                self.joined = nothing();
+                self.joined = Joined::nothing();
                 refusal
             }
         }
@@ -230,7 +220,7 @@ impl Link {
     }
 
     /// The node.
-    pub fn node(&self) -> &Node
+    pub fn node(&self) -> &Server
         ensures { result.now ≡ self.now.node }
     {
         &self.node

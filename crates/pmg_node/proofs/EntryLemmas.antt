@@ -34,7 +34,7 @@ use Rattle.pmg_node_model.specs.Acts.{Act, Request, Reply, Done, also, free_caus
 use Rattle.pmg_node_model.specs.Choosing.{announcing, due_by, due_by_request, marked_by_act}
 use Rattle.pmg_node_parts.specs.Codes.{Calls}
 use Rattle.pmg_node.specs.Content.{server_of}
-use Rattle.pmg_node.specs.declared.node.Node.TheInside.{Inside}
+use Rattle.pmg_node.specs.declared.server.Server.TheInside.{Inside}
 use Rattle.pmg_node.specs.Entries.{part_cause, entry_cause, entered_name}
 use Rattle.pmg_node.specs.Fencing.{fence_after, fence_dues, AreSettledIn}
 use Rattle.pmg_node_model.specs.Holdings.{CallState, NodeState, sealer_of, call_of}

@@ -25,7 +25,7 @@ use Rattle.pmg_node_model.specs.Acts.{Act, Reply, Done, done_as, cause, is_peer,
 use Rattle.pmg_node_model.specs.Choosing.{announcing, telling_of, due_by, due_by_frame, marked_by_act, sends}
 use Rattle.pmg_node_parts.specs.Codes.{Calls}
 use Rattle.pmg_node.specs.Content.{IsContent}
-use Rattle.pmg_node.specs.declared.node.Node.TheInside.{Inside}
+use Rattle.pmg_node.specs.declared.server.Server.TheInside.{Inside}
 use Rattle.pmg_node.specs.Fencing.{fence_after, fence_dues, AreSettledIn}
 use Rattle.pmg_node_model.specs.Holdings.{NodeState, mapped, with_table, with_calls, settled}
 use Rattle.pmg_node_model.specs.Kept.{is_in, settle_where, DiffersIn}

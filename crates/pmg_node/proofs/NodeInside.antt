@@ -8,7 +8,7 @@ use Rattle.pmg_node_parts.specs.Codes.{Calls}
 use Rattle.pmg_node_parts.specs.Owns.{sealed_of}
 use Rattle.pmg_node.specs.Content.{server_of, IsContent}
 use Rattle.pmg_node.specs.Servers.{Server}
-use Rattle.pmg_node.specs.declared.node.Node.TheInside.{Inside}
+use Rattle.pmg_node.specs.declared.server.Server.TheInside.{Inside}
 
 -- the node that they make
 abbrev pub server_in : Inside → Server

@@ -4,7 +4,7 @@ use Rattle.pmg_dmodex.specs.Levels.{Levels}
 use Rattle.pmg_node_model.specs.Acts.{Act}
 use Rattle.pmg_node.specs.Content.{IsContent}
 use Rattle.pmg_node.specs.Servers.{IsNode, Server, after}
-use Rattle.pmg_node.specs.declared.node.Node.TheInside.{Inside}
+use Rattle.pmg_node.specs.declared.server.Server.TheInside.{Inside}
 use Rattle.pmg_node.proofs.NodeInside.{IsInside, server_in, server_with}
 use Rattle.pmg_node.proofs.NodeKept.{node_stays}
 

@@ -13,3 +13,4 @@ pub mod Sealing
 pub mod Acting
 pub mod Opening
 pub mod Members
+pub mod Nodes

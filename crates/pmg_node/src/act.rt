@@ -1,6 +1,7 @@
 //! What is asked of a node, and what it replies, as one call takes and gives it.
 ghost use Rattle.std.specs.Prelude.{◌≡◌, IfOk, IfSome, IsNone};
-ghost use Rattle.pmg_node.specs.Acting.{act_of, reply_as, request_of};
+ghost use Rattle.pmg_node.specs.Acting.{act_of, joins_in, reply_as, request_of};
+ghost use Rattle.pmg_node.specs.Joining.{no_joins};
 ghost use Rattle.pmg_node.specs.Kinds.{IsAsked, IsRelease, IsTaking};
 ghost use Rattle.pmg_node.specs.Replies.{asked_reply, release_reply, taking_reply};
 
@@ -224,6 +225,18 @@ pub struct Joined {
 impl Drop for Joined {
     fn drop(self) {
         let Self { near, far } = self;
+    }
+}
+
+impl Joined {
+    /// Returns what an act joins that joins nothing.
+    pub fn nothing() -> Joined
+        ensures { joins_in result ≡ no_joins }
+    {
+        Joined {
+            near: None,
+            far: None,
+        }
     }
 }
 

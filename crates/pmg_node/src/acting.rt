@@ -12,7 +12,7 @@ use crate::act::{Act, Acted, Joined, Reply, Request};
 use crate::asked::Delivery;
 use crate::committing::Committed;
 use crate::leaving::Release;
-use crate::node::Node;
+use crate::server::Server;
 use crate::parking::Asked;
 use crate::taking::Taking;
 use pmg_commit::Piece;
@@ -31,10 +31,7 @@ fn reply_alone(reply: Reply) -> Acted
 {
     Acted {
         reply,
-        joined: Joined {
-            near: None,
-            far: None,
-        },
+        joined: Joined::nothing(),
     }
 }
 
@@ -148,7 +145,7 @@ fn as_delivered(delivery: Delivery, joined: Joined) -> Acted
 }
 
 /// What is joined once the frame is taken: its piece, if it is one, or what it replies, if that is something.
-fn joined_by(frame: &Frame) -> Result<Joined, AllocError>
+pub(crate) fn joined_by(frame: &Frame) -> Result<Joined, AllocError>
     ensures { IfOk result (λ joined. joins_in joined ≡ frame_joins frame.now) }
 {
     let far = match frame {
@@ -163,7 +160,7 @@ fn joined_by(frame: &Frame) -> Result<Joined, AllocError>
     Ok(Joined { near: None, far })
 }
 
-impl Node {
+impl Server {
     /// Answers a request.
     fn serve(&mut self, request: &Request, out: &mut VecDeque<Sent>) -> Result<Acted, Refusal>
         ensures reply { RepliesAct acted_reply result self.old (ModelAct.request (request_of request.now)) }

@@ -7,7 +7,7 @@ ghost use Rattle.pmg_node.specs.Servers.{reply_to, sent_by, after};
 
 use crate::asked::Delivery;
 use crate::fencing::{FenceContext, change_fence, tell_node};
-use crate::node::Node;
+use crate::server::Server;
 use crate::replying::{absorb_told, reply_due};
 use pmg_commit::Piece;
 use pmg_fence::Change;
@@ -17,7 +17,7 @@ use pmg_node_parts::{answer_commits, hand_out, rollback};
 use std::alloc::AllocError;
 use std::collections::VecDeque;
 
-impl Node {
+impl Server {
     /// What a process of another node sealed comes: gets of its keys are answered, and processes released from fences, that
     /// waited for it; where gets of its keys wait still, more is asked for.
     pub(crate) fn deliver_piece(

@@ -4,7 +4,7 @@ ghost use Rattle.pmg_jobinfo.specs.Jobs.{home_of};
 ghost use Rattle.pmg_node_model.specs.Acts.{is_known, is_peer};
 
 use crate::causes::is_member;
-use crate::node::Node;
+use crate::server::Server;
 use pmg_frame::CommitAsk;
 use pmg_value::{NodeId, Proc};
 
@@ -17,7 +17,7 @@ pub enum Delivery {
     Ignored,
 }
 
-impl Node {
+impl Server {
     /// Whether the node is another one of the group.
     pub(crate) fn is_peer(&self, node: NodeId) -> bool
         ensures { result ≡ is_peer self.now.jobs self.now.id node }

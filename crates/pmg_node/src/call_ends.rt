@@ -7,7 +7,7 @@ ghost use Rattle.pmg_node.specs.CallEnds.{ending_request, over_reply, standing_r
 ghost use Rattle.pmg_node.specs.Servers.{reply_in, reply_to, sent_by, after};
 
 use crate::leaving::stays;
-use crate::node::Node;
+use crate::server::Server;
 use crate::taking::pending;
 use pmg_node_parts::Call;
 use pmg_value::{Proc, Refusal};
@@ -52,7 +52,7 @@ fn over(call: Option<Call>, end: CallEnd) -> CallStand
     }
 }
 
-impl Node {
+impl Server {
     /// The process ends its call, where it is over; else nothing changes. Refused as `check_caller` refuses it. Nothing is sent.
     pub(crate) fn end_call(&mut self, proc: &Proc, end: CallEnd) -> Result<CallStand, Refusal>
         ensures reply { reply_in (told_at end) result ≡ reply_to self.old (Act.request (ending_request end proc.now)) }

@@ -6,7 +6,7 @@ ghost use Rattle.pmg_value.specs.Process.{is_host};
 ghost use Rattle.pmg_jobinfo.specs.Jobs.{home_of, is_registered, is_member};
 ghost use Rattle.pmg_node_model.specs.Acts.{is_misnamed, caller_cause, free_cause};
 
-use crate::node::Node;
+use crate::server::Server;
 use pmg_jobinfo::Registry;
 use pmg_value::{NodeId, Nspace, Proc, Refusal};
 
@@ -76,7 +76,7 @@ pub(crate) fn is_bad_caller(registry: &Registry, proc: &Proc) -> bool
     proc.nspace.is_reserved() || is_misnamed(registry, proc)
 }
 
-impl Node {
+impl Server {
     /// Judges who calls: a process of the group, at home at this node, that has not ended.
     pub fn check_caller(&self, proc: &Proc) -> Result<(), Refusal>
         ensures { result ≡ first_of (caller_cause self.now.jobs self.now.id self.now.holding proc.now) tt }

@@ -11,7 +11,7 @@ ghost use Rattle.pmg_node_parts.specs.Owns.{sealed_of};
 ghost use Rattle.pmg_node.specs.Replies.{committed_reply};
 ghost use Rattle.pmg_node.specs.Servers.{reply_to, sent_by, after, IsAnswered, Replies};
 
-use crate::node::Node;
+use crate::server::Server;
 use crate::publishing::Published;
 use crate::sealing::SealingAct;
 use pmg_commit::Piece;
@@ -57,7 +57,7 @@ pub(crate) fn keep_published(
     }
 }
 
-impl Node {
+impl Server {
     /// The process's next commit seals the batch, and is told to the nodes that wait for it (PMIx Standard 5.0, PMIx_Commit). Refused
     /// as BadParam where the process is none of its namespace, or of one whose name begins with `pmix`; as UnknownNamespace; as NotMine
     /// where it is at home at another node; as Terminated; as Busy where it is in a call; as TooMany where the commit would pass a

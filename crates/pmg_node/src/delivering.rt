@@ -5,13 +5,13 @@ ghost use Rattle.pmg_node.specs.Replies.{delivery_reply};
 ghost use Rattle.pmg_node.specs.Servers.{reply_to, sent_by, after};
 
 use crate::asked::Delivery;
-use crate::node::Node;
+use crate::server::Server;
 use pmg_frame::Frame;
 use pmg_node_model::Sent;
 use std::alloc::AllocError;
 use std::collections::VecDeque;
 
-impl Node {
+impl Server {
     /// A frame of another node is taken, or ignored where it does not concern this one; the frames that go out are put after
     /// those of the list. Where an allocation fails nothing changes.
     pub fn deliver(

@@ -21,7 +21,7 @@ ghost use Rattle.pmg_commit.specs.declared.piece.TheConstants.{MAX_COMMIT};
 
 use crate::committing::{Committed, keep_published};
 use crate::fencing::announce_all;
-use crate::node::Node;
+use crate::server::Server;
 use crate::publishing::{PublishContext, Published, publish};
 use pmg_commit::SealerUndo;
 use pmg_fence::{Table, TableUndo};
@@ -142,7 +142,7 @@ fn keep_end(
     }
 }
 
-impl Node {
+impl Server {
     /// The process ends (PMIx Standard 5.0, PMIx_Finalize): that is its last commit, by which others learn of it; it is gone from the
     /// fences that it has not entered, and in no call any more. Refused as BadParam where the process is none of its namespace, or
     /// of one whose name begins with `pmix`; as UnknownNamespace; as NotMine where it is at home at another node; as Terminated

@@ -24,7 +24,7 @@ ghost use Rattle.pmg_node.specs.Servers.{sent_by, after, IsAnswered, RepliesAct}
 
 use crate::causes::{is_misnamed, is_registered};
 use crate::fencing::{FenceContext, change_fence};
-use crate::node::Node;
+use crate::server::Server;
 use pmg_dmodex::Marks;
 use pmg_fence::{Change, Table};
 use pmg_frame::{FenceName, MAX_INSTANCE, MAX_PARTICIPANTS, Signature};
@@ -177,7 +177,7 @@ fn enter_fence(
     Ok(())
 }
 
-impl Node {
+impl Server {
     /// Judges who enters a fence, and the list of participants, but for the limits of an entry.
     fn check_entry(&self, proc: &Proc, list: &[Proc]) -> Result<(), Refusal>
         ensures { result ≡ first_of (entry_cause self.now.jobs self.now.id self.now.holding proc.now list.now) tt }

@@ -9,7 +9,7 @@ ghost use Rattle.pmg_node_model.specs.Acts.{is_misnamed, target_cause};
 ghost use Rattle.pmg_node_parts.specs.Calls.{get_of};
 ghost use Rattle.pmg_node_model.specs.Holdings.{answer_in, seen_of};
 
-use crate::node::Node;
+use crate::server::Server;
 use pmg_get::{Answer, Mode};
 use pmg_node_parts::BoardPreview;
 use pmg_value::{Key, NodeId, Proc};
@@ -34,7 +34,7 @@ pub fn is_bad_get(proc: &Proc, target: &Proc, key: &Key, misnamed: bool) -> bool
     is_general(target) || proc.cmp(target).is_eq() || misnamed
 }
 
-impl Node {
+impl Server {
     /// What a get of a key that is not reserved, of a target that is at home there, is answered here.
     #[tactic(auto, unfolding(pmg_node_model::specs::Holdings::seen_of))]
     pub(crate) fn answer(&self, target: &Proc, home: NodeId, key: &Key, mode: Mode) -> Answer<'_>

@@ -7,7 +7,7 @@ ghost use Rattle.pmg_frame.specs.Fences.{participants_of};
 ghost use Rattle.pmg_node_model.specs.Acts.{is_concerned, is_complete, is_taken};
 
 use crate::causes::is_member;
-use crate::node::Node;
+use crate::server::Server;
 use pmg_frame::{FenceAsk, FenceName, Header};
 use pmg_jobinfo::Registry;
 use pmg_node_parts::takes_part;
@@ -45,7 +45,7 @@ fn is_complete(registry: &Registry, header: &Header) -> bool
     count == locals.len()
 }
 
-impl Node {
+impl Server {
     /// Whether the node has a participant in the fence, and each participant is of the group.
     fn is_concerned(&self, name: &FenceName) -> bool
         ensures { result ≡ is_concerned self.now.jobs self.now.id name.now }

@@ -9,7 +9,7 @@ ghost use Rattle.pmg_node.specs.Replies.{release_reply, stays_reply};
 ghost use Rattle.pmg_node.specs.Servers.{reply_in, reply_to, sent_by, after};
 
 use crate::call_ends::{CallEnd, CallStand};
-use crate::node::Node;
+use crate::server::Server;
 use pmg_node_parts::Call;
 use pmg_value::{Proc, Refusal};
 
@@ -53,7 +53,7 @@ fn release_of(stand: CallStand) -> Release
     }
 }
 
-impl Node {
+impl Server {
     /// The process leaves the fence that it is released from, and is told the fence's instance and who was gone (PMIx Standard
     /// 5.0, PMIx_Fence). Until it is released it waits, and nothing changes; one that is in no fence is idle. Refused as BadParam
     /// where the process is none of its namespace, or of one whose name begins with `pmix`; as UnknownNamespace; as NotMine

@@ -6,11 +6,11 @@ ghost use Rattle.pmg_value.specs.Spelling.{spelling};
 ghost use Rattle.pmg_value.specs.declared.value.Value.TheVariants as values;
 ghost use Rattle.pmg_node.specs.Members.{known_members_cause, members_known};
 
-use crate::node::Node;
+use crate::server::Server;
 use pmg_pset::members_in;
 use pmg_value::{Array, Key, Proc, Refusal};
 
-impl Node {
+impl Server {
     /// The members of the process set of that name, as an array of processes, as the node knows of them (PMIx Standard 5.0,
     /// PMIX_QUERY_PSET_MEMBERSHIP). Refused as BadParam where the name begins with `pmix`, and as NotFound where no set of that
     /// name is known, or the last that is known of it is its deletion. It takes no memory.

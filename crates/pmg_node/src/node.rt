@@ -1,74 +1,267 @@
-ghost use Rattle.std.specs.Prelude.{◌≡◌, true};
+//! A node as the program that runs it holds it: the calls of its processes, the frames that it has to send, and what its last act
+//! joined. `World`, `Desk` and `Link` keep frames in lists of their own, so they are built over `Server`.
+ghost use Rattle.std.specs.Prelude.{◌≡◌, ◌∷◌, [], None, Some, IfOk, IfSome, IsNone};
+ghost use Rattle.std.specs.Option.{option_map};
+ghost use Rattle.std.specs.Result.{result_map_both};
+ghost use Rattle.pmg_value.specs.CheckOrder.{first_of};
+ghost use Rattle.pmg_value.specs.Spelling.{spelling};
+ghost use Rattle.pmg_value.specs.declared.value.Value.TheVariants as values;
 ghost use Rattle.pmg_jobinfo.specs.Jobs.{is_node};
+ghost use Rattle.pmg_node.specs.Acting.{act_of, commit_joins, joins_in, reply_as};
+ghost use Rattle.pmg_node.specs.Joining.{no_joins};
+ghost use Rattle.pmg_node.specs.Members.{known_members_cause, members_known};
+ghost use Rattle.pmg_node.specs.Nodes.{new_node, Acts};
+ghost use Rattle.pmg_node.specs.Opening.{new_server};
+ghost use Rattle.pmg_node.specs.Replies.{asked_reply, delivery_reply, release_reply, status_in, taking_reply};
+ghost use Rattle.pmg_node_model.specs.Acts.{status_of, Act as ModelAct, Reply as ModelReply, Request as ModelRequest};
+ghost use Rattle.pmg_node_parts.specs.Calls.{get_of};
 
-use pmg_dmodex::{Marks, Pending};
-use pmg_fence::Table;
+use crate::act::{Act, Joined, Reply};
+use crate::acting::joined_by;
+use crate::asked::Delivery;
+use crate::committing::Committed;
+use crate::leaving::Release;
+use crate::parking::Asked;
+use crate::server::Server;
+use crate::status::Status;
+use crate::taking::Taking;
+use pmg_frame::Frame;
+use pmg_get::Mode;
 use pmg_jobinfo::Registry;
-use pmg_node_parts::{Calls, LocalCommits};
+use pmg_node_model::Sent;
+use pmg_scope::Batch;
 use pmg_store::Board;
-use pmg_value::NodeId;
+use pmg_value::{Array, Key, NodeId, Proc, Refusal, copy_queue};
+use std::alloc::AllocError;
+use std::collections::VecDeque;
 use std::marker::Model;
 
-/// One server: what it knows of all processes, what its own sealed, which fences they are in, and what other nodes ask for
-/// (PMIx Standard 5.0, PMIx_server_init).
+/// A node of a group: one PMIx server with the frames that it has to send to other nodes (PMIx Standard 5.0, PMIx_server_init).
 pub struct Node {
-    pub(crate) id: NodeId,
-    pub(crate) table: Table,
-    pub(crate) board: Board,
-    pub(crate) own: LocalCommits,
-    pub(crate) calls: Calls,
-    pub(crate) held: Pending,
-    pub(crate) marks: Marks,
+    server: Server,
+    outbox: VecDeque<Sent>,
+    joined: Joined,
 }
 
 impl Drop for Node {
     fn drop(self) {
         let Self {
-            id,
-            table,
-            board,
-            own,
-            calls,
-            held,
-            marks,
+            server,
+            outbox,
+            joined,
         } = self;
     }
 }
 
 impl Model for Node {
-    ghost use Rattle.pmg_node.specs.Servers as servers;
-    ghost use Rattle.pmg_node.specs.Content.{server_of, IsContent};
+    ghost use Rattle.pmg_commit.specs.contracts.piece.Piece.{the_row as piece_row};
+    ghost use Rattle.pmg_node_model.specs.contracts.sent.Sent.{the_row as sent_row};
+    ghost use Rattle.pmg_node.specs.Acting.{joins_in};
+    ghost use Rattle.pmg_node.specs.Nodes as nodes;
 
-    ghost Value = { servers.Server };
+    ghost Value = { nodes.Node };
 
-    ghost coded = { servers.coded_server };
+    ghost coded = { nodes.coded_node sent_row.coded piece_row.coded };
 
-    ghost view = { λ a. server_of a.table a.id a.board a.own a.calls a.held a.marks };
-
-    ghost invariant = { λ a. IsContent a.table a.id a.held.anew (server_of a.table a.id a.board a.own a.calls a.held a.marks) };
+    ghost view = { λ a. record { server = a.server; outbox = a.outbox.items; joined = joins_in a.joined } };
 }
 
 impl Node {
-    /// The node's index.
-    pub fn id(&self) -> NodeId
-        ensures value { result ≡ self.now.id }
-        ensures node { is_node self.now.jobs result ≡ true }
+    /// Returns the node of this index: none of its processes has called. It keeps the registry's allocator. Errors: `NoMemory`.
+    pub fn new(id: NodeId, registry: Registry) -> Result<Node, AllocError>
+        requires { is_node registry id ≡ true }
+        ensures { IfOk result (λ node. node ≡ new_node (new_server registry id)) }
     {
-        self.id
+        let alloc = registry.allocator();
+        Ok(Node {
+            server: Server::new(id, registry)?,
+            outbox: VecDeque::new(alloc),
+            joined: Joined::nothing(),
+        })
     }
 
-    /// The registry of the group.
-    pub fn registry(&self) -> &Registry
-        ensures { result.now ≡ self.now.jobs }
+    /// Commits the process's batch, and returns the commit's number (PMIx Standard 5.0, PMIx_Commit). Errors: those of
+    /// `Server::commit`.
+    pub fn commit(&mut self, proc: &Proc, batch: &Batch) -> Result<u64, Refusal>
+        ensures acts { Acts ModelReply.committed self.old (ModelAct.commit proc.now batch.now) result self.new }
     {
-        self.table.registry()
+        self.joined = Joined::nothing();
+        let committed = self.server.commit_joined(proc, batch, &mut self.outbox)?;
+        Ok(self.keep(committed))
     }
 
-    /// What the node knows of all processes: for reads from its own node, and from other nodes.
+    /// Enters the process into its next fence of these participants, and returns the instance (PMIx Standard 5.0, PMIx_Fence). An
+    /// empty list names the whole namespace of the process. Errors: those of `Server::enter`.
+    pub fn enter(&mut self, proc: &Proc, list: &[Proc], collect: bool) -> Result<u64, Refusal>
+        ensures acts { Acts ModelReply.entered self.old (ModelAct.request (ModelRequest.enter proc.now list.now collect)) result self.new }
+    {
+        self.joined = Joined::nothing();
+        self.server.enter(proc, list, collect, &mut self.outbox)
+    }
+
+    /// Lets the process leave the fence that it is released from, and returns the instance and the participants that were gone; or
+    /// that the process waits still, or is in no fence. It takes no memory. Errors: those of `Server::take_release`.
+    pub fn take_release(&mut self, proc: &Proc) -> Result<Release, Refusal>
+        ensures acts { Acts release_reply self.old (ModelAct.request (ModelRequest.leave proc.now)) result self.new }
+    {
+        self.joined = Joined::nothing();
+        self.server.take_release(proc)
+    }
+
+    /// Asks for a key of the target, and returns the value, or that the get waits (PMIx Standard 5.0, PMIx_Get). Errors: those of
+    /// `Server::ask`.
+    pub fn ask(
+        &mut self,
+        proc: &Proc,
+        target: &Proc,
+        key: &Key,
+        mode: Mode,
+    ) -> Result<Asked, Refusal>
+        ensures acts { Acts asked_reply self.old (ModelAct.request (ModelRequest.ask proc.now (get_of target.now key.now) mode)) result self.new }
+    {
+        self.joined = Joined::nothing();
+        self.server.ask(proc, target, key, mode, &mut self.outbox)
+    }
+
+    /// Returns the answer of the get that the process waited for; or that the get waits still, or that there is none. It takes no
+    /// memory. Errors: those of `Server::take_answer`.
+    pub fn take_answer(&mut self, proc: &Proc) -> Result<Taking, Refusal>
+        ensures acts { Acts taking_reply self.old (ModelAct.request (ModelRequest.take proc.now)) result self.new }
+    {
+        self.joined = Joined::nothing();
+        self.server.take_answer(proc)
+    }
+
+    /// Takes a frame of another node, or ignores it where it does not concern this node. Errors: `NoMemory`.
+    pub fn deliver(&mut self, frame: &Frame) -> Result<Delivery, Refusal>
+        ensures acts { Acts delivery_reply self.old (ModelAct.deliver frame.now) result self.new }
+    {
+        self.joined = Joined::nothing();
+        let joined = joined_by(frame)?;
+        let delivery = self.server.deliver(frame, &mut self.outbox)?;
+        if delivery == Delivery::Taken {
+            self.joined = joined;
+        }
+        Ok(delivery)
+    }
+
+    /// Asks other nodes again for what is missing here (this project's call). Errors: `NoMemory`.
+    pub fn nudge(&mut self) -> Result<(), Refusal>
+        ensures acts { Acts (λ _. ModelReply.done) self.old (ModelAct.request ModelRequest.nudge) result self.new }
+    {
+        self.joined = Joined::nothing();
+        Ok(self.server.nudge(&mut self.outbox)?)
+    }
+
+    /// Ends the process, and returns the number of its last commit (PMIx Standard 5.0, PMIx_Finalize). Errors: those of
+    /// `Server::terminate`.
+    pub fn terminate(&mut self, proc: &Proc) -> Result<u64, Refusal>
+        ensures acts { Acts ModelReply.ended self.old (ModelAct.request (ModelRequest.terminate proc.now)) result self.new }
+    {
+        self.joined = Joined::nothing();
+        let committed = self.server.terminate(proc, &mut self.outbox)?;
+        Ok(self.keep(committed))
+    }
+
+    /// Defines a process set, and returns the number of the change (PMIx Standard 5.0, process sets). Errors: those of
+    /// `Server::define_set`.
+    pub fn define_set(&mut self, name: &Key, list: &[Proc]) -> Result<u64, Refusal>
+        ensures acts { Acts ModelReply.defined self.old (ModelAct.request (ModelRequest.define name.now list.now)) result self.new }
+    {
+        self.joined = Joined::nothing();
+        let committed = self.server.define_set(name, list, &mut self.outbox)?;
+        Ok(self.keep(committed))
+    }
+
+    /// Deletes a process set, and returns the number of the change (PMIx Standard 5.0, process sets). Errors: those of
+    /// `Server::delete_set`.
+    pub fn delete_set(&mut self, name: &Key) -> Result<u64, Refusal>
+        ensures acts { Acts ModelReply.defined self.old (ModelAct.request (ModelRequest.delete name.now)) result self.new }
+    {
+        self.joined = Joined::nothing();
+        let committed = self.server.delete_set(name, &mut self.outbox)?;
+        Ok(self.keep(committed))
+    }
+
+    /// Makes the act. Each call of a node is one act, and this call makes any of them. Errors: those of the act's call.
+    pub fn act(&mut self, act: &Act) -> Result<Reply, Refusal>
+        ensures acts { Acts reply_as self.old (act_of act.now) result self.new }
+    {
+        self.joined = Joined::nothing();
+        let acted = self.server.act_into(act, &mut self.outbox)?;
+        self.joined = acted.joined;
+        Ok(acted.reply)
+    }
+
+    /// Takes the next frame out of those that the node has to send, with the node that it goes to. Frames come in the order in which
+    /// the node sent them.
+    pub fn outbox(&mut self) -> Option<Sent>
+        ensures server { self.new.server ≡ self.old.server }
+        ensures joined { self.new.joined ≡ self.old.joined }
+        ensures some { IfSome result (λ sent. self.old.outbox ≡ sent ∷ self.new.outbox) }
+        ensures none { IsNone result → self.old.outbox ≡ [] }
+        ensures empty { IsNone result → self.new.outbox ≡ [] }
+    {
+        self.outbox.pop_front()
+    }
+
+    /// Returns the pieces that the last act joined into the node's stores, for reads from this node and from other nodes. Both are
+    /// `None` after a refusal.
+    pub fn joined(&self) -> &Joined
+        ensures { joins_in result.now ≡ self.now.joined }
+    {
+        &self.joined
+    }
+
+    /// Returns what the node knows of all processes: for reads from this node, and from other nodes.
     pub fn board(&self) -> &Board
-        ensures near { result.now.near ≡ self.now.holding.near }
-        ensures far { result.now.far ≡ self.now.holding.far }
+        ensures near { result.now.near ≡ self.now.server.holding.near }
+        ensures far { result.now.far ≡ self.now.server.holding.far }
     {
-        &self.board
+        self.server.board()
+    }
+
+    /// Returns the members of the process set, as an array of processes (PMIx Standard 5.0, PMIX_QUERY_PSET_MEMBERSHIP). It takes no
+    /// memory. Errors: those of `Server::set_members`.
+    pub fn set_members(&self, name: &Key) -> Result<&Array, Refusal>
+        ensures value { result_map_both (λ a. spelling (values.Array a.now)) (λ e. e) result
+            ≡ first_of (known_members_cause self.now.server.holding.far name.now) (members_known self.now.server.holding.far name.now) }
+        ensures kind { IfOk result (λ a. a.now.tag ≡ 16) }
+    {
+        self.server.set_members(name)
+    }
+
+    /// Returns how the process stands. It takes no memory.
+    pub fn status(&self, proc: &Proc) -> Status
+        ensures { status_in result ≡ status_of self.now.server.jobs self.now.server.id self.now.server.holding proc.now }
+    {
+        self.server.status(proc)
+    }
+
+    /// Returns a copy that means the same: what the last act joined is not copied. Errors: `NoMemory`.
+    pub fn copy(&self) -> Result<Node, AllocError>
+        ensures server { IfOk result (λ copy. copy.server ≡ self.now.server) }
+        ensures outbox { IfOk result (λ copy. copy.outbox ≡ self.now.outbox) }
+        ensures joined { IfOk result (λ copy. copy.joined ≡ no_joins) }
+    {
+        Ok(Node {
+            server: self.server.copy()?,
+            outbox: copy_queue(&self.outbox)?,
+            joined: Joined::nothing(),
+        })
+    }
+
+    /// Keeps what a commit joined, and returns its number.
+    fn keep(&mut self, committed: Committed) -> u64
+        ensures number { result ≡ committed.level }
+        ensures joined { self.new.joined ≡ commit_joins committed }
+        ensures server { self.new.server ≡ self.old.server }
+        ensures outbox { self.new.outbox ≡ self.old.outbox }
+    {
+        self.joined = Joined {
+            near: Some(committed.near),
+            far: Some(committed.far),
+        };
+        committed.level
     }
 }

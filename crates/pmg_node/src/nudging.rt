@@ -14,7 +14,7 @@ ghost use Rattle.pmg_node.specs.Asking.{asking_as};
 ghost use Rattle.pmg_node.specs.Servers.{reply_to, sent_by, after};
 ghost use Rattle.pmg_node_model.specs.declared.due.ToSend.TheVariants as sendings;
 
-use crate::node::Node;
+use crate::server::Server;
 use pmg_frame::{CommitAsk, FenceAsk, FenceName, Frame, RefreshAsk};
 use pmg_node_model::{Sent, ToSend};
 use pmg_node_parts::{hand_out, peers_in};
@@ -22,7 +22,7 @@ use pmg_value::{NodeId, Proc};
 use std::alloc::AllocError;
 use std::collections::VecDeque;
 
-impl Node {
+impl Server {
     /// This node's ask for the commits of the process past the level that is known.
     fn commit_ask(&self, proc: &Proc) -> Result<CommitAsk, AllocError>
         ensures { IfOk result (λ ask. ask ≡ commit_ask self.now.id proc.now (level_at self.now.holding.far proc.now)) }

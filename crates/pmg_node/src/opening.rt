@@ -9,7 +9,7 @@ ghost use Rattle.pmg_node_parts.specs.Marking.{node_zeros, senders, zeros};
 ghost use Rattle.pmg_node_parts.specs.Sealers.{with_fresh};
 ghost use Rattle.pmg_node.specs.Opening.{new_server};
 
-use crate::node::Node;
+use crate::server::Server;
 use pmg_commit::Sealer;
 use pmg_dmodex::{Marks, Pending};
 use pmg_fence::Table;
@@ -75,9 +75,9 @@ fn senders(registry: &Registry, id: NodeId) -> Result<Vec<Proc>, AllocError>
     Ok(procs)
 }
 
-impl Node {
+impl Server {
     /// A new node of the group, of that index: none of its processes has called. It keeps the registry's allocator.
-    pub fn new(id: NodeId, registry: Registry) -> Result<Node, AllocError>
+    pub fn new(id: NodeId, registry: Registry) -> Result<Server, AllocError>
         requires { is_node registry id ≡ true }
         ensures { IfOk result (λ node. node ≡ new_server registry id) }
     {
@@ -86,7 +86,7 @@ impl Node {
         let procs = senders(&registry, id)?;
         let marks = zero_marks(alloc, &procs, &nodes)?;
         let sealers = fresh_sealers(alloc, registry.procs_at(id)?)?;
-        Ok(Node {
+        Ok(Server {
             id,
             table: Table::new(id, registry),
             board: Board::new(alloc),

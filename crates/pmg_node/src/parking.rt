@@ -18,7 +18,7 @@ ghost use Rattle.pmg_node.specs.Servers.{reply_to, sent_by, after, Replies, IsAn
 
 use crate::causes::{Listing, is_bad_caller, look_up};
 use crate::getting::is_bad_get;
-use crate::node::Node;
+use crate::server::Server;
 use pmg_get::{Answer, Mode};
 use pmg_node_model::Sent;
 use pmg_node_parts::{Call, hand_out, rollback};
@@ -47,7 +47,7 @@ fn to_asked(answer: Answer<'_>) -> Result<Asked, Refusal>
     }
 }
 
-impl Node {
+impl Server {
     /// Judges who asks, and for whose key, of whom the registry says this.
     fn check_target(
         &self,

@@ -7,14 +7,14 @@ ghost use Rattle.pmg_node_parts.specs.Calls.{all_instead};
 ghost use Rattle.pmg_node_model.specs.Choosing.{due_by};
 ghost use Rattle.pmg_node.specs.Servers.{after};
 
-use crate::node::Node;
+use crate::server::Server;
 use pmg_commit::Piece;
 use pmg_node_model::ToSend;
 use pmg_node_parts::{BoardPreview, Completion, answers_about, asks_again};
 use pmg_value::Proc;
 use std::alloc::AllocError;
 
-impl Node {
+impl Server {
     /// Whether the piece is of a process that is not at home at this node.
     #[tactic(auto, unfolding(pmg_node_model::specs::Acts::is_taken))]
     pub(crate) fn is_foreign(&self, piece: &Piece) -> bool

@@ -11,7 +11,7 @@ ghost use Rattle.pmg_dmodex.specs.Requests.{with_anew};
 ghost use Rattle.pmg_node_model.specs.Holdings.{CallState, answer_in};
 ghost use Rattle.pmg_node.specs.Servers.{sent_by, after};
 
-use crate::node::Node;
+use crate::server::Server;
 use pmg_dmodex::Pending;
 use pmg_get::Mode;
 use pmg_node_model::Sent;
@@ -48,7 +48,7 @@ fn wait_anew(
     Ok(())
 }
 
-impl Node {
+impl Server {
     /// Whether the get is one that the home of its target, another node, is asked for anew.
     fn asks_anew(&self, target: &Proc, key: &Key, mode: Mode) -> bool
         ensures { result ≡ asks_anew self.now.jobs self.now.id (get_of target.now key.now) mode }

@@ -12,7 +12,7 @@ ghost use Rattle.pmg_node_model.specs.Holdings.{joined};
 ghost use Rattle.pmg_node.specs.Replying.{reply_by, replying_by};
 ghost use Rattle.pmg_node.specs.Servers.{after};
 
-use crate::node::Node;
+use crate::server::Server;
 use pmg_commit::Piece;
 use pmg_frame::{Frame, RefreshAsk, RefreshReply};
 use pmg_node_model::{Sent, ToSend};
@@ -73,7 +73,7 @@ pub(crate) fn absorb_told(board: &mut Board, told: Option<&Piece>) -> Result<(),
     }
 }
 
-impl Node {
+impl Server {
     /// Whether the reply is to a request of this node, for commits of a process that is not at home here.
     #[tactic(auto, unfolding(pmg_node_model::specs::Acts::is_taken))]
     pub(crate) fn is_replied(&self, reply: &RefreshReply) -> bool

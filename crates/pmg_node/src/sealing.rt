@@ -13,7 +13,7 @@ ghost use Rattle.pmg_node.specs.Servers.{reply_to, sent_by, after, IsAnswered, R
 
 use crate::committing::{Committed, keep_published};
 use crate::entering::expand;
-use crate::node::Node;
+use crate::server::Server;
 use crate::publishing::{PublishContext, publish};
 use pmg_commit::SealerUndo;
 use pmg_fence::Table;
@@ -130,7 +130,7 @@ fn seal_due(
     }
 }
 
-impl Node {
+impl Server {
     /// Judges the act, but for what only sealing it shows.
     fn check_sealing(&self, act: &SealingAct<'_>) -> Result<(), Refusal>
         ensures { result ≡ judged_before self.now.jobs self.now.id self.now.holding act.now }

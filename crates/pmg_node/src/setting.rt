@@ -14,7 +14,7 @@ ghost use Rattle.pmg_node.specs.Servers.{reply_to, sent_by, after, IsAnswered, R
 
 use crate::committing::Committed;
 use crate::entering::{has_bad, has_unknown};
-use crate::node::Node;
+use crate::server::Server;
 use crate::sealing::SealingAct;
 use pmg_jobinfo::Registry;
 use pmg_node_model::Sent;
@@ -44,7 +44,7 @@ fn check_room(registry: &Registry, sets: &Sets, name: &Key, list: &[Proc]) -> Re
     sets.can_define(name, count, ARRAY_START + registry.size_meant(list))
 }
 
-impl Node {
+impl Server {
     /// Judges the name of a set, and that this is node 0.
     pub(crate) fn check_name(&self, name: &Key) -> Result<(), Refusal>
         ensures { result ≡ first_of (also (node_cause self.now.id) (name_cause name.now)) tt }

@@ -6,7 +6,7 @@ ghost use Rattle.pmg_node_parts.specs.Calls.{standing_of};
 ghost use Rattle.pmg_node.specs.Replies.{status_in};
 
 use crate::causes::is_member;
-use crate::node::Node;
+use crate::server::Server;
 use pmg_node_parts::Call;
 use pmg_value::Proc;
 
@@ -44,7 +44,7 @@ fn status_by(call: Option<&Call>) -> Status
     }
 }
 
-impl Node {
+impl Server {
     /// How the process stands. It takes no memory.
     #[tactic(auto, unfolding(pmg_node_model::specs::Acts::status_of))]
     pub fn status(&self, proc: &Proc) -> Status

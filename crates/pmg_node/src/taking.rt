@@ -9,7 +9,7 @@ ghost use Rattle.pmg_node.specs.Replies.{taking_reply, pending_reply};
 ghost use Rattle.pmg_node.specs.Servers.{reply_in, reply_to, sent_by, after};
 
 use crate::call_ends::{CallEnd, CallStand};
-use crate::node::Node;
+use crate::server::Server;
 use pmg_node_parts::{Call, Found};
 use pmg_value::{Proc, Refusal, Value};
 
@@ -64,7 +64,7 @@ fn taking_of(stand: CallStand) -> Result<Taking, Refusal>
     }
 }
 
-impl Node {
+impl Server {
     /// The process takes the answer of the get that it waited for (PMIx Standard 5.0, PMIx_Get): the value; or NotFound; or
     /// OutsideScope, where there is one that its scope keeps from the process. Until then it waits, and nothing changes; one
     /// that waits for no get is idle. Refused as BadParam where the process is none of its namespace, or of one whose name

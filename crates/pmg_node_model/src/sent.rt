@@ -1,5 +1,6 @@
 use pmg_frame::Frame;
-use pmg_value::NodeId;
+use pmg_value::{Copied, NodeId};
+use std::alloc::AllocError;
 
 /// A frame on its way to a node.
 #[derive(Drop)]
@@ -8,4 +9,13 @@ pub struct Sent {
     pub to: NodeId,
     /// What is sent.
     pub frame: Frame,
+}
+
+impl Copied for Sent {
+    fn copy(&self) -> Result<Sent, AllocError> {
+        Ok(Sent {
+            to: self.to,
+            frame: self.frame.copy()?,
+        })
+    }
 }

@@ -1,6 +1,7 @@
 pub mod AnswerLemmas
 pub mod AskAgain
 pub mod CallIndex
+pub mod CopiedCalls
 pub mod CallLemmas
 pub mod MarkLemmas
 pub mod PeerLemmas

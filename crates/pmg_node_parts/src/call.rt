@@ -1,10 +1,11 @@
 //! The call that a process is in, and what it comes to.
-ghost use Rattle.std.specs.Prelude.{◌≡◌};
+ghost use Rattle.std.specs.Prelude.{◌≡◌, IfOk};
 ghost use Rattle.std.specs.Option.{option_map};
 ghost use Rattle.pmg_node_parts.specs.Calls.{anew_in, answered_in, get_of, found_outcome, released_by_fence, standing_of, standing_by};
 
 use pmg_frame::FenceName;
-use pmg_value::{Key, Proc, Value};
+use pmg_value::{Key, Proc, Value, copy_all};
+use std::alloc::AllocError;
 
 /// What a get that waited is answered (PMIx Standard 5.0, PMIx_Get).
 #[derive(Drop)]
@@ -66,7 +67,40 @@ impl Drop for Completion {
     }
 }
 
+impl Found {
+    /// Returns a copy, the same answer.
+    fn copy(&self) -> Result<Found, AllocError>
+        ensures { IfOk result (λ copy. found_outcome copy ≡ found_outcome self.now) }
+    {
+        Ok(match self {
+            Found::Value(value) => Found::Value(value.copy()?),
+            Found::NotFound => Found::NotFound,
+            Found::OutsideScope => Found::OutsideScope,
+        })
+    }
+}
+
 impl Call {
+    /// Returns a copy, the same call.
+    pub fn copy(&self) -> Result<Call, AllocError>
+        ensures { IfOk result (λ copy. standing_of copy ≡ standing_of self.now) }
+    {
+        Ok(match self {
+            Call::InFence(name) => Call::InFence(name.copy()?),
+            Call::Released(name, gone) => Call::Released(name.copy()?, copy_all(gone)?),
+            Call::Parked(target, key) => Call::Parked(target.copy()?, key.copy()?),
+            Call::Answered(target, key, found) => {
+                Call::Answered(target.copy()?, key.copy()?, found.copy()?)
+            }
+            Call::Refreshing(target, key, number) => {
+                Call::Refreshing(target.copy()?, key.copy()?, *number)
+            }
+            Call::Refreshed(target, key, found) => {
+                Call::Refreshed(target.copy()?, key.copy()?, found.copy()?)
+            }
+        })
+    }
+
     /// The fence that the process is released from, and the participants that are gone, if it is released.
     pub fn into_released(self) -> Option<(FenceName, Vec<Proc>)>
         ensures { option_map (λ r. (r.0, r.1.items)) result ≡ released_by_fence (standing_of self) }

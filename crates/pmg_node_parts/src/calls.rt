@@ -98,6 +98,17 @@ impl Calls {
         }
     }
 
+    /// Returns a copy, in which each process is in the same call. It keeps the allocator.
+    pub fn copy(&self) -> Result<Calls, AllocError>
+        ensures { IfOk result (λ copy. copy ≡ self.now) }
+    {
+        let mut copies = Calls::new(self.alloc);
+        for (proc, call) in self.rows.iter() {
+            copies.put(proc.copy()?, call.copy()?)?;
+        }
+        Ok(copies)
+    }
+
     /// The call that the process is in.
     pub fn get(&self, proc: &Proc) -> Option<&Call>
         ensures { option_map (λ c. standing_of c.now) result ≡ finite.get self.now proc.now }

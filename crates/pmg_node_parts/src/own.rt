@@ -17,7 +17,7 @@ use pmg_commit::{Piece, SealerUndo};
 use pmg_pset::Sets;
 use pmg_scope::{Batch, Reach};
 use pmg_value::{Key, Proc, Refusal};
-use std::alloc::AllocError;
+use std::alloc::{AllocError, Global};
 use std::marker::Model;
 
 /// What a node's own processes sealed, and the process sets.
@@ -142,5 +142,15 @@ impl LocalCommits {
         ensures { self.new ≡ with_sets self.old (sealer_back self.old.sets before) }
     {
         self.sets.rollback(before);
+    }
+
+    /// Returns a copy, which sealed the same and has the same sets.
+    pub fn copy(&self, alloc: Global) -> Result<LocalCommits, AllocError>
+        ensures { IfOk result (λ copy. copy ≡ self.now) }
+    {
+        Ok(LocalCommits {
+            sealers: self.sealers.copy(alloc)?,
+            sets: self.sets.copy()?,
+        })
     }
 }

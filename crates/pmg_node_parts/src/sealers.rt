@@ -11,7 +11,7 @@ ghost use Rattle.pmg_commit.specs.declared.piece.TheConstants.{MAX_COMMIT};
 
 use pmg_commit::{Piece, Sealer, SealerUndo};
 use pmg_scope::{Batch, Reach};
-use pmg_value::{Proc, Refusal};
+use pmg_value::{Proc, Refusal, copy_rows};
 use std::alloc::{AllocError, Global};
 use std::collections::BTreeMap;
 use std::marker::Model;
@@ -140,5 +140,15 @@ impl Sealers {
         if let Some(sealer) = self.rows.get_mut(proc) {
             sealer.rollback(before);
         }
+    }
+
+    /// Returns a copy, which sealed the same. It keeps the allocator.
+    pub fn copy(&self, alloc: Global) -> Result<Sealers, AllocError>
+        ensures { IfOk result (λ copy. copy ≡ self.now) }
+    {
+        Ok(Sealers {
+            rows: copy_rows(alloc, &self.rows)?,
+            any_ended: self.any_ended,
+        })
     }
 }

@@ -7,7 +7,7 @@ use crate::names::{Key, Nspace};
 use crate::process::{NodeId, Proc};
 use crate::value::Value;
 use std::alloc::{AllocError, Global};
-use std::collections::BTreeMap;
+use std::collections::{BTreeMap, VecDeque};
 
 /// What can be copied, where memory allows.
 pub trait Copied: Drop {
@@ -80,6 +80,17 @@ pub fn copy_all<T: Copied>(items: &Vec<T>) -> Result<Vec<T>, AllocError>
     let mut copies = Vec::with_capacity(*items.allocator(), items.len())?;
     for item in items {
         copies.push(item.copy()?)?;
+    }
+    Ok(copies)
+}
+
+/// Copies of all the items of a queue, in their order.
+pub fn copy_queue<T: Copied>(items: &VecDeque<T>) -> Result<VecDeque<T>, AllocError>
+    ensures { IfOk result (λ copies. copies.items ≡ items.now.items) }
+{
+    let mut copies = VecDeque::with_capacity(*items.allocator(), items.len())?;
+    for item in items.iter() {
+        copies.push_back(item.copy()?)?;
     }
     Ok(copies)
 }

@@ -21,7 +21,7 @@ mod written;
 
 pub use array::Array;
 pub use blobs::{MAX_BLOB_LEN, Octets, Text, first_zero, is_string_text};
-pub use copied::{Copied, copy_all, copy_rows};
+pub use copied::{Copied, copy_all, copy_queue, copy_rows};
 pub use items::{Item, Items, is_number_kind};
 pub use laws::process_order;
 pub use names::{

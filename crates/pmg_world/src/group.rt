@@ -18,7 +18,7 @@ use crate::event::Event;
 use pmg_caches::{Caches, is_bad_put, is_own, own_get};
 use pmg_get::Mode;
 use pmg_jobinfo::Registry;
-use pmg_node::{Act, Node, Reply, Request};
+use pmg_node::{Act, Server, Reply, Request};
 use pmg_node_model::Sent;
 use pmg_scope::Scope;
 use pmg_value::{Key, NodeId, Proc, Refusal, Value};
@@ -28,7 +28,7 @@ use std::collections::VecDeque;
 /// The nodes of a group, what their clients put, and all frames ever sent.
 pub(crate) struct Group {
     pub(crate) registry: Registry,
-    pub(crate) nodes: Vec<Node>,
+    pub(crate) nodes: Vec<Server>,
     pub(crate) caches: Caches,
     pub(crate) sent: VecDeque<Sent>,
 }
@@ -56,14 +56,14 @@ pub(crate) fn is_short(answer: &Result<Reply, Refusal>) -> bool
 }
 
 /// A new node for each that the registry has.
-fn new_nodes(registry: &Registry) -> Result<Vec<Node>, AllocError>
+fn new_nodes(registry: &Registry) -> Result<Vec<Server>, AllocError>
     ensures new { IfOk result (λ nodes. AreNew registry.now (length registry.now.nodes) nodes.items) }
     ensures jobs { AreJobs registry.now }
 {
     let mut nodes = Vec::new(registry.allocator());
     for index in 0..registry.node_count() {
         let node = NodeId::from_checked(index as u32);
-        nodes.push(Node::new(node, registry.copy()?)?)?;
+        nodes.push(Server::new(node, registry.copy()?)?)?;
     }
     Ok(nodes)
 }
@@ -84,7 +84,7 @@ impl Group {
     }
 
     /// The node of that index, if the group has one.
-    pub(crate) fn node(&self, node: NodeId) -> Option<&Node>
+    pub(crate) fn node(&self, node: NodeId) -> Option<&Server>
         ensures { option_map (λ n. n.now) result ≡ slice_get self.now.nodes.items node }
     {
         self.nodes.get(node.index() as usize)

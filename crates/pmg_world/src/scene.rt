@@ -24,7 +24,7 @@ use crate::reply_lines::{flow_line, members_line, refusal_line, reply_line};
 use pmg_get::Mode;
 use pmg_grouptext::node_id;
 use pmg_jobinfo::Registry;
-use pmg_node::{Node, Reply, Request};
+use pmg_node::{Server, Reply, Request};
 use pmg_store::Store;
 use pmg_value::{Array, Items, Key, Proc, Refusal, Value, WatchedWriter};
 use std::alloc::{AllocError, Global};
@@ -236,7 +236,7 @@ impl Scene {
     }
 
     /// The node of that index, if the group has one.
-    fn node(&self, index: u64) -> Option<&Node>
+    fn node(&self, index: u64) -> Option<&Server>
         ensures { option_map (λ n. n.now) result ≡ server_at self.now index }
     {
         match node_id(&self.group.registry, index) {

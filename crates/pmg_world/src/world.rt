@@ -7,7 +7,7 @@ ghost use Rattle.pmg_world.specs.KeptFences.{KeepFences};
 use crate::event::{Event, LoggedEvent};
 use crate::group::{Group, is_short};
 use pmg_jobinfo::Registry;
-use pmg_node::Node;
+use pmg_node::Server;
 use pmg_node_model::Sent;
 use pmg_value::NodeId;
 use std::alloc::AllocError;
@@ -88,7 +88,7 @@ impl World {
     }
 
     /// The node of that index, if the group has one.
-    pub fn node(&self, node: NodeId) -> Option<&Node>
+    pub fn node(&self, node: NodeId) -> Option<&Server>
         ensures { option_map (λ n. n.now) result ≡ slice_get self.now.nodes node }
     {
         self.group.node(node)

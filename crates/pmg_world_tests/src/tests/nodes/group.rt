@@ -4,7 +4,7 @@ use crate::tests::nodes::words::{
     MEMORY, batch, frame, key, number, process, request, word, words_of,
 };
 use pmg_jobinfo::Registry;
-use pmg_node::{Act, Node, Reply, Status};
+use pmg_node::{Act, Server, Reply, Status};
 use pmg_node_model::Sent;
 use pmg_value::{Items, NodeId, Nspace, Refusal, WatchedWriter};
 use std::alloc::Global;
@@ -22,7 +22,7 @@ pub(crate) type Row = (&'static str, usize, &'static [u32], &'static [&'static s
 #[derive(Drop)]
 struct Group {
     alloc: Global,
-    nodes: Vec<Node>,
+    nodes: Vec<Server>,
     sent: VecDeque<Sent>,
 }
 
@@ -48,13 +48,13 @@ pub(crate) fn registry(alloc: Global, count: usize, homes: &[u32]) -> Result<Reg
 }
 
 // The node of that number, of which no process has called.
-fn node_of(rt: &impl Abort, registry: &Registry, id: NodeId) -> Node {
+fn node_of(rt: &impl Abort, registry: &Registry, id: NodeId) -> Server {
     let registry = registry.copy().expect(rt, MEMORY);
     assert!(rt; registry.has_node(id));
-    Node::new(id, registry).expect(rt, MEMORY)
+    Server::new(id, registry).expect(rt, MEMORY)
 }
 
-fn nodes_of(rt: &impl Abort, registry: &Registry) -> Vec<Node> {
+fn nodes_of(rt: &impl Abort, registry: &Registry) -> Vec<Server> {
     let mut nodes = Vec::new(registry.allocator());
     for index in 0..registry.node_count() {
         let id = NodeId::new(index as u32).expect(rt, MEMORY);
@@ -64,7 +64,7 @@ fn nodes_of(rt: &impl Abort, registry: &Registry) -> Vec<Node> {
 }
 
 // How the process stands.
-fn status(rt: &impl Abort, node: &Node, proc: &str, alloc: Global) -> &'static str {
+fn status(rt: &impl Abort, node: &Server, proc: &str, alloc: Global) -> &'static str {
     let proc = process(alloc, proc).expect(rt, MEMORY);
     match node.status(&proc) {
         Status::Stranger => "stranger",
@@ -89,7 +89,7 @@ fn put_items(rt: &impl Abort, text: &mut Vec<u8>, members: Items<'_>, alloc: Glo
 }
 
 // Puts who belongs to the set, or why it is not told.
-fn put_members(rt: &impl Abort, text: &mut Vec<u8>, node: &Node, name: &str, alloc: Global) {
+fn put_members(rt: &impl Abort, text: &mut Vec<u8>, node: &Server, name: &str, alloc: Global) {
     let name = key(alloc, name).expect(rt, MEMORY);
     match node.set_members(&name) {
         Ok(members) => put_items(rt, text, members.items(), alloc),
@@ -98,7 +98,7 @@ fn put_members(rt: &impl Abort, text: &mut Vec<u8>, node: &Node, name: &str, all
 }
 
 // What the node has to tell to other nodes.
-fn dump_lines(rt: &impl Abort, alloc: Global, node: &Node) -> Vec<u8> {
+fn dump_lines(rt: &impl Abort, alloc: Global, node: &Server) -> Vec<u8> {
     let mut writer = WatchedWriter::new(Vec::new(alloc));
     // A list fails to take a text where memory runs out, and nowhere else.
     let dumped = match node.board().far().dump(&mut writer) {
@@ -119,7 +119,7 @@ fn put_played(rt: &impl Abort, text: &mut Vec<u8>, line: &str, found: &[u8]) {
 }
 
 // What the node replies to the act, or why it is refused.
-fn reply_to(node: &mut Node, act: &Act, sent: &mut VecDeque<Sent>) -> Result<Reply, Refusal> {
+fn reply_to(node: &mut Server, act: &Act, sent: &mut VecDeque<Sent>) -> Result<Reply, Refusal> {
     let acted = node.act_into(act, sent)?;
     Ok(acted.reply)
 }
@@ -136,7 +136,7 @@ impl Group {
     }
 
     // The node of that number.
-    fn node(&self, rt: &impl Abort, at: usize) -> &Node {
+    fn node(&self, rt: &impl Abort, at: usize) -> &Server {
         self.nodes.get(at).expect(rt, "a node")
     }
 

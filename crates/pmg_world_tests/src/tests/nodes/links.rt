@@ -4,7 +4,7 @@ use crate::tests::nodes::group::registry;
 use crate::tests::nodes::text::{as_text, put_answer};
 use crate::tests::nodes::words::{MEMORY, batch, number, process, request, word, words_of};
 use pmg_link::{Inbox, Link};
-use pmg_node::{Act, Node};
+use pmg_node::{Act, Server};
 use pmg_value::{NodeId, Refusal};
 use std::alloc::Global;
 use std::process::Abort;
@@ -33,7 +33,7 @@ fn link(rt: &impl Abort, alloc: Global, index: u32) -> Link {
     let registry = registry(alloc, 2, &[0, 1]).expect(rt, MEMORY);
     let id = NodeId::new(index).expect(rt, MEMORY);
     assert!(rt; registry.has_node(id));
-    Link::new(Node::new(id, registry).expect(rt, MEMORY))
+    Link::new(Server::new(id, registry).expect(rt, MEMORY))
 }
 
 // The act of the words.
