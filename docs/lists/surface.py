@@ -22,7 +22,8 @@ SURFACE = {
     "Marks::copy Marks::set Marks::from",
     "pmg_get": "Mode View resolve",
     "pmg_node": "Node::new Node::commit Node::enter Node::take_release Node::ask Node::take_answer Node::deliver Node::nudge Node::terminate "
-    "Node::define_set Node::delete_set Node::set_members Node::status Node::board Act Act::copy Reply Reply::copy Node::act",
+    "Node::define_set Node::delete_set Node::set_members Node::status Node::outbox Node::board Node::joined Node::copy Act Act::copy Reply Reply::copy "
+    "Node::act",
     "pmg_world": "Event World::new World::step World::run World::sent World::events World::node replay",
     "pmg_publish": "publisher Publisher::publish Publisher::tell Told Viewer::learn Viewer::read Viewer::level",
     "pmg_desk": "Journal Journal::copy Transcript Transcript::copy Desk::new Desk::client Desk::deliver Desk::nudge Desk::define_set Desk::delete_set Desk::take_frames Desk::close "

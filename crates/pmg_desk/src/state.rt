@@ -25,7 +25,7 @@ use pmg_jobinfo::Registry;
 use pmg_journal::{AnswerCopies, Event, Evidence, Journal, Record, Step, has_event_by};
 use pmg_node::{Act, Server, Reply, Status};
 use pmg_node_model::Sent;
-use pmg_publish::{MAX_VIEWERS, Publisher, Told, Viewer, publisher};
+use pmg_publish::{Publisher, Told, Viewer, publisher};
 use pmg_store::Store;
 use pmg_value::{NodeId, Proc, Refusal, WatchedWriter};
 use std::alloc::{AllocError, Global};
@@ -119,8 +119,8 @@ fn record_of<R: Wait>(parts: Parts, rt: &R) -> Record
 }
 
 impl State {
-    /// Opens a new node of the group, of that index, of which nothing is told yet. Errors: `NoMemory` alone. A group has at most
-    /// 65,536 processes, as many as a publisher may have viewers.
+    /// Opens a new node of the group, of that index, where nobody has called yet. A node has at most 65,536 processes at home, as many
+    /// as a publisher may have viewers. Errors: `NoMemory`.
     pub fn new<R: Wait>(rt: &R, id: NodeId, registry: Registry) -> Result<State, Refusal>
         requires { is_node registry id ≡ true }
         ensures node { IfOk result (λ s. s.node ≡ Some (new_server registry id)) }
@@ -132,9 +132,6 @@ impl State {
         let alloc = registry.allocator();
         let node = Server::new(id, registry.copy()?)?;
         let count = registry.procs_at(id)?.len();
-        if count > MAX_VIEWERS {
-            return Err(Refusal::NoMemory);
-        }
         let (publisher, viewers) = publisher(rt, alloc, count)?;
         let journal = Journal {
             node: id,

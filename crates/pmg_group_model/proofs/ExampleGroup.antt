@@ -14,6 +14,7 @@ use Rattle.pmg_value.proofs.ProcessOrder.{procs_total, exact_procs}
 use Rattle.pmg_value.proofs.SetOrder.{in_order-from_list}
 use Rattle.pmg_frame.specs.Fences.{participants_of}
 use Rattle.pmg_jobinfo.specs.Jobs.{IsSpace, AreJobs, is_registered, homes_of, is_member, home_of}
+use Rattle.pmg_jobinfo.proofs.TableLemmas.{one_space}
 use Rattle.pmg_fence.specs.Entering.{locals_of}
 use Rattle.pmg_group_model.specs.Examples.{two, j0, j1, meeting}
 
@@ -57,6 +58,7 @@ pub are_jobs : AreJobs two
 are_jobs = record {
   some = omega arith;
   few = omega arith;
+  few_spaces = one_space (codes "j") (0 ∷ 1 ∷ []);
   spaces = λ name. subst (λ (o : Option (List ℕ)). IfSome o (IsSpace 2 name))
       (sym (finite.get-insert nat_list_cmp_total finite.empty (codes "j") (0 ∷ 1 ∷ []) name
       ∙ ap (cond (eq_by_cmp (slice_cmp nat_cmp) name (codes "j")) (Some (0 ∷ 1 ∷ []))) (finite.get-empty (slice_cmp nat_cmp) name)))

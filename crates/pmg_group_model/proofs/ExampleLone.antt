@@ -15,6 +15,7 @@ use Rattle.pmg_value.specs.declared.process.Proc.{Proc}
 use Rattle.pmg_value.proofs.ProcessOrder.{procs_total}
 use Rattle.pmg_jobinfo.specs.Expansion.{expansion}
 use Rattle.pmg_jobinfo.specs.Jobs.{IsSpace, AreJobs, is_registered, homes_of, is_member, home_of}
+use Rattle.pmg_jobinfo.proofs.TableLemmas.{one_space}
 use Rattle.pmg_fence.specs.Entering.{same_proc, locals_of}
 use Rattle.pmg_fence.specs.Tables.{count_of}
 use Rattle.pmg_node_model.specs.Acts.{Request, Act, also, free_cause, busy_cause, caller_cause, list_cause, signature_cause, request_cause, cause, does, over, acts}
@@ -61,6 +62,7 @@ pub are_lone : AreJobs lone
 are_lone = record {
   some = omega arith;
   few = omega arith;
+  few_spaces = one_space (codes "j") (0 ∷ 0 ∷ []);
   spaces = λ name. subst (λ (o : Option (List ℕ)). IfSome o (IsSpace 1 name))
       (sym (finite.get-insert nat_list_cmp_total finite.empty (codes "j") (0 ∷ 0 ∷ []) name
       ∙ ap (cond (eq_by_cmp (slice_cmp nat_cmp) name (codes "j")) (Some (0 ∷ 0 ∷ []))) (finite.get-empty (slice_cmp nat_cmp) name)))

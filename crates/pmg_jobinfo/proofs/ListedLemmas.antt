@@ -1,18 +1,21 @@
 -- Whom the nodes of a group have at home.
-use Rattle.std.proofs.Common.{◌≡◌, ℕ, ◌<◌, Bool, true, false, cond, not, ◌&&◌, ◌||◌, T, List, [], ◌∷◌, get_or, length, Option, Some, None, refl, sym, ap, subst, ◌∙◌, inl, inr, arith}
+use Rattle.std.proofs.Common.{◌≡◌, ℕ, ◌<◌, ◌≤◌, ◌*◌, Bool, true, false, cond, not, ◌&&◌, ◌||◌, T, List, [], ◌∷◌, get_or, length, Option, Some, None, refl, sym, ap, subst, ◌∙◌, inl, inr, arith}
 use Rattle.std.specs.Prelude.{◌==◌, nat_le, nat_lt}
 use Rattle.std.specs.Cmp.{IsTotalOrder, Equal-is}
 use Rattle.std.specs.Cmp.Lexicographic.{nat_list_cmp_total}
 use Rattle.std.specs.FinMap as finite
 use Rattle.std.specs.FinMap.{IsAntisymmetric}
 use Rattle.std.specs.FinMap.Entries.{find, below_all, is_sorted}
-use Rattle.std.specs.List.{list_all}
+use Rattle.std.specs.List.{flat_map, list_all}
 use Rattle.std.specs.Option.{unwrap_or}
 use Rattle.std.specs.declared.cmp.Ordering.{Ordering}
 use Rattle.std.specs.declared.cmp.Ordering.TheVariants.{Less}
 use Rattle.std.specs.Ordering.{eq_by_cmp, is_eq, is_lt, ordering_reverse}
 use Rattle.std.proofs.lemmas.Bool.{eq-eqb, eqb-true, le-leb, lt-ltb, ltb-true}
 use Rattle.std.proofs.lemmas.Cmp.{tied_itself}
+use Rattle.std.proofs.lemmas.List.{length-append, length-map}
+use Rattle.std.proofs.lemmas.List.FromFn.{length-range_with_len}
+use Rattle.std.proofs.lemmas.List.Sums.{count_by-le-length, length-filter}
 use Rattle.std.proofs.lemmas.Map.Lookups.{exact_bytes}
 use Rattle.pmg_value.specs.declared.process.Proc.{Proc}
 use Rattle.pmg_value.specs.Lists.{In}
@@ -25,6 +28,7 @@ use Rattle.pmg_jobinfo.specs.Jobs.{Jobs, AreJobs, IsSpace, homes_of}
 use Rattle.pmg_jobinfo.specs.Procs.{procs_of, procs_at}
 use Rattle.pmg_jobinfo.specs.Reserved.{ranks_at}
 use Rattle.pmg_jobinfo.specs.Rules.{OwnAreListed, ListedAreOwn, ListedAreClients}
+use Rattle.pmg_jobinfo.specs.declared.registry.TheConstants.{MAX_RANKS, MAX_SPACES}
 use Rattle.pmg_jobinfo.proofs.TableLemmas.{space_at}
 
 pub all_pass : {A : Type 0} (p : A → Bool) (xs : List A) → ((x : A) → In x xs → p x ≡ true) → list_all p xs ≡ true
@@ -134,3 +138,33 @@ listed_are_clients jobs node are = all_pass is_client (procs_at jobs node) (λ p
 pub listed_can_commit : (jobs : Jobs) (node : ℕ) → AreJobs jobs → list_all can_commit (procs_at jobs node) ≡ true
 listed_can_commit jobs node are =
     all_pass can_commit (procs_at jobs node) (λ p i. ap (λ (b : Bool). b || is_host p) (listed_is_client jobs node p are i))
+
+-- ---- how many processes a node has at home
+
+-- lists of at most so many items as a namespace has ranks, one after the other
+few_in_all : {A : Type 0} (f : A → List Proc) (xs : List A) → ((x : A) → In x xs → length (f x) ≤ MAX_RANKS) → length (flat_map f xs) ≤ length xs * MAX_RANKS
+few_in_all f [] each = omega arith
+few_in_all f (x ∷ xs) each =
+    let first = each x (inl refl) in
+    let rest = few_in_all f xs (λ y i. each y (inr i)) in
+    let both = length-append (f x) (flat_map f xs) in
+    omega (arith, first, rest, both)
+
+few_at : (node : ℕ) (name homes : List ℕ) → length homes ≤ MAX_RANKS → length (procs_of name (ranks_at node homes)) ≤ MAX_RANKS
+few_at node name homes few =
+    let here : ℕ → Bool = λ rank. get_or homes rank 0 == node in
+    let mapped = length-map {B = Proc} (ranks_at node homes) (λ rank. record { nspace = name; rank = rank }) in
+    let counted = length-filter here (ranks (length homes)) in
+    let below = count_by-le-length here (ranks (length homes)) in
+    let all = length-range_with_len 0 (length homes) in
+    omega (arith, mapped, counted, below, all, few)
+
+-- at most as many as a group may register
+pub few_listed : (jobs : Jobs) (node : ℕ) → AreJobs jobs → length (procs_at jobs node) ≤ MAX_SPACES * MAX_RANKS
+few_listed jobs node are =
+    let space : (e : Space) → In e (finite.entries jobs.spaces) → length (procs_of e.0 (ranks_at node e.1)) ≤ MAX_RANKS = λ e i.
+    few_at node e.0 e.1 (space_at jobs e.0 e.1 are (sym (entry_get nat_list_cmp_total jobs.spaces e i))).few in
+    let all = few_in_all (λ (e : Space). procs_of e.0 (ranks_at node e.1)) (finite.entries jobs.spaces) space in
+    let count = finite.len-entries jobs.spaces in
+    let spaces = are.few_spaces in
+    omega (arith, all, count, spaces)

@@ -1,5 +1,5 @@
 -- What a table of namespaces has at a name, and what is registered when one is added to it.
-use Rattle.std.proofs.Common.{◌≡◌, ℕ, ◌<◌, ◌≤◌, List, [], true, false, cond, length, refl, sym, ap, subst, ◌∙◌}
+use Rattle.std.proofs.Common.{◌≡◌, ℕ, ◌+◌, ◌<◌, ◌≤◌, Bool, List, [], true, false, cond, length, refl, sym, ap, subst, ◌∙◌, arith}
 use Rattle.std.specs.Prelude.{Option, Some, IfSome}
 use Rattle.std.specs.declared.cmp.Ordering.{Ordering}
 use Rattle.std.specs.Ordering.{nat_cmp, eq_by_cmp}
@@ -11,6 +11,7 @@ use Rattle.std.specs.FinMap as finite
 use Rattle.pmg_value.specs.Rows.{AreRising, map_of}
 use Rattle.pmg_value.proofs.RowLemmas.{at_key, get-map_of, len_rising, rows_with, same_rows}
 use Rattle.pmg_jobinfo.specs.Jobs.{Jobs, AreJobs, IsSpace, jobs_of, registered}
+use Rattle.pmg_jobinfo.specs.declared.registry.TheConstants.{MAX_SPACES}
 
 abbrev names_cmp : List ℕ → List ℕ → Ordering
 names_cmp = slice_cmp nat_cmp
@@ -41,10 +42,15 @@ jobs_with names old new jobs name homes given is same put =
     ∙ (λ i. registered (is i) name (same i))
 
 -- a registration keeps what holds of all jobs
-pub jobs_registered : (jobs : Jobs) (name homes : List ℕ) → AreJobs jobs → IsSpace (length jobs.nodes) name homes → AreJobs (registered jobs name homes)
-jobs_registered jobs name homes are space = record {
+one_more : (b : Bool) (n : ℕ) → n < MAX_SPACES → cond b n (n + 1) ≤ MAX_SPACES
+one_more true n room = omega (arith, room)
+one_more false n room = omega (arith, room)
+
+pub jobs_registered : (jobs : Jobs) (name homes : List ℕ) → AreJobs jobs → IsSpace (length jobs.nodes) name homes → finite.len jobs.spaces < MAX_SPACES → AreJobs (registered jobs name homes)
+jobs_registered jobs name homes are space room = record {
   some = are.some;
   few = are.few;
+  few_spaces = subst (λ n. n ≤ MAX_SPACES) (sym (finite.len-insert nat_list_cmp_total jobs.spaces name homes)) (one_more (finite.contains_key jobs.spaces name) (finite.len jobs.spaces) room);
   spaces = λ q.
       subst (λ (o : Option (List ℕ)). IfSome o (IsSpace (length jobs.nodes) q)) (sym (finite.get-insert nat_list_cmp_total jobs.spaces name homes q))
       (elim (eq_by_cmp names_cmp q name) as (λ b. eq_by_cmp names_cmp q name ≡ b → IfSome (cond b (Some homes) (finite.get jobs.spaces q)) (IsSpace (length jobs.nodes) q)) [
@@ -62,7 +68,14 @@ pub jobs_opened : (names : List (List ℕ)) (es : Table) → es ≡ [] → 0 < l
 jobs_opened names es none some few = record {
   some = some;
   few = few;
+  few_spaces = subst (λ n. n ≤ MAX_SPACES) (sym (ap (λ (t : Table). finite.len (map_of {R = names_cmp} t)) none ∙ finite.len-empty names_cmp (List ℕ))) (omega arith);
   spaces = λ q.
       subst (λ (t : Table). IfSome (finite.get (map_of {R = names_cmp} t) q) (IsSpace (length names) q)) (sym none)
       (subst (λ (o : Option (List ℕ)). IfSome o (IsSpace (length names) q)) (sym (finite.get-empty {X = List ℕ} names_cmp q)) tt);
 }
+
+-- a group with one namespace has few
+pub one_space : (name homes : List ℕ) → finite.len (finite.insert {R = names_cmp} finite.empty name homes) ≤ MAX_SPACES
+one_space name homes =
+    subst (λ n. n ≤ MAX_SPACES) (sym (finite.len-insert nat_list_cmp_total finite.empty name homes))
+    (one_more (finite.contains_key {X = List ℕ} finite.empty name) (finite.len {X = List ℕ} finite.empty) (subst (λ n. n < MAX_SPACES) (sym (finite.len-empty names_cmp (List ℕ))) (omega arith)))

@@ -9,7 +9,7 @@ use Rattle.std.specs.FinMap as map
 use Rattle.pmg_value.specs.Rows.{map_of}
 use Rattle.pmg_value.specs.declared.process.Proc.{Proc}
 use Rattle.pmg_value.specs.Names.{is_reserved}
-use Rattle.pmg_jobinfo.specs.declared.registry.TheConstants.{MAX_NODES, MAX_RANKS}
+use Rattle.pmg_jobinfo.specs.declared.registry.TheConstants.{MAX_NODES, MAX_RANKS, MAX_SPACES}
 
 -- The homes of a namespace's ranks 0, 1, .., by namespace. A process's home is the node that hosts it, by its index.
 abbrev pub Spaces : Type 0
@@ -75,8 +75,9 @@ pub record IsSpace (nodes : ℕ) (name homes : List ℕ) : Type 0 where
   pub few : length homes ≤ MAX_RANKS
   pub at_nodes : IsTrue (list_all (λ home. nat_lt home nodes) homes)
 
--- what holds of the jobs of every group: 1 to 64 nodes, and namespaces that may be registered
+-- what holds of the jobs of every group: 1 to 64 nodes, and at most 16 namespaces, each of which may be registered
 pub record AreJobs (jobs : Jobs) : Type 0 where
   pub some : 0 < length jobs.nodes
   pub few : length jobs.nodes ≤ MAX_NODES
+  pub few_spaces : map.len jobs.spaces ≤ MAX_SPACES
   pub spaces : (name : List ℕ) → IfSome (map.get jobs.spaces name) (IsSpace (length jobs.nodes) name)

@@ -1,5 +1,5 @@
 //! The registered namespaces and the homes of their processes.
-ghost use Rattle.std.specs.Prelude.{◌≡◌, ◌==◌, ◌<◌, ◌≤◌, [], map, length, slice_index_or, Some, IfOk, OnOk, OnErr, IfSome, IsTrue, ◌↔◌};
+ghost use Rattle.std.specs.Prelude.{◌≡◌, ◌==◌, ◌<◌, ◌≤◌, ◌*◌, [], map, length, slice_index_or, Some, IfOk, OnOk, OnErr, IfSome, IsTrue, ◌↔◌};
 ghost use Rattle.std.specs.List.{list_all};
 ghost use Rattle.std.specs.Ordering.{nat_cmp};
 ghost use Rattle.std.specs.Cmp.Lexicographic.{slice_cmp};
@@ -11,6 +11,7 @@ ghost use Rattle.pmg_value.specs.CheckOrder.{first_of};
 ghost use Rattle.pmg_jobinfo.specs.Jobs.{AreJobs, IsSpace, spaces_of, opened, registered, size_of, home_of, is_node};
 ghost use Rattle.pmg_jobinfo.specs.Procs.{all_procs, procs_at, reach_of};
 ghost use Rattle.pmg_jobinfo.specs.Refusing.{new_cause, register_cause, size_cause, home_cause};
+ghost use Rattle.pmg_jobinfo.specs.declared.registry.TheConstants.{MAX_RANKS, MAX_SPACES};
 
 use crate::homes::{Homes, push_all, push_procs, ranks_at};
 use crate::names::{are_node_names, texts_of};
@@ -147,6 +148,7 @@ impl Registry {
     fn check_space(&self, nspace: &Nspace, homes: &[NodeId]) -> Result<(), Refusal>
         ensures value { result ≡ first_of (register_cause self.now nspace.now homes.now) tt }
         ensures space { OnOk result (IsSpace (length self.now.nodes) nspace.now homes.now) }
+        ensures room { OnOk result (finite.len self.now.spaces < MAX_SPACES) }
     {
         if nspace.is_reserved() || homes.is_empty() || !self.are_nodes(homes) {
             return Err(Refusal::BadParam);
@@ -240,9 +242,10 @@ impl Registry {
         Ok(procs)
     }
 
-    /// The processes at home at the node, by namespace and rank.
+    /// Returns the processes at home at the node, by namespace and rank: at most 65,536, as a group has at most 16 namespaces.
     pub fn procs_at(&self, node: NodeId) -> Result<Vec<Proc>, AllocError>
-        ensures { IfOk result (λ procs. procs.items ≡ procs_at self.now node) }
+        ensures procs { IfOk result (λ procs. procs.items ≡ procs_at self.now node) }
+        ensures few { IfOk result (λ procs. length procs.items ≤ MAX_SPACES * MAX_RANKS) }
     {
         let mut procs = Vec::new(self.allocator());
         for (nspace, homes) in self.spaces.iter() {

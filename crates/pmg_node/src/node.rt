@@ -80,8 +80,9 @@ impl Node {
         })
     }
 
-    /// Commits the process's batch, and returns the commit's number (PMIx Standard 5.0, PMIx_Commit). Errors: those of
-    /// `Server::commit`.
+    /// Commits the process's batch, and returns the commit's number (PMIx Standard 5.0, PMIx_Commit). Errors: `BadParam` if the process
+    /// is not one of its namespace, or the namespace begins with `pmix`; `UnknownNamespace`; `NotMine` if its home is another node;
+    /// `Terminated`; `Busy` if it is in a call; `TooMany` if the commit would pass a limit; `NoMemory`.
     pub fn commit(&mut self, proc: &Proc, batch: &Batch) -> Result<u64, Refusal>
         ensures acts { Acts ModelReply.committed self.old (ModelAct.commit proc.now batch.now) result self.new }
     {
@@ -91,7 +92,9 @@ impl Node {
     }
 
     /// Enters the process into its next fence of these participants, and returns the instance (PMIx Standard 5.0, PMIx_Fence). An
-    /// empty list names the whole namespace of the process. Errors: those of `Server::enter`.
+    /// empty list names the whole namespace of the process. Errors: `BadParam` if the process or one in the list is not one of its
+    /// namespace, or the namespace begins with `pmix`; `UnknownNamespace`; `NotMine`, `Terminated` and `Busy` as for `commit`;
+    /// `NotAParticipant` if the list has not the process; `TooMany` past 4,096 participants or 4,294,967,295 entries; `NoMemory`.
     pub fn enter(&mut self, proc: &Proc, list: &[Proc], collect: bool) -> Result<u64, Refusal>
         ensures acts { Acts ModelReply.entered self.old (ModelAct.request (ModelRequest.enter proc.now list.now collect)) result self.new }
     {
@@ -100,7 +103,8 @@ impl Node {
     }
 
     /// Lets the process leave the fence that it is released from, and returns the instance and the participants that were gone; or
-    /// that the process waits still, or is in no fence. It takes no memory. Errors: those of `Server::take_release`.
+    /// that the process waits still, or is in no fence. It takes no memory. Errors: `BadParam`, `UnknownNamespace`, `NotMine` and
+    /// `Terminated`, as for `commit`.
     pub fn take_release(&mut self, proc: &Proc) -> Result<Release, Refusal>
         ensures acts { Acts release_reply self.old (ModelAct.request (ModelRequest.leave proc.now)) result self.new }
     {
@@ -108,8 +112,10 @@ impl Node {
         self.server.take_release(proc)
     }
 
-    /// Asks for a key of the target, and returns the value, or that the get waits (PMIx Standard 5.0, PMIx_Get). Errors: those of
-    /// `Server::ask`.
+    /// Asks for a key of the target, and returns the value, or that the get waits (PMIx Standard 5.0, PMIx_Get). Errors: `BadParam`,
+    /// `UnknownNamespace`, `NotMine`, `Terminated` and `Busy` as for `commit`, `BadParam` also for a key of the caller that is not
+    /// reserved; `NotFound` if there is no value and the get does not wait; `OutsideScope` if the scope keeps the value from the
+    /// process; `TooMany` past 2^64 - 1 refreshing gets; `NoMemory`.
     pub fn ask(
         &mut self,
         proc: &Proc,
@@ -124,7 +130,8 @@ impl Node {
     }
 
     /// Returns the answer of the get that the process waited for; or that the get waits still, or that there is none. It takes no
-    /// memory. Errors: those of `Server::take_answer`.
+    /// memory. Errors: `BadParam`, `UnknownNamespace`, `NotMine` and `Terminated`, as for `commit`; and those that answer the get,
+    /// `NotFound` and `OutsideScope`.
     pub fn take_answer(&mut self, proc: &Proc) -> Result<Taking, Refusal>
         ensures acts { Acts taking_reply self.old (ModelAct.request (ModelRequest.take proc.now)) result self.new }
     {
@@ -153,8 +160,8 @@ impl Node {
         Ok(self.server.nudge(&mut self.outbox)?)
     }
 
-    /// Ends the process, and returns the number of its last commit (PMIx Standard 5.0, PMIx_Finalize). Errors: those of
-    /// `Server::terminate`.
+    /// Ends the process, and returns the number of its last commit (PMIx Standard 5.0, PMIx_Finalize). Errors: `BadParam`,
+    /// `UnknownNamespace`, `NotMine` and `Terminated`, as for `commit`; `NoMemory`.
     pub fn terminate(&mut self, proc: &Proc) -> Result<u64, Refusal>
         ensures acts { Acts ModelReply.ended self.old (ModelAct.request (ModelRequest.terminate proc.now)) result self.new }
     {
@@ -163,8 +170,9 @@ impl Node {
         Ok(self.keep(committed))
     }
 
-    /// Defines a process set, and returns the number of the change (PMIx Standard 5.0, process sets). Errors: those of
-    /// `Server::define_set`.
+    /// Defines a process set, and returns the number of the change (PMIx Standard 5.0, process sets). Errors: `BadParam` if the name
+    /// begins with `pmix`, the list is empty, or one in it is not one of its namespace; `UnknownNamespace`; `NotMine` at a node other
+    /// than 0; `Exists`; `TooMany` past 4,096 members or another limit of a set; `NoMemory`.
     pub fn define_set(&mut self, name: &Key, list: &[Proc]) -> Result<u64, Refusal>
         ensures acts { Acts ModelReply.defined self.old (ModelAct.request (ModelRequest.define name.now list.now)) result self.new }
     {
@@ -173,8 +181,8 @@ impl Node {
         Ok(self.keep(committed))
     }
 
-    /// Deletes a process set, and returns the number of the change (PMIx Standard 5.0, process sets). Errors: those of
-    /// `Server::delete_set`.
+    /// Deletes a process set, and returns the number of the change (PMIx Standard 5.0, process sets). Errors: `BadParam` if the name
+    /// begins with `pmix`; `NotMine` at a node other than 0; `NotFound`; `TooMany` past 4,294,967,294 changes; `NoMemory`.
     pub fn delete_set(&mut self, name: &Key) -> Result<u64, Refusal>
         ensures acts { Acts ModelReply.defined self.old (ModelAct.request (ModelRequest.delete name.now)) result self.new }
     {
@@ -183,7 +191,9 @@ impl Node {
         Ok(self.keep(committed))
     }
 
-    /// Makes the act. Each call of a node is one act, and this call makes any of them. Errors: those of the act's call.
+    /// Makes the act. Each call of a node is one act, and this call makes any of them. Errors: those of the act's call, which are of
+    /// `BadParam`, `NotFound`, `OutsideScope`, `UnknownNamespace`, `NotMine`, `Busy`, `Terminated`, `NotAParticipant`, `TooMany`,
+    /// `Exists` and `NoMemory`.
     pub fn act(&mut self, act: &Act) -> Result<Reply, Refusal>
         ensures acts { Acts reply_as self.old (act_of act.now) result self.new }
     {
@@ -222,7 +232,7 @@ impl Node {
     }
 
     /// Returns the members of the process set, as an array of processes (PMIx Standard 5.0, PMIX_QUERY_PSET_MEMBERSHIP). It takes no
-    /// memory. Errors: those of `Server::set_members`.
+    /// memory. Errors: `BadParam` if the name begins with `pmix`; `NotFound` if the node knows no set of that name.
     pub fn set_members(&self, name: &Key) -> Result<&Array, Refusal>
         ensures value { result_map_both (λ a. spelling (values.Array a.now)) (λ e. e) result
             ≡ first_of (known_members_cause self.now.server.holding.far name.now) (members_known self.now.server.holding.far name.now) }
