@@ -32,3 +32,4 @@ pub mod AskLemmas
 pub mod ToldLemmas
 pub mod NudgeLemmas
 pub mod MemberLemmas
+pub mod NodeActs

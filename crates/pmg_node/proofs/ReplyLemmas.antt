@@ -65,6 +65,17 @@ module _ (s : Server) (a : Act) where
   refuses_act refusals.Unordered is = is
   refuses_act refusals.Closed is = is
 
+module _ {X : Type 0} (view : X → Reply) (s : Server) (a : Act) where
+  -- an answer that is due, unless an allocation fails, is an answer to the act
+  pub act_replies : (r : Result X Refusal) → Replies view r (reply_to s a) → RepliesAct view r s a
+  act_replies (Ok x) is = is
+  act_replies (Err e) is = refuses_act s a e is
+
+  -- an answer that is due is an answer to the act, where NoMemory never is due
+  pub entry_replies : (r : Result X Refusal) → reply_in view r ≡ reply_to s a → (reply_to s a ≡ Reply.refused refusals.NoMemory → ⊥) → RepliesAct view r s a
+  entry_replies (Ok x) is never = sym is
+  entry_replies (Err e) is never = refuses_due s a e never (sym is)
+
 module _ {X : Type 0} (view : X → Reply) (gives : X → Joins) where
   -- the same answer is the one that is due, which is never NoMemory
   pub entry_told : (r : Result X Refusal) (q : Result Acted Refusal) (s : Server) (a : Act) → SameAnswer view gives r q → reply_in view r ≡ reply_to s a
@@ -187,16 +198,22 @@ module _ {X : Type 0} (view : X → Reply) (s : Server) (a : Act) where
 
 module _ (view : Committed → Reply) (s : Server) (a : Act) (p : Proc) (new : Server) (loud : (c : Committed) → is_quiet (view c) ≡ false)
     (seals : (h : NodeState) → act_joins s.holding a h ≡ seal_joins (sealer_of h p) (sealer_of s.holding p).level) where
+  -- a commit that is answered joined what its act joins
+  pub sealed_joins_are : (c : Committed) → reply_to s a ≡ view c → new ≡ after s a
+      → c.near ≡ piece_at (sealer_of new.holding p) (sealer_of s.holding p).level reach.Near
+      → c.far ≡ piece_at (sealer_of new.holding p) (sealer_of s.holding p).level reach.Far
+      → commit_joins c ≡ joins s.jobs s.id s.holding a
+  sealed_joins_are c due done near far =
+      (λ i. record { near = Some (near i); far = Some (far i) })
+      ∙ ap (λ (x : Server). seal_joins (sealer_of x.holding p) (sealer_of s.holding p).level) done
+      ∙ sym (seals (after s a).holding)
+      ∙ sym (joins_loud s.jobs s.id s.holding a (ap is_quiet due ∙ loud c))
+
   pub sealed_told : (r : Result Committed Refusal) (q : Result Acted Refusal) → SameAnswer view commit_joins r q → Replies view r (reply_to s a) → (IsAnswered r → new ≡ after s a)
       → IfOk r (λ c. c.near ≡ piece_at (sealer_of new.holding p) (sealer_of s.holding p).level reach.Near)
       → IfOk r (λ c. c.far ≡ piece_at (sealer_of new.holding p) (sealer_of s.holding p).level reach.Far)
       → IfOk q (λ acted. joins_in acted.joined ≡ joins s.jobs s.id s.holding a)
-  sealed_told (Ok c) (Ok acted) same due done near far =
-      same.1
-      ∙ (λ i. record { near = Some (near i); far = Some (far i) })
-      ∙ ap (λ (x : Server). seal_joins (sealer_of x.holding p) (sealer_of s.holding p).level) (done tt)
-      ∙ sym (seals (after s a).holding)
-      ∙ sym (joins_loud s.jobs s.id s.holding a (ap is_quiet due ∙ loud c))
+  sealed_told (Ok c) (Ok acted) same due done near far = same.1 ∙ sealed_joins_are c due (done tt) near far
   sealed_told (Err e) (Err f) same due done near far = tt
   sealed_told (Ok c) (Err f) same due done near far = tt
   sealed_told (Err e) (Ok acted) same due done near far = absurd same

@@ -15,6 +15,7 @@ use Rattle.pmg_store.specs.Dump.{dump}
 use Rattle.pmg_jobinfo.specs.Jobs.{Jobs, is_node, opened}
 use Rattle.pmg_jobinfo.specs.Refusing.{new_cause}
 use Rattle.pmg_node_model.specs.Acts.{Request, Reply}
+use Rattle.pmg_node_model.specs.declared.sent.Sent.{Sent}
 use Rattle.pmg_node.specs.Members.{known_members_cause, members_known}
 use Rattle.pmg_node.specs.Servers.{Server}
 use Rattle.pmg_grouptext.specs.Groups.{with_named_space}
@@ -113,6 +114,18 @@ Opens (Err e) text v = (text ≡ refused_line e) × (v ≡ phases.Over)
 abbrev pub Registers : Jobs → Result Jobs Refusal → List ℕ → Phase → Type 0
 Registers jobs (Ok more) text v = (text ≡ ok_line) × (v ≡ phases.Registering more)
 Registers jobs (Err e) text v = (text ≡ refused_line e) × (v ≡ phases.Registering jobs)
+
+-- the jobs that are registered, once the nodes are named
+abbrev pub jobs_at : Phase → Option Jobs
+jobs_at phases.Fresh = None
+jobs_at (phases.Registering jobs) = Some jobs
+jobs_at (phases.Running w) = Some w.jobs
+jobs_at phases.Over = None
+
+-- all frames ever sent, once the world runs
+abbrev pub sent_at : Phase → Option (List Sent)
+sent_at (phases.Running w) = Some w.sent
+sent_at _ = None
 
 -- a world of these jobs in which nothing happened
 pub record IsNew (jobs : Jobs) (w : GroupState) : Type 0 where

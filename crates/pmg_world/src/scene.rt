@@ -24,10 +24,12 @@ use crate::reply_lines::{flow_line, members_line, refusal_line, reply_line};
 use pmg_get::Mode;
 use pmg_grouptext::node_id;
 use pmg_jobinfo::Registry;
-use pmg_node::{Server, Reply, Request};
+use pmg_node::{Reply, Request, Server};
+use pmg_node_model::Sent;
 use pmg_store::Store;
 use pmg_value::{Array, Items, Key, Proc, Refusal, Value, WatchedWriter};
 use std::alloc::{AllocError, Global};
+use std::collections::VecDeque;
 use std::marker::Model;
 
 /// A group that runs, and which of its frames were delivered. Whatever happens, some run of the model leads to the state that it is in,
@@ -140,6 +142,13 @@ impl Scene {
         ensures { result.now ≡ self.now.jobs }
     {
         &self.group.registry
+    }
+
+    /// Returns all frames ever sent, each with the node that it was sent to, in their order.
+    pub(crate) fn sent(&self) -> &VecDeque<Sent>
+        ensures { result.now.items ≡ self.now.sent }
+    {
+        &self.group.sent
     }
 
     /// What is asked of the world is done, and answered with the text of its reply.

@@ -1,5 +1,6 @@
 //! What does the lines of a script, from the names of the nodes on; and whole scripts.
 ghost use Rattle.std.specs.Prelude.{◌≡◌, ◌≢◌, ◌≤◌, ◌+◌, ◌⊎◌, ℕ, false, List, Ok, Err, IfOk, IfErr, IfSome, IsSome, OnOk, OnErr};
+ghost use Rattle.std.specs.Option.{option_map};
 ghost use Rattle.pmg_store.specs.declared.failure.Failure.TheVariants as failures;
 ghost use Rattle.pmg_store.specs.declared.input.TheConstants.{MOST_READS};
 ghost use Rattle.pmg_value.specs.declared.refusal.Refusal.TheVariants as refusals;
@@ -7,7 +8,7 @@ ghost use Rattle.pmg_script.specs.Replays.{Replayed};
 ghost use Rattle.pmg_world.specs.Asking.{is_get};
 ghost use Rattle.pmg_world.specs.GroupStates.{GroupState};
 ghost use Rattle.pmg_script.specs.Scripts.{Line as ScriptLine, line_of, texts};
-ghost use Rattle.pmg_world.specs.Stages.{OpensAt, PlaysLine, RegistersAt, Runs, RunsAt, StopsLine, AsksNothing, is_over, ok_line, refused_line};
+ghost use Rattle.pmg_world.specs.Stages.{OpensAt, PlaysLine, RegistersAt, Runs, RunsAt, StopsLine, AsksNothing, is_over, jobs_at, ok_line, refused_line, sent_at};
 ghost use Rattle.pmg_script.specs.declared.lines.LineFault.TheVariants as faults;
 ghost use Rattle.pmg_world.specs.declared.phase.Phase.{Phase as AnyPhase};
 ghost use Rattle.pmg_world.specs.declared.phase.Phase.TheVariants as phases;
@@ -20,10 +21,12 @@ use pmg_get::Mode;
 use pmg_grouptext::register_space;
 use pmg_jobinfo::Registry;
 use pmg_node::Reply;
+use pmg_node_model::Sent;
 use pmg_script::{Ended, Line, LineFault, Named, Player, play_script, read_line};
 use pmg_store::{Failure, WatchedReader};
 use pmg_value::{Key, Refusal, WatchedWriter};
 use std::alloc::{AllocError, Global};
+use std::collections::VecDeque;
 use std::io::{BufRead, Write};
 use std::marker::Model;
 
@@ -148,6 +151,27 @@ impl Stage {
         Stage {
             alloc,
             phase: Phase::Fresh,
+        }
+    }
+
+    /// Returns the registry of the group, once its nodes are named.
+    pub fn registry(&self) -> Option<&Registry>
+        ensures { option_map (λ r. r.now) result ≡ jobs_at self.now }
+    {
+        match &self.phase {
+            Phase::Registering(registry) => Some(registry),
+            Phase::Running(scene) => Some(scene.registry()),
+            Phase::Fresh | Phase::Over => None,
+        }
+    }
+
+    /// Returns all frames ever sent, each with the node that it was sent to, in their order, once the world runs.
+    pub fn sent(&self) -> Option<&VecDeque<Sent>>
+        ensures { option_map (λ frames. frames.now.items) result ≡ sent_at self.now }
+    {
+        match &self.phase {
+            Phase::Running(scene) => Some(scene.sent()),
+            _ => None,
         }
     }
 
