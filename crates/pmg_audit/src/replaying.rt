@@ -20,7 +20,7 @@ use crate::same::{is_same_act, is_same_answer};
 use crate::sayings::Sayings;
 use pmg_jobinfo::Registry;
 use pmg_journal::{Event, Evidence, Record, Step, caller_of, is_free_at};
-use pmg_node::{Act, Server, Reply};
+use pmg_node::{Act, Reply, Server};
 use pmg_node_model::Sent;
 use pmg_value::{NodeId, Proc, Refusal};
 use std::alloc::{AllocError, Global};

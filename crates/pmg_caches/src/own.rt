@@ -10,7 +10,7 @@ ghost use Rattle.pmg_group_model.specs.Worlds.{is_own, reply_or_refusal};
 ghost use Rattle.pmg_node_parts.specs.Calls.{get_of};
 
 use crate::caches::Caches;
-use pmg_node::{Server, Reply, Request};
+use pmg_node::{Reply, Request, Server};
 use pmg_value::{Key, Proc, Refusal};
 
 /// Whether no particular rank is named.

@@ -19,7 +19,7 @@ use crate::codes::{DONE, NO_MEMORY, answer_code, refusal_code};
 use pmg_grouptext::read_group;
 use pmg_jobinfo::Registry;
 use pmg_link::{Inbox, Link};
-use pmg_node::{Server, Reply};
+use pmg_node::{Reply, Server};
 use pmg_value::{NodeId, Proc, Refusal};
 use std::alloc::{AllocError, Global};
 

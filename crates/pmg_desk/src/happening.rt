@@ -13,7 +13,7 @@ ghost use Rattle.pmg_desk.specs.States.{StateGoesOn, StepsGoOn};
 use pmg_commit::Piece;
 use pmg_history::{Appender, History};
 use pmg_journal::{AnswerCopies, Event, Journal, Step, copy_of_answer, is_free_at};
-use pmg_node::{Act, Joined, Server, Reply};
+use pmg_node::{Act, Joined, Reply, Server};
 use pmg_node_model::Sent;
 use pmg_publish::Publisher;
 use pmg_value::Refusal;

@@ -23,7 +23,7 @@ use pmg_frame::Frame;
 use pmg_history::{Appender, History};
 use pmg_jobinfo::Registry;
 use pmg_journal::{AnswerCopies, Event, Evidence, Journal, Record, Step, has_event_by};
-use pmg_node::{Act, Server, Reply, Status};
+use pmg_node::{Act, Reply, Server, Status};
 use pmg_node_model::Sent;
 use pmg_publish::{Publisher, Told, Viewer, publisher};
 use pmg_store::Store;

@@ -8,7 +8,7 @@ ghost use Rattle.pmg_journal.specs.Records.{IsEvidence};
 
 use crate::journal::{Event, Journal};
 use pmg_jobinfo::Registry;
-use pmg_node::{Act, Server, Request};
+use pmg_node::{Act, Request, Server};
 use pmg_node_model::Sent;
 use pmg_value::{NodeId, Proc};
 use std::collections::VecDeque;

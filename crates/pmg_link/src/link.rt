@@ -17,7 +17,7 @@ ghost use Rattle.pmg_link.specs.Links.{after_request, commit_of, link_after, lin
 use crate::inbox::Inbox;
 use pmg_caches::{Caches, own_get, own_key, put_at};
 use pmg_frame::Frame;
-use pmg_node::{Act, Joined, Server, Reply, Request};
+use pmg_node::{Act, Joined, Reply, Request, Server};
 use pmg_node_model::Sent;
 use pmg_scope::Scope;
 use pmg_value::{Key, Proc, Refusal, Value};

@@ -7,8 +7,8 @@ ghost use Rattle.pmg_node.specs.Servers.{reply_to, sent_by, after};
 
 use crate::asked::Delivery;
 use crate::fencing::{FenceContext, change_fence, tell_node};
-use crate::server::Server;
 use crate::replying::{absorb_told, reply_due};
+use crate::server::Server;
 use pmg_commit::Piece;
 use pmg_fence::Change;
 use pmg_frame::{CommitAsk, FenceAsk, Header, RefreshAsk, RefreshReply};

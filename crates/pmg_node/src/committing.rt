@@ -11,9 +11,9 @@ ghost use Rattle.pmg_node_parts.specs.Owns.{sealed_of};
 ghost use Rattle.pmg_node.specs.Replies.{committed_reply};
 ghost use Rattle.pmg_node.specs.Servers.{reply_to, sent_by, after, IsAnswered, Replies};
 
-use crate::server::Server;
 use crate::publishing::Published;
 use crate::sealing::SealingAct;
+use crate::server::Server;
 use pmg_commit::Piece;
 use pmg_dmodex::Pending;
 use pmg_node_model::Sent;

@@ -21,8 +21,8 @@ ghost use Rattle.pmg_commit.specs.declared.piece.TheConstants.{MAX_COMMIT};
 
 use crate::committing::{Committed, keep_published};
 use crate::fencing::announce_all;
-use crate::server::Server;
 use crate::publishing::{PublishContext, Published, publish};
+use crate::server::Server;
 use pmg_commit::SealerUndo;
 use pmg_fence::{Table, TableUndo};
 use pmg_node_model::{Sent, ToSend};

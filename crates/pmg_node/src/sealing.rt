@@ -13,8 +13,8 @@ ghost use Rattle.pmg_node.specs.Servers.{reply_to, sent_by, after, IsAnswered, R
 
 use crate::committing::{Committed, keep_published};
 use crate::entering::expand;
-use crate::server::Server;
 use crate::publishing::{PublishContext, publish};
+use crate::server::Server;
 use pmg_commit::SealerUndo;
 use pmg_fence::Table;
 use pmg_node_model::{Sent, ToSend};

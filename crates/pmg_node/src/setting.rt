@@ -14,8 +14,8 @@ ghost use Rattle.pmg_node.specs.Servers.{reply_to, sent_by, after, IsAnswered, R
 
 use crate::committing::Committed;
 use crate::entering::{has_bad, has_unknown};
-use crate::server::Server;
 use crate::sealing::SealingAct;
+use crate::server::Server;
 use pmg_jobinfo::Registry;
 use pmg_node_model::Sent;
 use pmg_pset::{MAX_MEMBERS, Sets};

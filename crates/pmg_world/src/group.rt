@@ -18,7 +18,7 @@ use crate::event::Event;
 use pmg_caches::{Caches, is_bad_put, is_own, own_get};
 use pmg_get::Mode;
 use pmg_jobinfo::Registry;
-use pmg_node::{Act, Server, Reply, Request};
+use pmg_node::{Act, Reply, Request, Server};
 use pmg_node_model::Sent;
 use pmg_scope::Scope;
 use pmg_value::{Key, NodeId, Proc, Refusal, Value};

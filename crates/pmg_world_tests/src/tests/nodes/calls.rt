@@ -48,7 +48,12 @@ fn a_get_crosses_two_nodes(rt: HostRuntime) {
     let first = process(alloc, "j1").expect(&rt, MEMORY);
     let name = key(alloc, "a").expect(&rt, MEMORY);
     commit_seven(&rt, alloc, &mut zero, &zeroth);
-    assert!(&rt; matches!(one.ask(&first, &zeroth, &name, Mode::Wait), Ok(Asked::Parked)));
+    assert!(&rt;
+        matches!(
+            one.ask(&first, &zeroth, &name, Mode::Wait),
+            Ok(Asked::Parked)
+        )
+    );
     assert!(&rt; one.status(&first) == Status::Parked);
     let mut copy = one.copy().expect(&rt, MEMORY);
     deliver(&rt, &mut one, &mut zero, 0, 1);

@@ -4,7 +4,7 @@ use crate::tests::nodes::words::{
     MEMORY, batch, frame, key, number, process, request, word, words_of,
 };
 use pmg_jobinfo::Registry;
-use pmg_node::{Act, Server, Reply, Status};
+use pmg_node::{Act, Reply, Server, Status};
 use pmg_node_model::Sent;
 use pmg_value::{Items, NodeId, Nspace, Refusal, WatchedWriter};
 use std::alloc::Global;
