@@ -1,4 +1,4 @@
-/* Reads a number from standard input, and has one process get a key of the 31 others of its node in turn, so often, through libpmixgroup. */
+/* Reads a number from standard input. Has one process get a key of the 31 others of its node in turn, so often, through libpmixgroup. */
 #include "pmixgroup.h"
 
 #include <inttypes.h>

@@ -1,4 +1,4 @@
-/* Reads a number from standard input, and has two threads hand a turn over to each other, so often, by a lock and a condition. */
+/* Reads a number from standard input. Has two threads hand a turn to each other, so often, by a lock and a condition. */
 #include <inttypes.h>
 #include <pthread.h>
 #include <stdio.h>
@@ -7,7 +7,7 @@ static pthread_mutex_t lock = PTHREAD_MUTEX_INITIALIZER;
 static pthread_cond_t turned = PTHREAD_COND_INITIALIZER;
 static uint64_t left = 0;
 
-/* Waits for each turn of that side, and hands the next one over, until none is left. */
+/* Waits for each turn of that side, and hands the next turn over, until no turn is left. */
 static void *take_turns(void *side) {
     const uint64_t mine = *(uint64_t *)side;
     pthread_mutex_lock(&lock);

@@ -1,5 +1,5 @@
-"""The examples: inputs of the program, with what it prints for them and the status that it ends with, as README.md says; and the shell
-lines of the pages that a newcomer reads."""
+"""Reads the examples: inputs of the program, with their output and status, as README.md says; and the shell lines of the pages that a
+newcomer reads."""
 import collections
 import glob
 import itertools
@@ -8,13 +8,13 @@ import re
 
 HERE = os.path.dirname(os.path.realpath(__file__))
 ROOT = os.path.dirname(HERE)
-# The pages whose blocks are in turn shell lines and their outputs, beside blocks of other kinds.
+# The pages whose blocks are shell lines and outputs in turn, among blocks of other kinds.
 PASTED = ["README.md", "docs/TUTORIAL.md"]
 Example = collections.namedtuple("Example", "name command data output status")
 
 
 def read(path):
-    """What the file holds; nothing, where there is none."""
+    """Returns the file's content, or nothing if there is no file."""
     if not os.path.exists(path):
         return None
     with open(path, "rb") as source:
@@ -22,16 +22,16 @@ def read(path):
 
 
 def statuses():
-    """The statuses of the examples that are files, by command and name: those of the table in README.md."""
+    """Returns the statuses of the examples that are files, by command and name, from the table in README.md."""
     page = read(os.path.join(HERE, "README.md")).decode()
     rows = re.findall(r"^\| `([\w-]+)`(?: \(`(\w+)`\))? \| .* \| (\d) \|$", page, re.MULTILINE)
     return {(command or "dump", name): int(status) for name, command, status in rows}
 
 
 def files():
-    """The examples that are files, and those that the table lists."""
+    """Returns the examples that are files, and those that the table lists."""
     known = statuses()
-    # the folder of a command has rows beside it, and that of the library for C has none
+    # The folder of a command has rows beside it; the folder of the library for C has none.
     found = [it for it in glob.glob(os.path.join(HERE, "*", "*")) if os.path.exists(os.path.dirname(it) + ".rows")]
     paths = {tuple(it.split(os.sep)[-2:]): it for it in found if not it.endswith(".out")}
     inputs = {(command, os.path.splitext(name)[0]): path for (command, name), path in paths.items()}
@@ -42,12 +42,12 @@ def files():
 
 
 def text_of(lines):
-    """The bytes of lines in which a backslash begins an escape."""
+    """Returns the bytes of lines in which a backslash begins an escape."""
     return b"".join(lines).decode("unicode_escape").encode("latin-1")
 
 
 def rows_of(command):
-    """The examples of a command's rows: one for each bar, where a row has bars."""
+    """Returns the examples of a command's rows: one for each bar, if a row has bars."""
     source = read(os.path.join(HERE, command + ".rows"))
     for head, body in re.findall(rb"^== (.*)\n((?:(?!== ).*\n)*)", source, re.MULTILINE):
         name, _, status = head.decode().partition(": ")
@@ -62,7 +62,7 @@ def rows_of(command):
 
 
 def steps_of(page):
-    """The shell lines of a page, each with its output, which is the next block; what is no such pair differs from any output."""
+    """Returns the shell lines of a page, each with its output, which is the next block. A line without such a block differs from any output."""
     text = read(os.path.join(ROOT, page)).decode()
     blocks = [it for it in re.findall(r"^```(\w*)\n(.*?)^```$", text, re.MULTILINE | re.DOTALL) if it[0] in ("sh", "")]
     for (kind, line), (after, output) in itertools.zip_longest(blocks[::2], blocks[1::2], fillvalue=("", "")):
@@ -75,5 +75,5 @@ def steps():
 
 
 def examples():
-    """All examples of the commands."""
+    """Returns all examples of the commands."""
     return [*files(), *(row for command in ("dump", "merge", "replay", "run") for row in rows_of(command))]

@@ -1,4 +1,4 @@
-"""Each allocation of the test programs fails in turn: a test passes, or gives up where it is not made to ask again."""
+"""Makes each allocation of the test programs fail in turn. A test passes, or gives up unless its file says that it calls again."""
 import glob
 import os
 import re
@@ -6,34 +6,34 @@ import signal
 
 from failing import ROOT, ended, run, spread
 
-# The texts of the errors of a failed allocation, and how a test ends with one by its status: it answers the error, or aborts with it.
+# The error texts of a failed allocation, and the end of a test with one, by status: it answers the error, or aborts with it.
 NO_MEMORY = rb"(NoMemory|Refused\(NoMemory\)|AllocError|AllocFailed \{ \.\. \}|OutOfMemory|Kind\(OutOfMemory\))"
 GIVES_UP = {
     101: re.compile(rb"^Error: " + NO_MEMORY + rb"\nthe test failed: .*\n\Z", re.MULTILINE),
     -signal.SIGABRT: re.compile(rb"^memory: " + NO_MEMORY + rb"\n\Z", re.MULTILINE),
 }
-# Tests in files of this name pass whichever allocation fails.
+# Tests in files of this name pass for every failed allocation.
 ALWAYS_PASSES = "asked_again::"
-# Tests that ask again where an allocation failed in the calls that they are of: the gate's part is of these.
+# Tests that repeat a call after a failed allocation in it. The gate runs these.
 ASK_AGAIN = [ALWAYS_PASSES, "growths::", "what_was_published_stands", "worlds::"]
-# Tests with more allocations than these are run less often.
+# Tests with more allocations run less often.
 MANY = 20_000
 
 
 def programs():
-    """Where the test programs are once they are built, by the names of their crates."""
+    """Returns the paths of the test programs, once they are built, by the names of their crates."""
     crates = sorted(map(os.path.basename, glob.glob(os.path.join(ROOT, "crates", "*_tests"))))
     return {crate: os.path.join(ROOT, "crates", crate, "out", f"{crate}_tests") for crate in crates}
 
 
 def tests_of(program):
-    """The names of a program's tests."""
+    """Returns the names of a program's tests."""
     listed = ended([program, "--list"], b"", None).output.decode()
     return [line.removesuffix(": test") for line in listed.splitlines() if line.endswith(": test")]
 
 
 def verdict(test, ran):
-    """Whether a run of the test passed, gave up with NoMemory and nothing else, or deviated."""
+    """Returns whether a run of the test passed, gave up with NoMemory and nothing else, or deviated."""
     if ran.status == 0:
         return "passed"
     gives_up = ran.status in GIVES_UP and GIVES_UP[ran.status].search(ran.errors) and ALWAYS_PASSES not in test
@@ -52,7 +52,7 @@ def try_test(report, library, pool, most, crate, program, test):
 
 
 def try_calls(report, library, pool, most, names):
-    """Tries each test in whose name, or in that of its crate, one of these words stands."""
+    """Tries each test whose name, or whose crate's name, has one of these words."""
     for crate, program in programs().items():
         is_built = os.path.exists(program)
         if not is_built and (report.is_brief or not names or any(name in crate for name in names)):

@@ -1,4 +1,4 @@
-"""Frames that claim more than comes: the memory that the program takes for each byte of them."""
+"""Tries frames that claim more than follows, and measures the memory that the program takes for each byte of them."""
 from failing import PROGRAM, run
 
 BODY_LIMIT = 16_777_216
@@ -19,22 +19,22 @@ def u64(number):
 
 
 def proc(rank):
-    """A process of namespace j."""
+    """Returns a process of namespace j."""
     return b"\x01j" + u32(rank)
 
 
 def entry(i, value=b"\x01\x01"):
-    """An entry of a piece: keys rise."""
+    """Returns an entry of a piece; keys rise."""
     return u16(4) + b"%04x" % i + u64(1) + value
 
 
 def local(i):
-    """A local participant that has entered."""
+    """Returns a local participant that has entered."""
     return proc(i) + b"\x00" + u64(1)
 
 
 def frame(kind, body, size=None):
-    """A frame, whose length may be claimed."""
+    """Returns a frame, which may claim another length."""
     return bytes([1, kind]) + u32(len(body) if size is None else size) + body
 
 
@@ -43,15 +43,15 @@ VALUE = START + u32(1) + entry(0, b"")
 REFRESHED = u32(1) + u64(1) + b"\x01"
 NAME = u32(0) + b"\x01" + u64(1)
 NAMED = NAME + u32(4096) + b"".join(map(proc, range(4096)))
-# Of each type of an array's elements the body of one.
+# The body of one element, for each type of an array's elements.
 ELEMENTS = {
     **{tag: bytes(size) for tag, size in [(1, 1), (2, 1), (4, 8), (5, 1), (6, 2), (7, 4), (8, 8), (9, 1), (10, 2), (11, 4), (12, 8)]},
     **{tag: bytes(4) for tag in (3, 13, 14, 15, 17, 18)},
     16: proc(0),
 }
 
-# A field that claims how much comes: its name, the kind of its frame, the body before it, how many bytes it has, the most that it may
-# claim, and each of the things that it claims.
+# A field that claims how much follows: its name, the kind of its frame, the body before it, its number of bytes, its greatest claim, and each
+# of the claimed things.
 CLAIMS = [
     ("piece, namespace", PIECE, b"", 1, 255, b"n"),
     ("piece, entries", PIECE, START, 4, 65536, entry),
@@ -77,17 +77,17 @@ KINDS = {"piece": PIECE, "header": HEADER, "fence ask": FENCE_ASK, "range ask": 
 
 
 def dumped(library, stream):
-    """A run of `dump` on the stream in digits."""
+    """Runs `dump` on the stream in digits."""
     return run(library, [PROGRAM, "dump"], stream)
 
 
 def is_fault(ran):
-    """Whether a run ended by the fault of a frame that is too short for what it claims."""
+    """Returns whether a run ended by the fault of a frame that is too short for its claim."""
     return ran.status == 1 and ran.output.startswith((b"refused 10 BadFrame: Short at ", b"refused 10 BadFrame: Cut at "))
 
 
 def alone():
-    """Of each field a frame that claims one thing, and the same that claims the most, neither of which comes."""
+    """Yields for each field a frame that claims one thing, and a frame that claims the most; nothing of the claims follows."""
     for name, kind in KINDS.items():
         yield f"{name}, length", *(frame(kind, b"", size) for size in (1, BODY_LIMIT))
     for name, kind, before, width, most, _ in CLAIMS:
@@ -95,7 +95,7 @@ def alone():
 
 
 def try_alone(report, library, pool):
-    """Whether a frame holds as much where it claims one thing as where it claims the most."""
+    """Checks that a frame holds as much when it claims one thing as when it claims the most."""
     for name, *pair in alone():
         one, most = pool.map(lambda it: dumped(library, it.hex().encode()), pair)
         bad = [] if is_fault(one) and is_fault(most) and one.counts.held == most.counts.held else [(one.counts.held, most.counts.held)]
@@ -103,14 +103,14 @@ def try_alone(report, library, pool):
 
 
 def came(most, element, room):
-    """All that is claimed but the last, as far as there is room."""
+    """Returns everything that is claimed except the last thing, as far as there is room."""
     if isinstance(element, bytes):
         return element * min(most - 1, room // len(element))
     return b"".join(map(element, range(min(most - 1, room // len(element(0))))))
 
 
 def full(room):
-    """Of each field a frame that claims the most, and in which all but the last of that comes, as far as there is room."""
+    """Yields for each field a frame that claims the most, with everything except the last thing, as far as there is room."""
     for name, kind in KINDS.items():
         yield f"{name}, length", lambda kind=kind: frame(kind, bytes(min(room - 6, BODY_LIMIT - 1)), BODY_LIMIT)
     for name, kind, before, width, most, element in CLAIMS:
@@ -120,7 +120,7 @@ def full(room):
 
 
 def measure(library, made, size):
-    """How a run ends on as many of these frames as so many digits hold, and how many bytes it holds and has in memory for each digit."""
+    """Runs as many of these frames as so many digits hold. Returns how it ended, and the bytes held and in memory for each digit."""
     stream = made().hex().encode()
     stream *= size // len(stream)
     ran, none = dumped(library, stream), dumped(library, b"")
@@ -139,7 +139,7 @@ def try_full(report, library, pool, size):
 
 
 def try_claims(report, library, pool, sizes):
-    """Tries each claim alone, and measures it in streams of each of these sizes."""
+    """Tries each claim by itself, and measures it in streams of each of these sizes."""
     try_alone(report, library, pool)
     for size in sizes:
         try_full(report, library, pool, size)

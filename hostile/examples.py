@@ -1,4 +1,4 @@
-"""Each allocation, read and write of the program fails in turn, on each of the examples."""
+"""Makes each allocation, read and write of the program fail in turn, on each of the examples."""
 import functools
 import re
 
@@ -11,23 +11,23 @@ LINE = re.compile(rb"client \S+ \d+ (found \d+ own \d+|refused \d+ \w+)|proc \S+
 
 
 def follows(output, whole, last):
-    """Whether the output is some whole first lines of another one, and then this last line."""
+    """Returns whether the output is some whole first lines of another output, and then this last line."""
     first = output[: -len(last)]
     return output.endswith(last) and whole.startswith(first) and (not first or first.endswith(b"\n"))
 
 
 def is_whole(output):
-    """Whether each line of a job's output is a whole one."""
+    """Returns whether each line of a job's output is whole."""
     return all(LINE.fullmatch(line) for line in output.splitlines()) and (not output or output.endswith(b"\n"))
 
 
 def clients(output):
-    """The clients that have a line in a job's output, in its order."""
+    """Returns the clients with a line in a job's output, in its order."""
     return re.findall(rb"^client (\S+ \d+) ", output, re.MULTILINE)
 
 
 class Example:
-    """An example, and how the program may end on it."""
+    """An example, and the ways in which the program may end on it."""
 
     def __init__(self, library, example):
         self.library = library
@@ -38,15 +38,15 @@ class Example:
 
     @functools.lru_cache(maxsize=None)
     def replies_to(self, size):
-        """What is replied to so many first bytes of a script."""
+        """Returns the replies to so many first bytes of a script."""
         return run(self.library, [PROGRAM, "replay"], self.data[:size]).output
 
     def may_end(self, _, ran):
-        """As if nothing had failed."""
+        """Returns whether the run ended as if nothing had failed."""
         return (ran.status, ran.output) == (self.status, self.output)
 
     def may_lack_memory(self, number, ran):
-        """An allocation failed."""
+        """Returns whether the run ended as after a failed allocation."""
         if self.may_end(number, ran) or (ran.status, ran.output) == (3, NO_MEMORY):
             return True
         if self.command == "replay":
@@ -56,28 +56,28 @@ class Example:
         return is_whole(ran.output) and clients(ran.output) == clients(self.output)
 
     def may_lack_input(self, _, ran):
-        """A read failed."""
+        """Returns whether the run ended as after a failed read."""
         if self.command == "replay":
             return ran.status == 1 and follows(ran.output, self.output, READ_FAULT)
         return (ran.status, ran.output) == (1, READ_FAULT)
 
     def may_lack_byte(self, number, ran):
-        """The read of the byte of this number failed: a script has the replies to its lines before."""
+        """Returns whether the run ended as after a failed read of the byte of this number: a script has the replies to its lines before."""
         if self.command != "replay":
             return self.may_lack_input(number, ran)
         before = self.replies_to(self.data.rfind(b"\n", 0, number - 1) + 1)
         return (ran.status, ran.output) == (1, before + READ_FAULT)
 
     def may_lack_output(self, _, ran):
-        """A write failed."""
+        """Returns whether the run ended as after a failed write."""
         return ran.status == 1 and self.output.startswith(ran.output)
 
     def may_lack_written(self, number, ran):
-        """The write of the byte of this number failed, and all after it."""
+        """Returns whether the run ended as after a failed write of the byte of this number, and of all later bytes."""
         return (ran.status, ran.output) == (1, self.output[: number - 1])
 
 
-# What fails, what it is counted by, how it is asked for, and how a run may end.
+# Each failure: its name, its count, the variable that asks for it, and the check of the run's end.
 KINDS = [
     ("allocations", "allocations", "FAIL_ALLOCATION", {}, Example.may_lack_memory),
     ("reads", "reads", "FAIL_READ", {}, Example.may_lack_input),
@@ -105,7 +105,7 @@ def try_example(report, library, pool, most, example):
 
 
 def try_examples(report, library, pool, most, names):
-    """Tries at most so many numbers of each kind on each example in whose name one of these words stands; a brief report is of files alone."""
+    """Tries at most so many numbers of each kind on each example whose name has one of these words; a brief report covers only files."""
     for it in files() if report.is_brief else examples():
         if not names or any(name in it.name for name in names):
             try_example(report, library, pool, most, Example(library, it))

@@ -1,13 +1,13 @@
-/* Loaded before a program (LD_PRELOAD), this lets one of its allocations, of its reads of standard input or of its writes to standard
-   output fail, as the environment says, and tells at the end how many of each there were, and what was held at most.
+/* Loaded before a program (LD_PRELOAD), this makes one of its allocations, its reads of standard input or its writes to standard output
+   fail, as the environment says. At the end it reports how many of each there were, and how much was held at most.
 
    FAIL_ALLOCATION, FAIL_READ, FAIL_WRITE   the number, from 1, of the one that fails
-   FAIL_AS                                  how a read or write fails: by a fault of the device, or as one that a signal interrupted
-                                            (interrupt), that would have to wait (wait), or, of a write, that takes nothing (nothing)
-   FAIL_ON=1                                all writes after that one fail too
-   FAIL_SHORT=1                             each read and write is of one byte at the most
+   FAIL_AS                                  how a read or write fails: by a fault of the device; as if a signal interrupted it
+                                            (interrupt); as if it would block (wait); or a write that takes nothing (nothing)
+   FAIL_ON=1                                all later writes fail too
+   FAIL_SHORT=1                             each read and write is of at most one byte
    FAIL_COUNTS                              the file that is written at the end: allocations, reads and writes, the most bytes that
-                                            allocations held at one time, and the most that the process had in memory */
+                                            allocations held at one time, and the most bytes that the process had in memory */
 #define _GNU_SOURCE
 #include <dlfcn.h>
 #include <errno.h>
@@ -56,7 +56,7 @@ __attribute__((constructor)) static void begin(void) {
     is_armed = 1;
 }
 
-/* The most bytes that the process had in memory. (`getrusage` counts what the process before it had, too.) */
+/* Returns the most bytes that the process had in memory. (`getrusage` also counts the memory of the process before it.) */
 static long resident(void) {
     char line[160];
     long most = 0;

@@ -1,4 +1,4 @@
-"""Runs of a program in which an allocation, a read or a write fails, and what is told of them."""
+"""Runs a program in which an allocation, a read or a write fails, and reports the runs."""
 import collections
 import os
 import shutil
@@ -11,14 +11,14 @@ ROOT = os.path.dirname(HERE)
 PROGRAM = os.environ.get("PMIXGROUP", os.path.join(ROOT, "crates", "pmixgroup", "out", "pmixgroup"))
 SECONDS = 60
 
-# How often something was asked for, and how many bytes were held and in memory at most.
+# The counts of requests, and the most bytes that were held and in memory.
 Counts = collections.namedtuple("Counts", "allocations reads writes held resident", defaults=[0] * 5)
-# How a run ended: it has no status where it did not end in time, and that of a signal is negative.
+# The end of a run. It has no status if it did not end in time; a signal's status is negative.
 Ran = collections.namedtuple("Ran", "status output errors counts")
 
 
 def library_in(folder):
-    """Builds in this folder the library that lets things fail: its path."""
+    """Builds the library that makes things fail in this folder, and returns its path."""
     if not shutil.which("cc"):
         sys.exit("hostile/run needs a C compiler, and there is no command cc")
     library = os.path.join(folder, "fail.so")
@@ -27,7 +27,7 @@ def library_in(folder):
 
 
 def ended(words, data, environment):
-    """How a program ends on this input."""
+    """Runs a program on this input, and returns how it ends."""
     try:
         done = subprocess.run(words, input=data, capture_output=True, env=environment, timeout=SECONDS)
     except subprocess.TimeoutExpired:
@@ -36,7 +36,7 @@ def ended(words, data, environment):
 
 
 def run(library, words, data=b"", **failing):
-    """How a program ends on this input while this fails, with its counts."""
+    """Runs a program on this input while this fails, and returns how it ends, with its counts."""
     with tempfile.NamedTemporaryFile() as counts:
         environment = dict(os.environ, LD_PRELOAD=library, FAIL_COUNTS=counts.name)
         environment.update((name, str(value)) for name, value in failing.items())
@@ -45,25 +45,25 @@ def run(library, words, data=b"", **failing):
 
 
 def spread(count, most):
-    """At most so many of the numbers from 1 to the count, spread evenly."""
+    """Returns at most so many of the numbers from 1 to the count, spread evenly."""
     return sorted({1 + i * count // most for i in range(most)} if most < count else range(1, count + 1))
 
 
 class Report:
-    """What was tried, and what deviated; a brief one has lines for parts alone, and for what deviated."""
+    """The trials, and those that deviated. A brief report has lines only for parts, and for deviations."""
 
     def __init__(self, is_brief):
         self.is_brief = is_brief
         self.tried = self.deviated = 0
 
     def add(self, what, tried, bad, more=""):
-        """Adds what was tried of something, and what deviated, and prints a line of it."""
+        """Adds the trials of something and those that deviated, and prints a line of it."""
         if bad or not self.is_brief:
             print(f"{what}: {tried} tried, {more}{len(bad)} deviated", *bad[:3], flush=True)
         self.tried, self.deviated = self.tried + tried, self.deviated + len(bad)
 
     def part(self, name, work):
-        """Does a part of the work, and prints a line of all of it."""
+        """Does a part of the work, and prints a line for the whole part."""
         tried, deviated = self.tried, self.deviated
         work()
         print(f"{name}: {self.tried - tried} tried, {self.deviated - deviated} deviated", flush=True)

@@ -1,4 +1,4 @@
-"""Streams, scripts and jobs from a fixed seed: examples with a few bytes changed, and inputs that are drawn field by field."""
+"""Draws streams, scripts and jobs from a fixed seed: examples with a few bytes changed, and inputs field by field."""
 import json
 import random
 import re
@@ -12,18 +12,18 @@ REFUSED = re.compile(rb"(refused \d+ \w+(: .+)?|read fault)\n")
 
 
 def drawn_proc(rng):
-    """A process: mostly one of a few."""
+    """Draws a process, mostly one of a few."""
     name = rng.choice([b"j", b"j", b"k", b"pmix.host", b"", b"n" * rng.randint(1, 255)])
     return bytes([len(name)]) + name + rng.choice([0, 1, 2, 4095, 4096, 2**32 - 1]).to_bytes(4, "big")
 
 
 def drawn_number(rng):
-    """A commit's number, a level or an instance: mostly a small one."""
+    """Draws a commit's number, a level or an instance, mostly a small one."""
     return rng.choice([0, 1, 2, 3, rng.getrandbits(4), 2**32 - 1, 2**32, rng.getrandbits(64)]).to_bytes(8, "big")
 
 
 def drawn_value(rng):
-    """A value: a tag and a body that mostly fits it."""
+    """Draws a value: a tag and a body that mostly fits it."""
     tag = rng.randrange(21)
     sizes = {1: 1, 2: 1, 4: 8, 5: 1, 6: 2, 7: 4, 8: 8, 9: 1, 10: 2, 11: 4, 12: 8, 13: 4, 14: 4, 15: 4, 17: 4}
     if tag in (3, 18):
@@ -37,27 +37,27 @@ def drawn_value(rng):
 
 
 def drawn_run(rng, rank):
-    """A run of ranks: the process of its first rank, and its last rank, which is mostly greater."""
+    """Draws a run of ranks: the process of its first rank, and its last rank, which is mostly greater."""
     last = rng.choice([rank, rank, rank + 1, rank + 7, 4095, 4096, 0])
     return b"\x01j" + rank.to_bytes(4, "big") + last.to_bytes(4, "big")
 
 
 def drawn_name(rng, version):
-    """The name of a fence: in version 2 with its processes as runs."""
+    """Draws the name of a fence; in version 2 with its processes as runs."""
     count = rng.randint(1, 3)
     procs = [b"\x01j" + rank.to_bytes(4, "big") if version == 1 else drawn_run(rng, rank * rng.choice([1, 2, 9])) for rank in range(count)]
     return bytes([rng.choice([0, 1, 1, 2])]) + drawn_number(rng) + count.to_bytes(4, "big") + b"".join(procs)
 
 
 def drawn_piece(rng):
-    """The commits of a process."""
+    """Draws the commits of a process."""
     keys = sorted({rng.choice([b"a", b"b", b"c", b"pmix.x", rng.randbytes(3)]) for _ in range(rng.randrange(4))})
     entries = [len(key).to_bytes(2, "big") + key + drawn_number(rng) + drawn_value(rng) for key in keys]
     return drawn_proc(rng) + drawn_number(rng) + drawn_number(rng) + len(entries).to_bytes(4, "big") + b"".join(entries)
 
 
 def drawn_body(rng, version, kind):
-    """The body of a frame of that version and kind."""
+    """Draws the body of a frame of that version and kind."""
     node = rng.choice([0, 1, 2, 63, 64]).to_bytes(4, "big")
     if kind == 1:
         return drawn_piece(rng)
@@ -71,7 +71,7 @@ def drawn_body(rng, version, kind):
 
 
 def drawn_frame(rng):
-    """A frame whose length is mostly that of its body."""
+    """Draws a frame whose length is mostly the length of its body."""
     version = rng.choice([1] * 10 + [2] * 9 + [3])
     kind = rng.choice([1, 1, 1, 2, 3, 4, 5, 6])
     body = drawn_body(rng, version, kind)
@@ -80,18 +80,18 @@ def drawn_frame(rng):
 
 
 def drawn_stream(rng):
-    """A stream of frames in hexadecimal digits."""
+    """Draws a stream of frames in hexadecimal digits."""
     frames = b"".join(drawn_frame(rng) for _ in range(rng.randrange(6)))
     return (frames if rng.random() < 0.9 else rng.randbytes(rng.randrange(80))).hex().encode()
 
 
 def drawn_streams(rng):
-    """Some streams, as `merge` takes them."""
+    """Draws some streams, as `merge` takes them."""
     return b"\n--\n".join(drawn_stream(rng) for _ in range(rng.randint(1, 5)))
 
 
 def drawn_line(rng):
-    """A line of a script."""
+    """Draws a line of a script."""
     who, other = (f"{rng.choice('jjjk')} {rng.choice('0123*')}" for _ in range(2))
     node, key = rng.randrange(3), rng.choice(["a", "b", "pmix.job.size", "pmix.rank", "two words"])
     value = drawn_value(rng).hex()
@@ -119,13 +119,13 @@ def drawn_line(rng):
 
 
 def drawn_script(rng):
-    """A script of two nodes: lines that are mostly of a form."""
+    """Draws a script of two nodes, whose lines mostly have a form."""
     lines = ["nodes n0 n1", "space j 0 1 0"] + [drawn_line(rng) for _ in range(rng.randrange(40))]
     return "\n".join(lines).encode() + rng.choice([b"", b"\n"])
 
 
 def drawn_job(rng):
-    """A job whose homes mostly name nodes that are there."""
+    """Draws a job whose homes mostly name nodes that are there."""
     nodes = [f"n{i}" for i in range(rng.choice([0, 1, 2, 2, 3, 9]))]
     count = rng.choice([0, 1, 2, 3, 5, 33])
     homes = lambda: [rng.choice([0, 0, 1, len(nodes), -1, 0.5]) if rng.random() < 0.1 else rng.randrange(len(nodes) or 1) for _ in range(count)]
@@ -137,7 +137,7 @@ DRAWN = {"dump": drawn_stream, "merge": drawn_streams, "replay": drawn_script, "
 
 
 def mutated(rng, data):
-    """The bytes with a few of them changed, left out, doubled or put in."""
+    """Returns the bytes with a few of them changed, removed, doubled or inserted."""
     data = bytearray(data)
     for _ in range(rng.randint(1, 4)):
         at = rng.randrange(len(data) + 1)
@@ -154,7 +154,7 @@ def mutated(rng, data):
 
 
 def examples_by_command():
-    """Of each command the examples that are files."""
+    """Returns for each command the examples that are files."""
     found = {command: [] for command in DRAWN}
     for it in files():
         found[it.command].append(it.data)
@@ -162,7 +162,7 @@ def examples_by_command():
 
 
 def drawn_inputs(count):
-    """So many commands, each with an input: of each command an example that is changed, one that is drawn, and one that is both."""
+    """Draws so many commands with inputs: for each command a changed example, a drawn input, and a changed drawn input."""
     rng = random.Random(SEED)
     known = examples_by_command()
     for _ in range(count):
@@ -172,7 +172,7 @@ def drawn_inputs(count):
 
 
 def may_end(command, ran):
-    """Whether a run ended as it may: with a status of 0 to 3 and a whole last line, which tells the cause where it is not 0."""
+    """Returns whether a run ended as it may: with a status of 0 to 3 and a whole last line, which names the cause if the status is not 0."""
     if ran.status not in (0, 1, 3) or ran.output[-1:] not in (b"", b"\n"):
         return False
     if ran.status == 0 or command == "run":
@@ -182,13 +182,13 @@ def may_end(command, ran):
 
 
 def try_alone(pool, inputs):
-    """Those inputs on which the program does not end as it may."""
+    """Returns the inputs on which the program ends in another way than it may."""
     runs = pool.map(lambda each: ended([PROGRAM, each[0]], each[1], None), inputs)
     return [(*each, *ran[:3]) for each, ran in zip(inputs, runs) if not may_end(each[0], ran)]
 
 
 def try_watched(pool, inputs):
-    """Those inputs on which valgrind finds something, or the program does not end under it as it does alone."""
+    """Returns the inputs on which valgrind finds something, or on which the program ends in another way under it."""
     words = ["valgrind", "--quiet", "--error-exitcode=99", PROGRAM]
     watched = pool.map(lambda each: ended([*words, each[0]], each[1], None), inputs)
     alone = pool.map(lambda each: ended([PROGRAM, each[0]], each[1], None), inputs)

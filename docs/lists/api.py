@@ -1,5 +1,5 @@
-"""The pages of docs/api, one for each library crate: what it exports, with comments, signatures and clauses as they stand in the sources.
-A file comes after those of its crate that it uses, and a method below its type."""
+"""Makes the pages of docs/api, one for each library crate: its exports, with comments, signatures and clauses as the sources have them. A file
+comes after the files of its crate that it uses, and a method comes below its type."""
 import glob
 import os
 import re
@@ -17,7 +17,7 @@ MODEL = r"^impl.* Model for {}\b.*\n(?: .*\n|\n)*?    ghost Value = \{{ (.*) \}}
 
 
 def reading_order(crate):
-    """The crate's files, each after those that it uses."""
+    """Returns the crate's files, each after those that it uses."""
     paths, found, seen = files(crate, "src", ".rt"), [], set()
 
     def visit(path):
@@ -35,7 +35,7 @@ def reading_order(crate):
 
 
 def comment_above(lines, at):
-    """The doc comment above the line, attributes between them left out."""
+    """Returns the doc comment above the line, without the attributes in it."""
     found = []
     while at > 0 and re.match(r"\s*(///|#\[)", lines[at - 1]):
         at -= 1
@@ -45,7 +45,7 @@ def comment_above(lines, at):
 
 
 def signature(lines, at):
-    """A function's signature and clauses: the lines up to its body, or to its end."""
+    """Returns a function's signature and clauses: the lines up to its body, or to its end."""
     indent, found = len(lines[at]) - len(lines[at].lstrip()), []
     for line in (it[indent:] for it in lines[at:]):
         is_last = line.endswith(";") or line[:1] != " " and line.endswith(("{", "{}"))
@@ -56,7 +56,7 @@ def signature(lines, at):
 
 
 def public_fields(lines):
-    """The public fields among the lines of a struct's body, with their comments, and a word for the private ones."""
+    """Returns the public fields in the lines of a struct's body, with their comments, and a word for the private ones."""
     found, field, is_whole = [], [], True
     for line in lines:
         field.append(line)
@@ -69,7 +69,7 @@ def public_fields(lines):
 
 
 def declaration(lines, at):
-    """The declaration of a type or a constant: a struct with its public fields, an enum with its variants, of a trait the first line."""
+    """Returns the declaration of a type or a constant: a struct with its public fields, an enum with its variants, the first line of a trait."""
     kind = HEAD.match(lines[at])["kind"]
     if kind == "trait":
         return [lines[at].removesuffix(" {")]
@@ -80,7 +80,7 @@ def declaration(lines, at):
 
 
 def seen_as(text, name):
-    """The sentence that says by which definition contracts see values of the type, if the file has one of its own."""
+    """Returns the sentence that names the definition by which contracts see values of the type, if its file has one of its own."""
     model = re.search(MODEL.format(name), text, re.M)
     if not model:
         return []
@@ -89,7 +89,7 @@ def seen_as(text, name):
 
 
 def types_of(crate):
-    """The types, traits and constants that the crate exports."""
+    """Returns the types, traits and constants that the crate exports."""
     names, modules = exported(crate)
     for path in files(crate, "src", ".rt"):
         text = read(path)
@@ -106,7 +106,7 @@ def function_item(it):
 
 
 def in_reading_order(crate, functions):
-    """What the crate exports, each type with its methods after it."""
+    """Returns the crate's exports, each type with its methods after it."""
     order = {path: number for number, path in enumerate(reading_order(crate))}
     items = sorted([*types_of(crate), *functions], key=lambda it: (order[it.path], it.line))
     types = {it.name for it in items if "::" not in it.name}
@@ -119,7 +119,7 @@ def in_reading_order(crate, functions):
 
 
 def lines_of(it):
-    """An item's part of its page."""
+    """Returns an item's part of its page."""
     mark = "###" if "::" in it.name else "##"
     comment = [*it.comment, ""] if it.comment else []
     return [f"{mark} `{it.name}`", "", f"`{it.path.removeprefix('crates/')}`", "", *comment, "```rust", *it.text, "```", ""]
@@ -134,17 +134,17 @@ def page(crate, functions, made):
 
 
 def has_page(crate):
-    """Whether the crate is a library that exports something to other crates."""
+    """Returns whether the crate is a library that exports something to other crates."""
     return crate in crates() and os.path.exists(f"crates/{crate}/src/lib.rt") and any(exported(crate))
 
 
 def pages(made):
-    """The pages by their paths from docs/lists; `made` says what makes them."""
+    """Returns the pages by their paths from docs/lists; `made` says who makes them."""
     functions = [(it.crate, function_item(it)) for it in all_functions() if it.exported]
     of_crate = {it: [function for crate, function in functions if crate == it] for it in crates() if has_page(it)}
     return {f"../api/{it}.md": page(it, found, made) for it, found in of_crate.items()}
 
 
 def without_crate():
-    """Pages on disk of what is no crate with a page."""
+    """Returns the pages on disk that belong to no crate with a page."""
     return [it for it in sorted(glob.glob("docs/api/*.md")) if not has_page(os.path.basename(it).removesuffix(".md"))]

@@ -1,16 +1,16 @@
-"""What the crates' sources declare: definitions of specs/, and functions of src/ with their clauses."""
+"""Reads the declarations of the crates' sources: definitions of specs/, and functions of src/ with their clauses."""
 import glob
 import os
 import re
 from collections import namedtuple
 
-# A definition: its crate, file, line, name, comment, whether it is public, its lines without the comment, and whether it is a lemma,
-# which is proved and not believed.
+# A definition: its crate, file, line, name, comment, whether it is public, its lines without the comment, and whether it is a lemma.
+# A lemma is proved, and nobody has to believe it.
 Definition = namedtuple("Definition", "crate path line name comment public text is_lemma")
-# A function: its crate, file, line, path, first sentence, its clauses, whether the crate's library exports it, and whether it is a law:
-# it has no arguments and an empty body, so that its clauses are all that it says.
+# A function: its crate, file, line, path, first sentence, its clauses, whether the crate's library exports it, and whether it is a law.
+# A law has no arguments and an empty body, so that its clauses are all that it says.
 Function = namedtuple("Function", "crate path line name sentence clauses exported is_law")
-# A clause: `requires` or `ensures`, its name, if it has one, and what it says, if that stands on its line.
+# A clause: `requires` or `ensures`, its name if it has one, and its statement if that is on its line.
 Clause = namedtuple("Clause", "word name says")
 
 ITEM = re.compile(r" *(?:(?:abbrev|unfoldable) +)?(?P<public>pub +)?(?:(?:abbrev|unfoldable) +)?(?:(?:record|data) +)?(?P<name>[^\s:(){]+)(?= |$)")
@@ -28,13 +28,13 @@ def read(path):
 
 
 def crates(every=False):
-    """The crates in the order of their dependencies, as crates.txt lists them; without those that state nothing, if not every one."""
+    """Returns the crates in the order of their dependencies, as crates.txt lists them; crates that state nothing only if `every` is set."""
     names = [it.split(":")[0].split()[0] for it in read("crates.txt").split("\n") if it and not it.startswith("#")]
     return [it for it in names if every or not it.endswith("_tests") and it != "pmg_bench"]
 
 
 def exceptions(part):
-    """The exceptions of that part of the list of exceptions, as what stands before the colon and what after it."""
+    """Returns the exceptions in that part of the list of exceptions, as the text before the colon and the text after it."""
     found = re.search(rf"^## .*\b{part}\b.*\n((?:(?!##).*\n)*)", read("docs/lists/EXCEPTIONS.md"), re.M)
     return [tuple(it[2:].split(": ", 1)) for it in found[1].split("\n") if it.startswith("- ")]
 
@@ -46,7 +46,7 @@ def files(crate, part, ending):
 # ---- definitions
 
 def comment_above(lines, at):
-    """The comment that ends right above the line, an `infixl` between them left out."""
+    """Returns the comment that ends right above the line, without an `infixl` between them."""
     found = []
     while at > 0 and re.match(r"\s*(--( |$)|infix)", lines[at - 1]):
         at -= 1
@@ -56,7 +56,7 @@ def comment_above(lines, at):
 
 
 def starts(lines):
-    """The lines at which a definition starts, with what declares it: at the margin, or one step in within a module."""
+    """Returns the lines at which a definition starts, with its declaration: at the margin, or one step in within a module."""
     depth = 0
     for at, line in enumerate(lines):
         indent = len(line) - len(line.lstrip())
@@ -69,7 +69,7 @@ def starts(lines):
 
 
 def text_of(lines, at, end):
-    """The lines from one start to the next, without what stands above the next one."""
+    """Returns the lines from one start to the next, without the comment above the next one."""
     last = end
     while last > at + 1 and (not lines[last - 1].strip() or re.match(r"\s*(--|infix|module\b)", lines[last - 1])):
         last -= 1
@@ -85,19 +85,19 @@ def definitions_of(crate, path):
 
 
 def all_definitions():
-    """The definitions of all crates, private ones among them, in the order of crates, files and lines."""
+    """Returns the definitions of all crates, private ones too, in the order of crates, files and lines."""
     return [it for crate in crates() for path in files(crate, "specs", ".antt") for it in definitions_of(crate, path)]
 
 
 def home_of(it):
-    """The file of a definition, as pages name it: its crate and the file's name."""
+    """Returns the file of a definition, as pages name it: its crate and the file's name."""
     return it.path.removeprefix("crates/").replace("/specs/", "/").removesuffix(".antt")
 
 
 # ---- functions
 
 def exported(crate):
-    """The names that the crate's library exports, itself or in a module that is public, and these modules."""
+    """Returns the names that the crate's library exports, itself or in a public module, and these modules."""
     root = f"crates/{crate}/src/lib.rt"
     text = read(root) if os.path.exists(root) else ""
     modules = set(re.findall(r"^pub mod (\w+);", text, re.M))
@@ -108,7 +108,7 @@ def exported(crate):
 
 
 def owner_of(line):
-    """The type or trait whose functions the block holds, the trait that it implements, and whether it is a trait."""
+    """Returns the type or trait whose functions the block holds, the trait that it implements, and whether it is a trait."""
     found = BLOCK.match(line)
     if not found:
         return None
@@ -118,7 +118,7 @@ def owner_of(line):
 
 
 def sentence_above(lines, at):
-    """The first sentence of the doc comment above the line, attributes between them left out."""
+    """Returns the first sentence of the doc comment above the line, without the attributes between them."""
     found = []
     while at > 0 and re.match(r"\s*(///|#\[|//)", lines[at - 1]):
         at -= 1
@@ -130,7 +130,7 @@ def sentence_above(lines, at):
 
 
 def clauses_below(lines, at):
-    """The clauses of the function that begins there, up to its body or its end."""
+    """Returns the clauses of the function that begins there, up to its body or its end."""
     found = []
     for line in lines[at + 1:]:
         clause = CLAUSE.match(line)
@@ -142,7 +142,7 @@ def clauses_below(lines, at):
 
 
 def has_body_at_once(line):
-    """Whether the line that begins a function has its body too, or ends it."""
+    """Returns whether the line that begins a function has its body too, or ends it."""
     return bool(re.search(r"(\{|\{\}|;)\s*$", line))
 
 
@@ -170,7 +170,7 @@ def functions_of(crate, path, names, modules):
 
 
 def all_functions():
-    """The functions and methods of all crates that are `pub`, and those of traits, in the order of crates, files and lines."""
+    """Returns the `pub` functions and methods of all crates, and those of traits, in the order of crates, files and lines."""
     found = []
     for crate in crates():
         names, modules = exported(crate)

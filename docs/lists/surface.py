@@ -1,9 +1,9 @@
-"""The calls that the project promises: their names, by the crate that offers them, and what the sources say of each."""
+"""Lists the calls that the project promises: their names, by the crate that offers them, and what the sources say of each."""
 import re
 
 import sources
 
-# What each crate offers. A name with `::` is a function of a type or of a module, one in lower case a function, any other a type.
+# The offers of each crate. A name with `::` is a function of a type or of a module, a name in lower case a function, any other a type.
 SURFACE = {
     "pmg_value": "Refusal Rank Nspace::read Nspace::read_any Proc::new NodeId::new Key::read Key::read_any Value Value::string Value::bytes Value::array "
     "Value::size Value::cmp Value::write_text",
@@ -40,7 +40,7 @@ FAILS = r"Refusal|Failure|Fault|Unended|AllocError|AllocFailed|RunFailed"
 
 
 def exporters(crate, name):
-    """The crate, and the one whose item of that name it exports again, if it does."""
+    """Returns the crate, and the crate whose item of that name it exports again, if it does."""
     text = sources.read(f"crates/{crate}/src/lib.rt")
     for other, many, one in re.findall(r"^pub use (pmg_\w+)::(?:\{([^}]*)\}|(\w+));", text, re.M):
         if name in (it.strip() for it in (many or one).split(",")):
@@ -49,12 +49,12 @@ def exporters(crate, name):
 
 
 def without_marks(text):
-    """A declaration in one line, without commas before a bracket and without visibility."""
+    """Returns a declaration in one line, without commas before a bracket and without visibility."""
     return re.sub(r",? ?([)}])", r"\1", re.sub(r"\s+", " ", text)).replace("( ", "(").replace("{ ", "{").replace("pub(crate) ", "").replace("pub ", "").strip()
 
 
 def signature_at(lines, at):
-    """The function's declaration, without its clauses and its body."""
+    """Returns the function's declaration, without its clauses and its body."""
     found = []
     for line in lines[at:]:
         if re.match(r"\s*(requires|ensures|where)\b|\s*\{", line):
@@ -66,7 +66,7 @@ def signature_at(lines, at):
 
 
 def comment_above(lines, at):
-    """The words of the doc comment above the line, attributes between them left out."""
+    """Returns the words of the doc comment above the line, without the attributes between them."""
     found = []
     while at > 0 and re.match(r"\s*(///|#\[|//)", lines[at - 1]):
         at -= 1
@@ -75,7 +75,7 @@ def comment_above(lines, at):
 
 
 def refusals_of(signature, comment):
-    """The refusals that a call's answer can be, as its result and its comment say."""
+    """Returns the refusals that a call may answer, as its result and its comment say."""
     result = signature.partition(" -> ")[2]
     if not re.search(FAILS, result):
         return "none"
@@ -85,7 +85,7 @@ def refusals_of(signature, comment):
 
 
 def members_of(lines, at, kind):
-    """What a type shows: its variants, its public fields or its functions; none where it shows no more than its name."""
+    """Returns what a type shows: its variants, its public fields or its functions; nothing if it shows only its name."""
     inside = []
     for line in lines[at + 1:]:
         if line.startswith("}"):
@@ -97,7 +97,7 @@ def members_of(lines, at, kind):
 
 
 def types_named(crate, name):
-    """Where the crate declares a type of that name, and what it shows."""
+    """Returns where the crate declares a type of that name, and what it shows."""
     for path in sources.files(crate, "src", ".rt"):
         lines = sources.read(path).split("\n")
         for at, line in enumerate(lines):
@@ -107,7 +107,7 @@ def types_named(crate, name):
 
 
 def functions_named(crate, name, functions):
-    """Where the crate declares a function of that name, its declaration, and what it refuses."""
+    """Returns where the crate declares a function of that name, its declaration, and its refusals."""
     for it in functions:
         if it.crate == crate and it.name == name and it.exported:
             lines = sources.read(it.path).split("\n")
@@ -116,7 +116,7 @@ def functions_named(crate, name, functions):
 
 
 def inherited(crate, name, functions):
-    """The functions of that name which traits have that a type of the crate implements."""
+    """Returns the functions of that name in traits that a type of the crate implements."""
     owner, _, method = name.partition("::")
     for path in sources.files(crate, "src", ".rt"):
         for trait in re.findall(rf"^impl (\w+) for {owner}\b", sources.read(path), re.M):
@@ -124,7 +124,7 @@ def inherited(crate, name, functions):
 
 
 def row(crate, name, functions):
-    """The row of a name: where its crate, or the one whose item it exports again, has it."""
+    """Returns the row of a name: where its crate has it, or the crate whose item it exports again."""
     short = name.removeprefix("laws::")
     head = short.split("::")[0]
     for other in exporters(crate, head):
@@ -136,7 +136,7 @@ def row(crate, name, functions):
 
 
 def lines(functions):
-    """The tables of all crates."""
+    """Returns the tables of all crates."""
     for crate, names in SURFACE.items():
         yield from ["", f"## `{crate}`", "", "| Call | Declaration | Refusals | Where |", "|---|---|---|---|"]
         yield from (row(crate, name, functions) for name in names.split())

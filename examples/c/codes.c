@@ -1,6 +1,6 @@
-/* Makes each call of the library on two nodes whose frames go over in pieces of three bytes, and looks at its code and at what it tells. It
- * does so again and again while one allocation fails in turn, every STEP-th (codes STEP): the call that tells of it is made again, and all
- * has to come out the same. */
+/* Makes each call of the library on two nodes, whose frames cross in pieces of three bytes, and checks its code and its results. Then it
+ * repeats the run while one allocation fails in turn, every STEP-th (codes STEP). It repeats the call that reports the failure, and the run
+ * has to end in the same way. */
 #include "pmixgroup.h"
 
 #include <inttypes.h>
@@ -13,7 +13,7 @@
     do { \
         if (!(condition)) fail(__LINE__, 0); \
     } while (0)
-/* The call answers that code; where an allocation failed, once it is made again. */
+/* Checks that the call answers that code; after a failed allocation, when it is repeated. */
 #define ASK(wanted, call) \
     do { \
         uint32_t code_ = (call); \
@@ -26,7 +26,7 @@
 
 static const char GROUP[] = "nodes n0 n1\nspace j 0 1\n";
 
-/* How many allocations were asked for, and which one fails; how many failures calls told. */
+/* How many allocations were requested, which one fails, and how many failures the calls reported. */
 static long asked, failing, told;
 
 void *__real_malloc(size_t size);
@@ -46,7 +46,7 @@ static uint64_t number;
 static uint32_t rank;
 static size_t len;
 
-/* All frames of the one node that wait go to the other, which is of that number. */
+/* Carries all waiting frames of one node to the other, which has that number. */
 static void carry(pmixgroup_node *from, pmixgroup_node *to, uint32_t wanted) {
     for (;;) {
         uint32_t node = 9, code = pmixgroup_next(from, &node, buffer, sizeof buffer, &len);
@@ -73,7 +73,7 @@ static void flow(void) {
     }
 }
 
-/* Handles that hold no node, and groups that have none of that index. */
+/* Tries empty handles, and groups without a node of that index. */
 static void opening(void) {
     EXPECT(pmixgroup_nudge(&zero) == PMIXGROUP_WRONG_HANDLE);
     ASK(PMIXGROUP_BAD_PARAM, pmixgroup_open(&zero, 2, BYTES(GROUP)));
@@ -89,7 +89,7 @@ static void opening(void) {
     ASK(PMIXGROUP_DONE, pmixgroup_open(&one, 1, BYTES(GROUP)));
 }
 
-/* The largest group: each of 64 nodes is home to one rank of 64. One node more is too many. */
+/* Opens the largest group: each of 64 nodes is home to one rank of 64. One node more is too many. */
 static void largest(void) {
     static char text[1 << 14];
     size_t at = (size_t)sprintf(text, "nodes");
@@ -107,7 +107,7 @@ static void largest(void) {
     EXPECT(pmixgroup_open(&zero, 0, BYTES(text)) == PMIXGROUP_TOO_MANY);
 }
 
-/* What is refused, by its code, which leaves what it would tell. */
+/* Checks refusals by their codes; a refused call leaves its results. */
 static void refusals(void) {
     static const uint8_t byte[] = {9, 1, 1};
     uint32_t status = 9;
@@ -129,7 +129,7 @@ static void refusals(void) {
     ASK(PMIXGROUP_IDLE, pmixgroup_value(&zero, buffer, sizeof buffer, &len));
 }
 
-/* A set is defined of the processes that were named, and deleted. */
+/* Defines a set of the named processes, and deletes it. */
 static void sets(void) {
     static const uint8_t members[] = {0x13, 0x10, 0, 0, 0, 1, 1, 'j', 0, 0, 0, 1};
     ASK(PMIXGROUP_BAD_PARAM, pmixgroup_name(&zero, BYTES(""), 1));
@@ -144,7 +144,7 @@ static void sets(void) {
     ASK(PMIXGROUP_NOT_FOUND, pmixgroup_members(&zero, BYTES("s"), buffer, sizeof buffer, &len));
 }
 
-/* Both enter a fence that collects, and then one gets what the other committed. */
+/* Has both enter a collecting fence, and then one get what the other committed. */
 static void fence(void) {
     static const uint8_t five[] = {9, 5};
     ASK(PMIXGROUP_DONE, pmixgroup_put(&zero, BYTES("j"), 0, PMIXGROUP_GLOBAL, BYTES("a"), five, 2));
@@ -165,7 +165,7 @@ static void fence(void) {
     ASK(PMIXGROUP_DONE, pmixgroup_get(&one, BYTES("j"), 1, BYTES("j"), 0, BYTES("a"), PMIXGROUP_NOW));
 }
 
-/* A buffer that is too small for a value says how much it needs, and the value can be asked for again. */
+/* Asks for a value with a buffer that is too small: the call says how much it needs, and may be repeated. */
 static void values(void) {
     memset(buffer, 0xee, sizeof buffer);
     ASK(PMIXGROUP_TOO_SMALL, pmixgroup_value(&one, buffer, 1, &len));
@@ -177,7 +177,7 @@ static void values(void) {
     EXPECT(len == 2 && buffer[1] == 5);
 }
 
-/* A frame that does not fit waits on. A get waits until the other process ends, who is gone from the next fence. */
+/* A frame that does not fit waits on. A get waits until the other process ends, which is then gone from the next fence. */
 static void ends(void) {
     uint32_t to = 9;
     ASK(PMIXGROUP_WAITS, pmixgroup_get(&one, BYTES("j"), 1, BYTES("j"), 0, BYTES("b"), PMIXGROUP_WAIT));
@@ -198,7 +198,7 @@ static void ends(void) {
     ASK(PMIXGROUP_IDLE, pmixgroup_gone(&one, 1, buffer, sizeof buffer, &len, &rank));
 }
 
-/* Bytes that are no frame are told, and no more are taken. */
+/* Feeds bytes that are not a frame: the fault is reported, and no more bytes are taken. */
 static void faults(void) {
     uint64_t offset = 0;
     ASK(PMIXGROUP_IDLE, pmixgroup_fault(&zero, 1, &offset, buffer, sizeof buffer, &len));

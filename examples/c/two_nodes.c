@@ -1,6 +1,6 @@
-/* Two daemons with two clients each, in one program: their frames go over a socket pair, in pieces that know nothing of frames. Each of
- * four processes puts its address and commits it, all meet in a fence that collects data, each gets the address of the next, and the
- * last one ends. It prints what `pmixgroup replay` prints for examples/c/two-nodes.script. */
+/* Two daemons with two clients each, in one program. Their frames cross a socket pair, in pieces that do not follow the frames. Each of
+ * four processes puts its address and commits it, and all meet in a collecting fence. Each gets the address of the next, and the last
+ * process ends. The program prints what `pmixgroup replay` prints for examples/c/two-nodes.script. */
 #include "pmixgroup.h"
 
 #include <inttypes.h>
@@ -28,14 +28,14 @@ static void fail(const char *what) {
 
 static pmixgroup_node *home(uint32_t rank) { return &nodes[rank / 2]; }
 
-/* Prints why a call was refused, or what it was not refused for. */
+/* Prints the refusal of that code; any other code is a failure. */
 static void print_refusal(uint32_t code) {
     size_t len = 0;
     if (pmixgroup_refusal(code, buffer, sizeof buffer, &len) != PMIXGROUP_DONE) fail("a code that is none");
     printf("refused %" PRIu32 " %.*s\n", code - PMIXGROUP_NO_MEMORY, (int)len, buffer);
 }
 
-/* Prints the value that the last call told, which is a string: its tag, four bytes of length, and its text, in hexadecimal here. */
+/* Prints the value of the last call, which is a string: its tag, four bytes of length, and its text, here in hexadecimal. */
 static void print_value(pmixgroup_node *node) {
     size_t len = 0;
     if (pmixgroup_value(node, buffer, sizeof buffer, &len) != PMIXGROUP_DONE) fail("no value");
@@ -99,7 +99,7 @@ static void end(uint32_t rank) {
     else print_refusal(code);
 }
 
-/* Sends all frames of a node that wait, as a daemon would over its connection to the other. */
+/* Sends all waiting frames of a node, as a daemon would over its connection to the other. */
 static void send_frames(int from) {
     uint32_t to = 0, code;
     size_t len = 0;
@@ -108,7 +108,7 @@ static void send_frames(int from) {
     if (code != PMIXGROUP_IDLE) fail("a frame was not taken");
 }
 
-/* Hands a node what its connection has, some bytes at a time, and delivers each frame as soon as it is whole; how many it delivered. */
+/* Feeds a node the bytes of its connection, some at a time, and delivers each frame once it is whole. Returns how many it delivered. */
 static int receive_frames(int at) {
     int delivered = 0;
     ssize_t count;
@@ -121,7 +121,7 @@ static int receive_frames(int at) {
     return delivered;
 }
 
-/* Carries the frames that wait; what is sent once they come waits for the next time. */
+/* Carries the waiting frames; the frames that their delivery sends wait for the next time. */
 static void flow(void) {
     send_frames(0);
     send_frames(1);

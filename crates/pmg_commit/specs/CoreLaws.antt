@@ -1,4 +1,4 @@
--- What a core keeps, and that cores can be joined in the place of what they are of.
+-- Laws of cores: a core keeps what counts, and cores can be joined in place of their knowledge.
 use Rattle.std.proofs.Common.{◌≡◌, ◌≤◌, ◌⊎◌, inl, inr, Bool, true, false, ◌&&◌, ◌||◌, not, refl, sym, ap, ◌∙◌, subst}
 use Rattle.std.specs.List.{list_any}
 use Rattle.std.specs.FinSet as set
@@ -18,7 +18,7 @@ use Rattle.pmg_commit.specs.Tops.{top_of}
 abbrev pub Has : Knowledge → Entry → Type 0
 Has k e = set.contains k.entries e ≡ true
 
--- e is one of the entries, and none supersedes it
+-- e is one of the entries, and no entry supersedes it
 abbrev pub Kept : Knowledge → Entry → Type 0
 Kept k e = Has k e × ((f : Entry) → Has k f → Superseded (level k.numbers) e f → ⊥)
 

@@ -1,4 +1,4 @@
--- Knowledge without superseded entries, as a type of its own, and how it is joined.
+-- Knowledge without superseded entries, as a type of its own, and its join.
 use Rattle.std.specs.Prelude.{◌≡◌}
 use base.Stored.{coded_via}
 use mathlib.Core.HLevel.{Σ_prop_path}
@@ -15,11 +15,11 @@ pub record Core : Type 0 where
 abbrev pub core_of : Knowledge → Core
 core_of k = record { knowledge = core k; is_core = core-core k }
 
--- the core of what two cores know together
+-- the core of the knowledge of two cores together
 abbrev pub join_cores : Core → Core → Core
 join_cores a b = core_of (union a.knowledge b.knowledge)
 
--- cores of one knowledge are one
+-- cores of one knowledge are equal
 pub same_core : (a b : Core) → a.knowledge ≡ b.knowledge → a ≡ b
 same_core a b e =
     let pairs : ◌≡◌ {A = (k : Knowledge) × (core k ≡ k)} (a.knowledge, a.is_core) (b.knowledge, b.is_core) = Σ_prop_path (λ k. Coded-set coded_knowledge (core k) k) e in

@@ -10,7 +10,7 @@ use Rattle.pmg_commit.specs.Levels.{level}
 use Rattle.pmg_commit.specs.Knowledge.{Contribution, Knowledge, nothing, knowledge_of, read}
 use Rattle.pmg_commit.specs.Cores.{Core, core_of, join_cores, coded_core}
 
--- For each process of which something was taken, the core of what is known of it.
+-- For each process of a taken contribution, the core of what is known of it.
 abbrev pub Data : Type 0
 Data = map.FinMap proc_cmp Core
 
@@ -18,7 +18,7 @@ Data = map.FinMap proc_cmp Core
 abbrev pub coded_data : Coded Data
 coded_data = map.code coded_proc coded_core
 
--- all that either has
+-- everything that either has
 abbrev pub join_data : Data → Data → Data
 join_data = join_maps join_cores
 
@@ -26,16 +26,16 @@ join_data = join_maps join_cores
 unfoldable pub of_contribution : Contribution → Data
 of_contribution c = map.insert map.empty c.proc (core_of (knowledge_of c))
 
--- the data once the contribution is taken too
+-- the data with one more contribution
 abbrev pub absorbed : Data → Contribution → Data
 absorbed d c = join_data d (of_contribution c)
 
--- the knowledge in a core that may be missing: nothing where it is
+-- the knowledge in a core, or no knowledge without a core
 abbrev pub knowledge_in : Option Core → Knowledge
 knowledge_in None = nothing
 knowledge_in (Some c) = c.knowledge
 
--- what is known of the process
+-- the knowledge of the process
 unfoldable pub known : Data → Proc → Knowledge
 known d p = knowledge_in (map.get d p)
 
@@ -43,7 +43,7 @@ known d p = knowledge_in (map.get d p)
 abbrev pub level_at : Data → Proc → ℕ
 level_at d p = level (known d p).numbers
 
--- what is read of the process under the key, as canonical bytes
+-- the value that is read of the process under the key, as canonical bytes
 abbrev pub read_at : Data → Proc → List ℕ → Option (List ℕ)
 read_at d p key = read (known d p) key
 

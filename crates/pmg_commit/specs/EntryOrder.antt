@@ -26,15 +26,15 @@ exact_entries e f h =
 abbrev pub Below : List ℕ → List ℕ → Type 0
 Below a b = slice_cmp nat_cmp a b ≡ Less
 
--- what `is_later` tests: f is of a greater number than e, or of the same number with the greater bytes
+-- the test of `is_later`: f has a greater number than e, or an equal number and the greater bytes
 abbrev pub Later : Entry → Entry → Type 0
 Later e f = (e.number < f.number) ⊎ ((e.number ≡ f.number) × Below e.bytes f.bytes)
 
--- what `is_readable` tests: e is an entry of the key, and its number is no greater than the level
+-- the test of `is_readable`: e is an entry of the key, and its number is at most the level
 abbrev pub Readable : ℕ → List ℕ → Entry → Type 0
 Readable level key e = (key ≡ e.key) × (e.number ≤ level)
 
--- what `is_superseded` tests: f is of e's key and later, and of a number up to the level or e's own
+-- the test of `is_superseded`: f has e's key and is later, and its number is at most the level or is e's own
 abbrev pub Superseded : ℕ → Entry → Entry → Type 0
 Superseded level e f = ((e.key ≡ f.key) × Later e f) × ((f.number ≤ level) ⊎ (e.number ≡ f.number))
 

@@ -1,4 +1,4 @@
--- Knowledge of one process: what contributions add up to, and what can be read of it.
+-- Knowledge of one process: the sum of contributions, and its reads.
 use Rattle.std.specs.Prelude.{ℕ, zero, suc, Bool, ◌&&◌, not, List, Option, refl}
 use Rattle.std.specs.Option.{option_map}
 use Rattle.std.specs.List.{list_any, find}
@@ -9,7 +9,7 @@ use Rattle.pmg_value.specs.declared.process.Proc.{Proc}
 use Rattle.pmg_commit.specs.Entries.{Entry, entry_cmp, coded_entry, is_later, is_readable, is_superseded}
 use Rattle.pmg_commit.specs.Levels.{level}
 
--- A contribution states what a process sealed in its commits from+1 to to.
+-- A contribution has the puts that a process sealed in its commits from+1 to to.
 pub record Contribution : Type 0 where
   pub proc : Proc
   pub from : ℕ
@@ -31,7 +31,7 @@ coded_knowledge =
 abbrev pub nothing : Knowledge
 nothing = record { numbers = set.empty; entries = set.empty }
 
--- all that either knows
+-- everything that either knows
 abbrev pub union : Knowledge → Knowledge → Knowledge
 union k l = record { numbers = set.union k.numbers l.numbers; entries = set.union k.entries l.entries }
 
@@ -44,22 +44,22 @@ numbers_to (suc n) = set.insert (numbers_to n) (suc n)
 unfoldable pub numbers_between : ℕ → ℕ → set.FinSet nat_cmp
 numbers_between from to = set.difference (numbers_to to) (numbers_to from)
 
--- what is known from one contribution
+-- the knowledge from one contribution
 unfoldable pub knowledge_of : Contribution → Knowledge
 knowledge_of c = record { numbers = numbers_between c.from c.to; entries = set.from_list c.entries }
 
--- e is what is read under the key: a readable entry that no readable entry is later than
+-- e is the entry that is read under the key: a readable entry, and no readable entry is later
 abbrev pub is_read : Knowledge → List ℕ → Entry → Bool
 is_read k key e =
     is_readable (level k.numbers) key e
     && not (list_any (λ f. is_readable (level k.numbers) key f && is_later e f) (set.items k.entries))
 
--- The value that is read under the key, as its canonical bytes: of the entries up to the level, the one of
--- the greatest number, and at equal numbers the one of the greater bytes.
+-- The value that is read under the key, as its canonical bytes. The entry with the greatest number up to the level counts, and at equal
+-- numbers the greater bytes.
 unfoldable pub read : Knowledge → List ℕ → Option (List ℕ)
 read k key = option_map (λ e. e.bytes) (find (is_read k key) (set.items k.entries))
 
--- The core of knowledge: the same numbers, and the entries that no entry supersedes at the level.
+-- The core of knowledge: the numbers of the knowledge, and the entries that no entry supersedes at the level.
 unfoldable pub core : Knowledge → Knowledge
 core k = record {
   numbers = k.numbers;

@@ -17,7 +17,7 @@ use Rattle.pmg_commit.specs.declared.piece.TheConstants.{MAX_COMMIT, MAX_ENTRIES
 abbrev pub entry_of : PieceEntry → Entry
 entry_of e = record { key = e.key; number = e.number; bytes = spelling e.value }
 
--- what a process sealed in its commits from+1 to to
+-- the puts that a process sealed in its commits from+1 to to
 abbrev pub contribution : Proc → ℕ → ℕ → List PieceEntry → Contribution
 contribution proc from to entries = record { proc = proc; from = from; to = to; entries = map entry_of entries }
 
@@ -30,7 +30,7 @@ entry_size e = row_size (e.key, e.bytes)
 abbrev pub body_size : Proc → List Entry → ℕ
 body_size proc entries = length proc.nspace + 25 + sum_by entry_size entries
 
--- no more entries and bytes than a frame can hold
+-- at most as many entries and bytes as a frame can hold
 abbrev pub is_small : Proc → List Entry → Bool
 is_small proc entries = nat_le (length entries) MAX_ENTRIES && nat_le (body_size proc entries) MAX_PIECE_SIZE
 
@@ -38,12 +38,12 @@ is_small proc entries = nat_le (length entries) MAX_ENTRIES && nat_le (body_size
 abbrev pub is_numbered : ℕ → ℕ → Entry → Bool
 is_numbered from to e = nat_lt from e.number && nat_le e.number to
 
--- the key of f is greater than that of e
+-- the key of f is greater than the key of e
 abbrev pub is_key_rising : Entry → Entry → Bool
 is_key_rising e f = is_lt (slice_cmp nat_cmp e.key f.key)
 
--- A contribution that is a piece: of a process that may commit, over at least one commit, small enough for
--- a frame, its entries in the order of their keys, each of one of these commits.
+-- A contribution that is a piece. Its process may commit, it has at least one commit, and it is small enough for a frame. Its entries are
+-- in the order of their keys, and each is of one of its commits.
 unfoldable pub is_piece : Contribution → Bool
 is_piece c =
     (is_client c.proc || is_host c.proc)

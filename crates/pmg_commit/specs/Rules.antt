@@ -13,19 +13,19 @@ use Rattle.pmg_commit.specs.Data.{Data, join_data, of_contribution, known}
 abbrev pub NumbersBetween : Type 0
 NumbersBetween = (from to n : ℕ) → set.contains (numbers_between from to) n ≡ (nat_lt from n && nat_le n to)
 
--- the level is as far as the numbers go from 1 without a gap, and nothing else is
+-- the level is how far the numbers go from 1 without a gap, and no other number is
 abbrev pub LevelIsReach : Type 0
 LevelIsReach = (numbers : set.FinSet nat_cmp) → IsReach (set.contains numbers) (level numbers) × ((n : ℕ) → IsReach (set.contains numbers) n → n ≡ level numbers)
 
--- more knowledge has no lower level
+-- more knowledge never has a lower level
 abbrev pub LevelGrows : Type 0
 LevelGrows = (k l : Knowledge) → level k.numbers ≤ level (union k l).numbers
 
--- a contribution that begins no later than the level raises it to its end
+-- a contribution that begins no later than the level raises the level to its end at least
 abbrev pub LevelReaches : Type 0
 LevelReaches = (k : Knowledge) (c : Contribution) → c.from ≤ level k.numbers → c.to ≤ level (union k (knowledge_of c)).numbers
 
--- a readable entry that no readable entry is later than is what is read
+-- a readable entry is read if no readable entry is later
 abbrev pub ReadIsLatest : Type 0
 ReadIsLatest =
     (k : Knowledge) (key : List ℕ) (e : Entry)
@@ -34,17 +34,17 @@ ReadIsLatest =
     → ((f : Entry) → set.contains k.entries f ≡ true → is_readable (level k.numbers) key f ≡ true → is_later e f ≡ false)
     → read k key ≡ Some e.bytes
 
--- a read gives none exactly where no entry is readable
+-- a read finds nothing exactly if no entry is readable
 abbrev pub ReadIsNone : Type 0
 ReadIsNone =
     (k : Knowledge) (key : List ℕ)
     → (read k key ≡ None) ↔ ((e : Entry) → set.contains k.entries e ≡ true → is_readable (level k.numbers) key e ≡ false)
 
--- a core has the level and the reads of what it is the core of
+-- a core has the level and the reads of its knowledge
 abbrev pub CoreReadsAlike : Type 0
 CoreReadsAlike = (k : Knowledge) → (level (core k).numbers ≡ level k.numbers) × ((key : List ℕ) → read (core k) key ≡ read k key)
 
--- the core of a union is that of the union of the cores
+-- the core of a union is the core of the union of the cores
 abbrev pub CoreOfUnion : Type 0
 CoreOfUnion = (k l : Knowledge) → core (union k l) ≡ core (union (core k) (core l))
 
@@ -61,14 +61,14 @@ CoreIsLeast =
 abbrev pub AlikeNow : Type 0
 AlikeNow = (k l : Knowledge) → core k ≡ core l → (level k.numbers ≡ level l.numbers) × ((key : List ℕ) → read k key ≡ read l key)
 
--- and stay equal whatever both learn
+-- equal cores stay equal when both learn the same
 abbrev pub AlikeAfter : Type 0
 AlikeAfter = (k l more : Knowledge) → core k ≡ core l → core (union k more) ≡ core (union l more)
 
--- what is known of each process from two data together is the core of the union of what each knows
+-- the knowledge of each process from two data together is the core of the union of both
 abbrev pub KnownTogether : Type 0
 KnownTogether = (d e : Data) (p : Proc) → known (join_data d e) p ≡ core (union (known d p) (known e p))
 
--- a contribution tells of its own process, and of no other
+-- a contribution gives knowledge of its own process, and of no other
 abbrev pub KnownOfOne : Type 0
 KnownOfOne = (c : Contribution) (p : Proc) → known (of_contribution c) p ≡ (if eq_by_cmp proc_cmp p c.proc then core (knowledge_of c) else nothing)

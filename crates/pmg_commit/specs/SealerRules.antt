@@ -1,4 +1,4 @@
--- How a sealer and a script go on together.
+-- The common growth of a sealer and a script.
 use Rattle.std.specs.Prelude.{◌≡◌, ◌↔◌, ℕ, List, [], ◌∷◌, ◌++◌, map, Some, None, true, false}
 use Rattle.std.specs.FinMap as finite
 use Rattle.pmg_value.specs.Signatures.{Signature}
@@ -18,7 +18,7 @@ pub record FitsBatch (b : Unsealed) (s : Script) : Type 0 where
   pub near : (key : List ℕ) → finite.get b.near key ≡ last_put reach.Near key (next_part s)
   pub far : (key : List ℕ) → finite.get b.far key ≡ last_put reach.Far key (next_part s)
 
--- the stamps are those of the script's commits
+-- the stamps are the stamps of the script's commits
 abbrev pub FitsStamps : Stamps → Script → Reach → Type 0
 FitsStamps m s r = (key : List ℕ) (stamp : Stamp) → (finite.get m key ≡ Some stamp) ↔ IsSealed s r key (commits s) stamp.number stamp.bytes
 
@@ -29,19 +29,19 @@ pub record FitsSealer (z : Sealed) (s : Script) : Type 0 where
   pub near : FitsStamps z.near s reach.Near
   pub far : FitsStamps z.far s reach.Far
 
--- what a fitting cache has for the others is a fitting batch
+-- a fitting cache has a fitting batch for others
 abbrev pub BatchFits : Type 0
 BatchFits = (c : Cached) (s : Script) → FitsCache c s → FitsBatch (unsealed_of c) s
 
--- the puts of a batch: for each key one that the other processes on the node see, and one that those on other nodes see
+-- the puts of a batch: for each key a put that the other processes on the node see, and a put that processes on other nodes see
 abbrev pub batch_puts : Unsealed → Script
 batch_puts b = map (λ e. Call.put scopes.Local e.0 e.1) (finite.entries b.near) ++ map (λ e. Call.put scopes.Remote e.0 e.1) (finite.entries b.far)
 
--- a script without a put that no commit sealed
+-- a script without unsealed puts
 abbrev pub IsAllSealed : Script → Type 0
 IsAllSealed s = (r : Reach) (key : List ℕ) → last_put r key (next_part s) ≡ None
 
--- any batch fits a script that puts what it has, and nothing else since the last commit
+-- any batch fits a script whose only puts since the last commit are the batch's
 abbrev pub AnyBatchFits : Type 0
 AnyBatchFits = (b : Unsealed) (s : Script) → IsAllSealed s → FitsBatch b (s ++ batch_puts b)
 
@@ -49,11 +49,11 @@ AnyBatchFits = (b : Unsealed) (s : Script) → IsAllSealed s → FitsBatch b (s 
 abbrev pub NewSealerFits : Type 0
 NewSealerFits = (proc : Proc) → FitsSealer (fresh proc) []
 
--- a commit seals what was put since the one before
+-- a commit seals the puts since the commit before
 abbrev pub SealFits : Type 0
 SealFits = (z : Sealed) (b : Unsealed) (s : Script) → has_end s ≡ false → FitsBatch b s → FitsSealer z s → FitsSealer (sealed_with z b) (s ++ Call.commit ∷ [])
 
--- an end seals itself, and what was put since the last commit is lost
+-- an end seals itself, and the puts since the last commit are lost
 abbrev pub SealerEndFits : Type 0
 SealerEndFits = (z : Sealed) (s : Script) → has_end s ≡ false → FitsSealer z s → FitsSealer (ended_with z) (s ++ Call.terminate ∷ [])
 

@@ -1,4 +1,4 @@
--- Stamps as they are kept.
+-- Stamps in memory.
 use Rattle.std.specs.Prelude.{◌≡◌, ℕ, ◌+◌, ◌-◌, ◌≤◌, Bool, false, ◌&&◌, ◌||◌, nat_lt, nat_le, Result, Ok, Err, IsTrue, if◌then◌else◌}
 use Rattle.std.specs.FinMap as finite
 use Rattle.std.specs.List.{list_all}
@@ -13,7 +13,7 @@ use Rattle.pmg_commit.specs.Sealed.{Stamp, Stamps, Sealed, are_within, stamps_si
 use Rattle.pmg_commit.specs.declared.piece.TheConstants.{MAX_COMMIT, MAX_ENTRIES}
 use Rattle.pmg_scope.specs.declared.sizes.TheConstants.{MAX_CACHE_SIZE}
 
--- a put that was sealed, with its value's canonical bytes
+-- a sealed put, with its value's canonical bytes
 abbrev pub stamp_of : SealedPut → Stamp
 stamp_of p = record { number = p.number; bytes = spelling p.value }
 
@@ -21,12 +21,12 @@ stamp_of p = record { number = p.number; bytes = spelling p.value }
 abbrev pub are_of : ℕ → Stamps → Bool
 are_of n m = list_all (λ e. nat_lt 0 e.1.number && nat_le e.1.number n) (finite.entries m)
 
--- stamps that a piece can hold: those within the limits, and what an end adds
+-- stamps that a piece can hold: stamps within the limits, and the put of an end
 abbrev pub are_small : Stamps → Bool
 are_small m = nat_le (finite.len m) MAX_ENTRIES && nat_le (stamps_size m) (MAX_CACHE_SIZE + 21)
 
--- What a sealer keeps: its process is one that commits; its level ends at the greatest commit, which is kept for the end;
--- until then the stamps are within the limits; and each stamp is of one of the commits that were made.
+-- The rules of a sealer. Its process commits. Its level ends at the greatest commit, which is kept for the end. Until then the stamps are
+-- within the limits. Each stamp is of one of the commits that were made.
 pub record IsSealer (z : Sealed) : Type 0 where
   pub commits : IsTrue (is_client z.proc || is_host z.proc)
   pub last : z.level ≤ MAX_COMMIT
@@ -42,7 +42,7 @@ pub record CanBeSent (proc : Proc) (level : ℕ) (m : Stamps) : Type 0 where
   pub small : IsTrue (are_small m)
   pub numbered : IsTrue (are_of level m)
 
--- the piece of the process's commits from+1 to the level, where there are such commits
+-- the piece of the process's commits from+1 to the level, if there are such commits
 abbrev pub newer_answer : Proc → ℕ → ℕ → Stamps → Result Contribution Refusal
 newer_answer proc from level m =
     if nat_lt from level then Ok (record { proc = proc; from = from; to = level; entries = newer_than from m }) else Err refusals.BadParam

@@ -1,4 +1,4 @@
--- The order of knowledge: what it takes for all that one has to be in another.
+-- The order of knowledge: the conditions for one to be within another.
 use Rattle.std.specs.Prelude.{ℕ, true, ◌≡◌, ◌⊎◌}
 use Rattle.std.specs.FinSet as set
 use Rattle.pmg_commit.specs.Entries.{Entry}
@@ -12,7 +12,7 @@ use Rattle.pmg_commit.specs.Cores.{Core}
 abbrev pub Supersedes : Knowledge → Entry → Type 0
 Supersedes k e = (f : Entry) × Has k f × Superseded (level k.numbers) e f
 
--- each number of the one is one of the other
+-- each number of the one is a number of the other
 abbrev pub NumbersWithin : Knowledge → Knowledge → Type 0
 NumbersWithin k l = (n : ℕ) → set.contains k.numbers n ≡ true → set.contains l.numbers n ≡ true
 
@@ -20,6 +20,6 @@ NumbersWithin k l = (n : ℕ) → set.contains k.numbers n ≡ true → set.cont
 abbrev pub EntriesWithin : Knowledge → Knowledge → Type 0
 EntriesWithin k l = (e : Entry) → Has k e → Has l e ⊎ Supersedes l e
 
--- The one core is within the other: its numbers are, and its entries are or were superseded.
+-- The one core is within the other: its numbers are in the other, and each of its entries is there or is superseded there.
 abbrev pub CoreWithin : Core → Core → Type 0
 CoreWithin a b = NumbersWithin a.knowledge b.knowledge × EntriesWithin a.knowledge b.knowledge

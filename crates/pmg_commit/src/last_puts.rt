@@ -1,4 +1,4 @@
-//! What was sealed last under each key.
+//! The puts that were sealed last under each key.
 ghost use Rattle.std.specs.Prelude.{◌≡◌, ℕ, List, [], map, IfOk, OnOk, OnErr};
 ghost use Rattle.std.specs.FinMap as finite;
 ghost use Rattle.std.specs.Option.{option_map};
@@ -24,14 +24,14 @@ pub struct SealedPut {
 }
 
 impl SealedPut {
-    /// The number of the commit that sealed it.
+    /// Returns the number of the commit that sealed it.
     pub fn number(&self) -> u64
         ensures { result ≡ (stamp_of self.now).number }
     {
         self.number
     }
 
-    /// The value that was put.
+    /// Returns the value that was put.
     pub fn value(&self) -> &Value
         ensures { spelling result.now ≡ (stamp_of self.now).bytes }
     {
@@ -68,7 +68,7 @@ impl Model for LastPuts {
 }
 
 impl LastPuts {
-    /// Nothing sealed.
+    /// Makes a table without sealed puts.
     pub fn new(alloc: Global) -> LastPuts
         ensures { result ≡ finite.empty }
     {
@@ -77,7 +77,7 @@ impl LastPuts {
         }
     }
 
-    /// Copies of the keys, in their order.
+    /// Copies the keys, in their order.
     pub fn keys(&self, alloc: Global) -> Result<Vec<Key>, AllocError>
         ensures { IfOk result (λ keys. keys.items ≡ finite.keys self.now) }
     {
@@ -88,21 +88,21 @@ impl LastPuts {
         Ok(keys)
     }
 
-    /// The number of the keys.
+    /// Returns the number of keys.
     pub fn len(&self) -> usize
         ensures { result ≡ finite.len self.now }
     {
         self.rows.len()
     }
 
-    /// What was sealed last under the key.
+    /// Returns the put that was sealed last under the key.
     pub fn get(&self, key: &Key) -> Option<&SealedPut>
         ensures { option_map (λ p. stamp_of p.now) result ≡ finite.get self.now key.now }
     {
         self.rows.get(key)
     }
 
-    /// A copy of what was sealed last under the key.
+    /// Copies the put that was sealed last under the key.
     fn copy_of(&self, key: &Key) -> Result<Option<SealedPut>, AllocError>
         ensures { IfOk result (λ p. option_map stamp_of p ≡ finite.get self.now key.now) }
     {
@@ -112,7 +112,7 @@ impl LastPuts {
         }
     }
 
-    /// A copy, equal to this one.
+    /// Returns a copy, equal to this one.
     pub fn copy(&self, alloc: Global) -> Result<LastPuts, AllocError>
         ensures { IfOk result (λ s. s ≡ self.now) }
     {
@@ -121,7 +121,7 @@ impl LastPuts {
         })
     }
 
-    /// Puts what was sealed under the key.
+    /// Keeps this put as the last one under the key.
     fn set(&mut self, key: Key, put: SealedPut) -> Result<(), AllocError>
         ensures ok { OnOk result (self.new ≡ finite.insert self.old key (stamp_of put)) }
         ensures err { OnErr result (self.new ≡ self.old) }
@@ -130,14 +130,14 @@ impl LastPuts {
         Ok(())
     }
 
-    /// Puts back what was under the key before it was changed. It takes no memory.
+    /// Puts back the earlier put under the key. It takes no memory.
     fn take_one_back(&mut self, key: Key, before: Option<SealedPut>)
         ensures { self.new ≡ put_back self.old key (option_map stamp_of before) }
     {
         put_back(&mut self.rows, &key, before);
     }
 
-    /// Notes what is under the key, by which a change there can be taken back.
+    /// Notes the put under the key, by which a change there can be taken back.
     fn note(&self, key: &Key, before: &mut Vec<(Key, Option<SealedPut>)>) -> Result<(), AllocError>
         ensures same { all_back self.now before.new.items ≡ all_back self.now before.old.items }
         ensures back { OnOk result ((s : Stamp) → all_back (finite.insert self.now key.now s) before.new.items
@@ -149,7 +149,7 @@ impl LastPuts {
         Ok(())
     }
 
-    /// Seals the put under the key, and notes what was there.
+    /// Seals the put under the key, and notes the earlier put.
     fn stamp(
         &mut self,
         key: &Key,
@@ -163,7 +163,7 @@ impl LastPuts {
         self.set(key.copy()?, put)
     }
 
-    /// Seals the puts, whose keys rise, by the commit of that number, and notes what was under their keys.
+    /// Seals the puts, whose keys rise, by the commit of that number, and notes the earlier puts under their keys.
     pub fn stamp_all(
         &mut self,
         number: u64,
@@ -184,7 +184,7 @@ impl LastPuts {
         Ok(())
     }
 
-    /// Puts back what was under the keys, the change that was noted last first. It takes no memory.
+    /// Puts back the earlier puts under the keys, the last noted change first. It takes no memory.
     pub fn rollback(&mut self, before: Vec<(Key, Option<SealedPut>)>)
         ensures { self.new ≡ all_back self.old before.items }
     {
@@ -194,7 +194,7 @@ impl LastPuts {
         }
     }
 
-    /// What the commits above that number sealed, in the order of the keys.
+    /// Returns the puts that the commits above that number sealed, in the order of the keys.
     pub fn newer(&self, alloc: Global, from: u64) -> Result<Vec<PieceEntry>, AllocError>
         ensures { IfOk result (λ es. map entry_of es.items ≡ newer_than from self.now) }
     {

@@ -30,8 +30,7 @@ ghost use Rattle.pmg_commit.specs.SealerRules.{
   SealerIsOne,
 };
 
-/// The rules of knowledge of one process: what its level and its reads are, and that its core stands for
-/// it now and after all that may still be learned.
+/// States the rules of knowledge of one process: its level and its reads, and that its core can replace it now and after more is learned.
 pub fn knowledge_rules()
     ensures numbers_between { NumbersBetween }
     ensures level_is_reach { LevelIsReach }
@@ -47,7 +46,7 @@ pub fn knowledge_rules()
     ensures alike_after { AlikeAfter }
 {}
 
-/// The rules of joining: knowledge, cores, and the data of all processes.
+/// States the rules of joining: knowledge, cores, and the data of all processes.
 pub fn data_rules()
     ensures unions_assoc { IsAssociative union }
     ensures unions_comm { IsCommutative union }
@@ -59,8 +58,8 @@ pub fn data_rules()
     ensures known_of_one { KnownOfOne }
 {}
 
-/// The rules of honest knowledge: what is read at a level is what the process's own commit of that number left,
-/// so that servers at equal levels read alike; and what is honest stays so.
+/// States the rules of honest knowledge. At a level it reads what the process's own commit of that number left; servers at equal levels
+/// therefore read alike. Honest knowledge stays honest.
 pub fn honest_rules()
     ensures honest_reading { HonestReading }
     ensures equal_levels_read_alike { EqualLevelsReadAlike }
@@ -69,8 +68,8 @@ pub fn honest_rules()
     ensures level_is_made { LevelIsMade }
 {}
 
-/// The rules of a sealer: it fits the script of its calls, commit by commit and through the end, by what a cache
-/// that fits has for the others; its pieces are honest; and a process and its script have one sealer.
+/// States the rules of a sealer. It fits the script of its calls, commit by commit and through the end, if its batches come from a fitting
+/// cache. Its pieces are honest. A process and its script have one sealer.
 pub fn sealer_rules()
     ensures batch_fits { BatchFits }
     ensures any_batch_fits { AnyBatchFits }

@@ -1,4 +1,4 @@
-//! What processes commit: contributions, and the knowledge that they add up to.
+//! The commits of processes: contributions, and the knowledge that they add up to.
 #![tactic(auto)]
 
 mod last_puts;

@@ -22,8 +22,7 @@ pub const MAX_ENTRIES: usize = 65_536;
 /// The most bytes that a piece takes in a frame's body.
 pub const MAX_PIECE_SIZE: usize = 16_777_216;
 
-/// One key's entry: the number of the commit that sealed it, and the value that was put
-/// (PMIx Standard 5.0, PMIx_Put and PMIx_Commit).
+/// The entry of one key: the number of the commit that sealed it, and the value that was put (PMIx Standard 5.0, PMIx_Put and PMIx_Commit).
 #[derive(Drop)]
 pub struct PieceEntry {
     pub key: Key,
@@ -38,7 +37,7 @@ impl Copied for PieceEntry {
 }
 
 impl PieceEntry {
-    /// A copy, equal to this entry.
+    /// Returns a copy, equal to this entry.
     pub fn copy(&self) -> Result<PieceEntry, AllocError>
         ensures { IfOk result (λ e. e ≡ self.now) }
     {
@@ -49,14 +48,14 @@ impl PieceEntry {
         })
     }
 
-    /// Whether the entry can be read under the key, at that level: its number is no greater.
+    /// Returns whether the entry can be read under the key, at that level: its number is at most the level.
     pub fn is_readable(&self, level: u64, key: &Key) -> bool
         ensures { result ≡ is_readable level key.now (entry_of self.now) }
     {
         *key == self.key && self.number <= level
     }
 
-    /// Whether the next entry is later: of a greater number, or of the same one with the greater value.
+    /// Returns whether the next entry is later: it has a greater number, or an equal number and the greater value.
     pub fn is_earlier_than(&self, next: &PieceEntry) -> bool
         ensures { result ≡ is_later (entry_of self.now) (entry_of next.now) }
     {
@@ -64,21 +63,21 @@ impl PieceEntry {
             || (self.number == next.number && self.value.cmp(&next.value).is_lt())
     }
 
-    /// Whether the entry is of one of the commits from+1 to to.
+    /// Returns whether the entry is of one of the commits from+1 to to.
     fn is_within(&self, from: u64, to: u64) -> bool
         ensures { result ≡ is_numbered from to (entry_of self.now) }
     {
         from < self.number && self.number <= to
     }
 
-    /// Whether the other entry's key is greater.
+    /// Returns whether the other entry's key is greater.
     fn is_before(&self, next: &PieceEntry) -> bool
         ensures { result ≡ is_key_rising (entry_of self.now) (entry_of next.now) }
     {
         self.key < next.key
     }
 
-    /// The bytes that the entry takes in a frame.
+    /// Returns the number of bytes of the entry in a frame.
     pub fn size(&self) -> usize
         ensures value { result ≡ entry_size (entry_of self.now) }
         ensures bound { result ≤ MAX_ENTRY_SIZE }
@@ -87,7 +86,7 @@ impl PieceEntry {
     }
 }
 
-/// A contribution: what a process sealed in its commits from+1 to to. It fits into a frame.
+/// A contribution: the puts that a process sealed in its commits from+1 to to. It fits into a frame.
 pub struct Piece {
     proc: Proc,
     from: u64,
@@ -119,7 +118,7 @@ impl Model for Piece {
     ghost invariant = { λ a. IsTrue (is_piece (contribution a.proc a.from a.to a.entries.items)) };
 }
 
-/// Whether the keys rise strictly.
+/// Returns whether the keys rise strictly.
 pub fn are_keys_rising(entries: &[PieceEntry]) -> bool
     ensures { result ≡ is_chain is_key_rising (map entry_of entries.now) }
 {
@@ -131,7 +130,7 @@ pub fn are_keys_rising(entries: &[PieceEntry]) -> bool
     true
 }
 
-/// Whether each entry is of one of the commits from+1 to to.
+/// Returns whether each entry is of one of the commits from+1 to to.
 pub fn are_numbered(from: u64, to: u64, entries: &[PieceEntry]) -> bool
     ensures { result ≡ list_all (is_numbered from to) (map entry_of entries.now) }
 {
@@ -143,7 +142,7 @@ pub fn are_numbered(from: u64, to: u64, entries: &[PieceEntry]) -> bool
     true
 }
 
-/// The bytes that the entries take in a frame.
+/// Returns the number of bytes of the entries in a frame.
 pub fn entries_size(entries: &[PieceEntry]) -> usize
     requires { length entries.now ≤ MAX_ENTRIES }
     ensures value { result ≡ sum_by entry_size (map entry_of entries.now) }
@@ -156,7 +155,7 @@ pub fn entries_size(entries: &[PieceEntry]) -> usize
     size
 }
 
-/// Whether there are no more entries and bytes than a frame can hold.
+/// Returns whether a frame can hold as many entries and bytes.
 fn are_few(proc: &Proc, entries: &[PieceEntry]) -> bool
     ensures { result ≡ is_small proc.now (map entry_of entries.now) }
 {
@@ -164,7 +163,7 @@ fn are_few(proc: &Proc, entries: &[PieceEntry]) -> bool
         && proc.nspace.as_bytes().len() + 25 + entries_size(entries) <= MAX_PIECE_SIZE
 }
 
-/// Whether a frame can hold the contribution.
+/// Returns whether a frame can hold the contribution.
 #[tactic(auto, unfolding(crate::specs::Pieces::is_piece))]
 fn can_be_framed(proc: &Proc, from: u64, to: u64, entries: &[PieceEntry]) -> bool
     ensures { result ≡ is_piece (contribution proc.now from to entries.now) }
@@ -178,10 +177,9 @@ fn can_be_framed(proc: &Proc, from: u64, to: u64, entries: &[PieceEntry]) -> boo
 }
 
 impl Piece {
-    /// The contribution of these entries to what is known of the process. Refused as BadParam where no frame
-    /// can hold it: where the process is none that commits, the range is empty or goes past 4294967295, the
-    /// keys do not rise strictly, an entry's number is outside the range, or there are more than 65536
-    /// entries or 16777216 bytes.
+    /// Returns the contribution of these entries to the knowledge of the process. Errors: `BadParam` if no frame can hold it. The process
+    /// has to commit, and the range is not empty and ends at 4294967295 at most. The keys rise strictly, each entry's number is in the
+    /// range, and there are at most 65536 entries and 16777216 bytes.
     pub fn new(proc: Proc, from: u64, to: u64, entries: Vec<PieceEntry>) -> Result<Piece, Refusal>
         ensures { result ≡ (if is_piece (contribution proc from to entries.items) then Ok (contribution proc from to entries.items)
             else Err refusals.BadParam) }
@@ -192,7 +190,7 @@ impl Piece {
         Ok(Piece::from_checked(proc, from, to, entries))
     }
 
-    /// The contribution of entries that were judged before.
+    /// Returns the contribution of entries that were judged before.
     pub fn from_checked(proc: Proc, from: u64, to: u64, entries: Vec<PieceEntry>) -> Piece
         requires { IsTrue (is_piece (contribution proc from to entries.items)) }
         ensures { result ≡ contribution proc from to entries.items }
@@ -205,7 +203,7 @@ impl Piece {
         }
     }
 
-    /// The process that committed.
+    /// Returns the process that committed.
     pub fn proc(&self) -> &Proc
         ensures value { result.now ≡ self.now.proc }
         ensures commits { IsTrue (is_client result.now || is_host result.now) }
@@ -213,7 +211,7 @@ impl Piece {
         &self.proc
     }
 
-    /// The number of the last commit before the contribution.
+    /// Returns the number of the last commit before the contribution.
     pub fn from(&self) -> u64
         ensures value { result ≡ self.now.from }
         ensures order { result < self.now.to }
@@ -221,7 +219,7 @@ impl Piece {
         self.from
     }
 
-    /// The number of the contribution's last commit.
+    /// Returns the number of the contribution's last commit.
     pub fn to(&self) -> u64
         ensures value { result ≡ self.now.to }
         ensures order { self.now.from < result }
@@ -230,7 +228,7 @@ impl Piece {
         self.to
     }
 
-    /// The number of the entries.
+    /// Returns the number of entries.
     pub fn count(&self) -> usize
         ensures value { result ≡ length self.now.entries }
         ensures bound { result ≤ MAX_ENTRIES }
@@ -238,14 +236,14 @@ impl Piece {
         self.entries.len()
     }
 
-    /// The entry at that place, in the order of the keys, from 0.
+    /// Returns the entry at that index, in the order of the keys, from 0.
     pub fn entry(&self, i: usize) -> Option<&PieceEntry>
         ensures { option_map (λ e. entry_of e.now) result ≡ slice_get self.now.entries i }
     {
         self.entries.get(i)
     }
 
-    /// The bytes that the contribution takes in a frame's body.
+    /// Returns the number of bytes of the contribution in a frame's body.
     pub fn size(&self) -> usize
         ensures value { result ≡ body_size self.now.proc self.now.entries }
         ensures bound { result ≤ MAX_PIECE_SIZE }
@@ -254,14 +252,14 @@ impl Piece {
         self.proc.nspace.as_bytes().len() + 25 + entries_size(&self.entries)
     }
 
-    /// The entries, in the order of their keys.
+    /// Returns the entries, in the order of their keys.
     pub fn entries(&self) -> &[PieceEntry]
         ensures { map entry_of result.now ≡ self.now.entries }
     {
         &self.entries
     }
 
-    /// The process, the last commit before the contribution and its last one, and the entries.
+    /// Returns the process, the last commit before the contribution, the contribution's last commit, and the entries.
     pub fn into_parts(self) -> (Proc, u64, u64, Vec<PieceEntry>)
         ensures value { contribution result.0 result.1 result.2 result.3.items ≡ self }
         ensures order { result.1 < result.2 }
@@ -276,7 +274,7 @@ impl Piece {
         (proc, from, to, entries)
     }
 
-    /// A copy, equal to this piece.
+    /// Returns a copy, equal to this piece.
     pub fn copy(&self) -> Result<Piece, AllocError>
         ensures { IfOk result (λ p. p ≡ self.now) }
     {

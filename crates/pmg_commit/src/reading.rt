@@ -7,8 +7,8 @@ ghost use Rattle.pmg_commit.specs.Pieces.{entry_of};
 use crate::piece::PieceEntry;
 use pmg_value::Key;
 
-/// What is read under the key at that level once these entries are seen too, where best is what was read of
-/// the entries before: of all that can be read, the latest.
+/// Returns the entry that is read under the key at that level once these entries are seen too: the latest of all readable ones. `best` is
+/// the entry that was read of the entries before.
 pub fn best_of<'a>(
     entries: &'a [PieceEntry],
     level: u64,
@@ -24,7 +24,7 @@ pub fn best_of<'a>(
     best
 }
 
-/// What is read once the entry is seen too.
+/// Returns the entry that is read once the entry is seen too.
 fn better<'a>(
     level: u64,
     key: &Key,

@@ -1,4 +1,4 @@
-//! Whether entries are one.
+//! Comparison of entries.
 ghost use Rattle.std.specs.Prelude.{◌≡◌, map};
 ghost use Rattle.std.specs.Cmp.Lexicographic.{pointwise};
 ghost use Rattle.pmg_commit.specs.Entries.{is_same_entry};
@@ -6,14 +6,14 @@ ghost use Rattle.pmg_commit.specs.Pieces.{entry_of};
 
 use crate::piece::PieceEntry;
 
-/// Whether the entries are one.
+/// Returns whether the entries are equal.
 fn is_same_entry(entry: &PieceEntry, other: &PieceEntry) -> bool
     ensures { result ≡ is_same_entry (entry_of entry.now) (entry_of other.now) }
 {
     entry.key == other.key && entry.number == other.number && entry.value.cmp(&other.value).is_eq()
 }
 
-/// Whether the entries are one, each with each.
+/// Returns whether the entries are equal, each with each.
 pub fn are_same_entries(entries: &[PieceEntry], others: &[PieceEntry]) -> bool
     ensures { result ≡ pointwise is_same_entry (map entry_of entries.now) (map entry_of others.now) }
 {

@@ -33,8 +33,8 @@ use pmg_value::{Copied, Key, Proc, Refusal, Value};
 use std::alloc::{AllocError, Global};
 use std::marker::Model;
 
-/// What the commits of one process sealed: under each key what was sealed last, with the number of its commit
-/// (PMIx Standard 5.0, PMIx_Commit; the numbers are this project's).
+/// The puts that the commits of one process sealed: under each key the last put, with the number of its commit (PMIx Standard 5.0,
+/// PMIx_Commit; the numbers are this project's).
 pub struct Sealer {
     alloc: Global,
     proc: Proc,
@@ -70,7 +70,7 @@ impl Model for Sealer {
     ghost invariant = { λ a. IsSealer (record { proc = a.proc; level = a.level; ended = a.ended; near = a.near; far = a.far }) };
 }
 
-/// What a sealer was before a commit, by which it can be taken back.
+/// The state of a sealer before a commit, by which the commit can be taken back.
 #[derive(Drop)]
 pub struct SealerUndo {
     level: u64,
@@ -80,8 +80,8 @@ pub struct SealerUndo {
 }
 
 impl Sealer {
-    /// A sealer of the process, which made no commit. Refused as BadParam where it is no process that commits: no
-    /// client of a group, nor its host; and as NoMemory. It keeps the allocator.
+    /// Makes a sealer of the process, without commits. It keeps the allocator. Errors: `BadParam` if the process does not commit, because
+    /// it is neither a client of a group nor its host; `NoMemory`.
     pub fn new(alloc: Global, proc: &Proc) -> Result<Sealer, Refusal>
         ensures { Gives (λ z. z) result (new_answer proc.now) }
     {
@@ -91,7 +91,7 @@ impl Sealer {
         Ok(Sealer::from_checked(alloc, proc.copy()?))
     }
 
-    /// A sealer of a process that was judged before, which made no commit. It keeps the allocator.
+    /// Makes a sealer of a process that was judged before, without commits. It keeps the allocator.
     pub fn from_checked(alloc: Global, proc: Proc) -> Sealer
         requires { can_commit proc ≡ true }
         ensures { result ≡ fresh proc }
@@ -106,7 +106,7 @@ impl Sealer {
         }
     }
 
-    /// The number of the commits.
+    /// Returns the number of commits.
     pub fn level(&self) -> u64
         ensures value { result ≡ self.now.level }
         ensures bound { result ≤ MAX_COMMIT }
@@ -115,18 +115,18 @@ impl Sealer {
         self.level
     }
 
-    /// Whether the process has ended.
+    /// Returns whether the process has ended.
     pub fn has_ended(&self) -> bool
         ensures { result ≡ self.now.ended }
     {
         self.ended
     }
 
-    /// Makes the next commit, which seals the batch, and tells what there was before, by which it can be taken back (PMIx
-    /// Standard 5.0, PMIx_Commit). An empty batch takes a number too. Refused as TooMany where the commit's number would be
-    /// 4294967295, which is kept for the end, or after the end; where for one reach there would be more than 65535 keys,
-    /// or more than 16000000 bytes of keys and values, ten more counted for each; and as NoMemory. A refused commit changes
-    /// nothing. It takes time in proportion to the batch, times the logarithm of what was sealed.
+    /// Makes the next commit, which seals the batch, and returns the earlier state, by which the commit can be taken back (PMIx Standard
+    /// 5.0, PMIx_Commit). An empty batch takes a number too. A refused commit changes nothing. It takes time in proportion to the batch,
+    /// times the logarithm of the sealed puts. Errors: `TooMany` after the end, or if the commit's number would be 4294967295, which is
+    /// kept for the end. `TooMany` if one reach would have more than 65535 keys, or more than 16000000 bytes of keys and values, with ten
+    /// more for each. `NoMemory`.
     pub fn commit(&mut self, batch: &Batch) -> Result<SealerUndo, Refusal>
         ensures before { Gives (λ b. sealer_back self.new b) result (commit_answer self.old batch.now) }
         ensures fits { IfOk result (λ b. CanRollBack self.new b) }
@@ -144,7 +144,7 @@ impl Sealer {
         Ok(self.stamp(false, near, far)?)
     }
 
-    /// Takes a commit, or an end, back, by what there was before. It takes no memory.
+    /// Takes a commit or an end back, by the earlier state. It takes no memory.
     pub fn rollback(&mut self, before: SealerUndo)
         requires { CanRollBack self.old before }
         ensures { self.new ≡ sealer_back self.old before }
@@ -155,8 +155,8 @@ impl Sealer {
         self.far.rollback(before.far);
     }
 
-    /// Makes the next commit, and gives its number. A refused commit changes nothing. Errors: `TooMany` past 4,294,967,294 commits or
-    /// the limits of what is sealed for a reach; `NoMemory`.
+    /// Makes the next commit, and returns its number. A refused commit changes nothing. Errors: `TooMany` past 4,294,967,294 commits or the
+    /// limits of sealed puts for a reach; `NoMemory`.
     pub fn seal(&mut self, batch: &Batch) -> Result<u64, Refusal>
         ensures answer { Gives (λ n. n) result (seal_answer self.old batch.now) }
         ensures ok { OnOk result (self.new ≡ sealed_with self.old batch.now) }
@@ -168,7 +168,7 @@ impl Sealer {
         Ok(self.level())
     }
 
-    /// Seals the puts by the next commit, after which the process has ended or not.
+    /// Seals the puts by the next commit, with or without the end of the process.
     fn stamp(
         &mut self,
         ended: bool,
@@ -204,7 +204,7 @@ impl Sealer {
         }
     }
 
-    /// Whether the process can make a commit more: it has not ended, and there is a number left beside that of its end.
+    /// Returns whether the process can make another commit: it has not ended, and a number is left beside the number of its end.
     fn goes_on(&self) -> bool
         ensures value { result ≡ (not self.now.ended && nat_lt self.now.level (MAX_COMMIT - 1)) }
         ensures within { IsTrue result → IsTrue (are_within self.now.near && are_within self.now.far) }
@@ -212,8 +212,8 @@ impl Sealer {
         !self.ended && self.level < MAX_COMMIT - 1
     }
 
-    /// Whether the next commit can seal one put with PMIX_GLOBAL, of a value of that many canonical bytes under the key.
-    /// It takes no memory.
+    /// Returns whether the next commit can seal one put with PMIX_GLOBAL, of a value of that many canonical bytes under the key. It takes
+    /// no memory.
     pub fn can_seal_put(&self, key: &Key, size: usize) -> bool
         requires { size ≤ MAX_VALUE_SIZE }
         ensures { (bytes : List ℕ) → length bytes ≡ size
@@ -222,9 +222,9 @@ impl Sealer {
         self.goes_on() && self.near.can_take_one(key, size) && self.far.can_take_one(key, size)
     }
 
-    /// Makes the last commit of the process, by which others learn that it has ended: it seals the key `pmix.term`, true,
-    /// for all of them; and tells what there was before, by which it can be taken back. A sealer that has ended stays as
-    /// it is, and tells nothing. Where an allocation fails nothing changes.
+    /// Makes the last commit of the process, by which others learn that it has ended: it seals the key `pmix.term`, true, for all of them.
+    /// Returns the earlier state, by which the end can be taken back. A sealer that has ended stays as it is, and returns `None`. If an
+    /// allocation fails, nothing changes.
     pub fn end(&mut self) -> Result<Option<SealerUndo>, AllocError>
         ensures before { IfOk result (λ b. end_back self.new b ≡ self.old) }
         ensures fits { IfOk result (λ b. IfSome b (CanRollBack self.new)) }
@@ -238,8 +238,8 @@ impl Sealer {
         Ok(Some(self.stamp(true, &puts, &puts)?))
     }
 
-    /// Makes the last commit, as `end` tells, and gives its number. Where an allocation fails nothing changes; a sealer that
-    /// has ended takes none.
+    /// Makes the last commit, as `end` does, and returns its number. If an allocation fails, nothing changes. A sealer that has ended takes
+    /// no memory.
     pub fn seal_end(&mut self) -> Result<u64, AllocError>
         ensures number { IfOk result (λ n. n ≡ (end_of self.old).level) }
         ensures ok { OnOk result (self.new ≡ end_of self.old) }
@@ -251,8 +251,8 @@ impl Sealer {
         Ok(self.level())
     }
 
-    /// What the commits from+1 to the level sealed for that reach. Refused as BadParam where there is no such commit, or
-    /// the reach is the process's own; and as NoMemory.
+    /// Returns the puts that the commits from+1 to the level sealed for that reach. Errors: `BadParam` if there is no such commit, or the
+    /// reach is the process's own; `NoMemory`.
     pub fn piece_of(&self, from: u64, reach: Reach) -> Result<Piece, Refusal>
         ensures { Gives (λ p. p) result (piece_answer self.now from reach) }
     {
@@ -263,22 +263,22 @@ impl Sealer {
         }
     }
 
-    /// What was sealed last under the key for the processes on other nodes. It takes about the logarithm of the number
-    /// of keys.
+    /// Returns the put that was sealed last under the key for the processes on other nodes. It takes about the logarithm of the number of
+    /// keys.
     pub fn far_put(&self, key: &Key) -> Option<&SealedPut>
         ensures { option_map (λ put. stamp_of put.now) result ≡ finite.get self.now.far key.now }
     {
         self.far.get(key)
     }
 
-    /// The keys under which something was sealed for the processes on other nodes, in their order.
+    /// Returns the keys with a sealed put for the processes on other nodes, in their order.
     pub fn far_keys(&self) -> Result<Vec<Key>, AllocError>
         ensures { IfOk result (λ keys. keys.items ≡ finite.keys self.now.far) }
     {
         self.far.keys(self.alloc)
     }
 
-    /// A copy, equal to this sealer.
+    /// Returns a copy, equal to this sealer.
     pub fn copy(&self) -> Result<Sealer, AllocError>
         ensures { IfOk result (λ z. z ≡ self.now) }
     {
@@ -299,7 +299,7 @@ impl Copied for Sealer {
     }
 }
 
-/// What the commits from+1 to the level sealed, as the stamps tell. Refused as BadParam where there is no such commit.
+/// Returns the puts that the commits from+1 to the level sealed, by the stamps. Errors: `BadParam` if there is no such commit.
 fn newer_piece(
     alloc: Global,
     proc: &Proc,
@@ -318,7 +318,7 @@ fn newer_piece(
     Piece::new(Proc::new(nspace, proc.rank), from, level, entries)
 }
 
-/// What an end puts: the key `pmix.term`, true. It is made without memory.
+/// Returns the put of an end: the key `pmix.term`, true. It takes no memory.
 fn last_puts() -> [(Key, Value); 1]
     ensures rising { IsRising result }
     ensures table { table_of result ≡ term_table }

@@ -1,4 +1,4 @@
-//! What a process's commits sealed last under each key, and what it counts for.
+//! The puts that a process's commits sealed last under each key, and their size.
 ghost use Rattle.std.specs.Prelude.{◌≡◌, ◌+◌, ◌-◌, ◌*◌, ◌≤◌, ◌<◌, ◌&&◌, nat_le, ℕ, List, length, map, IfOk, OnOk, OnErr, IsTrue};
 ghost use Rattle.std.specs.FinMap as finite;
 ghost use Rattle.std.specs.Option.{option_map};
@@ -18,7 +18,7 @@ use pmg_value::{Key, Value};
 use std::alloc::{AllocError, Global};
 use std::marker::Model;
 
-/// What a process's commits sealed last under each key, with what it counts for.
+/// The put that a process's commits sealed last under each key, with the size of all.
 #[derive(Drop)]
 pub struct Stamps {
     puts: LastPuts,
@@ -38,7 +38,7 @@ impl Model for Stamps {
     ghost invariant = { λ a. a.size ≡ stamps_size a.puts };
 }
 
-/// What stamps were before a commit, by which it can be taken back.
+/// The state of stamps before a commit, by which the commit can be taken back.
 #[derive(Drop)]
 pub struct StampsUndo {
     size: usize,
@@ -46,7 +46,7 @@ pub struct StampsUndo {
 }
 
 impl Stamps {
-    /// Nothing sealed.
+    /// Makes stamps without sealed puts.
     pub fn new(alloc: Global) -> Stamps
         ensures { result ≡ finite.empty }
     {
@@ -56,21 +56,21 @@ impl Stamps {
         }
     }
 
-    /// What was sealed last under the key.
+    /// Returns the put that was sealed last under the key.
     pub fn get(&self, key: &Key) -> Option<&SealedPut>
         ensures { option_map (λ p. stamp_of p.now) result ≡ finite.get self.now key.now }
     {
         self.puts.get(key)
     }
 
-    /// Copies of the keys, in their order.
+    /// Copies the keys, in their order.
     pub fn keys(&self, alloc: Global) -> Result<Vec<Key>, AllocError>
         ensures { IfOk result (λ keys. keys.items ≡ finite.keys self.now) }
     {
         self.puts.keys(alloc)
     }
 
-    /// A copy, equal to these stamps.
+    /// Returns a copy, equal to these stamps.
     pub fn copy(&self, alloc: Global) -> Result<Stamps, AllocError>
         ensures { IfOk result (λ s. s ≡ self.now) }
     {
@@ -80,15 +80,15 @@ impl Stamps {
         })
     }
 
-    /// What the commits above that number sealed, in the order of the keys.
+    /// Returns the puts that the commits above that number sealed, in the order of the keys.
     pub fn newer(&self, alloc: Global, from: u64) -> Result<Vec<PieceEntry>, AllocError>
         ensures { IfOk result (λ es. map entry_of es.items ≡ newer_than from self.now) }
     {
         self.puts.newer(alloc, from)
     }
 
-    /// Seals the puts, whose keys rise, by the commit of that number, and tells what there was before. Where memory is
-    /// wanting nothing changes. It takes time in proportion to the puts, times the logarithm of what was sealed.
+    /// Seals the puts, whose keys rise, by the commit of that number, and returns the earlier state. If an allocation fails, nothing
+    /// changes. It takes time in proportion to the puts, times the logarithm of the sealed puts.
     pub fn stamp(
         &mut self,
         alloc: Global,
@@ -117,7 +117,7 @@ impl Stamps {
         Ok(before)
     }
 
-    /// Takes a commit back, by what there was before. It takes no memory.
+    /// Takes a commit back, by the earlier state. It takes no memory.
     pub fn rollback(&mut self, before: StampsUndo)
         requires { FitsBack self.old before }
         ensures { self.new ≡ stamps_back self.old before }
@@ -126,14 +126,14 @@ impl Stamps {
         self.puts.rollback(before.puts);
     }
 
-    /// Whether something was sealed under the key.
+    /// Returns whether a put was sealed under the key.
     fn has(&self, key: &Key) -> bool
         ensures { result ≡ finite.contains_key self.now key.now }
     {
         self.puts.get(key).is_some()
     }
 
-    /// What was sealed last under the key counts for, 0 where nothing was.
+    /// Returns the size of the put that was sealed last under the key, 0 without one.
     fn counted_at(&self, key: &Key) -> usize
         ensures value { result ≡ sealed_counted_at self.now key.now }
         ensures bound { result ≤ MAX_ENTRY_SIZE }
@@ -144,7 +144,7 @@ impl Stamps {
         }
     }
 
-    /// How many of the puts have a key under which nothing was sealed.
+    /// Returns how many of the puts have a key without a sealed put.
     fn new_keys(&self, puts: &[(Key, Value)]) -> usize
         ensures value { result ≡ new_keys self.now puts.now }
         ensures bound { result ≤ length puts.now }
@@ -158,7 +158,7 @@ impl Stamps {
         keys
     }
 
-    /// What was sealed last under the keys of the puts counts for.
+    /// Returns the size of the puts that were sealed last under the keys of these puts.
     fn replaced_size(&self, puts: &[(Key, Value)]) -> usize
         requires { length puts.now ≤ MAX_KEYS }
         ensures { result ≡ replaced_size self.now puts.now }
@@ -170,8 +170,7 @@ impl Stamps {
         size
     }
 
-    /// Whether there is room within the limits of a sealer for so many keys more, and for so many bytes, which replace
-    /// others.
+    /// Returns whether a sealer's limits have room for so many more keys, and for so many bytes, which replace others.
     fn has_room(&self, keys: usize, added: usize, replaced: usize) -> bool
         requires within { IsTrue (are_within self.now) }
         requires keys { keys ≤ MAX_KEYS }
@@ -183,8 +182,7 @@ impl Stamps {
         self.puts.len() + keys <= MAX_KEYS && self.size + added - replaced <= MAX_CACHE_SIZE
     }
 
-    /// Whether there would be no more keys and bytes than a sealer may have, once a commit seals these puts, whose keys
-    /// rise. It takes no memory.
+    /// Returns whether a sealer's limits hold after a commit that seals these puts, whose keys rise. It takes no memory.
     pub fn can_take(&self, puts: &[(Key, Value)]) -> bool
         requires rising { IsRising puts.now }
         requires within { IsTrue (are_within self.now) }
@@ -201,8 +199,8 @@ impl Stamps {
         )
     }
 
-    /// Whether there would be no more keys and bytes than a sealer may have, once a commit seals a value of that many
-    /// canonical bytes under the key, and nothing else. It takes no memory.
+    /// Returns whether a sealer's limits hold after a commit that seals only a value of that many canonical bytes under the key. It takes
+    /// no memory.
     pub fn can_take_one(&self, key: &Key, size: usize) -> bool
         requires within { IsTrue (are_within self.now) }
         requires small { size ≤ MAX_VALUE_SIZE }
@@ -214,7 +212,7 @@ impl Stamps {
     }
 }
 
-/// What the puts count for.
+/// Returns the size of the puts.
 fn puts_size(puts: &[(Key, Value)]) -> usize
     requires { length puts.now ≤ MAX_KEYS }
     ensures value { result ≡ puts_size puts.now }

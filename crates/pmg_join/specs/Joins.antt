@@ -1,5 +1,4 @@
--- Joins: what it takes for a join of many to be free in order, grouping and repeats, and for a join to be a least
--- upper bound.
+-- Joins: the laws by which a join of many does not depend on order, grouping and repeats, and by which a join is a least upper bound.
 use Rattle.std.specs.Prelude.{List, [], ◌∷◌, ◌≡◌}
 use Rattle.pmg_value.specs.Operations.{IsAssociative, IsCommutative, IsIdempotent}
 
@@ -9,8 +8,8 @@ pub record JoinLaws {M : Type 0} (join : M → M → M) : Type 0 where
   pub comm : IsCommutative join
   pub idem : IsIdempotent join
 
--- The laws of an order and of a join in it: each is within itself, what is within something is within all that it is
--- within, two that are within one another are one; and the join of two is the least that both are within.
+-- The laws of an order, and of a join in it. The order is reflexive, transitive and antisymmetric. The join of two is their least upper
+-- bound.
 pub record JoinOrder {M : Type 0} (join : M → M → M) (Within : M → M → Type 0) : Type 0 where
   pub reflexive : (a : M) → Within a a
   pub transitive : (a b c : M) → Within a b → Within b c → Within a c

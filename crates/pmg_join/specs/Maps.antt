@@ -9,13 +9,13 @@ use Rattle.pmg_value.specs.Maps.{join_options, join_to}
 use Rattle.pmg_join.specs.Joins.{JoinLaws, JoinOrder}
 use Rattle.pmg_join.specs.Places.{there_at}
 
--- nothing is within anything, and what is there only within what is there
+-- a missing value is within anything, and a value only within a value
 abbrev pub OptionWithin : {M : Type 0} → (M → M → Type 0) → Option M → Option M → Type 0
 OptionWithin Within None b = ⊤
 OptionWithin Within (Some a) None = ⊥
 OptionWithin Within (Some a) (Some b) = Within a b
 
--- what a map has at a key, by its meaning; an empty place is only room
+-- the content of a map at a key, by its meaning; an empty place is only room
 abbrev pub meant_at : {K J M : Type 0} → (K → K → Ordering) → (J → M) → BTreeMap K (Option J) → K → Option M
 meant_at R meaning table key = option_map meaning (there_at R table key)
 
@@ -33,7 +33,7 @@ HaveRoomFor {K} R HasRoom table other = (key : K) → IfSome (there_at R other k
 abbrev pub join_at_keys : {K M : Type 0} → (M → M → M) → (K → Option M) → (K → Option M) → K → Option M
 join_at_keys join f g key = join_options join (f key) (g key)
 
--- what the one has at each key is within what the other has there
+-- at each key the content of the one is within the content of the other
 abbrev pub WithinAtKeys : {K M : Type 0} → (M → M → Type 0) → (K → Option M) → (K → Option M) → Type 0
 WithinAtKeys {K} Within f g = (key : K) → OptionWithin Within (f key) (g key)
 

@@ -1,14 +1,14 @@
--- Places in a tree: one may be empty, and then it is only room.
+-- Places in a tree; an empty place is only room.
 use Rattle.std.specs.Prelude.{Option, Some, None, IsSome}
 use Rattle.std.specs.declared.cmp.Ordering.{Ordering}
 use Rattle.std.specs.BTreeMap.{BTreeMap, get}
 
--- what is in a place: nothing where there is none, or where it is empty
+-- the content of a place: nothing if there is no place, or if it is empty
 abbrev pub placed : {V : Type 0} → Option (Option V) → Option V
 placed None = None
 placed (Some there) = there
 
--- what is in the place under the key
+-- the content of the place under the key
 abbrev pub there_at : {K V : Type 0} → (K → K → Ordering) → BTreeMap K (Option V) → K → Option V
 there_at R tree key = placed (get R tree key)
 

@@ -20,11 +20,11 @@ HasRange ends from to = get nat_cmp ends from ≡ Some to
 abbrev pub Covers : BTreeMap ℕ ℕ → ℕ → Type 0
 Covers ends n = (from : ℕ) × (to : ℕ) × HasRange ends from to × Between from to n
 
--- what is from `from` to `to` lies in one of the ranges; of an empty range this says that one of them reaches there
+-- one of the ranges has all from `from` to `to`; for an empty range, one of them reaches there
 abbrev pub Spans : BTreeMap ℕ ℕ → ℕ → ℕ → Type 0
 Spans ends from to = (start : ℕ) × (end : ℕ) × HasRange ends start end × (start ≤ from) × (to ≤ end)
 
--- each range of the one lies in a range of the other
+-- each range of the one is inside a range of the other
 abbrev pub LieIn : BTreeMap ℕ ℕ → BTreeMap ℕ ℕ → Type 0
 LieIn ends others = (from to : ℕ) → HasRange ends from to → Spans others from to
 

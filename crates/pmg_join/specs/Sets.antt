@@ -14,7 +14,7 @@ use Rattle.pmg_join.specs.Joins.{JoinLaws, JoinOrder}
 unfoldable pub set_in : {K : Type 0} (R : K → K → Ordering) → BTreeSet K → set.FinSet R
 set_in R tree = set.from_list tree.keys
 
--- each of the one is one of the other
+-- each element of the one is an element of the other
 abbrev pub SetWithin : {K : Type 0} {R : K → K → Ordering} → set.FinSet R → set.FinSet R → Type 0
 SetWithin {K} s t = (q : K) → set.contains s q ≡ true → set.contains t q ≡ true
 

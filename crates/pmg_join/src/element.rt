@@ -1,10 +1,10 @@
-//! What sets can have and maps be keyed by.
+//! Elements of sets and keys of maps.
 ghost use Rattle.std.specs.Prelude.{◌≡◌};
 ghost use Rattle.std.specs.declared.cmp.Ordering.TheVariants.{Equal};
 
 use pmg_value::{Copied, Key, NodeId, Nspace, Proc};
 
-/// What a set can have and a map be keyed by: it can be copied, and two that compare alike are one.
+/// Elements of a set and keys of a map: they can be copied, and two that compare as equal are one.
 pub trait Element: Ord + Copied {
     ghost exact: { (x y : Self) → Self.cmp x y ≡ Equal → x ≡ y };
 }

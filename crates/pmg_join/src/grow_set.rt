@@ -15,7 +15,7 @@ pub struct GrowSet<T: Element> {
 }
 
 impl<T: Element> GrowSet<T> {
-    /// A set of nothing. It keeps the allocator.
+    /// Makes an empty set. It keeps the allocator.
     pub fn new(alloc: Global) -> GrowSet<T>
         ensures { set_in T.cmp result.elements ≡ set.empty }
     {
@@ -25,8 +25,7 @@ impl<T: Element> GrowSet<T> {
         }
     }
 
-    /// Puts the element into the set. Where an allocation fails, the set keeps what it has, and the element is handed
-    /// back.
+    /// Puts the element into the set. If an allocation fails, the set stays as it is, and the element is handed back.
     pub fn insert(&mut self, element: T) -> Result<(), AllocFailed<T>>
         ensures ok { OnOk result (set_in T.cmp self.new.elements ≡ set.insert (set_in T.cmp self.old.elements) element) }
         ensures err { OnErr result (set_in T.cmp self.new.elements ≡ set_in T.cmp self.old.elements) }
@@ -36,7 +35,7 @@ impl<T: Element> GrowSet<T> {
         Ok(())
     }
 
-    /// Whether the element is in the set.
+    /// Returns whether the element is in the set.
     pub fn contains(&self, element: &T) -> bool
         ensures { result ≡ set.contains (set_in T.cmp self.now.elements) element.now }
     {
@@ -44,7 +43,7 @@ impl<T: Element> GrowSet<T> {
     }
 }
 
-/// Puts copies of all that the other set has into this one. Where an allocation fails, some of them were put.
+/// Puts copies of the other set's elements into this one. If an allocation fails, some of them are there.
 fn insert_copies<T: Element>(all: &mut GrowSet<T>, other: &GrowSet<T>) -> Result<(), AllocError>
     ensures { OnOk result (set_in T.cmp all.new.elements ≡ set.union (set_in T.cmp all.old.elements) (set_in T.cmp other.now.elements)) }
 {

@@ -2,7 +2,7 @@ ghost use Rattle.pmg_join.specs.Laws.{IsFreeInOrder, IsFreeInGrouping, IsFreeInR
 
 use crate::join::Join;
 
-/// A join of many gives the same in any order, in any grouping and with any repeats.
+/// States that a join of many does not depend on order, grouping and repeats.
 pub fn join_of_many<J: Join>()
     ensures any_order { IsFreeInOrder J.joined }
     ensures any_grouping { IsFreeInGrouping J.joined }

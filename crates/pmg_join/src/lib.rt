@@ -1,5 +1,5 @@
-//! Joins: associative, commutative and idempotent, and least upper bounds, so that a join of many is free in
-//! order, in grouping and in repeats.
+//! Joins: associative, commutative and idempotent, and least upper bounds. A join of many therefore does not depend on order, grouping and
+//! repeats.
 #![tactic(auto)]
 
 mod element;

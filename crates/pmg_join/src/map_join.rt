@@ -11,15 +11,15 @@ use crate::places::{is_past_all, make_place, pop_place};
 use std::alloc::{AllocError, AllocFailed, Global};
 use std::collections::BTreeMap;
 
-/// A map whose parts are joined key by key. A place may be empty, and then it is room for a part.
+/// A map whose parts are joined key by key. An empty place is room for a part.
 #[derive(Drop)]
 pub struct MapJoin<K: Element, J: Join> {
     alloc: Global,
     table: BTreeMap<K, Option<J>, Global>,
 }
 
-/// Joins the part into the one in the place, or puts it there. Where an allocation fails, the place keeps its meaning,
-/// and the part is handed back.
+/// Joins the part into the part in the place, or puts it there. If an allocation fails, the place keeps its meaning, and the part is handed
+/// back.
 fn put_in<J: Join>(place: &mut Option<J>, part: J) -> Result<(), AllocFailed<J>>
     ensures ok { OnOk result (option_map J.meaning place.new
         ≡ Some (join_to J.joined (option_map J.meaning place.old) (J.meaning part))) }
@@ -35,8 +35,8 @@ fn put_in<J: Join>(place: &mut Option<J>, part: J) -> Result<(), AllocFailed<J>>
     }
 }
 
-/// Takes the change into the part in the place, or puts one there that has taken it alone. Where an allocation fails, the
-/// place keeps its meaning.
+/// Takes the change into the part in the place, or puts a part there that has taken only the change. If an allocation fails, the place
+/// keeps its meaning.
 fn change_in<C: Drop, J: Absorb<C>>(
     place: &mut Option<J>,
     alloc: Global,
@@ -55,8 +55,8 @@ fn change_in<C: Drop, J: Absorb<C>>(
     }
 }
 
-/// Takes the change into the part under the key, or puts one there that has taken it alone. Where an allocation fails, each
-/// part keeps its meaning.
+/// Takes the change into the part under the key, or puts a part there that has taken only the change. If an allocation fails, each part
+/// keeps its meaning.
 fn change_at<K: Element, C: Drop, J: Absorb<C>>(
     table: &mut BTreeMap<K, Option<J>, Global>,
     alloc: Global,
@@ -91,7 +91,7 @@ fn make_room_in<J: TwoPhaseJoin>(place: &mut Option<J>, part: &J) -> Result<(), 
     }
 }
 
-/// Joins the part into the one in the place, where there is room for it.
+/// Joins the part into the part in the place, which has room for it.
 fn take_in<J: TwoPhaseJoin>(place: &mut Option<J>, part: J)
     requires { IsRoomFor J.HasRoom part (Some place.old) }
     ensures { option_map J.meaning place.new ≡ join_options J.joined (option_map J.meaning place.old) (Some (J.meaning part)) }
@@ -103,7 +103,7 @@ fn take_in<J: TwoPhaseJoin>(place: &mut Option<J>, part: J)
 }
 
 impl<K: Element, J: Join> MapJoin<K, J> {
-    /// A map with no keys. It keeps the allocator.
+    /// Makes a map without keys. It keeps the allocator.
     pub fn new(alloc: Global) -> MapJoin<K, J>
         ensures { (key : K) → meant_at K.cmp J.meaning result.table key ≡ None }
     {
@@ -113,19 +113,19 @@ impl<K: Element, J: Join> MapJoin<K, J> {
         }
     }
 
-    /// The allocator.
+    /// Returns the allocator.
     pub fn allocator(&self) -> Global {
         self.alloc
     }
 
-    /// The keys in their order, with the part under each where there is one.
+    /// Returns the keys in their order, with the part under each if there is one.
     pub fn places(&self) -> &BTreeMap<K, Option<J>, Global>
         ensures { result.now ≡ self.now.table }
     {
         &self.table
     }
 
-    /// What is under the key.
+    /// Returns the part under the key.
     pub fn get(&self, key: &K) -> Option<&J>
         ensures { option_map (λ part. part.now) result ≡ there_at K.cmp self.now.table key.now }
     {
@@ -135,8 +135,8 @@ impl<K: Element, J: Join> MapJoin<K, J> {
         }
     }
 
-    /// Puts the part under the key, in the place of what was there. Where an allocation fails, the map keeps its
-    /// meaning, and both are handed back.
+    /// Puts the part under the key, in place of the content there. If an allocation fails, the map keeps its meaning, and both are handed
+    /// back.
     fn replace(&mut self, key: K, part: J) -> Result<(), AllocFailed<(K, J)>>
         ensures ok { OnOk result ((q : K) → meant_at K.cmp J.meaning self.new.table q
             ≡ cond (is_at (K.cmp key) q) (Some (J.meaning part)) (meant_at K.cmp J.meaning self.old.table q)) }
@@ -156,8 +156,8 @@ impl<K: Element, J: Join> MapJoin<K, J> {
         }
     }
 
-    /// Joins the part into what is under the key, or puts it there. Where an allocation fails, the map keeps its
-    /// meaning, and both are handed back.
+    /// Joins the part into the part under the key, or puts it there. If an allocation fails, the map keeps its meaning, and both are handed
+    /// back.
     pub fn put(&mut self, key: K, part: J) -> Result<(), AllocFailed<(K, J)>>
         ensures ok { OnOk result ((q : K) → meant_at K.cmp J.meaning self.new.table q
             ≡ joined_under K.cmp J.joined (meant_at K.cmp J.meaning self.old.table) key (J.meaning part) q) }
@@ -180,8 +180,8 @@ impl<K: Element, J: Join> MapJoin<K, J> {
     }
 }
 
-/// Takes the change into the part under the key, or puts one there that has taken it alone. Where an allocation fails, the
-/// map keeps its meaning.
+/// Takes the change into the part under the key, or puts a part there that has taken only the change. If an allocation fails, the map keeps
+/// its meaning.
 pub fn put_change<K: Element, C: Drop, J: Join + Absorb<C>>(
     map: &mut MapJoin<K, J>,
     key: K,
@@ -210,7 +210,7 @@ impl<K: Element, J: TwoPhaseJoin> MapJoin<K, J> {
         }
     }
 
-    /// Joins the part into what is under the key, where there is room for it.
+    /// Joins the part into the part under the key, which has room for it.
     fn take_at(&mut self, key: K, part: J)
         requires { IsRoomFor J.HasRoom part (get K.cmp self.old.table key) }
         ensures joined { (q : K) → meant_at K.cmp J.meaning self.new.table q

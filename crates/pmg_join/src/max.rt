@@ -3,21 +3,21 @@ ghost use Rattle.std.specs.Prelude.{◌≡◌, max, IsOk, OnOk, OnErr, IfOk, IfE
 use crate::join::{Join, TwoPhaseJoin};
 use std::alloc::{AllocError, AllocFailed};
 
-/// A number that only grows: its join is the greater one.
+/// A number that only grows: a join is the greater number.
 #[derive(Clone, Copy, PartialEq, Eq, PartialOrd, Ord)]
 pub struct MaxU64 {
     value: u64,
 }
 
 impl MaxU64 {
-    /// The number of this value.
+    /// Returns the number of this value.
     pub fn new(value: u64) -> MaxU64
         ensures { result.value ≡ value }
     {
         MaxU64 { value }
     }
 
-    /// Its value.
+    /// Returns its value.
     pub fn value(self) -> u64
         ensures { result ≡ self.value }
     {

@@ -1,7 +1,7 @@
 use crate::join::{Join, joined_copies};
 use std::alloc::{AllocError, AllocFailed};
 
-/// Two that are joined side by side.
+/// Two values that are joined side by side.
 #[derive(Drop)]
 pub struct PairJoin<A, B> {
     pub first: A,

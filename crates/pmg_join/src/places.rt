@@ -1,4 +1,4 @@
-//! Places in a tree, which are made before they are filled: to make one takes memory, and to fill it takes none.
+//! Places in a tree, which are made before they are filled. To make a place takes memory, and to fill it takes none.
 ghost use Rattle.std.specs.Prelude.{◌≡◌, ◌<◌, is_some, Some, None, cond, IsTrue, OnOk, IfSome, IfNone};
 ghost use Rattle.std.specs.BTreeMap.{get, is_at, btree_map_len, IsUnchanged};
 ghost use Rattle.pmg_join.specs.Places.{there_at, HasPlace};
@@ -7,7 +7,7 @@ use crate::element::Element;
 use std::alloc::{AllocError, Global};
 use std::collections::BTreeMap;
 
-/// Whether the key lies past all others, which shows at the last one: keys mostly come rising, and then none has to be looked up.
+/// Returns whether the key is past all others, by a look at the last one. Keys mostly come rising, and then none has to be looked up.
 pub fn is_past_all<K: Element, V: Drop>(tree: &BTreeMap<K, Option<V>, Global>, key: &K) -> bool
     ensures { IsTrue result → get K.cmp tree.now key.now ≡ None }
 {
@@ -17,7 +17,7 @@ pub fn is_past_all<K: Element, V: Drop>(tree: &BTreeMap<K, Option<V>, Global>, k
     }
 }
 
-/// Whether there is a place for the key.
+/// Returns whether there is a place for the key.
 #[inline(always)]
 fn has_place<K: Element, V: Drop>(tree: &BTreeMap<K, Option<V>, Global>, key: &K) -> bool
     ensures { result ≡ is_some (get K.cmp tree.now key.now) }
@@ -25,7 +25,7 @@ fn has_place<K: Element, V: Drop>(tree: &BTreeMap<K, Option<V>, Global>, key: &K
     !is_past_all(tree, key) && tree.contains_key(key)
 }
 
-/// Makes the first place for the key, an empty one. A call of its own, since mostly a place is there.
+/// Makes the first place for the key, an empty one. It is not inlined, because mostly a place is there.
 #[inline(never)]
 fn add_place<K: Element, V: Drop>(
     tree: &mut BTreeMap<K, Option<V>, Global>,
@@ -40,7 +40,7 @@ fn add_place<K: Element, V: Drop>(
     Ok(())
 }
 
-/// Makes an empty place for the key, where there is none.
+/// Makes an empty place for the key, if there is none.
 #[inline(always)]
 pub fn make_place<K: Element, V: Drop>(
     tree: &mut BTreeMap<K, Option<V>, Global>,
@@ -56,7 +56,7 @@ pub fn make_place<K: Element, V: Drop>(
     add_place(tree, key)
 }
 
-/// Makes an empty place under the key, where there is none.
+/// Makes an empty place under the key, if there is none.
 pub fn put_place<K: Element, V: Drop>(
     tree: &mut BTreeMap<K, Option<V>, Global>,
     key: K,
@@ -69,7 +69,7 @@ pub fn put_place<K: Element, V: Drop>(
     Ok(())
 }
 
-/// Takes the first place out of the tree, with what is in it.
+/// Takes the first place out of the tree, with its content.
 pub fn pop_place<K: Element, V: Drop>(
     tree: &mut BTreeMap<K, Option<V>, Global>,
 ) -> Option<(K, Option<V>)>

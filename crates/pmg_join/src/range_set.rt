@@ -29,7 +29,7 @@ impl Model for RangeSet {
 }
 
 impl RangeSet {
-    /// A set of no numbers. It keeps the allocator.
+    /// Makes a set without numbers. It keeps the allocator.
     pub fn new(alloc: Global) -> RangeSet
         ensures { result ≡ set.empty }
     {
@@ -38,9 +38,8 @@ impl RangeSet {
         }
     }
 
-    /// Adds the numbers above `from`, up to `to`: none where `to` is not above `from`. Takes time in proportion to
-    /// the number of ranges that become one with it, and to the logarithm of the number of ranges. Where memory is
-    /// wanting, the set stays as it is.
+    /// Adds the numbers above `from`, up to `to`: none if `to` is not above `from`. It takes time in proportion to the number of ranges
+    /// that become one with it, and to the logarithm of the number of ranges. If an allocation fails, the set stays as it is.
     pub fn insert(&mut self, from: u64, to: u64) -> Result<(), AllocError>
         ensures ok { OnOk result ((n : ℕ) → set.contains self.new n ≡ (set.contains self.old n || is_between from to n)) }
         ensures err { OnErr result (self.new ≡ self.old) }
@@ -52,14 +51,14 @@ impl RangeSet {
         Ok(())
     }
 
-    /// Whether the number is in the set, found in time in proportion to the logarithm of the number of ranges.
+    /// Returns whether the number is in the set, in time in proportion to the logarithm of the number of ranges.
     pub fn contains(&self, n: u64) -> bool
         ensures { result ≡ set.contains self.now n }
     {
         self.ranges.contains(n)
     }
 
-    /// The greatest n such that 1 to n are all in the set, 0 if 1 is not.
+    /// Returns the greatest n such that 1 to n are all in the set, 0 if 1 is not.
     pub fn level(&self) -> u64
         ensures reached { (n : ℕ) → 0 < n → n ≤ result → set.contains self.now n ≡ true }
         ensures no_more { set.contains self.now (suc result) ≡ false }

@@ -1,4 +1,4 @@
-//! Ranges of numbers in a tree, in which a range may be empty: then it is room for one that begins there.
+//! Ranges of numbers in a tree. An empty range is room for a range that begins there.
 ghost use Rattle.std.specs.Prelude.{◌≡◌, ◌<◌, ◌≤◌, ◌⊎◌, ℕ, suc, IsTrue, OnOk, OnErr, IfOk, IfSome, IfNone, ◌↔◌};
 ghost use Rattle.pmg_join.specs.Ranges.{Between, HasRange, Covers, Spans, LieIn, AreApart, HaveRoom};
 
@@ -12,13 +12,13 @@ pub struct Span {
     pub to: u64,
 }
 
-/// Ranges of numbers, by where they begin. Where there is room for a range, it is put in without memory.
+/// Ranges of numbers, by their beginnings. If there is room for a range, it is put in without memory.
 #[derive(Drop)]
 pub struct Ranges {
     ends: BTreeMap<u64, u64, Global>,
 }
 
-/// The last of the ranges.
+/// Returns the last of the ranges.
 fn last_of(ends: &BTreeMap<u64, u64>) -> Option<Span>
     ensures there { IfSome result (λ s. HasRange ends.now s.from s.to) }
     ensures last { IfSome result (λ s. (from to : ℕ) → HasRange ends.now from to → from ≤ s.from) }
@@ -33,7 +33,7 @@ fn last_of(ends: &BTreeMap<u64, u64>) -> Option<Span>
     }
 }
 
-/// Of the ranges that begin at the number or before it, the last: mostly the last of all, since most ranges come rising.
+/// Returns the last of the ranges that begin at the number or before it. Mostly it is the last of all, because most ranges come rising.
 fn last_up_to(ends: &BTreeMap<u64, u64>, n: u64) -> Option<Span>
     ensures there { IfSome result (λ s. HasRange ends.now s.from s.to) }
     ensures before { IfSome result (λ s. s.from ≤ n) }
@@ -52,7 +52,7 @@ fn last_up_to(ends: &BTreeMap<u64, u64>, n: u64) -> Option<Span>
     }
 }
 
-/// Of the ranges that begin at one number or past it, up to another, the first: mostly there is none, since most ranges come
+/// Returns the first of the ranges that begin at one number or past it, up to another. Mostly there is none, because most ranges come
 /// rising.
 fn first_within(ends: &BTreeMap<u64, u64>, start: u64, top: u64) -> Option<Span>
     requires { start ≤ top }
@@ -73,7 +73,7 @@ fn first_within(ends: &BTreeMap<u64, u64>, start: u64, top: u64) -> Option<Span>
     }
 }
 
-/// Whether one of the ranges has all from the one number to the other.
+/// Returns whether one of the ranges has all numbers from the one to the other.
 fn have(ends: &BTreeMap<u64, u64>, from: u64, to: u64) -> bool
     requires apart { AreApart ends.now }
     requires order { from ≤ to }
@@ -85,7 +85,7 @@ fn have(ends: &BTreeMap<u64, u64>, from: u64, to: u64) -> bool
     }
 }
 
-/// How far the ranges go from the number without a gap.
+/// Returns how far the ranges go from the number without a gap.
 fn reach_from(ends: &BTreeMap<u64, u64>, n: u64) -> u64
     requires { AreApart ends.now }
     ensures far { n ≤ result }
@@ -117,7 +117,7 @@ fn merge_above(ends: &mut BTreeMap<u64, u64>, from: u64, to: u64) -> u64
 }
 
 impl Ranges {
-    /// No ranges. They keep the allocator.
+    /// Makes no ranges. They keep the allocator.
     pub fn new(alloc: Global) -> Ranges
         ensures apart { AreApart result.ends }
         ensures none { (n : ℕ) → Covers result.ends n → ⊥ }
@@ -127,8 +127,7 @@ impl Ranges {
         }
     }
 
-    /// Makes room for a range that begins at the number: it takes time in proportion to the logarithm of the
-    /// number of ranges.
+    /// Makes room for a range that begins at the number. It takes time in proportion to the logarithm of the number of ranges.
     pub fn make_room(&mut self, from: u64) -> Result<(), AllocError>
         requires { AreApart self.old.ends }
         ensures apart { AreApart self.new.ends }
@@ -142,8 +141,8 @@ impl Ranges {
         Ok(())
     }
 
-    /// Puts the range in, for which there is room, and makes it one with those that it touches: it takes time in
-    /// proportion to their number and to the logarithm of the number of ranges.
+    /// Puts in the range, for which there is room, and makes it one with the ranges that it touches. It takes time in proportion to their
+    /// number and to the logarithm of the number of ranges.
     pub fn fill_room(&mut self, from: u64, to: u64)
         requires apart { AreApart self.old.ends }
         requires some { from < to }
@@ -163,7 +162,7 @@ impl Ranges {
         }
     }
 
-    /// Makes room for each of the other ranges. Where an allocation fails, there is room for some of them.
+    /// Makes room for each of the other ranges. If an allocation fails, there is room for some of them.
     pub fn make_rooms(&mut self, other: &Ranges) -> Result<(), AllocError>
         requires { AreApart self.old.ends }
         ensures apart { AreApart self.new.ends }
@@ -177,7 +176,7 @@ impl Ranges {
         Ok(())
     }
 
-    /// Puts the other ranges in, for each of which there is room.
+    /// Puts in the other ranges; there is room for each of them.
     pub fn fill_rooms(&mut self, other: &Ranges)
         requires apart { AreApart self.old.ends }
         requires room { HaveRoom other.now.ends self.old.ends }
@@ -193,7 +192,7 @@ impl Ranges {
         }
     }
 
-    /// Whether one of the ranges has the number.
+    /// Returns whether one of the ranges has the number.
     pub fn contains(&self, n: u64) -> bool
         requires { AreApart self.now.ends }
         ensures { IsTrue result ↔ Covers self.now.ends n }
@@ -201,7 +200,7 @@ impl Ranges {
         n > 0 && have(&self.ends, n - 1, n)
     }
 
-    /// How far the ranges go from 1 without a gap.
+    /// Returns how far the ranges go from 1 without a gap.
     pub fn level(&self) -> u64
         requires { AreApart self.now.ends }
         ensures reached { (n : ℕ) → 0 < n → n ≤ result → Covers self.now.ends n }
@@ -213,8 +212,8 @@ impl Ranges {
         }
     }
 
-    /// How far the ranges go from 1 without a gap once the numbers above the one, up to the other, are put in too: it
-    /// takes time in proportion to the logarithm of the number of ranges.
+    /// Returns how far the ranges go from 1 without a gap once the numbers above the one, up to the other, are put in too. It takes time in
+    /// proportion to the logarithm of the number of ranges.
     pub fn level_with(&self, from: u64, to: u64) -> u64
         requires { AreApart self.now.ends }
         ensures reached { (n : ℕ) → 0 < n → n ≤ result → Covers self.now.ends n ⊎ Between from to n }
@@ -227,8 +226,8 @@ impl Ranges {
         reach_from(&self.ends, level.max(to))
     }
 
-    /// How far the ranges go from 1 without a gap once the other ranges are put in too: it takes time in proportion to
-    /// the number of the other ranges and to the logarithm of the number of these.
+    /// Returns how far the ranges go from 1 without a gap once the other ranges are put in too. It takes time in proportion to the number
+    /// of the other ranges and to the logarithm of the number of these.
     pub fn level_with_all(&self, other: &Ranges) -> u64
         requires { AreApart self.now.ends }
         ensures reached { (n : ℕ) → 0 < n → n ≤ result → Covers self.now.ends n ⊎ Covers other.now.ends n }
@@ -244,7 +243,7 @@ impl Ranges {
         level
     }
 
-    /// Other ranges of the same numbers.
+    /// Returns other ranges of the same numbers.
     pub fn copy(&self) -> Result<Ranges, AllocError>
         ensures { IfOk result (λ copy. copy.ends.entries ≡ self.now.ends.entries) }
     {

@@ -1,4 +1,4 @@
--- How a cache and a script go on together.
+-- The common growth of a cache and a script.
 use Rattle.std.specs.Prelude.{◌≡◌, ℕ, suc, List, [], ◌∷◌, ◌++◌, false}
 use Rattle.pmg_value.specs.Signatures.{Signature}
 use Rattle.pmg_scope.specs.declared.scope.Scope.{Scope}
@@ -15,7 +15,7 @@ abbrev pub CachePutFits : Type 0
 CachePutFits =
     (c : Cached) (s : Script) (scope : Scope) (key value : List ℕ) → FitsCache c s → FitsCache (with_put c scope key value) (s ++ Call.put scope key value ∷ [])
 
--- a commit takes what was not sealed out of the cache
+-- a commit takes the unsealed puts out of the cache
 abbrev pub CacheCommitFits : Type 0
 CacheCommitFits = (c : Cached) (s : Script) → FitsCache c s → FitsCache (after_commit c) (s ++ Call.commit ∷ [])
 
@@ -23,7 +23,7 @@ CacheCommitFits = (c : Cached) (s : Script) → FitsCache c s → FitsCache (aft
 abbrev pub CacheEnterFits : Type 0
 CacheEnterFits = (c : Cached) (s : Script) (f : Signature) → FitsCache c s → FitsCache c (s ++ Call.enter f ∷ [])
 
--- nor does the end of the process: what it had put itself it still reads, and what no commit sealed stays so
+-- nor does the end of the process: the process still reads its own puts, and the unsealed puts stay unsealed
 abbrev pub CacheEndFits : Type 0
 CacheEndFits = (c : Cached) (s : Script) → FitsCache c s → FitsCache c (s ++ Call.terminate ∷ [])
 
@@ -31,6 +31,6 @@ CacheEndFits = (c : Cached) (s : Script) → FitsCache c s → FitsCache c (s ++
 abbrev pub CacheIsOne : Type 0
 CacheIsOne = (c d : Cached) (s : Script) → FitsCache c s → FitsCache d s → c ≡ d
 
--- what a cache has for the others is what the next commit seals
+-- the cache has for others what the next commit seals
 abbrev pub CommitSealsNext : Type 0
 CommitSealsNext = (s : Script) → has_end s ≡ false → part_of (s ++ Call.commit ∷ []) (suc (commits s)) ≡ next_part s

@@ -1,4 +1,4 @@
--- What a client's cache holds.
+-- The content of a client's cache.
 use Rattle.std.specs.Prelude.{◌≡◌, Bool, false, ◌&&◌, ◌||◌, not, ℕ, ◌+◌, nat_le, List, length, if◌then◌else◌, refl}
 use Rattle.std.specs.Coded.{Coded, code_by, coded×, coded_list, coded_ℕ}
 use Rattle.std.specs.FinMap as map
@@ -25,15 +25,15 @@ Table = map.FinMap (slice_cmp nat_cmp) (List ℕ)
 abbrev pub coded_table : Coded Table
 coded_table = map.code (coded_list coded_ℕ) (coded_list coded_ℕ)
 
--- what a key and its value count for: their bytes, and ten more
+-- the size of a key and its value: their bytes, and ten more
 abbrev pub row_size : List ℕ × List ℕ → ℕ
 row_size e = 10 + length e.0 + length e.1
 
--- what a table counts for
+-- the size of a table
 abbrev pub table_size : Table → ℕ
 table_size m = sum_by row_size (map.entries m)
 
--- a table within the limits: at most 65,535 keys, which count for at most 16,000,000 bytes
+-- a table within the limits: at most 65,535 keys, and a size of at most 16,000,000 bytes
 abbrev pub is_within : Table → Bool
 is_within m = nat_le (map.len m) MAX_KEYS && nat_le (table_size m) MAX_CACHE_SIZE
 
@@ -53,20 +53,20 @@ coded_cached =
 abbrev pub is_cache : Cached → Bool
 is_cache c = is_within c.own && is_within c.near && is_within c.far
 
--- what no commit sealed: under each key the last put for each reach but the process's own
+-- the unsealed puts: under each key the last put for each reach except the process's own
 pub record Unsealed : Type 0 where
   pub near : Table
   pub far : Table
 
--- what no commit sealed, as a pair
+-- the unsealed puts, as a pair
 abbrev pub coded_unsealed : Coded Unsealed
 coded_unsealed = code_by (Table × Table) (coded× coded_table coded_table) (λ c. (c.near, c.far)) (λ p. record { near = p.0; far = p.1 }) (λ _. refl)
 
--- what of a cache no commit sealed
+-- the unsealed puts of a cache
 abbrev pub unsealed_of : Cached → Unsealed
 unsealed_of c = record { near = c.near; far = c.far }
 
--- a cache of nothing
+-- an empty cache
 abbrev pub no_puts : Cached
 no_puts = record { own = map.empty; near = map.empty; far = map.empty }
 
@@ -74,7 +74,7 @@ no_puts = record { own = map.empty; near = map.empty; far = map.empty }
 abbrev pub put_if : Bool → Table → List ℕ → List ℕ → Table
 put_if seen m key value = if seen then map.insert m key value else m
 
--- the cache once a put is made
+-- the cache after a put
 abbrev pub with_put : Cached → Scope → List ℕ → List ℕ → Cached
 with_put c scope key value = record {
   own = put_if (reaches scope reach.Own) c.own key value;
@@ -82,27 +82,27 @@ with_put c scope key value = record {
   far = put_if (reaches scope reach.Far) c.far key value;
 }
 
--- what the next commit seals of a process that put this value alone, with PMIX_GLOBAL: for each other reach that value
+-- the batch of a process whose only unsealed put is this value, with PMIX_GLOBAL: the value for each other reach
 abbrev pub global_put : List ℕ → List ℕ → Unsealed
 global_put key value = unsealed_of (with_put no_puts scopes.Global key value)
 
--- the cache once all of it is sealed
+-- the cache after a commit, which seals all of it
 abbrev pub after_commit : Cached → Cached
 after_commit c = record { own = c.own; near = map.empty; far = map.empty }
 
--- where a put has a cause to be refused: its scope is none, or its key one of the standard's; the cache would pass a limit
+-- the causes to refuse a put: it has no scope, or its key is reserved; the cache would pass a limit
 abbrev pub put_cause : Cached → Scope → List ℕ → List ℕ → Refusal → Bool
 put_cause c scope key value refusals.BadParam = not (reaches scope reach.Own) || is_reserved key
 put_cause c scope key value refusals.TooMany = not (is_cache (with_put c scope key value))
 put_cause c scope key value _ = false
 
--- what the cache has for a reach
+-- the cache's table for a reach
 abbrev pub kept : Cached → Reach → Table
 kept c reach.Own = c.own
 kept c reach.Near = c.near
 kept c reach.Far = c.far
 
--- the calls of a script whose puts it keeps for a reach
+-- the calls of a script whose puts the cache keeps for a reach
 abbrev pub calls_for : Reach → Script → Script
 calls_for reach.Own s = s
 calls_for reach.Near s = next_part s

@@ -14,7 +14,7 @@ each_scope =
     Call.put scopes.Internal (codes "x") (u8_of 1) ∷ Call.put scopes.Local (codes "y") (u8_of 2)
     ∷ Call.put scopes.Remote (codes "z") (u8_of 3) ∷ Call.put scopes.Global (codes "w") (u8_of 4) ∷ Call.commit ∷ []
 
--- what the others on the node see of it, and those on other nodes
+-- the reads of it by others on the node and by processes on other nodes
 abbrev pub EachScope : Type 0
 EachScope =
     (value_at each_scope 1 reach.Own (codes "x") ≡ Some (u8_of 1))
@@ -27,11 +27,11 @@ EachScope =
     × (value_at each_scope 1 reach.Far (codes "z") ≡ Some (u8_of 3))
     × (value_at each_scope 1 reach.Far (codes "w") ≡ Some (u8_of 4))
 
--- a value for the node and another for the rest stand side by side under one key
+-- one key has a value for the node and another for other nodes
 abbrev pub two_values : Script
 two_values = Call.put scopes.Local (codes "addr") (u8_of 1) ∷ Call.put scopes.Remote (codes "addr") (u8_of 2) ∷ Call.commit ∷ []
 
--- others on the node see the one, and those on other nodes the other
+-- others on the node see the one value, and processes on other nodes the other
 abbrev pub TwoValues : Type 0
 TwoValues = (value_at two_values 1 reach.Near (codes "addr") ≡ Some (u8_of 1)) × (value_at two_values 1 reach.Far (codes "addr") ≡ Some (u8_of 2))
 
@@ -39,7 +39,7 @@ TwoValues = (value_at two_values 1 reach.Near (codes "addr") ≡ Some (u8_of 1))
 abbrev pub put_again : Script
 put_again = Call.put scopes.Global (codes "a") (u8_of 1) ∷ Call.commit ∷ Call.put scopes.Global (codes "a") (u8_of 2) ∷ Call.commit ∷ []
 
--- those on other nodes see nothing before a commit, and after each commit what it sealed
+-- processes on other nodes see nothing before a commit, and after each commit the put that it sealed
 abbrev pub PutAgain : Type 0
 PutAgain =
     (value_at put_again 0 reach.Far (codes "a") ≡ None)
@@ -50,7 +50,7 @@ PutAgain =
 abbrev pub lost_put : Script
 lost_put = Call.put scopes.Global (codes "a") (u8_of 5) ∷ Call.commit ∷ Call.put scopes.Global (codes "a") (u8_of 6) ∷ Call.terminate ∷ []
 
--- the end is the second commit: `pmix.term` is seen from it on, and the value that the first one sealed stays
+-- the end is the second commit: `pmix.term` is seen from it on, and the value of the first commit stays
 abbrev pub LostPut : Type 0
 LostPut =
     (commits lost_put ≡ 2)

@@ -1,4 +1,4 @@
--- Tables as they are kept.
+-- Tables in memory.
 use Rattle.std.specs.Prelude.{◌≡◌, ℕ, ◌+◌, List, length, Option, Some, None, Bool, ◌&&◌, nat_eq, map}
 use Rattle.std.specs.FinMap as finite
 use Rattle.std.specs.Option.{option_map}
@@ -13,7 +13,7 @@ use Rattle.pmg_scope.specs.declared.tables.Tables.{Tables}
 use Rattle.pmg_scope.specs.declared.sizes.Sizes.{Sizes}
 use Rattle.pmg_scope.specs.Cached.{Table, Cached, table_size}
 
--- what stands under keys
+-- contents under keys
 abbrev pub KeyMap : Type 0 → Type 0
 KeyMap X = finite.FinMap (slice_cmp nat_cmp) X
 
@@ -37,28 +37,28 @@ is_same_row e f = pointwise nat_eq e.0 f.0 && is_eq (slice_cmp nat_cmp e.1 f.1)
 abbrev pub IsRising : {V : Type 0} → List (List ℕ × V) → Type 0
 IsRising = AreRising (slice_cmp nat_cmp)
 
--- the table with what was there before a put of the key
+-- the table with its earlier content, before a put of the key
 abbrev pub restored : Table → List ℕ → Before → Table
 restored m key before.Unseen = m
 restored m key (before.Seen found) = put_back m key (option_map spelling found)
 
--- what a key counts for together with what stands under it, which counts for as many bytes as h says: ten bytes more
+-- the size of a key with its content, which counts for as many bytes as h says: ten bytes more
 abbrev pub size_by : {X : Type 0} → (X → ℕ) → List ℕ × X → ℕ
 size_by h e = 10 + length e.0 + h e.1
 
--- what stands under the key counts for, 0 where nothing does
+-- the size of the content under the key, 0 without content
 abbrev pub counted_by : {X : Type 0} → (X → ℕ) → List ℕ → Option X → ℕ
 counted_by h key None = 0
 counted_by h key (Some x) = size_by h (key, x)
 
--- what the value under the key counts for, 0 where there is none
+-- the size of the value under the key, 0 without one
 abbrev pub counted_at : Table → List ℕ → ℕ
 counted_at m key = counted_by length key (finite.get m key)
 
--- the tables of the three reaches as what a cache holds
+-- the tables of the three reaches as the content of a cache
 abbrev pub cached_of : Tables → Cached
 cached_of t = record { own = t.own; near = t.near; far = t.far }
 
--- what the tables count for
+-- these are the sizes of the tables
 abbrev pub AreSizes : Sizes → Cached → Type 0
 AreSizes s c = (s.own ≡ table_size c.own) × (s.near ≡ table_size c.near) × (s.far ≡ table_size c.far)

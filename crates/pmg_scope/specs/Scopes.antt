@@ -1,4 +1,4 @@
--- Which scopes reach whom.
+-- The reaches of scopes.
 use Rattle.std.specs.Prelude.{Bool, true, false}
 use Rattle.pmg_scope.specs.declared.scope.Scope.{Scope}
 use Rattle.pmg_scope.specs.declared.scope.Scope.TheVariants as scopes

@@ -1,4 +1,4 @@
--- The accepted calls of one process, and what its commits sealed.
+-- The accepted calls of one process, and the puts that its commits sealed.
 use Rattle.std.specs.Prelude.{ℕ, zero, suc, Bool, true, false, ◌&&◌, List, [], ◌∷◌, Option, Some, None, codes, if◌then◌else◌}
 use Rattle.std.specs.Str.{bytes_eq}
 use Rattle.pmg_value.specs.Signatures.{Signature}
@@ -15,7 +15,7 @@ pub data Call : Type 0 where
   enter : Signature → Call
   terminate : Call
 
--- The calls in their order. Nothing that stands after an end counts.
+-- The calls in their order. Calls after an end do not count.
 abbrev pub Script : Type 0
 Script = List Call
 
@@ -23,7 +23,7 @@ Script = List Call
 abbrev pub term_key : List ℕ
 term_key = codes "pmix.term"
 
--- what is put at the end, by which others learn of it: the key `pmix.term`, true, for all
+-- the put of the end, by which others learn of it: the key `pmix.term`, true, for all
 abbrev pub term_put : Call
 term_put = Call.put scopes.Global term_key (1 ∷ 1 ∷ [])
 
@@ -51,11 +51,11 @@ ended (Call.commit ∷ cs) = Call.commit ∷ ended cs
 ended (Call.enter f ∷ cs) = Call.enter f ∷ ended cs
 ended (Call.terminate ∷ cs) = term_put ∷ Call.commit ∷ []
 
--- the calls, with what an end adds and takes out
+-- the calls, with the additions and removals of an end
 abbrev pub sealed : Script → Script
 sealed s = if has_end s then ended s else s
 
--- how many commits are among the calls
+-- the number of commits among the calls
 abbrev pub count_commits : Script → ℕ
 count_commits [] = 0
 count_commits (Call.put scope key value ∷ cs) = count_commits cs
@@ -63,11 +63,11 @@ count_commits (Call.commit ∷ cs) = suc (count_commits cs)
 count_commits (Call.enter f ∷ cs) = count_commits cs
 count_commits (Call.terminate ∷ cs) = count_commits cs
 
--- how many commits the process made, its end among them
+-- the number of commits that the process made, with its end
 abbrev pub commits : Script → ℕ
 commits s = count_commits (sealed s)
 
--- the calls before the commit that n others precede
+-- the calls before the commit that follows n others
 unfoldable pub before : ℕ → Script → Script
 before n [] = []
 before n (Call.put scope key value ∷ cs) = Call.put scope key value ∷ before n cs
@@ -76,28 +76,28 @@ before (suc n) (Call.commit ∷ cs) = Call.commit ∷ before n cs
 before n (Call.enter f ∷ cs) = Call.enter f ∷ before n cs
 before n (Call.terminate ∷ cs) = Call.terminate ∷ before n cs
 
--- the calls before the n-th commit, none for 0
+-- the calls before the n-th commit, and no calls for 0
 abbrev pub prefix : Script → ℕ → Script
 prefix s zero = []
 prefix s (suc n) = before n (sealed s)
 
--- the later one where there is one, else the earlier
+-- the later value if there is one, else the earlier
 abbrev pub later_of : Option (List ℕ) → Option (List ℕ) → Option (List ℕ)
 later_of (Some later) earlier = Some later
 later_of None earlier = earlier
 
--- what the call puts under the key for that reach
+-- the value that the call puts under the key for that reach
 abbrev pub put_of : Reach → List ℕ → Call → Option (List ℕ)
 put_of r k (Call.put scope key value) = if reaches scope r && bytes_eq k key then Some value else None
 put_of r k Call.commit = None
 put_of r k (Call.enter f) = None
 put_of r k Call.terminate = None
 
--- what was put last under the key for that reach
+-- the last put under the key for that reach
 abbrev pub last_put : Reach → List ℕ → Script → Option (List ℕ)
 last_put r k [] = None
 last_put r k (c ∷ cs) = later_of (last_put r k cs) (put_of r k c)
 
--- The value of the key for that reach that the n-th commit left: that of the last put before it whose scope includes the reach.
+-- The value of the key for that reach that the n-th commit left: the last put before the commit whose scope includes the reach.
 unfoldable pub value_at : Script → ℕ → Reach → List ℕ → Option (List ℕ)
 value_at s n r k = last_put r k (prefix s n)

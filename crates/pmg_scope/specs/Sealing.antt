@@ -1,9 +1,9 @@
--- Which put a process's commits sealed last.
+-- The puts that a process's commits sealed last.
 use Rattle.std.specs.Prelude.{◌≡◌, ℕ, zero, suc, ◌<◌, ◌≤◌, List, [], ◌∷◌, Some, None}
 use Rattle.pmg_scope.specs.declared.scope.Reach.{Reach}
 use Rattle.pmg_scope.specs.Scripts.{Call, Script, sealed, count_commits, last_put}
 
--- the calls that the commit seals which n others precede
+-- the calls that the commit after n others seals
 unfoldable pub part : ℕ → Script → Script
 part n [] = []
 part zero (Call.put scope key value ∷ cs) = Call.put scope key value ∷ part zero cs
@@ -20,7 +20,7 @@ unfoldable pub part_of : Script → ℕ → Script
 part_of s zero = []
 part_of s (suc n) = part n (sealed s)
 
--- Of what the first n commits sealed under the key for that reach, this was put last, and the j-th of them sealed it.
+-- This was put last, of the puts that the first n commits sealed under the key for that reach, and the j-th commit sealed it.
 pub record IsSealed (s : Script) (r : Reach) (k : List ℕ) (n j : ℕ) (bytes : List ℕ) : Type 0 where
   pub some : 0 < j
   pub within : j ≤ n

@@ -10,8 +10,8 @@ use pmg_value::{Key, Value, copy_all};
 use std::alloc::{AllocError, Global};
 use std::marker::Model;
 
-/// What a commit is to seal: under each key the last put that no commit sealed, for the other processes on the node
-/// and for those on other nodes.
+/// The puts that a commit is to seal: under each key the last put that no commit sealed, for the other processes on the node and for
+/// processes on other nodes.
 pub struct Batch {
     near: Vec<(Key, Value)>,
     far: Vec<(Key, Value)>,
@@ -37,8 +37,8 @@ impl Model for Batch {
 }
 
 impl Batch {
-    /// The batch of one put with PMIX_GLOBAL, by a process that has no other put to seal (PMIx Standard 5.0, PMIx_Put).
-    /// A key that begins with `pmix` is taken too.
+    /// Returns the batch of one put with PMIX_GLOBAL, by a process that has no other put to seal (PMIx Standard 5.0, PMIx_Put). The key may
+    /// begin with `pmix`.
     pub fn of_put(alloc: Global, key: Key, value: Value) -> Result<Batch, AllocError>
         ensures { IfOk result (λ b. b ≡ global_put key (spelling value)) }
     {
@@ -47,7 +47,7 @@ impl Batch {
         Ok(Batch { near, far })
     }
 
-    /// The batch of what these tables hold.
+    /// Returns the batch of these tables.
     pub(crate) fn of_tables(alloc: Global, near: &Table, far: &Table) -> Result<Batch, AllocError>
         ensures near { IfOk result (λ b. b.near ≡ near.now) }
         ensures far { IfOk result (λ b. b.far ≡ far.now) }
@@ -58,7 +58,7 @@ impl Batch {
         })
     }
 
-    /// A copy, equal to this batch.
+    /// Returns a copy, equal to this batch.
     pub fn copy(&self) -> Result<Batch, AllocError>
         ensures { IfOk result (λ b. b ≡ self.now) }
     {
@@ -68,14 +68,14 @@ impl Batch {
         })
     }
 
-    /// Whether the batches are to seal the same.
+    /// Returns whether the batches have the same puts.
     pub fn is_same(&self, other: &Batch) -> bool
         ensures { IsTrue result ↔ (self.now ≡ other.now) }
     {
         are_same_rows(&self.near, &other.near) && are_same_rows(&self.far, &other.far)
     }
 
-    /// What is to be sealed for the other processes on the node, in the order of the keys.
+    /// Returns the puts to seal for the other processes on the node, in the order of the keys.
     pub fn near(&self) -> &[(Key, Value)]
         ensures table { table_of result.now ≡ self.now.near }
         ensures rising { IsRising result.now }
@@ -83,7 +83,7 @@ impl Batch {
         &self.near
     }
 
-    /// What is to be sealed for the processes on other nodes, in the order of the keys.
+    /// Returns the puts to seal for the processes on other nodes, in the order of the keys.
     pub fn far(&self) -> &[(Key, Value)]
         ensures table { table_of result.now ≡ self.now.far }
         ensures rising { IsRising result.now }
@@ -92,14 +92,14 @@ impl Batch {
     }
 }
 
-/// Whether the rows have one key and one value.
+/// Returns whether the rows have one key and one value.
 fn is_same_row(row: &(Key, Value), other: &(Key, Value)) -> bool
     ensures { result ≡ is_same_row (canonical_row row.now) (canonical_row other.now) }
 {
     row.0 == other.0 && row.1.cmp(&other.1).is_eq()
 }
 
-/// Whether the rows have the same keys, and under each the same value.
+/// Returns whether the rows have the same keys, and under each the same value.
 fn are_same_rows(rows: &[(Key, Value)], others: &[(Key, Value)]) -> bool
     ensures { result ≡ pointwise is_same_row (canonical_rows rows.now) (canonical_rows others.now) }
 {
@@ -114,7 +114,7 @@ fn are_same_rows(rows: &[(Key, Value)], others: &[(Key, Value)]) -> bool
     true
 }
 
-/// The one row of this key.
+/// Returns the one row of this key.
 fn one_row(alloc: Global, key: Key, value: Value) -> Result<Vec<(Key, Value)>, AllocError>
     ensures rising { IfOk result (λ rs. IsRising rs.items) }
     ensures table { IfOk result (λ rs. table_of rs.items ≡ map.insert map.empty key (spelling value)) }

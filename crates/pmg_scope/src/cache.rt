@@ -15,8 +15,8 @@ use pmg_value::{Key, Refusal, Value};
 use std::alloc::{AllocError, Global};
 use std::marker::Model;
 
-/// What a client has put: under each key its last put for itself, and for each other reach the last put that no
-/// commit sealed (PMIx Standard 5.0, PMIx_Put).
+/// The puts of a client: under each key its last put for itself, and for each other reach the last put that no commit sealed (PMIx Standard
+/// 5.0, PMIx_Put).
 pub struct Cache {
     alloc: Global,
     tables: Tables,
@@ -48,7 +48,7 @@ impl Model for Cache {
 }
 
 impl Cache {
-    /// A cache without puts. It keeps the allocator.
+    /// Makes a cache without puts. It keeps the allocator.
     pub fn new(alloc: Global) -> Cache
         ensures { result ≡ no_puts }
     {
@@ -63,10 +63,9 @@ impl Cache {
         }
     }
 
-    /// Puts the value under the key, to be seen as the scope says (PMIx Standard 5.0, PMIx_Put). Refused as
-    /// BadParam where the key begins with `pmix` or the scope is PMIX_SCOPE_UNDEF; as TooMany where the cache would
-    /// have, for one reach, more than 65535 keys, or more than 16000000 bytes of keys and values, ten bytes more
-    /// counted for each; and as NoMemory. A refused put changes nothing.
+    /// Puts the value under the key, with the scope (PMIx Standard 5.0, PMIx_Put). A refused put changes nothing. Errors: `BadParam` if the
+    /// key begins with `pmix` or the scope is PMIX_SCOPE_UNDEF; `TooMany` if the cache would have, for one reach, more than 65535 keys, or
+    /// more than 16000000 bytes of keys and values, with ten bytes more for each; `NoMemory`.
     pub fn put(&mut self, scope: Scope, key: Key, value: Value) -> Result<(), Refusal>
         ensures answer { Gives (λ u. u) result (first_of (put_cause self.old scope key (spelling value)) tt) }
         ensures ok { OnOk result (self.new ≡ with_put self.old scope key (spelling value)) }
@@ -77,7 +76,7 @@ impl Cache {
         self.put_copies(scope, &key, &value)
     }
 
-    /// Puts a copy of the value under a copy of the key, as `put` tells.
+    /// Puts a copy of the value under a copy of the key, as `put` does.
     fn put_copies(&mut self, scope: Scope, key: &Key, value: &Value) -> Result<(), Refusal>
         ensures answer { Gives (λ u. u) result (first_of (put_cause self.old scope key.now (spelling value.now)) tt) }
         ensures ok { OnOk result (self.new ≡ with_put self.old scope key.now (spelling value.now)) }
@@ -96,14 +95,14 @@ impl Cache {
         Ok(())
     }
 
-    /// What the process itself reads under the key: its last put, of whatever scope, committed or not.
+    /// Returns what the process itself reads under the key: its last put, of any scope, committed or not.
     pub fn own(&self, key: &Key) -> Option<&Value>
         ensures { option_map (λ v. spelling v.now) result ≡ map.get self.now.own key.now }
     {
         self.tables.own.get(key)
     }
 
-    /// What no commit sealed, for the others to see (PMIx Standard 5.0, PMIx_Commit).
+    /// Returns the puts for others that no commit sealed (PMIx Standard 5.0, PMIx_Commit).
     pub fn unsealed(&self) -> Result<Batch, AllocError>
         ensures { IfOk result (λ b. b ≡ unsealed_of self.now) }
     {
@@ -121,7 +120,7 @@ impl Cache {
         self.sizes.far = 0;
     }
 
-    /// A copy, equal to this cache.
+    /// Returns a copy, equal to this cache.
     pub fn copy(&self) -> Result<Cache, AllocError>
         ensures { IfOk result (λ c. c ≡ self.now) }
     {

@@ -2,8 +2,8 @@ ghost use Rattle.pmg_scope.specs.CacheRules.{CacheNewFits, CachePutFits, CacheCo
 ghost use Rattle.pmg_scope.specs.Examples.{EachScope, TwoValues, PutAgain, LostPut};
 ghost use Rattle.pmg_scope.specs.Rules.{CommitsNeverFall, PastValuesStay, PastSealsStay, EndIsLast, SealedIsValue, NoneIsNoValue};
 
-/// The rules of scripts: whatever is called later, the commits stay and what they sealed stays; the value that
-/// a commit leaves is the one that was sealed last; and after its end a process seals nothing.
+/// States the rules of scripts. Whatever is called later, the commits and the puts that they sealed stay. A commit leaves the value that
+/// was sealed last. After its end a process seals nothing.
 pub fn script_rules()
     ensures commits_never_fall { CommitsNeverFall }
     ensures past_values_stay { PastValuesStay }
@@ -13,8 +13,7 @@ pub fn script_rules()
     ensures end_is_last { EndIsLast }
 {}
 
-/// Scripts by example: what a put of each scope reaches, two values of one key, a put that the next commit
-/// seals, and an end.
+/// Shows scripts by example: the reach of a put of each scope, two values of one key, a put that the next commit seals, and an end.
 pub fn script_examples()
     ensures each_scope { EachScope }
     ensures two_values { TwoValues }
@@ -22,8 +21,8 @@ pub fn script_examples()
     ensures lost_put { LostPut }
 {}
 
-/// The rules of a client's cache: it fits the script of the client's calls, and goes on with it call by call;
-/// what it has for the others is what the next commit seals.
+/// States the rules of a client's cache. It fits the script of the client's calls, call by call. For others it has what the next commit
+/// seals.
 pub fn cache_rules()
     ensures new_fits { CacheNewFits }
     ensures put_fits { CachePutFits }

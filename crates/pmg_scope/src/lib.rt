@@ -1,4 +1,4 @@
-//! Scopes of puts, the cache of what a client put, and what a script of calls seals for each reach.
+//! Scopes of puts, the cache of a client's puts, and the puts that a script of calls seals for each reach.
 #![tactic(auto)]
 
 mod batch;

@@ -1,11 +1,11 @@
-//! Who sees what a process puts.
+//! The processes that see a put.
 ghost use Rattle.std.specs.Prelude.{◌≡◌};
 ghost use Rattle.pmg_scope.specs.Scopes.{reaches};
 
 /// The scope of a put: who may see it (PMIx Standard 5.0, pmix_scope_t).
 #[derive(Clone, Copy, PartialEq, Eq)]
 pub enum Scope {
-    /// PMIX_SCOPE_UNDEF: none is named. No put may have it.
+    /// PMIX_SCOPE_UNDEF: no scope is named. No put may have it.
     Undef,
     /// PMIX_INTERNAL: the process itself.
     Internal,
@@ -17,18 +17,18 @@ pub enum Scope {
     Global,
 }
 
-/// How a reader stands to the process that it reads.
+/// The relation of a reader to the process that it reads.
 #[derive(Clone, Copy, PartialEq, Eq)]
 pub enum Reach {
-    /// It is that process.
+    /// The reader is that process.
     Own,
-    /// It is another process on its node.
+    /// The reader is another process on its node.
     Near,
-    /// It is a process on another node.
+    /// The reader is a process on another node.
     Far,
 }
 
-/// Whether a put of that scope is seen at that reach.
+/// Returns whether a put of that scope is seen at that reach.
 pub fn includes(scope: Scope, reach: Reach) -> bool
     ensures { result ≡ reaches scope reach }
 {

@@ -15,13 +15,13 @@ use pmg_value::{Key, Value};
 /// The most keys that a cache holds for a reach.
 pub const MAX_KEYS: usize = 65_535;
 
-/// The most that the keys and values of a cache count for, for a reach.
+/// The greatest size of a cache's keys and values for a reach.
 pub const MAX_CACHE_SIZE: usize = 16_000_000;
 
-/// The most that a key counts for with its value: the bytes of the longest key and of the largest value, and ten more.
+/// The greatest size of a key with its value: the bytes of the longest key and of the largest value, and ten more.
 pub const MAX_ENTRY_SIZE: usize = 1_049_097;
 
-/// What a key counts for with a value of that many canonical bytes: their bytes, and ten more.
+/// Returns the size of a key with a value of that many canonical bytes: their bytes, and ten more.
 pub fn size_with_key(key: &Key, size: usize) -> usize
     requires { size ≤ MAX_VALUE_SIZE }
     ensures value { result ≡ 10 + length key.now + size }
@@ -30,7 +30,7 @@ pub fn size_with_key(key: &Key, size: usize) -> usize
     10 + key.as_bytes().len() + size
 }
 
-/// What a key and its value count for: their bytes, and ten more.
+/// Returns the size of a key and its value: their bytes, and ten more.
 pub fn row_size(key: &Key, value: &Value) -> usize
     ensures value { result ≡ row_size (key.now, spelling value.now) }
     ensures bound { result ≤ MAX_ENTRY_SIZE }
@@ -38,7 +38,7 @@ pub fn row_size(key: &Key, value: &Value) -> usize
     size_with_key(key, value.size())
 }
 
-/// What the value under the key counts for, 0 where there is none.
+/// Returns the size of the value under the key, 0 without one.
 fn counted_at(table: &Table, key: &Key) -> usize
     ensures value { result ≡ counted_at table.now key.now }
     ensures bound { result ≤ MAX_ENTRY_SIZE }
@@ -49,7 +49,7 @@ fn counted_at(table: &Table, key: &Key) -> usize
     }
 }
 
-/// How many keys the table has once the value is put.
+/// Returns how many keys the table has once the value is put.
 fn len_put(table: &Table, key: &Key, value: &Value) -> usize
     requires { map.len table.now ≤ MAX_KEYS }
     ensures { result ≡ map.len (map.insert table.now key.now (spelling value.now)) }
@@ -60,7 +60,7 @@ fn len_put(table: &Table, key: &Key, value: &Value) -> usize
     }
 }
 
-/// What the table counts for once the value is put. It counts for `size` now.
+/// Returns the size of the table once the value is put. Its size now is `size`.
 fn size_put(table: &Table, size: usize, key: &Key, value: &Value) -> usize
     requires counted { size ≡ table_size table.now }
     requires bound { size ≤ MAX_CACHE_SIZE }
@@ -69,8 +69,8 @@ fn size_put(table: &Table, size: usize, key: &Key, value: &Value) -> usize
     size + row_size(key, value) - counted_at(table, key)
 }
 
-/// What the table of the reach counts for once the value is put, where the put is seen at the reach; none if the table would
-/// pass its limits. It counts for `size` now.
+/// Returns the size of the reach's table once the value is put, if the reach sees the put; `None` if the table would pass its limits. Its
+/// size now is `size`.
 fn size_with(
     table: &Table,
     size: usize,
@@ -95,7 +95,7 @@ fn size_with(
     }
 }
 
-/// What the table of each reach counts for.
+/// The size of the table of each reach.
 #[derive(Clone, Copy)]
 pub struct Sizes {
     pub own: usize,
@@ -104,7 +104,7 @@ pub struct Sizes {
 }
 
 impl Sizes {
-    /// What the tables count for once the value is put; none if one of them would pass its limits.
+    /// Returns the sizes of the tables once the value is put; `None` if one of them would pass its limits.
     pub fn with_put(&self, tables: &Tables, scope: Scope, key: &Key, value: &Value) -> Option<Sizes>
         requires counted { AreSizes self.now (cached_of tables.now) }
         requires limits { IsTrue (is_cache (cached_of tables.now)) }

@@ -28,17 +28,17 @@ impl Model for Table {
     ghost view = { λ a. table_of a.rows.entries };
 }
 
-/// What a put found in a table, by which it can be taken back.
+/// The earlier content that a put found in a table, by which the put can be taken back.
 #[derive(Drop)]
 pub enum Before {
-    /// The put is not seen there.
+    /// The table's reach does not see the put.
     Unseen,
-    /// It is seen there, and this was under the key.
+    /// The table's reach sees the put, and this was under the key.
     Seen(Option<Value>),
 }
 
 impl Table {
-    /// A table of nothing. It keeps the allocator.
+    /// Makes an empty table. It keeps the allocator.
     pub fn new(alloc: Global) -> Table
         ensures { result ≡ map.empty }
     {
@@ -47,14 +47,14 @@ impl Table {
         }
     }
 
-    /// The value under the key.
+    /// Returns the value under the key.
     pub fn get(&self, key: &Key) -> Option<&Value>
         ensures { option_map (λ v. spelling v.now) result ≡ map.get self.now key.now }
     {
         self.rows.get(key)
     }
 
-    /// Puts the value under the key, where the put is seen there, and tells what was there.
+    /// Puts the value under the key, if the put is seen there, and returns the earlier content.
     pub fn put_if(&mut self, seen: bool, key: &Key, value: &Value) -> Result<Before, AllocError>
         ensures ok { OnOk result (self.new ≡ put_if seen self.old key.now (spelling value.now)) }
         ensures before { IfOk result (λ b. restored self.new key.now b ≡ self.old) }
@@ -66,7 +66,7 @@ impl Table {
         Ok(Before::Seen(self.set(key.copy()?, value.copy()?)?))
     }
 
-    /// Puts the value under the key, and gives back what was there.
+    /// Puts the value under the key, and returns the earlier value.
     fn set(&mut self, key: Key, value: Value) -> Result<Option<Value>, AllocError>
         ensures ok { OnOk result (self.new ≡ map.insert self.old key (spelling value)) }
         ensures before { IfOk result (λ b. option_map spelling b ≡ map.get self.old key) }
@@ -75,7 +75,7 @@ impl Table {
         Ok(self.rows.insert(key, value)?)
     }
 
-    /// Takes a put of the key back, as the put told.
+    /// Takes a put of the key back, by what `put_if` returned.
     pub fn rollback(&mut self, key: &Key, before: Before)
         ensures { self.new ≡ restored self.old key.now before }
     {
@@ -85,14 +85,14 @@ impl Table {
         }
     }
 
-    /// The number of the keys.
+    /// Returns the number of keys.
     pub fn len(&self) -> usize
         ensures { result ≡ map.len self.now }
     {
         self.rows.len()
     }
 
-    /// The keys and values in their order, copied.
+    /// Copies the keys and values, in their order.
     pub fn rows(&self, alloc: Global) -> Result<Vec<(Key, Value)>, AllocError>
         ensures table { IfOk result (λ rs. table_of rs.items ≡ self.now) }
         ensures rising { IfOk result (λ rs. IsRising rs.items) }
@@ -104,7 +104,7 @@ impl Table {
         Ok(rows)
     }
 
-    /// A copy, equal to this table.
+    /// Returns a copy, equal to this table.
     pub fn copy(&self, alloc: Global) -> Result<Table, AllocError>
         ensures { IfOk result (λ t. t ≡ self.now) }
     {

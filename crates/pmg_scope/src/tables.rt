@@ -24,7 +24,7 @@ impl Drop for Tables {
 }
 
 impl Tables {
-    /// Tables of nothing.
+    /// Makes empty tables.
     pub fn new(alloc: Global) -> Tables
         ensures { cached_of result ≡ no_puts }
     {
@@ -35,8 +35,7 @@ impl Tables {
         }
     }
 
-    /// Puts the value under the key into the tables of all reaches at which the put is seen; or, where memory is
-    /// wanting, into none.
+    /// Puts the value under the key into the tables of all reaches that see the put. If an allocation fails, no table changes.
     pub fn put(&mut self, scope: Scope, key: &Key, value: &Value) -> Result<(), AllocError>
         ensures ok { OnOk result (cached_of self.new ≡ with_put (cached_of self.old) scope key.now (spelling value.now)) }
         ensures err { OnErr result (cached_of self.new ≡ cached_of self.old) }
@@ -49,7 +48,7 @@ impl Tables {
         Ok(())
     }
 
-    /// A copy, equal to these tables.
+    /// Returns a copy, equal to these tables.
     pub fn copy(&self, alloc: Global) -> Result<Tables, AllocError>
         ensures { IfOk result (λ t. cached_of t ≡ cached_of self.now) }
     {
@@ -61,8 +60,7 @@ impl Tables {
     }
 }
 
-/// Puts the value under the key into the tables of the other reaches at which the put is seen; or, where memory is
-/// wanting, into none.
+/// Puts the value under the key into the tables of the other reaches that see the put. If an allocation fails, no table changes.
 fn put_for_others(
     near: &mut Table,
     far: &mut Table,

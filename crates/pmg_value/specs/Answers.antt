@@ -1,4 +1,4 @@
--- What a call that can be refused answers.
+-- The answers of a call that can be refused.
 use Rattle.std.specs.Prelude.{◌≡◌, Ok, Err, Result}
 use Rattle.pmg_value.specs.declared.refusal.Refusal.{Refusal}
 use Rattle.pmg_value.specs.declared.refusal.Refusal.TheVariants as refusals
@@ -8,8 +8,8 @@ abbrev pub IsAnswer : {Y : Type 0} → Result Y Refusal → Type 0
 IsAnswer (Ok y) = Unit {0}
 IsAnswer (Err e) = ⊥
 
--- The refusal is the one that is due. An allocation may fail at any time, which no definition says; but it is told only
--- where an answer is due: arguments that are refused are refused whether there is memory or not.
+-- The refusal is the one that is due. An allocation may fail at any time, which no definition says. NoMemory is answered only if no refusal
+-- is due, so that bad arguments are refused with or without memory.
 abbrev pub Fails : {Y : Type 0} → Refusal → Result Y Refusal → Type 0
 Fails refusals.NoMemory due = IsAnswer due
 Fails e due = due ≡ Err e

@@ -3,11 +3,11 @@ use Rattle.std.specs.Prelude.{ℕ, Bool, ◌&&◌, ◌==◌, nat_le, List, lengt
 use Rattle.std.specs.List.{position}
 use Rattle.pmg_value.specs.declared.blobs.TheConstants.{MAX_BLOB_LEN}
 
--- the byte that no string holds
+-- the byte that a string cannot have
 abbrev pub is_zero : ℕ → Bool
 is_zero b = b == 0
 
--- bytes that, with their tag and their length, are no longer than a value may be: 1,048,576
+-- bytes that fit into a value of 1,048,576 bytes, with their tag and their length
 abbrev pub is_blob : List ℕ → Bool
 is_blob bytes = nat_le (length bytes) MAX_BLOB_LEN
 

@@ -23,7 +23,7 @@ array_body a = a.tag ∷ (to_be_bytes w32 (length a.plains) ++ bodies a.plains)
 abbrev pub are_of_kind : ℕ → List Plain → Bool
 are_of_kind tag plains = list_all (λ p. plain_tag p == tag) plains
 
--- the array's tag is one of elements, each element is of that kind, and the value is no longer than one may be
+-- the array's tag is a tag of elements, each element is of that kind, and the value is at most as long as a value may be
 abbrev pub is_array : Elements → Bool
 is_array a = is_plain_tag a.tag && are_of_kind a.tag a.plains && nat_le (1 + length (array_body a)) MAX_VALUE_SIZE
 

@@ -10,7 +10,7 @@ use Rattle.pmg_value.specs.declared.items.Item.TheVariants as item
 use Rattle.pmg_value.specs.declared.items.Items.{Items}
 use Rattle.pmg_value.specs.declared.items.Items.TheVariants as items
 
--- how many bytes a number of the kind of that tag takes; 0, if the kind is none of numbers
+-- the number of bytes of a number of the kind of that tag; 0 if the kind is not a kind of numbers
 abbrev pub number_width : ℕ → ℕ
 number_width tag =
     if tag == 1 || tag == 2 || tag == 5 || tag == 9 then 1
@@ -19,7 +19,7 @@ number_width tag =
     else if tag == 7 || tag == 11 || tag == 13 || tag == 14 || tag == 15 || tag == 17 then 4
     else 0
 
--- the value of a number of the kind of that tag; of a greater number, that of its last bytes
+-- the value of a number of the kind of that tag; if the number is too great, its last bytes count
 abbrev pub number_value : ℕ → ℕ → Value
 number_value tag n =
     if tag == 2 then values.Byte (n % 256)

@@ -1,10 +1,10 @@
--- Words on finite maps.
+-- Notions on finite maps.
 use Rattle.std.specs.Prelude.{List, [], ◌∷◌}
 use Rattle.std.specs.Prelude.{Option, Some, None}
 use Rattle.std.specs.declared.cmp.Ordering.{Ordering}
 use Rattle.std.specs.FinMap as map
 
--- two values that may be missing, joined: where one is missing, the other
+-- two values that may be missing, joined: if one is missing, the other
 abbrev pub join_options : {A : Type 0} → (A → A → A) → Option A → Option A → Option A
 join_options join None other = other
 join_options join (Some a) None = Some a

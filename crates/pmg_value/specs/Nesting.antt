@@ -1,4 +1,4 @@
--- No array stands in an array.
+-- No array is in an array.
 use Rattle.std.specs.Prelude.{ℕ, ◌≡◌, List, [], ◌∷◌, IsTrue}
 use Rattle.std.proofs.Common.{refl, arith}
 use Rattle.std.proofs.lemmas.Bool.{and_parts}
@@ -11,7 +11,7 @@ use Rattle.pmg_value.specs.declared.array.ItemList.TheVariants as lists
 use Rattle.pmg_value.specs.Items.{listed_values}
 use Rattle.pmg_value.specs.Spelling.{form, is_plain_form, are_plain}
 
--- a value that is no array leads to none
+-- a value that is not an array contains no array
 pub leads_nowhere : (v : Value) → IsTrue (is_plain_form (form v)) → deep-Value v ≡ 0
 leads_nowhere (values.Bool b) h = refl
 leads_nowhere (values.Byte n) h = refl
@@ -33,14 +33,14 @@ leads_nowhere (values.Status z) h = refl
 leads_nowhere (values.Bytes b) h = refl
 leads_nowhere (values.Array a) h = absurd cc
 
--- and so do values that are none
+-- nor do several values that are not arrays
 lead_nowhere : (items : List Value) → IsTrue (are_plain items) → most deep-Value items ≡ 0
 lead_nowhere [] h = refl
 lead_nowhere (v ∷ vs) h =
     let parts = and_parts (is_plain_form (form v)) (are_plain vs) h in
     omega (arith, leads_nowhere v parts.0, lead_nowhere vs parts.1)
 
--- so an array's items lead to none
+-- an array's items therefore contain none
 pub is_flat : (tag : ℕ) (list : ItemList) → IsTrue (are_plain (listed_values tag list)) → deep-ItemList list ≡ 0
 is_flat tag (lists.Values vs) h = rw (lead_nowhere vs.items h) refl
 is_flat tag (lists.Numbers ns) h = refl

@@ -1,4 +1,4 @@
--- How namespaces, keys, ranks and processes compare.
+-- The orders of namespaces, keys, ranks and processes.
 use Rattle.std.specs.Prelude.{◌≡◌, ℕ, List}
 use Rattle.std.specs.Ordering.{nat_cmp}
 use Rattle.std.specs.Cmp.Lexicographic.{slice_cmp}

@@ -6,11 +6,11 @@ use Rattle.pmg_value.specs.declared.value.Value.{Value}
 use Rattle.pmg_value.specs.Elements.{bodies}
 use Rattle.pmg_value.specs.Spelling.{tag_of, are_plain, plains_of}
 
--- the body that is in these parts
+-- the body of these parts
 abbrev pub in_parts : List ℕ → List ℕ → List ℕ → List Value → List ℕ
 in_parts head middle end items = head ++ (middle ++ (end ++ bodies (plains_of items)))
 
--- how long the head is, by the tag
+-- the length of the head, by the tag
 abbrev pub head_len : ℕ → ℕ
 head_len tag =
     if tag == 6 || tag == 10 then 2
@@ -19,18 +19,18 @@ head_len tag =
     else if tag == 19 then 5
     else 4
 
--- how long the bytes after the head are, by the tag and the head
+-- the length of the bytes after the head, by the tag and the head
 abbrev pub middle_len : ℕ → List ℕ → ℕ
 middle_len tag head =
     if tag == 3 || tag == 18 then from_be_bytes w32 head
     else if tag == 16 then get_or head 0 0
     else 0
 
--- how long the bytes after these are, by the tag
+-- the length of the bytes after these, by the tag
 abbrev pub end_len : ℕ → ℕ
 end_len tag = if tag == 16 then 4 else 0
 
--- how many items there are, by the tag and the head
+-- the number of items, by the tag and the head
 abbrev pub items_len : ℕ → List ℕ → ℕ
 items_len tag head = if tag == 19 then from_be_bytes w32 (drop 1 head) else 0
 
@@ -38,13 +38,13 @@ items_len tag head = if tag == 19 then from_be_bytes w32 (drop 1 head) else 0
 abbrev pub have_tag : ℕ → List Value → Bool
 have_tag tag items = list_all (λ v. tag_of v == tag) items
 
--- the items after a head: no arrays, of the kind that it names, and as many as it says
+-- the items after a head: no arrays, of the kind in the head, and as many as it says
 pub record AreItems (tag : ℕ) (head : List ℕ) (items : List Value) : Type 0 where
   pub plain : IsTrue (are_plain items)
   pub kind : IsTrue (have_tag (get_or head 0 0) items)
   pub count : length items ≡ items_len tag head
 
--- equally many items, all of one kind, none of them an array
+-- equally many items, all of one kind, and no arrays
 pub record AreAlike (a b : List Value) : Type 0 where
   pub tag : ℕ
   pub plain_a : IsTrue (are_plain a)

@@ -1,4 +1,4 @@
--- Values that are no arrays: their kinds, their canonical bytes, their texts.
+-- Values that are not arrays: their kinds, their canonical bytes, their texts.
 use Rattle.std.specs.Prelude.{ℕ, ℤ, Bool, true, false, ◌&&◌, ◌==◌, nat_lt, List, [], ◌∷◌, ◌++◌, length, codes, decimal, ◌<◌, ◌^◌, IsTrue, FitsSigned, if◌then◌else◌}
 use Rattle.std.specs.Int.{Width, w8, w16, w32, w64, to_be_bytes, cast_unsigned}
 use Rattle.std.specs.Fmt.{signed_decimal}
@@ -7,7 +7,7 @@ use Rattle.pmg_value.specs.Blobs.{is_text, is_blob}
 use Rattle.pmg_value.specs.Hex.{hex_byte, hex_text}
 use Rattle.pmg_value.specs.Names.{is_nspace}
 
--- a value that is no array (PMIx Standard 5.0, pmix_value_t)
+-- a value that is not an array (PMIx Standard 5.0, pmix_value_t)
 pub data Plain : Type 0 where
   bool : Bool → Plain
   byte : ℕ → Plain
@@ -49,7 +49,7 @@ plain_tag (Plain.proc p) = 16
 plain_tag (Plain.status z) = 17
 plain_tag (Plain.bytes b) = 18
 
--- the tags of values that are no arrays
+-- the tags of values that are not arrays
 abbrev pub is_plain_tag : ℕ → Bool
 is_plain_tag tag = nat_lt 0 tag && nat_lt tag 19
 
@@ -83,7 +83,7 @@ plain_body (Plain.proc p) = (length p.nspace ∷ p.nspace) ++ to_be_bytes w32 p.
 plain_body (Plain.status z) = signed_bytes w32 z
 plain_body (Plain.bytes b) = counted b
 
--- what the value holds keeps the rules of its kind
+-- the value keeps the rules of its kind
 abbrev pub IsPlain : Plain → Type 0
 IsPlain (Plain.bool b) = Unit {0}
 IsPlain (Plain.byte n) = n < 2 ^ 8

@@ -9,7 +9,7 @@ use Rattle.pmg_value.specs.Refusals.{number_of, name_of, cause_name}
 unfoldable pub fault_text : Fault → List ℕ
 fault_text fault = cause_name fault.cause ++ codes " at " ++ decimal fault.offset
 
--- what stands after a refusal's name: the fault, where it has one
+-- the text after a refusal's name: the fault, if it has one
 unfoldable pub detail_text : Refusal → List ℕ
 detail_text (BadFrame fault) = codes ": " ++ fault_text fault
 detail_text _ = []

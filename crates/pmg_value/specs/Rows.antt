@@ -8,7 +8,7 @@ use Rattle.std.specs.Map.{keys_of}
 use Rattle.std.specs.Option.{unwrap_or}
 
 module _ {K V : Type 0} {R : K → K → Ordering} where
-  -- the rows as a map, where f says what a value means
+  -- the rows as a map, with f the meaning of a value
   abbrev pub rows_of : {X : Type 0} → (V → X) → List (K × V) → finite.FinMap R X
   rows_of f rows = finite.from_entries (map (λ e. (e.0, f e.1)) rows)
 
@@ -17,22 +17,22 @@ module _ {K V : Type 0} {R : K → K → Ordering} where
   map_of rows = rows_of (λ v. v) rows
 
 module _ {K X : Type 0} {R : K → K → Ordering} where
-  -- the map with another value under the key, where it has one
+  -- the map with another value under the key, if it has one
   abbrev pub changed_at : finite.FinMap R X → K → X → finite.FinMap R X
   changed_at m key x = if finite.contains_key m key then finite.insert m key x else m
 
-  -- the map with what was under the key before it was changed there
+  -- the map with the earlier content under the key
   abbrev pub put_back : finite.FinMap R X → K → Option X → finite.FinMap R X
   put_back m key None = finite.remove m key
   put_back m key (Some x) = changed_at m key x
 
--- what stands under q, where `at` tells what stands under each key, once what was under the key is put back
+-- the content under q after the earlier content of the key is put back; `at` has the content under each key
 abbrev pub back_at : {K V : Type 0} → (K → K → Ordering) → K → Option V → (K → Option V) → K → Option V
 back_at R key None at q = if is_at (R key) q then None else at q
 back_at R key (Some v) at q = if is_some (at key) && is_at (R key) q then Some v else at q
 
--- what stands under q, where `at` tells what stands under each key, once the part was taken in by what is under the key, or by the
--- first one where nothing is
+-- the content under q after the object under the key took the part in, or the first object if the key had none; `at` has the content under
+-- each key
 abbrev pub grown_at : {K V P : Type 0} → (K → K → Ordering) → V → (V → P → V) → K → P → (K → Option V) → K → Option V
 grown_at R first grown key part at q = if is_at (R key) q then Some (grown (unwrap_or (at key) first) part) else at q
 

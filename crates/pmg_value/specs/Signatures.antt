@@ -1,4 +1,4 @@
--- Fences by name.
+-- Names of fences.
 use Rattle.std.specs.Prelude.{ℕ, Bool}
 use Rattle.std.specs.FinSet as set
 use Rattle.pmg_value.specs.Process.{proc_cmp}

@@ -1,4 +1,4 @@
--- Bytes, wherever they stand.
+-- Bytes in their storage.
 use Rattle.std.specs.Prelude.{ℕ, List}
 use Rattle.pmg_value.specs.declared.small_bytes.Place.{Place}
 use Rattle.pmg_value.specs.declared.small_bytes.Place.TheVariants as places

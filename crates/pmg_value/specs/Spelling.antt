@@ -1,4 +1,4 @@
--- A value's one spelling: its canonical bytes.
+-- A value's one encoding: its canonical bytes.
 use Rattle.std.specs.Prelude.{ℕ, Bool, true, false, ◌≡◌, ◌+◌, ◌&&◌, List, ◌∷◌, length, map, IsTrue}
 use Rattle.std.specs.List.{list_all}
 use Rattle.pmg_value.specs.declared.value.Value.{Value}
@@ -6,12 +6,12 @@ use Rattle.pmg_value.specs.declared.value.Value.TheVariants as values
 use Rattle.pmg_value.specs.Plain.{Plain, IsPlain, plain_tag, plain_body}
 use Rattle.pmg_value.specs.Elements.{Elements, IsArray, is_array, array_body}
 
--- what a value is: an array, or none
+-- the form of a value: an array, or another value
 pub data Form : Type 0 where
   plain : Plain → Form
   array : Elements → Form
 
--- what this value is
+-- the form of this value
 abbrev pub form : Value → Form
 form (values.Bool b) = Form.plain (Plain.bool b)
 form (values.Byte n) = Form.plain (Plain.byte n)
@@ -33,7 +33,7 @@ form (values.Status z) = Form.plain (Plain.status z)
 form (values.Bytes b) = Form.plain (Plain.bytes b)
 form (values.Array a) = Form.array a
 
--- the value that is so
+-- the value of this form
 abbrev pub value_of : Form → Value
 value_of (Form.plain (Plain.bool b)) = values.Bool b
 value_of (Form.plain (Plain.byte n)) = values.Byte n
@@ -55,7 +55,7 @@ value_of (Form.plain (Plain.status z)) = values.Status z
 value_of (Form.plain (Plain.bytes b)) = values.Bytes b
 value_of (Form.array a) = values.Array a
 
--- the tag of what a value is
+-- the tag of a form
 abbrev pub form_tag : Form → ℕ
 form_tag (Form.plain p) = plain_tag p
 form_tag (Form.array a) = 19
@@ -65,7 +65,7 @@ abbrev pub form_body : Form → List ℕ
 form_body (Form.plain p) = plain_body p
 form_body (Form.array a) = array_body a
 
--- what a value is keeps the rules of its kind
+-- the form keeps the rules of its kind
 abbrev pub IsForm : Form → Type 0
 IsForm (Form.plain p) = IsPlain p
 IsForm (Form.array a) = IsArray a
@@ -82,16 +82,16 @@ body_of v = form_body (form v)
 abbrev pub spelling : Value → List ℕ
 spelling v = tag_of v ∷ body_of v
 
--- what the value holds keeps the rules of its kind
+-- the value keeps the rules of its kind
 abbrev pub IsValue : Value → Type 0
 IsValue v = IsForm (form v)
 
--- the value is no array
+-- the value is not an array
 abbrev pub is_plain_form : Form → Bool
 is_plain_form (Form.plain p) = true
 is_plain_form (Form.array a) = false
 
--- an item of an array as the array holds it (an array is no item: any element stands for it)
+-- an item of an array as the array holds it (an array is never an item: any element takes its place)
 abbrev pub plain_of : Form → Plain
 plain_of (Form.plain p) = p
 plain_of (Form.array a) = Plain.bool false
@@ -108,11 +108,11 @@ plains_of items = map (λ v. plain_of (form v)) items
 abbrev pub elements : ℕ → List Value → Elements
 elements tag items = record { tag = tag; plains = plains_of items }
 
--- no item is an array, and with this tag they are one
+-- no item is an array, and with this tag the items make an array
 abbrev pub makes_array : ℕ → List Value → Bool
 makes_array tag items = are_plain items && is_array (elements tag items)
 
--- what an array in memory keeps: its items are no arrays, together they are one, and its size is that of the value
+-- an array in memory: its items are not arrays, together they make one, and its size is the size of the value
 pub record HoldsArray (tag size : ℕ) (items : List Value) : Type 0 where
   pub plain : IsTrue (are_plain items)
   pub is : IsArray (elements tag items)

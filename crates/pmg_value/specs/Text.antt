@@ -15,6 +15,6 @@ abbrev pub form_text : Form → List ℕ
 form_text (Form.plain p) = plain_text p
 form_text (Form.array a) = array_text a
 
--- the kind's name, a colon, and what the value holds
+-- the kind's name, a colon, and the content
 abbrev pub text_of : Value → List ℕ
 text_of v = kind_name (tag_of v) ++ (codes ":" ++ form_text (form v))

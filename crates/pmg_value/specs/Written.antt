@@ -1,4 +1,4 @@
--- What a call that writes a text to a writer did, in success and in failure.
+-- The effect of a call that writes a text to a writer, in success and in failure.
 use Rattle.std.specs.Prelude.{ℕ, List, take, OnOk}
 use Rattle.std.specs.declared.result.Result.{Result}
 use Rattle.std.specs.declared.option.Option.{Option}

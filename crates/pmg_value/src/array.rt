@@ -10,11 +10,11 @@ use crate::value::{MAX_VALUE_SIZE, Value};
 use std::alloc::AllocError;
 use std::marker::Model;
 
-/// The greatest tag of a kind that may stand in an array.
+/// The greatest tag of a kind of array items.
 const MAX_ELEMENT_TAG: u8 = 18;
 
-/// An array of values of one kind, none of them an array (PMIx Standard 5.0, pmix_data_array_t). As a value
-/// it is no longer than a value may be. Numbers may be kept as such, which takes less memory.
+/// An array of values of one kind, which is not the kind of arrays (PMIx Standard 5.0, pmix_data_array_t). As a value it is at most as long
+/// as a value may be. Numbers may be kept as such, which takes less memory.
 #[cycle(value)]
 #[derive(Drop)]
 pub struct Array {
@@ -61,9 +61,8 @@ impl Model for Array {
 }
 
 impl Array {
-    /// The array of these items, whose kind has that tag. Refused as BadParam where the tag is that of an
-    /// array or of no kind, where an item is of another kind, and where the array as a value would be longer
-    /// than 1,048,576 canonical bytes.
+    /// Returns the array of these items, whose kind has that tag. Errors: `BadParam` if the tag is the array's or of no kind, if an item is
+    /// of another kind, or if the array as a value would be longer than 1,048,576 canonical bytes.
     pub fn new(tag: u8, items: Vec<Value>) -> Result<Array, Refusal>
         ensures { result ≡ (if makes_array tag items.items then Ok (elements tag items.items) else Err refusals.BadParam) }
     {
@@ -77,14 +76,14 @@ impl Array {
         }
     }
 
-    /// The tag of the items' kind.
+    /// Returns the tag of the items' kind.
     pub fn tag(&self) -> u8
         ensures { result ≡ self.now.tag }
     {
         self.tag
     }
 
-    /// The number of the canonical bytes of the array as a value.
+    /// Returns the number of the canonical bytes of the array as a value.
     pub fn size(&self) -> usize
         ensures value { result ≡ 1 + length (array_body self.now) }
         ensures bound { result ≤ MAX_VALUE_SIZE }
@@ -92,7 +91,7 @@ impl Array {
         self.size
     }
 
-    /// A copy, equal to this array.
+    /// Returns a copy, equal to this array.
     #[cycle(copy)]
     pub fn copy(&self) -> Result<Array, AllocError>
         ensures { IfOk result (λ a. a ≡ self.now) }
@@ -109,7 +108,7 @@ impl Array {
     }
 }
 
-// Copies of the values.
+// Copies the values.
 #[cycle(copy)]
 fn copy_values(values: &Vec<Value>) -> Result<Vec<Value>, AllocError>
     requires { IsTrue (are_plain values.now.items) }
@@ -122,7 +121,7 @@ fn copy_values(values: &Vec<Value>) -> Result<Vec<Value>, AllocError>
     Ok(copies)
 }
 
-// The same numbers.
+// Copies the numbers.
 fn copy_numbers(numbers: &Vec<u64>) -> Result<Vec<u64>, AllocError>
     ensures { IfOk result (λ copies. copies.items ≡ numbers.now.items) }
 {
@@ -131,7 +130,7 @@ fn copy_numbers(numbers: &Vec<u64>) -> Result<Vec<u64>, AllocError>
     Ok(copies)
 }
 
-// The size of the array of these items as a value, where they are one.
+// Returns the size of the array of these items as a value, if they make one.
 fn size_of(tag: u8, items: &[Value]) -> Option<usize>
     ensures some { IfSome result (λ size. HoldsArray tag size items.now) }
     ensures none { IfNone result (makes_array tag items.now ≡ false) }
@@ -150,7 +149,7 @@ fn size_of(tag: u8, items: &[Value]) -> Option<usize>
     Some(size)
 }
 
-// The number of the bytes that an item takes in an array.
+// Returns the number of the bytes that an item takes in an array.
 fn body_size(item: &Value) -> usize
     ensures value { result ≡ length (body_of item.now) }
     ensures is { IsValue item.now }

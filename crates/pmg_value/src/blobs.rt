@@ -14,7 +14,7 @@ use std::marker::Model;
 /// may be.
 pub const MAX_BLOB_LEN: usize = 1_048_571;
 
-/// A string's bytes: at most 1,048,571, none of them zero. At most 22 take no memory, and copies of more share them.
+/// A string's bytes: at most 1,048,571, and no zero byte. At most 22 bytes take no memory, and copies of more bytes share them.
 #[derive(PartialEq, Eq)]
 pub struct Text {
     bytes: SmallBytes,
@@ -40,7 +40,7 @@ impl Model for Text {
     ghost inverse = { λ v. record { bytes = v } };
 }
 
-/// A byte object's bytes: at most 1,048,571. At most 22 take no memory, and copies of more share them.
+/// A byte object's bytes: at most 1,048,571. At most 22 bytes take no memory, and copies of more bytes share them.
 pub struct Octets {
     bytes: SmallBytes,
 }
@@ -65,7 +65,7 @@ impl Model for Octets {
     ghost inverse = { λ v. record { bytes = v } };
 }
 
-/// Where the first zero byte stands.
+/// Returns the index of the first zero byte.
 pub fn first_zero(bytes: &[u8]) -> Option<usize>
     ensures value { result ≡ position is_zero bytes.now }
     ensures bound { IfSome result (λ i. i < length bytes.now) }
@@ -76,7 +76,7 @@ pub fn first_zero(bytes: &[u8]) -> Option<usize>
     bytes.iter().position(|b| *b == 0)
 }
 
-/// Whether the bytes are a string's: at most 1,048,571, none of them zero.
+/// Returns whether the bytes are a string's: at most 1,048,571, and no zero byte.
 pub fn is_string_text(bytes: &[u8]) -> bool
     ensures { result ≡ is_text bytes.now }
 {
@@ -84,8 +84,7 @@ pub fn is_string_text(bytes: &[u8]) -> bool
 }
 
 impl Text {
-    /// The string's bytes that these are. Refused as BadParam where one is zero or there are more than
-    /// 1,048,571, and as NoMemory.
+    /// Returns a string of these bytes. Errors: `BadParam` for a zero byte or more than 1,048,571 bytes; `NoMemory`.
     pub fn read(alloc: Global, bytes: &[u8]) -> Result<Text, Refusal>
         ensures { Gives (λ t. t) result (if is_text bytes.now then Ok bytes.now else Err refusals.BadParam) }
     {
@@ -95,7 +94,7 @@ impl Text {
         Ok(Text::from_text(alloc, bytes)?)
     }
 
-    /// The string's bytes that these are, where they were tested already.
+    /// Returns a string of these bytes, which were tested already.
     pub fn from_text(alloc: Global, bytes: &[u8]) -> Result<Text, AllocError>
         requires { IsTrue (is_text bytes.now) }
         ensures { IfOk result (λ t. t ≡ bytes.now) }
@@ -105,7 +104,7 @@ impl Text {
         })
     }
 
-    /// The bytes.
+    /// Returns the bytes.
     pub fn as_bytes(&self) -> &[u8]
         ensures value { result.now ≡ self.now }
         ensures text { IsTrue (is_text result.now) }
@@ -113,7 +112,7 @@ impl Text {
         self.bytes.as_bytes()
     }
 
-    /// Another handle of the same bytes.
+    /// Returns another handle of the same bytes.
     pub fn copy(&self) -> Result<Text, AllocError>
         ensures { IfOk result (λ t. t ≡ self.now) }
     {
@@ -124,8 +123,7 @@ impl Text {
 }
 
 impl Octets {
-    /// The byte object's bytes that these are. Refused as BadParam where there are more than 1,048,571,
-    /// and as NoMemory.
+    /// Returns a byte object of these bytes. Errors: `BadParam` for more than 1,048,571 bytes; `NoMemory`.
     pub fn read(alloc: Global, bytes: &[u8]) -> Result<Octets, Refusal>
         ensures { Gives (λ o. o) result (if is_blob bytes.now then Ok bytes.now else Err refusals.BadParam) }
     {
@@ -135,7 +133,7 @@ impl Octets {
         Ok(Octets::from_bytes(alloc, bytes)?)
     }
 
-    /// The byte object's bytes that these are, where they were tested already.
+    /// Returns a byte object of these bytes, which were tested already.
     pub fn from_bytes(alloc: Global, bytes: &[u8]) -> Result<Octets, AllocError>
         requires { IsTrue (is_blob bytes.now) }
         ensures { IfOk result (λ o. o ≡ bytes.now) }
@@ -145,7 +143,7 @@ impl Octets {
         })
     }
 
-    /// The bytes.
+    /// Returns the bytes.
     pub fn as_bytes(&self) -> &[u8]
         ensures value { result.now ≡ self.now }
         ensures blob { IsTrue (is_blob result.now) }
@@ -153,7 +151,7 @@ impl Octets {
         self.bytes.as_bytes()
     }
 
-    /// Another handle of the same bytes.
+    /// Returns another handle of the same bytes.
     pub fn copy(&self) -> Result<Octets, AllocError>
         ensures { IfOk result (λ o. o ≡ self.now) }
     {

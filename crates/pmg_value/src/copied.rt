@@ -1,4 +1,4 @@
-//! What can be copied where memory allows, and copies of lists and trees of it.
+//! Values that can be copied if memory allows, and copies of lists and trees of them.
 ghost use Rattle.std.specs.Prelude.{◌≡◌, IfOk};
 ghost use Rattle.std.specs.BTreeMap.{get};
 
@@ -9,9 +9,9 @@ use crate::value::Value;
 use std::alloc::{AllocError, Global};
 use std::collections::{BTreeMap, VecDeque};
 
-/// What can be copied, where memory allows.
+/// Values that can be copied if memory allows.
 pub trait Copied: Drop {
-    /// Another one of the same value.
+    /// Returns another object of the same value.
     fn copy(&self) -> Result<Self, AllocError>
         ensures { IfOk result (λ copy. copy ≡ self.now) };
 }
@@ -73,7 +73,7 @@ impl<A: Copied> Copied for Option<A> {
     }
 }
 
-/// Copies of all the items, in their order.
+/// Copies all the items, in their order.
 pub fn copy_all<T: Copied>(items: &Vec<T>) -> Result<Vec<T>, AllocError>
     ensures { IfOk result (λ copies. copies.items ≡ items.now.items) }
 {
@@ -84,7 +84,7 @@ pub fn copy_all<T: Copied>(items: &Vec<T>) -> Result<Vec<T>, AllocError>
     Ok(copies)
 }
 
-/// Copies of all the items of a queue, in their order.
+/// Copies all items of a queue, in their order.
 pub fn copy_queue<T: Copied>(items: &VecDeque<T>) -> Result<VecDeque<T>, AllocError>
     ensures { IfOk result (λ copies. copies.items ≡ items.now.items) }
 {
@@ -95,7 +95,7 @@ pub fn copy_queue<T: Copied>(items: &VecDeque<T>) -> Result<VecDeque<T>, AllocEr
     Ok(copies)
 }
 
-/// A tree of the same keys and values.
+/// Copies a tree with its keys and values.
 pub fn copy_rows<K: Ord + Copied, V: Copied>(
     alloc: Global,
     rows: &BTreeMap<K, V>,

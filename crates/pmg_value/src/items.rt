@@ -10,7 +10,7 @@ use crate::process::Rank;
 use crate::refusal::Refusal;
 use crate::value::{MAX_VALUE_SIZE, Value};
 
-/// The items of an array: values, or numbers, of which the tag of their kind says what they are.
+/// The items of an array: values, or numbers of the kind of a tag.
 #[derive(Clone, Copy)]
 pub enum Items<'a> {
     /// Values.
@@ -19,7 +19,7 @@ pub enum Items<'a> {
     Numbers(u8, &'a [u64]),
 }
 
-/// An item of an array: a value that the array keeps, or one that was made of a number.
+/// An item of an array: a value that the array keeps, or a value made of a number.
 pub enum Item<'a> {
     /// A value that is kept.
     Kept(&'a Value),
@@ -37,7 +37,7 @@ impl Drop for Item<'_> {
 }
 
 impl Item<'_> {
-    /// The item as a value.
+    /// Returns the item as a value.
     #[inline(always)]
     pub fn value(&self) -> &Value
         ensures { result.now ≡ item_value self.now }
@@ -50,7 +50,7 @@ impl Item<'_> {
 }
 
 impl<'a> Items<'a> {
-    /// How many there are.
+    /// Returns the number of items.
     pub fn len(self) -> usize
         ensures { result ≡ length (items_in self.entry) }
     {
@@ -60,14 +60,14 @@ impl<'a> Items<'a> {
         }
     }
 
-    /// Whether there are none.
+    /// Returns whether there are no items.
     pub fn is_empty(self) -> bool
         ensures { result ≡ (length (items_in self.entry) == 0) }
     {
         self.len() == 0
     }
 
-    /// The item at the index.
+    /// Returns the item at the index.
     #[inline(always)]
     pub fn get(self, index: usize) -> Item<'a>
         requires { index < length (items_in self) }
@@ -79,7 +79,7 @@ impl<'a> Items<'a> {
         }
     }
 
-    /// The first item and the others, where there are some.
+    /// Returns the first item and the others, if there are any.
     pub fn split_first(self) -> Option<(Item<'a>, Items<'a>)>
         ensures some { IfSome result (λ parts. items_in self.entry ≡ item_value parts.0 ∷ items_in parts.1) }
         ensures none { IfNone result (items_in self.entry ≡ []) }
@@ -101,7 +101,7 @@ impl<'a> Items<'a> {
 }
 
 impl Value {
-    /// The number by which an array may keep the value, where its kind is one of numbers.
+    /// Returns the number by which an array may keep the value, if its kind is a kind of numbers.
     #[tactic(auto, unfolding(crate::specs::Items::number_value, crate::specs::Items::number_width))]
     pub fn as_number(&self) -> u64
         ensures { 0 < number_width (tag_of self.now) → number_value (tag_of self.now) result ≡ self.now }
@@ -127,14 +127,14 @@ impl Value {
     }
 }
 
-/// Whether arrays may keep items of the kind of that tag as numbers.
+/// Returns whether arrays may keep items of the kind of that tag as numbers.
 pub fn is_number_kind(tag: u8) -> bool
     ensures { result ≡ nat_lt 0 (number_width tag) }
 {
     tag != 0 && tag != 3 && tag != 16 && tag < 18
 }
 
-/// The value of a number of the kind of that tag; of a greater number, that of its last bytes.
+/// Returns the value of a number of the kind of that tag. If the number is too great, its last bytes count.
 #[tactic(auto, unfolding(crate::specs::Items::number_value))]
 pub(crate) fn number_value(tag: u8, number: u64) -> Value
     ensures { result ≡ number_value tag number }
@@ -164,7 +164,7 @@ pub(crate) fn number_value(tag: u8, number: u64) -> Value
 }
 
 impl Array {
-    /// The array of these numbers, whose kind has that tag. Refused as BadParam where the array as a value would be longer than
+    /// Returns the array of these numbers, whose kind has that tag. Errors: `BadParam` if the array as a value would be longer than
     /// 1,048,576 canonical bytes.
     pub fn of_numbers(tag: u8, numbers: Vec<u64>) -> Result<Array, Refusal>
         requires { 0 < number_width tag }
@@ -180,7 +180,7 @@ impl Array {
         }
     }
 
-    /// The items.
+    /// Returns the items.
     pub fn items(&self) -> Items<'_>
         ensures items { elements self.now.tag (items_in result) ≡ self.now }
         ensures plain { IsTrue (are_plain (items_in result)) }
@@ -193,7 +193,7 @@ impl Array {
     }
 }
 
-// How many bytes a number of the kind of that tag takes.
+// Returns the number of bytes of a number of the kind of that tag.
 fn number_width(tag: u8) -> usize
     requires { 0 < number_width tag }
     ensures { result ≡ number_width tag }
@@ -206,7 +206,7 @@ fn number_width(tag: u8) -> usize
     }
 }
 
-// The size of the array of so many numbers as a value, where they are one.
+// Returns the size of the array of so many numbers as a value, if they make one.
 fn numbers_size(tag: u8, count: usize) -> Option<usize>
     requires { 0 < number_width tag }
     ensures some { IfSome result (λ size. (size ≡ 6 + count * number_width tag) × (size ≤ MAX_VALUE_SIZE)) }

@@ -1,4 +1,4 @@
-//! Names, values and refusals: what every crate of pmixgroup speaks of.
+//! Names, values and refusals, which all crates of pmixgroup use.
 #![tactic(auto)]
 
 mod array;

@@ -16,8 +16,8 @@ pub const MAX_NSPACE_LEN: usize = 255;
 /// The greatest length of a key, in bytes (PMIX_MAX_KEYLEN).
 pub const MAX_KEY_LEN: usize = 511;
 
-/// A namespace's name: 1 to 255 bytes of 0x21 to 0x7E (PMIx Standard 5.0, pmix_nspace_t). Its order is
-/// that of its bytes. One of at most 22 bytes takes no memory, and copies of a longer one share its bytes.
+/// A namespace's name: 1 to 255 bytes of 0x21 to 0x7E (PMIx Standard 5.0, pmix_nspace_t), in the order of the bytes. A name of at most 22
+/// bytes takes no memory, and copies of a longer name share its bytes.
 #[derive(Drop, PartialEq, Eq, PartialOrd, Ord)]
 pub struct Nspace {
     name: Word,
@@ -37,8 +37,8 @@ impl Model for Nspace {
     ghost inverse = { λ v. record { name = v } };
 }
 
-/// A key: 1 to 511 bytes of 0x20 to 0x7E (PMIx Standard 5.0, pmix_key_t). Its order is that of its
-/// bytes. One of at most 22 bytes takes no memory, and copies of a longer one share its bytes.
+/// A key: 1 to 511 bytes of 0x20 to 0x7E (PMIx Standard 5.0, pmix_key_t), in the order of the bytes. A key of at most 22 bytes takes no
+/// memory, and copies of a longer key share its bytes.
 #[derive(Drop, PartialEq, Eq, PartialOrd, Ord)]
 pub struct Key {
     text: Word,
@@ -58,21 +58,21 @@ impl Model for Key {
     ghost inverse = { λ v. record { text = v } };
 }
 
-/// Whether the bytes are a namespace's name: 1 to 255 bytes of 0x21 to 0x7E.
+/// Returns whether the bytes are a namespace's name: 1 to 255 bytes of 0x21 to 0x7E.
 pub fn is_nspace_name(name: &[u8]) -> bool
     ensures { result ≡ is_nspace name.now }
 {
     0 < name.len() && name.len() <= MAX_NSPACE_LEN && all_within(0x21, 0x7E, name)
 }
 
-/// Whether the bytes are a key: 1 to 511 bytes of 0x20 to 0x7E.
+/// Returns whether the bytes are a key: 1 to 511 bytes of 0x20 to 0x7E.
 pub fn is_key_text(key: &[u8]) -> bool
     ensures { result ≡ is_key key.now }
 {
     0 < key.len() && key.len() <= MAX_KEY_LEN && all_within(0x20, 0x7E, key)
 }
 
-/// Whether a name or a key begins with `pmix`, as those do that the standard keeps.
+/// Returns whether a name or a key begins with `pmix`, like the names that the standard reserves.
 pub fn is_reserved_name(name: &[u8]) -> bool
     ensures { result ≡ is_reserved name.now }
 {
@@ -80,7 +80,7 @@ pub fn is_reserved_name(name: &[u8]) -> bool
 }
 
 impl Nspace {
-    /// The namespace of the process that stands for the group's host, made without memory.
+    /// Returns the namespace of the process that stands for the group's host, without memory.
     pub fn of_host() -> Nspace
         ensures { result ≡ host_name }
     {
@@ -89,8 +89,8 @@ impl Nspace {
         }
     }
 
-    /// Reads the name of a namespace that may be registered: it does not begin with `pmix`. Refused
-    /// as BadParam where the bytes are no such name, and as NoMemory.
+    /// Reads the name of a namespace that may be registered: it does not begin with `pmix`. Errors: `BadParam` for any other bytes;
+    /// `NoMemory`.
     pub fn read(alloc: Global, name: &[u8]) -> Result<Nspace, Refusal>
         ensures { Gives (λ n. n) result
             (if is_nspace name.now && not (is_reserved name.now) then Ok name.now else Err refusals.BadParam) }
@@ -101,8 +101,7 @@ impl Nspace {
         Nspace::read_any(alloc, name)
     }
 
-    /// Reads the name of any namespace, also of one that begins with `pmix`. Refused as BadParam where
-    /// the bytes are no name, and as NoMemory.
+    /// Reads the name of any namespace, even one that begins with `pmix`. Errors: `BadParam` for bytes that are not a name; `NoMemory`.
     pub fn read_any(alloc: Global, name: &[u8]) -> Result<Nspace, Refusal>
         ensures { Gives (λ n. n) result (if is_nspace name.now then Ok name.now else Err refusals.BadParam) }
     {
@@ -112,7 +111,7 @@ impl Nspace {
         Ok(Nspace::from_name(alloc, name)?)
     }
 
-    /// The namespace of a name that was tested already.
+    /// Returns the namespace of a name that was tested already.
     #[inline(always)]
     pub fn from_name(alloc: Global, name: &[u8]) -> Result<Nspace, AllocError>
         requires { IsTrue (is_nspace name.now) }
@@ -123,7 +122,7 @@ impl Nspace {
         })
     }
 
-    /// The name's bytes.
+    /// Returns the name's bytes.
     pub fn as_bytes(&self) -> &[u8]
         ensures value { result.now ≡ self.now }
         ensures name { IsTrue (is_nspace result.now) }
@@ -131,14 +130,14 @@ impl Nspace {
         self.name.as_bytes()
     }
 
-    /// Whether the name begins with `pmix`.
+    /// Returns whether the name begins with `pmix`.
     pub fn is_reserved(&self) -> bool
         ensures { result ≡ is_reserved self.now }
     {
         is_reserved_name(self.as_bytes())
     }
 
-    /// Another handle of the same name.
+    /// Returns another handle of the same name.
     pub fn copy(&self) -> Result<Nspace, AllocError>
         ensures { IfOk result (λ n. n ≡ self.now) }
     {
@@ -149,7 +148,7 @@ impl Nspace {
 }
 
 impl Key {
-    /// The reserved key under which a process that has ended stands, made without memory.
+    /// Returns the reserved key that says that a process has ended, without memory.
     #[inline(always)]
     pub fn of_termination() -> Key
         ensures { result ≡ codes "pmix.term" }
@@ -159,8 +158,7 @@ impl Key {
         }
     }
 
-    /// Reads a key that a process may put: it does not begin with `pmix`. Refused as BadParam where the
-    /// bytes are no such key, and as NoMemory.
+    /// Reads a key that a process may put: it does not begin with `pmix`. Errors: `BadParam` for any other bytes; `NoMemory`.
     pub fn read(alloc: Global, key: &[u8]) -> Result<Key, Refusal>
         ensures { Gives (λ k. k) result
             (if is_key key.now && not (is_reserved key.now) then Ok key.now else Err refusals.BadParam) }
@@ -171,8 +169,7 @@ impl Key {
         Key::read_any(alloc, key)
     }
 
-    /// Reads any key, also one that begins with `pmix`. Refused as BadParam where the bytes are no key,
-    /// and as NoMemory.
+    /// Reads any key, even one that begins with `pmix`. Errors: `BadParam` for bytes that are not a key; `NoMemory`.
     pub fn read_any(alloc: Global, key: &[u8]) -> Result<Key, Refusal>
         ensures { Gives (λ k. k) result (if is_key key.now then Ok key.now else Err refusals.BadParam) }
     {
@@ -182,7 +179,7 @@ impl Key {
         Ok(Key::from_text(alloc, key)?)
     }
 
-    /// The key of a text that was tested already.
+    /// Returns the key of a text that was tested already.
     #[inline(always)]
     pub fn from_text(alloc: Global, key: &[u8]) -> Result<Key, AllocError>
         requires { IsTrue (is_key key.now) }
@@ -193,7 +190,7 @@ impl Key {
         })
     }
 
-    /// The key's bytes.
+    /// Returns the key's bytes.
     pub fn as_bytes(&self) -> &[u8]
         ensures value { result.now ≡ self.now }
         ensures key { IsTrue (is_key result.now) }
@@ -201,14 +198,14 @@ impl Key {
         self.text.as_bytes()
     }
 
-    /// Whether the key begins with `pmix`.
+    /// Returns whether the key begins with `pmix`.
     pub fn is_reserved(&self) -> bool
         ensures { result ≡ is_reserved self.now }
     {
         is_reserved_name(self.as_bytes())
     }
 
-    /// Another handle of the same key.
+    /// Returns another handle of the same key.
     pub fn copy(&self) -> Result<Key, AllocError>
         ensures { IfOk result (λ k. k ≡ self.now) }
     {

@@ -1,4 +1,4 @@
-//! A value's body in parts, by which it is written and ordered.
+//! The parts of a value's body, by which it is written and ordered.
 ghost use Rattle.std.specs.Prelude.{◌≡◌, ◌≤◌, ◌<◌, ◌^◌, [], ◌∷◌, ◌++◌, length, IsTrue};
 ghost use Rattle.std.specs.Ordering.{nat_cmp, ordering_then};
 ghost use Rattle.std.specs.Int.{w32, from_be_bytes, to_be_bytes};
@@ -18,8 +18,8 @@ use crate::value::Value;
 use arrayvec::ArrayVec;
 use std::cmp::Ordering;
 
-/// The canonical bytes after a value's tag, in parts: a head of at most eight bytes; the bytes of a
-/// namespace, a string or a byte object; a rank; and the items of an array, whose bodies stand last.
+/// The canonical bytes after a value's tag, in parts: a head of at most eight bytes; the bytes of a namespace, a string or a byte object; a
+/// rank; and the items of an array, whose bodies come last.
 pub struct Parts<'a> {
     pub head: ArrayVec<u8, 8>,
     pub middle: &'a [u8],
@@ -39,7 +39,7 @@ impl Drop for Parts<'_> {
 }
 
 impl Value {
-    /// The canonical bytes after the tag, in parts.
+    /// Returns the canonical bytes after the tag, in parts.
     pub fn parts(&self) -> Parts<'_>
         ensures body { in_parts result.head.items result.middle.now result.end.items (items_in result.items) ≡ body_of self.now }
         ensures head { length result.head.items ≡ head_len (tag_of self.now) }
@@ -71,7 +71,7 @@ impl Value {
         }
     }
 
-    /// The order of the canonical bytes.
+    /// Compares the canonical bytes.
     pub fn cmp(&self, other: &Value) -> Ordering
         ensures { result ≡ slice_cmp nat_cmp (spelling self.now) (spelling other.now) }
     {
@@ -88,7 +88,7 @@ impl Value {
     }
 }
 
-// These bytes, of which there are at most eight.
+// Returns these bytes, at most eight.
 fn short_bytes(bytes: &[u8]) -> ArrayVec<u8, 8>
     requires { length bytes.now ≤ 8 }
     ensures { result.items ≡ bytes.now }
@@ -98,7 +98,7 @@ fn short_bytes(bytes: &[u8]) -> ArrayVec<u8, 8>
     held
 }
 
-// A body that is a head alone, of these bytes.
+// Returns a body that is only a head, of these bytes.
 fn head_alone(bytes: &[u8]) -> Parts<'static>
     requires { length bytes.now ≤ 8 }
     ensures body { in_parts result.head.items result.middle.now result.end.items (items_in result.items) ≡ bytes.now }
@@ -115,7 +115,7 @@ fn head_alone(bytes: &[u8]) -> Parts<'static>
     }
 }
 
-// A body of these bytes, after four bytes of their number.
+// Returns a body of these bytes, after four bytes of their number.
 #[tactic(auto, using(crate::proofs::OrderLemmas::length_again))]
 fn counted_body(bytes: &[u8]) -> Parts<'_>
     requires { length bytes.now ≤ MAX_BLOB_LEN }
@@ -133,7 +133,7 @@ fn counted_body(bytes: &[u8]) -> Parts<'_>
     }
 }
 
-// A body of a process: one byte of length, the namespace, and four bytes of rank.
+// Returns a body of a process: one byte of length, the namespace, and four bytes of rank.
 fn proc_body(process: &Proc) -> Parts<'_>
     ensures body { in_parts result.head.items result.middle.now result.end.items (items_in result.items)
         ≡ (length process.now.nspace ∷ process.now.nspace) ++ to_be_bytes w32 process.now.rank }
@@ -153,7 +153,7 @@ fn proc_body(process: &Proc) -> Parts<'_>
     }
 }
 
-// A body of an array: the tag of its items, four bytes of their number, and their bodies.
+// Returns a body of an array: the tag of its items, four bytes of their number, and their bodies.
 fn array_parts(array: &Array) -> Parts<'_>
     ensures body { in_parts result.head.items result.middle.now result.end.items (items_in result.items) ≡ array_body array.now }
     ensures head { length result.head.items ≡ 5 }
@@ -172,7 +172,7 @@ fn array_parts(array: &Array) -> Parts<'_>
     }
 }
 
-// The order of what stands before the items: by the heads, then the middles, then the ends.
+// Compares the parts before the items: the heads, then the middles, then the ends.
 fn cmp_parts(a: &Parts<'_>, b: &Parts<'_>) -> Ordering
     ensures { result ≡ ordering_then (slice_cmp nat_cmp a.now.head.items b.now.head.items)
         (ordering_then (slice_cmp nat_cmp a.now.middle.now b.now.middle.now) (slice_cmp nat_cmp a.now.end.items b.now.end.items)) }
@@ -188,7 +188,7 @@ fn cmp_parts(a: &Parts<'_>, b: &Parts<'_>) -> Ordering
     a.end.as_slice().cmp(b.end.as_slice())
 }
 
-// The order of equally many bodies of one kind, one after another.
+// Compares equally many bodies of one kind, one after another.
 fn cmp_items(a: Items<'_>, b: Items<'_>) -> Ordering
     requires { AreAlike (items_in a) (items_in b) }
     ensures { result ≡ slice_cmp nat_cmp (bodies (plains_of (items_in a.entry))) (bodies (plains_of (items_in b.entry))) }

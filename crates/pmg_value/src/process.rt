@@ -43,28 +43,28 @@ impl Rank {
         number: 4_294_967_294,
     };
 
-    /// The rank of this number.
+    /// Returns the rank of this number.
     pub fn new(number: u32) -> Rank
         ensures { result ≡ number }
     {
         Rank { number }
     }
 
-    /// The rank's number.
+    /// Returns the rank's number.
     pub fn number(self) -> u32
         ensures { result ≡ self }
     {
         self.number
     }
 
-    /// Whether no rank is named: whether it is PMIX_RANK_UNDEF.
+    /// Returns whether the rank is PMIX_RANK_UNDEF, which names none.
     pub fn is_undef(self) -> bool
         ensures { result ≡ is_undef self }
     {
         self == Rank::UNDEF
     }
 
-    /// Whether all ranks of the namespace are meant: whether it is PMIX_RANK_WILDCARD.
+    /// Returns whether the rank is PMIX_RANK_WILDCARD, which means all ranks of the namespace.
     pub fn is_wildcard(self) -> bool
         ensures { result ≡ is_wildcard self }
     {
@@ -87,7 +87,7 @@ impl Drop for Proc {
 }
 
 impl Proc {
-    /// The process of this rank in this namespace.
+    /// Returns the process of this rank in this namespace.
     pub fn new(nspace: Nspace, rank: Rank) -> Proc
         ensures nspace { result.nspace ≡ nspace }
         ensures rank { result.rank ≡ rank }
@@ -95,7 +95,7 @@ impl Proc {
         Proc { nspace, rank }
     }
 
-    /// The process `pmix.host 0`, which stands for the group's host, made without memory.
+    /// Returns the process `pmix.host 0`, which stands for the group's host, without memory.
     pub fn of_host() -> Proc
         ensures nspace { result.nspace ≡ host_name }
         ensures rank { result.rank ≡ 0 }
@@ -103,29 +103,28 @@ impl Proc {
         Proc::new(Nspace::of_host(), Rank::new(0))
     }
 
-    /// Whether a group may register the process: the namespace does not begin with `pmix`, and the rank
-    /// is at most 4095.
+    /// Returns whether a group may register the process: its namespace does not begin with `pmix`, and its rank is at most 4095.
     pub fn is_client(&self) -> bool
         ensures { result ≡ is_client self.now }
     {
         !self.nspace.is_reserved() && self.rank.number() <= MAX_RANK
     }
 
-    /// Whether it is the process `pmix.host 0`, which stands for the group's host.
+    /// Returns whether the process is `pmix.host 0`, which stands for the group's host.
     pub fn is_host(&self) -> bool
         ensures { result ≡ is_host self.now }
     {
         self.nspace.as_bytes() == HOST_NAME && self.rank.number() == 0
     }
 
-    /// Whether the process commits: a group may register it, or it stands for the group's host.
+    /// Returns whether the process commits: a group may register it, or it stands for the group's host.
     pub fn can_commit(&self) -> bool
         ensures { result ≡ can_commit self.now }
     {
         self.is_client() || self.is_host()
     }
 
-    /// Another handle of the same process.
+    /// Returns another handle of the same process.
     pub fn copy(&self) -> Result<Proc, AllocError>
         ensures { IfOk result (λ p. p ≡ self.now) }
     {
@@ -156,7 +155,7 @@ impl Model for NodeId {
 }
 
 impl NodeId {
-    /// The node of this index. Refused as BadParam past 63.
+    /// Returns the node of this index. Errors: `BadParam` past 63.
     pub fn new(index: u32) -> Result<NodeId, Refusal>
         ensures { result ≡ (if nat_le index MAX_NODE then Ok index else Err refusals.BadParam) }
     {
@@ -166,7 +165,7 @@ impl NodeId {
         Ok(NodeId::from_checked(index))
     }
 
-    /// The node of this index, which was tested already.
+    /// Returns the node of this index, which was tested already.
     pub fn from_checked(index: u32) -> NodeId
         requires { index ≤ MAX_NODE }
         ensures { result ≡ index }
@@ -174,7 +173,7 @@ impl NodeId {
         NodeId { index }
     }
 
-    /// The node's index.
+    /// Returns the node's index.
     pub fn index(self) -> u32
         ensures value { result ≡ self }
         ensures bound { result ≤ MAX_NODE }

@@ -7,7 +7,7 @@ use std::fmt;
 use std::fmt::{Display, Formatter, Write};
 use thiserror::Error;
 
-/// What is wrong with bytes that are read: the first fault, from the left.
+/// The first fault of bytes that are read, from the left.
 #[derive(Clone, Copy, Debug, PartialEq, Eq, Error)]
 pub enum Cause {
     Version,
@@ -35,7 +35,7 @@ pub enum Cause {
     Input,
 }
 
-/// A fault and where it stands, counted in bytes from the start of what is read.
+/// A fault with its offset, in bytes from the start of the input.
 #[derive(Clone, Copy, Debug, PartialEq, Eq, Error)]
 #[error("{cause} at {offset}")]
 pub struct Fault {
@@ -43,8 +43,8 @@ pub struct Fault {
     pub cause: Cause,
 }
 
-/// Why a call was refused. A refused call leaves what it was called on as it was. Each refusal has a
-/// number, which is this project's own (the standard's statuses are not claimed).
+/// The reason why a call was refused. A refused call leaves its object as it was. Each refusal has a number, which is this project's own
+/// (the standard's statuses are not claimed).
 #[derive(Clone, Copy, Debug, PartialEq, Eq, Error)]
 pub enum Refusal {
     /// Memory was wanted and not given.
@@ -63,17 +63,17 @@ pub enum Refusal {
     Busy,
     /// The process has terminated.
     Terminated,
-    /// The process is no participant of the fence that it would enter.
+    /// The process is not a participant of the fence that it would enter.
     NotAParticipant,
     /// A limit would be passed.
     TooMany,
-    /// The bytes are no frame: the first fault.
+    /// The bytes are not a frame: the first fault.
     BadFrame(Fault),
     /// The name is taken.
     Exists,
     /// Two accounts of the same events differ.
     Collision,
-    /// A reply on replay is another than the one that was recorded.
+    /// A reply on replay differs from the recorded one.
     Stale,
     /// No order puts each delivery after its sending.
     Unordered,
@@ -82,14 +82,14 @@ pub enum Refusal {
 }
 
 impl Refusal {
-    /// The refusal of bytes with that fault at that offset.
+    /// Returns the refusal of bytes with that fault at that offset.
     pub fn bad_frame(offset: u64, cause: Cause) -> Refusal
         ensures { result ≡ BadFrame (record { offset = offset; cause = cause }) }
     {
         Refusal::BadFrame(Fault { offset, cause })
     }
 
-    /// The refusal's number, 0 to 15.
+    /// Returns the refusal's number, 0 to 15.
     pub fn number(&self) -> u8
         ensures { result ≡ number_of self.now }
     {
@@ -113,7 +113,7 @@ impl Refusal {
         }
     }
 
-    /// The refusal's name.
+    /// Returns the refusal's name.
     pub fn name(&self) -> &'static str
         ensures { result.now ≡ name_of self.now }
     {
@@ -139,7 +139,7 @@ impl Refusal {
 }
 
 impl Cause {
-    /// The cause's name.
+    /// Returns the cause's name.
     pub fn name(&self) -> &'static str
         ensures { result.now ≡ cause_name self.now }
     {
@@ -177,7 +177,7 @@ impl Display for Cause {
     }
 }
 
-/// The number and the name, and the fault where there is one, as `9 TooMany` and `10 BadFrame: Hex at 3`.
+/// The number and the name, and the fault if there is one, as `9 TooMany` and `10 BadFrame: Hex at 3`.
 impl Display for Refusal {
     fn fmt<W: Write>(&self, f: &mut Formatter<W>) -> fmt::Result {
         write!(f, "{} {}", self.number(), self.name())?;

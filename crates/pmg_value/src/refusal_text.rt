@@ -22,8 +22,8 @@ impl Fault {
 }
 
 impl Refusal {
-    /// Writes the number and the name, as `9 TooMany`, and after them the fault where there is one, as
-    /// `10 BadFrame: Hex at 3`. Fails as `put_text` does.
+    /// Writes the number and the name, as `9 TooMany`, and after them the fault if there is one, as `10 BadFrame: Hex at 3`. Fails as
+    /// `put_text` does.
     #[tactic(auto, using(crate::proofs::WrittenLemmas::written_in_parts), unfolding(crate::specs::RefusalText::refusal_text))]
     pub fn write_text<W: Write>(&self, writer: &mut WatchedWriter<W>) -> Result<(), WriteFault>
         ensures text { Writes (W.contents writer.old.writer) (W.contents writer.new.writer)
@@ -36,7 +36,7 @@ impl Refusal {
         self.write_detail(writer)
     }
 
-    /// What stands after the name: the fault, where there is one.
+    /// Writes the text after the name: the fault, if there is one.
     #[tactic(auto, using(crate::proofs::WrittenLemmas::written_in_parts), unfolding(crate::specs::RefusalText::detail_text))]
     fn write_detail<W: Write>(&self, writer: &mut WatchedWriter<W>) -> Result<(), WriteFault>
         ensures text { Writes (W.contents writer.old.writer) (W.contents writer.new.writer)

@@ -1,4 +1,4 @@
-//! Rows of keys and values that change, and whose change is taken back.
+//! Rows of keys and values that change, and changes that are taken back.
 ghost use Rattle.std.specs.Prelude.{◌≡◌, OnOk, OnErr};
 ghost use Rattle.std.specs.BTreeMap.{get};
 ghost use Rattle.std.specs.Option.{unwrap_or};
@@ -9,7 +9,7 @@ use std::alloc::AllocError;
 use std::collections::BTreeMap;
 use std::mem;
 
-/// What takes in one part after another, where memory allows: `MayFail` says where taking a part in may need some.
+/// Objects that take in one part after another, if memory allows. `MayFail` says when a part may need memory.
 pub trait Growable: Drop {
     type Part: Drop;
 
@@ -17,15 +17,15 @@ pub trait Growable: Drop {
 
     ghost MayFail: { Self → Self.Part → Type 0 };
 
-    /// Takes the part in. Where an allocation fails, nothing changes.
+    /// Takes the part in. If an allocation fails, nothing changes.
     fn grow(&mut self, part: Self::Part) -> Result<(), AllocError>
         ensures ok { OnOk result (self.new ≡ grown self.old part) }
         ensures err { OnErr result (self.new ≡ self.old) }
         ensures may_fail { OnErr result (MayFail self.old part) };
 }
 
-/// What is under the key takes the part in; where nothing is, the first one does, and is put there. Where an allocation
-/// fails, the rows stay as they are.
+/// Has the object under the key take the part in; without one, puts an object there that took in only this part. If an allocation fails,
+/// the rows stay as they are.
 pub fn grow_row<K: Ord + Copied, V: Growable>(
     rows: &mut BTreeMap<K, V>,
     key: &K,
@@ -45,8 +45,7 @@ pub fn grow_row<K: Ord + Copied, V: Growable>(
     Ok(())
 }
 
-/// Puts back what was under the key before it was changed there: nothing, or a value in the place of the one that is
-/// there. It takes no memory.
+/// Puts back the earlier content under the key: nothing, or a value in place of the value that is there. It takes no memory.
 pub fn put_back<K: Ord + Drop, V: Drop>(rows: &mut BTreeMap<K, V>, key: &K, before: Option<V>)
     ensures { (q : K) → get K.cmp rows.new q ≡ back_at K.cmp key.now before (get K.cmp rows.old) q }
 {

@@ -1,4 +1,4 @@
-//! Bytes of which few stand in place, and more are shared.
+//! Bytes that are in place if they are few, and else shared.
 ghost use Rattle.std.specs.Prelude.{◌≡◌, ◌≤◌, get_or, length, nat_eq, IfOk};
 ghost use Rattle.std.specs.Cmp.{partial_equiv_from_equiv};
 ghost use Rattle.std.specs.Cmp.Lexicographic.{pointwise, nat_list_eq_equiv};
@@ -8,13 +8,13 @@ use std::alloc::{AllocError, Global};
 use std::marker::Model;
 use std::sync::Arc;
 
-/// The most bytes that are kept in place.
+/// The most bytes that are in place.
 pub(crate) const MAX_IN_PLACE: usize = 22;
 
-/// How many bytes are read as one number.
+/// The number of bytes that are read as one number.
 const EIGHT: usize = 8;
 
-/// At most 22 bytes, which stand where they are kept, and zeros in the places after them.
+/// At most 22 bytes in place, with zeros after them.
 #[derive(Drop)]
 struct InPlace {
     len: u8,
@@ -33,7 +33,7 @@ impl Model for InPlace {
 }
 
 impl InPlace {
-    /// These bytes.
+    /// Keeps these bytes.
     #[inline(always)]
     fn of(bytes: &[u8]) -> InPlace
         requires { length bytes.now ≤ MAX_IN_PLACE }
@@ -47,14 +47,14 @@ impl InPlace {
         }
     }
 
-    /// The bytes.
+    /// Returns the bytes.
     fn as_bytes(&self) -> &[u8]
         ensures { result.now ≡ self.now }
     {
         &self.bytes[..self.len as usize]
     }
 
-    /// The first eight bytes as a number, with zeros in the place of those that there are not.
+    /// Returns the first eight bytes as a number, with zeros for missing bytes.
     fn first_eight(&self) -> u64
         ensures { result ≡ first_eight self.now }
     {
@@ -62,7 +62,7 @@ impl InPlace {
         u64::from_be_bytes([at[0], at[1], at[2], at[3], at[4], at[5], at[6], at[7]])
     }
 
-    /// The eight bytes after the first eight as a number, with zeros in the place of those that there are not.
+    /// Returns the eight bytes after the first eight as a number, with zeros for missing bytes.
     fn second_eight(&self) -> u64
         ensures { result ≡ second_eight self.now }
     {
@@ -70,7 +70,7 @@ impl InPlace {
         u64::from_be_bytes([at[8], at[9], at[10], at[11], at[12], at[13], at[14], at[15]])
     }
 
-    /// The same bytes.
+    /// Returns a copy.
     fn copy(&self) -> InPlace
         ensures { result ≡ self.now }
     {
@@ -81,9 +81,9 @@ impl InPlace {
     }
 }
 
-/// Where bytes are.
+/// The storage of bytes.
 enum Place {
-    /// Where they are kept.
+    /// In place.
     Here(InPlace),
     /// In a block that all copies share.
     Shared(Arc<Vec<u8>>),
@@ -98,7 +98,7 @@ impl Drop for Place {
     }
 }
 
-/// Bytes that do not change. At most 22 take no memory, and copies of more share them.
+/// Bytes that do not change. At most 22 bytes take no memory, and copies of more bytes share them.
 pub(crate) struct SmallBytes {
     place: Place,
 }
@@ -119,7 +119,7 @@ impl Model for SmallBytes {
 }
 
 impl SmallBytes {
-    /// These bytes.
+    /// Keeps these bytes.
     pub fn of(alloc: Global, bytes: &[u8]) -> Result<SmallBytes, AllocError>
         ensures { IfOk result (λ s. s ≡ bytes.now) }
     {
@@ -133,7 +133,7 @@ impl SmallBytes {
         })
     }
 
-    /// These bytes, which are few.
+    /// Keeps these bytes, which are few.
     #[inline(always)]
     pub fn few(bytes: &[u8]) -> SmallBytes
         requires { length bytes.now ≤ MAX_IN_PLACE }
@@ -144,7 +144,7 @@ impl SmallBytes {
         }
     }
 
-    /// The bytes.
+    /// Returns the bytes.
     pub fn as_bytes(&self) -> &[u8]
         ensures { result.now ≡ self.now }
     {
@@ -154,7 +154,7 @@ impl SmallBytes {
         }
     }
 
-    /// The first eight bytes as a number, with zeros in the place of those that there are not.
+    /// Returns the first eight bytes as a number, with zeros for missing bytes.
     #[inline(always)]
     pub fn first_eight(&self) -> u64
         ensures { result ≡ first_eight self.now }
@@ -165,7 +165,7 @@ impl SmallBytes {
         }
     }
 
-    /// The eight bytes after the first eight as a number, with zeros in the place of those that there are not.
+    /// Returns the eight bytes after the first eight as a number, with zeros for missing bytes.
     #[inline(always)]
     pub fn second_eight(&self) -> u64
         ensures { result ≡ second_eight self.now }
@@ -176,7 +176,7 @@ impl SmallBytes {
         }
     }
 
-    /// The same bytes.
+    /// Returns a copy.
     pub fn copy(&self) -> Result<SmallBytes, AllocError>
         ensures { IfOk result (λ s. s ≡ self.now) }
     {
@@ -202,7 +202,7 @@ impl Eq for SmallBytes {
     ghost laws = { nat_list_eq_equiv };
 }
 
-/// The byte at the index, 0 where there is none.
+/// Returns the byte at the index, or 0 past the end.
 fn byte_at(bytes: &[u8], index: usize) -> u64
     ensures value { result ≡ get_or bytes.now index 0 }
     ensures bound { result ≤ 255 }
@@ -213,7 +213,7 @@ fn byte_at(bytes: &[u8], index: usize) -> u64
     }
 }
 
-/// The first eight bytes as a number, with zeros in the place of those that there are not.
+/// Returns the first eight bytes as a number, with zeros for missing bytes.
 pub(crate) fn front_of(bytes: &[u8]) -> u64
     ensures { result ≡ first_eight bytes.now }
 {
@@ -229,7 +229,7 @@ pub(crate) fn front_of(bytes: &[u8]) -> u64
     ((first * 65_536 + second) * 65_536 + third) * 65_536 + fourth
 }
 
-/// The eight bytes after the first eight as a number, with zeros in the place of those that there are not.
+/// Returns the eight bytes after the first eight as a number, with zeros for missing bytes.
 pub(crate) fn second_of(bytes: &[u8]) -> u64
     ensures { result ≡ second_eight bytes.now }
 {

@@ -15,8 +15,8 @@ use std::alloc::{AllocError, Global};
 /// The greatest size of a value, in canonical bytes.
 pub const MAX_VALUE_SIZE: usize = 1_048_576;
 
-/// A value that a process puts under a key (PMIx Standard 5.0, pmix_value_t). Each value has exactly
-/// one spelling, its canonical bytes: a tag, and a body of the tag's form.
+/// A value that a process puts under a key (PMIx Standard 5.0, pmix_value_t). Each value has exactly one encoding, its canonical bytes: a
+/// tag, and a body of the tag's form.
 #[cycle(value)]
 pub enum Value {
     /// PMIX_BOOL.
@@ -87,33 +87,31 @@ impl Drop for Value {
 }
 
 impl Value {
-    /// The string of these bytes. Refused as BadParam where one is zero or the value would be longer than
-    /// 1,048,576 canonical bytes, and as NoMemory.
+    /// Returns the string of these bytes. Errors: `BadParam` for a zero byte, or if the value would be longer than 1,048,576 canonical
+    /// bytes; `NoMemory`.
     pub fn string(alloc: Global, text: &[u8]) -> Result<Value, Refusal>
         ensures { Gives (λ v. v) result (if is_text text.now then Ok (values.Str text.now) else Err refusals.BadParam) }
     {
         Ok(Value::Str(Text::read(alloc, text)?))
     }
 
-    /// The byte object of these bytes. Refused as BadParam where the value would be longer than 1,048,576
-    /// canonical bytes, and as NoMemory.
+    /// Returns the byte object of these bytes. Errors: `BadParam` if the value would be longer than 1,048,576 canonical bytes; `NoMemory`.
     pub fn bytes(alloc: Global, bytes: &[u8]) -> Result<Value, Refusal>
         ensures { Gives (λ v. v) result (if is_blob bytes.now then Ok (values.Bytes bytes.now) else Err refusals.BadParam) }
     {
         Ok(Value::Bytes(Octets::read(alloc, bytes)?))
     }
 
-    /// The array of these items, whose kind has that tag. Refused as BadParam where the tag is that of an
-    /// array or of no kind, where an item is of another kind, and where the value would be longer than
-    /// 1,048,576 canonical bytes.
+    /// Returns the array of these items, whose kind has that tag. Errors: `BadParam` if the tag is the array's or of no kind, if an item is
+    /// of another kind, or if the value would be longer than 1,048,576 canonical bytes.
     pub fn array(tag: u8, items: Vec<Value>) -> Result<Value, Refusal>
         ensures { result ≡ (if makes_array tag items.items then Ok (values.Array (elements tag items.items)) else Err refusals.BadParam) }
     {
         Ok(Value::Array(Array::new(tag, items)?))
     }
 
-    /// The array of these numbers, whose kind has that tag, and is one of numbers. Refused as BadParam where the value would be longer
-    /// than 1,048,576 canonical bytes.
+    /// Returns the array of these numbers, whose kind has that tag and is a kind of numbers. Errors: `BadParam` if the value would be
+    /// longer than 1,048,576 canonical bytes.
     pub fn numbers(tag: u8, numbers: Vec<u64>) -> Result<Value, Refusal>
         requires { 0 < number_width tag }
         ensures { result ≡ (if makes_array tag (map (number_value tag) numbers.items) then Ok (values.Array (elements tag (map (number_value tag) numbers.items))) else Err refusals.BadParam) }
@@ -121,7 +119,7 @@ impl Value {
         Ok(Value::Array(Array::of_numbers(tag, numbers)?))
     }
 
-    /// The tag, the first of the canonical bytes.
+    /// Returns the tag, the first of the canonical bytes.
     pub fn tag(&self) -> u8
         ensures { result ≡ tag_of self.now }
     {
@@ -148,7 +146,7 @@ impl Value {
         }
     }
 
-    /// The number of the canonical bytes.
+    /// Returns the number of the canonical bytes.
     pub fn size(&self) -> usize
         ensures value { result ≡ length (spelling self.now) }
         ensures bound { result ≤ MAX_VALUE_SIZE }
@@ -166,7 +164,7 @@ impl Value {
         }
     }
 
-    /// A copy, equal to this value.
+    /// Returns a copy, equal to this value.
     #[cycle(copy)]
     pub fn copy(&self) -> Result<Value, AllocError>
         ensures { IfOk result (λ v. v ≡ self.now) }

@@ -20,7 +20,7 @@ use std::alloc::{AllocError, Global};
 use std::io::Write;
 
 impl Value {
-    /// Writes the value's text: the kind's name, a colon, and what the value holds. Fails as `put_text` does.
+    /// Writes the value's text: the kind's name, a colon, and the content. Fails as `put_text` does.
     pub fn write_text<W: Write>(&self, writer: &mut WatchedWriter<W>) -> Result<(), WriteFault>
         ensures text { Writes (W.contents writer.old.writer) (W.contents writer.new.writer)
             result (text_of self.now) }
@@ -40,7 +40,7 @@ impl Value {
         put_held(writer, indented_prefix(self.tag()), self)
     }
 
-    /// The value's text, in memory.
+    /// Returns the value's text, in memory.
     pub fn to_text(&self, alloc: Global) -> Result<Vec<u8>, AllocError>
         ensures text { IfOk result (λ text. text.items ≡ text_of self.now) }
         ensures is { OnOk result (IsValue self.now) }
@@ -53,7 +53,7 @@ impl Value {
     }
 }
 
-/// Two blanks, the name of the kind with that tag, and a colon.
+/// Returns two blanks, the name of the kind with that tag, and a colon.
 fn indented_prefix(tag: u8) -> &'static [u8]
     ensures { result.now ≡ codes "  " ++ (kind_name tag ++ codes ":") }
 {
@@ -80,14 +80,14 @@ fn indented_prefix(tag: u8) -> &'static [u8]
     }
 }
 
-/// The name of the kind with that tag, and a colon.
+/// Returns the name of the kind with that tag, and a colon.
 fn kind_prefix(tag: u8) -> &'static [u8]
     ensures { result.now ≡ kind_name tag ++ codes ":" }
 {
     &indented_prefix(tag)[2..]
 }
 
-/// The name of the kind with that tag.
+/// Returns the name of the kind with that tag.
 fn kind_name(tag: u8) -> &'static [u8]
     ensures { result.now ≡ kind_name tag }
 {
@@ -95,7 +95,7 @@ fn kind_name(tag: u8) -> &'static [u8]
     &prefix[..prefix.len() - 1]
 }
 
-/// A text, and what a value holds without its kind's name.
+/// Writes a text, and a value's content without its kind's name.
 #[cycle(put_held)]
 fn put_held<W: Write>(
     writer: &mut WatchedWriter<W>,
@@ -131,7 +131,7 @@ fn put_held<W: Write>(
     }
 }
 
-/// A text, and another.
+/// Writes a text, and another.
 #[tactic(auto, using(crate::proofs::WrittenLemmas::written_in_parts))]
 fn put_text_after<W: Write>(
     writer: &mut WatchedWriter<W>,
@@ -146,7 +146,7 @@ fn put_text_after<W: Write>(
     writer.put_text(text)
 }
 
-/// A text, and bytes in hexadecimal.
+/// Writes a text, and bytes in hexadecimal.
 #[tactic(auto, using(crate::proofs::WrittenLemmas::written_in_parts))]
 fn put_hex_after<W: Write>(
     writer: &mut WatchedWriter<W>,
@@ -161,7 +161,7 @@ fn put_hex_after<W: Write>(
     writer.put_hex(bytes)
 }
 
-/// A text, and a number in decimal.
+/// Writes a text, and a number in decimal.
 #[tactic(auto, using(crate::proofs::WrittenLemmas::written_in_parts))]
 fn put_number_after<W: Write>(
     writer: &mut WatchedWriter<W>,
@@ -176,7 +176,7 @@ fn put_number_after<W: Write>(
     writer.put_number(number)
 }
 
-/// A text, and an integer in decimal.
+/// Writes a text, and an integer in decimal.
 #[tactic(auto, using(crate::proofs::WrittenLemmas::written_in_parts))]
 fn put_signed_after<W: Write>(
     writer: &mut WatchedWriter<W>,
@@ -191,7 +191,7 @@ fn put_signed_after<W: Write>(
     writer.put_signed(integer)
 }
 
-/// A text, and a process: the namespace in hexadecimal, and the rank.
+/// Writes a text, and a process: the namespace in hexadecimal, and the rank.
 fn put_process<W: Write>(
     writer: &mut WatchedWriter<W>,
     before: &[u8],
@@ -209,7 +209,7 @@ fn put_process<W: Write>(
     put_number_after(writer, b"/", u64::from(rank))
 }
 
-/// A text, and an array: the name of its items' kind, and what they hold in brackets.
+/// Writes a text, and an array: the name of its items' kind, and their contents in brackets.
 #[cycle(put_held)]
 fn put_array<W: Write>(
     writer: &mut WatchedWriter<W>,
@@ -228,7 +228,7 @@ fn put_array<W: Write>(
     writer.put_text(b"]")
 }
 
-/// What the items hold, one after another, with commas between them.
+/// Writes the contents of the items, with commas between them.
 #[cycle(put_held)]
 fn put_items<W: Write>(writer: &mut WatchedWriter<W>, items: Items<'_>) -> Result<(), WriteFault>
     requires { IsTrue (are_plain (items_in items)) }
@@ -243,7 +243,7 @@ fn put_items<W: Write>(writer: &mut WatchedWriter<W>, items: Items<'_>) -> Resul
     put_others(writer, others)
 }
 
-/// A comma before each item, and what it holds.
+/// Writes a comma before each item, and its content.
 #[cycle(put_held)]
 fn put_others<W: Write>(writer: &mut WatchedWriter<W>, items: Items<'_>) -> Result<(), WriteFault>
     requires { IsTrue (are_plain (items_in items)) }
@@ -258,7 +258,7 @@ fn put_others<W: Write>(writer: &mut WatchedWriter<W>, items: Items<'_>) -> Resu
     Ok(())
 }
 
-/// A comma, and what the item holds.
+/// Writes a comma, and the content of the item.
 #[cycle(put_held)]
 fn put_next<W: Write>(writer: &mut WatchedWriter<W>, item: &Value) -> Result<(), WriteFault>
     requires { IsTrue (is_plain_form (form item.now)) }

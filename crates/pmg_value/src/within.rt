@@ -1,13 +1,13 @@
-//! Tests that bytes lie within bounds, eight at once.
+//! Tests whether bytes are within bounds, eight at once.
 ghost use Rattle.std.specs.Prelude.{◌≡◌, length};
 ghost use Rattle.std.specs.List.{list_all};
 ghost use Rattle.pmg_value.specs.Within.{lies_within};
 ghost use Rattle.pmg_value.specs.declared.within.TheConstants.{AT_ONCE};
 
-/// How many bytes are tested at once.
+/// The number of bytes that are tested at once.
 const AT_ONCE: usize = 8;
 
-/// Whether each byte is one of `least` to `most`.
+/// Returns whether each byte is one of `least` to `most`.
 #[inline(always)]
 pub(crate) fn all_within(least: u8, most: u8, bytes: &[u8]) -> bool
     ensures { result ≡ list_all (lies_within least most) bytes.now }
@@ -23,7 +23,7 @@ pub(crate) fn all_within(least: u8, most: u8, bytes: &[u8]) -> bool
     each_within(least, most, rest)
 }
 
-/// Whether each of eight bytes is one of `least` to `most`: no byte's test waits for another's.
+/// Returns whether each of eight bytes is one of `least` to `most`. No byte's test waits for another's.
 #[inline(always)]
 fn eight_within(least: u8, most: u8, eight: &[u8]) -> bool
     requires { length eight.now ≡ AT_ONCE }
@@ -39,7 +39,7 @@ fn eight_within(least: u8, most: u8, eight: &[u8]) -> bool
         & lies_within(least, most, eight[7])
 }
 
-/// Whether each byte is one of `least` to `most`, one after another.
+/// Returns whether each byte is one of `least` to `most`, one after another.
 #[inline(always)]
 fn each_within(least: u8, most: u8, bytes: &[u8]) -> bool
     ensures { result ≡ list_all (lies_within least most) bytes.now }
@@ -52,7 +52,7 @@ fn each_within(least: u8, most: u8, bytes: &[u8]) -> bool
     true
 }
 
-/// Whether the byte is one of `least` to `most`.
+/// Returns whether the byte is one of `least` to `most`.
 fn lies_within(least: u8, most: u8, byte: u8) -> bool
     ensures { result ≡ lies_within least most byte }
 {

@@ -14,12 +14,11 @@ use std::alloc::{AllocError, Global};
 use std::cmp::Ordering;
 use std::marker::Model;
 
-/// How many values a byte has. A multiple of it ends in a zero, which no word has.
+/// The number of values of a byte. A multiple of it ends in a zero, which no word has.
 const BYTE: u64 = 256;
 
-/// A text of printable ASCII, whose first bytes are kept beside it as two numbers, so that most words are told apart without a
-/// look at their bytes. Its order is that of its bytes. One of at most 22 bytes takes no memory, and copies of a longer one share
-/// its bytes.
+/// A text of printable ASCII. Its first bytes are kept beside it as two numbers, which tell most words apart without a look at the bytes.
+/// Its order is the order of its bytes. A word of at most 22 bytes takes no memory, and copies of a longer word share its bytes.
 pub(crate) struct Word {
     first: u64,
     second: u64,
@@ -53,7 +52,7 @@ impl Model for Word {
 }
 
 impl Word {
-    /// The word of these bytes.
+    /// Returns the word of these bytes.
     #[inline(always)]
     pub fn of(alloc: Global, bytes: &[u8]) -> Result<Word, AllocError>
         requires { IsTrue (list_all is_printable bytes.now) }
@@ -67,7 +66,7 @@ impl Word {
         })
     }
 
-    /// The word of these bytes, which are few.
+    /// Returns the word of these bytes, which are few.
     #[inline(always)]
     pub fn short(bytes: &[u8]) -> Word
         requires printable { IsTrue (list_all is_printable bytes.now) }
@@ -81,14 +80,14 @@ impl Word {
         }
     }
 
-    /// The bytes.
+    /// Returns the bytes.
     pub fn as_bytes(&self) -> &[u8]
         ensures { result.now ≡ self.now }
     {
         self.text.as_bytes()
     }
 
-    /// Another handle of the same bytes.
+    /// Returns another handle of the same bytes.
     pub fn copy(&self) -> Result<Word, AllocError>
         ensures { IfOk result (λ w. w ≡ self.now) }
     {
@@ -99,7 +98,7 @@ impl Word {
         })
     }
 
-    /// How the words compare, by their bytes.
+    /// Compares the words by their bytes.
     fn compare(&self, other: &Word) -> Ordering
         ensures { result ≡ slice_cmp nat_cmp self.now other.now }
     {
@@ -115,7 +114,7 @@ impl Word {
         self.compare_bytes(other)
     }
 
-    /// The same, by all bytes, as few words need it. A call of its own, so that the others are compared without a frame on the stack.
+    /// Compares the words by all their bytes, as few words need it. It is not inlined, so that the common comparison needs no stack frame.
     #[inline(never)]
     fn compare_bytes(&self, other: &Word) -> Ordering
         ensures { result ≡ slice_cmp nat_cmp self.now other.now }

@@ -1,6 +1,6 @@
-//! Texts written to any writer, with no memory of their own.
+//! Writes texts to any writer, without memory of its own.
 //!
-//! Where a writer fails, what it took before is a prefix of the text: nothing out of order, nothing else.
+//! If a writer fails, it has taken a prefix of the text, in order, and nothing else.
 ghost use Rattle.std.specs.Prelude.{◌≡◌, ◌<◌, ◌≤◌, ◌++◌, decimal, length, IfOk, OnOk, OnErr, IsSome, IsNone, IsTrue, is_some};
 ghost use Rattle.std.specs.Fmt.{signed_decimal};
 ghost use Rattle.std.specs.Option.{option_copied};
@@ -16,19 +16,19 @@ use std::io;
 use std::io::{ErrorKind, Write};
 use thiserror::Error;
 
-/// How many bytes of short texts are written at once.
+/// The number of bytes of short texts that are written at once.
 const SHORT_LEN: usize = 32;
 
-/// How many bytes are written in hexadecimal at once.
+/// The number of bytes that are written in hexadecimal at once.
 const HEX_PIECE: usize = 32;
 
-/// The writer failed: why, its `WatchedWriter` knows.
+/// The writer failed; its `WatchedWriter` has the reason.
 #[derive(Clone, Copy, Debug, PartialEq, Eq, Error)]
 #[error("write fault")]
 pub struct WriteFault;
 
-/// A writer that remembers whether it failed, and whether all that it took was flushed. Once it has failed nothing
-/// more is written to it.
+/// A writer that remembers whether it failed, and whether everything that it took was flushed. After a failure nothing more is written to
+/// it.
 #[derive(Drop)]
 pub struct WatchedWriter<W> {
     writer: W,
@@ -37,7 +37,7 @@ pub struct WatchedWriter<W> {
 }
 
 impl<W: Write> WatchedWriter<W> {
-    /// A writer that has not failed, and has taken nothing.
+    /// Watches a writer that has not failed, and has taken nothing.
     pub fn new(writer: W) -> WatchedWriter<W>
         ensures writer { result.writer ≡ writer }
         ensures failure { IsNone result.failure }
@@ -50,21 +50,21 @@ impl<W: Write> WatchedWriter<W> {
         }
     }
 
-    /// Whether the writer has failed.
+    /// Returns whether the writer has failed.
     pub fn has_failed(&self) -> bool
         ensures { result ≡ is_some self.now.failure }
     {
         self.failure.is_some()
     }
 
-    /// Why the writer failed, where it has.
+    /// Returns why the writer failed, if it has.
     pub fn failure(&self) -> Option<&io::Error>
         ensures { option_copied result ≡ self.now.failure }
     {
         self.failure.as_ref()
     }
 
-    /// The writer, with what it holds.
+    /// Returns the writer, with its content.
     pub fn into_inner(self) -> W
         ensures { result ≡ self.writer }
     {
@@ -80,8 +80,7 @@ impl<W: Write> WatchedWriter<W> {
         WriteFault
     }
 
-    /// Writes once, and says how many bytes were taken: none where the write was interrupted. The one place that
-    /// writes.
+    /// Writes once, and returns how many bytes were taken: none if the write was interrupted. No other function writes.
     #[inline(always)]
     fn write(&mut self, text: &[u8]) -> Result<usize, WriteFault>
         ensures bound { IfOk result (λ taken. taken ≤ length text.now) }
@@ -102,11 +101,10 @@ impl<W: Write> WatchedWriter<W> {
         }
     }
 
-    /// Writes all of `text`, and tries again where a write is interrupted.
+    /// Writes all of `text`, and tries an interrupted write again.
     ///
-    /// Fails where the writer has failed before, and then writes nothing; with the writer's error; with `WriteZero`
-    /// where the writer takes nothing; with `TimedOut` after 2^64 - 1 writes. What it wrote by then is a prefix of
-    /// `text`.
+    /// Errors: the writer's error; `WriteZero` if the writer takes nothing; `TimedOut` after 2^64 - 1 writes. If the writer has failed
+    /// before, the call fails and writes nothing. A failed call has written a prefix of `text`.
     pub fn put_text(&mut self, text: &[u8]) -> Result<(), WriteFault>
         ensures text { Writes (W.contents self.old.writer) (W.contents self.new.writer)
             result text.now }
@@ -128,7 +126,7 @@ impl<W: Write> WatchedWriter<W> {
         self.put_rest(&text[taken..])
     }
 
-    /// Writes three texts one after another, at once where they are short.
+    /// Writes three texts one after another, at once if they are short.
     #[inline(always)]
     pub fn put_texts(&mut self, first: &[u8], second: &[u8], third: &[u8]) -> Result<(), WriteFault>
         ensures text { Writes (W.contents self.old.writer) (W.contents self.new.writer)
@@ -156,7 +154,7 @@ impl<W: Write> WatchedWriter<W> {
         self.put_text(third)
     }
 
-    /// Writes what is left of a text of which some was written, as `put_text` writes.
+    /// Writes the rest of a text of which some was written, as `put_text` writes.
     #[cold]
     #[inline(never)]
     fn put_rest(&mut self, text: &[u8]) -> Result<(), WriteFault>
@@ -219,7 +217,7 @@ impl<W: Write> WatchedWriter<W> {
         self.put_texts(before, buffer.format(number).as_bytes(), after)
     }
 
-    /// Writes `integer` in decimal, `-` before its digits where it is negative, as `put_text` writes.
+    /// Writes `integer` in decimal, with `-` before its digits if it is negative, as `put_text` writes.
     pub fn put_signed(&mut self, integer: i64) -> Result<(), WriteFault>
         ensures text { Writes (W.contents self.old.writer) (W.contents self.new.writer) result
             (signed_decimal integer) }

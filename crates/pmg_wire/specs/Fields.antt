@@ -1,4 +1,4 @@
--- How keys, processes and values are read.
+-- The reading of keys, processes and values.
 use Rattle.std.specs.Prelude.{ℕ, ◌+◌, ◌-◌, ◌==◌, Bool, ◌&&◌, ◌||◌, not, nat_lt, nat_le, List, length, Option, Some, None, Result, Ok, Err, if◌then◌else◌}
 use Rattle.std.specs.Int.{w8, w16, w32, w64, cast_signed}
 use Rattle.std.specs.Str.{bytes_eq}
@@ -30,17 +30,17 @@ read_key at = do
   _ ← check (is_key key.0) (fault at.offset causes.Key)
   Ok key
 
--- a process that may stand here
+-- a process that the place allows
 abbrev pub is_admitted : Admits → Proc → Bool
 is_admitted admits.Clients p = is_client p
 is_admitted admits.ClientsAndHost p = is_client p || is_host p
 
--- a namespace that may stand here
+-- a namespace that the place allows
 abbrev pub is_named : Admits → List ℕ → Bool
 is_named admits.Clients name = is_nspace name && not (is_reserved name)
 is_named admits.ClientsAndHost name = is_nspace name && (not (is_reserved name) || bytes_eq name host_name)
 
--- a rank that may stand after the namespace
+-- a rank that may follow the namespace
 abbrev pub is_ranked : List ℕ → ℕ → Bool
 is_ranked name rank = if bytes_eq name host_name then rank == 0 else nat_le rank MAX_RANK
 
@@ -62,7 +62,7 @@ read_flag at = do
   _ ← check (nat_lt byte.0 2) (fault at.offset causes.Bool)
   Ok (byte.0 == 1, byte.1)
 
--- the bytes of a string hold no zero: where the first one stands, if any, and where the bytes start
+-- a string has no zero byte; given are the index of its first zero byte, if there is one, and the offset of its bytes
 abbrev pub check_text : Option ℕ → ℕ → Result (Unit {0}) Fault
 check_text None start = Ok tt
 check_text (Some i) start = Err (fault (start + i) causes.Text)
@@ -89,15 +89,15 @@ read_any_proc at = do
   rank ← number_at w32 name.1
   Ok (record { nspace = name.0; rank = rank.0 }, rank.1)
 
--- something of that kind, made of what is read
+-- a thing of that kind, made of what is read
 abbrev pub made : {X Y : Type 0} → (X → Y) → Read X → Read Y
 made kind read = read >>= λ x. Ok (kind x.0, x.1)
 
--- what is read is passed over: where reading stands after it, or the first fault
+-- what is read is passed over: the place after it, or the first fault
 abbrev pub passed : {X : Type 0} → Read X → Read (Unit {0})
 passed read = read >>= λ x. Ok (tt, x.1)
 
--- the body of a value with this tag, which is no array's
+-- the body of a value with this tag, which is not an array's tag
 unfoldable pub read_plain : ℕ → Place → Read Plain
 read_plain tag at =
     if tag == 1 then made Plain.bool (read_flag at)
@@ -132,7 +132,7 @@ read_array at = do
 unfoldable pub read_value_body : ℕ → Place → Read Form
 read_value_body tag at = if tag == 19 then made Form.array (read_array at) else made Form.plain (read_plain tag at)
 
--- a value: its tag and its body, and after these how long it is
+-- a value: its tag and its body, and then its length
 unfoldable pub read_value : Place → Read Value
 read_value at = do
   tag ← byte_at at

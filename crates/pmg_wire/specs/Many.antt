@@ -2,7 +2,7 @@
 use Rattle.std.specs.Prelude.{ℕ, zero, suc, List, [], ◌∷◌, Option, Some, Ok}
 use Rattle.pmg_wire.specs.Reading.{Place, Read, ◌>>=◌}
 
--- So many elements, one after another. A reader of elements is given the element before, where there is one.
+-- So many elements, one after another. A reader of elements gets the element before, if there is one.
 unfoldable pub many : {X : Type 0} → (Option X → Place → Read X) → ℕ → Option X → Place → Read (List X)
 many read zero before at = Ok ([], at)
 many read (suc n) before at = do

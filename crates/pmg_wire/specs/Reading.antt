@@ -7,7 +7,7 @@ use Rattle.pmg_value.specs.declared.refusal.Fault.{Fault}
 use Rattle.pmg_value.specs.declared.refusal.Refusal.{Refusal}
 use Rattle.pmg_value.specs.declared.refusal.Refusal.TheVariants as refusals
 
--- where reading stands: the offset in the whole, and the bytes that are left
+-- a position of a reader: the offset in the whole, and the bytes that are left
 pub record Place : Type 0 where
   pub offset : ℕ
   pub rest : List ℕ
@@ -16,7 +16,7 @@ pub record Place : Type 0 where
 abbrev pub past : Place → ℕ → Place
 past at n = record { offset = at.offset + n; rest = drop n at.rest }
 
--- the next n bytes alone
+-- only the next n bytes
 abbrev pub front : ℕ → Place → Place
 front n at = record { offset = at.offset; rest = take n at.rest }
 
@@ -24,7 +24,7 @@ front n at = record { offset = at.offset; rest = take n at.rest }
 abbrev pub fault : ℕ → Cause → Fault
 fault offset cause = record { offset = offset; cause = cause }
 
--- what reading a field gives: the field and the place after it, or the first fault
+-- the result of reading a field: the field and the place after it, or the first fault
 abbrev pub Read : Type 0 → Type 0
 Read X = Result (X × Place) Fault
 
@@ -55,23 +55,23 @@ number_at w at = read_bytes (byte_len w) at >>= λ b. Ok (from_be_bytes w b.0, b
 abbrev pub IsBytes : List ℕ → Type 0
 IsBytes bytes = (i : ℕ) → get_or bytes i 0 < 256
 
--- Reading fails with this refusal. Want of memory is left open; a reader gives no other refusal than a fault.
+-- Reading fails with this refusal. NoMemory is left open; any other refusal of a reader is a fault.
 abbrev pub FailsReading : {Y : Type 0} → Refusal → Result Y Fault → Type 0
 FailsReading refusals.NoMemory read = Unit {0}
 FailsReading (refusals.BadFrame f) read = read ≡ Err f
 FailsReading e read = ⊥
 
--- What a reader answered, seen by view, and where it left the cursor, are what reading gives, unless memory ran out.
+-- A reader's answer, seen by view, and the position of its cursor are the result of reading, unless memory ran out.
 abbrev pub Reads : {X Y : Type 0} → (X → Y) → Result X Refusal → Place → Read Y → Type 0
 Reads view (Ok x) new read = read ≡ Ok (view x, new)
 Reads view (Err e) new read = FailsReading e read
 
--- From one place to a later one stands this text.
+-- This text is between one place and a later one.
 pub record Takes (at : Place) (text : List ℕ) (after : Place) : Type 0 where
   pub parts : at.rest ≡ text ++ after.rest
   pub place : after.offset ≡ at.offset + length text
 
--- What a reader of all the bytes answered, seen by view, is what reading gives, unless memory ran out.
+-- The answer of a reader of all the bytes, seen by view, is the result of reading, unless memory ran out.
 abbrev pub ReadsAll : {X Y : Type 0} → (X → Y) → Result X Refusal → Result Y Fault → Type 0
 ReadsAll view (Ok x) read = read ≡ Ok (view x)
 ReadsAll view (Err e) read = FailsReading e read

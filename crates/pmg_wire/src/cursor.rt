@@ -5,7 +5,7 @@ ghost use Rattle.pmg_wire.specs.Reading.{Place, IsBytes, Reads, past, front, rea
 use pmg_value::{Cause, Refusal};
 use std::marker::Model;
 
-/// A place in bytes that are read from left to right: the offset in the whole, and the bytes left.
+/// A position in bytes that are read from left to right: the offset in the whole, and the bytes left.
 #[derive(Drop)]
 pub struct Cursor<'a> {
     offset: u64,
@@ -24,7 +24,7 @@ impl<'a> Model for Cursor<'a> {
 }
 
 impl<'a> Cursor<'a> {
-    /// Reading of these bytes, the first of which stands at that offset of the whole.
+    /// Begins to read these bytes; the first byte has that offset in the whole.
     pub fn new(offset: u64, bytes: &'a [u8]) -> Cursor<'a>
         requires { offset + length bytes.now < 2 ^ 64 }
         ensures { result ≡ record { offset = offset; rest = bytes.now } }
@@ -32,14 +32,14 @@ impl<'a> Cursor<'a> {
         Cursor { offset, bytes }
     }
 
-    /// Reading of these bytes from their start, at offset 0.
+    /// Begins to read these bytes at offset 0.
     pub fn of(bytes: &'a [u8]) -> Cursor<'a>
         ensures { result ≡ record { offset = 0; rest = bytes.now } }
     {
         Cursor::new(0, bytes)
     }
 
-    /// The offset of the next byte.
+    /// Returns the offset of the next byte.
     pub fn offset(&self) -> u64
         ensures value { result ≡ self.now.offset }
         ensures fits { self.now.offset + length self.now.rest < 2 ^ 64 }
@@ -48,14 +48,14 @@ impl<'a> Cursor<'a> {
         self.offset
     }
 
-    /// The bytes that are left.
+    /// Returns the bytes that are left.
     pub fn rest(&self) -> &'a [u8]
         ensures { result.now ≡ self.now.rest }
     {
         self.bytes
     }
 
-    /// A second cursor at the same place.
+    /// Returns a second cursor at this position.
     pub fn fork(&self) -> Cursor<'a>
         ensures place { result ≡ self.now }
         ensures bytes { IsBytes self.now.rest }
@@ -66,7 +66,7 @@ impl<'a> Cursor<'a> {
         }
     }
 
-    /// A second cursor, over the next so many bytes alone.
+    /// Returns a second cursor, over only the next so many bytes.
     pub fn window(&self, count: usize) -> Cursor<'a>
         requires { count ≤ length self.now.rest }
         ensures { result ≡ front count self.now }
@@ -86,7 +86,7 @@ impl<'a> Cursor<'a> {
         self.bytes = &self.bytes[count..];
     }
 
-    /// The next bytes, so many of them. Refused as Short at their place where fewer are left.
+    /// Takes the next so many bytes. Errors: `Short` at the cursor's offset if fewer are left.
     #[tactic(auto, unfolding(crate::specs::Reading::read_bytes))]
     pub fn take(&mut self, count: usize) -> Result<&'a [u8], Refusal>
         ensures read { Reads (λ s. s.now) result self.new (read_bytes count self.old) }
@@ -102,7 +102,7 @@ impl<'a> Cursor<'a> {
         Ok(front)
     }
 
-    /// The next byte. Refused as Short at its place.
+    /// Takes the next byte. Errors: `Short` at the cursor's offset.
     pub fn get_u8(&mut self) -> Result<u8, Refusal>
         ensures read { Reads (λ n. n) result self.new (byte_at self.old) }
         ensures err { OnErr result (self.new ≡ self.old) }
@@ -111,7 +111,7 @@ impl<'a> Cursor<'a> {
         Ok(bytes[0])
     }
 
-    /// The next big-endian number of two bytes. Refused as Short at its place.
+    /// Takes the next big-endian number of two bytes. Errors: `Short` at the cursor's offset.
     pub fn get_u16(&mut self) -> Result<u16, Refusal>
         ensures read { Reads (λ n. n) result self.new (number_at w16 self.old) }
         ensures err { OnErr result (self.new ≡ self.old) }
@@ -120,7 +120,7 @@ impl<'a> Cursor<'a> {
         Ok(u16::from_be_bytes([bytes[0], bytes[1]]))
     }
 
-    /// The next big-endian number of four bytes. Refused as Short at its place.
+    /// Takes the next big-endian number of four bytes. Errors: `Short` at the cursor's offset.
     pub fn get_u32(&mut self) -> Result<u32, Refusal>
         ensures read { Reads (λ n. n) result self.new (number_at w32 self.old) }
         ensures err { OnErr result (self.new ≡ self.old) }
@@ -129,7 +129,7 @@ impl<'a> Cursor<'a> {
         Ok(u32::from_be_bytes([bytes[0], bytes[1], bytes[2], bytes[3]]))
     }
 
-    /// The next big-endian number of eight bytes. Refused as Short at its place.
+    /// Takes the next big-endian number of eight bytes. Errors: `Short` at the cursor's offset.
     pub fn get_u64(&mut self) -> Result<u64, Refusal>
         ensures read { Reads (λ n. n) result self.new (number_at w64 self.old) }
         ensures err { OnErr result (self.new ≡ self.old) }

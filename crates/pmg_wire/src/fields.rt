@@ -10,17 +10,17 @@ use pmg_value::{
 };
 use std::alloc::Global;
 
-/// Which processes may stand at a place.
+/// The processes that a place in the bytes allows.
 #[derive(Clone, Copy, PartialEq, Eq)]
 pub enum Admits {
     /// Processes that a group may register.
     Clients,
-    /// These, and the process `pmix.host 0` that stands for the host.
+    /// Such processes, and the process `pmix.host 0` that stands for the host.
     ClientsAndHost,
 }
 
 impl Admits {
-    /// Whether the process may stand at such a place.
+    /// Returns whether such a place allows the process.
     pub fn admits(self, process: &Proc) -> bool
         ensures { result ≡ is_admitted self process.now }
     {
@@ -70,8 +70,8 @@ fn key_of(alloc: Global, at: &mut Cursor<'_>) -> Result<Key, Refusal>
     Ok(Key::from_text(alloc, text)?)
 }
 
-/// Reads a key: two bytes of length, and the key. Refused as BadFrame at the first fault: Short, Key;
-/// and as NoMemory. A refusal leaves the cursor where it was.
+/// Reads a key: two bytes of length, and the key. A refusal leaves the cursor where it was. Errors: `BadFrame` with the first fault of
+/// Short, Key; `NoMemory`.
 pub fn get_key(alloc: Global, at: &mut Cursor<'_>) -> Result<Key, Refusal>
     ensures found { IfOk result (λ k. SpellsKey at.old k at.new) }
     ensures only { (k : List ℕ) (after : Place) → SpellsKey at.old k after → Reads (λ k. k) result at.new (Ok (k, after)) }
@@ -115,8 +115,8 @@ fn admits_rank(name: &[u8], rank: u32) -> bool
     }
 }
 
-/// Reads a process: one byte of length, the namespace, and four bytes of rank. Refused as BadFrame at the
-/// first fault: Short, Name, Rank; and as NoMemory. A refusal leaves the cursor where it was.
+/// Reads a process: one byte of length, the namespace, and four bytes of rank. A refusal leaves the cursor where it was. Errors: `BadFrame`
+/// with the first fault of Short, Name, Rank; `NoMemory`.
 pub fn get_proc(alloc: Global, admits: Admits, at: &mut Cursor<'_>) -> Result<Proc, Refusal>
     ensures found { IfOk result (λ p. SpellsProc admits at.old p at.new) }
     ensures only { (p : Proc) (after : Place) → SpellsProc admits at.old p after → Reads (λ p. p) result at.new (Ok (p, after)) }

@@ -1,7 +1,7 @@
 ghost use Rattle.pmg_wire.specs.Grammar.{IsOneSpelling, IsFound, IsOnly};
 
-/// The laws of values: what is read as a value is spelled so; what is spelled so is read; and no value's
-/// spelling begins another's, so each value has one.
+/// States the laws of values: a value that is read is encoded so, an encoded value is read, and no value's encoding is a prefix of
+/// another's. Each value therefore has one encoding.
 pub fn value_rules()
     ensures found { IsFound }
     ensures only { IsOnly }

@@ -1,4 +1,4 @@
-//! Names, keys and values as bytes: each has one spelling, and a fault in bytes is the first one.
+//! Names, keys and values as bytes: each has one encoding, and a fault of bytes is the first fault.
 #![tactic(auto)]
 
 mod cursor;

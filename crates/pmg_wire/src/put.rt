@@ -9,7 +9,7 @@ use bytes::BytesMut;
 use pmg_value::{Items, Key, Parts, Proc, Value};
 use std::alloc::AllocError;
 
-/// Writes a key's spelling at the end of a buffer: two bytes of length, and the key.
+/// Writes a key's encoding at the end of a buffer: two bytes of length, and the key.
 pub fn put_key(out: &mut BytesMut, key: &Key) -> Result<(), AllocError>
     ensures ok { OnOk result (out.new.items ≡ out.old.items ++ key_spelling key.now) }
     ensures key { IsTrue (is_key key.now) }
@@ -22,8 +22,7 @@ pub fn put_key(out: &mut BytesMut, key: &Key) -> Result<(), AllocError>
     Ok(())
 }
 
-/// Writes a process's spelling at the end of a buffer: one byte of length, the namespace, and four bytes
-/// of rank.
+/// Writes a process's encoding at the end of a buffer: one byte of length, the namespace, and four bytes of rank.
 pub fn put_proc(out: &mut BytesMut, process: &Proc) -> Result<(), AllocError>
     ensures ok { OnOk result (out.new.items ≡ out.old.items ++ proc_spelling process.now) }
     ensures name { IsTrue (is_nspace process.now.nspace) }
@@ -53,7 +52,7 @@ pub fn put_value(out: &mut BytesMut, value: &Value) -> Result<(), AllocError>
     Ok(())
 }
 
-// Writes what stands before the items of a body, where there is room.
+// Writes the parts before the items of a body. There is room for them.
 fn put_parts(out: &mut BytesMut, parts: &Parts<'_>)
     requires { length (front_of parts.now.head.items parts.now.middle.now parts.now.end.items) ≤ out.old.spare }
     ensures items { out.new.items ≡ out.old.items ++ front_of parts.now.head.items parts.now.middle.now parts.now.end.items }
@@ -64,7 +63,7 @@ fn put_parts(out: &mut BytesMut, parts: &Parts<'_>)
     out.extend_reserved(parts.end.as_slice());
 }
 
-// Writes the bodies of items that are no arrays, one after another, where there is room.
+// Writes the bodies of items that are not arrays, one after another. There is room for them.
 fn put_items(out: &mut BytesMut, items: Items<'_>)
     requires plain { IsTrue (are_plain (items_in items)) }
     requires room { length (bodies (plains_of (items_in items))) ≤ out.old.spare }

@@ -1,4 +1,4 @@
-//! Passing over the bodies of values, with the first fault, and without memory.
+//! Passes over the bodies of values, with the first fault, and without memory.
 ghost use Rattle.std.specs.Prelude.{None};
 ghost use Rattle.pmg_wire.specs.Many.{many};
 ghost use Rattle.pmg_wire.specs.Reading.{Reads};
@@ -12,7 +12,7 @@ use pmg_value::{Cause, Refusal};
 /// The tag of arrays.
 pub const ARRAY_TAG: u8 = 19;
 
-// Passes over the body of a value with this tag, which is no array's.
+// Passes over the body of a value with this tag, which is not an array's tag.
 #[tactic(auto, using(crate::proofs::Passing::passed_made), unfolding(crate::specs::Fields::read_plain))]
 fn skip_plain(tag: u8, at: &mut Cursor<'_>) -> Result<(), Refusal>
     ensures { Reads (λ u. u) result at.new (passed (read_plain tag at.old)) }

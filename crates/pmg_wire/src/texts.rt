@@ -1,4 +1,4 @@
-//! The strings, the byte objects and the processes of values, as they stand in the bytes.
+//! Reads the strings, byte objects and processes of values, as slices of the bytes.
 ghost use Rattle.std.specs.Prelude.{IfOk, IsTrue};
 ghost use Rattle.pmg_value.specs.Names.{is_nspace};
 ghost use Rattle.pmg_wire.specs.Reading.{Reads};
@@ -7,7 +7,7 @@ ghost use Rattle.pmg_wire.specs.Fields.{read_text, read_blob, read_any_proc};
 use crate::cursor::Cursor;
 use pmg_value::{Cause, Refusal, first_zero, is_nspace_name};
 
-/// A string's bytes.
+/// Reads a string's bytes.
 #[tactic(auto, unfolding(crate::specs::Fields::read_text))]
 pub fn get_text<'a>(at: &mut Cursor<'a>) -> Result<&'a [u8], Refusal>
     ensures { Reads (λ s. s.now) result at.new (read_text at.old) }
@@ -21,7 +21,7 @@ pub fn get_text<'a>(at: &mut Cursor<'a>) -> Result<&'a [u8], Refusal>
     Ok(text)
 }
 
-/// A byte object's bytes.
+/// Reads a byte object's bytes.
 #[tactic(auto, unfolding(crate::specs::Fields::read_blob))]
 pub fn get_blob<'a>(at: &mut Cursor<'a>) -> Result<&'a [u8], Refusal>
     ensures { Reads (λ s. s.now) result at.new (read_blob at.old) }
@@ -30,7 +30,7 @@ pub fn get_blob<'a>(at: &mut Cursor<'a>) -> Result<&'a [u8], Refusal>
     at.take(len)
 }
 
-/// The namespace and the rank of any process, also of one that no group registers.
+/// Reads the namespace and the rank of any process, even one that no group registers.
 #[tactic(auto, unfolding(crate::specs::Fields::read_any_proc))]
 pub fn get_any_proc<'a>(at: &mut Cursor<'a>) -> Result<(&'a [u8], u32), Refusal>
     ensures read { Reads (λ p. record { nspace = p.0.now; rank = p.1 }) result at.new (read_any_proc at.old) }

@@ -1,6 +1,6 @@
-//! Reading values. An array, and a value that could be too long, are read in two passes: the first finds the first
-//! fault and where the value ends, and takes no memory; the second builds the value from its bytes, all of which are
-//! there. Any other value is built at once.
+//! Reads values. An array, and any value that could be too long, is read in two passes. The first pass finds the first fault and the
+//! value's end, and takes no memory. The second pass builds the value from its bytes, which are all there. Any other value is built at
+//! once.
 ghost use Rattle.std.specs.Prelude.{◌≡◌, ◌-◌, ◌<◌, ◌≤◌, None, length, map, IfOk, IsTrue, OnErr};
 ghost use Rattle.pmg_value.specs.Items.{number_value, number_width};
 ghost use Rattle.pmg_value.specs.Spelling.{Form, form, are_plain, plains_of};
@@ -18,7 +18,7 @@ use pmg_value::{
 };
 use std::alloc::Global;
 
-// A string, of bytes that are no more than a value's body.
+// Reads a string. There are no more bytes than in a value's body.
 fn text_of(alloc: Global, at: &mut Cursor<'_>) -> Result<Text, Refusal>
     requires { length at.old.rest ≤ MAX_VALUE_SIZE - 1 }
     ensures { Reads (λ t. t) result at.new (read_text at.old) }
@@ -29,7 +29,7 @@ fn text_of(alloc: Global, at: &mut Cursor<'_>) -> Result<Text, Refusal>
     Ok(Text::from_text(alloc, text)?)
 }
 
-// A byte object, of bytes that are no more than a value's body.
+// Reads a byte object. There are no more bytes than in a value's body.
 fn octets_of(alloc: Global, at: &mut Cursor<'_>) -> Result<Octets, Refusal>
     requires { length at.old.rest ≤ MAX_VALUE_SIZE - 1 }
     ensures { Reads (λ o. o) result at.new (read_blob at.old) }
@@ -40,7 +40,7 @@ fn octets_of(alloc: Global, at: &mut Cursor<'_>) -> Result<Octets, Refusal>
     Ok(Octets::from_bytes(alloc, bytes)?)
 }
 
-// Any process, also one that no group registers.
+// Reads any process, even one that no group registers.
 fn any_proc_of(alloc: Global, at: &mut Cursor<'_>) -> Result<Proc, Refusal>
     ensures { Reads (λ p. p) result at.new (read_any_proc at.old) }
 {
@@ -48,7 +48,7 @@ fn any_proc_of(alloc: Global, at: &mut Cursor<'_>) -> Result<Proc, Refusal>
     Ok(Proc::new(Nspace::from_name(alloc, name)?, Rank::new(rank)))
 }
 
-// The value with this tag whose body is here. It is no array, and no longer than a value may be.
+// Reads the value with this tag whose body is here. It is not an array, and at most as long as a value may be.
 #[inline(always)]
 #[tactic(auto, unfolding(crate::specs::Fields::read_plain))]
 fn plain_of(alloc: Global, tag: u8, at: &mut Cursor<'_>) -> Result<Value, Refusal>
@@ -77,7 +77,7 @@ fn plain_of(alloc: Global, tag: u8, at: &mut Cursor<'_>) -> Result<Value, Refusa
     }
 }
 
-// So many elements of that kind. The first pass saw that all of them are here, so room is made for all at once.
+// Reads so many elements of that kind. The first pass saw that all of them are here, so that room is made for all at once.
 fn elements_of(
     alloc: Global,
     tag: u8,
@@ -98,7 +98,7 @@ fn elements_of(
     Ok(items)
 }
 
-// So many elements of that kind, which is one of numbers, as numbers. As above, all of them are here.
+// Reads so many elements of that kind, a kind of numbers, as numbers. As above, all of them are here.
 fn numbers_of(alloc: Global, tag: u8, count: u32, at: &mut Cursor<'_>) -> Result<Vec<u64>, Refusal>
     requires short { length at.old.rest ≤ MAX_VALUE_SIZE - 1 }
     requires kind { 0 < number_width tag }
@@ -114,7 +114,7 @@ fn numbers_of(alloc: Global, tag: u8, count: u32, at: &mut Cursor<'_>) -> Result
     Ok(numbers)
 }
 
-// An array: the tag of its elements, their number, and their bodies.
+// Reads an array: the tag of its elements, their number, and their bodies.
 #[tactic(auto, unfolding(crate::specs::Fields::read_array))]
 fn array_of(alloc: Global, at: &mut Cursor<'_>) -> Result<Value, Refusal>
     requires { length at.old.rest ≤ MAX_VALUE_SIZE - 1 }
@@ -134,7 +134,7 @@ fn array_of(alloc: Global, at: &mut Cursor<'_>) -> Result<Value, Refusal>
     Value::array(tag, items)
 }
 
-// The value with this tag whose body is here. It is no longer than a value may be.
+// Reads the value with this tag whose body is here. It is at most as long as a value may be.
 #[tactic(auto, unfolding(crate::specs::Fields::read_value_body))]
 fn body_of(alloc: Global, tag: u8, at: &mut Cursor<'_>) -> Result<Value, Refusal>
     requires { length at.old.rest ≤ MAX_VALUE_SIZE - 1 }
@@ -147,7 +147,7 @@ fn body_of(alloc: Global, tag: u8, at: &mut Cursor<'_>) -> Result<Value, Refusal
     }
 }
 
-// A value: what is wrong with it and where it ends first, and then its parts.
+// Reads a value in two passes: first its fault and its end, and then its parts.
 #[cold]
 #[inline(never)]
 #[tactic(auto, unfolding(crate::specs::Fields::read_value))]
@@ -170,7 +170,7 @@ fn value_in_passes(alloc: Global, at: &mut Cursor<'_>) -> Result<Value, Refusal>
     Ok(value)
 }
 
-// A value. One of a kind that is no array's, which cannot be too long, is built at once.
+// Reads a value. A value that is not an array and cannot be too long is built at once.
 fn value_of(alloc: Global, at: &mut Cursor<'_>) -> Result<Value, Refusal>
     ensures { Reads (λ v. v) result at.new (read_value at.old) }
 {
@@ -187,8 +187,8 @@ fn value_of(alloc: Global, at: &mut Cursor<'_>) -> Result<Value, Refusal>
     plain_of(alloc, *tag, at)
 }
 
-/// Reads a value: its tag, and a body of the tag's form. Refused as BadFrame at the first fault: Short,
-/// Tag, Bool, Name, Text, and at its end Size; and as NoMemory. A refusal leaves the cursor where it was.
+/// Reads a value: its tag, and a body of the tag's form. A refusal leaves the cursor where it was. Errors: `BadFrame` with the first fault
+/// of Short, Tag, Bool, Name, Text, and at the value's end Size; `NoMemory`.
 #[inline(always)]
 pub fn get_value(alloc: Global, at: &mut Cursor<'_>) -> Result<Value, Refusal>
     ensures found { IfOk result (λ v. SpellsValue at.old v at.new) }
@@ -206,8 +206,8 @@ pub fn get_value(alloc: Global, at: &mut Cursor<'_>) -> Result<Value, Refusal>
     }
 }
 
-/// Reads bytes that are one value and nothing after it. Refused as BadFrame at the first fault, counted from
-/// the first byte: those of `get_value`, and Long where bytes are left after the value; and as NoMemory.
+/// Reads bytes that are one value and nothing after it. Errors: `BadFrame` with the first fault, counted from the first byte: a fault of
+/// `get_value`, or Long if bytes are left after the value; `NoMemory`.
 #[tactic(auto, unfolding(crate::specs::Fields::whole_value))]
 pub fn value_from_bytes(alloc: Global, bytes: &[u8]) -> Result<Value, Refusal>
     ensures found { IfOk result (λ v. IsWholeValue bytes.now v) }
