@@ -10,11 +10,11 @@ use Rattle.pmg_value.specs.Signatures.{Signature, FenceName}
 use Rattle.pmg_value.proofs.ProcessOrder.{procs_total}
 use Rattle.pmg_value.specs.InOrder.{in_order}
 
--- by the participants in their order, then by whether data is collected
+-- the order by the participants in their order, then by whether data is collected
 abbrev pub signature_cmp : Signature → Signature → Ordering
 signature_cmp = then_cmp (on (λ s. in_order s.participants) (slice_cmp proc_cmp)) (on (λ s. s.collect) bool_cmp)
 
--- by the signature, then by the instance
+-- the order by the signature, then by the instance
 abbrev pub name_cmp : FenceName → FenceName → Ordering
 name_cmp = then_cmp (on (λ f. f.signature) signature_cmp) (on (λ f. f.instance) nat_cmp)
 
@@ -25,10 +25,10 @@ signature_total = then_total (on_total (λ s. in_order s.participants) (lists_to
 pub name_total : IsTotalOrder name_cmp
 name_total = then_total (on_total (λ f. f.signature) signature_total) (on_total (λ f. f.instance) nat_cmp_total)
 
--- signatures that compare as equal are one
+-- signatures that compare as equal are equal
 abbrev pub AreSignaturesExact : Type 0
 AreSignaturesExact = (s t : Signature) → signature_cmp s t ≡ Equal → s ≡ t
 
--- names that compare as equal are one
+-- names that compare as equal are equal
 abbrev pub AreNamesExact : Type 0
 AreNamesExact = (f g : FenceName) → name_cmp f g ≡ Equal → f ≡ g

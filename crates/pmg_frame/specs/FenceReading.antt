@@ -1,4 +1,4 @@
--- How what servers tell and ask of fences and commits is read: the fields in order from the left, and the first fault.
+-- The reading of headers and asks: the fields in order from the left, and the first fault.
 use Rattle.std.specs.Prelude.{ℕ, Bool, true, ◌&&◌, nat_lt, nat_le, List, length, Option, Some, None, Ok}
 use Rattle.std.specs.FinSet as set
 use Rattle.std.specs.Int.{w32, w64}
@@ -17,26 +17,26 @@ use Rattle.pmg_frame.specs.declared.local.Local.{Local}
 use Rattle.pmg_frame.specs.declared.signature.TheConstants.{MAX_PARTICIPANTS}
 use Rattle.pmg_value.specs.declared.process.TheConstants.{MAX_NODE}
 
--- the process is greater than the one before, where there is one
+-- the process is greater than the one before, if there is one
 abbrev pub is_greater : Option Proc → Proc → Bool
 is_greater None p = true
 is_greater (Some before) p = is_lt (proc_cmp before p)
 
--- a participant, after another one or none
+-- a participant, after another participant or none
 unfoldable pub read_participant : Option Proc → Place → Read Proc
 read_participant before at = do
   p ← read_proc admits.Clients at
   _ ← check (is_greater before p.0) (fault at.offset causes.Order)
   Ok p
 
--- the participants: how many there are, and each of them
+-- the participants: their number, and each of them
 unfoldable pub read_participants : Place → Read (List Proc)
 read_participants at = do
   count ← number_at w32 at
   _ ← check (nat_lt 0 count.0 && nat_le count.0 MAX_PARTICIPANTS) (fault at.offset causes.Count)
   many read_participant count.0 None count.1
 
--- the fields of a fence's name: whether it collects, the instance, and the participants, which are read so
+-- the fields of a fence's name: whether it collects, the instance, and the participants, by this reader
 unfoldable pub read_fields_by : (Place → Read (List Proc)) → Place → Read NameFields
 read_fields_by list at = do
   collect ← read_flag at
@@ -45,7 +45,7 @@ read_fields_by list at = do
   ps ← list number.1
   Ok (record { collect = collect.0; number = number.0; list = ps.0 }, ps.1)
 
--- a fence's name, whose participants are read so
+-- a fence's name, with its participants by this reader
 unfoldable pub read_name_by : (Place → Read (List Proc)) → Place → Read FenceName
 read_name_by list at = read_fields_by list at >>= λ fields. Ok (fence_name fields.0, fields.1)
 
@@ -67,7 +67,7 @@ read_level at = do
   _ ← check (is_level level.0) (fault at.offset causes.Level)
   Ok level
 
--- what a header tells of one participant, after another one or none
+-- a line of a header for one participant, after another line or none
 unfoldable pub read_local : FenceName → Option Local → Place → Read Local
 read_local name before at = do
   p ← read_proc admits.Clients at
@@ -87,7 +87,7 @@ read_header at = do
   locals ← many (read_local name.0) count.0 None count.1
   Ok (record { node = node.0; name = name.0; locals = locals.0 }, locals.1)
 
--- the body of a fence ask, the participants of whose fence are read so
+-- the body of a fence ask, with the fence's participants by this reader
 unfoldable pub read_ask_by : (Place → Read (List Proc)) → Place → Read FenceAsk
 read_ask_by list at = do
   node ← read_node at

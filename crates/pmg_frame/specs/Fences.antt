@@ -1,4 +1,4 @@
--- What servers tell and ask one another of fences and of commits.
+-- Headers and asks: the messages of servers about fences and commits.
 use Rattle.std.specs.Prelude.{◌≡◌, ℕ, ◌≤◌, Bool, true, false, ◌&&◌, ◌||◌, ◌==◌, not, nat_lt, nat_le, List, length, Result, Ok, Err, IsTrue, refl, if◌then◌else◌}
 use Rattle.std.proofs.Common.{ap}
 use Rattle.std.specs.Coded.{Coded, code_by, coded×, coded_ℕ, coded_bool, coded_list}
@@ -24,7 +24,7 @@ use Rattle.pmg_frame.specs.declared.fence_name.TheConstants.{MAX_INSTANCE}
 abbrev pub participants_of : FenceName → List Proc
 participants_of name = in_order name.signature.participants
 
--- A list that a signature keeps: 1 to 4096 processes that a group may register, each greater than the one before.
+-- The list of a signature: 1 to 4096 processes that a group may register, each greater than the one before.
 pub record AreParticipants (ps : List Proc) : Type 0 where
   pub rising : IsStrictlySortedBy proc_cmp ps
   pub clients : IsTrue (list_all is_client ps)
@@ -39,7 +39,7 @@ coded_signature = code_by (set.FinSet proc_cmp × Bool) (coded× (set.code coded
 abbrev pub coded_name : Coded FenceName
 coded_name = code_by (Signature × ℕ) (coded× coded_signature coded_ℕ) (λ f. (f.signature, f.instance)) (λ p. record { signature = p.0; instance = p.1 }) (λ _. refl)
 
--- the signature of these processes, in whatever order and however often they stand in the list
+-- the signature of these processes, whatever their order and repeats in the list
 abbrev pub signature : List Proc → Bool → Signature
 signature ps collect = record { participants = set.from_list ps; collect = collect }
 
@@ -49,16 +49,16 @@ pub record NameFields : Type 0 where
   pub number : ℕ
   pub list : List Proc
 
--- such fields: whether the fence collects data, its instance, and its participants
+-- the fields of these values: whether the fence collects data, its instance, and its participants
 abbrev pub name_fields : Bool → ℕ → List Proc → NameFields
 name_fields collect number list = record { collect = collect; number = number; list = list }
 
--- the name that has these fields
+-- the name with these fields
 abbrev pub fence_name : NameFields → FenceName
 fence_name fields = record { signature = signature fields.list fields.collect; instance = fields.number }
 
--- The signature that a list asks for: of no process, or of one that no group may register, there is none, and of
--- more than 4096 neither (PMIx Standard 5.0, PMIx_Fence).
+-- The signature that a list asks for. An empty list and a process that no group may register give none, and more than 4096 processes give
+-- none either (PMIx Standard 5.0, PMIx_Fence).
 unfoldable pub asked_signature : List Proc → Bool → Result Signature Refusal
 asked_signature ps collect =
     if length ps == 0 then Err refusals.BadParam
@@ -66,22 +66,22 @@ asked_signature ps collect =
     else if nat_le (set.len (signature ps collect).participants) MAX_PARTICIPANTS then Ok (signature ps collect)
     else Err refusals.TooMany
 
--- the instances of a signature are counted from 1
+-- the numbers of instances, counted from 1
 abbrev pub is_instance : ℕ → Bool
 is_instance k = nat_lt 0 k && nat_le k MAX_INSTANCE
 
--- the numbers that a level can be
+-- the numbers of levels
 abbrev pub is_level : ℕ → Bool
 is_level n = nat_le n MAX_COMMIT
 
--- A fence header: of each of its own participants a node tells whether it has entered or is gone, and the level
--- then (PMIx Standard 5.0, PMIx_Fence).
+-- A fence header: for each of a node's own participants, whether it has entered or is gone, and its level then (PMIx Standard 5.0,
+-- PMIx_Fence).
 pub record Header : Type 0 where
   pub node : ℕ
   pub name : FenceName
   pub locals : List Local
 
--- the node's header of the fence, with these locals
+-- the node's header of the fence, with these lines
 abbrev pub header : ℕ → FenceName → List Local → Header
 header node name locals = record { node = node; name = name; locals = locals }
 
@@ -90,7 +90,7 @@ abbrev pub is_gone : State → Bool
 is_gone states.Entered = false
 is_gone states.Gone = true
 
--- the state that a flag tells
+-- the state of a flag
 abbrev pub state_of : Bool → State
 state_of false = states.Entered
 state_of true = states.Gone
@@ -99,7 +99,7 @@ pub state_of-is_gone : (s : State) → state_of (is_gone s) ≡ s
 state_of-is_gone states.Entered = refl
 state_of-is_gone states.Gone = refl
 
--- a local as a tuple
+-- a line as a tuple
 abbrev pub coded_local : Coded Local
 coded_local =
     code_by (Proc × (Bool × ℕ)) (coded× coded_proc (coded× coded_bool coded_ℕ)) (λ l. (l.proc, (is_gone l.state, l.level)))
@@ -112,11 +112,11 @@ coded_header =
     code_by (ℕ × (FenceName × List Local)) (coded× coded_ℕ (coded× coded_name (coded_list coded_local))) (λ h. (h.node, (h.name, h.locals)))
     (λ p. record { node = p.0; name = p.1.0; locals = p.1.1 }) (λ _. refl)
 
--- the next of the locals is a greater process
+-- the next line has a greater process
 abbrev pub is_local_rising : Local → Local → Bool
 is_local_rising a b = is_lt (proc_cmp a.proc b.proc)
 
--- the local is a participant, and its level is one
+-- the process of the line is a participant, and its level is a level
 abbrev pub is_listed : FenceName → Local → Bool
 is_listed name l = set.contains name.signature.participants l.proc && is_level l.level
 
@@ -139,7 +139,7 @@ coded_fence_ask = code_by (ℕ × FenceName) (coded× coded_ℕ coded_name) (λ 
 abbrev pub fence_ask : ℕ → FenceName → FenceAsk
 fence_ask node name = record { node = node; name = name }
 
--- a node that knows a process's commits to that level asks for later ones
+-- a node that knows a process's commits up to that level asks for later ones
 pub record CommitAsk : Type 0 where
   pub node : ℕ
   pub proc : Proc

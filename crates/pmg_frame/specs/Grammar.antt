@@ -1,4 +1,4 @@
--- The grammar of frames: what stands between two places.
+-- The grammar of frames: what is between two places.
 use Rattle.std.specs.Prelude.{◌≡◌, ◌↔◌, ℕ, ◌<◌, ◌≤◌, Bool, true, false, List, [], ◌∷◌, ◌++◌, length, Option, Some, None, Ok, IsTrue}
 use Rattle.std.specs.FinSet as set
 use Rattle.std.specs.Option.{option_map}
@@ -31,8 +31,8 @@ use Rattle.pmg_value.specs.declared.process.TheConstants.{MAX_NODE}
 use Rattle.pmg_frame.specs.declared.frame.TheConstants.{MAX_BODY_SIZE}
 use Rattle.pmg_commit.specs.declared.piece.TheConstants.{MAX_COMMIT, MAX_ENTRIES}
 
--- An entry of a piece of the commits from+1 to to: of a greater key than the entry before, of one of these
--- commits, and with the canonical bytes of a value.
+-- An entry of a piece of the commits from+1 to to: its key is greater than the key before, its number is of one of these commits, and it
+-- has the canonical bytes of a value.
 pub record Follows (from to : ℕ) (before : Option Entry) (e : Entry) : Type 0 where
   pub key : IsTrue (is_key e.key)
   pub order : IsTrue (is_after before e.key)
@@ -42,7 +42,7 @@ pub record Follows (from to : ℕ) (before : Option Entry) (e : Entry) : Type 0 
   pub is : IsValue value
   pub bytes : e.bytes ≡ spelling value
 
--- what a piece says keeps its rules
+-- a piece keeps its rules
 pub record IsPiece (c : Contribution) : Type 0 where
   pub name : IsTrue (is_nspace c.proc.nspace)
   pub admitted : IsTrue (is_admitted admits.ClientsAndHost c.proc)
@@ -56,21 +56,21 @@ pub record IsClient (p : Proc) : Type 0 where
   pub name : IsTrue (is_nspace p.nspace)
   pub client : IsTrue (is_client p)
 
--- what a fence's name says keeps its rules
+-- a fence's name keeps its rules
 pub record IsName (name : FenceName) : Type 0 where
   pub number : IsTrue (is_instance name.instance)
   pub some : 1 ≤ length (participants_of name)
   pub few : length (participants_of name) ≤ MAX_PARTICIPANTS
   pub clients : Each IsClient (participants_of name)
 
--- What a header tells of a participant of that fence: it is greater than the one before, and its level is one.
+-- A line of a header of that fence: its process is a participant and greater than the one before, and its level is a level.
 pub record FollowsLocal (name : FenceName) (before : Option Local) (l : Local) : Type 0 where
   pub is : IsClient l.proc
   pub order : IsTrue (is_greater (option_map (λ b. b.proc) before) l.proc)
   pub member : IsTrue (set.contains name.signature.participants l.proc)
   pub level : IsTrue (is_level l.level)
 
--- what a header says keeps its rules
+-- a header keeps its rules
 pub record IsHeader (h : Header) : Type 0 where
   pub node : h.node ≤ MAX_NODE
   pub name : IsName h.name
@@ -78,24 +78,24 @@ pub record IsHeader (h : Header) : Type 0 where
   pub few : length h.locals ≤ length (participants_of h.name)
   pub locals : Chain (FollowsLocal h.name) None h.locals
 
--- what a fence ask says keeps its rules
+-- a fence ask keeps its rules
 pub record IsFenceAsk (a : FenceAsk) : Type 0 where
   pub node : a.node ≤ MAX_NODE
   pub name : IsName a.name
 
--- what an ask for commits says keeps its rules
+-- an ask for commits keeps its rules
 pub record IsCommitAsk (a : CommitAsk) : Type 0 where
   pub node : a.node ≤ MAX_NODE
   pub name : IsTrue (is_nspace a.proc.nspace)
   pub admitted : IsTrue (is_admitted admits.ClientsAndHost a.proc)
   pub level : IsTrue (is_level a.level)
 
--- what a refresh ask says keeps its rules
+-- a refresh ask keeps its rules
 pub record IsRefreshAsk (a : RefreshAsk) : Type 0 where
   pub request : IsTrue (is_request a.request)
   pub ask : IsCommitAsk a.ask
 
--- what is told of some commits of a process, or of none, where that may be, keeps its rules
+-- some commits of a process, or none if that may be, keep their rules
 pub record IsTold (none : Bool) (c : Contribution) : Type 0 where
   pub name : IsTrue (is_nspace c.proc.nspace)
   pub admitted : IsTrue (is_admitted admits.ClientsAndHost c.proc)
@@ -103,13 +103,13 @@ pub record IsTold (none : Bool) (c : Contribution) : Type 0 where
   pub count : length c.entries ≤ MAX_ENTRIES
   pub entries : Chain (Follows c.from c.to) None c.entries
 
--- what a refresh reply says keeps its rules
+-- a refresh reply keeps its rules
 pub record IsRefreshReply (r : RefreshReply) : Type 0 where
   pub node : r.node ≤ MAX_NODE
   pub request : IsTrue (is_request r.request)
   pub told : IsTold true r.told
 
--- what a frame says keeps the rules of its kind
+-- a frame keeps the rules of its kind
 abbrev pub IsFrame : Frame → Type 0
 IsFrame (frames.Piece c) = IsPiece c
 IsFrame (frames.Header h) = IsHeader h
@@ -119,7 +119,7 @@ IsFrame (frames.DirectAsk a) = IsCommitAsk a
 IsFrame (frames.RefreshAsk a) = IsRefreshAsk a
 IsFrame (frames.RefreshReply r) = IsRefreshReply r
 
--- a frame, spelled in that version
+-- the encoding of a frame in that version
 pub record SpellsFrame (v : ℕ) (at : Place) (frame : Frame) (after : Place) : Type 0 where
   pub version : IsTrue (is_version v)
   pub takes : Takes at (frame_spelling v frame) after
@@ -132,15 +132,15 @@ pub record IsSpelt (s : Spelt) : Type 0 where
   pub small : length (body_spelling s.version s.frame) ≤ MAX_BODY_SIZE
   pub is : IsFrame s.frame
 
--- what is read as a frame is spelled so, in one of the versions
+-- a frame that is read is encoded so, in one of the versions
 abbrev pub IsFoundFrame : Type 0
 IsFoundFrame = (at : Place) (frame : Frame) (after : Place) → IsBytes at.rest → read_frame at ≡ Ok (Some (frame, after)) → (v : ℕ) × SpellsFrame v at frame after
 
--- what is spelled as a frame, in either version, is read
+-- an encoded frame, in either version, is read
 abbrev pub IsOnlyFrame : Type 0
 IsOnlyFrame = (v : ℕ) (at : Place) (frame : Frame) (after : Place) → SpellsFrame v at frame after → read_frame at ≡ Ok (Some (frame, after))
 
--- no frame's spelling begins another's, whatever their versions
+-- no frame's encoding is a prefix of another's, in any version
 abbrev pub IsOneFrameSpelling : Type 0
 IsOneFrameSpelling = (s t : Spelt) (x y : List ℕ) → IsSpelt s → IsSpelt t → spelt_text s ++ x ≡ spelt_text t ++ y → (s.version ≡ t.version) × (s.frame ≡ t.frame) × (x ≡ y)
 
@@ -156,16 +156,16 @@ abbrev pub AreEntries : List Entry → Type 0
 AreEntries [] = Unit {0}
 AreEntries (e ∷ es) = IsEntry e × AreEntries es
 
--- Of contributions with names, keys and values, the pieces are those that a frame can say.
+-- A contribution with names, keys and values is a piece exactly if a frame can hold it.
 abbrev pub ArePieces : Type 0
 ArePieces = (c : Contribution) → IsTrue (is_nspace c.proc.nspace) → AreEntries c.entries
     → IsTrue (is_piece c) ↔ (IsPiece c × (length (piece_body c) ≤ MAX_BODY_SIZE))
 
--- Of headers of a node for a fence, those that `Header::new` makes are those that a frame can say.
+-- `Header::new` makes a header of a node for a fence exactly if a frame can hold it.
 abbrev pub AreHeaders : Type 0
 AreHeaders = (h : Header) → h.node ≤ MAX_NODE → IsName h.name → IsTrue (is_header h) ↔ IsHeader h
 
--- Of replies to a node with names, keys and values, those that `RefreshReply::new` makes are those that a frame can say.
+-- `RefreshReply::new` makes a reply to a node, with names, keys and values, exactly if a frame can hold it.
 abbrev pub AreReplies : Type 0
 AreReplies = (r : RefreshReply) → r.node ≤ MAX_NODE → IsTrue (is_nspace r.told.proc.nspace) → AreEntries r.told.entries
     → IsTrue (is_refresh_reply r) ↔ (IsRefreshReply r × (length (refresh_reply_body r) ≤ MAX_BODY_SIZE))

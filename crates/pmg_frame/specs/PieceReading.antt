@@ -1,4 +1,4 @@
--- How contributions are read: the fields in order from the left, and the first fault.
+-- The reading of contributions: the fields in order from the left, and the first fault.
 use Rattle.std.specs.Prelude.{ℕ, ◌==◌, Bool, true, false, ◌&&◌, ◌||◌, nat_lt, nat_le, List, Option, Some, None, Ok}
 use Rattle.std.specs.Ordering.{nat_cmp, is_lt}
 use Rattle.std.specs.Cmp.Lexicographic.{slice_cmp}
@@ -13,7 +13,7 @@ use Rattle.pmg_commit.specs.Entries.{Entry}
 use Rattle.pmg_commit.specs.Knowledge.{Contribution}
 use Rattle.pmg_commit.specs.declared.piece.TheConstants.{MAX_COMMIT, MAX_ENTRIES}
 
--- the key of an entry is greater than that of the entry before, where there is one
+-- the key of an entry is greater than the key of the entry before, if there is one
 abbrev pub is_after : Option Entry → List ℕ → Bool
 is_after None key = true
 is_after (Some before) key = is_lt (slice_cmp nat_cmp before.key key)
@@ -28,7 +28,7 @@ read_entry from to before at = do
   value ← read_value number.1
   Ok (record { key = key.0; number = number.0; bytes = spelling value.0 }, value.1)
 
--- the commits from+1 to to, of which there is one at least, unless there may be none
+-- the commits from+1 to to: at least one commit, unless there may be none
 abbrev pub is_range : Bool → ℕ → ℕ → Bool
 is_range none from to = (nat_lt from to || (none && from == to)) && nat_le to MAX_COMMIT
 
@@ -40,7 +40,7 @@ read_range none at = do
   _ ← check (is_range none from.0 to.0) (fault at.offset causes.Range)
   Ok ((from.0, to.0), to.1)
 
--- what is told of some commits of a process, or of none, where that may be
+-- some commits of a process, or none if that may be
 unfoldable pub read_told : Bool → Place → Read Contribution
 read_told none at = do
   proc ← read_proc admits.ClientsAndHost at

@@ -1,4 +1,4 @@
--- How frames are read: the fields in order from the left, and the first fault.
+-- The reading of frames: the fields in order from the left, and the first fault.
 use Rattle.std.specs.Prelude.{ℕ, ◌==◌, ◌&&◌, nat_lt, nat_le, length, Option, Some, None, Result, Ok, if◌then◌else◌}
 use Rattle.std.specs.Int.{w32}
 use Rattle.pmg_value.specs.declared.refusal.Cause.TheVariants as causes
@@ -43,14 +43,13 @@ read_head at = do
   _ ← check (nat_le len.0 MAX_BODY_SIZE) (fault kind.1.offset causes.Length)
   Ok (record { version = version.0; kind = kind.0; len = len.0 }, len.1)
 
--- after a head: the whole frame, or nothing while its body is not all there
+-- after a head: the whole frame, or nothing while its body is incomplete
 unfoldable pub behind_head : Head → Place → Result (Option (Frame × Place)) Fault
 behind_head head at =
     if nat_lt (length at.rest) head.len then Ok None
     else (read_frame_body head.version head.kind (front head.len at) >>= λ frame. Ok (Some (frame, past at head.len)))
 
--- The next frame, or nothing while it is not all there. The head is checked once its six bytes are there,
--- the body once all of it is there.
+-- The next frame, or nothing while it is incomplete. The head is checked once its six bytes are there, the body once all of it is there.
 unfoldable pub read_frame : Place → Result (Option (Frame × Place)) Fault
 read_frame at =
     if nat_lt (length at.rest) 6 then Ok None

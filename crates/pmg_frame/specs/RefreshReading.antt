@@ -1,4 +1,4 @@
--- How refresh asks and their replies are read: the fields in order from the left, and the first fault.
+-- The reading of refresh asks and their replies: the fields in order from the left, and the first fault.
 use Rattle.std.specs.Prelude.{ℕ, Bool, true, Ok, if◌then◌else◌}
 use Rattle.std.specs.Int.{w64}
 use Rattle.pmg_value.specs.declared.refusal.Cause.TheVariants as causes
@@ -34,7 +34,7 @@ read_refresh_ask node request at = do
   level ← read_level p.1
   Ok (refresh_ask request (commit_ask node p.0 level.0), level.1)
 
--- a reply to that node and number: what is told of some commits, or of none
+-- a reply to that node and number: some commits, or none
 unfoldable pub read_refresh_reply : ℕ → ℕ → Place → Read RefreshReply
 read_refresh_reply node request at = read_told true at >>= λ told. Ok (refresh_reply node request told.0, told.1)
 

@@ -1,4 +1,4 @@
--- How runs are read, from version 2 of frames on: the fields in order from the left, and the first fault.
+-- The reading of runs, in frames from version 2 on: the fields in order from the left, and the first fault.
 use Rattle.std.specs.Prelude.{ℕ, zero, suc, ◌+◌, ◌-◌, ◌&&◌, not, nat_lt, nat_le, Bool, true, List, [], ◌∷◌, ◌++◌, length, Option, Some, None, Ok}
 use Rattle.std.specs.FinSet as set
 use Rattle.std.specs.Int.{w32}
@@ -17,22 +17,22 @@ use Rattle.pmg_frame.specs.declared.local.Local.{Local}
 use Rattle.pmg_frame.specs.declared.signature.TheConstants.{MAX_PARTICIPANTS}
 use Rattle.pmg_value.specs.declared.process.TheConstants.{MAX_RANK}
 
--- a step of reading, so many times: each is given what the steps before it have made
+-- a step of reading, so many times; each step gets the result of the steps before it
 unfoldable pub repeated : {S : Type 0} → (S → Place → Read S) → ℕ → S → Place → Read S
 repeated read zero before at = Ok (before, at)
 repeated read (suc n) before at = read before at >>= λ made. repeated read n made.0 made.1
 
--- the last item, where there is one; of none, what was before
+-- the last item, or the item before if the list is empty
 abbrev pub last_or : {A : Type 0} → Option A → List A → Option A
 last_or before [] = before
 last_or before (x ∷ xs) = last_or (Some x) xs
 
--- the item is not the one that goes on from the one before
+-- the item does not go on from the one before
 abbrev pub is_new : {A : Type 0} → Ranked A → Option A → A → Bool
 is_new k None x = true
 is_new k (Some before) x = not (k.same (next_rank k before) x)
 
--- how many ranks there are from the process's to the last one
+-- the number of ranks from the process's to the last one
 abbrev pub ranks_to : ℕ → Proc → ℕ
 ranks_to last p = suc last - p.rank
 
@@ -40,7 +40,7 @@ ranks_to last p = suc last - p.rank
 abbrev pub is_last : Proc → ℕ → Bool
 is_last p last = nat_le p.rank last && nat_le last MAX_RANK
 
--- a run of participants, after a process or none, where so many were before it
+-- a run of participants, after a process or none, and after so many participants
 unfoldable pub read_part : Option Proc → ℕ → Place → Read (RankRun Proc)
 read_part before count at = do
   p ← read_proc admits.Clients at
@@ -50,11 +50,11 @@ read_part before count at = do
   _ ← check (nat_le (count + ranks_to last.0 p.0) MAX_PARTICIPANTS) (fault p.1.offset causes.Count)
   Ok (record { first = p.0; last = last.0 }, last.1)
 
--- the run's processes behind those before it
+-- the processes before the run, and the run's processes
 unfoldable pub read_run : List Proc → Place → Read (List Proc)
 read_run before at = read_part (last_or None before) (length before) at >>= λ run. Ok (before ++ items_of proc_ranks run.0, run.1)
 
--- there is a run, and there are no more of them than participants
+-- there is at least one run, and there are at most as many runs as participants may be
 abbrev pub is_run_count : ℕ → Bool
 is_run_count n = nat_lt 0 n && nat_le n MAX_PARTICIPANTS
 
@@ -69,7 +69,7 @@ read_runs at = do
 abbrev pub read_short_name : Place → Read FenceName
 read_short_name at = read_name_by read_runs at
 
--- what a header tells of a run of participants, after another one or none
+-- a run of participants of a header, after another participant or none
 unfoldable pub read_local_part : FenceName → Option Local → Place → Read (RankRun Local)
 read_local_part name before at = do
   p ← read_proc admits.Clients at
@@ -82,11 +82,11 @@ read_local_part name before at = do
   _ ← check (is_new local_ranks before (record { proc = p.0; state = state_of gone.0; level = level.0 })) (fault at.offset causes.Order)
   Ok (record { first = record { proc = p.0; state = state_of gone.0; level = level.0 }; last = last.0 }, level.1)
 
--- what the run tells behind what was told before it
+-- the participants before the run, and the run's participants
 unfoldable pub read_local_run : FenceName → List Local → Place → Read (List Local)
 read_local_run name before at = read_local_part name (last_or None before) at >>= λ run. Ok (before ++ items_of local_ranks run.0, run.1)
 
--- what a header tells of its participants, as runs
+-- the participants of a header, as runs
 unfoldable pub read_local_runs : FenceName → Place → Read (List Local)
 read_local_runs name at = do
   count ← number_at w32 at

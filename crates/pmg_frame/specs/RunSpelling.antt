@@ -1,4 +1,4 @@
--- How processes are written as runs, from version 2 of frames on.
+-- The encoding of processes as runs, in frames from version 2 on.
 use Rattle.std.specs.Prelude.{ℕ, List, ◌++◌, length}
 use Rattle.std.specs.List.{flat_map}
 use Rattle.std.specs.Int.{w32, w64, to_be_bytes}
@@ -22,15 +22,15 @@ runs_spelling ps = to_be_bytes w32 (length (runs_of proc_ranks ps)) ++ flat_map 
 abbrev pub short_name : FenceName → List ℕ
 short_name name = flag_spelling name.signature.collect ++ (to_be_bytes w64 name.instance ++ runs_spelling (participants_of name))
 
--- what a header tells of a run of participants: the first, the last rank, whether they are gone, and their level
+-- a run of participants of a header: the first, the last rank, whether they are gone, and their level
 abbrev pub local_run_spelling : RankRun Local → List ℕ
 local_run_spelling r = proc_spelling r.first.proc ++ (to_be_bytes w32 r.last ++ (flag_spelling (is_gone r.first.state) ++ to_be_bytes w64 r.first.level))
 
--- what a header tells of its participants, as runs: their number, and the runs
+-- the participants of a header, as runs: their number, and the runs
 abbrev pub local_runs_spelling : List Local → List ℕ
 local_runs_spelling ls = to_be_bytes w32 (length (runs_of local_ranks ls)) ++ flat_map local_run_spelling (runs_of local_ranks ls)
 
--- the body of a header: the node, the fence's name, and what it tells of its participants
+-- the body of a header: the node, the fence's name, and the participants
 abbrev pub short_header : Header → List ℕ
 short_header h = to_be_bytes w32 h.node ++ (short_name h.name ++ local_runs_spelling h.locals)
 

@@ -1,4 +1,4 @@
--- Whether what two frames say is one, field by field.
+-- Comparison of two frames, field by field.
 use Rattle.std.specs.Prelude.{Bool, ◌&&◌, ◌==◌}
 use Rattle.std.specs.Cmp.Lexicographic.{pointwise}
 use Rattle.std.specs.Ordering.{eq_by_cmp}
@@ -10,26 +10,26 @@ use Rattle.pmg_frame.specs.Fences.{Header, FenceAsk, CommitAsk}
 use Rattle.pmg_frame.specs.Refreshing.{RefreshAsk, RefreshReply}
 use Rattle.pmg_frame.specs.contracts.local.LocalPartialEq.TheImpl as local_tests
 
--- the contributions are one
+-- the contributions are equal
 abbrev pub is_same_piece : Contribution → Contribution → Bool
 is_same_piece c d = is_same_proc c.proc d.proc && (c.from == d.from && (c.to == d.to && pointwise is_same_entry c.entries d.entries))
 
--- the headers are one
+-- the headers are equal
 abbrev pub is_same_header : Header → Header → Bool
 is_same_header h k = h.node == k.node && (eq_by_cmp name_cmp h.name k.name && pointwise local_tests.ghosts.eq h.locals k.locals)
 
--- the fence asks are one
+-- the fence asks are equal
 abbrev pub is_same_fence_ask : FenceAsk → FenceAsk → Bool
 is_same_fence_ask a b = a.node == b.node && eq_by_cmp name_cmp a.name b.name
 
--- the asks for commits are one
+-- the asks for commits are equal
 abbrev pub is_same_commit_ask : CommitAsk → CommitAsk → Bool
 is_same_commit_ask a b = a.node == b.node && (is_same_proc a.proc b.proc && (a.level == b.level))
 
--- the refresh asks are one
+-- the refresh asks are equal
 abbrev pub is_same_refresh_ask : RefreshAsk → RefreshAsk → Bool
 is_same_refresh_ask a b = a.request == b.request && is_same_commit_ask a.ask b.ask
 
--- the replies are one
+-- the replies are equal
 abbrev pub is_same_refresh_reply : RefreshReply → RefreshReply → Bool
 is_same_refresh_reply r s = r.node == s.node && (r.request == s.request && is_same_piece r.told s.told)

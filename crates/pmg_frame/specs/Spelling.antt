@@ -1,4 +1,4 @@
--- How the bodies of frames are written, with each process by itself.
+-- The encoding of the bodies of frames, with each process by itself.
 use Rattle.std.specs.Prelude.{ℕ, Bool, true, false, if◌then◌else◌, List, [], ◌∷◌, ◌++◌, length}
 use Rattle.std.specs.List.{flat_map}
 use Rattle.std.specs.Int.{w32, w64, to_be_bytes}
@@ -31,11 +31,11 @@ procs_spelling ps = to_be_bytes w32 (length ps) ++ flat_map proc_spelling ps
 abbrev pub name_spelling : FenceName → List ℕ
 name_spelling name = flag_spelling name.signature.collect ++ (to_be_bytes w64 name.instance ++ procs_spelling (participants_of name))
 
--- what a header tells of one participant: the process, whether it is gone, and the level
+-- the line of a header for one participant: the process, whether it is gone, and the level
 abbrev pub local_spelling : Local → List ℕ
 local_spelling l = proc_spelling l.proc ++ (flag_spelling (is_gone l.state) ++ to_be_bytes w64 l.level)
 
--- the body of a header: the node, the fence's name, and what it tells of each of its participants
+-- the body of a header: the node, the fence's name, and the lines of its participants
 abbrev pub header_body : Header → List ℕ
 header_body h = to_be_bytes w32 h.node ++ (name_spelling h.name ++ (to_be_bytes w32 (length h.locals) ++ flat_map local_spelling h.locals))
 
@@ -47,7 +47,7 @@ fence_ask_body a = to_be_bytes w32 a.node ++ name_spelling a.name
 abbrev pub commit_ask_body : CommitAsk → List ℕ
 commit_ask_body a = to_be_bytes w32 a.node ++ (proc_spelling a.proc ++ to_be_bytes w64 a.level)
 
--- what begins the body of a refresh ask and of a reply: the node, the number of its request, and whether this is the reply
+-- the start of the body of a refresh ask and of a reply: the node, the number of its request, and whether this is the reply
 abbrev pub asker_spelling : ℕ → ℕ → Bool → List ℕ
 asker_spelling node request role = to_be_bytes w32 node ++ (to_be_bytes w64 request ++ flag_spelling role)
 

@@ -1,4 +1,4 @@
--- How frames are written: each has one spelling in each version.
+-- The encoding of frames: each has one in each version.
 use Rattle.std.specs.Prelude.{ℕ, Bool, ◌==◌, ◌||◌, if◌then◌else◌, List, ◌∷◌, ◌++◌, length}
 use Rattle.std.specs.Int.{w32, to_be_bytes}
 use Rattle.pmg_frame.specs.RunSpelling.{short_header, short_fence_ask}
@@ -20,7 +20,7 @@ kind_of (frames.DirectAsk a) = 5
 kind_of (frames.RefreshAsk a) = 6
 kind_of (frames.RefreshReply r) = 6
 
--- a frame's body: from version 2 on the processes of a fence are written as runs
+-- a frame's body; from version 2 on the processes of a fence are written as runs
 abbrev pub body_spelling : ℕ → Frame → List ℕ
 body_spelling v (frames.Piece c) = piece_body c
 body_spelling v (frames.Header h) = if v == 1 then header_body h else short_header h
@@ -38,11 +38,11 @@ head_spelling v kind len = v ∷ kind ∷ to_be_bytes w32 len
 abbrev pub frame_spelling : ℕ → Frame → List ℕ
 frame_spelling v frame = head_spelling v (kind_of frame) (length (body_spelling v frame)) ++ body_spelling v frame
 
--- a frame, and the version in which it is spelled
+-- a frame, and the version of its encoding
 pub record Spelt : Type 0 where
   pub version : ℕ
   pub frame : Frame
 
--- its text
+-- its encoding
 abbrev pub spelt_text : Spelt → List ℕ
 spelt_text s = frame_spelling s.version s.frame

@@ -9,7 +9,7 @@ use pmg_value::{NodeId, Proc, Refusal};
 use std::alloc::AllocError;
 use std::marker::Model;
 
-/// A node asks for another node's header for a fence.
+/// A request of a node for another node's header of a fence.
 #[derive(Drop)]
 pub struct FenceAsk {
     node: NodeId,
@@ -26,8 +26,8 @@ impl Model for FenceAsk {
     ghost view = { λ a. fences.fence_ask a.node a.name };
 }
 
-/// A node asks for what a process sealed after the commits up to a level: for those that there are, or, in a direct
-/// modex, for later ones as soon as there are any.
+/// A request of a node for a process's commits after a level: for those that there are, or, in a direct modex, for later ones once there
+/// are any.
 #[derive(Drop)]
 pub struct CommitAsk {
     node: NodeId,
@@ -47,7 +47,7 @@ impl Model for CommitAsk {
     ghost invariant = { λ a. IsTrue (fences.is_ask (fences.commit_ask a.node a.proc a.level)) };
 }
 
-/// Whether a frame can ask for commits of the process after that one.
+/// Returns whether a frame can ask for commits of the process after that one.
 pub fn can_be_asked(proc: &Proc, level: u64) -> bool
     ensures { result ≡ is_ask (commit_ask 0 proc.now level) }
 {
@@ -55,28 +55,28 @@ pub fn can_be_asked(proc: &Proc, level: u64) -> bool
 }
 
 impl FenceAsk {
-    /// The ask of that node for that fence.
+    /// Returns the ask of that node for that fence.
     pub fn new(node: NodeId, name: FenceName) -> FenceAsk
         ensures { result ≡ fence_ask node name }
     {
         FenceAsk { node, name }
     }
 
-    /// The node that asks.
+    /// Returns the node that asks.
     pub fn node(&self) -> NodeId
         ensures { result ≡ self.now.node }
     {
         self.node
     }
 
-    /// The fence's name.
+    /// Returns the fence's name.
     pub fn name(&self) -> &FenceName
         ensures { result.now ≡ self.now.name }
     {
         &self.name
     }
 
-    /// A copy, equal to this ask.
+    /// Returns a copy, equal to this ask.
     pub fn copy(&self) -> Result<FenceAsk, AllocError>
         ensures { IfOk result (λ a. a ≡ self.now) }
     {
@@ -85,8 +85,8 @@ impl FenceAsk {
 }
 
 impl CommitAsk {
-    /// The ask of that node for the process's commits after the level. Refused as BadParam where the process is none that
-    /// commits, or the level goes past 4294967295.
+    /// Returns the ask of that node for the process's commits after the level. Errors: `BadParam` if the process does not commit, or the
+    /// level goes past 4294967295.
     pub fn new(node: NodeId, proc: Proc, level: u64) -> Result<CommitAsk, Refusal>
         ensures { result ≡ (if is_ask (commit_ask node proc level) then Ok (commit_ask node proc level) else Err refusals.BadParam) }
     {
@@ -96,7 +96,7 @@ impl CommitAsk {
         Ok(CommitAsk::from_checked(node, proc, level))
     }
 
-    /// The ask of a process and a level that were judged before.
+    /// Returns the ask of a process and a level that were judged before.
     pub fn from_checked(node: NodeId, proc: Proc, level: u64) -> CommitAsk
         requires { IsTrue (is_ask (commit_ask node proc level)) }
         ensures { result ≡ commit_ask node proc level }
@@ -104,14 +104,14 @@ impl CommitAsk {
         CommitAsk { node, proc, level }
     }
 
-    /// The node that asks.
+    /// Returns the node that asks.
     pub fn node(&self) -> NodeId
         ensures { result ≡ self.now.node }
     {
         self.node
     }
 
-    /// The process that commits.
+    /// Returns the process that commits.
     pub fn proc(&self) -> &Proc
         ensures value { result.now ≡ self.now.proc }
         ensures commits { IsTrue (is_client result.now || is_host result.now) }
@@ -119,7 +119,7 @@ impl CommitAsk {
         &self.proc
     }
 
-    /// The number of the last commit before those that are asked for.
+    /// Returns the number of the last commit before the requested ones.
     pub fn level(&self) -> u64
         ensures value { result ≡ self.now.level }
         ensures bound { result ≤ MAX_COMMIT }
@@ -127,7 +127,7 @@ impl CommitAsk {
         self.level
     }
 
-    /// A copy, equal to this ask.
+    /// Returns a copy, equal to this ask.
     pub fn copy(&self) -> Result<CommitAsk, AllocError>
         ensures { IfOk result (λ a. a ≡ self.now) }
     {

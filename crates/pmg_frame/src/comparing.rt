@@ -1,4 +1,4 @@
-//! Processes of ranks that follow one another, and how lists of processes compare.
+//! Processes of consecutive ranks, and the comparison of lists of processes.
 ghost use Rattle.std.specs.Prelude.{◌≡◌, ◌+◌, ◌≤◌, false, true, length, slice_get};
 ghost use Rattle.std.specs.Cmp.Lexicographic.{slice_cmp};
 ghost use Rattle.std.specs.List.Sorted.{IsStrictlySortedBy};
@@ -10,7 +10,7 @@ ghost use Rattle.pmg_frame.specs.declared.signature.TheConstants.{MAX_PARTICIPAN
 use pmg_value::Proc;
 use std::cmp::Ordering;
 
-/// Whether it is the process so far behind the first one: its rank is so much higher in the same namespace.
+/// Returns whether the process is so far behind the first one: in its namespace, with a rank that is so much higher.
 fn is_behind(process: &Proc, first: &Proc, distance: usize) -> bool
     requires { distance ≤ 8192 }
     ensures { result ≡ is_same_proc process.now (proc_ranks.at first.now (first.now.rank + distance)) }
@@ -19,7 +19,7 @@ fn is_behind(process: &Proc, first: &Proc, distance: usize) -> bool
         && process.rank.number() as u64 == first.rank.number() as u64 + distance as u64
 }
 
-/// Whether the process that goes on from the first one stands so far behind it.
+/// Returns whether the process so far behind the first one is at that index.
 pub fn goes_to(first: &Proc, procs: &[Proc], distance: usize) -> bool
     requires { distance ≤ 8192 }
     ensures { result ≡ unwrap_or (option_map (λ p. is_same_proc p (proc_ranks.at first.now (first.now.rank + distance))) (slice_get procs.now distance)) false }
@@ -30,7 +30,7 @@ pub fn goes_to(first: &Proc, procs: &[Proc], distance: usize) -> bool
     }
 }
 
-/// Whether the processes are one run that begins with the first one. Since they rise, their ends tell.
+/// Returns whether the processes are one run that begins with the first one. Processes rise, so that their ends are enough.
 fn is_run_from(first: &Proc, procs: &[Proc]) -> bool
     requires some { 1 ≤ length procs.now }
     requires few { length procs.now ≤ MAX_PARTICIPANTS }
@@ -40,7 +40,7 @@ fn is_run_from(first: &Proc, procs: &[Proc]) -> bool
     procs[0] == *first && goes_to(first, procs, procs.len() - 1)
 }
 
-/// Whether both lists are one run of the same processes.
+/// Returns whether both lists are one run, with the same processes.
 fn are_one_run(procs: &[Proc], others: &[Proc]) -> bool
     requires some { 1 ≤ length procs.now }
     requires few { length procs.now ≤ MAX_PARTICIPANTS }
@@ -52,7 +52,7 @@ fn are_one_run(procs: &[Proc], others: &[Proc]) -> bool
     others.len() == procs.len() && is_run_from(first, procs) && is_run_from(first, others)
 }
 
-/// How lists of processes compare. Of two that are one run it looks at few processes, as these rise.
+/// Compares lists of processes. If both are one run, it looks at few processes, because processes rise.
 pub fn compare(procs: &[Proc], others: &[Proc]) -> Ordering
     requires some { 1 ≤ length procs.now }
     requires few { length procs.now ≤ MAX_PARTICIPANTS }

@@ -16,7 +16,7 @@ use std::marker::Model;
 /// The greatest number of an instance.
 pub const MAX_INSTANCE: u64 = 4_294_967_295;
 
-/// The name of a fence: its signature, and which of the fences of that signature it is, counted from 1.
+/// The name of a fence: its signature, and its number among the fences of that signature, counted from 1.
 #[derive(Drop)]
 pub struct FenceName {
     signature: Signature,
@@ -41,7 +41,7 @@ impl Model for FenceName {
 }
 
 impl FenceName {
-    /// The instance of this number. Refused as BadParam where the number is not 1 to 4294967295.
+    /// Returns the instance of this number. Errors: `BadParam` if the number is not 1 to 4294967295.
     pub fn new(signature: Signature, instance: u64) -> Result<FenceName, Refusal>
         ensures { result ≡ (if is_instance instance then Ok (record { signature = signature; instance = instance }) else Err refusals.BadParam) }
     {
@@ -54,7 +54,7 @@ impl FenceName {
         })
     }
 
-    /// The instance of a number that is one of an instance, as was judged before.
+    /// Returns the instance of a number that was judged before.
     pub fn from_checked(signature: Signature, instance: u64) -> FenceName
         requires { IsTrue (is_instance instance) }
         ensures signature { result.signature ≡ signature }
@@ -66,14 +66,14 @@ impl FenceName {
         }
     }
 
-    /// The fence's signature.
+    /// Returns the fence's signature.
     pub fn signature(&self) -> &Signature
         ensures { result.now ≡ self.now.signature }
     {
         &self.signature
     }
 
-    /// The number of the instance.
+    /// Returns the number of the instance.
     pub fn instance(&self) -> u64
         ensures value { result ≡ self.now.instance }
         ensures bound { IsTrue (is_instance result) }
@@ -81,7 +81,7 @@ impl FenceName {
         self.instance
     }
 
-    /// Another name of the same fence.
+    /// Returns another name of the same fence.
     pub fn copy(&self) -> Result<FenceName, AllocError>
         ensures { IfOk result (λ f. f ≡ self.now) }
     {
@@ -92,7 +92,7 @@ impl FenceName {
     }
 }
 
-/// By the signature, then by the instance.
+/// The order by the signature, then by the instance.
 impl Ord for FenceName {
     ghost cmp = { name_cmp };
 

@@ -15,7 +15,7 @@ use pmg_value::{Cause, MAX_NODE, NodeId, Proc, Refusal};
 use pmg_wire::{Admits, Cursor, get_flag, get_proc};
 use std::alloc::Global;
 
-/// Whether the process is greater than the one before, where there is one.
+/// Returns whether the process is greater than the one before, if there is one.
 pub fn is_greater(before: Option<&Proc>, process: &Proc) -> bool
     ensures { result ≡ is_greater (option_copied before.entry) process.now }
 {
@@ -52,7 +52,7 @@ fn get_participants(alloc: Global, count: u32, at: &mut Cursor<'_>) -> Result<Ve
     Ok(participants)
 }
 
-// The fields of a fence's name: whether it collects, the instance, and the participants.
+// Reads the fields of a fence's name: whether it collects, the instance, and the participants.
 #[tactic(auto, unfolding(crate::specs::FenceReading::read_fields_by, crate::specs::FenceReading::read_participants))]
 fn get_name_fields(alloc: Global, at: &mut Cursor<'_>) -> Result<(bool, u64, Vec<Proc>), Refusal>
     ensures { Reads (λ t. name_fields t.0 t.1 t.2.items) result at.new (read_fields_by read_participants at.old) }
@@ -107,7 +107,7 @@ pub fn get_level(at: &mut Cursor<'_>) -> Result<u64, Refusal>
     Ok(level)
 }
 
-// Whether the process is greater than that of the one before, where there is one.
+// Returns whether the process is greater than the process of the line before, if there is one.
 pub fn is_behind(before: Option<&Local>, process: &Proc) -> bool
     ensures { result ≡ is_greater (option_map (λ l. l.proc) (option_copied before.entry)) process.now }
 {
@@ -156,7 +156,7 @@ fn get_locals(
     Ok(locals)
 }
 
-// The fields of a header: the node, the fence's name, and what it tells of each of its participants.
+// Reads the fields of a header: the node, the fence's name, and the lines of its participants.
 #[tactic(auto, unfolding(crate::specs::FenceReading::read_header))]
 fn get_header_fields(
     alloc: Global,
@@ -175,7 +175,7 @@ fn get_header_fields(
     Ok((node, name, locals))
 }
 
-/// The body of a header.
+/// Reads the body of a header.
 pub fn get_header(alloc: Global, at: &mut Cursor<'_>) -> Result<Header, Refusal>
     ensures { Reads (λ h. h) result at.new (read_header at.old) }
 {
@@ -185,7 +185,7 @@ pub fn get_header(alloc: Global, at: &mut Cursor<'_>) -> Result<Header, Refusal>
     Ok(Header::from_checked(node, name, locals))
 }
 
-/// The body of a fence ask.
+/// Reads the body of a fence ask.
 #[tactic(auto, unfolding(crate::specs::FenceReading::read_ask_by))]
 pub fn get_fence_ask(alloc: Global, at: &mut Cursor<'_>) -> Result<FenceAsk, Refusal>
     ensures { Reads (λ a. a) result at.new (read_fence_ask at.old) }
@@ -195,7 +195,7 @@ pub fn get_fence_ask(alloc: Global, at: &mut Cursor<'_>) -> Result<FenceAsk, Ref
     Ok(FenceAsk::new(node, name))
 }
 
-/// The fields of an ask for commits: the node, the process, and the level.
+/// Reads the fields of an ask for commits: the node, the process, and the level.
 #[tactic(auto, unfolding(crate::specs::FenceReading::read_commit_ask))]
 fn get_ask_fields(alloc: Global, at: &mut Cursor<'_>) -> Result<(NodeId, Proc, u64), Refusal>
     ensures { Reads (λ t. commit_ask t.0 t.1 t.2) result at.new (read_commit_ask at.old) }
@@ -206,7 +206,7 @@ fn get_ask_fields(alloc: Global, at: &mut Cursor<'_>) -> Result<(NodeId, Proc, u
     Ok((node, proc, level))
 }
 
-/// The body of an ask for commits.
+/// Reads the body of an ask for commits.
 pub fn get_commit_ask(alloc: Global, at: &mut Cursor<'_>) -> Result<CommitAsk, Refusal>
     ensures { Reads (λ a. a) result at.new (read_commit_ask at.old) }
 {

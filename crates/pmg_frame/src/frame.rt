@@ -20,39 +20,39 @@ use pmg_commit::{MAX_PIECE_SIZE, Piece};
 use pmg_value::Refusal;
 use std::alloc::{AllocError, Global};
 
-/// The greatest size of a frame's body, in bytes: that of a piece's.
+/// The greatest size of a frame's body, in bytes: the size of the largest piece.
 pub const MAX_BODY_SIZE: u32 = MAX_PIECE_SIZE as u32;
 
 /// The size of a frame's head, in bytes: the version, the kind, and four bytes of length.
 pub const HEAD_SIZE: usize = 6;
 
-/// What one server sends another.
+/// A message from one server to another.
 #[derive(Drop)]
 pub enum Frame {
-    /// What a process sealed in some of its commits.
+    /// The puts that a process sealed in some of its commits.
     Piece(Piece),
-    /// What a node tells of its own participants in a fence.
+    /// The states of a node's own participants in a fence.
     Header(Header),
     /// A node asks for another node's header.
     FenceAsk(FenceAsk),
-    /// A node asks for what a process sealed after a commit.
+    /// A node asks for the puts that a process sealed after a commit.
     RangeAsk(CommitAsk),
-    /// A node asks for a process's commits after those that it knows, once there are any.
+    /// A node asks for a process's commits after those that it knows, and waits until there are any.
     DirectAsk(CommitAsk),
     /// A node asks for a process's commits after those that it knows, under a number.
     RefreshAsk(RefreshAsk),
-    /// The commits, or that there are none, under that number.
+    /// The commits, or the news that no later commit was made, under that number.
     RefreshReply(RefreshReply),
 }
 
-/// Whether there are frames of that version.
+/// Returns whether frames have that version.
 pub fn is_version(version: u8) -> bool
     ensures { result ≡ is_version version }
 {
     version == 1 || version == 2
 }
 
-// The frame's one spelling in a version that there is.
+// Returns the frame's one encoding in a version of frames.
 fn encode_in(frame: &Frame, alloc: Global, version: u8) -> Result<BytesMut, AllocError>
     requires { IsTrue (is_version version) }
     ensures bytes { IfOk result (λ out. out.items ≡ frame_spelling version frame.now) }
@@ -72,8 +72,8 @@ fn encode_in(frame: &Frame, alloc: Global, version: u8) -> Result<BytesMut, Allo
 }
 
 impl Frame {
-    /// The frame's one spelling in version 2: its head and its body. What is encoded keeps the rules of its
-    /// kind and fits into a frame, so it is read back as the same frame.
+    /// Returns the frame's one encoding in version 2: its head and its body. The encoding keeps the rules of the frame's kind and fits into
+    /// a frame. Therefore it is read back as the frame.
     pub fn encode(&self, alloc: Global) -> Result<BytesMut, AllocError>
         ensures bytes { IfOk result (λ out. out.items ≡ frame_spelling 2 self.now) }
         ensures valid { OnOk result (IsFrame self.now) }
@@ -83,8 +83,8 @@ impl Frame {
         encode_in(self, alloc, 2)
     }
 
-    /// The frame's one spelling in that version, which is read back as `encode` says. Refused as BadParam where the
-    /// version is neither 1 nor 2, and as NoMemory.
+    /// Returns the frame's one encoding in that version, which is read back as `encode` says. Errors: `BadParam` for a version other than 1
+    /// and 2; `NoMemory`.
     pub fn encode_as(&self, alloc: Global, version: u8) -> Result<BytesMut, Refusal>
         ensures bytes { IfOk result (λ out. out.items ≡ frame_spelling version self.now) }
         ensures valid { OnOk result (IsFrame self.now) }
@@ -99,7 +99,7 @@ impl Frame {
         Ok(encode_in(self, alloc, version)?)
     }
 
-    /// A copy, equal to this frame.
+    /// Returns a copy, equal to this frame.
     pub fn copy(&self) -> Result<Frame, AllocError>
         ensures { IfOk result (λ f. f ≡ self.now) }
     {
@@ -114,7 +114,7 @@ impl Frame {
         })
     }
 
-    /// Whether the frames are one: they are of one kind and say the same.
+    /// Returns whether the frames are equal: of one kind, with equal fields.
     pub fn is_same(&self, other: &Frame) -> bool
         ensures { IsTrue result ↔ (self.now ≡ other.now) }
     {

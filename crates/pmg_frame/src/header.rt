@@ -12,8 +12,7 @@ use pmg_value::{Copied, NodeId, Refusal, copy_all};
 use std::alloc::AllocError;
 use std::marker::Model;
 
-/// A fence header: what a node tells of each of its own participants in a fence (PMIx Standard 5.0,
-/// PMIx_Fence). It fits into a frame.
+/// A fence header: the state of each of a node's own participants in a fence (PMIx Standard 5.0, PMIx_Fence). It fits into a frame.
 pub struct Header {
     node: NodeId,
     name: FenceName,
@@ -40,14 +39,14 @@ impl Model for Header {
     ghost invariant = { λ a. IsTrue (fences.is_header (fences.header a.node a.name a.locals.items)) };
 }
 
-/// Whether the next one is a greater process.
+/// Returns whether the next participant is a greater process.
 fn is_before(local: &Local, next: &Local) -> bool
     ensures { result ≡ is_local_rising local.now next.now }
 {
     local.proc < next.proc
 }
 
-/// Whether the processes rise strictly.
+/// Returns whether the processes rise strictly.
 fn are_rising(locals: &[Local]) -> bool
     ensures { result ≡ is_chain is_local_rising locals.now }
 {
@@ -59,14 +58,14 @@ fn are_rising(locals: &[Local]) -> bool
     true
 }
 
-/// Whether the process is a participant, and the level one that a frame can hold.
+/// Returns whether the process is a participant, and a frame can hold its level.
 fn is_one_of(name: &FenceName, local: &Local) -> bool
     ensures { result ≡ is_listed name.now local.now }
 {
     name.signature().contains(&local.proc) && local.level <= MAX_COMMIT
 }
 
-/// Whether each process is a participant, and each level one that a frame can hold.
+/// Returns whether each process is a participant, and a frame can hold each level.
 fn are_listed(name: &FenceName, locals: &[Local]) -> bool
     ensures { result ≡ list_all (is_listed name.now) locals.now }
 {
@@ -78,7 +77,7 @@ fn are_listed(name: &FenceName, locals: &[Local]) -> bool
     true
 }
 
-/// Whether a frame can hold the header.
+/// Returns whether a frame can hold the header.
 #[tactic(auto, unfolding(crate::specs::Fences::is_header))]
 fn can_be_framed(node: NodeId, name: &FenceName, locals: &[Local]) -> bool
     ensures { result ≡ is_header (header node name.now locals.now) }
@@ -88,9 +87,8 @@ fn can_be_framed(node: NodeId, name: &FenceName, locals: &[Local]) -> bool
 }
 
 impl Header {
-    /// The header of that node for that fence. Refused as BadParam where no frame can hold it: where it lists
-    /// no process or more than there are participants, the processes do not rise strictly, one is no
-    /// participant, or a level goes past 4294967295.
+    /// Returns the header of that node for that fence. Errors: `BadParam` if no frame can hold it: it lists no process or more than the
+    /// participants, the processes do not rise strictly, one is not a participant, or a level goes past 4294967295.
     pub fn new(node: NodeId, name: FenceName, locals: Vec<Local>) -> Result<Header, Refusal>
         ensures { result ≡ (if is_header (header node name locals.items) then Ok (header node name locals.items) else Err refusals.BadParam) }
     {
@@ -100,7 +98,7 @@ impl Header {
         Ok(Header::from_checked(node, name, locals))
     }
 
-    /// The header of what a frame can hold, as was judged before.
+    /// Returns a header that a frame can hold, as was judged before.
     pub fn from_checked(node: NodeId, name: FenceName, locals: Vec<Local>) -> Header
         requires { IsTrue (is_header (header node name locals.items)) }
         ensures { result ≡ header node name locals.items }
@@ -108,21 +106,21 @@ impl Header {
         Header { node, name, locals }
     }
 
-    /// The node that tells.
+    /// Returns the node that sends the header.
     pub fn node(&self) -> NodeId
         ensures { result ≡ self.now.node }
     {
         self.node
     }
 
-    /// The fence's name.
+    /// Returns the fence's name.
     pub fn name(&self) -> &FenceName
         ensures { result.now ≡ self.now.name }
     {
         &self.name
     }
 
-    /// What it tells of each of its participants, in their order.
+    /// Returns the states of its participants, in their order.
     pub fn locals(&self) -> &[Local]
         ensures value { result.now ≡ self.now.locals }
         ensures header { IsTrue (is_header self.now) }
@@ -133,7 +131,7 @@ impl Header {
         &self.locals
     }
 
-    /// A copy, equal to this header.
+    /// Returns a copy, equal to this header.
     pub fn copy(&self) -> Result<Header, AllocError>
         ensures { IfOk result (λ h. h ≡ self.now) }
     {

@@ -3,9 +3,9 @@ ghost use Rattle.pmg_frame.specs.Grammar.{IsFoundFrame, IsOnlyFrame, IsOneFrameS
 ghost use Rattle.pmg_frame.specs.Runs.{proc_ranks, local_ranks, HaveOneList};
 ghost use Rattle.pmg_frame.specs.Streams.{FeedsJoin, StaysClosed, IsDetermined, AreSpelled, AreFound, IsSaid};
 
-/// The laws of frames: what is read as a frame is spelled so, in one of the versions; what is spelled so is read; and no
-/// frame's spelling begins another's, whatever their versions, so each frame has one in each version. What a piece, a header
-/// or a reply can hold is what a frame can say, and headers and asks fit into a frame of either version.
+/// States the laws of frames. A frame that is read is encoded so, in one of the versions. An encoded frame is read. No frame's encoding is a
+/// prefix of another's in any version; therefore each frame has one in each version. A piece, a header or a reply is made exactly if a frame
+/// can hold it. Headers and asks fit into a frame of either version.
 pub fn frame_rules()
     ensures found { IsFoundFrame }
     ensures only { IsOnlyFrame }
@@ -16,14 +16,13 @@ pub fn frame_rules()
     ensures fitting { AreFitting }
 {}
 
-/// The law of runs: each list of processes, and each of what a header tells of some, has one list of runs.
+/// States the law of runs: each list of processes, and each list of a header's participants, has one list of runs.
 pub fn run_rules()
     ensures procs { HaveOneList proc_ranks }
     ensures locals { HaveOneList local_ranks }
 {}
 
-/// The laws of streams: however the bytes are cut, they say the same frames and the same fault, and those
-/// alone.
+/// States the laws of streams: the bytes determine the frames and the fault, however they are cut.
 pub fn stream_rules()
     ensures joined { FeedsJoin }
     ensures closed { StaysClosed }
@@ -33,7 +32,7 @@ pub fn stream_rules()
     ensures said { IsSaid }
 {}
 
-/// The orders of signatures and of fences' names tell each from each: what compares as equal is one.
+/// States that the orders of signatures and of fences' names are exact: names that compare as equal are equal.
 pub fn fence_order()
     ensures signatures { AreSignaturesExact }
     ensures names { AreNamesExact }

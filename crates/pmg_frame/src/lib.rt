@@ -1,4 +1,4 @@
-//! Frames: what servers send one another, and streams of them.
+//! Frames, which servers send one another, and streams of them.
 #![tactic(auto)]
 
 mod asks;

@@ -1,15 +1,14 @@
 use pmg_value::{Copied, Proc};
 use std::alloc::AllocError;
 
-/// How a participant stands to a fence: it has entered it, or it terminated before it did.
+/// The state of a participant in a fence: it has entered, or it terminated before it did.
 #[derive(Clone, Copy, PartialEq, Eq)]
 pub enum State {
     Entered,
     Gone,
 }
 
-/// What a header tells of one of its node's own participants: how it stands to the fence, and its level at the
-/// entry, or at its termination.
+/// The line of a header for one of its node's own participants: its state, and its level at the entry or at its termination.
 #[derive(Drop, PartialEq, Eq)]
 pub struct Local {
     pub proc: Proc,

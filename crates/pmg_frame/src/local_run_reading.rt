@@ -1,4 +1,4 @@
-//! What headers tell of their participants as runs: how it is read.
+//! Reads the participants of headers that are written as runs.
 ghost use Rattle.std.specs.Prelude.{◌≡◌, ◌≤◌, ◌++◌, false, [], slice_get, IfOk};
 ghost use Rattle.std.specs.FinSet as set;
 ghost use Rattle.std.specs.List.{list_all};
@@ -19,14 +19,14 @@ use pmg_value::{Cause, MAX_RANK, NodeId, Proc, Rank, Refusal};
 use pmg_wire::{Admits, Cursor, get_flag, get_proc};
 use std::alloc::{AllocError, Global};
 
-// Whether it is the process of this rank in the namespace of the first one.
+// Returns whether it is the process of this rank in the namespace of the first one.
 fn is_of_run(process: &Proc, first: &Proc, rank: u32) -> bool
     ensures { result ≡ is_same_proc process.now (record { nspace = first.now.nspace; rank = rank }) }
 {
     process.nspace == first.nspace && process.rank.number() == rank
 }
 
-// Whether the process of this rank in the namespace of the first one stands there.
+// Returns whether the process of this rank in the namespace of the first one is at that index.
 fn stands_at(list: &[Proc], index: usize, first: &Proc, rank: u32) -> bool
     ensures { result ≡ unwrap_or (option_map (λ p. is_same_proc p (record { nspace = first.now.nspace; rank = rank })) (slice_get list.now index)) false }
 {
@@ -36,7 +36,7 @@ fn stands_at(list: &[Proc], index: usize, first: &Proc, rank: u32) -> bool
     }
 }
 
-// Whether each process of a run is a participant. They rise, so this is seen of the first and the last.
+// Returns whether each process of a run is a participant. They rise, so that the first and the last are enough.
 fn are_participants(name: &FenceName, first: &Proc, last: u32) -> bool
     requires { first.now.rank ≤ last }
     ensures { result ≡ list_all (set.contains name.now.signature.participants) (line proc_ranks (ranks_to last first.now) first.now) }
@@ -51,7 +51,7 @@ fn are_participants(name: &FenceName, first: &Proc, last: u32) -> bool
     }
 }
 
-/// Whether a run goes on from the one with the other: the same is told of the process of the next rank.
+/// Returns whether a run goes on from the one with the other: the process of the next rank has the same state and level.
 pub fn goes_on(before: &Local, local: &Local) -> bool
     ensures { result ≡ local_ranks.same (next_rank local_ranks before.now) local.now }
 {
@@ -62,7 +62,7 @@ pub fn goes_on(before: &Local, local: &Local) -> bool
         && before.level == local.level
 }
 
-// Whether what is told is not what goes on from the one before, where there is one.
+// Returns whether the participant does not go on from the one before, if there is one.
 fn is_new(before: Option<&Local>, first: &Local) -> bool
     ensures { result ≡ is_new local_ranks (option_copied before.entry) first.now }
 {
@@ -72,7 +72,7 @@ fn is_new(before: Option<&Local>, first: &Local) -> bool
     }
 }
 
-// What a header tells of a run of participants, after another one or none: of the first of them, and the last rank.
+// Reads a run of participants of a header, after another participant or none: the first of them, and the last rank.
 #[tactic(auto, unfolding(crate::specs::RunReading::read_local_part))]
 fn get_local_part(
     alloc: Global,
@@ -107,7 +107,7 @@ fn get_local_part(
     Ok((first, last))
 }
 
-// The same, told of the process of another rank in the namespace.
+// Returns the state and level of this participant for the process of another rank in the namespace.
 fn at_rank(local: &Local, rank: u32) -> Result<Local, AllocError>
     ensures { IfOk result (λ l. l ≡ local_ranks.at local.now rank) }
 {
@@ -118,7 +118,7 @@ fn at_rank(local: &Local, rank: u32) -> Result<Local, AllocError>
     })
 }
 
-// What is told of a run behind what was told before it.
+// Appends the participants of a run.
 fn with_run(locals: Vec<Local>, first: &Local, last: u32) -> Result<Vec<Local>, AllocError>
     requires some { first.now.proc.rank ≤ last }
     requires last { last ≤ MAX_RANK }
@@ -160,7 +160,7 @@ fn get_each_run(
     Ok(locals)
 }
 
-// What a header tells of its participants.
+// Reads the participants of a header.
 #[tactic(auto, unfolding(crate::specs::RunReading::read_local_runs))]
 fn get_local_runs(
     alloc: Global,
@@ -177,7 +177,7 @@ fn get_local_runs(
     get_each_run(alloc, name, count, at)
 }
 
-// The fields of a header: the node, the fence's name, and what it tells of its participants.
+// Reads the fields of a header: the node, the fence's name, and its participants.
 #[tactic(auto, unfolding(crate::specs::RunReading::read_short_header))]
 fn get_short_fields(
     alloc: Global,
@@ -191,7 +191,7 @@ fn get_short_fields(
     Ok((node, name, locals))
 }
 
-/// The body of a header, with its participants as runs.
+/// Reads the body of a header, with its participants as runs.
 pub fn get_short_header(alloc: Global, at: &mut Cursor<'_>) -> Result<Header, Refusal>
     ensures { Reads (λ h. h) result at.new (read_short_header at.old) }
 {

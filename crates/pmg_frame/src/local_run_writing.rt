@@ -1,4 +1,4 @@
-//! What headers tell of their participants as runs: how it is written.
+//! Writes the participants of headers as runs.
 ghost use Rattle.std.specs.Prelude.{◌≡◌, ℕ, ◌-◌, ◌<◌, ◌≤◌, ◌++◌, drop, length, IfOk, OnOk};
 ghost use Rattle.std.specs.Int.{w32, to_be_bytes};
 ghost use Rattle.std.specs.List.{flat_map};
@@ -18,7 +18,7 @@ use bytes::BytesMut;
 use pmg_wire::put_proc;
 use std::alloc::{AllocError, Global};
 
-// Where the run ends that begins there.
+// Returns the end of the run that begins there.
 fn run_end(locals: &[Local], start: usize) -> usize
     requires { start < length locals.now }
     ensures after { start < result }
@@ -33,7 +33,7 @@ fn run_end(locals: &[Local], start: usize) -> usize
     locals.len()
 }
 
-// The bytes that what is told of a run takes in a frame.
+// Returns the number of bytes of a run in a frame.
 fn run_size(first: &Local) -> usize
     ensures value { (last : ℕ) → result ≡ length (local_run_spelling (run first.now last)) }
     ensures bound { result ≤ 273 }
@@ -41,7 +41,7 @@ fn run_size(first: &Local) -> usize
     proc_size(&first.proc) + 13
 }
 
-/// The bytes that what is told of these participants takes in a frame, as runs.
+/// Returns the number of bytes of these participants in a frame, as runs.
 pub fn local_runs_size(locals: &[Local]) -> usize
     requires { length locals.now ≤ MAX_PARTICIPANTS }
     ensures value { result ≡ length (local_runs_spelling locals.now) }
@@ -56,7 +56,7 @@ pub fn local_runs_size(locals: &[Local]) -> usize
     size
 }
 
-// How many runs these are.
+// Counts the runs.
 fn count_runs(locals: &[Local]) -> usize
     ensures value { result ≡ length (runs_of local_ranks locals.now) }
     ensures bound { result ≤ length locals.now }
@@ -91,7 +91,7 @@ fn put_each_run(out: &mut BytesMut, locals: &[Local]) -> Result<(), AllocError>
     Ok(())
 }
 
-/// What is told of these participants, as runs.
+/// Writes these participants, as runs.
 fn put_local_runs(out: &mut BytesMut, locals: &[Local]) -> Result<(), AllocError>
     requires { length locals.now ≤ MAX_PARTICIPANTS }
     ensures { OnOk result (out.new.items ≡ out.old.items ++ local_runs_spelling locals.now) }
@@ -101,7 +101,7 @@ fn put_local_runs(out: &mut BytesMut, locals: &[Local]) -> Result<(), AllocError
     put_each_run(out, locals)
 }
 
-/// The body of a header, with its participants as runs.
+/// Writes the body of a header, with its participants as runs.
 pub fn put_short_header(out: &mut BytesMut, header: &Header) -> Result<(), AllocError>
     ensures bytes { OnOk result (out.new.items ≡ out.old.items ++ short_header header.now) }
     ensures valid { OnOk result (IsHeader header.now) }
@@ -111,7 +111,7 @@ pub fn put_short_header(out: &mut BytesMut, header: &Header) -> Result<(), Alloc
     put_local_runs(out, header.locals())
 }
 
-/// A header of that version, with its participants as runs.
+/// Encodes a header in that version, with its participants as runs.
 pub fn encode_short_header(
     alloc: Global,
     version: u8,

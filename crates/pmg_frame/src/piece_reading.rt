@@ -14,7 +14,7 @@ use std::alloc::Global;
 /// The fewest bytes that an entry takes: the length of a key, a key of one byte, a number, and a value of two bytes.
 const LEAST_ENTRY_SIZE: usize = 13;
 
-// Whether the key is greater than that of the entry before, where there is one.
+// Returns whether the key is greater than the key of the entry before, if there is one.
 fn is_key_after(before: Option<&PieceEntry>, key: &Key) -> bool
     ensures { result ≡ is_after (option_map (λ e. entry_of e.now) before.entry) key.now }
 {
@@ -66,7 +66,7 @@ fn get_entries(
     Ok(entries)
 }
 
-// Whether these are the commits after one up to another, of which there is one at least, unless there may be none.
+// Returns whether these are the commits after one up to another: at least one commit, unless there may be none.
 fn is_range(none: bool, from: u64, to: u64) -> bool
     ensures { result ≡ is_range none from to }
 {
@@ -86,8 +86,7 @@ fn get_range(none: bool, at: &mut Cursor<'_>) -> Result<(u64, u64), Refusal>
     Ok((from, to))
 }
 
-/// What is told of some commits, or of none where that may be: the process, the last commit before them and their last one, and
-/// the entries.
+/// Reads some commits, or none if that may be: the process, the last commit before them and their last one, and the entries.
 #[tactic(auto, unfolding(crate::specs::PieceReading::read_told))]
 pub fn get_told(
     alloc: Global,
@@ -107,7 +106,7 @@ pub fn get_told(
     Ok((process, from, to, entries))
 }
 
-/// The body of a piece, in bytes that are not more than a body may have.
+/// Reads the body of a piece, in at most as many bytes as a body may have.
 pub fn get_piece(alloc: Global, at: &mut Cursor<'_>) -> Result<Piece, Refusal>
     requires { length at.old.rest ≤ MAX_BODY_SIZE }
     ensures { Reads (λ p. p) result at.new (read_piece at.old) }

@@ -16,14 +16,14 @@ use std::alloc::Global;
 /// The greatest number of a kind: kinds are counted from 1.
 const MAX_KIND: u8 = 6;
 
-/// What a head tells: the version, the kind, and the length of the body.
+/// The fields of a head: the version, the kind, and the length of the body.
 pub(crate) struct Head {
     version: u8,
     kind: u8,
     len: u32,
 }
 
-// The fields of a body of that version and kind.
+// Reads the fields of a body of that version and kind.
 #[tactic(auto, unfolding(crate::specs::Reading::read_fields))]
 fn get_fields(alloc: Global, version: u8, kind: u8, at: &mut Cursor<'_>) -> Result<Frame, Refusal>
     requires { length at.old.rest ≤ MAX_BODY_SIZE }
@@ -76,8 +76,8 @@ fn get_head(at: &mut Cursor<'_>) -> Result<Head, Refusal>
     Ok(Head { version, kind, len })
 }
 
-/// Reads the next frame, or nothing while it is not all there. Refused as BadFrame at the first fault, and as
-/// NoMemory; a refusal leaves the cursor where it was.
+/// Reads the next frame, or nothing while it is incomplete. A refusal leaves the cursor where it was. Errors: `BadFrame` with the first
+/// fault; `NoMemory`.
 #[tactic(auto, unfolding(crate::specs::Reading::read_frame, crate::specs::Reading::behind_head))]
 pub fn get_frame(alloc: Global, at: &mut Cursor<'_>) -> Result<Option<Frame>, Refusal>
     ensures { ReadsFrame result at.old at.new }

@@ -1,4 +1,4 @@
-//! Reading of refresh asks and of their replies.
+//! Reads refresh asks and their replies.
 ghost use Rattle.std.specs.Prelude.{◌≡◌, ◌+◌, ◌≤◌, length, IsTrue};
 ghost use Rattle.pmg_wire.specs.Reading.{Reads};
 ghost use Rattle.pmg_frame.specs.Refreshing.{is_request};
@@ -27,7 +27,7 @@ fn get_request(at: &mut Cursor<'_>) -> Result<u64, Refusal>
     Ok(request)
 }
 
-// The node that asks, the number of its request, and whether this is the reply.
+// Reads the node that asks, the number of its request, and whether this is the reply.
 #[tactic(auto, unfolding(crate::specs::RefreshReading::read_asker))]
 fn get_asker(at: &mut Cursor<'_>) -> Result<(NodeId, u64, bool), Refusal>
     ensures { Reads (λ t. (t.0, (t.1, t.2))) result at.new (read_asker at.old) }
@@ -74,7 +74,7 @@ fn get_refresh_reply(
     Ok(RefreshReply::from_checked(node, request, proc, from, to, entries))
 }
 
-/// The body of a refresh ask or of a reply, in bytes that are not more than a body may have.
+/// Reads the body of a refresh ask or of a reply, in at most as many bytes as a body may have.
 #[tactic(auto, unfolding(crate::specs::RefreshReading::read_refresh))]
 pub fn get_refresh(alloc: Global, at: &mut Cursor<'_>) -> Result<Frame, Refusal>
     requires { length at.old.rest ≤ MAX_BODY_SIZE }

@@ -1,4 +1,4 @@
-//! What a refreshing get asks of its target's home, and what is replied (PMIx Standard 5.0, PMIX_GET_REFRESH_CACHE).
+//! The request of a refreshing get to its target's home, and the reply (PMIx Standard 5.0, PMIX_GET_REFRESH_CACHE).
 ghost use Rattle.std.specs.Prelude.{◌≡◌, ◌+◌, ◌≤◌, ◌&&◌, nat_le, map, length, IsTrue, IfOk, Ok, Err, if◌then◌else◌};
 ghost use Rattle.pmg_value.specs.declared.refusal.Refusal.TheVariants as refusals;
 ghost use Rattle.pmg_commit.specs.Pieces.{entry_of, contribution, body_size};
@@ -12,10 +12,11 @@ use pmg_value::{NodeId, Proc, Refusal, copy_all};
 use std::alloc::{AllocError, Global};
 use std::marker::Model;
 
-/// The bytes of a reply's body before what is told: the node, the number of the request, and the role.
+/// The bytes of a reply's body before the contribution: the node, the number of the request, and the role.
 const ASKER_SIZE: usize = 13;
 
-/// A node asks for what a process sealed after the commits that it knows, under a number of its own, counted from 1.
+/// A request of a node for the puts that a process sealed after the commits that the node knows, under a number of the node's own, counted
+/// from 1.
 #[derive(Drop)]
 pub struct RefreshAsk {
     request: u64,
@@ -34,7 +35,7 @@ impl Model for RefreshAsk {
 }
 
 impl RefreshAsk {
-    /// The ask under that number. Refused as BadParam where the number is 0.
+    /// Returns the ask under that number. Errors: `BadParam` for the number 0.
     pub fn new(request: u64, ask: CommitAsk) -> Result<RefreshAsk, Refusal>
         ensures { result ≡ (if is_request request then Ok (refresh_ask request ask) else Err refusals.BadParam) }
     {
@@ -44,7 +45,7 @@ impl RefreshAsk {
         Ok(RefreshAsk::from_checked(request, ask))
     }
 
-    /// The ask under a number that was judged before.
+    /// Returns the ask under a number that was judged before.
     pub fn from_checked(request: u64, ask: CommitAsk) -> RefreshAsk
         requires { IsTrue (is_request request) }
         ensures { result ≡ refresh_ask request ask }
@@ -52,7 +53,7 @@ impl RefreshAsk {
         RefreshAsk { request, ask }
     }
 
-    /// The number of the request.
+    /// Returns the number of the request.
     pub fn request(&self) -> u64
         ensures value { result ≡ self.now.request }
         ensures some { IsTrue (is_request result) }
@@ -60,14 +61,14 @@ impl RefreshAsk {
         self.request
     }
 
-    /// Who asks for which commits.
+    /// Returns the ask for commits.
     pub fn ask(&self) -> &CommitAsk
         ensures { result.now ≡ self.now.ask }
     {
         &self.ask
     }
 
-    /// A copy, equal to this ask.
+    /// Returns a copy, equal to this ask.
     pub fn copy(&self) -> Result<RefreshAsk, AllocError>
         ensures { IfOk result (λ a. a ≡ self.now) }
     {
@@ -75,8 +76,8 @@ impl RefreshAsk {
     }
 }
 
-/// The home of a process replies to a refresh ask, under its number: what the process sealed in the commits from+1 to to, or, where
-/// from is to, that it made none after that one. It fits into a frame.
+/// The reply of a process's home to a refresh ask, under its number: the puts that the process sealed in the commits from+1 to to, or, if
+/// from is to, the news that it made no later commit. It fits into a frame.
 pub struct RefreshReply {
     node: NodeId,
     request: u64,
@@ -112,21 +113,21 @@ impl Model for RefreshReply {
         IsTrue (refreshing.is_refresh_reply (refreshing.refresh_reply a.node a.request (contribution a.proc a.from a.to a.entries.items))) };
 }
 
-/// Whether the request has a number, and what is told a size, that a frame can hold.
+/// Returns whether a frame can hold the request's number, and a contribution of that size.
 fn is_small(request: u64, size: usize) -> bool
     ensures { result ≡ (is_request request && nat_le (13 + size) MAX_BODY_SIZE) }
 {
     0 < request && size <= MAX_BODY_SIZE as usize - ASKER_SIZE
 }
 
-/// Whether a frame can tell the piece.
+/// Returns whether a frame can hold the piece as a reply.
 fn can_tell(node: NodeId, request: u64, piece: &Piece) -> bool
     ensures { result ≡ is_refresh_reply (refresh_reply node request piece.now) }
 {
     is_small(request, piece.size())
 }
 
-/// Whether a frame can tell that the process made no commit after that one.
+/// Returns whether a frame can hold the news that the process made no commit after that one.
 fn can_tell_nothing(node: NodeId, request: u64, proc: &Proc, level: u64) -> bool
     ensures { result ≡ is_refresh_reply (refresh_reply node request (no_commits proc.now level)) }
 {
@@ -134,8 +135,8 @@ fn can_tell_nothing(node: NodeId, request: u64, proc: &Proc, level: u64) -> bool
 }
 
 impl RefreshReply {
-    /// The reply to that node's request of that number, that there is this piece. Refused as BadParam where the number is 0, or
-    /// the body would have more than 16777216 bytes.
+    /// Returns the reply to that node's request of that number, with this piece. Errors: `BadParam` if the number is 0, or the body would
+    /// have more than 16777216 bytes.
     pub fn new(node: NodeId, request: u64, piece: Piece) -> Result<RefreshReply, Refusal>
         ensures { let r = refresh_reply node request piece in
             result ≡ (if is_refresh_reply r then Ok r else Err refusals.BadParam) }
@@ -147,8 +148,8 @@ impl RefreshReply {
         Ok(RefreshReply::from_checked(node, request, proc, from, to, entries))
     }
 
-    /// The reply to that node's request of that number, that the process made no commit after that one. Refused as BadParam
-    /// where the number is 0, the process is none that commits, or the level goes past 4294967295.
+    /// Returns the reply to that node's request of that number, that the process made no commit after that one. Errors: `BadParam` if the
+    /// number is 0, the process does not commit, or the level goes past 4294967295.
     pub fn nothing(
         alloc: Global,
         node: NodeId,
@@ -165,7 +166,7 @@ impl RefreshReply {
         Ok(RefreshReply::from_checked(node, request, proc, level, level, Vec::new(alloc)))
     }
 
-    /// The reply of what a frame can hold, as was judged before.
+    /// Returns a reply that a frame can hold, as was judged before.
     pub fn from_checked(
         node: NodeId,
         request: u64,
@@ -187,42 +188,42 @@ impl RefreshReply {
         }
     }
 
-    /// The node that asked.
+    /// Returns the node that asked.
     pub fn node(&self) -> NodeId
         ensures { result ≡ self.now.node }
     {
         self.node
     }
 
-    /// The number of its request.
+    /// Returns the number of its request.
     pub fn request(&self) -> u64
         ensures { result ≡ self.now.request }
     {
         self.request
     }
 
-    /// The process of whose commits it tells.
+    /// Returns the process whose commits the reply has.
     pub fn proc(&self) -> &Proc
         ensures { result.now ≡ self.now.told.proc }
     {
         &self.proc
     }
 
-    /// The number of the last commit before those that are told.
+    /// Returns the number of the last commit before those of the reply.
     pub fn from(&self) -> u64
         ensures { result ≡ self.now.told.from }
     {
         self.from
     }
 
-    /// The number of the last commit that is told.
+    /// Returns the number of the last commit of the reply.
     pub fn to(&self) -> u64
         ensures { result ≡ self.now.told.to }
     {
         self.to
     }
 
-    /// What the commits left, in the order of the keys.
+    /// Returns the entries of the commits, in the order of the keys.
     pub fn entries(&self) -> &[PieceEntry]
         ensures value { map entry_of result.now ≡ self.now.told.entries }
         ensures reply { IsTrue (is_refresh_reply self.now) }
@@ -231,7 +232,7 @@ impl RefreshReply {
         &self.entries
     }
 
-    /// The bytes that it takes in a frame's body.
+    /// Returns the number of its bytes in a frame's body.
     pub fn size(&self) -> usize
         ensures value { result ≡ 13 + body_size self.now.told.proc self.now.told.entries }
         ensures bound { result ≤ MAX_BODY_SIZE }
@@ -239,7 +240,7 @@ impl RefreshReply {
         ASKER_SIZE + self.proc.nspace.as_bytes().len() + 25 + entries_size(self.entries())
     }
 
-    /// The piece of the commits, where there are any.
+    /// Returns the piece of the commits, if there are any.
     pub fn into_piece(self) -> Option<Piece>
         ensures { result ≡ told_by self }
     {
@@ -258,7 +259,7 @@ impl RefreshReply {
         }
     }
 
-    /// A copy, equal to this reply.
+    /// Returns a copy, equal to this reply.
     pub fn copy(&self) -> Result<RefreshReply, AllocError>
         ensures { IfOk result (λ r. r ≡ self.now) }
     {

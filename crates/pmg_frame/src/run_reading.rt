@@ -1,4 +1,4 @@
-//! Participants that are written as runs.
+//! Reads participants that are written as runs.
 ghost use Rattle.std.specs.Prelude.{◌≡◌, ◌+◌, ◌≤◌, ◌++◌, [], length, IfOk};
 ghost use Rattle.std.specs.Option.{option_copied};
 ghost use Rattle.pmg_wire.specs.Reading.{Reads};
@@ -15,7 +15,7 @@ use pmg_value::{Cause, MAX_RANK, Proc, Rank, Refusal};
 use pmg_wire::{Admits, Cursor, get_flag, get_proc};
 use std::alloc::{AllocError, Global};
 
-// Whether the process is not the one that goes on from the one before, where there is one.
+// Returns whether the process does not go on from the one before, if there is one.
 fn is_new(before: Option<&Proc>, process: &Proc) -> bool
     ensures { result ≡ is_new proc_ranks (option_copied before.entry) process.now }
 {
@@ -28,7 +28,7 @@ fn is_new(before: Option<&Proc>, process: &Proc) -> bool
     }
 }
 
-// A run of participants, after a process or none, where so many were before it: the first, and the last rank.
+// Reads a run of participants, its first process and its last rank, after a process or none, and after so many participants.
 #[tactic(auto, unfolding(crate::specs::RunReading::read_part))]
 fn get_part(
     alloc: Global,
@@ -59,7 +59,7 @@ fn get_part(
     Ok((first, last))
 }
 
-// The processes with those of a run behind them.
+// Appends the processes of a run.
 fn with_run(procs: Vec<Proc>, first: Proc, last: u32) -> Result<Vec<Proc>, AllocError>
     requires some { first.rank ≤ last }
     requires last { last ≤ MAX_RANK }
@@ -92,7 +92,7 @@ fn get_each_run(alloc: Global, count: u32, at: &mut Cursor<'_>) -> Result<Vec<Pr
     Ok(procs)
 }
 
-// The participants.
+// Reads the participants.
 #[tactic(auto, unfolding(crate::specs::RunReading::read_runs))]
 fn get_runs(alloc: Global, at: &mut Cursor<'_>) -> Result<Vec<Proc>, Refusal>
     ensures { Reads (λ ps. ps.items) result at.new (read_runs at.old) }
@@ -105,7 +105,7 @@ fn get_runs(alloc: Global, at: &mut Cursor<'_>) -> Result<Vec<Proc>, Refusal>
     get_each_run(alloc, count, at)
 }
 
-// The fields of a fence's name: whether it collects, the instance, and the participants.
+// Reads the fields of a fence's name: whether it collects, the instance, and the participants.
 #[tactic(auto, unfolding(crate::specs::FenceReading::read_fields_by))]
 fn get_short_fields(alloc: Global, at: &mut Cursor<'_>) -> Result<(bool, u64, Vec<Proc>), Refusal>
     ensures { Reads (λ t. name_fields t.0 t.1 t.2.items) result at.new (read_fields_by read_runs at.old) }
@@ -120,7 +120,7 @@ fn get_short_fields(alloc: Global, at: &mut Cursor<'_>) -> Result<(bool, u64, Ve
     Ok((collect, instance, participants))
 }
 
-/// A fence's name, with its participants as runs.
+/// Reads a fence's name, with its participants as runs.
 #[tactic(auto, unfolding(crate::specs::FenceReading::read_name_by))]
 pub fn get_short_name(alloc: Global, at: &mut Cursor<'_>) -> Result<FenceName, Refusal>
     ensures { Reads (λ f. f) result at.new (read_short_name at.old) }
@@ -132,7 +132,7 @@ pub fn get_short_name(alloc: Global, at: &mut Cursor<'_>) -> Result<FenceName, R
     Ok(FenceName::from_checked(signature, instance))
 }
 
-/// The body of a fence ask, with the participants as runs.
+/// Reads the body of a fence ask, with the participants as runs.
 #[tactic(auto, unfolding(crate::specs::FenceReading::read_ask_by))]
 pub fn get_short_ask(alloc: Global, at: &mut Cursor<'_>) -> Result<FenceAsk, Refusal>
     ensures { Reads (λ a. a) result at.new (read_short_ask at.old) }

@@ -1,4 +1,4 @@
-//! Participants as runs: how they are written.
+//! Writes participants as runs.
 ghost use Rattle.std.specs.Prelude.{◌≡◌, ◌+◌, ◌*◌, ◌<◌, ◌≤◌, ◌++◌, length, slice_get, Some, IfOk, OnOk, IsTrue};
 ghost use Rattle.std.specs.List.{flat_map, list_all};
 ghost use Rattle.std.specs.List.Sorted.{IsStrictlySortedBy};
@@ -20,7 +20,7 @@ use pmg_value::Proc;
 use pmg_wire::put_proc;
 use std::alloc::{AllocError, Global};
 
-// How far the first run goes at least, and how far behind that it has ended.
+// Returns an index that the first run reaches, and a distance past it that the run does not reach.
 fn far_ends(first: &Proc, procs: &[Proc]) -> (usize, usize)
     requires few { length procs.now ≤ MAX_PARTICIPANTS }
     requires first { slice_get procs.now 0 ≡ Some first.now }
@@ -37,7 +37,7 @@ fn far_ends(first: &Proc, procs: &[Proc]) -> (usize, usize)
     (known, step)
 }
 
-// How many of the processes are their first run. It looks at few of them, as they rise.
+// Returns how many of the processes are their first run. It looks at few of them, because they rise.
 fn first_run(procs: &[Proc]) -> usize
     requires some { 1 ≤ length procs.now }
     requires few { length procs.now ≤ MAX_PARTICIPANTS }
@@ -83,7 +83,7 @@ fn put_runs(out: &mut BytesMut, procs: &[Proc]) -> Result<(), AllocError>
     Ok(())
 }
 
-/// How many runs there are of these processes, and the bytes that they take in a frame.
+/// Returns the number of runs of these processes, and of their bytes in a frame.
 fn runs_size(procs: &[Proc]) -> (usize, usize)
     requires few { length procs.now ≤ MAX_PARTICIPANTS }
     requires rising { IsStrictlySortedBy proc_cmp procs.now }
@@ -104,7 +104,7 @@ fn runs_size(procs: &[Proc]) -> (usize, usize)
     (count, size)
 }
 
-/// The bytes that a fence's name takes in a frame, with its participants as runs.
+/// Returns the number of bytes of a fence's name in a frame, with its participants as runs.
 pub fn short_name_size(name: &FenceName) -> usize
     ensures value { result ≡ length (short_name name.now) }
     ensures bound { result ≤ 1081357 }
@@ -113,7 +113,7 @@ pub fn short_name_size(name: &FenceName) -> usize
     size + 13
 }
 
-/// A fence's name, with its participants as runs.
+/// Writes a fence's name, with its participants as runs.
 pub fn put_short_name(out: &mut BytesMut, name: &FenceName) -> Result<(), AllocError>
     ensures bytes { OnOk result (out.new.items ≡ out.old.items ++ short_name name.now) }
     ensures valid { OnOk result (IsName name.now) }
@@ -134,7 +134,7 @@ fn put_short_fence_ask(out: &mut BytesMut, ask: &FenceAsk) -> Result<(), AllocEr
     put_short_name(out, ask.name())
 }
 
-/// A fence ask of that version, with the participants as runs.
+/// Encodes a fence ask in that version, with the participants as runs.
 pub fn encode_short_fence_ask(
     alloc: Global,
     version: u8,

@@ -21,11 +21,11 @@ use std::sync::Arc;
 /// The most participants of a fence.
 pub const MAX_PARTICIPANTS: usize = 4096;
 
-/// Where the participants of a fence are listed.
+/// The storage of the participants of a fence.
 enum Participants {
-    /// In a list of one owner's.
+    /// A list of one owner.
     Own(Vec<Proc>),
-    /// In one that all copies share.
+    /// A list that all copies share.
     Shared(Arc<Vec<Proc>>),
 }
 
@@ -39,7 +39,7 @@ impl Drop for Participants {
 }
 
 impl Participants {
-    /// The processes that are listed.
+    /// Returns the listed processes.
     fn as_slice(&self) -> &[Proc]
         ensures { result.now ≡ listed_in self.now }
     {
@@ -49,7 +49,7 @@ impl Participants {
         }
     }
 
-    /// The same list, which all copies share from now on.
+    /// Returns this list, which all copies share from now on.
     fn shared(self, alloc: Global) -> Result<Participants, AllocError>
         ensures { IfOk result (λ list. listed_in list ≡ listed_in self) }
     {
@@ -59,7 +59,7 @@ impl Participants {
         }
     }
 
-    /// Another list of the same processes.
+    /// Returns another list of the same processes.
     fn copy(&self) -> Result<Participants, AllocError>
         ensures { IfOk result (λ list. listed_in list ≡ listed_in self.now) }
     {
@@ -110,9 +110,8 @@ fn are_clients(list: &[Proc]) -> bool
 }
 
 impl Signature {
-    /// The signature of the processes in the list; order and repeats do not matter. Refused as BadParam where
-    /// the list is empty, or names a process that no group may register, and as TooMany where it names more
-    /// than 4096.
+    /// Returns the signature of the processes in the list. Order and repeats do not matter. Errors: `BadParam` if the list is empty, or
+    /// names a process that no group may register; `TooMany` if it names more than 4096.
     #[tactic(auto, unfolding(crate::specs::Fences::asked_signature))]
     pub fn new(list: Vec<Proc>, collect: bool) -> Result<Signature, Refusal>
         ensures { result ≡ asked_signature list.items collect }
@@ -135,7 +134,7 @@ impl Signature {
         })
     }
 
-    /// The signature of processes that are in order already.
+    /// Returns the signature of processes that are in order already.
     pub fn from_rising(participants: Vec<Proc>, collect: bool) -> Signature
         requires { AreParticipants participants.items }
         ensures { result ≡ signature participants.items collect }
@@ -146,7 +145,7 @@ impl Signature {
         }
     }
 
-    /// The same signature, whose copies share its list from now on, and so take no memory.
+    /// Returns this signature. From now on its copies share its list, and take no memory.
     pub fn shared(self, alloc: Global) -> Result<Signature, AllocError>
         ensures { IfOk result (λ s. s ≡ self) }
     {
@@ -160,7 +159,7 @@ impl Signature {
         })
     }
 
-    /// The participants, each greater than the one before.
+    /// Returns the participants, each greater than the one before.
     pub fn participants(&self) -> &[Proc]
         ensures value { result.now ≡ in_order self.now.participants }
         ensures clients { IsTrue (list_all is_client result.now) }
@@ -170,21 +169,21 @@ impl Signature {
         self.participants.as_slice()
     }
 
-    /// Whether the fence collects data.
+    /// Returns whether the fence collects data.
     pub fn collect(&self) -> bool
         ensures { result ≡ self.now.collect }
     {
         self.collect
     }
 
-    /// Whether the process is a participant.
+    /// Returns whether the process is a participant.
     pub fn contains(&self, process: &Proc) -> bool
         ensures { result ≡ set.contains self.now.participants process.now }
     {
         self.participants.as_slice().binary_search(process).is_ok()
     }
 
-    /// A copy, equal to this signature. It takes memory for its list, unless that is shared.
+    /// Returns a copy, equal to this signature. It takes memory for its list, unless the list is shared.
     pub fn copy(&self) -> Result<Signature, AllocError>
         ensures { IfOk result (λ s. s ≡ self.now) }
     {
@@ -201,7 +200,7 @@ impl Copied for Signature {
     }
 }
 
-/// By the participants in their order, then by whether data is collected.
+/// The order by the participants in their order, then by whether data is collected.
 impl Ord for Signature {
     ghost cmp = { signature_cmp };
 

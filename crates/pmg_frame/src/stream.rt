@@ -10,8 +10,7 @@ use pmg_wire::Cursor;
 use std::alloc::{AllocError, Global};
 use std::marker::Model;
 
-/// What a stream found in the bytes that it was fed: the frames that are whole now, and the fault that
-/// comes after them, where one comes.
+/// The result of feeding a stream: the frames that are complete now, and the fault after them, if there is one.
 pub struct Fed {
     pub frames: Vec<Frame>,
     pub fault: Option<Fault>,
@@ -24,7 +23,7 @@ impl Drop for Fed {
 }
 
 impl Fed {
-    /// The frames, and the fault after them.
+    /// Returns the frames, and the fault after them.
     pub fn into_parts(self) -> (Vec<Frame>, Option<Fault>)
         ensures { result ≡ (self.frames, self.fault) }
     {
@@ -33,8 +32,8 @@ impl Fed {
     }
 }
 
-/// A stream of frames, fed in whatever pieces its bytes come. It keeps what has come of the next frame,
-/// and the offset of that frame in the whole stream. After a fault it is closed for good.
+/// A stream of frames, fed in any pieces. It keeps the bytes of the next frame so far, and the offset of that frame in the whole stream.
+/// After a fault it is closed for good.
 #[derive(Drop)]
 pub struct Stream {
     alloc: Global,
@@ -54,7 +53,7 @@ impl Model for Stream {
     ghost invariant = { λ a. a.offset + length a.held.items < 2 ^ 64 };
 }
 
-// The whole frames from a place on, and why they stop.
+// Reads the complete frames from a place on, and returns why they stop.
 fn get_frames(alloc: Global, at: &mut Cursor<'_>) -> Result<Fed, Refusal>
     ensures runs { IfOk result (λ fed. FramesFollow at.old fed.frames.items at.new) }
     ensures stops { IfOk result (λ fed. StopsAt at.new fed.fault) }
@@ -81,7 +80,7 @@ fn get_frames(alloc: Global, at: &mut Cursor<'_>) -> Result<Fed, Refusal>
     }
 }
 
-// The whole frames in the bytes from that offset on, why they stop, and how many bytes they take.
+// Reads the complete frames in the bytes from that offset on. Returns why they stop, and how many bytes they take.
 fn frames_in(alloc: Global, offset: u64, held: &[u8]) -> Result<(Fed, usize), Refusal>
     requires { offset + length held.now < 2 ^ 64 }
     ensures runs { IfOk result (λ found. FramesFollow (record { offset = offset; rest = held.now }) found.0.frames.items
@@ -97,7 +96,7 @@ fn frames_in(alloc: Global, offset: u64, held: &[u8]) -> Result<(Fed, usize), Re
 }
 
 impl Stream {
-    /// A stream of which nothing has come yet.
+    /// Opens a stream without bytes.
     pub fn new(alloc: Global) -> Stream
         ensures { result ≡ Some (record { offset = 0; rest = [] }) }
     {
@@ -123,16 +122,16 @@ impl Stream {
         })
     }
 
-    /// Whether it is closed, as it is after a fault.
+    /// Returns whether it is closed, as it is after a fault.
     pub fn is_closed(&self) -> bool
         ensures { result ≡ not (is_some self.now) }
     {
         self.is_closed
     }
 
-    /// Takes the next bytes of the stream, and gives the frames that are whole now, and the fault after
-    /// them if there is one; after a fault the stream is closed. Refused as Closed on a closed stream, as
-    /// TooMany where an offset would pass 18446744073709551615, and as NoMemory; a refusal changes nothing.
+    /// Takes the next bytes of the stream, and returns the frames that are complete now, and the fault after them if there is one. After a
+    /// fault the stream is closed. A refusal changes nothing. Errors: `Closed` on a closed stream; `TooMany` if an offset would pass
+    /// 18446744073709551615; `NoMemory`.
     pub fn feed(&mut self, bytes: &[u8]) -> Result<Fed, Refusal>
         ensures fed { IfOk result (λ fed. FeedsOpen self.old bytes.now fed.frames.items fed.fault self.new) }
         ensures closed { (result ≡ Err refusals.Closed) ↔ (self.old ≡ None) }
@@ -162,8 +161,8 @@ impl Stream {
         }
     }
 
-    /// The end of the stream: Ok where no part of a frame is left over. Errors: `BadFrame` with cause
-    /// Cut, at the offset of the frame that is cut; `Closed` on a closed stream.
+    /// Ends the stream: Ok if no part of a frame is left over. Errors: `BadFrame` with cause Cut, at the offset of the frame that is cut;
+    /// `Closed` on a closed stream.
     pub fn finish(&self) -> Result<(), Refusal>
         ensures { result ≡ finished self.now }
     {

@@ -1,4 +1,4 @@
-//! Frames as bytes: each kind has one spelling in each version.
+//! Frames as bytes: each frame has one encoding in each version.
 ghost use Rattle.std.specs.Prelude.{◌≡◌, ◌++◌, ◌+◌, ◌*◌, ◌<◌, ◌≤◌, ◌^◌, IfOk, OnOk, IsTrue, map, length};
 ghost use Rattle.std.specs.Int.{w32, to_be_bytes};
 ghost use Rattle.std.specs.List.{flat_map, list_all};
@@ -93,7 +93,7 @@ fn put_entry(out: &mut BytesMut, entry: &PieceEntry) -> Result<(), AllocError>
     put_value(out, &entry.value)
 }
 
-/// The bytes that a process takes in a frame.
+/// Returns the number of bytes of a process in a frame.
 pub fn proc_size(proc: &Proc) -> usize
     ensures value { result ≡ length (proc_spelling proc.now) }
     ensures bound { result ≤ 260 }
@@ -101,7 +101,7 @@ pub fn proc_size(proc: &Proc) -> usize
     proc.nspace.as_bytes().len() + 5
 }
 
-/// The bytes that these processes take in a frame.
+/// Returns the number of bytes of these processes in a frame.
 fn procs_size(procs: &[Proc]) -> usize
     requires { length procs.now ≤ MAX_PARTICIPANTS }
     ensures value { result ≡ length (flat_map proc_spelling procs.now) }
@@ -114,7 +114,7 @@ fn procs_size(procs: &[Proc]) -> usize
     size
 }
 
-/// The bytes that these take in a frame.
+/// Returns the number of bytes of these participants in a frame.
 fn locals_size(locals: &[Local]) -> usize
     requires { length locals.now ≤ MAX_PARTICIPANTS }
     ensures value { result ≡ length (flat_map local_spelling locals.now) }
@@ -127,7 +127,7 @@ fn locals_size(locals: &[Local]) -> usize
     size
 }
 
-/// The bytes that a fence's name takes in a frame.
+/// Returns the number of bytes of a fence's name in a frame.
 fn name_size(name: &FenceName) -> usize
     ensures value { result ≡ length (name_spelling name.now) }
     ensures bound { result ≤ 1064973 }
