@@ -31,7 +31,7 @@ unseen ended modes.Wait = if ended then Outcome.absent else Outcome.parks
 unseen ended modes.Refresh = Outcome.absent
 
 -- The answer of a get: the first line that fits. A get that asks anew waits for what the home of a process on another node replies.
--- That a value past the scope is told is this project's (PMIx Standard 5.0, PMIX_GET_REFRESH_CACHE, PMIX_IMMEDIATE).
+-- Both the mode that never waits and the answer of a value out of scope are this project's (PMIx Standard 5.0, PMIX_GET_REFRESH_CACHE).
 unfoldable pub resolve : Seen → Mode → Outcome
 resolve (Seen.reserved value) mode = found_or value Outcome.absent
 resolve (Seen.own value) mode = found_or value Outcome.absent

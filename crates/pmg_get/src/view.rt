@@ -6,7 +6,7 @@ use pmg_value::Value;
 pub enum Mode {
     /// It waits until there is something to answer.
     Wait,
-    /// It looks only at what its node holds (PMIX_IMMEDIATE).
+    /// It looks only at what its node holds (a mode of this project).
     Now,
     /// Of a process on another node it asks the home anew, and looks once the reply is there; else it is as Now
     /// (PMIX_GET_REFRESH_CACHE).
